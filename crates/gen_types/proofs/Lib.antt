@@ -1,0 +1,5 @@
+pub mod BitSteps
+pub mod Laws
+pub mod Lists
+pub mod Pushing
+pub mod Steps

@@ -1,0 +1,9 @@
+pub mod Ascending
+pub mod BitLaws
+pub mod Bits
+pub mod ChoiceOf
+pub mod Choices
+pub mod Members
+pub mod PathLaws
+pub mod PathModel
+pub mod Reading

@@ -1,0 +1,141 @@
+//! Paths: who signed an order, one after another.
+ghost use Rattle.std.specs.Prelude.{IsTrue, ℕ, ◌≡◌, ◌≢◌, ◌<◌, ◌≤◌, ◌-◌, ◌↔◌, ◌++◌, [], ◌∷◌, List, Contains, AllPairs, All, length, slice_get, OnOk, OnErr};
+ghost use Rattle.std.specs.Cmp.{partial_equiv_from_equiv};
+ghost use Rattle.std.specs.Cmp.Lexicographic.{pointwise};
+ghost use Rattle.std.specs.Bool.{nat_eq};
+ghost use Rattle.std.proofs.lemmas.Cmp.{nat_list_eq_equiv};
+
+use crate::numbers::GeneralNo;
+use std::marker::Model;
+use thiserror::Error;
+
+/// Why a general cannot be put at the end of a path.
+#[derive(Clone, Copy, PartialEq, Eq, Debug, Error)]
+pub enum PathFault {
+    /// The path has 16 generals already.
+    #[error("the path is full")]
+    Full,
+    /// The general stands in the path already.
+    #[error("the general stands in the path")]
+    Repeated,
+}
+
+/// A list of at most 16 distinct generals, kept in a fixed array. A contract sees the list of their
+/// numbers.
+///
+/// The path of the message `v:0:j1:..:jk` of section 4 of the paper of 1982 is `0, j1, .., jk`: each of
+/// its generals signed the order together with the path up to himself.
+#[derive(Clone, Copy, Debug)]
+pub struct Path {
+    generals: [GeneralNo; 16],
+    len: usize,
+}
+
+impl Model for Path {
+    ghost use Rattle.std.specs.Prelude.{ℕ, List, ◌≤◌, length, take, replicate, ◌-◌, ◌++◌};
+    ghost use Rattle.gen_types.specs.PathModel.{IsPath};
+    ghost use Rattle.gen_types.specs.PathLaws.{back_of_take, length_of_take};
+
+    ghost Value = { List ℕ };
+
+    ghost view = { λ p. take p.len p.generals };
+
+    ghost invariant = { λ p. IsPath p.generals p.len };
+
+    ghost inverse = { λ xs. record { generals = xs ++ replicate (16 - length xs) 0; len = length xs } };
+
+    ghost inverse_ok = { λ p ok. Prim.rw (back_of_take p.generals p.len ok, length_of_take p.generals p.len ok) };
+}
+
+impl Path {
+    /// Returns the empty path.
+    pub fn new() -> Path
+        ensures { result ≡ [] }
+    {
+        Path {
+            generals: [GeneralNo::commander(); 16],
+            len: 0,
+        }
+    }
+
+    /// Returns how many generals the path has, at most 16.
+    pub fn len(&self) -> usize
+        ensures length { result ≡ length self.now }
+        ensures at_most { length self.now ≤ 16 }
+        ensures distinct { AllPairs (λ g h. g ≢ h) self.now }
+        ensures below { All (λ g. g < 16) self.now }
+    {
+        self.len
+    }
+
+    /// Returns whether the path has no general.
+    pub fn is_empty(&self) -> bool
+        ensures { IsTrue result ↔ (self.now ≡ []) }
+    {
+        self.len == 0
+    }
+
+    /// Returns the generals, from the first signer to the last.
+    pub fn generals(&self) -> &[GeneralNo]
+        ensures { result.now ≡ self.now }
+    {
+        &self.generals[..self.len]
+    }
+
+    /// Returns whether the general stands in the path.
+    pub fn contains(&self, general: GeneralNo) -> bool
+        ensures { IsTrue result ↔ Contains self.now general }
+    {
+        self.generals().contains(&general)
+    }
+
+    /// Returns the last general, and None where the path is empty.
+    pub fn last(&self) -> Option<GeneralNo>
+        ensures { result ≡ slice_get self.now (length self.now - 1) }
+    {
+        self.generals().last().copied()
+    }
+
+    /// Returns whether the first generals of this path are exactly those of the other.
+    pub fn starts_with(&self, front: &Path) -> bool
+        ensures { IsTrue result ↔ ((rest : List ℕ) × (self.now ≡ front.now ++ rest)) }
+    {
+        self.generals().starts_with(front.generals())
+    }
+
+    /// Puts the general at the end of the path.
+    ///
+    /// It answers Full where the path has 16 generals, and else Repeated where the general stands in it.
+    /// The path is unchanged in both cases.
+    pub fn push(&mut self, general: GeneralNo) -> Result<(), PathFault>
+        ensures ok { OnOk result (self.new ≡ self.old ++ general ∷ []) }
+        ensures err { OnErr result (self.new ≡ self.old) }
+        ensures full { (result ≡ Err PathFault.Full) ↔ (length self.old ≡ 16) }
+        ensures repeated { (result ≡ Err PathFault.Repeated) ↔ ((length self.old ≢ 16) × Contains self.old general) }
+    {
+        if self.len == 16 {
+            return Err(PathFault::Full);
+        }
+        if self.contains(general) {
+            return Err(PathFault::Repeated);
+        }
+        let below = general.get();
+        self.generals[self.len] = general;
+        self.len += 1;
+        Ok(())
+    }
+}
+
+impl PartialEq for Path {
+    ghost eq = { pointwise nat_eq };
+
+    ghost laws = { partial_equiv_from_equiv nat_list_eq_equiv };
+
+    fn eq(&self, other: &Path) -> bool {
+        self.generals() == other.generals()
+    }
+}
+
+impl Eq for Path {
+    ghost laws = { nat_list_eq_equiv };
+}

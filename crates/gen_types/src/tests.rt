@@ -1,0 +1,191 @@
+//! Rows whose answers come from outside the program, and each public call once.
+use super::*;
+use std::alloc::{AllocError, AllocFailed};
+use std::test::Fail;
+
+/// The set of the orders of these numbers, of those below 16.
+fn orders(numbers: &[u8]) -> OrderSet {
+    let mut set = OrderSet::new();
+    for number in numbers {
+        if let Some(order) = OrderNo::new(*number) {
+            set.insert(order);
+        }
+    }
+    set
+}
+
+/// The number of the order that is chosen, through the trait alone.
+fn chosen<C: Choice>(choice: &C, numbers: &[u8]) -> u8 {
+    choice.choose(orders(numbers)).get()
+}
+
+#[test]
+fn chooses(rt: HostRuntime) {
+    let rows: [(&[u8], u8, u8); 7] = [
+        (&[], 0, 0),
+        (&[0], 0, 0),
+        (&[2], 2, 2),
+        (&[1, 3], 0, 1),
+        (&[3, 1], 0, 1),
+        (&[2, 3, 0], 0, 2),
+        (&[15, 14, 13, 1], 0, 13),
+    ];
+    for (numbers, only, median) in rows {
+        assert_eq!(rt;
+            chosen(&OnlyOrRetreat, numbers),
+            only,
+            "only of {numbers:?}"
+        );
+        assert_eq!(rt;
+            chosen(&MedianOrder, numbers),
+            median,
+            "median of {numbers:?}"
+        );
+        assert_eq!(rt;
+            chosen(&ChoiceKind::Only, numbers),
+            only,
+            "choice 0 of {numbers:?}"
+        );
+        assert_eq!(rt;
+            chosen(&ChoiceKind::Median, numbers),
+            median,
+            "choice 1 of {numbers:?}"
+        );
+    }
+    let kinds = [
+        (0, Some(ChoiceKind::Only)),
+        (1, Some(ChoiceKind::Median)),
+        (2, None),
+        (255, None),
+    ];
+    for (number, kind) in kinds {
+        assert_eq!(rt; ChoiceKind::new(number), kind, "choice {number}");
+        if let Some(kind) = kind {
+            assert_eq!(rt; kind.number(), number);
+        }
+    }
+}
+
+#[test]
+fn numbers(rt: HostRuntime) {
+    let rows = [
+        (0, Some(0)),
+        (15, Some(15)),
+        (16, None),
+        (17, None),
+        (255, None),
+    ];
+    for (number, want) in rows {
+        assert_eq!(rt;
+            GeneralNo::new(number).map(GeneralNo::get),
+            want,
+            "general {number}"
+        );
+        assert_eq!(rt;
+            OrderNo::new(number).map(OrderNo::get),
+            want,
+            "order {number}"
+        );
+    }
+    assert_eq!(rt; GeneralNo::at(7).get(), 7);
+    assert_eq!(rt; OrderNo::at(7).get(), 7);
+    assert_eq!(rt; GeneralNo::commander().get(), 0);
+    assert_eq!(rt; OrderNo::retreat().get(), 0);
+}
+
+#[test]
+fn sets_ascend(rt: HostRuntime) {
+    let mut generals = GeneralSet::new();
+    let mut orders = OrderSet::new();
+    assert!(rt; generals.is_empty() && orders.is_empty());
+    for (number, new) in [(9, true), (0, true), (15, true), (9, false), (0, false)] {
+        assert_eq!(rt;
+            generals.insert(GeneralNo::at(number)),
+            new,
+            "general {number}"
+        );
+        assert_eq!(rt; orders.insert(OrderNo::at(number)), new, "order {number}");
+    }
+    assert!(rt; generals.len() == 3 && orders.len() == 3);
+    assert!(rt; !generals.is_empty() && !orders.is_empty());
+    for (number, member) in [(0, true), (1, false), (9, true), (14, false), (15, true)] {
+        assert_eq!(rt;
+            generals.contains(GeneralNo::at(number)),
+            member,
+            "general {number}"
+        );
+        assert_eq!(rt;
+            orders.contains(OrderNo::at(number)),
+            member,
+            "order {number}"
+        );
+    }
+    let ascending = [0, 9, 15];
+    assert!(rt; generals.iter().map(GeneralNo::get).eq(ascending));
+    assert!(rt; generals.into_iter().map(GeneralNo::get).eq(ascending));
+    assert!(rt; orders.iter().map(OrderNo::get).eq(ascending));
+    assert!(rt; orders.into_iter().map(OrderNo::get).eq(ascending));
+    for (index, want) in [(0, Some(0)), (2, Some(15)), (3, None), (16, None)] {
+        assert_eq!(rt;
+            generals.get(index).map(GeneralNo::get),
+            want,
+            "place {index}"
+        );
+        assert_eq!(rt; orders.get(index).map(OrderNo::get), want, "place {index}");
+    }
+    let mut one = GeneralSet::new();
+    one.insert(GeneralNo::at(3));
+    assert!(rt; one == GeneralSet::only(GeneralNo::at(3)) && one != generals);
+    let mut one = OrderSet::new();
+    one.insert(OrderNo::at(3));
+    assert!(rt; one == OrderSet::only(OrderNo::at(3)) && one != orders);
+}
+
+#[test]
+fn paths_refuse(rt: HostRuntime) -> Result<(), Fail> {
+    let mut path = Path::new();
+    assert!(rt; path.is_empty() && path.last().is_none());
+    for number in 0..16 {
+        let before = path;
+        assert_eq!(rt; path.push(GeneralNo::at(number)), Ok(()));
+        assert_eq!(rt; path.last(), Some(GeneralNo::at(number)));
+        assert!(rt; path.starts_with(&before) && !before.starts_with(&path) && before != path);
+        let longer = path;
+        let refusal = if number < 15 {
+            PathFault::Repeated
+        } else {
+            PathFault::Full
+        };
+        assert_eq!(rt; path.push(GeneralNo::at(0)), Err(refusal), "after {number}");
+        assert!(rt; path == longer);
+    }
+    assert!(rt; path.len() == 16 && path.generals().len() == 16 && !path.is_empty());
+    let mut short = Path::new();
+    for number in [0, 2, 1] {
+        short.push(GeneralNo::at(number))?;
+    }
+    assert!(rt; short.len() == 3 && !path.starts_with(&short));
+    assert!(rt; short.generals().iter().map(|g| g.get()).eq([0, 2, 1]));
+    assert!(rt; short.contains(GeneralNo::at(1)) && !short.contains(GeneralNo::at(3)));
+    let alloc = rt.alloc();
+    assert_eq!(rt;
+        PathFault::Full.to_string(alloc)?.as_str(),
+        "the path is full"
+    );
+    assert_eq!(rt;
+        PathFault::Repeated.to_string(alloc)?.as_str(),
+        "the general stands in the path"
+    );
+    Ok(())
+}
+
+#[test]
+fn readers_share(rt: HostRuntime) {
+    assert_eq!(rt; check(true, 'H'), Ok(()));
+    assert_eq!(rt; check(false, 'H'), Err(ReadError::Fault('H')));
+    assert_eq!(rt; ReadError::<char>::from(AllocError), ReadError::Memory);
+    assert_eq!(rt;
+        ReadError::<char>::from(AllocFailed { value: 1 }),
+        ReadError::Memory
+    );
+}
