@@ -1,0 +1,3 @@
+mod EdgeLists
+pub mod Neighbours
+mod Rows

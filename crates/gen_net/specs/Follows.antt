@@ -1,0 +1,33 @@
+-- Who follows the algorithm, and what he decides (SM(m), steps 1 to 3, section 4 of the paper of 1982; the last round relays nothing).
+use Rattle.std.specs.Prelude.{ℕ, ◌≡◌, ◌≢◌, ◌+◌, ◌<◌, ◌↔◌, List, [], ◌∷◌, ◌++◌, Contains}
+use Rattle.gen_types.specs.Ascending.{IsListOf}
+use Rattle.gen_net.specs.Network.{Network, rounds, choose, AreNeighbours}
+use Rattle.gen_net.specs.declared.message.Message.{Message}
+use Rattle.gen_net.specs.Run.{Run, IsSent, Adds, Accepts, IsPick}
+
+-- The commander sends exactly his order, signed by him alone, to each neighbour in round 1.
+pub record CommanderFollows (net : Network) (run : Run) (own : ℕ) : Type 0 where
+  pub order_known : own < net.orders
+  pub sends : (message : Message) → message.from ≡ 0 → Contains run message ↔ (AreNeighbours net 0 message.to × (message.order ≡ own) × (message.path ≡ 0 ∷ []))
+
+-- A lieutenant sends nothing in round 1. In each later round he sends exactly, for each order that he added in the round before
+-- and each neighbour outside the longer path, the picked path lengthened by himself.
+pub record LieutenantFollows (net : Network) (run : Run) (g : ℕ) (pick : ℕ → List ℕ) : Type 0 where
+  pub picks : IsPick run g pick
+  pub silent : (message : Message) → IsSent run 1 message → message.from ≢ g
+  pub sends : (l : ℕ) (message : Message) → 0 < l → l < rounds net → message.from ≡ g → IsSent run (l + 1) message ↔ (Adds run g l message.order × (message.path ≡ pick message.order ++ g ∷ []) × AreNeighbours net g message.to × (Contains message.path message.to → ⊥))
+
+-- what a follower may choose: the commander his order, a lieutenant which path he takes for each order
+pub data Conduct : Type 0 where
+  Commands : (own : ℕ) → Conduct
+  Relays : (pick : ℕ → List ℕ) → Conduct
+
+-- g follows the algorithm, with this conduct
+abbrev pub Follows : Network → Run → ℕ → Conduct → Type 0
+Follows net run g (Commands own) = (g ≡ 0) × CommanderFollows net run own
+Follows net run g (Relays pick) = (g ≢ 0) × LieutenantFollows net run g pick
+
+-- A lieutenant decides the choice of the set of the orders that he accepts.
+pub record Decides (net : Network) (run : Run) (g : ℕ) (orders : List ℕ) (order : ℕ) : Type 0 where
+  pub set : IsListOf orders (Accepts net run g)
+  pub chosen : order ≡ choose net orders

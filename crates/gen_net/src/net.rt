@@ -1,0 +1,176 @@
+//! Networks.
+ghost use Rattle.std.specs.Prelude.{IsTrue, ◌≡◌, ◌≤◌, ◌↔◌};
+ghost use Rattle.gen_types.specs.Ascending.{IsListOf};
+ghost use Rattle.gen_types.specs.Reading.{Gives};
+ghost use Rattle.gen_net.specs.Network.{rounds, AreNeighbours, IsNetwork};
+ghost use Rattle.gen_net.specs.NetworkOf.{network_of};
+
+use crate::edges::{edge_list, has_fault};
+use crate::fault::HeaderFault;
+use gen_types::{ChoiceKind, GeneralNo, GeneralSet, ReadError};
+use std::alloc::Global;
+use std::marker::Model;
+
+/// A network of generals together with the numbers of a run on it (section 5 of the paper of 1982).
+///
+/// There are n generals, 2 to 16, of whom 0 is the commander, and edges between them. A run is planned
+/// for m traitors, 0 to 8, and for the diameter d, 1 to 15, with m + d at most 16. There are q orders,
+/// 2 to 15, and one choice. A contract sees all of these as one record.
+#[derive(Debug, Drop)]
+pub struct Net {
+    generals: u8,
+    edges: Vec<(GeneralNo, GeneralNo)>,
+    traitors: u8,
+    diameter: u8,
+    orders: u8,
+    choice: ChoiceKind,
+}
+
+impl Model for Net {
+    ghost use Rattle.gen_net.specs.Network.{Network, IsNetwork};
+
+    ghost Value = { Network };
+
+    ghost view = { λ net. record {
+      generals = net.generals;
+      edges = net.edges.items;
+      traitors = net.traitors;
+      diameter = net.diameter;
+      orders = net.orders;
+      choice = net.choice;
+    } };
+
+    ghost invariant = { λ net. IsNetwork (record {
+      generals = net.generals;
+      edges = net.edges.items;
+      traitors = net.traitors;
+      diameter = net.diameter;
+      orders = net.orders;
+      choice = net.choice;
+    }) };
+}
+
+impl Net {
+    /// Makes the network of n generals with these edges, which come in any order and direction, planned
+    /// for m traitors and diameter d, with q orders and the choice of this number.
+    ///
+    /// It answers the first fault of `HeaderFault` that holds, and Memory where memory was refused.
+    #[tactic(auto, unfolding(crate::specs::NetworkOf::network_of))]
+    pub fn new(
+        alloc: Global,
+        n: u8,
+        edges: &[(u8, u8)],
+        m: u8,
+        d: u8,
+        q: u8,
+        choice: u8,
+    ) -> Result<Net, ReadError<HeaderFault>>
+        ensures { Gives (λ net. net) result (network_of n edges.now m d q choice) }
+    {
+        if n < 2 || n > 16 {
+            return Err(ReadError::Fault(HeaderFault::GeneralCount));
+        }
+        if has_fault(n, edges) {
+            return Err(ReadError::Fault(HeaderFault::BadEdge));
+        }
+        if m > 8 {
+            return Err(ReadError::Fault(HeaderFault::TraitorCount));
+        }
+        if d < 1 || d > 15 {
+            return Err(ReadError::Fault(HeaderFault::DiameterRange));
+        }
+        if m + d > 16 {
+            return Err(ReadError::Fault(HeaderFault::RoundCount));
+        }
+        if q < 2 || q > 15 {
+            return Err(ReadError::Fault(HeaderFault::OrderCount));
+        }
+        let Some(choice) = ChoiceKind::new(choice) else {
+            return Err(ReadError::Fault(HeaderFault::UnknownChoice));
+        };
+        let edges = edge_list(alloc, n, edges)?;
+        Ok(Net {
+            generals: n,
+            edges,
+            traitors: m,
+            diameter: d,
+            orders: q,
+            choice,
+        })
+    }
+
+    /// Returns the number of generals, n, which is 2 to 16.
+    pub fn generals(&self) -> u8
+        ensures value { result ≡ self.now.generals }
+        ensures network { IsNetwork self.now }
+    {
+        self.generals
+    }
+
+    /// Returns each edge once as (a, b) with a < b, in ascending order.
+    pub fn edges(&self) -> &[(GeneralNo, GeneralNo)]
+        ensures { result.now ≡ self.now.edges }
+    {
+        &self.edges
+    }
+
+    /// Returns the number of traitors that a run is planned for, m, which is 0 to 8.
+    pub fn traitors(&self) -> u8
+        ensures { result ≡ self.now.traitors }
+    {
+        self.traitors
+    }
+
+    /// Returns the diameter that a run is planned for, d, which is 1 to 15.
+    pub fn diameter(&self) -> u8
+        ensures { result ≡ self.now.diameter }
+    {
+        self.diameter
+    }
+
+    /// Returns the number of rounds, m + d, which is 1 to 16: a run is one of SM(m + d - 1), as in
+    /// Theorem 4 in section 5 of the paper of 1982.
+    pub fn rounds(&self) -> u8
+        ensures value { result ≡ rounds self.now }
+        ensures network { IsNetwork self.now }
+    {
+        self.traitors + self.diameter
+    }
+
+    /// Returns the number of orders, q, which is 2 to 15.
+    pub fn orders(&self) -> u8
+        ensures value { result ≡ self.now.orders }
+        ensures network { IsNetwork self.now }
+    {
+        self.orders
+    }
+
+    /// Returns the choice by which lieutenants decide.
+    pub fn choice(&self) -> ChoiceKind
+        ensures { result ≡ self.now.choice }
+    {
+        self.choice
+    }
+
+    /// Returns whether an edge joins a and b, in either direction.
+    pub fn has_edge(&self, a: GeneralNo, b: GeneralNo) -> bool
+        ensures { IsTrue result ↔ AreNeighbours self.now a b }
+    {
+        self.edges.contains(&(a, b)) || self.edges.contains(&(b, a))
+    }
+
+    /// Returns the set of the generals whom an edge joins to this one; it is empty for a general of
+    /// another network.
+    pub fn neighbours(&self, general: GeneralNo) -> GeneralSet
+        ensures { IsListOf result (AreNeighbours self.now general) }
+    {
+        let mut set = GeneralSet::new();
+        for number in 0..self.generals {
+            let other = GeneralNo::at(number);
+            if self.has_edge(general, other) {
+                set.insert(other);
+            }
+        }
+        set
+    }
+}
