@@ -1,0 +1,9 @@
+pub mod Bridged
+pub mod Certificate
+pub mod Distances
+pub mod Found
+pub mod Greedy
+pub mod Pairs
+pub mod Places
+pub mod Round
+pub mod Rows

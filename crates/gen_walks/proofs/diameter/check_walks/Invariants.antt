@@ -1,0 +1,6 @@
+use Rattle.std.proofs.Common.{◌<◌, ℕ}
+use Rattle.gen_walks.specs.Walks.{IsPair, Bridges}
+use Rattle.gen_walks.proofs.diameter.check_walks.Given as goal
+
+abbrev pub invariant-loop-number : goal.invariant-loop-number
+invariant-loop-number l = (x y : ℕ) → x < l.number → IsPair l.net l.rest x y → Bridges l.net l.rest l.walks x y

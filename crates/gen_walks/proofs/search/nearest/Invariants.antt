@@ -1,0 +1,7 @@
+use Rattle.std.proofs.Common.{◌≡◌, ◌+◌, ◌<◌, ℕ}
+use Rattle.gen_walks.specs.Walks.{AreJoined}
+use Rattle.gen_walks.specs.Levels.{level}
+use Rattle.gen_walks.proofs.search.nearest.Given as goal
+
+abbrev pub invariant-loop-number : goal.invariant-loop-number
+invariant-loop-number l = (y : ℕ) → y < l.number → AreJoined l.net l.rest l.at y → level l.row l.at ≡ level l.row y + 1 → ⊥

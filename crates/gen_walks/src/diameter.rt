@@ -1,0 +1,152 @@
+//! Walks that bound the diameter of a set of generals.
+ghost use Rattle.std.specs.Prelude.{ℕ, List, IsTrue, ◌≡◌, ◌<◌, ◌↔◌, OnOk, IfOk, IfErr, IfSome, IfNone};
+ghost use Rattle.std.specs.Bool.{OnTrue, OnFalse};
+ghost use Rattle.gen_net.specs.Walks.{HasDiameter};
+ghost use Rattle.gen_walks.specs.Walks.{AreJoined, Leads, IsPair, IsWalkInside, IsShortWalk, IsRestOf, IsWithinDiameter, Bridges, BoundsDiameter, IsLeastBadPair};
+
+use crate::fault::BadPair;
+use crate::inside::{are_joined, general, is_inside};
+use crate::lists::{Walk, Walks};
+use gen_net::Net;
+use gen_types::{GeneralNo, GeneralSet};
+use std::marker::Model;
+use std::snapshot::Snapshot;
+
+/// Shows that any two generals of a set, the rest, are joined inside it by at most d edges.
+///
+/// Only `check_walks` makes one. It holds no bytes.
+#[derive(Drop)]
+pub struct DiameterProof {
+    net: Snapshot<Net>,
+    rest: Snapshot<GeneralSet>,
+}
+
+impl Model for DiameterProof {
+    ghost use Rattle.gen_walks.specs.Walks.{Shown, IsWithinDiameter};
+
+    ghost Value = { Shown };
+
+    ghost view = { λ proof. record {
+      network = proof.net.value;
+      rest = proof.rest.value;
+    } };
+
+    ghost invariant = { λ proof. IsWithinDiameter proof.net.value proof.rest.value };
+}
+
+impl DiameterProof {
+    /// What the proof shows: each pair of the set has a walk of at most d edges inside the set; so where
+    /// the set is the rest of some faulty generals, the graph of the rest has a diameter of at most d.
+    pub fn bounds(&self)
+        ensures walks { IsWithinDiameter self.now.network self.now.rest }
+        ensures diameter { (faulty : List ℕ) → IsRestOf self.now.network faulty self.now.rest → HasDiameter self.now.network faulty }
+    {
+        // The fact is the type's invariant, which a read of a field makes known.
+        let _ = &self.net;
+    }
+}
+
+/// Whether these generals lead on from a to b, along edges inside the set.
+fn leads(
+    net: &Net,
+    rest: &GeneralSet,
+    from: GeneralNo,
+    generals: &[GeneralNo],
+    to: GeneralNo,
+) -> bool
+    ensures { IsTrue result ↔ Leads (AreJoined net.now rest.now) from generals.now to }
+{
+    let mut at = from;
+    let mut more = generals;
+    while let [next, others @ ..] = more {
+        if !are_joined(net, rest, at, *next) {
+            return false;
+        }
+        at = *next;
+        more = others;
+    }
+    at == to
+}
+
+/// Whether the generals are a walk from a to b inside the set.
+fn is_walk(net: &Net, rest: &GeneralSet, a: GeneralNo, b: GeneralNo, walk: &[GeneralNo]) -> bool
+    ensures { IsTrue result ↔ IsWalkInside net.now rest.now a b walk.now }
+{
+    match walk {
+        [] => false,
+        [first, more @ ..] => {
+            *first == a && is_inside(net, rest, a) && leads(net, rest, a, more, b)
+        }
+    }
+}
+
+/// Whether the walk is one from a to b inside the set, of at most d edges.
+fn is_short_walk(net: &Net, rest: &GeneralSet, a: GeneralNo, b: GeneralNo, walk: &Walk) -> bool
+    ensures { IsTrue result ↔ IsShortWalk net.now rest.now a b walk.now }
+{
+    let generals = walk.generals();
+    is_walk(net, rest, a, b, generals) && generals.len() <= usize::from(net.diameter()) + 1
+}
+
+/// Whether one of the walks leads from a to b inside the set by at most d edges.
+fn is_bridged(net: &Net, rest: &GeneralSet, walks: &Walks, a: GeneralNo, b: GeneralNo) -> bool
+    ensures { IsTrue result ↔ Bridges net.now rest.now walks.now a b }
+{
+    walks
+        .as_slice()
+        .iter()
+        .any(|walk| is_short_walk(net, rest, a, b, walk))
+}
+
+/// Whether a and b are a pair of the set.
+pub fn is_pair(net: &Net, rest: &GeneralSet, a: GeneralNo, b: GeneralNo) -> bool
+    ensures { IsTrue result ↔ IsPair net.now rest.now a b }
+{
+    a < b && is_inside(net, rest, a) && is_inside(net, rest, b)
+}
+
+/// Whether a and b are a pair of the set for whom no walk is given.
+fn is_bad(net: &Net, rest: &GeneralSet, walks: &Walks, a: GeneralNo, b: GeneralNo) -> bool
+    ensures yes { OnTrue result (IsPair net.now rest.now a b × (Bridges net.now rest.now walks.now a b → ⊥)) }
+    ensures no { OnFalse result (IsPair net.now rest.now a b → Bridges net.now rest.now walks.now a b) }
+{
+    is_pair(net, rest, a, b) && !is_bridged(net, rest, walks, a, b)
+}
+
+/// The least general for whom no walk from a is given, if there is one.
+fn first_bad(net: &Net, rest: &GeneralSet, walks: &Walks, a: GeneralNo) -> Option<GeneralNo>
+    ensures none { IfNone result ((b : ℕ) → IsPair net.now rest.now a b → Bridges net.now rest.now walks.now a b) }
+    ensures some { IfSome result (λ b. IsPair net.now rest.now a b × (Bridges net.now rest.now walks.now a b → ⊥)) }
+    ensures least { IfSome result (λ b. (y : ℕ) → IsPair net.now rest.now a y → y < b → Bridges net.now rest.now walks.now a y) }
+{
+    for number in 0..net.generals() {
+        let b = general(net, number);
+        if is_bad(net, rest, walks, a, b) {
+            return Some(b);
+        }
+    }
+    None
+}
+
+/// Checks that the walks bound the diameter of a set, the rest, by d: for each pair a < b of the set
+/// one of them begins with a, ends with b, stays inside the set, steps along edges and has at most d of
+/// them. Else the least pair for which none does.
+///
+/// Other walks may stand among them in any order. Members of the set that are no generals of the
+/// network count as absent. It takes no memory.
+pub fn check_walks(net: &Net, rest: &GeneralSet, walks: &Walks) -> Result<DiameterProof, BadPair>
+    ensures ok { OnOk result (BoundsDiameter net.now rest.now walks.now) }
+    ensures proof { IfOk result (λ proof. (proof.network ≡ net.now) × (proof.rest ≡ rest.now)) }
+    ensures err { IfErr result (λ bad. IsLeastBadPair net.now rest.now (Bridges net.now rest.now walks.now) bad.a bad.b) }
+{
+    for number in 0..net.generals() {
+        let a = general(net, number);
+        if let Some(b) = first_bad(net, rest, walks, a) {
+            return Err(BadPair { a, b });
+        }
+    }
+    Ok(DiameterProof {
+        net: Snapshot::of(net),
+        rest: Snapshot::of(rest),
+    })
+}

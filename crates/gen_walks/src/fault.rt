@@ -1,0 +1,63 @@
+//! Pairs without a short walk, and why no walks were made.
+use crate::levels::LevelRow;
+use gen_types::GeneralNo;
+use std::alloc::{AllocError, AllocFailed};
+use thiserror::Error;
+
+/// Two generals a < b of a set for whom a walk is missing.
+#[derive(Clone, Copy, Debug, PartialEq, Eq)]
+pub struct BadPair {
+    /// The lesser general.
+    pub a: GeneralNo,
+    /// The greater general.
+    pub b: GeneralNo,
+}
+
+/// Why no walks were made: of the least pair that has no walk of at most d edges inside the set, with
+/// the distances from its lesser general, 255 where no walk leads. `check_levels` holds for these.
+#[derive(Debug, Drop, Error)]
+pub enum WalkFault {
+    /// Memory was refused.
+    #[error("memory")]
+    Memory,
+    /// No walk inside the set joins the pair.
+    #[error("U1")]
+    NoWalk {
+        /// The least pair without a short walk.
+        pair: BadPair,
+        /// The distances from its lesser general.
+        levels: LevelRow,
+    },
+    /// The shortest walk has more than d edges.
+    #[error("U2")]
+    TooLong {
+        /// The least pair without a short walk.
+        pair: BadPair,
+        /// The distances from its lesser general.
+        levels: LevelRow,
+        /// How many edges the shortest walk has.
+        edges: u8,
+    },
+}
+
+impl From<AllocError> for WalkFault {
+    ghost use Rattle.std.specs.Prelude.{◌≡◌};
+    ghost use Rattle.gen_walks.specs.declared.fault.WalkFault.TheVariants.{Memory};
+
+    ghost from_gives = { λ _ e. e ≡ Memory };
+
+    fn from(_e: AllocError) -> WalkFault {
+        WalkFault::Memory
+    }
+}
+
+impl<T: Drop> From<AllocFailed<T>> for WalkFault {
+    ghost use Rattle.std.specs.Prelude.{◌≡◌};
+    ghost use Rattle.gen_walks.specs.declared.fault.WalkFault.TheVariants.{Memory};
+
+    ghost from_gives = { λ _ e. e ≡ Memory };
+
+    fn from(_e: AllocFailed<T>) -> WalkFault {
+        WalkFault::Memory
+    }
+}

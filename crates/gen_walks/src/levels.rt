@@ -1,0 +1,99 @@
+//! Levels of generals, which show that no walk is shorter.
+ghost use Rattle.std.specs.Prelude.{ℕ, IsTrue, ◌≡◌, ◌<◌, ◌↔◌};
+ghost use Rattle.std.specs.Bool.{OnTrue, OnFalse};
+ghost use Rattle.gen_walks.specs.Levels.{level, IsLevelRow, IsSteep, NoWalkIsShorter};
+
+use crate::inside::{are_joined, general, is_inside};
+use gen_net::Net;
+use gen_types::{GeneralNo, GeneralSet};
+use std::marker::Model;
+
+/// The level of a general to whom no walk leads.
+pub const UNREACHED: u8 = 255;
+
+/// A number for each general, 0..254 edges from a source, or `UNREACHED`.
+#[derive(Clone, Copy, Debug, PartialEq, Eq)]
+pub struct LevelRow {
+    levels: [u8; 16],
+}
+
+impl Model for LevelRow {
+    ghost use Rattle.std.specs.Prelude.{ℕ, List};
+
+    ghost Value = { List ℕ };
+
+    ghost view = { λ row. row.levels };
+
+    ghost inverse = { λ row. record { levels = row } };
+}
+
+impl LevelRow {
+    /// The row of these levels, general 0 first; those of numbers that are no generals don't count.
+    pub fn new(levels: [u8; 16]) -> LevelRow
+        ensures { result ≡ levels }
+    {
+        LevelRow { levels }
+    }
+
+    /// The level of the general.
+    pub fn level(&self, general: GeneralNo) -> u8
+        ensures { result ≡ level self.now general }
+    {
+        match self.levels.get(general.get() as usize) {
+            Some(level) => *level,
+            None => UNREACHED,
+        }
+    }
+}
+
+/// Whether the edge from a to b is inside the set and raises the level by more than 1.
+fn is_steep(net: &Net, rest: &GeneralSet, row: &LevelRow, a: GeneralNo, b: GeneralNo) -> bool
+    ensures { IsTrue result ↔ IsSteep net.now rest.now row.now a b }
+{
+    u16::from(row.level(a)) + 1 < u16::from(row.level(b)) && are_joined(net, rest, a, b)
+}
+
+/// Whether no edge from a inside the set is steep.
+fn is_even_from(net: &Net, rest: &GeneralSet, row: &LevelRow, a: GeneralNo) -> bool
+    ensures yes { OnTrue result ((b : ℕ) → b < net.now.generals → IsSteep net.now rest.now row.now a b → ⊥) }
+    ensures no { OnFalse result ((b : ℕ) × IsSteep net.now rest.now row.now a b) }
+{
+    for number in 0..net.generals() {
+        if is_steep(net, rest, row, a, general(net, number)) {
+            return false;
+        }
+    }
+    true
+}
+
+/// Whether no edge inside the set is steep.
+fn is_even(net: &Net, rest: &GeneralSet, row: &LevelRow) -> bool
+    ensures yes { OnTrue result ((a b : ℕ) → a < net.now.generals → b < net.now.generals → IsSteep net.now rest.now row.now a b → ⊥) }
+    ensures no { OnFalse result ((a b : ℕ) × IsSteep net.now rest.now row.now a b) }
+{
+    for number in 0..net.generals() {
+        if !is_even_from(net, rest, row, general(net, number)) {
+            return false;
+        }
+    }
+    true
+}
+
+/// Whether the source is inside the set with level 0 and no edge inside the set is steep.
+fn is_level_row(net: &Net, rest: &GeneralSet, source: GeneralNo, row: &LevelRow) -> bool
+    ensures { IsTrue result ↔ IsLevelRow net.now rest.now source row.now }
+{
+    is_inside(net, rest, source) && row.level(source) == 0 && is_even(net, rest, row)
+}
+
+/// Whether the levels are a certificate of distances from the source: he is one of the set and has
+/// level 0, and no edge inside the set raises the level by more than 1.
+///
+/// A yes shows that no walk inside the set from the source to a general has fewer edges than his level.
+/// Members of the set that are no generals of the network count as absent.
+pub fn check_levels(net: &Net, rest: &GeneralSet, source: GeneralNo, row: &LevelRow) -> bool
+    ensures exact { IsTrue result ↔ IsLevelRow net.now rest.now source row.now }
+    ensures law { IsTrue result → NoWalkIsShorter net.now rest.now source row.now }
+{
+    is_level_row(net, rest, source, row)
+}

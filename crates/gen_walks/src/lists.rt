@@ -1,0 +1,77 @@
+//! Walks, and lists of them, as they are handed in and out.
+ghost use Rattle.std.specs.Prelude.{◌≡◌, [], ◌∷◌, ◌++◌, OnOk, OnErr};
+
+use gen_types::GeneralNo;
+use std::alloc::{AllocError, Global};
+use std::marker::Model;
+
+/// A list of generals, each of whom is meant to be joined to the one before by an edge.
+#[derive(Debug, Drop)]
+pub struct Walk {
+    generals: Vec<GeneralNo>,
+}
+
+impl Model for Walk {
+    ghost use Rattle.std.specs.Prelude.{ℕ, List};
+
+    ghost Value = { List ℕ };
+
+    ghost view = { λ walk. walk.generals.items };
+}
+
+impl Walk {
+    /// The walk along these generals, whom nothing is asked of: `check_walks` judges it.
+    pub fn new(generals: Vec<GeneralNo>) -> Walk
+        ensures { result ≡ generals.items }
+    {
+        Walk { generals }
+    }
+
+    /// The generals from the first to the last.
+    pub fn generals(&self) -> &[GeneralNo]
+        ensures { result.now ≡ self.now }
+    {
+        &self.generals
+    }
+}
+
+/// A list of walks.
+#[derive(Debug, Drop)]
+pub struct Walks {
+    walks: Vec<Walk>,
+}
+
+impl Model for Walks {
+    ghost use Rattle.std.specs.Prelude.{ℕ, List};
+
+    ghost Value = { List (List ℕ) };
+
+    ghost view = { λ walks. walks.walks.items };
+}
+
+impl Walks {
+    /// The empty list, which takes no memory yet.
+    pub fn new(alloc: Global) -> Walks
+        ensures { result ≡ [] }
+    {
+        Walks {
+            walks: Vec::new(alloc),
+        }
+    }
+
+    /// Appends a walk; where memory is refused the list stays as it was.
+    pub fn push(&mut self, walk: Walk) -> Result<(), AllocError>
+        ensures ok { OnOk result (self.new ≡ self.old ++ walk ∷ []) }
+        ensures err { OnErr result (self.new ≡ self.old) }
+    {
+        self.walks.push(walk)?;
+        Ok(())
+    }
+
+    /// The walks in their order.
+    pub fn as_slice(&self) -> &[Walk]
+        ensures { result.now ≡ self.now }
+    {
+        &self.walks
+    }
+}

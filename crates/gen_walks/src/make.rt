@@ -1,0 +1,93 @@
+//! The best walks of all pairs of a set of generals.
+ghost use Rattle.std.specs.Prelude.{◌≡◌, ◌+◌, ◌<◌, IfOk, IfErr, OnOk};
+ghost use Rattle.gen_net.specs.Network.{IsNetwork};
+ghost use Rattle.gen_walks.specs.Walks.{IsPair, IsPairBefore, BoundsDiameter};
+ghost use Rattle.gen_walks.specs.BestWalks.{IsBestFor, AreBestFor, AreBestWalks};
+ghost use Rattle.gen_walks.specs.Search.{AreLevelRows};
+ghost use Rattle.gen_walks.specs.Faults.{Explains, IsWalkFault};
+
+use crate::diameter::is_pair;
+use crate::fault::{BadPair, WalkFault};
+use crate::inside::general;
+use crate::levels::{LevelRow, UNREACHED};
+use crate::lists::{Walk, Walks};
+use crate::search::{best_walk, level_rows, row_from};
+use gen_net::Net;
+use gen_types::{GeneralNo, GeneralSet};
+use std::alloc::Global;
+
+/// The best walk of a pair, or why it has none of at most d edges.
+fn walk_for(
+    alloc: Global,
+    net: &Net,
+    rest: &GeneralSet,
+    rows: &[LevelRow],
+    a: GeneralNo,
+    b: GeneralNo,
+) -> Result<Walk, WalkFault>
+    requires network { IsNetwork net.now }
+    requires rows { AreLevelRows net.now rest.now net.now.generals rows.now }
+    requires pair { IsPair net.now rest.now a b }
+    ensures ok { IfOk result (IsBestFor net.now rest.now (a, b)) }
+    ensures err { IfErr result (Explains net.now rest.now a b) }
+{
+    let levels = row_from(net, rest, rows, a);
+    let edges = levels.level(b);
+    let pair = BadPair { a, b };
+    if edges == UNREACHED {
+        return Err(WalkFault::NoWalk { pair, levels });
+    }
+    if edges > net.diameter() {
+        return Err(WalkFault::TooLong {
+            pair,
+            levels,
+            edges,
+        });
+    }
+    let back = row_from(net, rest, rows, b);
+    Ok(best_walk(alloc, net, rest, &back, a, b)?)
+}
+
+/// Appends the best walks from a to all greater generals of the set.
+fn push_walks(
+    walks: &mut Walks,
+    alloc: Global,
+    net: &Net,
+    rest: &GeneralSet,
+    rows: &[LevelRow],
+    a: GeneralNo,
+) -> Result<(), WalkFault>
+    requires rows { AreLevelRows net.now rest.now net.now.generals rows.now }
+    requires best { AreBestFor net.now rest.now (IsPairBefore net.now rest.now a 0) walks.old }
+    ensures best { OnOk result (AreBestFor net.now rest.now (IsPairBefore net.now rest.now (a + 1) 0) walks.new) }
+    ensures err { IfErr result (IsWalkFault net.now rest.now) }
+{
+    for number in 0..net.generals() {
+        let b = general(net, number);
+        if is_pair(net, rest, a, b) {
+            let walk = walk_for(alloc, net, rest, rows, a, b)?;
+            walks.push(walk)?;
+        }
+    }
+    Ok(())
+}
+
+/// Makes for each pair a < b of a set of generals, the rest, the lexicographically least among its
+/// shortest walks inside the set, in the order of the pairs. So they bound the set's diameter by d.
+///
+/// A fault tells of the least pair that has no walk of at most d edges: NoWalk where none leads from a
+/// to b, TooLong where the shortest is longer, each with the distances from a. Memory where memory was
+/// refused before such a pair was reached. Members of the set that are no generals of the network count
+/// as absent.
+pub fn make_walks(alloc: Global, net: &Net, rest: &GeneralSet) -> Result<Walks, WalkFault>
+    ensures best { IfOk result (AreBestWalks net.now rest.now) }
+    ensures bound { IfOk result (BoundsDiameter net.now rest.now) }
+    ensures err { IfErr result (IsWalkFault net.now rest.now) }
+{
+    let rows = level_rows(alloc, net, rest)?;
+    let mut walks = Walks::new(alloc);
+    for number in 0..net.generals() {
+        push_walks(&mut walks, alloc, net, rest, &rows, general(net, number))?;
+    }
+    Ok(walks)
+}

@@ -1,0 +1,144 @@
+//! The search by levels, and the best walk that it leads to.
+ghost use Rattle.std.specs.Prelude.{ℕ, List, ◌≡◌, ◌≢◌, ◌+◌, ◌<◌, IfOk};
+ghost use Rattle.std.specs.Bool.{OnTrue, OnFalse};
+ghost use Rattle.gen_walks.specs.Walks.{IsInside, AreJoined, IsWalkInside};
+ghost use Rattle.gen_walks.specs.Levels.{level, IsDistanceRow};
+ghost use Rattle.gen_walks.specs.Search.{AreLevels, AreLevelRows, IsNext, IsNearest};
+ghost use Rattle.gen_walks.specs.BestWalks.{IsBestWalk};
+ghost use Rattle.gen_net.specs.Network.{IsNetwork};
+
+use crate::inside::{are_joined, general};
+use crate::levels::{LevelRow, UNREACHED};
+use crate::lists::Walk;
+use gen_net::Net;
+use gen_types::{GeneralNo, GeneralSet};
+use std::alloc::{AllocError, Global};
+
+/// Whether an edge inside the set joins v to somebody of level k.
+fn is_near_level(net: &Net, rest: &GeneralSet, row: &LevelRow, k: u8, v: GeneralNo) -> bool
+    ensures yes { OnTrue result ((u : ℕ) × AreJoined net.now rest.now u v × (level row.now u ≡ k)) }
+    ensures no { OnFalse result ((u : ℕ) → AreJoined net.now rest.now u v → level row.now u ≡ k → ⊥) }
+{
+    for number in 0..net.generals() {
+        let u = general(net, number);
+        if row.level(u) == k && are_joined(net, rest, u, v) {
+            return true;
+        }
+    }
+    false
+}
+
+/// The level of v after the round that reaches level k + 1.
+fn next_level(net: &Net, rest: &GeneralSet, row: &LevelRow, k: u8, v: GeneralNo) -> u8
+    requires { k < 254 }
+    ensures { IsNext (AreJoined net.now rest.now) (level row.now) k v result }
+{
+    let old = row.level(v);
+    if old == UNREACHED && is_near_level(net, rest, row, k, v) {
+        k + 1
+    } else {
+        old
+    }
+}
+
+/// One round of the search, from the levels in `row` to those in `next`; whether it reached anybody.
+fn spread(net: &Net, rest: &GeneralSet, row: &LevelRow, k: u8, next: &mut [u8; 16]) -> bool
+    requires k { k < 254 }
+    requires same { next.old ≡ row.now }
+    ensures next { (v : ℕ) → v < 16 → IsNext (AreJoined net.now rest.now) (level row.now) k v (level next.new v) }
+    ensures yes { OnTrue result ((v : ℕ) × (v < 16) × (level row.now v ≡ 255) × (level next.new v ≢ 255)) }
+    ensures no { OnFalse result ((v : ℕ) → v < 16 → level next.new v ≡ level row.now v) }
+{
+    let mut changed = false;
+    for number in 0..16u8 {
+        let v = GeneralNo::at(number);
+        let found = next_level(net, rest, row, k, v);
+        if found != row.level(v) {
+            next[number as usize] = found;
+            changed = true;
+        }
+    }
+    changed
+}
+
+/// The levels by steps from the source inside the set: rounds of the search until one reaches nobody.
+fn levels_from(net: &Net, rest: &GeneralSet, source: GeneralNo) -> LevelRow
+    requires { IsNetwork net.now }
+    ensures { AreLevels (AreJoined net.now rest.now) source (level result) }
+{
+    let mut levels = [UNREACHED; 16];
+    levels[source.get() as usize] = 0;
+    for k in 0..16u8 {
+        let before = LevelRow::new(levels);
+        if !spread(net, rest, &before, k, &mut levels) {
+            return before;
+        }
+    }
+    LevelRow::new(levels)
+}
+
+/// The levels from each general inside the set, general 0 first.
+pub fn level_rows(alloc: Global, net: &Net, rest: &GeneralSet) -> Result<Vec<LevelRow>, AllocError>
+    ensures { IfOk result (λ rows. AreLevelRows net.now rest.now net.now.generals rows.items) }
+{
+    let mut rows = Vec::new(alloc);
+    for number in 0..net.generals() {
+        rows.push(levels_from(net, rest, general(net, number)))?;
+    }
+    Ok(rows)
+}
+
+/// The levels from one general of the set, which are his distances.
+pub fn row_from(net: &Net, rest: &GeneralSet, rows: &[LevelRow], source: GeneralNo) -> LevelRow
+    requires network { IsNetwork net.now }
+    requires rows { AreLevelRows net.now rest.now net.now.generals rows.now }
+    requires source { IsInside net.now rest.now source }
+    ensures levels { AreLevels (AreJoined net.now rest.now) source (level result) }
+    ensures distances { IsDistanceRow net.now rest.now source result }
+{
+    rows[usize::from(source.get())]
+}
+
+/// The least general joined to `at` inside the set who is one level nearer.
+fn nearest(net: &Net, rest: &GeneralSet, row: &LevelRow, at: GeneralNo) -> GeneralNo
+    requires { (u : ℕ) × AreJoined net.now rest.now at u × (level row.now at ≡ level row.now u + 1) }
+    ensures { IsNearest (AreJoined net.now rest.now) (level row.now) at result }
+{
+    for number in 0..net.generals() {
+        let next = general(net, number);
+        if u16::from(row.level(next)) + 1 == u16::from(row.level(at))
+            && are_joined(net, rest, at, next)
+        {
+            return next;
+        }
+    }
+    at
+}
+
+/// The least of the shortest walks from a to b inside the set, where one leads there: by the levels from
+/// b it goes each time to the nearest general, until the level is 0.
+pub fn best_walk(
+    alloc: Global,
+    net: &Net,
+    rest: &GeneralSet,
+    row: &LevelRow,
+    a: GeneralNo,
+    b: GeneralNo,
+) -> Result<Walk, AllocError>
+    requires network { IsNetwork net.now }
+    requires levels { AreLevels (AreJoined net.now rest.now) b (level row.now) }
+    requires start { IsInside net.now rest.now a }
+    requires joined { (walk : List ℕ) × IsWalkInside net.now rest.now a b walk }
+    ensures { IfOk result (IsBestWalk net.now rest.now a b) }
+{
+    let mut generals = Vec::new(alloc);
+    generals.push(a)?;
+    let mut at = a;
+    let mut left = row.level(a);
+    while left > 0 {
+        at = nearest(net, rest, row, at);
+        generals.push(at)?;
+        left -= 1;
+    }
+    Ok(Walk::new(generals))
+}
