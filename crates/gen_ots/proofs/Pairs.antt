@@ -1,0 +1,121 @@
+-- The lengths of secrets and images, and the images that a signature gives back.
+use Rattle.std.proofs.Common.{◌≡◌, ℕ, zero, suc, ◌+◌, ◌*◌, Bool, true, false, List, [], ◌∷◌, ◌++◌, length, take, drop, refl, sym, ap, ◌∙◌, append_assoc, length-append, arith}
+use Rattle.std.proofs.lemmas.List.{take_at, drop_at, append-nil}
+use Rattle.rand_chacha.specs.ChaCha.{key_of}
+use Rattle.sha2.proofs.Facts256.{length-sha256}
+use Rattle.gen_ots.specs.OneTime.{image, leaf_over, bit_of, first_images, leaf_value, signed_pair, on_side, first_pairs, signature_of, both_images, given_images, leaf_value_of}
+use Rattle.gen_ots.specs.Secrets.{KeyName, eight_words, secret_at, secret_of, secret_place}
+
+pub length-secret_at : (key : List ℕ) (place : ℕ) → length (secret_at key place) ≡ 32
+unfolding secret_at eight_words
+length-secret_at key place = refl
+
+pub length-image : (secret : List ℕ) → length (image secret) ≡ 32
+length-image secret = length-sha256 (0 ∷ secret)
+
+pub length-on_side : (one : Bool) (x y : List ℕ) → length x ≡ 32 → length y ≡ 32 → length (on_side one x y) ≡ 32
+unfolding on_side
+length-on_side true x y a b = b
+length-on_side false x y a b = a
+
+length-signed_pair : (k : KeyName) (n : ℕ) (one : Bool) → length (signed_pair k n one) ≡ 64
+length-signed_pair k n one =
+    let shown = on_side one (secret_of k n 0) (secret_of k n 1) in
+    let hidden = on_side one (secret_of k n 1) (secret_of k n 0) in
+    let s : length shown ≡ 32 = length-on_side one _ _ (length-secret_at (key_of k.seed) (secret_place k.leaf n 0)) (length-secret_at (key_of k.seed) (secret_place k.leaf n 1)) in
+    let o : length (image hidden) ≡ 32 = length-image hidden in
+    let e = length-append shown (image hidden) in
+    omega (arith, e, s, o)
+
+pub length-first_pairs : (k : KeyName) (digest : List ℕ) (n : ℕ) → length (first_pairs k digest n) ≡ 64 * n
+unfolding first_pairs
+length-first_pairs k digest zero = refl
+length-first_pairs k digest (suc n) =
+    let ih = length-first_pairs k digest n in
+    let one = length-signed_pair k n (bit_of digest n) in
+    let both = length-append (first_pairs k digest n) (signed_pair k n (bit_of digest n)) in
+    omega (arith, ih, one, both)
+
+-- the two halves of a pair that stands after n bytes
+shown-at : (n : ℕ) (before shown other rest : List ℕ) → length before ≡ n → length shown ≡ 32
+    → take 32 (drop n (before ++ ((shown ++ other) ++ rest))) ≡ shown
+shown-at n before shown other rest e s =
+    rw (drop_at before ((shown ++ other) ++ rest) n e, append_assoc shown other rest, take_at shown (other ++ rest) 32 s) refl
+
+other-at : (n : ℕ) (before shown other rest : List ℕ) → length before ≡ n → length shown ≡ 32 → length other ≡ 32
+    → take 32 (drop (n + 32) (before ++ ((shown ++ other) ++ rest))) ≡ other
+other-at n before shown other rest e s o =
+    let front : length (before ++ shown) ≡ n + 32 = omega (arith, length-append before shown) in
+    let cut : before ++ ((shown ++ other) ++ rest) ≡ (before ++ shown) ++ (other ++ rest) = simp append_assoc in
+    rw (cut, drop_at (before ++ shown) (other ++ rest) (n + 32) front, take_at other rest 32 o) refl
+
+-- both images, from the image of the secret shown and that of the other one
+both_images-on_side : (x y : List ℕ) (one : Bool) → both_images (on_side one x y) (image (on_side one y x)) one ≡ image x ++ image y
+unfolding on_side
+both_images-on_side x y true = refl
+both_images-on_side x y false = refl
+
+-- a pair gives back the images of its secrets
+pair-images : (k : KeyName) (n : ℕ) (one : Bool) (before rest : List ℕ) → length before ≡ 64 * n
+    → both_images (take 32 (drop (64 * n) (before ++ (signed_pair k n one ++ rest)))) (take 32 (drop (64 * n + 32) (before ++ (signed_pair k n one ++ rest)))) one
+    ≡ image (secret_of k n 0) ++ image (secret_of k n 1)
+pair-images k n one before rest e =
+    let x = secret_of k n 0 in
+    let y = secret_of k n 1 in
+    let s : length (on_side one x y) ≡ 32 = length-on_side one x y (length-secret_at (key_of k.seed) (secret_place k.leaf n 0)) (length-secret_at (key_of k.seed) (secret_place k.leaf n 1)) in
+    let o : length (image (on_side one y x)) ≡ 32 = length-image (on_side one y x) in
+    ap (λ (z : List ℕ). both_images z (take 32 (drop (64 * n + 32) (before ++ (signed_pair k n one ++ rest)))) one) (shown-at (64 * n) before (on_side one x y) (image (on_side one y x)) rest e s)
+    ∙ ap (λ (z : List ℕ). both_images (on_side one x y) z one) (other-at (64 * n) before (on_side one x y) (image (on_side one y x)) rest e s o)
+    ∙ both_images-on_side x y one
+
+-- one more bit
+pub given_images-suc : (pairs digest : List ℕ) (n : ℕ) → given_images pairs digest (suc n)
+    ≡ given_images pairs digest n ++ both_images (take 32 (drop (64 * n) pairs)) (take 32 (drop (64 * n + 32) pairs)) (bit_of digest n)
+unfolding given_images
+given_images-suc pairs digest n = refl
+
+pub first_pairs-suc : (k : KeyName) (digest : List ℕ) (n : ℕ) → first_pairs k digest (suc n) ≡ first_pairs k digest n ++ signed_pair k n (bit_of digest n)
+unfolding first_pairs
+first_pairs-suc k digest n = refl
+
+pub first_images-suc : (k : KeyName) (n : ℕ) → first_images k (suc n) ≡ first_images k n ++ image (secret_of k n 0) ++ image (secret_of k n 1)
+unfolding first_images
+first_images-suc k n = refl
+
+pub first_pairs-zero : (k : KeyName) (digest : List ℕ) → first_pairs k digest 0 ≡ []
+unfolding first_pairs
+first_pairs-zero k digest = refl
+
+given_images-zero : (k : KeyName) (pairs digest : List ℕ) → given_images pairs digest 0 ≡ first_images k 0
+unfolding given_images first_images
+given_images-zero k pairs digest = refl
+
+-- the images that the first n pairs of a signature by a key give are the key's
+pub given_images-first_pairs : (k : KeyName) (digest : List ℕ) (n : ℕ) (rest : List ℕ) → given_images (first_pairs k digest n ++ rest) digest n ≡ first_images k n
+given_images-first_pairs k digest zero rest = given_images-zero k (first_pairs k digest 0 ++ rest) digest
+given_images-first_pairs k digest (suc n) rest =
+    let pair = signed_pair k n (bit_of digest n) in
+    let whole = first_pairs k digest n ++ (pair ++ rest) in
+    let cut : first_pairs k digest (suc n) ++ rest ≡ whole = rw (first_pairs-suc k digest n) (append_assoc (first_pairs k digest n) pair rest) in
+    let ih : given_images whole digest n ≡ first_images k n = given_images-first_pairs k digest n (pair ++ rest) in
+    let images = pair-images k n (bit_of digest n) (first_pairs k digest n) rest (length-first_pairs k digest n) in
+    ap (λ (p : List ℕ). given_images p digest (suc n)) cut
+    ∙ given_images-suc whole digest n
+    ∙ ap (λ (x : List ℕ). x ++ both_images (take 32 (drop (64 * n) whole)) (take 32 (drop (64 * n + 32) whole)) (bit_of digest n)) ih
+    ∙ ap (λ (x : List ℕ). first_images k n ++ x) images
+    ∙ sym (append_assoc (first_images k n) (image (secret_of k n 0)) (image (secret_of k n 1)))
+    ∙ sym (first_images-suc k n)
+
+-- the leaf value that a key's signature stands for is the key's
+pub leaf_value_of-signature_of : (k : KeyName) (digest : List ℕ) → leaf_value_of (signature_of k digest) digest ≡ leaf_value k
+unfolding leaf_value_of signature_of leaf_value
+leaf_value_of-signature_of k digest =
+    ap leaf_over (rw (append-nil (first_pairs k digest 256)) at (given_images-first_pairs k digest 256 []))
+
+pub length-signature_of : (k : KeyName) (digest : List ℕ) → length (signature_of k digest) ≡ 16384
+unfolding signature_of
+length-signature_of k digest = length-first_pairs k digest 256
+
+pub whole-signature : (k : KeyName) (digest xs : List ℕ) → xs ≡ first_pairs k digest 256 → xs ≡ signature_of k digest
+unfolding signature_of
+whole-signature k digest xs e = e

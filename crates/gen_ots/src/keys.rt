@@ -1,0 +1,108 @@
+//! One-time keys.
+ghost use Rattle.std.specs.Prelude.{◌≡◌, ◌<◌, length, true, false};
+ghost use Rattle.gen_ots.specs.OneTime.{signature_of, leaf_value_of};
+ghost use Rattle.gen_ots.specs.OneTime.{leaf_value as value_of_leaf};
+
+use crate::hashing::{chosen, image_bytes, is_one, leaf_hasher};
+use crate::secrets::{next_secret, secrets_of};
+use crate::signatures::{OtsSig, SigRoom};
+use crate::sizes::{DIGEST_BITS, LEAVES, OTS_BYTES};
+use sha2::Digest;
+use std::marker::Model;
+
+/// A one-time key, which signs one digest or is retired.
+///
+/// It can't be cloned, and it has to be spent by `sign` or `retire`: code that lets go a key that may be
+/// unspent is not accepted. Spending it can't fail. Its seed isn't wiped from memory.
+pub struct OneTimeKey {
+    seed: [u8; 32],
+    leaf: u8,
+    live: bool,
+}
+
+impl Model for OneTimeKey {
+    ghost use Rattle.gen_ots.specs.OneTime.{KeyState};
+
+    ghost Value = { KeyState };
+
+    ghost view = { λ k. record { name = record { seed = k.seed; leaf = k.leaf }; live = k.live } };
+}
+
+impl Drop for OneTimeKey {
+    // A key is let go only once it was spent.
+    fn drop(self)
+        requires { self.live ≡ false }
+    {
+        let OneTimeKey {
+            seed: _,
+            leaf: _,
+            live: _,
+        } = self;
+    }
+}
+
+impl OneTimeKey {
+    /// The key of a seed and a leaf, whose number is below `LEAVES`.
+    pub fn new(seed: &[u8; 32], leaf: u8) -> OneTimeKey
+        requires { leaf < LEAVES }
+        ensures { result ≡ record { name = record { seed = seed.now; leaf = leaf }; live = true } }
+    {
+        OneTimeKey {
+            seed: *seed,
+            leaf,
+            live: true,
+        }
+    }
+
+    /// The number of the key's leaf.
+    pub fn leaf(&self) -> u8
+        ensures { result ≡ self.now.name.leaf }
+    {
+        self.leaf
+    }
+
+    /// The leaf value of the key: the hash of the images of all its secrets.
+    pub fn leaf_value(&self) -> [u8; 32]
+        ensures { result ≡ value_of_leaf self.now.name }
+    {
+        let mut words = secrets_of(&self.seed, self.leaf);
+        let mut hasher = leaf_hasher();
+        'bits: for _bit in 0..DIGEST_BITS {
+            let low = next_secret(&mut words);
+            let high = next_secret(&mut words);
+            hasher.update(image_bytes(&low));
+            hasher.update(image_bytes(&high));
+        }
+        hasher.finalize()
+    }
+
+    /// Signs a digest and ends the key. It takes no memory beyond the room, and can't fail.
+    pub fn sign(self, room: SigRoom, digest: &[u8; 32]) -> OtsSig
+        ensures bytes { result ≡ signature_of self.name digest.now }
+        ensures leaf { leaf_value_of result digest.now ≡ value_of_leaf self.name }
+        ensures width { length result ≡ OTS_BYTES }
+    {
+        let mut this = self;
+        this.live = false;
+        let mut words = secrets_of(&this.seed, this.leaf);
+        let mut bytes = room.bytes;
+        'bits: for bit in 0..DIGEST_BITS {
+            let low = next_secret(&mut words);
+            let high = next_secret(&mut words);
+            let one = is_one(digest, bit);
+            let other = image_bytes(chosen(one, &high, &low));
+            bytes.extend_from_slice(chosen(one, &low, &high)).unwrap();
+            bytes.extend_from_slice(&other).unwrap();
+        }
+        OtsSig { bytes }
+    }
+
+    /// Ends the key unused, and gives the number of its leaf.
+    pub fn retire(self) -> u8
+        ensures { result ≡ self.name.leaf }
+    {
+        let mut this = self;
+        this.live = false;
+        this.leaf
+    }
+}

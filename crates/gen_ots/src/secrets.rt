@@ -1,0 +1,60 @@
+//! The secrets of a key, read one after another from its stream of ChaCha20.
+ghost use Rattle.std.specs.Prelude.{◌≡◌, ◌<◌, ◌+◌, ◌^◌};
+ghost use Rattle.rand_chacha.specs.ChaCha.{key_of};
+ghost use Rattle.gen_ots.specs.Secrets.{secret_at, eight_words, secret_place};
+
+use crate::sizes::{DIGEST_BITS, HASH_BYTES, SECRET_STREAM};
+use byteorder::{ByteOrder, LittleEndian};
+use rand_chacha::ChaCha20Rng;
+use rand_core::SeedableRng;
+use rand_core::utils::NextWord;
+
+/// The words of one secret.
+const WORDS_PER_SECRET: usize = 8;
+
+/// The words of all secrets of one key: two secrets for each bit of a digest.
+const WORDS_PER_KEY: usize = 2 * WORDS_PER_SECRET * DIGEST_BITS;
+
+/// The generator of a key's secrets, at the first of them: bit 0, side 0.
+pub fn secrets_of(seed: &[u8; 32], leaf: u8) -> ChaCha20Rng
+    ensures { result ≡ record { key = key_of seed.now; stream = SECRET_STREAM; word_pos = secret_place leaf 0 0 } }
+{
+    let mut words = ChaCha20Rng::from_seed(*seed);
+    words.set_stream(SECRET_STREAM);
+    words.set_word_pos(u128::from(leaf) * WORDS_PER_KEY as u128);
+    words
+}
+
+// The next eight words.
+#[tactic(auto, unfolding(crate::specs::Secrets::eight_words))]
+fn next_words(words: &mut ChaCha20Rng) -> [u32; WORDS_PER_SECRET]
+    requires stream { words.old.stream ≡ SECRET_STREAM }
+    requires room { words.old.word_pos + WORDS_PER_SECRET < 2 ^ 68 }
+    ensures eight { result ≡ eight_words words.old.key words.old.word_pos }
+    ensures moved { words.new ≡ record words.old { word_pos = words.old.word_pos + WORDS_PER_SECRET } }
+{
+    [
+        words.next_word(),
+        words.next_word(),
+        words.next_word(),
+        words.next_word(),
+        words.next_word(),
+        words.next_word(),
+        words.next_word(),
+        words.next_word(),
+    ]
+}
+
+/// The next secret: eight words, each with its low byte first.
+#[tactic(auto, unfolding(crate::specs::Secrets::secret_at))]
+pub fn next_secret(words: &mut ChaCha20Rng) -> [u8; 32]
+    requires stream { words.old.stream ≡ SECRET_STREAM }
+    requires room { words.old.word_pos + WORDS_PER_SECRET < 2 ^ 68 }
+    ensures secret { result ≡ secret_at words.old.key words.old.word_pos }
+    ensures moved { words.new ≡ record words.old { word_pos = words.old.word_pos + WORDS_PER_SECRET } }
+{
+    let eight = next_words(words);
+    let mut secret = [0; HASH_BYTES];
+    LittleEndian::write_u32_into(&eight, &mut secret);
+    secret
+}

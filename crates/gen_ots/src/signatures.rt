@@ -1,0 +1,99 @@
+//! One-time signatures, and the room that they are written into.
+ghost use Rattle.std.specs.Prelude.{◌≡◌, length};
+ghost use Rattle.gen_ots.specs.OneTime.{leaf_value_of};
+
+use crate::hashing::{chosen, image_bytes, is_one, leaf_hasher};
+use crate::sizes::{DIGEST_BITS, HASH_BYTES, OTS_BYTES, PAIR_BYTES};
+use sha2::Digest;
+use std::alloc::{AllocError, Global};
+use std::marker::Model;
+
+/// Room for one signature: all the memory that making or reading one takes.
+#[derive(Drop)]
+pub struct SigRoom {
+    pub(crate) bytes: Vec<u8>,
+}
+
+impl Model for SigRoom {
+    ghost use Rattle.std.specs.Prelude.{◌≡◌, ◌≤◌, [], vec_capacity};
+    ghost use Rattle.gen_ots.specs.Sizes.{ots_length};
+
+    ghost Value = { Unit {0} };
+
+    ghost view = { λ _. tt };
+
+    ghost invariant = { λ a. (a.bytes.items ≡ []) × (ots_length ≤ vec_capacity a.bytes) };
+}
+
+impl SigRoom {
+    /// Makes the room, or says that memory was refused.
+    pub fn new(alloc: Global) -> Result<SigRoom, AllocError> {
+        let bytes = Vec::with_capacity(alloc, OTS_BYTES)?;
+        Ok(SigRoom { bytes })
+    }
+}
+
+/// A one-time signature: for each bit of a digest, from the most significant bit of byte 0 on, the secret
+/// that the bit names and the image of the other side.
+///
+/// It may be anybody's bytes: whom it speaks for is what `image_of` says.
+#[derive(Drop)]
+pub struct OtsSig {
+    pub(crate) bytes: Vec<u8>,
+}
+
+impl Model for OtsSig {
+    ghost use Rattle.std.specs.Prelude.{◌≡◌, List, ℕ, length};
+    ghost use Rattle.gen_ots.specs.Sizes.{ots_length};
+
+    ghost Value = { List ℕ };
+
+    ghost view = { λ s. s.bytes.items };
+
+    ghost invariant = { λ s. length s.bytes.items ≡ ots_length };
+}
+
+impl OtsSig {
+    /// The signature with these bytes, of which there are `OTS_BYTES`.
+    pub fn read(room: SigRoom, pairs: &[u8]) -> OtsSig
+        requires { length pairs.now ≡ OTS_BYTES }
+        ensures { result ≡ pairs.now }
+    {
+        let mut bytes = room.bytes;
+        bytes.extend_from_slice(pairs).unwrap();
+        OtsSig { bytes }
+    }
+
+    /// The same signature again, in other room.
+    pub fn copy(&self, room: SigRoom) -> OtsSig
+        ensures { result ≡ self.now }
+    {
+        OtsSig::read(room, self.as_bytes())
+    }
+
+    /// The bytes of the signature.
+    pub fn as_bytes(&self) -> &[u8]
+        ensures value { result.now ≡ self.now }
+        ensures width { length result.now ≡ OTS_BYTES }
+    {
+        self.bytes.as_slice()
+    }
+}
+
+/// The leaf value that a signature of a digest stands for: the hash of the images of the secrets that it
+/// shows and the images that it gives, each on its side.
+pub fn image_of(signature: &OtsSig, digest: &[u8; 32]) -> [u8; 32]
+    ensures { result ≡ leaf_value_of signature.now digest.now }
+{
+    let pairs = signature.bytes.as_slice();
+    let mut hasher = leaf_hasher();
+    'bits: for bit in 0..DIGEST_BITS {
+        let at = PAIR_BYTES * bit;
+        let shown = image_bytes(&pairs[at..at + HASH_BYTES]);
+        let other = &pairs[at + HASH_BYTES..at + PAIR_BYTES];
+        let one = is_one(digest, bit);
+        hasher.update(chosen(one, &shown, other));
+        hasher.update(chosen(one, other, &shown));
+    }
+    hasher.finalize()
+}
