@@ -1,0 +1,10 @@
+pub mod Best
+pub mod Commands
+pub mod Decisions
+pub mod Due
+pub mod OwnRun
+pub mod PickedPaths
+pub mod Rounds
+pub mod Seeing
+pub mod SignedRuns
+pub mod Views

@@ -1,0 +1,7 @@
+use Rattle.std.proofs.Common.{take, Contains, ◌⊎◌}
+use Rattle.gen_types.specs.Ascending.{IsListOf}
+use Rattle.gen_core.specs.Best.{OrderIn}
+use Rattle.gen_core.proofs.lieutenants.learn.Given as goal
+
+abbrev pub invariant-loop-chain : goal.invariant-loop-chain
+invariant-loop-chain l = IsListOf l.known (λ v. Contains l.initial.known v ⊎ OrderIn (take l.chain-index l.seen) v)

@@ -1,0 +1,22 @@
+use Rattle.gen_core.specs.Best.{better}
+use Rattle.std.proofs.Common.{get_or, ◌<◌, ◌≡◌, true, take}
+use Rattle.std.proofs.lemmas.List.{take_more}
+use Rattle.gen_core.proofs.Best.{best_start, best_known, best_more}
+use Rattle.gen_core.proofs.picks.best_of.Goals as goal
+use Rattle.gen_core.proofs.picks.best_of.Goals.{then-not-contains, else-not-contains}
+
+pub loop-chain-init : goal.loop-chain-init
+loop-chain-init c = best_start c.args.known.now
+
+pub loop-chain-preserved : goal.loop-chain-preserved
+loop-chain-preserved c =
+    let xs = take c.loop-chain.chain-index c.args.seen.now in
+    let s = c.chain-item.result in
+    rw (take_more c.args.seen.now c.loop-chain.chain-index c.chain-item.result c.loop-chain-test.true, ← c.chain-item.is)
+    (elim c.if-not-contains.branch [
+      | then-not-contains w ↦
+          let low : s.order < 16 = rw (← w.get-order.ensures.value) w.get-order.ensures.below in
+          let kept : w.lesser.result ≡ better (get_or c.loop-chain.picked s.order w.index-picked-order.result) s = rw w.get-order.ensures.value at w.lesser.ensures in
+          rw (w.picked-is, w.get-order.ensures.value) (best_more c.args.known.now xs s c.loop-chain.picked w.index-picked-order.result w.lesser.result c.loop-chain.invariant low (λ h. let told : c.contains.result ≡ true = c.contains.ensures.1 h in (cc)) kept)
+      | else-not-contains w ↦ rw w.picked-is (best_known c.args.known.now xs s c.loop-chain.picked c.loop-chain.invariant (c.contains.ensures.0 w.if-not-contains.false))
+    ])

@@ -1,0 +1,5 @@
+pub mod Best
+pub mod Paths
+pub mod Seeing
+pub mod Sending
+pub mod Shown

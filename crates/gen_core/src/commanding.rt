@@ -1,0 +1,67 @@
+//! The commander.
+ghost use Rattle.std.specs.Prelude.{◌≡◌, [], ◌∷◌, IfOk};
+ghost use Rattle.gen_core.specs.Sending.{AreSends, IsCommand};
+
+use crate::sending::Send;
+use gen_net::Net;
+use gen_types::{GeneralNo, OrderNo, OrderSet, Path};
+use std::alloc::{AllocError, Global};
+use std::marker::Model;
+
+/// The commander, general 0, who has an order. A contract sees the order alone.
+#[derive(Clone, Copy, Debug)]
+pub struct Commander {
+    order: OrderNo,
+}
+
+impl Model for Commander {
+    ghost use Rattle.std.specs.Prelude.{ℕ};
+
+    ghost Value = { ℕ };
+
+    ghost view = { λ c. c.order };
+
+    ghost inverse = { λ v. record { order = v } };
+}
+
+impl Commander {
+    /// Makes the commander with this order.
+    pub fn new(order: OrderNo) -> Commander
+        ensures { result ≡ order }
+    {
+        Commander { order }
+    }
+
+    /// Returns what he sends in round 1 (step 1 of SM(m), section 4 of the paper of 1982): his order,
+    /// signed by himself alone, to each neighbour, in ascending order of neighbours. It fails only where
+    /// memory was refused.
+    pub fn sends(&self, alloc: Global, net: &Net) -> Result<Vec<Send>, AllocError>
+        ensures { IfOk result (λ out. AreSends (IsCommand net.now self.now) out.items) }
+    {
+        let path = commanders_path();
+        let mut out = Vec::new(alloc);
+        for to in net.neighbours(GeneralNo::commander()) {
+            out.push((to, self.order, path))?;
+        }
+        Ok(out)
+    }
+
+    /// Returns what he decides: the set of his own order alone, and his own order.
+    pub fn decide(&self) -> (OrderSet, OrderNo)
+        ensures set { result.0 ≡ self.now ∷ [] }
+        ensures order { result.1 ≡ self.now }
+    {
+        (OrderSet::only(self.order), self.order)
+    }
+}
+
+/// The path of the commander alone.
+fn commanders_path() -> Path
+    ensures { result ≡ 0 ∷ [] }
+{
+    let mut path = Path::new();
+    match path.push(GeneralNo::commander()) {
+        Ok(()) => path,
+        Err(_) => unreachable!(),
+    }
+}

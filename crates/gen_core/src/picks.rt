@@ -1,0 +1,82 @@
+//! Which chain of a new order a lieutenant picks.
+ghost use Rattle.std.specs.Prelude.{ℕ, ◌≡◌, ◌↔◌, List, Some, Option, length};
+ghost use Rattle.gen_core.specs.Best.{better, AreBest};
+ghost use Rattle.gen_core.specs.Seeing.{Picked};
+ghost use Rattle.gen_core.specs.Paths.{paths_of};
+ghost use Rattle.gen_core.specs.declared.arrivals.Seen.{Seen as SeenChain};
+
+use crate::arrivals::Seen;
+use gen_types::{OrderNo, OrderSet, Path};
+use std::marker::Model;
+
+/// The orders that a lieutenant adds in a round, each with the path that he picked. A contract sees
+/// for each order perhaps a path.
+#[derive(Debug, Drop)]
+pub struct Adds {
+    picked: [Option<Seen>; 16],
+}
+
+impl Model for Adds {
+    ghost use Rattle.std.specs.Prelude.{ℕ, ◌≡◌, List, Option, length};
+    ghost use Rattle.gen_core.specs.Paths.{paths_of};
+
+    ghost Value = { List (Option (List ℕ)) };
+
+    ghost view = { λ a. paths_of a.picked };
+
+    ghost invariant = { λ a. length a.picked ≡ 16 };
+}
+
+impl Adds {
+    /// How many orders there are places for.
+    pub(crate) fn places(&self) -> u8
+        ensures value { result ≡ length self.now }
+        ensures all { result ≡ 16 }
+    {
+        let picked = &self.picked;
+        picked.len() as u8
+    }
+
+    /// Returns the path that is picked for the order, and None where the order is not added.
+    pub fn get(&self, order: OrderNo) -> Option<Path>
+        ensures { (path : List ℕ) → (result ≡ Some path) ↔ Picked self.now order path }
+    {
+        match &self.picked[order.get() as usize] {
+            Some(seen) => Some(seen.path),
+            None => None,
+        }
+    }
+}
+
+/// Of two chains of one order the one from the lesser sender.
+fn lesser(before: Option<Seen>, seen: Seen) -> Seen
+    ensures { result ≡ better before seen }
+{
+    match before {
+        Some(other) if other.from <= seen.from => other,
+        _ => seen,
+    }
+}
+
+/// For each order that isn't known the chain from the least sender.
+fn best_of(known: &OrderSet, seen: &[Seen]) -> [Option<Seen>; 16]
+    ensures { AreBest known.now seen.now result }
+{
+    let mut picked: [Option<Seen>; 16] = [None; 16];
+    for chain in seen {
+        if !known.contains(chain.order) {
+            let order = chain.order.get() as usize;
+            picked[order] = Some(lesser(picked[order], *chain));
+        }
+    }
+    picked
+}
+
+/// The orders of the chains that aren't known, each with the chain from its least sender.
+pub fn pick(known: &OrderSet, seen: &[Seen]) -> Adds
+    ensures { (picked : List (Option SeenChain)) × AreBest known.now seen.now picked × (result ≡ paths_of picked) }
+{
+    Adds {
+        picked: best_of(known, seen),
+    }
+}

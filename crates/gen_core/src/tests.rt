@@ -1,0 +1,214 @@
+//! Worked rounds: what generals send, add and decide, row by row.
+ghost use Rattle.std.specs.Prelude.{IsTrue, ℕ, ◌≡◌, List, Contains};
+ghost use Rattle.gen_net.specs.Network.{rounds};
+ghost use Rattle.gen_core.specs.Seeing.{Picked};
+ghost use Rattle.gen_core.specs.Sending.{IsNowhere};
+
+use super::*;
+use gen_net::Net;
+use gen_types::{GeneralNo, OrderNo, OrderSet, Path};
+use std::alloc::Global;
+use std::test::Fail;
+
+/// What arrives in a round, and what is to be sent for it in the next.
+type Round<'a> = (&'a [Seen], &'a [Send]);
+
+const ALL_PAIRS: [(u8, u8); 6] = [(0, 1), (0, 2), (0, 3), (1, 2), (1, 3), (2, 3)];
+
+/// The path of these generals.
+fn path_of(generals: &[u8]) -> Path {
+    let mut path = Path::new();
+    for number in generals {
+        let _pushed = path.push(GeneralNo::at(*number % 16));
+    }
+    path
+}
+
+/// The chain of this order and path, from its last signer.
+fn seen(order: u8, path: Path) -> Seen {
+    Seen {
+        from: path.last().unwrap_or(GeneralNo::commander()),
+        order: OrderNo::at(order % 16),
+        path,
+    }
+}
+
+/// The chain of this order and path, to this general.
+fn send(to: u8, order: u8, path: Path) -> Send {
+    (GeneralNo::at(to % 16), OrderNo::at(order % 16), path)
+}
+
+/// Whether the general doesn't stand in the path that is picked for the order.
+fn is_free(adds: &Adds, order: OrderNo, me: GeneralNo) -> bool
+    ensures { IsTrue result → (path : List ℕ) → Picked adds.now order path → Contains path me → ⊥ }
+{
+    match adds.get(order) {
+        Some(path) => !path.contains(me),
+        None => true,
+    }
+}
+
+/// Whether the general stands in no picked path.
+fn is_nowhere(adds: &Adds, me: GeneralNo) -> bool
+    ensures { IsTrue result → IsNowhere adds.now me }
+{
+    for number in 0..adds.places() {
+        if !is_free(adds, OrderNo::at(number), me) {
+            return false;
+        }
+    }
+    true
+}
+
+/// Whether there is a next round, and the lieutenant sends exactly this for it.
+fn relays(alloc: Global, net: &Net, lieutenant: &mut Lieutenant, round: Round) -> bool
+    requires { lieutenant.old.rounds ≡ rounds net.now }
+    ensures { lieutenant.new.rounds ≡ rounds net.now }
+{
+    let me = lieutenant.me();
+    if lieutenant.gone() >= net.rounds() {
+        return false;
+    }
+    let adds = lieutenant.round(round.0);
+    if !is_nowhere(&adds, me) {
+        return false;
+    }
+    match sends(alloc, net, me, &adds) {
+        Ok(out) => out.as_slice() == round.1,
+        Err(_) => false,
+    }
+}
+
+/// What the lieutenant decides after three rounds; None where he sends anything but this for them.
+fn decided(alloc: Global, net: &Net, me: u8, course: [Round; 3]) -> Option<(OrderSet, OrderNo)> {
+    let me = GeneralNo::new(me)?;
+    if me.get() == 0 || me.get() >= net.generals() {
+        return None;
+    }
+    let mut lieutenant = Lieutenant::new(net, me);
+    let [first, second, third] = course;
+    let sent = relays(alloc, net, &mut lieutenant, first)
+        && relays(alloc, net, &mut lieutenant, second)
+        && relays(alloc, net, &mut lieutenant, third);
+    if !sent || lieutenant.gone() != net.rounds() || lieutenant.me() != me {
+        return None;
+    }
+    Some(lieutenant.decide())
+}
+
+/// Whether it is this set and this order.
+fn is_decision(decision: Option<(OrderSet, OrderNo)>, orders: &[u8], order: u8) -> bool {
+    match decision {
+        Some((set, chosen)) => {
+            set.iter().map(OrderNo::get).eq(orders.iter().copied()) && chosen.get() == order
+        }
+        None => false,
+    }
+}
+
+#[test]
+fn on_a_line(rt: HostRuntime) {
+    let alloc = rt.alloc();
+    let net = Net::new(alloc, 4, &[(0, 1), (1, 2), (2, 3)], 0, 3, 2, 0).expect(&rt, "net");
+    let (one, two, three) = (path_of(&[0]), path_of(&[0, 1]), path_of(&[0, 1, 2]));
+    // Each relays what arrives to the next general, and never to one of the path. The last one adds
+    // the order in the last round.
+    let rows: [(u8, [Round; 3]); 3] = [
+        (
+            1,
+            [
+                (&[seen(1, one)], &[send(2, 1, two)]),
+                (&[], &[]),
+                (&[], &[]),
+            ],
+        ),
+        (
+            2,
+            [
+                (&[], &[]),
+                (&[seen(1, two)], &[send(3, 1, three)]),
+                (&[], &[]),
+            ],
+        ),
+        (3, [(&[], &[]), (&[], &[]), (&[seen(1, three)], &[])]),
+    ];
+    for (me, course) in rows {
+        assert!(rt;
+            is_decision(decided(alloc, &net, me, course), &[1], 1),
+            "lieutenant {me}"
+        );
+    }
+    let nothing: Round = (&[], &[]);
+    assert!(rt; is_decision(decided(alloc, &net, 1, [nothing, nothing, nothing]), &[], 0));
+}
+
+#[test]
+fn all_joined(rt: HostRuntime) {
+    let alloc = rt.alloc();
+    let net = Net::new(alloc, 4, &ALL_PAIRS, 2, 1, 3, 0).expect(&rt, "net");
+    let (first, own) = (path_of(&[0]), path_of(&[0, 1]));
+    let (by_2, by_3) = (path_of(&[0, 2]), path_of(&[0, 3]));
+    let (by_21, by_31, by_32) = (
+        path_of(&[0, 2, 1]),
+        path_of(&[0, 3, 1]),
+        path_of(&[0, 3, 2]),
+    );
+    // Of two senders of one order the lesser is picked, whichever comes first.
+    let two: [Round; 2] = [
+        (&[seen(2, by_3), seen(2, by_2)], &[send(3, 2, by_21)]),
+        (&[seen(2, by_2), seen(2, by_3)], &[send(3, 2, by_21)]),
+    ];
+    for round in two {
+        let course: [Round; 3] = [(&[], &[]), round, (&[], &[])];
+        assert!(rt; is_decision(decided(alloc, &net, 1, course), &[2], 2));
+    }
+    // An order that arrived before isn't added again. Sends are by receiver and order. Of two orders
+    // the choice is RETREAT. What is added in the last round is sent to nobody.
+    let course: [Round; 3] = [
+        (&[seen(2, first)], &[send(2, 2, own), send(3, 2, own)]),
+        (&[seen(2, by_2), seen(1, by_3)], &[send(2, 1, by_31)]),
+        (&[seen(1, by_32), seen(0, by_32)], &[]),
+    ];
+    assert!(rt; is_decision(decided(alloc, &net, 1, course), &[0, 1, 2], 0));
+}
+
+#[test]
+fn last_round(rt: HostRuntime) -> Result<(), Fail> {
+    let alloc = rt.alloc();
+    let first = path_of(&[0]);
+    // An order that is added in the only round is relayed to nobody, though two neighbours are outside
+    // the path; with one round more it goes to both.
+    for (traitors, relayed) in [(0, false), (1, true)] {
+        let net = Net::new(alloc, 4, &ALL_PAIRS, traitors, 1, 3, 1).expect(&rt, "net");
+        assert!(rt; net.generals() == 4);
+        let mut lieutenant = Lieutenant::new(&net, GeneralNo::at(1));
+        assert!(rt; lieutenant.gone() < net.rounds());
+        let adds = lieutenant.round(&[seen(2, first)]);
+        assert_eq!(rt; adds.get(OrderNo::at(2)), Some(first));
+        assert_eq!(rt; adds.get(OrderNo::at(1)), None);
+        assert!(rt; is_nowhere(&adds, GeneralNo::at(1)));
+        let out = sends(alloc, &net, GeneralNo::at(1), &adds)?;
+        let both = [send(2, 2, path_of(&[0, 1])), send(3, 2, path_of(&[0, 1]))];
+        if relayed {
+            assert_eq!(rt; out.as_slice(), both.as_slice());
+        } else {
+            assert!(rt; out.is_empty());
+        }
+    }
+    Ok(())
+}
+
+#[test]
+fn commands(rt: HostRuntime) -> Result<(), Fail> {
+    let alloc = rt.alloc();
+    let net = Net::new(alloc, 4, &[(3, 0), (1, 2), (0, 1)], 1, 2, 3, 1).expect(&rt, "net");
+    let commander = Commander::new(OrderNo::at(2));
+    let own = path_of(&[0]);
+    let out = commander.sends(alloc, &net)?;
+    assert_eq!(rt;
+        out.as_slice(),
+        [send(1, 2, own), send(3, 2, own)].as_slice()
+    );
+    assert!(rt; is_decision(Some(commander.decide()), &[2], 2));
+    Ok(())
+}
