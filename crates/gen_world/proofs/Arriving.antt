@@ -1,0 +1,100 @@
+-- What arrives at a general, message by message, and what he relays.
+use Rattle.std.proofs.Common.{◌≡◌, ℕ, ◌⊎◌, ◌↔◌, inl, inr, List, [], ◌∷◌, ◌++◌, length, Contains, refl, sym, ap, ◌∙◌, subst, arith, Option}
+use Rattle.std.proofs.lemmas.List.Elements.{Contains-push, Contains-append_left, Contains-push_cases}
+use Rattle.gen_types.proofs.Lists.{Contains_nil}
+use Rattle.gen_net.specs.declared.message.Message.{Message}
+use Rattle.gen_core.specs.declared.arrivals.Seen.{Seen}
+use Rattle.gen_net.specs.Network.{Network, AreNeighbours}
+use Rattle.gen_net.specs.Run.{Run}
+use Rattle.gen_core.specs.Seeing.{AreArrivals, AreAdds}
+use Rattle.gen_core.specs.Sending.{Send, Appends, AreSends, IsCommand, IsDue}
+use Rattle.gen_world.specs.World.{IsRelay}
+use Rattle.gen_world.specs.Rounds.{IsAmong, RelayedBy}
+
+abbrev pub seen_of : Message → Seen
+seen_of m = record { from = m.from; order = m.order; path = m.path }
+
+abbrev pub message_to : ℕ → Seen → Message
+message_to g s = record { from = s.from; to = g; order = s.order; path = s.path }
+
+pub arrivals_start : (g l : ℕ) → AreArrivals [] g l []
+arrivals_start g l s = ((λ h. absurd (Contains_nil s h)), (λ c. absurd (Contains_nil (message_to g s) c.0.0)))
+
+pub arrivals_more : (messages : List Message) (m : Message) (g l : ℕ) (seen : List Seen) → AreArrivals messages g l seen → m.to ≡ g → length m.path ≡ l → AreArrivals (messages ++ m ∷ []) g l (seen ++ seen_of m ∷ [])
+arrivals_more messages m g l seen so_far to long s = (
+  (λ h. elim (Contains-push_cases seen (seen_of m) s h) [
+    | inl k ↦ let c = (so_far s).0 k in ((Contains-append_left messages (m ∷ []) (message_to g s) c.0.0, c.0.1), c.1)
+    | inr e ↦
+        let made : m ≡ message_to g s = (λ i. record { from = (e i).from; to = to i; order = (e i).order; path = (e i).path }) in
+        ((subst (λ x. Contains (messages ++ m ∷ []) x) made (Contains-push messages m), subst (λ (x : Message). length x.path ≡ l) made long), refl)
+  ]),
+  (λ c. elim (Contains-push_cases messages m (message_to g s) c.0.0) [
+    | inl k ↦ Contains-append_left seen (seen_of m ∷ []) s ((so_far s).1 ((k, c.0.1), refl))
+    | inr e ↦ subst (λ x. Contains (seen ++ seen_of m ∷ []) x) (ap seen_of e) (Contains-push seen (seen_of m))
+  ]),
+)
+
+pub arrivals_skip : (messages : List Message) (m : Message) (g l : ℕ) (seen : List Seen) → AreArrivals messages g l seen → (m.to ≡ g → length m.path ≡ l → ⊥) → AreArrivals (messages ++ m ∷ []) g l seen
+arrivals_skip messages m g l seen so_far other s = (
+  (λ h. let c = (so_far s).0 h in ((Contains-append_left messages (m ∷ []) (message_to g s) c.0.0, c.0.1), c.1)),
+  (λ c. elim (Contains-push_cases messages m (message_to g s) c.0.0) [
+    | inl k ↦ (so_far s).1 ((k, c.0.1), refl)
+    | inr e ↦ absurd (other (ap (λ (x : Message). x.to) e) (ap (λ (x : Message). length x.path) e ∙ c.0.1))
+  ]),
+)
+
+pub appended : {X : Type 0} (P Q : X → Type 0) (old now new : List X) (y : X) → Appends P old now → new ≡ now ++ y ∷ [] → ((x : X) → Q x ↔ (P x ⊎ (y ≡ x))) → Appends Q old new
+appended P Q old now new y so_far grown same x = (
+  (λ h. let h' : Contains (now ++ y ∷ []) x = rw grown at h in elim (Contains-push_cases now y x h') [
+    | inl k ↦ elim ((so_far x).0 k) [ inl o ↦ inl o | inr p ↦ inr ((same x).1 (inl p)) ]
+    | inr e ↦ inr ((same x).1 (inr e))
+  ]),
+  (λ h. rw grown (elim h [
+    | inl o ↦ Contains-append_left now (y ∷ []) x ((so_far x).1 (inl o))
+    | inr q ↦ elim ((same x).0 q) [
+      | inl p ↦ Contains-append_left now (y ∷ []) x ((so_far x).1 (inr p))
+      | inr e ↦ subst (λ z. Contains (now ++ y ∷ []) z) e (Contains-push now y)
+    ]
+  ])),
+)
+
+pub appended_same : {X : Type 0} (P Q : X → Type 0) (old new : List X) → Appends P old new → ((x : X) → P x ↔ Q x) → Appends Q old new
+appended_same P Q old new so_far same x = (
+  (λ h. elim ((so_far x).0 h) [ inl o ↦ inl o | inr p ↦ inr ((same x).0 p) ]),
+  (λ h. elim h [ inl o ↦ (so_far x).1 (inl o) | inr q ↦ (so_far x).1 (inr ((same x).1 q)) ]),
+)
+
+pub part_more : (me : ℕ) (parts : List Send) (p : Send) (m : Message) → IsAmong me (parts ++ p ∷ []) m ↔ (IsAmong me parts m ⊎ (record { from = me; to = p.0; order = p.1; path = p.2 } ≡ m))
+part_more me parts p m = (
+  (λ h. elim (Contains-push_cases parts p (m.to, m.order, m.path) h.1) [
+    | inl k ↦ inl (h.0, k)
+    | inr e ↦ inr (λ i. record { from = sym h.0 i; to = (e i).0; order = (e i).1; path = (e i).2 })
+  ]),
+  (λ h. elim h [
+    | inl k ↦ (k.0, Contains-append_left parts (p ∷ []) (m.to, m.order, m.path) k.1)
+    | inr e ↦ subst (λ x. IsAmong me (parts ++ p ∷ []) x) e (refl, Contains-push parts p)
+  ]),
+)
+
+pub relayed : (net : Network) (run : Run) (g l : ℕ) (adds : List (Option (List ℕ))) (out : List Send) → AreAdds run g l adds → AreSends (IsDue net g adds) out → (m : Message) → IsAmong g out m ↔ RelayedBy net run g l m
+relayed net run g l adds out told sends m = (
+  (λ h.
+      let d : IsDue net g adds (m.to, m.order, m.path) = (sends.exactly (m.to, m.order, m.path)).0 h.1 in
+      let both = (told m.order d.picked).0 d.is_picked in
+      (h.0, omega (arith, d.in_time, both.1.arrives.0.1), record { picked = d.picked; added = both.0; least = both.1; longer = d.longer; neighbour = d.neighbour; outside = d.outside })),
+  (λ h.
+      let r : IsRelay net run g l m = h.2 in (
+        h.0,
+        (sends.exactly (m.to, m.order, m.path)).1 (record { picked = r.picked; is_picked = (told m.order r.picked).1 (r.added, r.least); in_time = omega (arith, h.1, r.least.arrives.0.1); longer = r.longer; neighbour = r.neighbour; outside = r.outside }),
+      )),
+)
+
+-- what the commander sends
+pub first_sends : (net : Network) (own : ℕ) (out : List Send) (first : List Message) → AreSends (IsCommand net own) out → Appends (IsAmong 0 out) [] first → (m : Message) → Contains first m ↔ ((m.from ≡ 0) × AreNeighbours net 0 m.to × (m.order ≡ own) × (m.path ≡ 0 ∷ []))
+first_sends net own out first sends sent m = (
+  (λ h. elim ((sent m).0 h) [
+    | inl none ↦ absurd (Contains_nil m none)
+    | inr a ↦ let q = (sends.exactly (m.to, m.order, m.path)).0 a.1 in (a.0, q.0, q.1, q.2)
+  ]),
+  (λ q. (sent m).1 (inr (q.0, (sends.exactly (m.to, m.order, m.path)).1 (q.1, q.2, q.3)))),
+)

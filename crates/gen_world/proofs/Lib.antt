@@ -1,0 +1,6 @@
+pub mod Agree
+pub mod Arriving
+pub mod Growing
+pub mod Rounding
+pub mod Same
+pub mod WorldFollowers

@@ -1,0 +1,8 @@
+use Rattle.gen_world.proofs.WorldFollowers.{lieutenants_follow, world_is_signed}
+use Rattle.gen_world.proofs.laws.world_follows.Goals as goal
+
+pub returns-clause-lieutenants : goal.returns-clause-lieutenants
+returns-clause-lieutenants c = lieutenants_follow
+
+pub returns-clause-signed : goal.returns-clause-signed
+returns-clause-signed c = world_is_signed

@@ -1,0 +1,12 @@
+use Rattle.std.proofs.Common.{◌≡◌, ◌+◌, ◌∷◌, All}
+use Rattle.std.specs.List.{range_with_len}
+use Rattle.gen_world.specs.Rounds.{IsReady, numbers_of}
+use Rattle.gen_world.proofs.Growing.{WorldTo}
+use Rattle.gen_world.proofs.running.run_plain.Given as goal
+
+abbrev pub invariant-loop-gone : goal.invariant-loop-gone
+invariant-loop-gone l = record {
+  world : WorldTo l.net l.commander l.messages.items (l.gone + 1);
+  ready : All (IsReady l.net l.messages.items l.gone) l.lieutenants.items;
+  numbers : 0 ∷ numbers_of l.lieutenants.items ≡ range_with_len 0 l.net.generals;
+}

@@ -1,0 +1,5 @@
+pub mod Rounds
+pub mod Scenario
+pub mod Theorem
+pub mod World
+pub mod WorldFollows

@@ -1,0 +1,159 @@
+//! The run of a plain scenario, round by round.
+ghost use Rattle.std.specs.Prelude.{◌≡◌, ◌+◌, ◌<◌, ◌↔◌, ◌≢◌, [], ◌∷◌, IfOk, OnOk, All, Contains, map, List};
+ghost use Rattle.std.specs.List.{range_with_len};
+ghost use Rattle.gen_net.specs.Network.{Network, rounds, AreNeighbours, IsNetwork};
+ghost use Rattle.gen_net.specs.Run.{Run, IsRun};
+ghost use Rattle.gen_net.specs.declared.message.Message.{Message as Sent};
+ghost use Rattle.gen_core.specs.Seeing.{HasSeen, AreArrivals};
+ghost use Rattle.gen_core.specs.Sending.{Appends};
+ghost use Rattle.gen_world.specs.World.{IsDecision, IsOutcome};
+ghost use Rattle.gen_world.specs.Rounds.{IsAmong, RelayedBy, IsReady, AreRelays, numbers_of};
+
+use crate::scenario::{Decision, PlainRun, PlainScenario};
+use gen_core::{Commander, Lieutenant, Seen, Send, sends};
+use gen_net::{Message, Net};
+use gen_types::GeneralNo;
+use std::alloc::{AllocError, Global};
+
+/// What arrives at a general in a round.
+fn arrivals(
+    alloc: Global,
+    messages: &[Message],
+    me: GeneralNo,
+    round: u8,
+) -> Result<Vec<Seen>, AllocError>
+    ensures { IfOk result (λ seen. AreArrivals messages.now me round seen.items) }
+{
+    let mut seen = Vec::new(alloc);
+    for message in messages {
+        if message.to == me && message.path.len() == round as usize {
+            seen.push(Seen {
+                from: message.from,
+                order: message.order,
+                path: message.path,
+            })?;
+        }
+    }
+    Ok(seen)
+}
+
+/// Appends what a general sends, as messages.
+fn push_sends(messages: &mut Vec<Message>, from: GeneralNo, out: &[Send]) -> Result<(), AllocError>
+    ensures { OnOk result (Appends (IsAmong from out.now) messages.old.items messages.new.items) }
+{
+    for part in out {
+        messages.push(Message {
+            from,
+            to: part.0,
+            order: part.1,
+            path: part.2,
+        })?;
+    }
+    Ok(())
+}
+
+/// One round of one lieutenant: he takes what arrives in it, and what he sends in the next one is
+/// appended to `next`.
+fn step(
+    alloc: Global,
+    net: &Net,
+    before: &[Message],
+    lieutenant: &mut Lieutenant,
+    next: &mut Vec<Message>,
+) -> Result<(), AllocError>
+    requires network { IsNetwork net.now }
+    requires seen { HasSeen net.now before.now lieutenant.old }
+    requires left { lieutenant.old.gone < lieutenant.old.rounds }
+    ensures me { OnOk result (lieutenant.new.me ≡ lieutenant.old.me) }
+    ensures gone { OnOk result (lieutenant.new.gone ≡ lieutenant.old.gone + 1) }
+    ensures seen { OnOk result (HasSeen net.now before.now lieutenant.new) }
+    ensures sent { OnOk result (Appends (RelayedBy net.now before.now lieutenant.old.me (lieutenant.old.gone + 1)) next.old.items next.new.items) }
+{
+    let me = lieutenant.me();
+    let seen = arrivals(alloc, before, me, lieutenant.gone() + 1)?;
+    let adds = lieutenant.round(&seen);
+    let out = sends(alloc, net, me, &adds)?;
+    push_sends(next, me, &out)?;
+    Ok(())
+}
+
+/// One round of all lieutenants: what they send in the next one.
+fn one_round(
+    alloc: Global,
+    net: &Net,
+    before: &[Message],
+    lieutenants: &mut [Lieutenant],
+    gone: u8,
+) -> Result<Vec<Message>, AllocError>
+    requires network { IsNetwork net.now }
+    requires left { gone < rounds net.now }
+    requires ready { All (IsReady net.now before.now gone) lieutenants.old }
+    ensures numbers { OnOk result (numbers_of lieutenants.new ≡ numbers_of lieutenants.old) }
+    ensures ready { OnOk result (All (IsReady net.now before.now (gone + 1)) lieutenants.new) }
+    ensures sent { IfOk result (λ next. AreRelays net.now before.now (gone + 1) (numbers_of lieutenants.old) next.items) }
+{
+    let mut next = Vec::new(alloc);
+    for lieutenant in lieutenants.iter_mut() {
+        step(alloc, net, before, lieutenant, &mut next)?;
+    }
+    Ok(next)
+}
+
+/// The messages of round 1: what the commander sends.
+fn first_round(alloc: Global, net: &Net, commander: &Commander) -> Result<Vec<Message>, AllocError>
+    ensures { IfOk result (λ first. (message : Sent) → Contains first.items message ↔ ((message.from ≡ 0) × AreNeighbours net.now 0 message.to × (message.order ≡ commander.now) × (message.path ≡ 0 ∷ []))) }
+{
+    let out = commander.sends(alloc, net)?;
+    let mut first = Vec::new(alloc);
+    push_sends(&mut first, GeneralNo::commander(), &out)?;
+    Ok(first)
+}
+
+/// The lieutenants before round 1, in ascending order.
+fn all_lieutenants(alloc: Global, net: &Net) -> Result<Vec<Lieutenant>, AllocError>
+    ensures numbers { IfOk result (λ all. 0 ∷ numbers_of all.items ≡ range_with_len 0 net.now.generals) }
+    ensures ready { IfOk result (λ all. (run : Run) → IsRun net.now run → All (IsReady net.now run 0) all.items) }
+{
+    let mut all = Vec::new(alloc);
+    for number in 1..net.generals() {
+        all.push(Lieutenant::new(net, GeneralNo::at(number)))?;
+    }
+    Ok(all)
+}
+
+/// The decisions of all, after the last round.
+fn decisions(
+    alloc: Global,
+    commander: &Commander,
+    lieutenants: &[Lieutenant],
+) -> Result<Vec<Decision>, AllocError>
+    requires { All (λ s. (s.gone ≡ s.rounds) × (s.me ≢ 0)) lieutenants.now }
+    ensures generals { IfOk result (λ out. map (λ decision. decision.0) out.items ≡ 0 ∷ numbers_of lieutenants.now) }
+    ensures each { IfOk result (λ out. (net : Network) (run : Run) → All (HasSeen net run) lieutenants.now → All (IsDecision net commander.now run) out.items) }
+{
+    let mut out = Vec::new(alloc);
+    let (set, order) = commander.decide();
+    out.push((GeneralNo::commander(), set, order))?;
+    for lieutenant in lieutenants {
+        let (set, order) = lieutenant.decide();
+        out.push((lieutenant.me(), set, order))?;
+    }
+    Ok(out)
+}
+
+/// The decisions of all generals in the run of the scenario, in which everybody follows the algorithm
+/// and of several chains of a new order the least sender's is picked. Only memory can be refused.
+pub fn run_plain(alloc: Global, scenario: &PlainScenario) -> Result<PlainRun, AllocError>
+    ensures { IfOk result (λ run. IsOutcome scenario.now.net scenario.now.order run) }
+{
+    let net = scenario.net();
+    let commander = Commander::new(scenario.order());
+    let mut messages = first_round(alloc, net, &commander)?;
+    let mut lieutenants = all_lieutenants(alloc, net)?;
+    for gone in 0..net.rounds() {
+        let next = one_round(alloc, net, &messages, &mut lieutenants, gone)?;
+        messages.extend_from_slice(&next)?;
+    }
+    let decisions = decisions(alloc, &commander, &lieutenants)?;
+    Ok(PlainRun::new(decisions))
+}
