@@ -1,0 +1,5 @@
+pub mod Again
+pub mod Cuts
+pub mod Found
+pub mod Loop
+pub mod Numbers

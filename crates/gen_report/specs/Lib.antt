@@ -1,0 +1,5 @@
+pub mod Decisions
+pub mod Lines
+pub mod Reading
+pub mod Spelling
+pub mod Text

@@ -1,0 +1,45 @@
+//! Decisions as text.
+ghost use Rattle.std.specs.Prelude.{◌≡◌, ◌++◌, OnOk, IfOk, string_bytes};
+ghost use Rattle.gen_report.specs.Decisions.{listed, decision_line, decisions_text};
+
+use gen_types::OrderSet;
+use gen_world::Decision;
+use std::alloc::{AllocError, Global};
+
+/// Appends the orders of a set, parted by commas, or a minus for the empty set.
+fn push_orders(out: &mut String, orders: OrderSet) -> Result<(), AllocError>
+    ensures { OnOk result (string_bytes out.new ≡ string_bytes out.old ++ listed orders) }
+{
+    let mut members = orders.iter();
+    let Some(first) = members.next() else {
+        return out.push_str("-");
+    };
+    let number = first.get();
+    write!(out, "{number}")?;
+    for order in members {
+        let number = order.get();
+        write!(out, ",{number}")?;
+    }
+    Ok(())
+}
+
+fn push_decision(out: &mut String, decision: &Decision) -> Result<(), AllocError>
+    ensures { OnOk result (string_bytes out.new ≡ string_bytes out.old ++ decision_line decision.now) }
+{
+    let general = decision.0.get();
+    let order = decision.2.get();
+    write!(out, "general {general} set ")?;
+    push_orders(out, decision.1)?;
+    write!(out, " decides {order}\n")
+}
+
+/// The text of decisions: for each a line `general G set 0,1 decides V`, the empty set as `-`.
+pub fn print_decisions(alloc: Global, decisions: &[Decision]) -> Result<Vec<u8>, AllocError>
+    ensures { IfOk result (λ v. v.items ≡ decisions_text decisions.now) }
+{
+    let mut out = String::new(alloc);
+    for decision in decisions {
+        push_decision(&mut out, decision)?;
+    }
+    Ok(out.into_bytes())
+}

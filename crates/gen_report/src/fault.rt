@@ -1,0 +1,57 @@
+//! Why a scenario text could not be read.
+ghost use Rattle.std.specs.Prelude.{◌≡◌};
+ghost use Rattle.gen_types.specs.declared.reading.ReadError.TheVariants.{Fault};
+ghost use Rattle.gen_report.specs.Lines.{fault_at};
+
+use gen_net::HeaderFault;
+use gen_types::ReadError;
+use thiserror::Error;
+
+/// What is wrong with a line. A line is looked at from left to right, but for its bytes and its length,
+/// which come first.
+#[derive(Clone, Copy, Debug, PartialEq, Eq, Error)]
+pub enum LineFault {
+    /// The text ends before this line and its line feed do.
+    #[error("P1")]
+    Unfinished,
+    /// Another line may stand here, or this one has another number of fields.
+    #[error("P2")]
+    Shape,
+    /// A field isn't a decimal number of at most 255 without leading zeros.
+    #[error("P3")]
+    Number,
+    /// The numbers and edges up to this line, that of the choice, make no network, for this reason.
+    #[error("P4 {0}")]
+    Network(HeaderFault),
+    /// The commander's order isn't below the number of orders.
+    #[error("P5")]
+    UnknownOrder,
+    /// Bytes follow the last line.
+    #[error("P10")]
+    Extra,
+    /// The line has more than 600,000 bytes, its line feed not counted.
+    #[error("P11")]
+    TooLong,
+    /// A byte of the line isn't printable ASCII, 32..126.
+    #[error("P12")]
+    Foreign,
+}
+
+/// The first fault of a scenario text, and the number of its line, counted from 1.
+#[derive(Clone, Copy, Debug, PartialEq, Eq, Error)]
+#[error("fault {kind} line {line}")]
+pub struct ScenarioFault {
+    /// What is wrong.
+    pub kind: LineFault,
+    /// The line's number, from 1.
+    pub line: usize,
+}
+
+impl LineFault {
+    /// The refusal of a text for this fault of this line.
+    pub fn refused(self, line: usize) -> ReadError<ScenarioFault>
+        ensures { result ≡ Fault (fault_at self line) }
+    {
+        ReadError::Fault(ScenarioFault { kind: self, line })
+    }
+}

@@ -1,0 +1,184 @@
+//! Lines of a text, their fields, and numbers in them.
+ghost use Rattle.std.specs.Prelude.{◌≡◌, ◌==◌, ◌<◌, ◌+◌, [], ◌∷◌, length, map, IfOk, MatchOption};
+ghost use Rattle.std.specs.List.{list_any, position};
+ghost use Rattle.gen_types.specs.Reading.{Gives};
+ghost use Rattle.gen_report.specs.Text.{parts, fields, number_of, is_foreign};
+ghost use Rattle.gen_report.specs.Lines.{line_at, number_at, number_behind, fields_at, numbered, edge_in, word_alone};
+
+use crate::fault::{LineFault, ScenarioFault};
+use gen_types::ReadError;
+use std::alloc::{AllocError, Global};
+
+/// The most bytes of a line, its line feed not counted.
+const LONGEST_LINE: usize = 600_000;
+
+/// A decimal number without leading zeros, at most 255.
+fn number(digits: &[u8]) -> Option<u8>
+    ensures { result ≡ number_of digits.now }
+{
+    match digits {
+        [a @ b'0'..=b'9'] => Some(*a - b'0'),
+        [a @ b'1'..=b'9', b @ b'0'..=b'9'] => Some(10 * (*a - b'0') + (*b - b'0')),
+        [a @ b'1'..=b'9', b @ b'0'..=b'9', c @ b'0'..=b'9'] => {
+            let value = 100 * u16::from(*a - b'0')
+                + 10 * u16::from(*b - b'0')
+                + u16::from(*c - b'0');
+            if value <= 255 {
+                Some(value as u8)
+            } else {
+                None
+            }
+        }
+        _ => None,
+    }
+}
+
+/// The fields of a line.
+fn split_fields<'a>(alloc: Global, line: &'a [u8]) -> Result<Vec<&'a [u8]>, AllocError>
+    ensures { IfOk result (λ v. map (λ x. x.now) v.items ≡ fields line.now) }
+{
+    line.split(|b| *b == b' ').collect(alloc)
+}
+
+fn line_feed(text: &[u8]) -> Option<usize>
+    ensures { result ≡ position (λ b. b == 10) text.now }
+{
+    text.iter().position(|b| *b == b'\n')
+}
+
+/// The bytes before the first line feed, and what follows it, where there is one.
+fn cut_line(text: &[u8]) -> (&[u8], Option<&[u8]>)
+    ensures { MatchOption result.1 (parts text.now ≡ result.0.now ∷ [])
+        (λ rest. (parts text.now ≡ result.0.now ∷ parts rest.now) × (length text.now ≡ length result.0.now + (length rest.now + 1))) }
+{
+    match line_feed(text) {
+        None => (text, None),
+        Some(i) => {
+            let (_, rest) = text.split_at(i + 1);
+            (&text[..i], Some(rest))
+        }
+    }
+}
+
+/// Whether a byte of the line may not stand in a text.
+fn has_foreign(line: &[u8]) -> bool
+    ensures { result ≡ list_any is_foreign line.now }
+{
+    line.iter().any(|b| *b < 32 || *b > 126)
+}
+
+/// The line at the front, and the text after it. A long line is refused before it is cut into fields.
+fn line_at(text: &[u8], line: usize) -> Result<(&[u8], &[u8]), ReadError<ScenarioFault>>
+    ensures exact { Gives (λ x. (x.0.now, parts x.1.now)) result (line_at line (parts text.now)) }
+    ensures shorter { IfOk result (λ x. length text.now ≡ length x.0.now + (length x.1.now + 1)) }
+{
+    let (bytes, rest) = cut_line(text);
+    if has_foreign(bytes) {
+        return Err(LineFault::Foreign.refused(line));
+    }
+    if bytes.len() > LONGEST_LINE {
+        return Err(LineFault::TooLong.refused(line));
+    }
+    match rest {
+        None => Err(LineFault::Unfinished.refused(line)),
+        Some(rest) => Ok((bytes, rest)),
+    }
+}
+
+/// A number in the line.
+fn number_at(digits: &[u8], line: usize) -> Result<u8, ReadError<ScenarioFault>>
+    ensures { Gives (λ n. n) result (number_at line digits.now) }
+{
+    match number(digits) {
+        None => Err(LineFault::Number.refused(line)),
+        Some(n) => Ok(n),
+    }
+}
+
+/// The number behind a word, where the line has these two fields.
+#[tactic(auto, unfolding(crate::specs::Lines::number_behind))]
+pub fn number_behind(
+    fields: &[&[u8]],
+    word: &[u8],
+    line: usize,
+) -> Result<u8, ReadError<ScenarioFault>>
+    ensures { Gives (λ n. n) result (number_behind line word.now (map (λ x. x.now) fields.now)) }
+{
+    match fields {
+        [first, second] => {
+            if *first == word {
+                number_at(second, line)
+            } else {
+                Err(LineFault::Shape.refused(line))
+            }
+        }
+        _ => Err(LineFault::Shape.refused(line)),
+    }
+}
+
+/// The fields of the line at the front, and the text after it.
+pub fn fields_at<'a>(
+    alloc: Global,
+    text: &'a [u8],
+    line: usize,
+) -> Result<(Vec<&'a [u8]>, &'a [u8]), ReadError<ScenarioFault>>
+    ensures exact { Gives (λ x. (map (λ f. f.now) x.0.items, parts x.1.now)) result (fields_at line (parts text.now)) }
+    ensures shorter { IfOk result (λ x. length x.1.now < length text.now) }
+{
+    let (bytes, rest) = line_at(text, line)?;
+    let fields = split_fields(alloc, bytes)?;
+    Ok((fields, rest))
+}
+
+/// The number behind a word in the line at the front, and the text after it.
+#[tactic(auto, unfolding(crate::specs::Lines::numbered))]
+pub fn numbered<'a>(
+    alloc: Global,
+    text: &'a [u8],
+    word: &[u8],
+    line: usize,
+) -> Result<(u8, &'a [u8]), ReadError<ScenarioFault>>
+    ensures exact { Gives (λ x. (x.0, parts x.1.now)) result (numbered word.now line (parts text.now)) }
+    ensures shorter { IfOk result (λ x. length x.1.now + 1 < length text.now) }
+{
+    let (bytes, rest) = line_at(text, line)?;
+    if bytes.is_empty() {
+        return Err(LineFault::Shape.refused(line));
+    }
+    let fields = split_fields(alloc, bytes)?;
+    let number = number_behind(&fields, word, line)?;
+    Ok((number, rest))
+}
+
+/// The edge that a line has, where it is a line of an edge.
+#[tactic(auto, unfolding(crate::specs::Lines::edge_in))]
+pub fn edge_in(fields: &[&[u8]], line: usize) -> Result<Option<(u8, u8)>, ReadError<ScenarioFault>>
+    ensures { Gives (λ e. e) result (edge_in line (map (λ f. f.now) fields.now)) }
+{
+    match fields {
+        [word, a, b] if *word == b"edge".as_slice() => {
+            let a = number_at(a, line)?;
+            let b = number_at(b, line)?;
+            Ok(Some((a, b)))
+        }
+        _ => Ok(None),
+    }
+}
+
+/// The text after the line at the front, where that line is this word alone.
+#[tactic(auto, unfolding(crate::specs::Lines::word_alone))]
+pub fn only_word<'a>(
+    alloc: Global,
+    text: &'a [u8],
+    word: &[u8],
+    line: usize,
+) -> Result<&'a [u8], ReadError<ScenarioFault>>
+    ensures exact { Gives (λ x. parts x.now) result (word_alone word.now line (parts text.now)) }
+    ensures shorter { IfOk result (λ x. length x.now < length text.now) }
+{
+    let (fields, rest) = fields_at(alloc, text, line)?;
+    match fields.as_slice() {
+        [first] if *first == word => Ok(rest),
+        _ => Err(LineFault::Shape.refused(line)),
+    }
+}

@@ -1,0 +1,17 @@
+//! The program: signed Byzantine agreement, run from standard input to standard output.
+#![tactic(auto)]
+
+mod ends;
+mod engine;
+mod program;
+mod transfer;
+mod words;
+
+use std::process::ExitCode;
+
+#[cfg(test)]
+mod tests;
+
+fn main(rt: HostRuntime) -> ExitCode {
+    ExitCode::from(program::run(&rt))
+}
