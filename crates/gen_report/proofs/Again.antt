@@ -1,6 +1,6 @@
 -- What is spelled so is read.
 use Rattle.std.proofs.Common.{◌≡◌, ℕ, ◌+◌, ◌/◌, ◌%◌, ◌<◌, ◌≤◌, Bool, true, false, not, ◌&&◌, ◌||◌, ltb, eqb, List, [], ◌∷◌, ◌++◌, map, length, codes, nat_lt, Some, Ok, refl, ap, ◌∙◌, append_assoc, arith, length-append, inl, inr}
-use Rattle.std.specs.List.{list_any, list_all, slice_split, AllByRecursion}
+use Rattle.std.specs.List.{list_any, list_all, AllByRecursion}
 use Rattle.std.specs.Fmt.{decimal}
 use Rattle.std.proofs.lemmas.Bool.{cases_lt, lt-ltb, ltb-true}
 use Rattle.std.proofs.lemmas.Bool.Decides.{nat_tests}
@@ -8,13 +8,15 @@ use Rattle.std.proofs.lemmas.Fmt.{decimal_digit}
 use Rattle.std.proofs.lemmas.List.{map-append}
 use Rattle.std.proofs.lemmas.Simd.{map-map}
 use Rattle.std.proofs.lemmas.Slice.Eq.{bytes_eq-Decides}
+use Rattle.gen_types.specs.Texts.{fields}
+use Rattle.gen_types.proofs.Cutting.{cut_front, cut_none, all_append}
+use Rattle.gen_types.proofs.Decimals.{both, two_digits, three_digits, number_again}
 use Rattle.gen_world.specs.Scenario.{Plain}
-use Rattle.gen_report.specs.Text.{parts, fields, is_foreign}
+use Rattle.gen_report.specs.Text.{parts, is_foreign}
 use Rattle.gen_report.specs.Lines.{number_at, number_behind, fields_at, numbered, edge_in, edges_at, word_alone}
 use Rattle.gen_report.specs.Reading.{opening_at, settings_at, closing_at, scenario_of}
 use Rattle.gen_report.specs.Spelling.{Given, said, edge_line, lines_of, text_of, Spells}
 use Rattle.gen_report.proofs.Cuts.{line_at_is}
-use Rattle.gen_report.proofs.Numbers.{both, two_digits, three_digits, number_again}
 use Rattle.gen_report.proofs.Found.{line_of, FitsByte}
 
 -- a byte that may stand in a field
@@ -39,31 +41,8 @@ decimal_is_field n lt =
       ])
     ]
 
--- no byte of the list passes
-free : (ℕ → Bool) → List ℕ → Bool
-free p xs = list_all (λ b. not (p b)) xs
-
 plain_means : (b : ℕ) → is_plain b ≡ true → (32 < b) × (b < 127)
 plain_means b e = let h = both _ _ e in (ltb-true _ _ h.0, ltb-true _ _ h.1)
-
-not_true : (b : Bool) → not b ≡ true → b ≡ false
-not_true true e = absurd cc
-not_true false e = refl
-
--- a list that is cut behind a front without the separator
-cut_front : (p : ℕ → Bool) (f : List ℕ) (y : ℕ) (ys : List ℕ) → list_all (λ b. not (p b)) f ≡ true → p y ≡ true → slice_split p (f ++ y ∷ ys) ≡ f ∷ slice_split p ys
-cut_front p [] y ys e h = rw h refl
-cut_front p (x ∷ f) y ys e h =
-    let a = both _ _ e in
-    let none : p x ≡ false = not_true (p x) a.0 in
-    rw (none, cut_front p f y ys a.1 h) refl
-
-cut_none : (p : ℕ → Bool) (f : List ℕ) → list_all (λ b. not (p b)) f ≡ true → slice_split p f ≡ f ∷ []
-cut_none p [] e = refl
-cut_none p (x ∷ f) e =
-    let a = both _ _ e in
-    let none : p x ≡ false = not_true (p x) a.0 in
-    rw (none, cut_none p f a.1) refl
 
 -- what is plain has no separator
 plain_free : (c : ℕ) (f : List ℕ) → c ≤ 32 → list_all is_plain f ≡ true → list_all (λ b. not (eqb b c)) f ≡ true
@@ -100,10 +79,6 @@ record IsLine (fs : List (List ℕ)) : Type 0 where
 
 one_field : (f : List ℕ) → IsField f → IsLine (f ∷ [])
 one_field f h = record { cut = cut_none (λ b. eqb b 32) f (plain_free 32 f (omega arith) h.plain); clean = plain_clean f h.plain; short = omega (arith, h.short); whole = plain_free 10 f (omega arith) h.plain }
-
-all_append : (p : ℕ → Bool) (xs ys : List ℕ) → list_all p xs ≡ true → list_all p ys ≡ true → list_all p (xs ++ ys) ≡ true
-all_append p [] ys e h = h
-all_append p (x ∷ xs) ys e h = let a = both (p x) (list_all p xs) e in rw (a.0, all_append p xs ys a.1 h) refl
 
 two_fields : (f g : List ℕ) → IsField f → IsField g → IsLine (f ∷ g ∷ [])
 two_fields f g h k = record {

@@ -10,6 +10,8 @@ use Rattle.std.proofs.lemmas.Simd.{map-map}
 use Rattle.std.proofs.lemmas.List.Splits.{join_with_byte-slice_split}
 use Rattle.std.proofs.lemmas.Slice.Eq.{bytes_eq-Decides}
 use Rattle.gen_types.specs.Reading.{◌>>=◌, check}
+use Rattle.gen_types.specs.Texts.{fields, number_of}
+use Rattle.gen_types.proofs.Decimals.{number_found}
 use Rattle.gen_types.proofs.Steps.{after, after_check, after_guard, at_end, mapped_ok}
 use Rattle.gen_net.specs.declared.fault.HeaderFault.{HeaderFault}
 use Rattle.gen_net.specs.Network.{Network}
@@ -18,12 +20,11 @@ use Rattle.gen_world.specs.Scenario.{Plain}
 use Rattle.gen_report.specs.declared.fault.LineFault.TheVariants.{Unfinished, Shape, Number, UnknownOrder, Extra, TooLong, Foreign}
 use Rattle.gen_report.specs.declared.fault.LineFault.TheVariants as faults
 use Rattle.gen_report.specs.declared.fault.ScenarioFault.{ScenarioFault}
-use Rattle.gen_report.specs.Text.{parts, fields, is_foreign, number_of}
+use Rattle.gen_report.specs.Text.{parts, is_foreign}
 use Rattle.gen_report.specs.Lines.{EdgeLines, fault_at, after_edge, number_at, number_behind, line_at, fields_at, numbered, edge_in, edges_at, word_alone}
 use Rattle.gen_report.specs.Reading.{Opening, Settings, network_at, opening_at, settings_at, closing_at, scenario_of}
 use Rattle.gen_report.specs.Spelling.{Given, said, edge_line, lines_of, text_of, Spells}
 use Rattle.gen_report.proofs.Cuts.{joined}
-use Rattle.gen_report.proofs.Numbers.{number_found}
 
 abbrev pub line_of : List (List ℕ) → List ℕ
 line_of fs = join_with_byte 32 fs

@@ -2,4 +2,3 @@ pub mod Again
 pub mod Cuts
 pub mod Found
 pub mod Loop
-pub mod Numbers

@@ -6,7 +6,8 @@ use Rattle.gen_types.specs.declared.reading.ReadError.{ReadError}
 use Rattle.gen_types.specs.declared.reading.ReadError.TheVariants as errors
 use Rattle.gen_types.specs.Reading.{◌>>=◌, Fails}
 use Rattle.gen_types.proofs.Steps.{after_guard}
-use Rattle.gen_report.specs.Text.{fields, is_foreign}
+use Rattle.gen_types.specs.Texts.{fields}
+use Rattle.gen_report.specs.Text.{is_foreign}
 use Rattle.std.specs.List.{list_any}
 use Rattle.gen_report.specs.declared.fault.LineFault.TheVariants.{Unfinished, TooLong, Foreign}
 use Rattle.gen_report.specs.Lines.{EdgeLines, fault_at, with_edge, after_edge, edges_at, line_at, fields_at, edge_in}

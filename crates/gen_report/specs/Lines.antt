@@ -3,10 +3,11 @@ use Rattle.std.specs.Prelude.{ℕ, ◌+◌, List, [], ◌∷◌, length, codes, 
 use Rattle.std.specs.List.{list_any}
 use Rattle.std.specs.Str.{bytes_eq}
 use Rattle.gen_types.specs.Reading.{◌>>=◌}
+use Rattle.gen_types.specs.Texts.{fields, number_of}
 use Rattle.gen_report.specs.declared.fault.LineFault.{LineFault}
 use Rattle.gen_report.specs.declared.fault.LineFault.TheVariants.{Unfinished, Shape, Number, TooLong, Foreign}
 use Rattle.gen_report.specs.declared.fault.ScenarioFault.{ScenarioFault}
-use Rattle.gen_report.specs.Text.{fields, is_foreign, number_of}
+use Rattle.gen_report.specs.Text.{is_foreign}
 
 -- the fault of this kind in the line k
 abbrev pub fault_at : LineFault → ℕ → ScenarioFault

@@ -1,44 +1,16 @@
-//! Lines of a text, their fields, and numbers in them.
+//! Lines of a text, and what one line says.
 ghost use Rattle.std.specs.Prelude.{◌≡◌, ◌==◌, ◌<◌, ◌+◌, [], ◌∷◌, length, map, IfOk, MatchOption};
 ghost use Rattle.std.specs.List.{list_any, position};
 ghost use Rattle.gen_types.specs.Reading.{Gives};
-ghost use Rattle.gen_report.specs.Text.{parts, fields, number_of, is_foreign};
+ghost use Rattle.gen_report.specs.Text.{parts, is_foreign};
 ghost use Rattle.gen_report.specs.Lines.{line_at, number_at, number_behind, fields_at, numbered, edge_in, word_alone};
 
 use crate::fault::{LineFault, ScenarioFault};
-use gen_types::ReadError;
-use std::alloc::{AllocError, Global};
+use gen_types::{ReadError, decimal_number, split_fields};
+use std::alloc::Global;
 
 /// The most bytes of a line, its line feed not counted.
 const LONGEST_LINE: usize = 600_000;
-
-/// A decimal number without leading zeros, at most 255.
-fn number(digits: &[u8]) -> Option<u8>
-    ensures { result ≡ number_of digits.now }
-{
-    match digits {
-        [a @ b'0'..=b'9'] => Some(*a - b'0'),
-        [a @ b'1'..=b'9', b @ b'0'..=b'9'] => Some(10 * (*a - b'0') + (*b - b'0')),
-        [a @ b'1'..=b'9', b @ b'0'..=b'9', c @ b'0'..=b'9'] => {
-            let value = 100 * u16::from(*a - b'0')
-                + 10 * u16::from(*b - b'0')
-                + u16::from(*c - b'0');
-            if value <= 255 {
-                Some(value as u8)
-            } else {
-                None
-            }
-        }
-        _ => None,
-    }
-}
-
-/// The fields of a line.
-fn split_fields<'a>(alloc: Global, line: &'a [u8]) -> Result<Vec<&'a [u8]>, AllocError>
-    ensures { IfOk result (λ v. map (λ x. x.now) v.items ≡ fields line.now) }
-{
-    line.split(|b| *b == b' ').collect(alloc)
-}
 
 fn line_feed(text: &[u8]) -> Option<usize>
     ensures { result ≡ position (λ b. b == 10) text.now }
@@ -89,7 +61,7 @@ fn line_at(text: &[u8], line: usize) -> Result<(&[u8], &[u8]), ReadError<Scenari
 fn number_at(digits: &[u8], line: usize) -> Result<u8, ReadError<ScenarioFault>>
     ensures { Gives (λ n. n) result (number_at line digits.now) }
 {
-    match number(digits) {
+    match decimal_number(digits) {
         None => Err(LineFault::Number.refused(line)),
         Some(n) => Ok(n),
     }

@@ -1,5 +1,9 @@
 pub mod BitSteps
+pub mod ByteFields
+pub mod Cutting
+pub mod Decimals
 pub mod Laws
 pub mod Lists
+pub mod ManyFields
 pub mod Pushing
 pub mod Steps

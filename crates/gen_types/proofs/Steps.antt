@@ -13,6 +13,11 @@ pub after : {A B F P : Type 0} (r : Result A F) (f : A → Result B F) (y : B) �
 after (Ok x) f y e k = k x refl e
 after (Err d) f y e k = absurd cc
 
+-- the same, as a triple
+pub bind_ok : {A B F : Type 0} (r : Result A F) (f : A → Result B F) (y : B) → (r >>= f) ≡ Ok y → (x : A) × (r ≡ Ok x) × (f x ≡ Ok y)
+bind_ok (Ok x) f y e = (x, refl, e)
+bind_ok (Err d) f y e = absurd cc
+
 -- the same of a test
 pub after_check : {B F P : Type 0} (b : Bool) (d : F) (f : Unit {0} → Result B F) (y : B) → (check b d >>= f) ≡ Ok y → (b ≡ true → f tt ≡ Ok y → P) → P
 after_check true d f y e k = k refl e
@@ -22,6 +27,11 @@ after_check false d f y e k = absurd cc
 pub after_guard : {A F P : Type 0} (b : Bool) (d : F) (r : Result A F) (y : A) → cond b (Err d) r ≡ Ok y → (b ≡ false → r ≡ Ok y → P) → P
 after_guard true d r y e k = absurd cc
 after_guard false d r y e k = k refl e
+
+-- an if that fails where its test holds, as the last step
+pub guard_ok : {A F : Type 0} (b : Bool) (d : F) (x y : A) → cond b (Err d) (Ok x) ≡ Ok y → (b ≡ false) × (x ≡ y)
+guard_ok true d x y e = absurd cc
+guard_ok false d x y e = (refl, cc)
 
 -- at the end of the steps
 pub at_end : {A F : Type 0} (P : A → Type 0) (x y : A) → done {F = F} x ≡ done y → P x → P y

@@ -1,9 +1,11 @@
 pub mod Ascending
 pub mod BitLaws
 pub mod Bits
+pub mod Bytes
 pub mod ChoiceOf
 pub mod Choices
 pub mod Members
 pub mod PathLaws
 pub mod PathModel
 pub mod Reading
+pub mod Texts

@@ -189,3 +189,55 @@ fn readers_share(rt: HostRuntime) {
         ReadError::Memory
     );
 }
+
+#[test]
+fn fields_of_bytes(rt: HostRuntime) {
+    let bytes = [1u8, 2, 3, 4, 5, 6, 7, 8, 9];
+    assert_eq!(rt; u8_at(&bytes, 'H'), Ok((1, &bytes[1..])));
+    assert_eq!(rt; u16_at(&bytes, 'H'), Ok((0x0102, &bytes[2..])));
+    assert_eq!(rt; u32_at(&bytes, 'H'), Ok((0x0102_0304, &bytes[4..])));
+    assert_eq!(rt;
+        u64_at(&bytes, 'H'),
+        Ok((0x0102_0304_0506_0708, &bytes[8..]))
+    );
+    for count in 0..=9usize {
+        let front = &bytes[..count];
+        assert_eq!(rt; bytes_at(&bytes, count, 'H'), Ok((front, &bytes[count..])));
+        assert_eq!(rt; bytes_at(front, count + 1, 'H'), Err(ReadError::Fault('H')));
+        assert_eq!(rt; u8_at(front, 'H').is_err(), count < 1, "{count}");
+        assert_eq!(rt; u16_at(front, 'H').is_err(), count < 2, "{count}");
+        assert_eq!(rt; u32_at(front, 'H').is_err(), count < 4, "{count}");
+        assert_eq!(rt; u64_at(front, 'H').is_err(), count < 8, "{count}");
+    }
+    assert_eq!(rt; u64_at(&bytes[..7], 'H'), Err(ReadError::Fault('H')));
+}
+
+#[test]
+fn texts_are_cut(rt: HostRuntime) -> Result<(), Fail> {
+    let rows: [(&[u8], Option<u8>); 14] = [
+        (b"0", Some(0)),
+        (b"9", Some(9)),
+        (b"10", Some(10)),
+        (b"99", Some(99)),
+        (b"100", Some(100)),
+        (b"255", Some(255)),
+        (b"256", None),
+        (b"", None),
+        (b"00", None),
+        (b"01", None),
+        (b"012", None),
+        (b"1000", None),
+        (b"+1", None),
+        (b"1a", None),
+    ];
+    for (digits, want) in rows {
+        assert_eq!(rt; decimal_number(digits), want, "{digits:?}");
+    }
+    let alloc = rt.alloc();
+    let fields = split_fields(alloc, b" make  1")?;
+    let want: [&[u8]; 4] = [b"", b"make", b"", b"1"];
+    assert!(rt; fields.as_slice() == want.as_slice());
+    let fields = split_fields(alloc, b"")?;
+    assert!(rt; fields.len() == 1 && fields[0].is_empty());
+    Ok(())
+}
