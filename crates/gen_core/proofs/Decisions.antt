@@ -7,7 +7,7 @@ use Rattle.gen_types.proofs.Lists.{AllPairs-append, Contains_cases, Contains_nil
 use Rattle.gen_net.specs.declared.message.Message.{Message}
 use Rattle.gen_net.specs.Network.{Network, rounds, choose}
 use Rattle.gen_net.specs.Run.{Run, IsRun, Accepts}
-use Rattle.gen_net.specs.Follows.{Decides}
+use Rattle.gen_net.specs.Follows.{LieutenantDecides}
 use Rattle.gen_core.proofs.Rounds.{added_by}
 
 -- an order that arrives at all is accepted
@@ -89,5 +89,5 @@ accepted_list net run ok g =
     )
 
 -- so a general has a decision
-pub decision : (net : Network) (run : Run) → IsRun net run → (g : ℕ) → (orders : List ℕ) × (order : ℕ) × Decides net run g orders order
+pub decision : (net : Network) (run : Run) → IsRun net run → (g : ℕ) → (orders : List ℕ) × (order : ℕ) × LieutenantDecides net run g orders order
 decision net run ok g = let r = accepted_list net run ok g in (r.0, choose net r.0, record { set = r.1; chosen = refl })

@@ -9,14 +9,14 @@ use Rattle.gen_core.specs.Seeing.{Picked}
 use Rattle.gen_core.specs.Sending.{Send, GoesBefore, IsDue, Appends, GoesUpTo}
 
 -- of one order and receiver, where a path is picked
-pub due_told : (net : Network) (me : ℕ) (adds : List (Option (List ℕ))) (to v limit : ℕ) (picked : List ℕ) (r : Option (List ℕ)) → Picked adds v picked → AreNeighbours net me to → limit ≡ rounds net
-    → ((longer : List ℕ) → (r ≡ Some longer) ↔ ((length picked < limit) × (longer ≡ picked ++ me ∷ []) × (Contains longer to → ⊥))) → (x : List ℕ) → (r ≡ Some x) ↔ IsDue net me adds (to, v, x)
-due_told net me adds to v limit picked r at edge all told x = (
-  (λ e. let t = (told x).0 e in record { picked = picked; is_picked = at; in_time = rw (← all) t.0; longer = t.1; neighbour = edge; outside = t.2 }),
+pub due_told : (net : Network) (me : ℕ) (adds : List (Option (List ℕ))) (to v : ℕ) (picked : List ℕ) (r : Option (List ℕ)) → Picked adds v picked → AreNeighbours net me to
+    → ((longer : List ℕ) → (r ≡ Some longer) ↔ ((length picked < rounds net) × (Contains picked me → ⊥) × (longer ≡ picked ++ me ∷ []) × (Contains longer to → ⊥))) → (x : List ℕ) → (r ≡ Some x) ↔ IsDue net me adds (to, v, x)
+due_told net me adds to v picked r at edge told x = (
+  (λ e. let t = (told x).0 e in record { picked = picked; is_picked = at; in_time = t.0; new = t.1; longer = t.2; neighbour = edge; outside = t.3 }),
   (λ d.
       let e : slice_get adds v ≡ Some (Some d.picked) = d.is_picked in
       let same : d.picked ≡ picked = cc in
-      (told x).1 (rw (all, ← same) d.in_time, d.longer ∙ ap (λ p. p ++ me ∷ []) same, d.outside)),
+      (told x).1 (rw (← same) d.in_time, rw (← same) d.new, d.longer ∙ ap (λ p. p ++ me ∷ []) same, d.outside)),
 )
 
 -- and where none is picked

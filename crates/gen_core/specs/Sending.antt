@@ -15,11 +15,13 @@ GoesBefore x y = (x.0 < y.0) ⊎ ((x.0 ≡ y.0) × (x.1 < y.1))
 abbrev pub IsCommand : Network → ℕ → Send → Type 0
 IsCommand net own x = AreNeighbours net 0 x.0 × (x.1 ≡ own) × (x.2 ≡ 0 ∷ [])
 
--- a lieutenant is to send a picked path, of fewer than R signers, lengthened by himself, to each neighbour outside the longer path
+-- a lieutenant is to send a picked path, of fewer than R signers and without him, lengthened by himself, to each neighbour outside
+-- the longer path
 pub record IsDue (net : Network) (g : ℕ) (adds : List (Option (List ℕ))) (x : Send) : Type 0 where
   pub picked : List ℕ
   pub is_picked : Picked adds x.1 picked
   pub in_time : length picked < rounds net
+  pub new : Contains picked g → ⊥
   pub longer : x.2 ≡ picked ++ g ∷ []
   pub neighbour : AreNeighbours net g x.0
   pub outside : Contains x.2 x.0 → ⊥
@@ -28,10 +30,6 @@ pub record IsDue (net : Network) (g : ℕ) (adds : List (Option (List ℕ))) (x 
 pub record AreSends (P : Send → Type 0) (out : List Send) : Type 0 where
   pub exactly : (x : Send) → Contains out x ↔ P x
   pub in_order : AllPairs GoesBefore out
-
--- no picked path has this general
-abbrev pub IsNowhere : List (Option (List ℕ)) → ℕ → Type 0
-IsNowhere adds g = (v : ℕ) (path : List ℕ) → Picked adds v path → Contains path g → ⊥
 
 -- exactly what has this property is added to the list
 abbrev pub Appends : {X : Type 0} → (X → Type 0) → List X → List X → Type 0

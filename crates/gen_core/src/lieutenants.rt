@@ -3,7 +3,7 @@ ghost use Rattle.std.specs.Prelude.{◌≡◌, ◌≢◌, ◌+◌, ◌<◌, ◌�
 ghost use Rattle.gen_types.specs.Ascending.{IsListOf};
 ghost use Rattle.gen_net.specs.Network.{Network, rounds};
 ghost use Rattle.gen_net.specs.Run.{Run, IsRun};
-ghost use Rattle.gen_net.specs.Follows.{Decides};
+ghost use Rattle.gen_net.specs.Follows.{LieutenantDecides};
 ghost use Rattle.gen_core.specs.Best.{OrderIn};
 ghost use Rattle.gen_core.specs.Seeing.{HasSeen, AreArrivals, AreAdds};
 
@@ -105,7 +105,7 @@ impl Lieutenant {
     /// 4 of the paper of 1982), in each run of which he has seen what arrived. All rounds must have gone.
     pub fn decide(&self) -> (OrderSet, OrderNo)
         requires { self.now.gone ≡ self.now.rounds }
-        ensures { (net : Network) (run : Run) → HasSeen net run self.now → Decides net run self.now.me result.0 result.1 }
+        ensures { (net : Network) (run : Run) → HasSeen net run self.now → LieutenantDecides net run self.now.me result.0 result.1 }
     {
         (self.known, self.choice.choose(self.known))
     }

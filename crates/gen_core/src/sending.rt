@@ -1,6 +1,7 @@
 //! What a lieutenant sends.
-ghost use Rattle.std.specs.Prelude.{ℕ, ◌≡◌, ◌+◌, ◌<◌, ◌≤◌, ◌++◌, ◌∷◌, ◌↔◌, List, [], Contains, Some, length, IfOk, OnOk};
-ghost use Rattle.gen_core.specs.Sending.{IsDue, Appends, AreSends, IsNowhere, GoesUpTo};
+ghost use Rattle.std.specs.Prelude.{ℕ, ◌≡◌, ◌<◌, ◌++◌, ◌∷◌, ◌↔◌, List, [], Contains, Some, length, IfOk, OnOk};
+ghost use Rattle.gen_net.specs.Network.{rounds};
+ghost use Rattle.gen_core.specs.Sending.{IsDue, Appends, AreSends, GoesUpTo};
 
 use crate::picks::Adds;
 use gen_net::Net;
@@ -10,29 +11,16 @@ use std::alloc::{AllocError, Global};
 /// A chain that is to be sent: its receiver, its order and its path.
 pub type Send = (GeneralNo, OrderNo, Path);
 
-/// The path lengthened by one general.
-fn lengthened(path: &Path, me: GeneralNo) -> Path
-    requires short { length path.now < 16 }
-    requires new { Contains path.now me → ⊥ }
-    ensures { result ≡ path.now ++ me ∷ [] }
+/// The path lengthened by `me`, and None where it has as many signers as there are rounds, or has `me`,
+/// or has `to` once it is longer.
+fn due(net: &Net, me: GeneralNo, to: GeneralNo, path: &Path) -> Option<Path>
+    ensures { (longer : List ℕ) → (result ≡ Some longer) ↔ ((length path.now < rounds net.now) × (Contains path.now me → ⊥) × (longer ≡ path.now ++ me ∷ []) × (Contains longer to → ⊥)) }
 {
-    let mut longer = *path;
-    match longer.push(me) {
-        Ok(()) => longer,
-        Err(_) => unreachable!(),
-    }
-}
-
-/// The longer path, where it is to go to this general.
-fn due(rounds: u8, me: GeneralNo, to: GeneralNo, path: &Path) -> Option<Path>
-    requires few { rounds ≤ 16 }
-    requires new { Contains path.now me → ⊥ }
-    ensures { (longer : List ℕ) → (result ≡ Some longer) ↔ ((length path.now < rounds) × (longer ≡ path.now ++ me ∷ []) × (Contains longer to → ⊥)) }
-{
-    if path.len() >= rounds as usize {
+    if path.len() >= net.rounds() as usize {
         return None;
     }
-    let longer = lengthened(path, me);
+    let mut longer = *path;
+    longer.push(me).ok()?;
     if longer.contains(to) {
         return None;
     }
@@ -41,16 +29,12 @@ fn due(rounds: u8, me: GeneralNo, to: GeneralNo, path: &Path) -> Option<Path>
 
 /// The path of one order that is due to one general.
 fn due_at(net: &Net, me: GeneralNo, to: GeneralNo, adds: &Adds, order: OrderNo) -> Option<Path>
-    requires { IsNowhere adds.now me }
     ensures { (path : List ℕ) → (result ≡ Some path) ↔ IsDue net.now me adds.now (to, order, path) }
 {
     if !net.has_edge(me, to) {
         return None;
     }
-    match adds.get(order) {
-        Some(path) => due(net.rounds(), me, to, &path),
-        None => None,
-    }
+    due(net, me, to, &adds.get(order)?)
 }
 
 /// Appends what is due to one general, by order.
@@ -61,8 +45,7 @@ fn push_due(
     to: GeneralNo,
     adds: &Adds,
 ) -> Result<(), AllocError>
-    requires nowhere { IsNowhere adds.now me }
-    requires order { GoesUpTo out.old.items to 0 }
+    requires { GoesUpTo out.old.items to 0 }
     ensures exactly { OnOk result (Appends (λ x. (x.0 ≡ to) × (x.1 < length adds.now) × IsDue net.now me adds.now x) out.old.items out.new.items) }
     ensures order { OnOk result (GoesUpTo out.new.items to (length adds.now)) }
 {
@@ -78,11 +61,9 @@ fn push_due(
 /// Returns what a lieutenant sends in the round after the one in which he added these orders (step 2 of
 /// SM(m), section 4 of the paper of 1982): each picked path lengthened by himself, to each neighbour who
 /// is not in the longer path, in ascending order of receiver and order. He sends nothing for a path that
-/// has as many signers as there are rounds. It fails only where memory was refused.
-///
-/// The lieutenant himself must be in no picked path, as he is in none that arrives at him.
+/// has as many signers as there are rounds, or that has himself, which none that arrives at him has. It
+/// fails only where memory was refused.
 pub fn sends(alloc: Global, net: &Net, me: GeneralNo, adds: &Adds) -> Result<Vec<Send>, AllocError>
-    requires { IsNowhere adds.now me }
     ensures { IfOk result (λ out. AreSends (IsDue net.now me adds.now) out.items) }
 {
     let mut out = Vec::new(alloc);

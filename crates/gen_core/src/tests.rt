@@ -1,8 +1,6 @@
 //! Worked rounds: what generals send, add and decide, row by row.
-ghost use Rattle.std.specs.Prelude.{IsTrue, ℕ, ◌≡◌, List, Contains};
+ghost use Rattle.std.specs.Prelude.{◌≡◌};
 ghost use Rattle.gen_net.specs.Network.{rounds};
-ghost use Rattle.gen_core.specs.Seeing.{Picked};
-ghost use Rattle.gen_core.specs.Sending.{IsNowhere};
 
 use super::*;
 use gen_net::Net;
@@ -38,28 +36,6 @@ fn send(to: u8, order: u8, path: Path) -> Send {
     (GeneralNo::at(to % 16), OrderNo::at(order % 16), path)
 }
 
-/// Whether the general doesn't stand in the path that is picked for the order.
-fn is_free(adds: &Adds, order: OrderNo, me: GeneralNo) -> bool
-    ensures { IsTrue result → (path : List ℕ) → Picked adds.now order path → Contains path me → ⊥ }
-{
-    match adds.get(order) {
-        Some(path) => !path.contains(me),
-        None => true,
-    }
-}
-
-/// Whether the general stands in no picked path.
-fn is_nowhere(adds: &Adds, me: GeneralNo) -> bool
-    ensures { IsTrue result → IsNowhere adds.now me }
-{
-    for number in 0..adds.places() {
-        if !is_free(adds, OrderNo::at(number), me) {
-            return false;
-        }
-    }
-    true
-}
-
 /// Whether there is a next round, and the lieutenant sends exactly this for it.
 fn relays(alloc: Global, net: &Net, lieutenant: &mut Lieutenant, round: Round) -> bool
     requires { lieutenant.old.rounds ≡ rounds net.now }
@@ -70,9 +46,6 @@ fn relays(alloc: Global, net: &Net, lieutenant: &mut Lieutenant, round: Round) -
         return false;
     }
     let adds = lieutenant.round(round.0);
-    if !is_nowhere(&adds, me) {
-        return false;
-    }
     match sends(alloc, net, me, &adds) {
         Ok(out) => out.as_slice() == round.1,
         Err(_) => false,
@@ -186,7 +159,6 @@ fn last_round(rt: HostRuntime) -> Result<(), Fail> {
         let adds = lieutenant.round(&[seen(2, first)]);
         assert_eq!(rt; adds.get(OrderNo::at(2)), Some(first));
         assert_eq!(rt; adds.get(OrderNo::at(1)), None);
-        assert!(rt; is_nowhere(&adds, GeneralNo::at(1)));
         let out = sends(alloc, &net, GeneralNo::at(1), &adds)?;
         let both = [send(2, 2, path_of(&[0, 1])), send(3, 2, path_of(&[0, 1]))];
         if relayed {
@@ -194,6 +166,28 @@ fn last_round(rt: HostRuntime) -> Result<(), Fail> {
         } else {
             assert!(rt; out.is_empty());
         }
+    }
+    Ok(())
+}
+
+#[test]
+fn own_paths(rt: HostRuntime) -> Result<(), Fail> {
+    let alloc = rt.alloc();
+    let net = Net::new(alloc, 4, &ALL_PAIRS, 2, 1, 3, 0).expect(&rt, "net");
+    assert!(rt; net.generals() == 4);
+    let mut lieutenant = Lieutenant::new(&net, GeneralNo::at(2));
+    assert!(rt; lieutenant.gone() < net.rounds());
+    let (first, by_1) = (path_of(&[0]), path_of(&[0, 1]));
+    let adds = lieutenant.round(&[seen(1, by_1), seen(2, first)]);
+    // General 1 signed the path of order 1: handed in for him, it is sent to nobody.
+    let (by_2, by_12) = (path_of(&[0, 2]), path_of(&[0, 1, 2]));
+    let rows: [(u8, &[Send]); 2] = [
+        (1, &[send(2, 2, by_1), send(3, 2, by_1)]),
+        (2, &[send(1, 2, by_2), send(3, 1, by_12), send(3, 2, by_2)]),
+    ];
+    for (me, want) in rows {
+        let out = sends(alloc, &net, GeneralNo::at(me), &adds)?;
+        assert_eq!(rt; out.as_slice(), want);
     }
     Ok(())
 }

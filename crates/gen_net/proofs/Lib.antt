@@ -1,3 +1,6 @@
 mod EdgeLists
+mod HeaderLaws
 pub mod Neighbours
+mod PlacedEdges
+mod Ranges
 mod Rows

@@ -1,5 +1,7 @@
 pub mod Chain
 pub mod Follows
+pub mod Header
+pub mod HeaderOf
 pub mod Log
 pub mod Network
 pub mod NetworkOf

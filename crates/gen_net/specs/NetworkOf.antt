@@ -1,8 +1,9 @@
 -- Which numbers and edges make a network, and which rule others break first.
-use Rattle.std.specs.Prelude.{ℕ, ◌+◌, ◌-◌, Bool, false, not, ◌&&◌, ◌||◌, List, [], ◌∷◌, map, filter, Option, Some, None, Result, Ok, Err, nat_lt, ◌==◌, if◌then◌else◌}
+use Rattle.std.specs.Prelude.{ℕ, ◌+◌, ◌-◌, Bool, true, false, not, ◌&&◌, ◌||◌, List, [], ◌∷◌, map, filter, Option, Some, None, Result, Ok, Err, nat_lt, ◌==◌, if◌then◌else◌}
 use Rattle.std.specs.List.{list_any, flat_map, range_with_len}
 use Rattle.gen_types.specs.declared.choices.ChoiceKind.{ChoiceKind}
 use Rattle.gen_types.specs.ChoiceOf.{choice_numbered}
+use Rattle.gen_types.specs.Reading.{◌>>=◌}
 use Rattle.gen_net.specs.declared.fault.HeaderFault.{HeaderFault}
 use Rattle.gen_net.specs.declared.fault.HeaderFault.TheVariants.{GeneralCount, BadEdge, TraitorCount, DiameterRange, RoundCount, OrderCount, UnknownChoice}
 use Rattle.gen_net.specs.Network.{Network}
@@ -31,18 +32,44 @@ pairs n = flat_map (row n) (range_with_len 0 n)
 abbrev pub edges_of : ℕ → List (ℕ × ℕ) → List (ℕ × ℕ)
 edges_of n given = filter (λ p. list_any (joins p.0 p.1) given) (pairs n)
 
--- the network with this choice, where the number stands for one
-abbrev pub with_choice : ℕ → List (ℕ × ℕ) → ℕ → ℕ → ℕ → Option ChoiceKind → Result Network HeaderFault
-with_choice n edges m d q None = Err UnknownChoice
-with_choice n edges m d q (Some choice) = Ok (record { generals = n; edges = edges; traitors = m; diameter = d; orders = q; choice = choice })
+-- the edge e stands before the edge f
+abbrev pub goes_before : ℕ × ℕ → ℕ × ℕ → Bool
+goes_before e f = nat_lt e.0 f.0 || (e.0 == f.0 && nat_lt e.1 f.1)
 
--- the network of these numbers and edges, or the first rule that they break
-unfoldable pub network_of : ℕ → List (ℕ × ℕ) → ℕ → ℕ → ℕ → ℕ → Result Network HeaderFault
-network_of n given m d q choice =
+-- the edge stands before the first of these, if there is one
+abbrev pub goes_first : ℕ × ℕ → List (ℕ × ℕ) → Bool
+goes_first e [] = true
+goes_first e (f ∷ fs) = goes_before e f
+
+-- each edge (a, b) has a < b < n, and the edges ascend strictly
+abbrev pub in_place : ℕ → List (ℕ × ℕ) → Bool
+in_place n [] = true
+in_place n (e ∷ es) = nat_lt e.0 e.1 && nat_lt e.1 n && goes_first e es && in_place n es
+
+-- the choice that a number stands for
+abbrev pub known_choice : Option ChoiceKind → Result ChoiceKind HeaderFault
+known_choice None = Err UnknownChoice
+known_choice (Some choice) = Ok choice
+
+-- the choice, where the numbers of a network are in their ranges and no edge is bad; or the first rule that is broken
+unfoldable pub ranges_of : ℕ → Bool → ℕ → ℕ → ℕ → ℕ → Result ChoiceKind HeaderFault
+ranges_of n bad_edge m d q choice =
     if nat_lt n 2 || nat_lt 16 n then Err GeneralCount
-    else (if has_bad_edge n given then Err BadEdge
+    else (if bad_edge then Err BadEdge
     else (if nat_lt 8 m then Err TraitorCount
     else (if nat_lt d 1 || nat_lt 15 d then Err DiameterRange
     else (if nat_lt 16 (m + d) then Err RoundCount
     else (if nat_lt q 2 || nat_lt 15 q then Err OrderCount
-    else with_choice n (edges_of n given) m d q (choice_numbered choice))))))
+    else known_choice (choice_numbered choice))))))
+
+-- the network of these numbers and edges, which come in any order and direction; or the first rule that they break
+unfoldable pub network_of : ℕ → List (ℕ × ℕ) → ℕ → ℕ → ℕ → ℕ → Result Network HeaderFault
+network_of n given m d q choice = do
+  kind ← ranges_of n (has_bad_edge n given) m d q choice
+  Ok (record { generals = n; edges = edges_of n given; traitors = m; diameter = d; orders = q; choice = kind })
+
+-- the network of these numbers and edges, which have to stand in their places; or the first rule that they break
+unfoldable pub network_in_place : ℕ → List (ℕ × ℕ) → ℕ → ℕ → ℕ → ℕ → Result Network HeaderFault
+network_in_place n edges m d q choice = do
+  kind ← ranges_of n (not (in_place n edges)) m d q choice
+  Ok (record { generals = n; edges = edges; traitors = m; diameter = d; orders = q; choice = kind })

@@ -1,7 +1,7 @@
 //! Lists of edges, as they are given and as a network keeps them.
-ghost use Rattle.std.specs.Prelude.{◌≡◌, ◌<◌, ◌≤◌, ◌++◌, OnOk, IfOk, filter};
+ghost use Rattle.std.specs.Prelude.{◌≡◌, ◌<◌, ◌≤◌, ◌++◌, OnOk, IfOk, filter, true};
 ghost use Rattle.std.specs.List.{list_any};
-ghost use Rattle.gen_net.specs.NetworkOf.{joins, has_bad_edge, row, edges_of};
+ghost use Rattle.gen_net.specs.NetworkOf.{joins, has_bad_edge, row, edges_of, goes_before, goes_first, in_place};
 
 use gen_types::GeneralNo;
 use std::alloc::{AllocError, Global};
@@ -71,4 +71,54 @@ pub fn edge_list(
         push_row(&mut edges, n, a, given)?;
     }
     Ok(edges)
+}
+
+/// Whether the edge e stands before the edge f.
+fn is_before(e: (u8, u8), f: (u8, u8)) -> bool
+    ensures { result ≡ goes_before e f }
+{
+    e.0 < f.0 || (e.0 == f.0 && e.1 < f.1)
+}
+
+/// Whether the edge stands before the first of these, if there is one.
+fn is_before_first(e: (u8, u8), others: &[(u8, u8)]) -> bool
+    ensures { result ≡ goes_first e others.now }
+{
+    match others {
+        [] => true,
+        [first, ..] => is_before(e, *first),
+    }
+}
+
+/// Whether each edge (a, b) has a < b < n, and the edges ascend strictly.
+pub fn stand_in_place(n: u8, edges: &[(u8, u8)]) -> bool
+    ensures { result ≡ in_place n edges.now }
+{
+    let mut rest = edges;
+    while let [(a, b), others @ ..] = rest {
+        if *a >= *b || *b >= n || !is_before_first((*a, *b), others) {
+            return false;
+        }
+        rest = others;
+    }
+    true
+}
+
+/// The same edges, which stand in their places.
+pub fn placed_edges(
+    alloc: Global,
+    n: u8,
+    edges: &[(u8, u8)],
+) -> Result<Vec<(GeneralNo, GeneralNo)>, AllocError>
+    requires few { n ≤ 16 }
+    requires placed { in_place n edges.now ≡ true }
+    ensures { IfOk result (λ v. v.items ≡ edges.now) }
+{
+    let mut placed = Vec::with_capacity(alloc, edges.len())?;
+    let mut rest = edges;
+    while let [(a, b), others @ ..] = rest {
+        placed.push(edge(*a, *b))?;
+        rest = others;
+    }
+    Ok(placed)
 }

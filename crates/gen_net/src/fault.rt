@@ -1,14 +1,17 @@
-//! Why numbers and edges make no network.
+//! Why numbers, edges and roots make no header.
 use thiserror::Error;
 
-/// Which rule the numbers and edges of a network break. Where they break several, it is the first in
-/// this order. The texts are `H1` to `H7`.
+/// Which rule a header breaks. The texts are `H1` to `H10`.
+///
+/// Of the numbers and edges of a network it is the first in this order that is broken, `H1` to `H7`.
+/// Bytes are tested for `H10` first, where there is a first byte, then for `H9`, then for the others.
 #[derive(Clone, Copy, Debug, PartialEq, Eq, Error)]
 pub enum HeaderFault {
     /// The number of generals is not 2 to 16.
     #[error("H1")]
     GeneralCount,
-    /// An edge names a number that is no general's, joins a general to himself, or comes twice.
+    /// An edge names a number that is no general's, joins a general to himself, or comes twice; or, in
+    /// bytes, its first general is not the lesser one, or it does not stand after the lesser edges.
     #[error("H2")]
     BadEdge,
     /// There are more than 8 traitors.
@@ -26,4 +29,13 @@ pub enum HeaderFault {
     /// The number of the choice is not 0 or 1.
     #[error("H7")]
     UnknownChoice,
+    /// There is not one root for each general.
+    #[error("H8")]
+    RootCount,
+    /// The bytes end before the header does.
+    #[error("H9")]
+    Truncated,
+    /// The first byte is not a version that is known.
+    #[error("H10")]
+    UnknownVersion,
 }

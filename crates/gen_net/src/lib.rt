@@ -1,4 +1,4 @@
-//! This crate has networks of generals, and it defines what a run of the signed message algorithm on
+//! This crate has networks of generals and the headers of runs, and it defines what a run of the signed message algorithm on
 //! one is (sections 4 and 5 of L. Lamport, R. Shostak and M. Pease, "The Byzantine Generals Problem",
 //! ACM TOPLAS 4, 1982).
 //!
@@ -8,12 +8,22 @@
 
 mod edges;
 mod fault;
+mod hashing;
+mod headers;
+pub mod laws;
 mod message;
 mod net;
+mod reading;
+mod writing;
 
 pub use fault::HeaderFault;
+pub use headers::Header;
 pub use message::Message;
 pub use net::Net;
+pub use reading::read_header;
+pub use writing::header_bytes;
 
+#[cfg(test)]
+mod header_tests;
 #[cfg(test)]
 mod tests;

@@ -3,9 +3,9 @@ ghost use Rattle.std.specs.Prelude.{IsTrue, ◌≡◌, ◌≤◌, ◌↔◌};
 ghost use Rattle.gen_types.specs.Ascending.{IsListOf};
 ghost use Rattle.gen_types.specs.Reading.{Gives};
 ghost use Rattle.gen_net.specs.Network.{rounds, AreNeighbours, IsNetwork};
-ghost use Rattle.gen_net.specs.NetworkOf.{network_of};
+ghost use Rattle.gen_net.specs.NetworkOf.{ranges_of, network_of, network_in_place};
 
-use crate::edges::{edge_list, has_fault};
+use crate::edges::{edge_list, has_fault, placed_edges, stand_in_place};
 use crate::fault::HeaderFault;
 use gen_types::{ChoiceKind, GeneralNo, GeneralSet, ReadError};
 use std::alloc::Global;
@@ -50,12 +50,48 @@ impl Model for Net {
     }) };
 }
 
+/// The choice of this number, where the numbers of a network are in their ranges and no edge is bad.
+#[tactic(auto, unfolding(crate::specs::NetworkOf::ranges_of))]
+fn ranges(
+    n: u8,
+    bad_edge: bool,
+    m: u8,
+    d: u8,
+    q: u8,
+    choice: u8,
+) -> Result<ChoiceKind, ReadError<HeaderFault>>
+    ensures { Gives (λ kind. kind) result (ranges_of n bad_edge m d q choice) }
+{
+    if n < 2 || n > 16 {
+        return Err(ReadError::Fault(HeaderFault::GeneralCount));
+    }
+    if bad_edge {
+        return Err(ReadError::Fault(HeaderFault::BadEdge));
+    }
+    if m > 8 {
+        return Err(ReadError::Fault(HeaderFault::TraitorCount));
+    }
+    if d < 1 || d > 15 {
+        return Err(ReadError::Fault(HeaderFault::DiameterRange));
+    }
+    if m + d > 16 {
+        return Err(ReadError::Fault(HeaderFault::RoundCount));
+    }
+    if q < 2 || q > 15 {
+        return Err(ReadError::Fault(HeaderFault::OrderCount));
+    }
+    let Some(choice) = ChoiceKind::new(choice) else {
+        return Err(ReadError::Fault(HeaderFault::UnknownChoice));
+    };
+    Ok(choice)
+}
+
 impl Net {
     /// Makes the network of n generals with these edges, which come in any order and direction, planned
     /// for m traitors and diameter d, with q orders and the choice of this number.
     ///
     /// It answers the first fault of `HeaderFault` that holds, and Memory where memory was refused.
-    #[tactic(auto, unfolding(crate::specs::NetworkOf::network_of))]
+    #[tactic(auto, unfolding(crate::specs::NetworkOf::network_of, crate::specs::NetworkOf::ranges_of))]
     pub fn new(
         alloc: Global,
         n: u8,
@@ -67,28 +103,33 @@ impl Net {
     ) -> Result<Net, ReadError<HeaderFault>>
         ensures { Gives (λ net. net) result (network_of n edges.now m d q choice) }
     {
-        if n < 2 || n > 16 {
-            return Err(ReadError::Fault(HeaderFault::GeneralCount));
-        }
-        if has_fault(n, edges) {
-            return Err(ReadError::Fault(HeaderFault::BadEdge));
-        }
-        if m > 8 {
-            return Err(ReadError::Fault(HeaderFault::TraitorCount));
-        }
-        if d < 1 || d > 15 {
-            return Err(ReadError::Fault(HeaderFault::DiameterRange));
-        }
-        if m + d > 16 {
-            return Err(ReadError::Fault(HeaderFault::RoundCount));
-        }
-        if q < 2 || q > 15 {
-            return Err(ReadError::Fault(HeaderFault::OrderCount));
-        }
-        let Some(choice) = ChoiceKind::new(choice) else {
-            return Err(ReadError::Fault(HeaderFault::UnknownChoice));
-        };
+        let choice = ranges(n, has_fault(n, edges), m, d, q, choice)?;
         let edges = edge_list(alloc, n, edges)?;
+        Ok(Net {
+            generals: n,
+            edges,
+            traitors: m,
+            diameter: d,
+            orders: q,
+            choice,
+        })
+    }
+
+    /// Makes the same of edges that have to stand in their places: each (a, b) with a < b, and ascending.
+    #[tactic(auto, unfolding(crate::specs::NetworkOf::network_in_place, crate::specs::NetworkOf::ranges_of))]
+    pub(crate) fn in_place(
+        alloc: Global,
+        n: u8,
+        edges: &[(u8, u8)],
+        m: u8,
+        d: u8,
+        q: u8,
+        choice: u8,
+    ) -> Result<Net, ReadError<HeaderFault>>
+        ensures { Gives (λ net. net) result (network_in_place n edges.now m d q choice) }
+    {
+        let choice = ranges(n, !stand_in_place(n, edges), m, d, q, choice)?;
+        let edges = placed_edges(alloc, n, edges)?;
         Ok(Net {
             generals: n,
             edges,

@@ -5,7 +5,7 @@ use Rattle.gen_types.proofs.Lists.{Contains_nil}
 use Rattle.gen_net.specs.declared.message.Message.{Message}
 use Rattle.gen_core.specs.declared.arrivals.Seen.{Seen}
 use Rattle.gen_net.specs.Network.{Network, AreNeighbours}
-use Rattle.gen_net.specs.Run.{Run}
+use Rattle.gen_net.specs.Run.{Run, IsRun}
 use Rattle.gen_core.specs.Seeing.{AreArrivals, AreAdds}
 use Rattle.gen_core.specs.Sending.{Send, Appends, AreSends, IsCommand, IsDue}
 use Rattle.gen_world.specs.World.{IsRelay}
@@ -76,16 +76,25 @@ part_more me parts p m = (
   ]),
 )
 
-pub relayed : (net : Network) (run : Run) (g l : ℕ) (adds : List (Option (List ℕ))) (out : List Send) → AreAdds run g l adds → AreSends (IsDue net g adds) out → (m : Message) → IsAmong g out m ↔ RelayedBy net run g l m
-relayed net run g l adds out told sends m = (
+pub relayed : (net : Network) (run : Run) (g l : ℕ) (adds : List (Option (List ℕ))) (out : List Send) → IsRun net run → AreAdds run g l adds → AreSends (IsDue net g adds) out → (m : Message) → IsAmong g out m ↔ RelayedBy net run g l m
+relayed net run g l adds out run_of_net told sends m = (
   (λ h.
       let d : IsDue net g adds (m.to, m.order, m.path) = (sends.exactly (m.to, m.order, m.path)).0 h.1 in
       let both = (told m.order d.picked).0 d.is_picked in
       (h.0, omega (arith, d.in_time, both.1.arrives.0.1), record { picked = d.picked; added = both.0; least = both.1; longer = d.longer; neighbour = d.neighbour; outside = d.outside })),
   (λ h.
-      let r : IsRelay net run g l m = h.2 in (
+      let r : IsRelay net run g l m = h.2 in
+      let was : Message = record { from = r.least.from; to = g; order = m.order; path = r.picked } in (
         h.0,
-        (sends.exactly (m.to, m.order, m.path)).1 (record { picked = r.picked; is_picked = (told m.order r.picked).1 (r.added, r.least); in_time = omega (arith, h.1, r.least.arrives.0.1); longer = r.longer; neighbour = r.neighbour; outside = r.outside }),
+        (sends.exactly (m.to, m.order, m.path)).1 (record {
+          picked = r.picked;
+          is_picked = (told m.order r.picked).1 (r.added, r.least);
+          in_time = omega (arith, h.1, r.least.arrives.0.1);
+          new = (run_of_net.messages was r.least.arrives.0.0).outside;
+          longer = r.longer;
+          neighbour = r.neighbour;
+          outside = r.outside;
+        }),
       )),
 )
 

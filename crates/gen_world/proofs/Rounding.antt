@@ -11,7 +11,7 @@ use Rattle.gen_net.specs.declared.message.Message.{Message}
 use Rattle.gen_net.specs.Run.{Run}
 use Rattle.gen_core.specs.Seeing.{State, HasSeen}
 use Rattle.gen_core.specs.Sending.{Appends}
-use Rattle.gen_net.specs.Follows.{Decides}
+use Rattle.gen_net.specs.Follows.{LieutenantDecides}
 use Rattle.gen_world.specs.World.{IsDecision, IsRelay}
 use Rattle.gen_world.specs.Scenario.{Decision}
 use Rattle.gen_world.specs.Rounds.{RelayedBy, AreRelays, IsReady, numbers_of}
@@ -83,7 +83,7 @@ generals_pushed out decision states i d so_far lt e =
     map-append (λ (x : Decision). x.0) out (decision ∷ []) ∙ (ap (λ ns. ns ++ decision.0 ∷ []) so_far ∙ (ap (λ g. 0 ∷ (take i (numbers_of states) ++ g ∷ [])) e ∙ ap (λ ns. 0 ∷ ns) (sym (numbers_taken states (numbers_of states) i d refl lt))))
 
 -- a lieutenant's decision
-pub lieutenants_decision : (net : Network) (own : ℕ) (run : Run) (me : ℕ) (set : List ℕ) (order : ℕ) → me ≢ 0 → Decides net run me set order → IsDecision net own run (me, set, order)
+pub lieutenants_decision : (net : Network) (own : ℕ) (run : Run) (me : ℕ) (set : List ℕ) (order : ℕ) → me ≢ 0 → LieutenantDecides net run me set order → IsDecision net own run (me, set, order)
 lieutenants_decision net own run me set order ne decides = record { commander = λ e. absurd (ne e); lieutenant = λ other. decides }
 
 -- ---- what is written back

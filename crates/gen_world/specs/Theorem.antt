@@ -5,7 +5,7 @@ use Rattle.gen_types.specs.Ascending.{IsListOf}
 use Rattle.gen_net.specs.Network.{Network, choose, IsLoyal}
 use Rattle.gen_net.specs.Walks.{HasDiameter}
 use Rattle.gen_net.specs.Run.{Run, IsRun, Accepts}
-use Rattle.gen_net.specs.Follows.{Conduct, Commands, Decides}
+use Rattle.gen_net.specs.Follows.{Conduct, Commands, LieutenantDecides}
 use Rattle.gen_net.specs.Signed.{IsSignedRun}
 
 -- What the theorem asks for: a run for these faulty generals, at most m of them, and any two of the rest joined inside the rest
@@ -33,15 +33,15 @@ Validity = (net : Network) (faulty : List ℕ) (run : Run) (conducts : ℕ → C
 
 -- in every run a lieutenant has a decision
 abbrev pub EachDecides : Type 0
-EachDecides = (net : Network) (run : Run) → IsRun net run → (g : ℕ) → g ≢ 0 → (orders : List ℕ) × (order : ℕ) × Decides net run g orders order
+EachDecides = (net : Network) (run : Run) → IsRun net run → (g : ℕ) → g ≢ 0 → (orders : List ℕ) × (order : ℕ) × LieutenantDecides net run g orders order
 
 -- any two lieutenants of the rest decide alike (IC1)
 abbrev pub DecideAlike : Type 0
-DecideAlike = (net : Network) (faulty : List ℕ) (run : Run) (conducts : ℕ → Conduct) → Premises net faulty run conducts → (g h : ℕ) → IsLoyalLieutenant net faulty g → IsLoyalLieutenant net faulty h → (orders others : List ℕ) (order other : ℕ) → Decides net run g orders order → Decides net run h others other → order ≡ other
+DecideAlike = (net : Network) (faulty : List ℕ) (run : Run) (conducts : ℕ → Conduct) → Premises net faulty run conducts → (g h : ℕ) → IsLoyalLieutenant net faulty g → IsLoyalLieutenant net faulty h → (orders others : List ℕ) (order other : ℕ) → LieutenantDecides net run g orders order → LieutenantDecides net run h others other → order ≡ other
 
 -- where the commander is of the rest, a lieutenant of the rest decides the commander's order (IC2)
 abbrev pub ObeyCommander : Type 0
-ObeyCommander = (net : Network) (faulty : List ℕ) (run : Run) (conducts : ℕ → Conduct) → Premises net faulty run conducts → (own : ℕ) → HasLoyalCommander net faulty conducts own → (g : ℕ) → IsLoyalLieutenant net faulty g → (orders : List ℕ) (order : ℕ) → Decides net run g orders order → order ≡ own
+ObeyCommander = (net : Network) (faulty : List ℕ) (run : Run) (conducts : ℕ → Conduct) → Premises net faulty run conducts → (own : ℕ) → HasLoyalCommander net faulty conducts own → (g : ℕ) → IsLoyalLieutenant net faulty g → (orders : List ℕ) (order : ℕ) → LieutenantDecides net run g orders order → order ≡ own
 
 -- the two laws of a choice: of one order it is this order, of none it is RETREAT
 pub record IsChoice (choice : List ℕ → ℕ) : Type 0 where

@@ -5,7 +5,7 @@ use Rattle.std.specs.List.{range_with_len}
 use Rattle.gen_net.specs.Network.{Network, rounds, AreNeighbours}
 use Rattle.gen_net.specs.declared.message.Message.{Message}
 use Rattle.gen_net.specs.Run.{Run, IsSent, IsRun, Adds}
-use Rattle.gen_net.specs.Follows.{CommanderFollows, Decides}
+use Rattle.gen_net.specs.Follows.{CommanderFollows, LieutenantDecides}
 use Rattle.gen_core.specs.Seeing.{IsFromLeast}
 use Rattle.gen_world.specs.Scenario.{Decision}
 
@@ -36,7 +36,7 @@ OneWorld = (net : Network) (order : ℕ) (run other : Run) → IsWorld net order
 -- the commander decides his order alone, and a lieutenant by the orders that he accepted
 pub record IsDecision (net : Network) (order : ℕ) (run : Run) (decision : Decision) : Type 0 where
   pub commander : decision.0 ≡ 0 → (decision.1 ≡ order ∷ []) × (decision.2 ≡ order)
-  pub lieutenant : decision.0 ≢ 0 → Decides net run decision.0 decision.1 decision.2
+  pub lieutenant : decision.0 ≢ 0 → LieutenantDecides net run decision.0 decision.1 decision.2
 
 -- the decisions of all generals, in ascending order, in the run of the scenario
 pub record IsOutcome (net : Network) (order : ℕ) (decisions : List Decision) : Type 0 where

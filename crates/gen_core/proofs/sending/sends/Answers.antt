@@ -5,8 +5,8 @@ use Rattle.gen_core.specs.Sending.{Appends, GoesUpTo}
 use Rattle.gen_core.proofs.Due.{DueBelow, due_small, more_rows, one_receiver_more}
 use Rattle.gen_core.proofs.sending.sends.Goals as goal
 
-pub push_due-requires-clause-order : goal.push_due-requires-clause-order
-push_due-requires-clause-order c = subst (λ n. GoesUpTo c.loop-number.out.items n 0) (sym c.at.ensures) c.loop-number.invariant.order
+pub push_due-requires : goal.push_due-requires
+push_due-requires c = subst (λ n. GoesUpTo c.loop-number.out.items n 0) (sym c.at.ensures) c.loop-number.invariant.order
 
 pub loop-number-preserved : goal.loop-number-preserved
 loop-number-preserved c =

@@ -1,0 +1,12 @@
+use Rattle.std.proofs.Common.{◌≡◌, ◌++◌, length, true}
+use Rattle.gen_net.specs.NetworkOf.{in_place}
+use Rattle.gen_net.proofs.edges.placed_edges.Given as goal
+
+abbrev pub invariant-loop-rest : goal.invariant-loop-rest
+invariant-loop-rest l = record {
+  items : l.placed.items ++ l.rest ≡ l.edges;
+  placed : in_place l.n l.rest ≡ true;
+}
+
+abbrev pub decreases-loop-rest : goal.decreases-loop-rest
+decreases-loop-rest l = length l.rest

@@ -1,0 +1,147 @@
+//! Headers: bytes and run ids computed outside the program, each fault, each cut.
+use super::*;
+use gen_types::{GeneralNo, ReadError};
+use std::alloc::{AllocError, Global};
+use std::test::Fail;
+
+/// The header of two generals whose keys come from a master seed of 32 zero bytes: n = 2, m = 0, d = 1,
+/// q = 2, choice 0, the edge 0-1.
+const OF_TWO: [u8; 73] = [
+    0x01, 0x02, 0x00, 0x01, 0x02, 0x00, 0x01, 0x00, 0x01, 0x18, 0xfb, 0xdd, 0xbb, 0xa9, 0xd5, 0x56,
+    0xd0, 0x90, 0x0c, 0x7e, 0xa3, 0x56, 0x07, 0x89, 0xbe, 0x96, 0x12, 0xd4, 0x1a, 0x68, 0x9f, 0x37,
+    0x4d, 0xdb, 0x8c, 0xcc, 0x6d, 0x56, 0x2d, 0x56, 0xf7, 0xe6, 0x4d, 0x01, 0x5f, 0xd1, 0x35, 0x2f,
+    0x12, 0x16, 0xb3, 0x16, 0x9b, 0xf0, 0xa7, 0x63, 0xdd, 0x7e, 0x70, 0xd1, 0xcf, 0x8b, 0xf5, 0x26,
+    0xe4, 0xd3, 0x17, 0x41, 0x0a, 0x36, 0xcf, 0x90, 0x8d,
+];
+
+const RUN_OF_TWO: [u8; 32] = [
+    0x4f, 0x09, 0x2d, 0x5b, 0xdc, 0xf1, 0xd0, 0xec, 0x35, 0x0c, 0x82, 0x6a, 0xc0, 0x71, 0xea, 0x3f,
+    0xa9, 0x86, 0xce, 0x1d, 0x9c, 0xc2, 0x6b, 0x17, 0x0f, 0x8d, 0xed, 0x62, 0x13, 0x9a, 0xc4, 0xb4,
+];
+
+/// The first bytes of a header of a ring of four, whose roots follow.
+const RING: [u8; 15] = [1, 4, 2, 3, 5, 1, 4, 0, 1, 0, 3, 1, 2, 2, 3];
+
+/// Its run id, where the root of general g is 32 bytes g + 1.
+const RUN_OF_RING: [u8; 32] = [
+    0xf5, 0xc3, 0xc8, 0xb7, 0x72, 0x5e, 0x08, 0xb3, 0x1e, 0xf4, 0xc5, 0x68, 0x05, 0x3f, 0x5c, 0x77,
+    0x13, 0xe5, 0xff, 0x71, 0xb8, 0x43, 0x23, 0x0f, 0x2c, 0x98, 0x95, 0xd8, 0x21, 0xab, 0x75, 0x8a,
+];
+
+/// This many roots, of which root g is 32 bytes g + 1.
+fn roots(alloc: Global, count: u8) -> Result<Vec<[u8; 32]>, AllocError> {
+    let mut roots = Vec::new(alloc);
+    for number in 0..count {
+        roots.push([number.wrapping_add(1); 32])?;
+    }
+    Ok(roots)
+}
+
+/// The bytes of a header that begins with these and has this many roots.
+fn bytes_with(alloc: Global, front: &[u8], count: u8) -> Result<Vec<u8>, AllocError> {
+    let mut bytes = Vec::new(alloc);
+    bytes.extend_from_slice(front)?;
+    for root in &roots(alloc, count)? {
+        bytes.extend_from_slice(root)?;
+    }
+    Ok(bytes)
+}
+
+/// The fault of a header that begins with these bytes and has a root for each of its generals.
+fn fault_of(alloc: Global, front: &[u8]) -> Result<Option<ReadError<HeaderFault>>, AllocError> {
+    let count = front.get(1).copied().unwrap_or(0);
+    let bytes = bytes_with(alloc, front, count)?;
+    Ok(read_header(alloc, &bytes).err())
+}
+
+#[test]
+fn smallest_header(rt: HostRuntime) -> Result<(), Fail> {
+    let alloc = rt.alloc();
+    let (header, taken) = read_header(alloc, &OF_TWO).expect(&rt, "a header");
+    assert_eq!(rt; taken, 73);
+    assert!(rt; *header.run_id() == RUN_OF_TWO);
+    assert!(rt; header_bytes(alloc, &header)?.as_slice() == OF_TWO.as_slice());
+    assert!(rt; header.roots().len() == 2 && header.net().rounds() == 1);
+    assert!(rt; header.root(GeneralNo::at(1)).as_slice() == &OF_TWO[41..]);
+    for count in 0..73usize {
+        let fault = read_header(alloc, &OF_TWO[..count]).err();
+        assert_eq!(rt;
+            fault,
+            Some(ReadError::Fault(HeaderFault::Truncated)),
+            "{count}"
+        );
+    }
+    let mut longer = Vec::new(alloc);
+    longer.extend_from_slice(&OF_TWO)?;
+    longer.push(1)?;
+    let (again, taken) = read_header(alloc, &longer).expect(&rt, "a header and a byte");
+    assert!(rt; taken == 73 && *again.run_id() == RUN_OF_TWO);
+    Ok(())
+}
+
+#[test]
+fn header_of_a_ring(rt: HostRuntime) -> Result<(), Fail> {
+    let alloc = rt.alloc();
+    let given = [(3, 2), (1, 0), (3, 0), (1, 2)];
+    let net = Net::new(alloc, 4, &given, 2, 3, 5, 1).expect(&rt, "a ring of four");
+    let header = Header::new(net, roots(alloc, 4)?).expect(&rt, "four roots");
+    assert!(rt; *header.run_id() == RUN_OF_RING);
+    let bytes = header_bytes(alloc, &header)?;
+    assert!(rt; bytes == bytes_with(alloc, &RING, 4)?);
+    let (again, taken) = read_header(alloc, &bytes).expect(&rt, "a ring of four");
+    assert!(rt; taken == 143 && *again.run_id() == RUN_OF_RING);
+    assert!(rt; again.net().generals() == 4);
+    assert!(rt; *again.root(GeneralNo::at(3)) == [4; 32]);
+    for count in [0, 3, 5] {
+        let net = Net::new(alloc, 4, &given, 2, 3, 5, 1).expect(&rt, "a ring of four");
+        let fault = Header::new(net, roots(alloc, count)?).err();
+        assert_eq!(rt; fault, Some(HeaderFault::RootCount), "{count}");
+    }
+    Ok(())
+}
+
+#[test]
+fn header_faults(rt: HostRuntime) -> Result<(), Fail> {
+    let rows: [(&[u8], HeaderFault); 22] = [
+        (&[0], HeaderFault::UnknownVersion),
+        (&[2, 2, 0, 1, 2, 0, 1, 0, 1], HeaderFault::UnknownVersion),
+        (&[1, 17], HeaderFault::Truncated),
+        (&[1, 17, 9, 0, 1, 2, 200], HeaderFault::Truncated),
+        (&[1, 1, 0, 1, 2, 0, 0], HeaderFault::GeneralCount),
+        (&[1, 17, 9, 0, 1, 2, 1, 1, 0], HeaderFault::GeneralCount),
+        (&[1, 2, 0, 1, 2, 0, 1, 1, 0], HeaderFault::BadEdge),
+        (&[1, 2, 0, 1, 2, 0, 1, 1, 1], HeaderFault::BadEdge),
+        (&[1, 2, 0, 1, 2, 0, 1, 0, 2], HeaderFault::BadEdge),
+        (&[1, 2, 0, 1, 2, 0, 2, 0, 1, 0, 1], HeaderFault::BadEdge),
+        (&[1, 3, 0, 1, 2, 0, 2, 0, 2, 0, 1], HeaderFault::BadEdge),
+        (&[1, 3, 0, 1, 2, 0, 2, 1, 2, 0, 1], HeaderFault::BadEdge),
+        (&[1, 2, 9, 0, 1, 2, 1, 1, 0], HeaderFault::BadEdge),
+        (&[1, 2, 9, 0, 1, 2, 1, 0, 1], HeaderFault::TraitorCount),
+        (&[1, 2, 8, 0, 1, 2, 1, 0, 1], HeaderFault::DiameterRange),
+        (&[1, 2, 8, 16, 1, 2, 1, 0, 1], HeaderFault::DiameterRange),
+        (&[1, 2, 8, 9, 1, 2, 1, 0, 1], HeaderFault::RoundCount),
+        (&[1, 2, 8, 8, 1, 2, 1, 0, 1], HeaderFault::OrderCount),
+        (&[1, 2, 8, 8, 16, 2, 1, 0, 1], HeaderFault::OrderCount),
+        (&[1, 2, 8, 8, 15, 2, 1, 0, 1], HeaderFault::UnknownChoice),
+        (&[1, 2, 0, 1, 2, 255, 0], HeaderFault::UnknownChoice),
+        (&[1, 2, 0, 1, 2, 0, 255, 0, 1], HeaderFault::Truncated),
+    ];
+    for (front, fault) in rows {
+        let found = fault_of(rt.alloc(), front)?;
+        assert_eq!(rt; found, Some(ReadError::Fault(fault)), "{front:?}");
+    }
+    for front in [
+        &[1u8, 2, 8, 8, 15, 1, 1, 0, 1],
+        &[1, 16, 0, 15, 2, 0, 1, 14, 15],
+    ] {
+        assert_eq!(rt; fault_of(rt.alloc(), front)?, None, "{front:?}");
+    }
+    for (fault, text) in [
+        (HeaderFault::RootCount, "H8"),
+        (HeaderFault::Truncated, "H9"),
+        (HeaderFault::UnknownVersion, "H10"),
+    ] {
+        assert_eq!(rt; fault.to_string(rt.alloc())?.as_str(), text);
+    }
+    Ok(())
+}

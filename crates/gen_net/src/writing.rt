@@ -1,0 +1,44 @@
+//! Writing headers.
+ghost use Rattle.std.specs.Prelude.{◌≡◌, ◌++◌, IfOk, OnOk};
+ghost use Rattle.std.specs.List.{flat_map};
+ghost use Rattle.gen_net.specs.Header.{edge_bytes, header_spelling, IsHeader};
+
+use crate::hashing::fixed_bytes;
+use crate::headers::Header;
+use gen_types::GeneralNo;
+use std::alloc::{AllocError, Global};
+
+/// Appends the bytes of edges.
+fn put_edges(out: &mut Vec<u8>, edges: &[(GeneralNo, GeneralNo)]) -> Result<(), AllocError>
+    ensures { OnOk result (out.new.items ≡ out.old.items ++ flat_map edge_bytes edges.now) }
+{
+    'edges: for edge in edges {
+        out.extend_from_slice(&[edge.0.get(), edge.1.get()])?;
+    }
+    Ok(())
+}
+
+/// Appends roots.
+fn put_roots(out: &mut Vec<u8>, roots: &[[u8; 32]]) -> Result<(), AllocError>
+    ensures { OnOk result (out.new.items ≡ out.old.items ++ flat_map (λ root. root) roots.now) }
+{
+    'roots: for root in roots {
+        out.extend_from_slice(root)?;
+    }
+    Ok(())
+}
+
+/// Returns the one spelling of a header: version, n, m, d, q, choice and number of edges, a byte each;
+/// two bytes for each edge; 32 for each root. It fails only where memory was refused.
+pub fn header_bytes(alloc: Global, header: &Header) -> Result<Vec<u8>, AllocError>
+    ensures spelled { IfOk result (λ bytes. bytes.items ≡ header_spelling header.now) }
+    ensures header { IsHeader header.now }
+{
+    let edges = header.net().edges();
+    let roots = header.roots();
+    let mut out = Vec::with_capacity(alloc, 7 + 2 * edges.len() + 32 * roots.len())?;
+    out.extend_from_slice(&fixed_bytes(header.net()))?;
+    put_edges(&mut out, edges)?;
+    put_roots(&mut out, roots)?;
+    Ok(out)
+}
