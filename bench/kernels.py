@@ -1,5 +1,5 @@
 #!/usr/bin/env python3
-"""Times keys, rings and walks as ratios to hashing long input, in one run.
+"""Times keys, rings, chains and walks as ratios, in one run.
 
 The program that is timed is bench/kernels.txt. It is proved and built in a scratch copy of the
 repository, since it is no crate of it.
@@ -11,8 +11,8 @@ import subprocess
 import tempfile
 
 TOP = os.path.dirname(os.path.dirname(os.path.abspath(__file__)))
-CRATES = ["gen_types", "gen_net", "gen_walks", "gen_ots", "gen_tree"]
-STANDS_ON = "gen_walks gen_tree gen_ots gen_net gen_types sha2 anyhow"
+CRATES = ["gen_types", "gen_net", "gen_walks", "gen_ots", "gen_tree", "gen_chain"]
+STANDS_ON = "gen_walks gen_chain gen_tree gen_ots gen_net gen_types sha2 anyhow"
 RUNS = 10
 
 
@@ -59,6 +59,9 @@ def main():
         ("a ring, to 12,334 compressions", "ring", "ring_hashing", 1.25),
         ("verifying, to 521 compressions", "verify", "verify_hashing", 1.25),
         ("taking and signing, to 256 compressions", "sign", "sign_hashing", 1.5),
+        ("verifying a chain of 16, to 16 signatures", "chain_verifies", "chain_each", 1.1),
+        ("reading a chain of 16, to a copy", "chain_read", "chain_copied", 3.0),
+        ("writing a chain of 16, to a copy", "chain_written", "chain_copied", 3.0),
     ]
     print(f"{'kernel':42} {'ratio':>7} {'goal':>6} {'us':>10}")
     for name, kernel, beside, goal in rows:

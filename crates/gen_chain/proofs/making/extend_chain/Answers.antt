@@ -1,0 +1,25 @@
+use Rattle.std.proofs.Common.{◌≡◌, ◌∷◌, ◌++◌, [], arith}
+use Rattle.gen_chain.specs.declared.chains.Signer.{Signer}
+use Rattle.gen_chain.specs.Chain.{path_of}
+use Rattle.gen_chain.specs.Making.{signed_by}
+use Rattle.gen_chain.proofs.ChainLaws.{chain-push}
+use Rattle.gen_chain.proofs.SignedSoFar.{signed-push}
+use Rattle.gen_chain.proofs.making.extend_chain.Goals as goal
+
+pub invariant_of-result : goal.invariant_of-result
+invariant_of-result c =
+    let old = c.chain.inside.signers.items in
+    let s : Signer = signed_by c.args.key c.args.header.now (record { order = c.chain.inside.order; path = c.lengthen.new.path }) c.args.me in
+    let items : c.sign_behind.new.signers.items ≡ old ++ s ∷ [] = rw (c.copy_signers.ensures.items, c.room.invariant.empty, c.deref.ensures.value) at c.sign_behind.ensures.items in
+    let new = rw (← c.chain.view_is) at c.requires.new in
+    rw items (chain-push c.chain.inside.order old s c.chain.invariant (omega (arith, c.get-below.ensures.value, c.get-below.ensures.below)) new c.sign_behind.ensures.width)
+
+pub returns-clause-verifies : goal.returns-clause-verifies
+returns-clause-verifies c = λ of_key before.
+    let old = c.chain.inside.signers.items in
+    let path : c.lengthen.new.path ≡ path_of old ++ c.args.me ∷ [] = rw (c.path-path.ensures, ← c.chain.view_is) at c.lengthen.ensures in
+    let s : Signer = signed_by c.args.key c.args.header.now (record { order = c.chain.inside.order; path = path_of old ++ c.args.me ∷ [] }) c.args.me in
+    let items : c.sign_behind.new.signers.items ≡ old ++ s ∷ [] = rw (path, c.copy_signers.ensures.items, c.room.invariant.empty, c.deref.ensures.value) at c.sign_behind.ensures.items in
+    let signed = rw path at c.sign_behind.ensures.signed in
+    let all = rw (← c.chain.view_is) at before in
+    (all.0, rw items (signed-push c.args.header.now c.chain.inside.order old s all.1 (signed of_key)))

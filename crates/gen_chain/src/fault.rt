@@ -1,0 +1,25 @@
+//! Why bytes are no chain.
+use thiserror::Error;
+
+/// Which rule the bytes of a chain break. The texts are `C1` to `C5`.
+///
+/// Bytes are tested in this order: fewer than 2 bytes (`C1`), `C2`, `C3`, fewer bytes than that many
+/// signers take (`C1`), `C4`, `C5`.
+#[derive(Clone, Copy, Debug, PartialEq, Eq, Error)]
+pub enum ChainFault {
+    /// The bytes end before the chain does.
+    #[error("C1")]
+    Truncated,
+    /// The order is above 14.
+    #[error("C2")]
+    OrderRange,
+    /// The number of signers is not 1 to 16.
+    #[error("C3")]
+    SignerCount,
+    /// A signer's number is above 15, or comes twice.
+    #[error("C4")]
+    BadSigner,
+    /// The first signer is not general 0, the commander.
+    #[error("C5")]
+    NotFromCommander,
+}

@@ -1,0 +1,33 @@
+//! Signed chains, and the texts that generals sign.
+//!
+//! A chain is the message `v:0:j1:..:jk` of the signed message algorithm (section 4 of L. Lamport,
+//! R. Shostak and M. Pease, "The Byzantine Generals Problem", ACM TOPLAS 4, 1982): an order, and those
+//! who signed it one after another. Each signed the order together with the path up to himself, under
+//! the leaf of the order in his own tree of keys. A general also signs the head of his log.
+//!
+//! What is promised: the texts that are signed and the bytes of a chain are exactly the definitions, each
+//! chain has one spelling, `chain_verifies` is true exactly where every signature of the chain verifies,
+//! and a chain that is made with the signers' own keys verifies. What is not: that nobody else can make a
+//! signature that verifies.
+#![tactic(auto)]
+
+mod chains;
+mod fault;
+pub mod laws;
+mod making;
+mod reading;
+pub mod sizes;
+mod statements;
+mod verifying;
+mod writing;
+
+pub use chains::{SignedChain, Signer};
+pub use fault::ChainFault;
+pub use making::{ChainRoom, begin_chain, extend_chain};
+pub use reading::read_chain;
+pub use statements::{HeadText, Statement, head_digest, leaf_of_order, statement_digest};
+pub use verifying::chain_verifies;
+pub use writing::write_chain;
+
+#[cfg(test)]
+mod tests;

@@ -1,0 +1,172 @@
+//! Making chains, in room that was made before.
+ghost use Rattle.std.specs.Prelude.{◌≡◌, ◌≤◌, ◌<◌, ◌+◌, IfOk, [], ◌∷◌, ◌++◌, length, vec_len, vec_capacity, Contains};
+ghost use Rattle.gen_chain.specs.Chain.{path_of};
+ghost use Rattle.gen_chain.specs.Texts.{leaf_of_order as order_leaf};
+ghost use Rattle.gen_chain.specs.Verifying.{HasSigned, ChainVerifies};
+ghost use Rattle.gen_chain.specs.Making.{signed_by, begun, extended, IsKeyOf};
+
+use crate::chains::{SignedChain, Signer, lengthen};
+use crate::sizes::GREATEST_ORDER;
+use crate::statements::{Statement, statement_digest};
+use gen_net::Header;
+use gen_ots::SigRoom;
+use gen_tree::LeafKey;
+use gen_tree::sizes::SIGNATURE_BYTES;
+use gen_types::{GeneralNo, OrderNo, Path};
+use std::alloc::{AllocError, Global};
+use std::marker::Model;
+
+/// Room for a chain: all the memory that making one takes, without that of its last signature. A contract
+/// sees for how many signers it is.
+#[derive(Drop)]
+pub struct ChainRoom {
+    length: u8,
+    signers: Vec<Signer>,
+    copies: Vec<SigRoom>,
+}
+
+impl Model for ChainRoom {
+    ghost use Rattle.std.specs.Prelude.{◌≡◌, ◌≤◌, ◌+◌, ℕ, [], vec_len, vec_capacity};
+
+    ghost Value = { ℕ };
+
+    ghost view = { λ r. r.length };
+
+    ghost invariant = { λ r. record {
+      empty : r.signers.items ≡ [];
+      signers : r.length ≤ vec_capacity r.signers;
+      copies : r.length ≤ vec_len r.copies + 1;
+    } };
+}
+
+impl ChainRoom {
+    /// Makes room for a chain of this many signers, or says that memory was refused. Any number may be
+    /// asked for, though no chain has none or more than 16.
+    pub fn new(alloc: Global, length: u8) -> Result<ChainRoom, AllocError>
+        ensures { IfOk result (λ room. room ≡ length) }
+    {
+        let signers = Vec::with_capacity(alloc, usize::from(length))?;
+        let mut copies = Vec::with_capacity(alloc, usize::from(length))?;
+        'rooms: for _room in 1..length {
+            let room = SigRoom::new(alloc)?;
+            copies.push(room)?;
+        }
+        Ok(ChainRoom {
+            length,
+            signers,
+            copies,
+        })
+    }
+}
+
+/// Appends a copy of each signer, in room that was made before.
+fn copy_signers(from: &[Signer], into: &mut Vec<Signer>, copies: &mut Vec<SigRoom>)
+    requires rooms { length from.now ≤ vec_len copies.old }
+    requires room { vec_len into.old + length from.now ≤ vec_capacity into.old }
+    ensures items { into.new.items ≡ into.old.items ++ from.now }
+    ensures len { vec_len into.new ≡ vec_len into.old + length from.now }
+    ensures capacity { vec_capacity into.old ≤ vec_capacity into.new }
+{
+    'signers: for signer in from {
+        let room = copies.pop().unwrap();
+        let copy = Signer {
+            general: signer.general,
+            signature: signer.signature.copy(room),
+        };
+        into.push(copy).unwrap();
+    }
+}
+
+/// Signs a statement, and puts the signer behind the others, in room that was made before.
+fn sign_behind(
+    header: &Header,
+    me: GeneralNo,
+    statement: &Statement,
+    signers: &mut Vec<Signer>,
+    room: SigRoom,
+    key: LeafKey,
+)
+    requires room { vec_len signers.old < vec_capacity signers.old }
+    requires leaf { key.leaf ≡ order_leaf statement.now.order }
+    requires me { me < header.now.network.generals }
+    ensures items { signers.new.items ≡ signers.old.items ++ signed_by key header.now statement.now me ∷ [] }
+    ensures signed { IsKeyOf header.now me key → HasSigned header.now statement.now (signed_by key header.now statement.now me) }
+    ensures width { length (signed_by key header.now statement.now me).signature ≡ SIGNATURE_BYTES }
+{
+    let digest = statement_digest(header, statement);
+    let signature = key.sign(room, &digest);
+    let signer = Signer {
+        general: me,
+        signature,
+    };
+    signers.push(signer).unwrap();
+}
+
+/// Makes the chain of an order that general 0, the commander, alone has signed, with this key.
+///
+/// It asks that the order is at most 14, that the room is for 1 signer or more, and that the key is one of
+/// the order's leaf. The key is spent. It takes no memory beyond the rooms, and can't fail. The chain
+/// verifies where the key is of a ring with the commander's root and the order is below q.
+pub fn begin_chain(
+    header: &Header,
+    order: OrderNo,
+    room: ChainRoom,
+    signature: SigRoom,
+    key: LeafKey,
+) -> SignedChain
+    requires order { order ≤ GREATEST_ORDER }
+    requires room { 1 ≤ room }
+    requires leaf { key.leaf ≡ order_leaf order }
+    ensures chain { result ≡ begun header.now order key }
+    ensures verifies { IsKeyOf header.now 0 key → order < header.now.network.orders → ChainVerifies header.now result }
+{
+    let _header = header.net();
+    let ChainRoom {
+        length: _,
+        mut signers,
+        copies: _,
+    } = room;
+    let me = GeneralNo::commander();
+    let mut path = Path::new();
+    lengthen(&mut path, me);
+    let statement = Statement { order, path };
+    sign_behind(header, me, &statement, &mut signers, signature, key);
+    SignedChain { order, signers }
+}
+
+/// Makes the chain that a general hands on: the given one with himself as one signer more, who signs with
+/// this key.
+///
+/// It asks that he is a general of the network and not in the chain's path, that the room is for one
+/// signer more than the chain has, or for more, and that the key is one of the order's leaf. The key is
+/// spent. It takes no memory beyond the rooms, and can't fail. The chain verifies where the key is of a
+/// ring with his root and the given chain verifies.
+pub fn extend_chain(
+    header: &Header,
+    me: GeneralNo,
+    chain: &SignedChain,
+    room: ChainRoom,
+    signature: SigRoom,
+    key: LeafKey,
+) -> SignedChain
+    requires me { me < header.now.network.generals }
+    requires new { Contains (path_of chain.now.signers) me → ⊥ }
+    requires room { length chain.now.signers + 1 ≤ room }
+    requires leaf { key.leaf ≡ order_leaf chain.now.order }
+    ensures chain { result ≡ extended header.now chain.now me key }
+    ensures verifies { IsKeyOf header.now me key → ChainVerifies header.now chain.now → ChainVerifies header.now result }
+{
+    let _below = me.get();
+    let ChainRoom {
+        length: _,
+        mut signers,
+        mut copies,
+    } = room;
+    let order = chain.order;
+    let mut path = chain.path();
+    lengthen(&mut path, me);
+    copy_signers(&chain.signers, &mut signers, &mut copies);
+    let statement = Statement { order, path };
+    sign_behind(header, me, &statement, &mut signers, signature, key);
+    SignedChain { order, signers }
+}

@@ -1,0 +1,161 @@
+//! Reading chains.
+ghost use Rattle.std.specs.Prelude.{◌≡◌, ◌≤◌, ◌++◌, ◌-◌, List, ℕ, length, IfOk, Ok, not, ◌==◌};
+ghost use Rattle.std.specs.List.{list_any};
+ghost use Rattle.gen_types.specs.Reading.{Gives};
+ghost use Rattle.gen_types.specs.Bytes.{many_at};
+ghost use Rattle.gen_chain.specs.Chain.{Chain, IsChain, path_of, chain_spelling};
+ghost use Rattle.gen_chain.specs.ChainOf.{signer_at, front_at, signers_at, chain_at, chain_of, repeats, begins_with_commander};
+
+use crate::chains::{SignedChain, Signer};
+use crate::fault::ChainFault;
+use crate::sizes::{GREATEST_ORDER, MOST_SIGNERS, SIGNER_BYTES};
+use gen_ots::SigRoom;
+use gen_tree::Signature;
+use gen_tree::sizes::SIGNATURE_BYTES;
+use gen_types::limits::MOST_GENERALS;
+use gen_types::{GeneralNo, OrderNo, ReadError, bytes_at, check, u8_at};
+use std::alloc::Global;
+
+/// What stands before the signers: the order, and the number of signers.
+#[derive(Clone, Copy)]
+struct Front {
+    order: u8,
+    count: u8,
+}
+
+/// A signer, and the bytes after him.
+#[tactic(auto, unfolding(crate::specs::ChainOf::signer_at))]
+fn read_signer(alloc: Global, bytes: &[u8]) -> Result<(Signer, &[u8]), ReadError<ChainFault>>
+    ensures { Gives (λ x. (x.0, x.1.now)) result (signer_at bytes.now) }
+{
+    let (number, rest) = u8_at(bytes, ChainFault::Truncated)?;
+    let (signature, rest) = bytes_at(rest, SIGNATURE_BYTES, ChainFault::Truncated)?;
+    check(number < MOST_GENERALS, ChainFault::BadSigner)?;
+    let room = SigRoom::new(alloc)?;
+    let signer = Signer {
+        general: GeneralNo::at(number),
+        signature: Signature::read(room, signature),
+    };
+    Ok((signer, rest))
+}
+
+#[tactic(auto, unfolding(crate::specs::ChainOf::front_at))]
+fn read_front(bytes: &[u8]) -> Result<(Front, &[u8]), ReadError<ChainFault>>
+    ensures exact { Gives (λ x. (record { order = x.0.order; count = x.0.count }, x.1.now)) result (front_at bytes.now) }
+    ensures known { IfOk result (λ x. x.0.order ≤ GREATEST_ORDER) }
+{
+    let (order, rest) = u8_at(bytes, ChainFault::Truncated)?;
+    let (count, rest) = u8_at(rest, ChainFault::Truncated)?;
+    check(order <= GREATEST_ORDER, ChainFault::OrderRange)?;
+    check(1 <= count && count <= MOST_SIGNERS, ChainFault::SignerCount)?;
+    Ok((Front { order, count }, rest))
+}
+
+/// This many signers.
+fn read_many(
+    alloc: Global,
+    count: u8,
+    bytes: &[u8],
+) -> Result<(Vec<Signer>, &[u8]), ReadError<ChainFault>>
+    ensures { Gives (λ x. (x.0.items, x.1.now)) result (many_at signer_at count bytes.now) }
+{
+    let mut signers = Vec::with_capacity(alloc, usize::from(count))?;
+    let mut rest = bytes;
+    for _ in 0..count {
+        let (signer, after) = read_signer(alloc, rest)?;
+        signers.push(signer)?;
+        rest = after;
+    }
+    Ok((signers, rest))
+}
+
+/// Whether the general is one of these signers.
+fn stands_in(general: GeneralNo, signers: &[Signer]) -> bool
+    ensures { result ≡ list_any (λ s. s.general == general) signers.now }
+{
+    signers.iter().any(|s| s.general == general)
+}
+
+/// Whether no general comes twice.
+fn are_distinct(signers: &[Signer]) -> bool
+    ensures { result ≡ not (repeats (path_of signers.now)) }
+{
+    let mut rest = signers;
+    while let Some((first, others)) = rest.split_first() {
+        if stands_in(first.general, others) {
+            return false;
+        }
+        rest = others;
+    }
+    true
+}
+
+/// Whether the commander is the first.
+fn begin(signers: &[Signer]) -> bool
+    ensures { result ≡ begins_with_commander (path_of signers.now) }
+{
+    match signers {
+        [] => false,
+        [first, ..] => first.general == GeneralNo::commander(),
+    }
+}
+
+/// This many signers, who make a path.
+#[tactic(auto, unfolding(crate::specs::ChainOf::signers_at))]
+fn read_signers(
+    alloc: Global,
+    count: u8,
+    bytes: &[u8],
+) -> Result<(Vec<Signer>, &[u8]), ReadError<ChainFault>>
+    ensures { Gives (λ x. (x.0.items, x.1.now)) result (signers_at count bytes.now) }
+{
+    let (signers, rest) = read_many(alloc, count, bytes)?;
+    check(are_distinct(&signers), ChainFault::BadSigner)?;
+    check(begin(&signers), ChainFault::NotFromCommander)?;
+    Ok((signers, rest))
+}
+
+/// The chain in front of the bytes, and the bytes after it.
+#[tactic(auto, unfolding(crate::specs::ChainOf::chain_at))]
+fn chain_in_front(
+    alloc: Global,
+    bytes: &[u8],
+) -> Result<(SignedChain, &[u8]), ReadError<ChainFault>>
+    ensures { Gives (λ x. (x.0, x.1.now)) result (chain_at bytes.now) }
+{
+    let (front, rest) = read_front(bytes)?;
+    let enough = SIGNER_BYTES * usize::from(front.count) <= rest.len();
+    check(enough, ChainFault::Truncated)?;
+    let (signers, rest) = read_signers(alloc, front.count, rest)?;
+    let chain = SignedChain {
+        order: OrderNo::at(front.order),
+        signers,
+    };
+    Ok((chain, rest))
+}
+
+#[tactic(auto, unfolding(crate::specs::ChainOf::chain_of))]
+fn whole(alloc: Global, bytes: &[u8]) -> Result<(SignedChain, usize), ReadError<ChainFault>>
+    ensures { Gives (λ x. x) result (chain_of bytes.now) }
+{
+    let (chain, rest) = chain_in_front(alloc, bytes)?;
+    Ok((chain, bytes.len() - rest.len()))
+}
+
+/// Reads the chain in front of the bytes, and says how many bytes it has; more may follow it.
+///
+/// It answers the first rule of `ChainFault` that the bytes break, in the order that stands there; and
+/// Memory where memory was refused before. Signatures are read and not verified.
+pub fn read_chain(
+    alloc: Global,
+    bytes: &[u8],
+) -> Result<(SignedChain, usize), ReadError<ChainFault>>
+    // What is read stands there.
+    ensures found { IfOk result (λ x. IsChain x.0 × ((rest : List ℕ) × (bytes.now ≡ chain_spelling x.0 ++ rest)) × (x.1 ≡ length (chain_spelling x.0))) }
+    // What stands there is read, unless memory runs out.
+    ensures only { (c : Chain) (rest : List ℕ) → IsChain c → bytes.now ≡ chain_spelling c ++ rest → Gives (λ x. x) result (Ok (c, length (chain_spelling c))) }
+    // Which fault it is.
+    ensures exact { Gives (λ x. x) result (chain_of bytes.now) }
+{
+    whole(alloc, bytes)
+}

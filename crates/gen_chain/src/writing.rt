@@ -1,0 +1,59 @@
+//! Writing chains.
+ghost use Rattle.std.specs.Prelude.{◌≡◌, ◌≤◌, ◌<◌, ◌+◌, ◌*◌, ◌++◌, IfOk, OnOk, OnErr, length, vec_len, vec_capacity};
+ghost use Rattle.std.specs.List.{flat_map};
+ghost use Rattle.gen_chain.specs.Chain.{signer_spelling, chain_spelling, chain_length};
+
+use crate::chains::{SignedChain, Signer};
+use crate::sizes::{FRONT_BYTES, SIGNER_BYTES};
+use std::alloc::{AllocError, Global};
+
+/// Appends signers, in reserved room.
+fn put_signers(out: &mut Vec<u8>, signers: &[Signer])
+    requires room { vec_len out.old + SIGNER_BYTES * length signers.now ≤ vec_capacity out.old }
+    ensures items { out.new.items ≡ out.old.items ++ flat_map signer_spelling signers.now }
+    ensures len { vec_len out.new ≡ vec_len out.old + SIGNER_BYTES * length signers.now }
+    ensures capacity { vec_capacity out.old ≤ vec_capacity out.new }
+{
+    'signers: for signer in signers {
+        out.push(signer.general.get()).unwrap();
+        signer.signature.append_to(out).unwrap();
+    }
+}
+
+impl SignedChain {
+    /// How many bytes the chain has.
+    fn byte_count(&self) -> usize
+        ensures { result ≡ chain_length self.now }
+    {
+        FRONT_BYTES + SIGNER_BYTES * self.signers.len()
+    }
+
+    /// Appends the one spelling of the chain: the order and the number of signers, a byte each, and for
+    /// each signer a byte with his number, and his signature.
+    ///
+    /// Where memory is refused the vector is unchanged; where the vector has room for the chain, none is
+    /// asked for.
+    pub fn append_to(&self, out: &mut Vec<u8>) -> Result<(), AllocError>
+        ensures ok { OnOk result (out.new.items ≡ out.old.items ++ chain_spelling self.now) }
+        ensures err { OnErr result (out.new.items ≡ out.old.items) }
+        ensures full { OnErr result (vec_capacity out.old < vec_len out.old + chain_length self.now) }
+        ensures len { OnOk result (vec_len out.new ≡ vec_len out.old + chain_length self.now) }
+        ensures capacity { vec_capacity out.old ≤ vec_capacity out.new }
+    {
+        out.reserve(self.byte_count())?;
+        let front = [self.order.get(), self.signers.len() as u8];
+        out.extend_from_slice(&front).unwrap();
+        put_signers(out, &self.signers);
+        Ok(())
+    }
+}
+
+/// Returns the one spelling of a chain: the order and the number of signers, a byte each, and for each
+/// signer a byte with his number, and his signature. It fails only where memory was refused.
+pub fn write_chain(alloc: Global, chain: &SignedChain) -> Result<Vec<u8>, AllocError>
+    ensures { IfOk result (λ bytes. bytes.items ≡ chain_spelling chain.now) }
+{
+    let mut out = Vec::with_capacity(alloc, chain.byte_count())?;
+    chain.append_to(&mut out)?;
+    Ok(out)
+}
