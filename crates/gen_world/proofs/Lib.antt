@@ -1,3 +1,4 @@
+pub mod FirstCarried
 pub mod Agree
 pub mod Arriving
 pub mod Growing

@@ -1,3 +1,5 @@
+pub mod CountedSoFar
+pub mod Counting
 pub mod Rounds
 pub mod Scenario
 pub mod Theorem

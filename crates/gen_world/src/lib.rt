@@ -1,12 +1,16 @@
 //! The run of a scenario, and the laws of runs.
 #![tactic(auto)]
 
+mod counting;
 pub mod laws;
 mod running;
 mod scenario;
 
+pub use counting::{Delivery, count_frame};
 pub use running::run_plain;
 pub use scenario::{Decision, PlainRun, PlainScenario};
 
+#[cfg(test)]
+mod counting_tests;
 #[cfg(test)]
 mod tests;

@@ -1,0 +1,21 @@
+use Rattle.std.proofs.Common.{◌≡◌, ◌≤◌, ◌+◌, ◌++◌, ◌∷◌, [], List, ℕ, map, take, subst, sym, ap, ◌∙◌, arith, length}
+use Rattle.std.proofs.lemmas.List.{take_more, take_all, map_push, length-map}
+use Rattle.gen_world.specs.CountedSoFar.{CountedSoFar}
+use Rattle.gen_world.proofs.FirstCarried.{all_counted}
+use Rattle.gen_world.proofs.counting.count_frame.Goals as goal
+
+pub parcels-preserved : goal.parcels-preserved
+parcels-preserved c =
+    let i = c.parcels.parcel-index in
+    let frame = c.args.frame.now in
+    let grown : take (i + 1) frame ≡ take i frame ++ c.parcel-item.result ∷ [] = take_more frame i c.parcel-item.result c.parcels-test.true ∙ ap (λ x. take i frame ++ x ∷ []) (sym c.parcel-item.is) in
+    let one = rw c.as_slice.ensures.value at c.in_ok-count_parcel.ensures in
+    rw (grown, map_push) (one _ c.parcels.invariant)
+
+pub returns : goal.returns
+returns c =
+    let whole = take_all c.parcels.parcel-index c.args.frame.now c.parcels-test.false in
+    let frame = c.args.frame.now in
+    let long = length-map frame (λ p. p.items) in
+    let few : length (map (λ p. p.items) frame) ≤ c.args.header.now.network.orders = omega (arith, long, c.if-frame-from.false, c.orders.ensures.value, ap (λ n. n.orders) c.net.ensures.value) in
+    all_counted c.one_chain_spelling.ensures c.args.header.now c.args.delivery.now _ c.parcels.counted.items few (rw whole at c.parcels.invariant)

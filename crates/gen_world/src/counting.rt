@@ -1,0 +1,124 @@
+//! Which chains of a frame count at its receiver.
+ghost use Rattle.std.specs.Prelude.{IsTrue, ℕ, List, ◌≡◌, ◌↔◌, ◌∷◌, [], ◌++◌, map, Contains, Ok, Some, None, IfOk, OnOk};
+ghost use Rattle.gen_net.specs.Chain.{EndsWith};
+ghost use Rattle.gen_chain.specs.Chain.{Chain};
+ghost use Rattle.gen_world.specs.Counting.{MayCount, Carries, AreCounted};
+ghost use Rattle.gen_world.specs.CountedSoFar.{CountedSoFar};
+
+use gen_chain::laws::one_chain_spelling;
+use gen_chain::{SignedChain, chain_verifies, read_chain};
+use gen_net::Header;
+use gen_types::{GeneralNo, OrderNo, Path, ReadError};
+use std::alloc::{AllocError, Global};
+
+/// Which frame it is: who sends it to whom, in which round, 1 to R.
+#[derive(Clone, Copy, Debug, PartialEq, Eq)]
+pub struct Delivery {
+    /// The general who sends it.
+    pub from: GeneralNo,
+    /// The general who gets it.
+    pub to: GeneralNo,
+    /// The round.
+    pub round: u8,
+}
+
+/// Whether the general is the last of the path.
+fn ends_with(path: &Path, general: GeneralNo) -> bool
+    ensures { IsTrue result ↔ EndsWith path.now general }
+{
+    match path.last() {
+        Some(last) => last == general,
+        None => false,
+    }
+}
+
+/// Whether a chain of this frame may count.
+fn may_count(header: &Header, delivery: &Delivery, chain: &SignedChain) -> bool
+    ensures { IsTrue result ↔ MayCount header.now delivery.now chain.now }
+{
+    let path = chain.path();
+    if path.len() != usize::from(delivery.round) {
+        return false;
+    }
+    if !ends_with(&path, delivery.from) {
+        return false;
+    }
+    if path.contains(delivery.to) {
+        return false;
+    }
+    chain_verifies(header, chain)
+}
+
+/// The chain that a parcel is, where it is exactly one and may count.
+fn carried(
+    alloc: Global,
+    header: &Header,
+    delivery: &Delivery,
+    parcel: &[u8],
+) -> Result<Option<SignedChain>, AllocError>
+    ensures some { (c : Chain) → result ≡ Ok (Some c) → Carries header.now delivery.now parcel.now c }
+    ensures none { result ≡ Ok None → (c : Chain) → Carries header.now delivery.now parcel.now c → ⊥ }
+{
+    match read_chain(alloc, parcel) {
+        Err(ReadError::Memory) => Err(AllocError),
+        Err(ReadError::Fault(_)) => Ok(None),
+        Ok((chain, taken)) => {
+            if taken != parcel.len() {
+                return Ok(None);
+            }
+            if !may_count(header, delivery, &chain) {
+                return Ok(None);
+            }
+            Ok(Some(chain))
+        }
+    }
+}
+
+/// Whether one of the chains has the order.
+fn has_order(chains: &[SignedChain], order: OrderNo) -> bool
+    ensures { IsTrue result ↔ ((c : Chain) × Contains chains.now c × (c.order ≡ order)) }
+{
+    chains.iter().any(|chain| chain.order() == order)
+}
+
+/// Appends the chain of one parcel more, where it counts after those of the parcels before it.
+fn count_parcel(
+    alloc: Global,
+    header: &Header,
+    delivery: &Delivery,
+    parcel: &[u8],
+    counted: &mut Vec<SignedChain>,
+) -> Result<(), AllocError>
+    ensures { OnOk result ((parcels : List (List ℕ)) → CountedSoFar header.now delivery.now parcels counted.old.items → CountedSoFar header.now delivery.now (parcels ++ parcel.now ∷ []) counted.new.items) }
+{
+    one_chain_spelling();
+    if let Some(chain) = carried(alloc, header, delivery, parcel)? {
+        if !has_order(counted.as_slice(), chain.order()) {
+            counted.push(chain)?;
+        }
+    }
+    Ok(())
+}
+
+/// Returns the chains of a frame that count at its receiver: none where the frame has more parcels than
+/// there are orders; else each parcel that is exactly one chain, verifies, has as many signers as the
+/// round's number, of whom the sender is the last and the receiver none, and is the first such of its
+/// order. All other parcels are ignored. It fails only where memory was refused.
+pub fn count_frame(
+    alloc: Global,
+    header: &Header,
+    delivery: &Delivery,
+    frame: &[Vec<u8>],
+) -> Result<Vec<SignedChain>, AllocError>
+    ensures { IfOk result (λ chains. AreCounted header.now delivery.now (map (λ p. p.items) frame.now) chains.items) }
+{
+    one_chain_spelling();
+    let mut counted = Vec::new(alloc);
+    if frame.len() > usize::from(header.net().orders()) {
+        return Ok(counted);
+    }
+    'parcels: for parcel in frame {
+        count_parcel(alloc, header, delivery, parcel.as_slice(), &mut counted)?;
+    }
+    Ok(counted)
+}
