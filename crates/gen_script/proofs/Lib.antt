@@ -1,0 +1,6 @@
+pub mod Hexes
+pub mod Joining
+pub mod LineAgain
+pub mod LineFound
+pub mod PathSteps
+pub mod PathTexts

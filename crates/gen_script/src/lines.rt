@@ -1,0 +1,114 @@
+//! What a line of a script says.
+ghost use Rattle.std.specs.Prelude.{◌≡◌, option_map};
+ghost use Rattle.gen_script.specs.PathOf.{path_of};
+
+use gen_types::{GeneralNo, OrderNo, Path};
+use std::marker::Model;
+
+/// The bytes of a parcel, as a general puts them on an edge. A contract sees the list of them.
+#[derive(Debug, Drop)]
+pub struct Parcel {
+    bytes: Vec<u8>,
+}
+
+impl Model for Parcel {
+    ghost use Rattle.std.specs.Prelude.{ℕ, List};
+
+    ghost Value = { List ℕ };
+
+    ghost view = { λ parcel. parcel.bytes.items };
+}
+
+impl Parcel {
+    /// Makes the parcel of these bytes.
+    pub fn new(bytes: Vec<u8>) -> Parcel
+        ensures { result ≡ bytes.items }
+    {
+        Parcel { bytes }
+    }
+
+    /// Returns the parcel's bytes.
+    pub fn bytes(&self) -> &[u8]
+        ensures { result.now ≡ self.now }
+    {
+        &self.bytes
+    }
+}
+
+/// One thing that a traitor does. Rounds count from 1; receivers and senders are his neighbours.
+#[derive(Debug, Drop)]
+pub enum ScriptLine {
+    /// In the round he sends `to` the chain of the order with this path, which all of the path have
+    /// signed, himself last. The path begins with 0 and has as many generals as there are rounds up to
+    /// this one.
+    Make {
+        /// The round in which he sends it.
+        round: u8,
+        /// The neighbour who gets it.
+        to: GeneralNo,
+        /// The chain's order.
+        order: OrderNo,
+        /// The chain's path.
+        path: Path,
+    },
+    /// In the round he sends `to` the chain of the order that he got from `from` in as many rounds before
+    /// as the path is long, lengthened by this path, which ends with himself. He sends nothing where no
+    /// such chain counted, or where its path would repeat a general.
+    Pass {
+        /// The round in which he sends it.
+        round: u8,
+        /// The neighbour who gets it.
+        to: GeneralNo,
+        /// The neighbour from whom the chain came.
+        from: GeneralNo,
+        /// The chain's order.
+        order: OrderNo,
+        /// The generals who sign the chain then: some but 0, fewer than the round's number.
+        path: Path,
+    },
+    /// The same as `Pass` with himself alone as the path, but that the most significant bit of the last
+    /// signature's first byte is flipped. The round is at least 2.
+    Bend {
+        /// The round in which he sends it.
+        round: u8,
+        /// The neighbour who gets it.
+        to: GeneralNo,
+        /// The neighbour from whom the chain came.
+        from: GeneralNo,
+        /// The chain's order.
+        order: OrderNo,
+    },
+    /// In the round he sends `to` these bytes as a parcel.
+    Raw {
+        /// The round in which he sends it.
+        round: u8,
+        /// The neighbour who gets it.
+        to: GeneralNo,
+        /// The parcel, at least one byte.
+        parcel: Parcel,
+    },
+    /// He leaves out of his log that he received the order from `from` in the round.
+    Hide {
+        /// The round of the entry that is left out.
+        round: u8,
+        /// The neighbour from whom the order came.
+        from: GeneralNo,
+        /// The order.
+        order: OrderNo,
+    },
+    /// He keeps a second sealed log, without the last order that the first says he received.
+    TwoHeads,
+}
+
+impl ScriptLine {
+    /// Returns the path that the line names, which a `make` line and a `pass` line do.
+    pub fn path(&self) -> Option<&Path>
+        ensures { option_map (λ p. p.now) result ≡ path_of self.now }
+    {
+        match self {
+            ScriptLine::Make { path, .. } => Some(path),
+            ScriptLine::Pass { path, .. } => Some(path),
+            _ => None,
+        }
+    }
+}
