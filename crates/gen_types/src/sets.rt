@@ -131,6 +131,18 @@ impl IntoIterator for GeneralSet {
     }
 }
 
+impl IntoIterator for &GeneralSet {
+    type Item = GeneralNo;
+
+    type IntoIter = GeneralMembers;
+
+    ghost into_iter_gives = { λ set members. members ≡ set.now };
+
+    fn into_iter(self) -> GeneralMembers {
+        self.iter()
+    }
+}
+
 /// The members of a set of generals that are still to come, ascending.
 #[derive(Debug, Drop)]
 pub struct GeneralMembers {
@@ -277,6 +289,18 @@ impl IntoIterator for OrderSet {
     type IntoIter = OrderMembers;
 
     ghost into_iter_gives = { λ set members. members ≡ set };
+
+    fn into_iter(self) -> OrderMembers {
+        self.iter()
+    }
+}
+
+impl IntoIterator for &OrderSet {
+    type Item = OrderNo;
+
+    type IntoIter = OrderMembers;
+
+    ghost into_iter_gives = { λ set members. members ≡ set.now };
 
     fn into_iter(self) -> OrderMembers {
         self.iter()
