@@ -9,7 +9,6 @@
 mod choices;
 mod fields;
 pub mod limits;
-mod number_set;
 mod numbers;
 mod paths;
 mod reading;
@@ -18,10 +17,10 @@ mod texts;
 
 pub use choices::{Choice, ChoiceKind, MedianOrder, OnlyOrRetreat};
 pub use fields::{bytes_at, u8_at, u16_at, u32_at, u64_at};
-pub use numbers::{GeneralNo, OrderNo};
+pub use numbers::{GeneralNo, Generals, Number, OrderNo, Orders};
 pub use paths::{Path, PathFault};
 pub use reading::{ReadError, check};
-pub use sets::{GeneralMembers, GeneralSet, OrderMembers, OrderSet};
+pub use sets::{GeneralMembers, GeneralSet, Members, NumberSet, OrderMembers, OrderSet};
 pub use texts::{decimal_number, split_fields};
 
 #[cfg(test)]
