@@ -8,6 +8,7 @@
 
 mod choices;
 mod fields;
+mod heights;
 pub mod limits;
 mod numbers;
 mod paths;
@@ -17,7 +18,8 @@ mod texts;
 
 pub use choices::{Choice, ChoiceKind, MedianOrder, OnlyOrRetreat};
 pub use fields::{bytes_at, u8_at, u16_at, u32_at, u64_at};
-pub use numbers::{GeneralNo, Generals, Number, OrderNo, Orders};
+pub use heights::TreeHeight;
+pub use numbers::{GeneralNo, Generals, Number, NumberFault, OrderNo, Orders};
 pub use paths::{Path, PathFault};
 pub use reading::{ReadError, check};
 pub use sets::{GeneralMembers, GeneralSet, Members, NumberSet, OrderMembers, OrderSet};

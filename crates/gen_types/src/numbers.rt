@@ -1,8 +1,20 @@
 //! The numbers of generals and of orders.
-ghost use Rattle.std.specs.Prelude.{ℕ, ◌≡◌, ◌<◌};
+ghost use Rattle.std.specs.Prelude.{ℕ, ◌≡◌, ◌<◌, Some, decimal};
 ghost use Rattle.std.specs.Option.{SomeIff};
+ghost use Rattle.std.specs.Result.{OkIff};
+ghost use Rattle.gen_types.specs.declared.numbers.NumberFault.TheVariants.{AboveFifteen};
 
+use std::fmt;
 use std::marker::{Model, PhantomData};
+use thiserror::Error;
+
+/// Why a number is no general's and no order's.
+#[derive(Clone, Copy, PartialEq, Eq, Debug, Error)]
+pub enum NumberFault {
+    /// The number is above 15.
+    #[error("the number is above 15")]
+    AboveFifteen,
+}
 
 /// The kind of the numbers of generals.
 pub struct Generals;
@@ -11,7 +23,7 @@ pub struct Generals;
 pub struct Orders;
 
 /// A number, 0 to 15, of the kind K. A contract sees the number alone.
-#[derive_where(Clone, Copy, PartialEq, Eq, PartialOrd, Ord, Debug)]
+#[derive_where(Clone, Copy, PartialEq, Eq, PartialOrd, Ord, Hash, Debug)]
 pub struct Number<K> {
     number: u8,
     #[derive_where(skip)]
@@ -32,7 +44,7 @@ impl<K> Model for Number<K> {
 
     ghost invariant = { λ n. n.number < 16 };
 
-    ghost inverse = { λ n. record { number = n; kind = record { } } };
+    ghost inverse = { λ n. record { number = n; kind = record {} } };
 }
 
 impl<K> Number<K> {
@@ -85,5 +97,28 @@ impl OrderNo {
         ensures { result ≡ 0 }
     {
         OrderNo::at(0)
+    }
+}
+
+impl<K> TryFrom<u8> for Number<K> {
+    type Error = NumberFault;
+
+    ghost try_from_gives = { λ number result. OkIff result (number < 16) number };
+
+    /// # Errors
+    ///
+    /// `AboveFifteen` exactly where the number is above 15.
+    fn try_from(number: u8) -> Result<Number<K>, NumberFault> {
+        Number::new(number).ok_or(NumberFault::AboveFifteen)
+    }
+}
+
+impl<K> fmt::Display for Number<K> {
+    ghost output = { λ number. Some (decimal number) };
+
+    /// Writes the number in decimal digits.
+    fn fmt<W: fmt::Write>(&self, f: &mut fmt::Formatter<W>) -> fmt::Result {
+        let number = self.number;
+        write!(f, "{number}")
     }
 }

@@ -2,6 +2,7 @@
 ghost use Rattle.std.specs.Prelude.{IsTrue, ℕ, ◌≡◌, ◌<◌, ◌↔◌, ◌⊎◌, [], ◌∷◌, List, Contains, AllPairs, length, slice_get, IsSome};
 ghost use Rattle.std.specs.Iterator.{YieldsFirst, item_count};
 ghost use Rattle.gen_types.specs.Ascending.{IsListOf};
+ghost use Rattle.gen_types.specs.Bits.{members_of, bits_of};
 ghost use Rattle.std.specs.Cmp.{partial_equiv_from_equiv};
 ghost use Rattle.std.specs.Cmp.Lexicographic.{pointwise};
 ghost use Rattle.std.specs.Bool.{nat_eq};
@@ -35,7 +36,7 @@ impl<K> Model for NumberSet<K> {
 
     ghost invariant = { λ s. s.bits < 2 ^ 16 };
 
-    ghost inverse = { λ xs. record { bits = bits_of xs; kind = record { } } };
+    ghost inverse = { λ xs. record { bits = bits_of xs; kind = record {} } };
 
     ghost inverse_ok = { λ s below. Prim.rw (bits_of-members_of s.bits below) };
 }
@@ -58,6 +59,23 @@ impl<K> NumberSet<K> {
         let mut set = NumberSet::new();
         set.insert(member);
         set
+    }
+
+    /// Returns the set of the numbers whose bits are set: bit k is that of number k.
+    pub fn from_bits(bits: u16) -> NumberSet<K>
+        ensures { result ≡ members_of bits }
+    {
+        NumberSet {
+            bits,
+            kind: PhantomData,
+        }
+    }
+
+    /// Returns the number of which exactly the bits of the members are set: bit k is that of number k.
+    pub fn bits(&self) -> u16
+        ensures { result ≡ bits_of self.now }
+    {
+        self.bits
     }
 
     /// Returns whether the number is a member.
@@ -133,6 +151,15 @@ impl<K> NumberSet<K> {
             kind: PhantomData,
         };
         Members { set, next: 0 }
+    }
+}
+
+impl<K> Default for NumberSet<K> {
+    ghost is_default = { λ set. set ≡ [] };
+
+    /// Returns the empty set.
+    fn default() -> NumberSet<K> {
+        NumberSet::new()
     }
 }
 
