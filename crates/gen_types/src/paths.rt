@@ -26,7 +26,7 @@ pub enum PathFault {
 ///
 /// The path of the message `v:0:j1:..:jk` of section 4 of the paper of 1982 is `0, j1, .., jk`: each of
 /// its generals signed the order together with the path up to himself.
-#[derive(Clone, Copy, Debug)]
+#[derive(Clone, Copy, Hash, Debug)]
 pub struct Path {
     generals: [GeneralNo; 16],
     len: usize,

@@ -189,6 +189,18 @@ impl<K> IntoIterator for NumberSet<K> {
     }
 }
 
+impl<K> IntoIterator for &NumberSet<K> {
+    type Item = Number<K>;
+
+    type IntoIter = Members<K>;
+
+    ghost into_iter_gives = { λ set members. members ≡ set.now };
+
+    fn into_iter(self) -> Members<K> {
+        self.iter()
+    }
+}
+
 /// The members of a set that are still to come, ascending.
 #[derive(Drop)]
 #[derive_where(Debug)]

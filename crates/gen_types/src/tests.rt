@@ -81,8 +81,14 @@ fn numbers(rt: HostRuntime) {
             want,
             "general {number}"
         );
+    }
+    for (number, want) in [
+        (0, Ok(0)),
+        (15, Ok(15)),
+        (16, Err(NumberFault::AboveFifteen)),
+    ] {
         assert_eq!(rt;
-            OrderNo::try_from(number).ok().map(OrderNo::get),
+            OrderNo::try_from(number).map(OrderNo::get),
             want,
             "order {number}"
         );
@@ -94,8 +100,8 @@ fn numbers(rt: HostRuntime) {
 
 #[test]
 fn sets_ascend(rt: HostRuntime) {
-    let mut set = GeneralSet::new();
-    assert!(rt; set.is_empty() && set == GeneralSet::default());
+    let mut set = GeneralSet::default();
+    assert!(rt; set.is_empty() && set == GeneralSet::new());
     for (number, new) in [(9, true), (0, true), (15, true), (9, false), (0, false)] {
         assert_eq!(rt; set.insert(GeneralNo::at(number)), new, "{number}");
     }
@@ -104,6 +110,7 @@ fn sets_ascend(rt: HostRuntime) {
         assert_eq!(rt; set.contains(GeneralNo::at(number)), member, "{number}");
     }
     let ascending = [0, 9, 15];
+    assert!(rt; (&set).into_iter().map(GeneralNo::get).eq(ascending));
     assert!(rt; set.iter().map(GeneralNo::get).eq(ascending));
     assert!(rt; set.into_iter().map(GeneralNo::get).eq(ascending));
     for (index, want) in [(0, Some(0)), (2, Some(15)), (3, None), (16, None)] {
@@ -117,8 +124,8 @@ fn sets_ascend(rt: HostRuntime) {
 
 #[test]
 fn paths_refuse(rt: HostRuntime) -> Result<(), Fail> {
-    let mut path = Path::new();
-    assert!(rt; path.is_empty() && path.last().is_none());
+    let mut path = Path::default();
+    assert!(rt; path.is_empty() && path.last().is_none() && !path.ends_with(GeneralNo::at(0)));
     for number in 0..16 {
         let before = path;
         assert_eq!(rt; path.push(GeneralNo::at(number)), Ok(()));
@@ -141,7 +148,13 @@ fn paths_refuse(rt: HostRuntime) -> Result<(), Fail> {
     assert!(rt; short.len() == 3 && !path.starts_with(&short));
     assert!(rt; short.generals().iter().map(|g| g.get()).eq([0, 2, 1]));
     assert!(rt; short.contains(GeneralNo::at(1)) && !short.contains(GeneralNo::at(3)));
+    assert!(rt; short.ends_with(GeneralNo::at(1)) && !short.ends_with(GeneralNo::at(0)));
+    let mut pair = Path::commander();
+    assert!(rt; pair.generals() == [GeneralNo::at(0)].as_slice() && short.starts_with(&pair));
+    pair.push_new(GeneralNo::at(2));
+    assert!(rt; pair.generals() == [GeneralNo::at(0), GeneralNo::at(2)].as_slice());
     let alloc = rt.alloc();
+    assert_eq!(rt; OrderNo::at(15).to_string(alloc)?.as_str(), "15");
     assert_eq!(rt;
         PathFault::Full.to_string(alloc)?.as_str(),
         "the path is full"
@@ -154,7 +167,7 @@ fn paths_refuse(rt: HostRuntime) -> Result<(), Fail> {
 }
 
 #[test]
-fn readers_share(rt: HostRuntime) {
+fn readers_share(rt: HostRuntime) -> Result<(), Fail> {
     assert_eq!(rt; check(true, 'H'), Ok(()));
     assert_eq!(rt; check(false, 'H'), Err(ReadError::Fault('H')));
     assert_eq!(rt; ReadError::<char>::from(AllocError), ReadError::Memory);
@@ -162,6 +175,22 @@ fn readers_share(rt: HostRuntime) {
         ReadError::<char>::from(AllocFailed { value: 1 }),
         ReadError::Memory
     );
+    let alloc = rt.alloc();
+    let shown = [ReadError::Memory, ReadError::Fault('H')];
+    let texts = [shown[0].to_string(alloc)?, shown[1].to_string(alloc)?];
+    assert!(rt; texts[0].as_str() == "memory was refused" && texts[1].as_str() == "H");
+    Ok(())
+}
+
+#[test]
+fn heights(rt: HostRuntime) {
+    for (height, levels, leaves) in [(TreeHeight::Four, 4, 16), (TreeHeight::Six, 6, 64)] {
+        assert_eq!(rt;
+            (height.levels(), height.leaves()),
+            (levels, leaves),
+            "{height:?}"
+        );
+    }
 }
 
 #[test]
