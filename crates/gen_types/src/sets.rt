@@ -85,6 +85,7 @@ impl<K> NumberSet<K> {
         self.has(number.get())
     }
 
+    /// Returns whether the number, which must be below 16, is a member.
     fn has(&self, number: u8) -> bool
         requires { number < 16 }
         ensures { IsTrue result ↔ Contains self.now number }
