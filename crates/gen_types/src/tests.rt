@@ -123,7 +123,7 @@ fn sets_ascend(rt: HostRuntime) {
 }
 
 #[test]
-fn paths_refuse(rt: HostRuntime) -> Result<(), Fail> {
+fn paths_refuse(rt: HostRuntime) {
     let mut path = Path::default();
     assert!(rt; path.is_empty() && path.last().is_none() && !path.ends_with(GeneralNo::at(0)));
     for number in 0..16 {
@@ -141,11 +141,15 @@ fn paths_refuse(rt: HostRuntime) -> Result<(), Fail> {
         assert!(rt; path == longer);
     }
     assert!(rt; path.len() == 16 && path.generals().len() == 16 && !path.is_empty());
+}
+
+#[test]
+fn paths_begin_and_end(rt: HostRuntime) -> Result<(), Fail> {
     let mut short = Path::new();
     for number in [0, 2, 1] {
         short.push(GeneralNo::at(number))?;
     }
-    assert!(rt; short.len() == 3 && !path.starts_with(&short));
+    assert!(rt; short.len() == 3 && !Path::new().starts_with(&short));
     assert!(rt; short.generals().iter().map(|g| g.get()).eq([0, 2, 1]));
     assert!(rt; short.contains(GeneralNo::at(1)) && !short.contains(GeneralNo::at(3)));
     assert!(rt; short.ends_with(GeneralNo::at(1)) && !short.ends_with(GeneralNo::at(0)));
@@ -153,6 +157,11 @@ fn paths_refuse(rt: HostRuntime) -> Result<(), Fail> {
     assert!(rt; pair.generals() == [GeneralNo::at(0)].as_slice() && short.starts_with(&pair));
     pair.push_new(GeneralNo::at(2));
     assert!(rt; pair.generals() == [GeneralNo::at(0), GeneralNo::at(2)].as_slice());
+    Ok(())
+}
+
+#[test]
+fn values_as_texts(rt: HostRuntime) -> Result<(), Fail> {
     let alloc = rt.alloc();
     assert_eq!(rt; OrderNo::at(15).to_string(alloc)?.as_str(), "15");
     assert_eq!(rt;
