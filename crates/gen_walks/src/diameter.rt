@@ -1,5 +1,6 @@
 //! Walks that bound the diameter of a set of generals.
-ghost use Rattle.std.specs.Prelude.{ℕ, List, IsTrue, ◌≡◌, ◌<◌, ◌↔◌, OnOk, IfOk, IfErr, IfSome, IfNone};
+ghost use Rattle.std.specs.Prelude.{ℕ, List, IsTrue, ◌≡◌, ◌<◌, ◌↔◌};
+ghost use Rattle.std.specs.Prelude.{OnOk, IfOk, IfErr, IfSome, IfNone};
 ghost use Rattle.std.specs.Bool.{OnTrue, OnFalse};
 ghost use Rattle.gen_net.specs.Walks.{HasDiameter};
 ghost use Rattle.gen_walks.specs.Walks.{AreJoined, Leads, IsWalkInside, IsShortWalk};
@@ -38,8 +39,9 @@ impl Model for DiameterProof {
 }
 
 impl DiameterProof {
-    /// Returns nothing, and says what the proof shows: each pair of the set has a walk of at most d edges inside the set; so where
-    /// the set is the rest of some faulty generals, the graph of the rest has a diameter of at most d.
+    /// States what the proof shows: each pair of the set has a walk of at most d edges inside the set.
+    /// So where the set is the rest of some faulty generals, the graph of the rest has a diameter of at
+    /// most d. It does nothing.
     pub fn bounds(&self)
         ensures walks { IsWithinDiameter self.now.network self.now.rest }
         ensures diameter { (faulty : List ℕ) →

@@ -68,7 +68,8 @@ fn is_even_from(net: &Net, rest: &GeneralSet, row: &LevelRow, a: GeneralNo) -> b
 
 /// Returns whether no edge inside the set is steep.
 fn is_even(net: &Net, rest: &GeneralSet, row: &LevelRow) -> bool
-    ensures yes { OnTrue result ((a : ℕ) → a < net.now.generals → IsEvenFrom net.now rest.now row.now a) }
+    ensures yes { OnTrue result (
+        (a : ℕ) → a < net.now.generals → IsEvenFrom net.now rest.now row.now a) }
     ensures no { OnFalse result ((a b : ℕ) × IsSteep net.now rest.now row.now a b) }
 {
     for number in 0..net.generals() {

@@ -17,7 +17,8 @@ use std::alloc::{AllocError, Global};
 /// Returns whether an edge inside the set joins v to somebody of level k.
 fn is_near_level(net: &Net, rest: &GeneralSet, row: &LevelRow, k: u8, v: GeneralNo) -> bool
     ensures yes { OnTrue result ((u : ℕ) × AreJoined net.now rest.now u v × (level row.now u ≡ k)) }
-    ensures no { OnFalse result ((u : ℕ) → AreJoined net.now rest.now u v → level row.now u ≡ k → ⊥) }
+    ensures no { OnFalse result (
+        (u : ℕ) → AreJoined net.now rest.now u v → level row.now u ≡ k → ⊥) }
 {
     for number in 0..net.generals() {
         let u = general(net, number);
@@ -114,7 +115,8 @@ pub(crate) fn row_from(
 
 /// Returns the least general joined to `at` inside the set who is one level nearer.
 fn nearest(net: &Net, rest: &GeneralSet, row: &LevelRow, at: GeneralNo) -> GeneralNo
-    requires { (u : ℕ) × AreJoined net.now rest.now at u × (level row.now at ≡ level row.now u + 1) }
+    requires { (u : ℕ) ×
+        AreJoined net.now rest.now at u × (level row.now at ≡ level row.now u + 1) }
     ensures { IsNearest (AreJoined net.now rest.now) (level row.now) at result }
 {
     for number in 0..net.generals() {
