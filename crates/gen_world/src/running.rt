@@ -128,15 +128,25 @@ fn decisions(
     lieutenants: &[Lieutenant],
 ) -> Result<Vec<Decision>, AllocError>
     requires { All (λ s. (s.gone ≡ s.rounds) × (s.me ≢ 0)) lieutenants.now }
-    ensures generals { IfOk result (λ out. map (λ decision. decision.0) out.items ≡ 0 ∷ numbers_of lieutenants.now) }
+    ensures generals { IfOk result (λ out. map (λ decision. decision.general) out.items ≡ 0 ∷ numbers_of lieutenants.now) }
     ensures each { IfOk result (λ out. (net : Network) (run : Run) → All (HasSeen net run) lieutenants.now → All (IsDecision net commander.now run) out.items) }
 {
     let mut out = Vec::new(alloc);
-    let (set, order) = commander.decide();
-    out.push((GeneralNo::commander(), set, order))?;
+    let (orders, order) = commander.decide();
+    let general = GeneralNo::commander();
+    out.push(Decision {
+        general,
+        orders,
+        order,
+    })?;
     for lieutenant in lieutenants {
-        let (set, order) = lieutenant.decide();
-        out.push((lieutenant.me(), set, order))?;
+        let general = lieutenant.me();
+        let (orders, order) = lieutenant.decide();
+        out.push(Decision {
+            general,
+            orders,
+            order,
+        })?;
     }
     Ok(out)
 }
