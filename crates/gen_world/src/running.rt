@@ -10,7 +10,7 @@ ghost use Rattle.gen_world.specs.World.{IsDecision, IsOutcome};
 ghost use Rattle.gen_world.specs.Rounds.{IsAmong, RelayedBy, IsReady, AreRelays, numbers_of};
 
 use crate::scenario::{Decision, PlainRun, PlainScenario};
-use gen_core::{Commander, Lieutenant, Seen, Send, sends};
+use gen_core::{Commander, Lieutenant, Outgoing, Seen, sends};
 use gen_net::{Message, Net};
 use gen_types::GeneralNo;
 use std::alloc::{AllocError, Global};
@@ -38,15 +38,19 @@ fn arrivals(
 }
 
 /// Appends what a general sends, as messages.
-fn push_sends(messages: &mut Vec<Message>, from: GeneralNo, out: &[Send]) -> Result<(), AllocError>
+fn push_sends(
+    messages: &mut Vec<Message>,
+    from: GeneralNo,
+    out: &[Outgoing],
+) -> Result<(), AllocError>
     ensures { OnOk result (Appends (IsAmong from out.now) messages.old.items messages.new.items) }
 {
     for part in out {
         messages.push(Message {
             from,
-            to: part.0,
-            order: part.1,
-            path: part.2,
+            to: part.to,
+            order: part.order,
+            path: part.path,
         })?;
     }
     Ok(())
