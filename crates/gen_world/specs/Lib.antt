@@ -1,7 +1,10 @@
+pub mod AnyChoice
 pub mod CountedSoFar
 pub mod Counting
+pub mod Derivables
 pub mod Rounds
 pub mod Scenario
 pub mod Theorem
+pub mod TwoOrders
 pub mod World
 pub mod WorldFollows
