@@ -59,7 +59,7 @@ impl Commander {
     }
 }
 
-/// The path of the commander alone.
+/// Returns the path of the commander alone.
 fn commanders_path() -> Path
     ensures { result ≡ 0 ∷ [] }
 {

@@ -14,7 +14,8 @@ pub struct BadPair {
 }
 
 /// Why no walks were made: of the least pair that has no walk of at most d edges inside the set, with
-/// the distances from its lesser general, 255 where no walk leads. `check_levels` holds for these.
+/// the distances from its lesser general, 255 where no walk leads and for the numbers of no general.
+/// `check_levels` holds for these.
 #[derive(Debug, Drop, Error)]
 pub enum WalkFault {
     /// Memory was refused.

@@ -1,6 +1,7 @@
--- Of the chains that arrive, those from the least senders.
+-- The search for the chains from the least senders.
 use Rattle.std.specs.Prelude.{ℕ, ◌≡◌, ◌<◌, ◌≤◌, List, length, Contains, Option, Some, None, slice_index_or, nat_le, if◌then◌else◌}
 use Rattle.gen_core.specs.declared.arrivals.Seen.{Seen}
+use Rattle.gen_core.specs.Paths.{paths_of}
 
 -- of two chains the one from the lesser sender, and the earlier one where the sender is the same
 abbrev pub better : Option Seen → Seen → Seen
@@ -20,3 +21,7 @@ IsBest known seen v (Some s) = Contains seen s × (s.order ≡ v) × (Contains k
 pub record AreBest (known : List ℕ) (seen : List Seen) (picked : List (Option Seen)) : Type 0 where
   pub long : length picked ≡ 16
   pub each : (v : ℕ) → v < 16 → IsBest known seen v (slice_index_or picked v None)
+
+-- these are the paths of such chains
+abbrev pub AreBestPaths : List ℕ → List Seen → List (Option (List ℕ)) → Type 0
+AreBestPaths known seen adds = (picked : List (Option Seen)) × AreBest known seen picked × (adds ≡ paths_of picked)
