@@ -1,10 +1,12 @@
 pub mod Agree
 pub mod Arriving
 pub mod Deriving
-pub mod FirstCarried
+pub mod FirstChains
 pub mod Growing
 pub mod Obeying
+pub mod Parsing
 pub mod Rounding
 pub mod Same
 pub mod SplitCommander
+pub mod Verifying
 pub mod WorldFollowers

@@ -1,6 +1,6 @@
 -- Which chains of a frame count at its receiver. A frame is a list of parcels, and a parcel is a list of bytes.
 use Rattle.std.specs.Prelude.{ℕ, ◌≡◌, ◌≢◌, ◌≤◌, ◌↔◌, List, ◌∷◌, ◌++◌, length, Contains, AllPairs}
-use Rattle.gen_net.specs.Chain.{EndsWith}
+use Rattle.gen_types.specs.Ends.{EndsWith}
 use Rattle.gen_net.specs.Header.{RunHeader}
 use Rattle.gen_chain.specs.Chain.{Chain, IsChain, path_of, chain_spelling}
 use Rattle.gen_chain.specs.Verifying.{ChainVerifies}

@@ -1,7 +1,7 @@
 -- What faulty generals can send without forging a signature of the rest.
 use Rattle.std.specs.Prelude.{ℕ, ◌≡◌, ◌<◌, List, ◌++◌, length, Contains, All}
 use Rattle.gen_net.specs.Network.{Network, IsLoyal}
-use Rattle.gen_net.specs.Chain.{BeginsWith}
+use Rattle.gen_types.specs.Ends.{BeginsWith}
 use Rattle.gen_net.specs.declared.message.Message.{Message}
 use Rattle.gen_net.specs.Run.{Run}
 use Rattle.gen_net.specs.Signed.{IsDerivable}

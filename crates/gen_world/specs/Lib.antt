@@ -1,10 +1,11 @@
 pub mod AnyChoice
-pub mod CountedSoFar
+pub mod Counted
 pub mod Counting
 pub mod Derivables
-pub mod Rounds
+pub mod Loops
 pub mod Scenario
 pub mod Theorem
 pub mod TwoOrders
+pub mod Verified
 pub mod World
 pub mod WorldFollows

@@ -1,9 +1,11 @@
 //! Laws of runs. Each is a function with an empty body whose contract is the law: a caller that calls it knows the law.
 ghost use Rattle.gen_net.specs.Network.{IsNetwork};
 ghost use Rattle.gen_world.specs.AnyChoice.{AnyChoice, EachIsChoice};
+ghost use Rattle.gen_world.specs.Counted.{CountsThese};
 ghost use Rattle.gen_world.specs.Derivables.{ProlongedByFaulty, SignedByFaulty};
 ghost use Rattle.gen_world.specs.Theorem.{Agreement, Case, DecideAlike, EachDecides, ObeyCommander, Premises, Validity};
 ghost use Rattle.gen_world.specs.TwoOrders.{BothAccepted, three, two_orders_case};
+ghost use Rattle.gen_world.specs.Verified.{TestsVerifying};
 ghost use Rattle.gen_world.specs.World.{OneWorld};
 ghost use Rattle.gen_world.specs.WorldFollows.{LieutenantsFollow, WorldIsSigned, WorldMeetsPremises};
 
@@ -56,4 +58,11 @@ pub fn two_orders()
     ensures network { IsNetwork three }
     ensures premises { Premises two_orders_case }
     ensures both_accepted { BothAccepted }
+{}
+
+/// Counting as a function: `verified`, the test whether a chain verifies says exactly whether it does; `counted`, the list of the
+/// chains of a frame that count has exactly those that count, of each order one.
+pub fn counting()
+    ensures verified { TestsVerifying }
+    ensures counted { CountsThese }
 {}

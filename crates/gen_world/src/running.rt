@@ -9,7 +9,7 @@ ghost use Rattle.gen_core.specs.Seeing.{HasSeen, AreArrivals};
 ghost use Rattle.gen_core.specs.Sending.{Appends};
 ghost use Rattle.gen_world.specs.World.{IsDecision, IsOutcome};
 ghost use Rattle.gen_world.specs.WorldFollows.{AllDecide};
-ghost use Rattle.gen_world.specs.Rounds.{IsAmong, RelayedBy, IsReady, AreRelays, numbers_of};
+ghost use Rattle.gen_world.specs.Loops.Rounds.{IsAmong, RelayedBy, IsReady, AreRelays, numbers_of};
 
 use crate::scenario::{Decision, PlainRun, PlainScenario};
 use gen_core::{Commander, Lieutenant, Outgoing, Seen, sends};

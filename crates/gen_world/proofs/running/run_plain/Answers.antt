@@ -5,7 +5,7 @@ use Rattle.gen_net.specs.Network.{rounds}
 use Rattle.gen_net.specs.Run.{Run}
 use Rattle.gen_core.specs.Seeing.{HasSeen}
 use Rattle.gen_world.specs.World.{IsOutcome}
-use Rattle.gen_world.specs.Rounds.{IsReady, AreRelays, numbers_of}
+use Rattle.gen_world.specs.Loops.Rounds.{IsReady, AreRelays, numbers_of}
 use Rattle.gen_world.proofs.Growing.{AreNext, first_round, world_more, world_of}
 use Rattle.gen_world.proofs.Obeying.{all_obey}
 use Rattle.gen_world.proofs.Rounding.{written_back, next_of_relays, ready_longer}
