@@ -4,7 +4,7 @@ use Rattle.gen_types.specs.Reading.{◌>>=◌, check}
 use Rattle.gen_types.specs.Bytes.{byte_at, bytes_at, many_at}
 use Rattle.gen_net.specs.declared.fault.HeaderFault.{HeaderFault}
 use Rattle.gen_net.specs.declared.fault.HeaderFault.TheVariants.{Truncated, UnknownVersion}
-use Rattle.gen_net.specs.Network.{Network}
+use Rattle.gen_net.specs.declared.numbers.NetNumbers.{NetNumbers}
 use Rattle.gen_net.specs.NetworkOf.{network_in_place}
 use Rattle.gen_net.specs.Header.{RunHeader, header_version, root_length}
 
@@ -15,53 +15,58 @@ after_version bytes = do
   known ← check (version.0 == header_version) UnknownVersion
   Ok version.1
 
--- three bytes in a row
-pub record Three : Type 0 where
-  pub one : ℕ
-  pub two : ℕ
-  pub three : ℕ
+-- n, m, d, q and the choice
+unfoldable pub numbers_at : List ℕ → Result (NetNumbers × List ℕ) HeaderFault
+numbers_at bytes = do
+  generals ← byte_at Truncated bytes
+  traitors ← byte_at Truncated generals.1
+  diameter ← byte_at Truncated traitors.1
+  orders ← byte_at Truncated diameter.1
+  choice ← byte_at Truncated orders.1
+  Ok (record {
+    generals = generals.0;
+    traitors = traitors.0;
+    diameter = diameter.0;
+    orders = orders.0;
+    choice = choice.0;
+  }, choice.1)
 
-unfoldable pub three_at : List ℕ → Result (Three × List ℕ) HeaderFault
-three_at bytes = do
-  one ← byte_at Truncated bytes
-  two ← byte_at Truncated one.1
-  three ← byte_at Truncated two.1
-  Ok (record { one = one.0; two = two.0; three = three.0 }, three.1)
-
+-- one edge
 unfoldable pub edge_at : List ℕ → Result ((ℕ × ℕ) × List ℕ) HeaderFault
 edge_at bytes = do
   low ← byte_at Truncated bytes
   high ← byte_at Truncated low.1
   Ok ((low.0, high.0), high.1)
 
+-- the edges behind their number
+unfoldable pub edges_at : List ℕ → Result (List (ℕ × ℕ) × List ℕ) HeaderFault
+edges_at bytes = do
+  count ← byte_at Truncated bytes
+  many_at edge_at count.0 count.1
+
+-- one root
 abbrev pub root_at : List ℕ → Result (List ℕ × List ℕ) HeaderFault
 root_at bytes = bytes_at Truncated root_length bytes
 
--- what stands after the version: n, m and d; q, the choice and the number of edges; the edges; the roots
+-- what stands after the version
 pub record Parts : Type 0 where
-  pub front : Three
-  pub back : Three
+  pub numbers : NetNumbers
   pub edges : List (ℕ × ℕ)
   pub roots : List (List ℕ)
 
 unfoldable pub parts_at : List ℕ → Result (Parts × List ℕ) HeaderFault
 parts_at bytes = do
-  front ← three_at bytes
-  back ← three_at front.1
-  edges ← many_at edge_at back.0.three back.1
-  roots ← many_at root_at front.0.one edges.1
-  Ok (record { front = front.0; back = back.0; edges = edges.0; roots = roots.0 }, roots.1)
-
--- the network of these parts, whose edges stand in their places
-abbrev pub network_from : Parts → Result Network HeaderFault
-network_from p = network_in_place p.front.one p.edges p.front.two p.front.three p.back.one p.back.two
+  numbers ← numbers_at bytes
+  edges ← edges_at numbers.1
+  roots ← many_at root_at numbers.0.generals edges.1
+  Ok (record { numbers = numbers.0; edges = edges.0; roots = roots.0 }, roots.1)
 
 -- a header, and the bytes after it
 unfoldable pub header_at : List ℕ → Result (RunHeader × List ℕ) HeaderFault
 header_at bytes = do
   rest ← after_version bytes
   parts ← parts_at rest
-  net ← network_from parts.0
+  net ← network_in_place parts.0.numbers parts.0.edges
   Ok (record { network = net; roots = parts.0.roots }, parts.1)
 
 -- the header in front, and how many bytes it has
