@@ -13,15 +13,14 @@ use Rattle.gen_types.proofs.Among.{among_out, out_among}
 use Rattle.gen_types.proofs.Lists.{Contains_here, Contains_there, Contains_cases, Contains_nil, Contains_filtered, All_of, decide_some, bool_cases}
 use Rattle.gen_net.specs.Header.{RunHeader}
 use Rattle.gen_chain.specs.declared.fault.ChainFault.{ChainFault}
-use Rattle.gen_chain.specs.Chain.{Chain, path_of, chain_spelling}
-use Rattle.gen_chain.specs.ChainOf.{chain_at}
-use Rattle.gen_chain.proofs.ChainLaws.{chains_read}
+use Rattle.gen_chain.specs.Chain.{Chain, signed_path, chain_spelling}
+use Rattle.gen_chain.specs.ChainReading.{chain_at}
+use Rattle.gen_chain.proofs.ChainLaws.{chain_parts, chains_read}
 use Rattle.gen_world.specs.declared.counting.Delivery.{Delivery}
 use Rattle.gen_world.specs.Counting.{MayCount, Carries, Counts, AreCounted}
 use Rattle.gen_world.specs.Counted.{is_last, may_count, if_whole, carried_by, firsts, counted_of, CountsThese}
 use Rattle.gen_world.specs.Loops.Listing.{AreListed}
 use Rattle.gen_world.specs.Verified.{is_verified}
-use Rattle.gen_world.proofs.Parsing.{chain_parts}
 use Rattle.gen_world.proofs.Verifying.{both, and_so, tests_verifying}
 
 -- ---- tests
@@ -64,22 +63,22 @@ last_gives path g ends = subst (λ (p : List ℕ). is_last p g ≡ true) (sym en
 may_has : (h : RunHeader) (d : Delivery) (c : Chain) → may_count h d c ≡ true → MayCount h d c
 unfolding may_count
 may_has h d c e =
-    let p = both (eqb (length (path_of c.signers)) d.round && is_last (path_of c.signers) d.from) (not (is_among (path_of c.signers) d.to) && is_verified h c) e in
-    let q = both (eqb (length (path_of c.signers)) d.round) (is_last (path_of c.signers) d.from) p.0 in
-    let r = both (not (is_among (path_of c.signers) d.to)) (is_verified h c) p.1 in
+    let p = both (eqb (length (signed_path c.signers)) d.round && is_last (signed_path c.signers) d.from) (not (is_among (signed_path c.signers) d.to) && is_verified h c) e in
+    let q = both (eqb (length (signed_path c.signers)) d.round) (is_last (signed_path c.signers) d.from) p.0 in
+    let r = both (not (is_among (signed_path c.signers) d.to)) (is_verified h c) p.1 in
     record {
       verifies = (tests_verifying h c).0 r.1;
       in_time = eqb-true _ _ q.0;
-      from_sender = last_has (path_of c.signers) d.from q.1;
-      outside = among_out (path_of c.signers) d.to (not_true (is_among (path_of c.signers) d.to) r.0);
+      from_sender = last_has (signed_path c.signers) d.from q.1;
+      outside = among_out (signed_path c.signers) d.to (not_true (is_among (signed_path c.signers) d.to) r.0);
     }
 
 may_gives : (h : RunHeader) (d : Delivery) (c : Chain) → MayCount h d c → may_count h d c ≡ true
 unfolding may_count
 may_gives h d c m =
-    and_so (eqb (length (path_of c.signers)) d.round && is_last (path_of c.signers) d.from) (not (is_among (path_of c.signers) d.to) && is_verified h c)
-    (and_so (eqb (length (path_of c.signers)) d.round) (is_last (path_of c.signers) d.from) (eq-eqb _ _ m.in_time) (last_gives (path_of c.signers) d.from m.from_sender))
-    (and_so (not (is_among (path_of c.signers) d.to)) (is_verified h c) (not_false (is_among (path_of c.signers) d.to) (out_among (path_of c.signers) d.to m.outside)) ((tests_verifying h c).1 m.verifies))
+    and_so (eqb (length (signed_path c.signers)) d.round && is_last (signed_path c.signers) d.from) (not (is_among (signed_path c.signers) d.to) && is_verified h c)
+    (and_so (eqb (length (signed_path c.signers)) d.round) (is_last (signed_path c.signers) d.from) (eq-eqb _ _ m.in_time) (last_gives (signed_path c.signers) d.from m.from_sender))
+    (and_so (not (is_among (signed_path c.signers) d.to)) (is_verified h c) (not_false (is_among (signed_path c.signers) d.to) (out_among (signed_path c.signers) d.to m.outside)) ((tests_verifying h c).1 m.verifies))
 
 none_left : (rest : List ℕ) → eqb (length rest) 0 ≡ true → rest ≡ []
 none_left [] e = refl

@@ -4,7 +4,6 @@ pub mod Deriving
 pub mod FirstChains
 pub mod Growing
 pub mod Obeying
-pub mod Parsing
 pub mod Rounding
 pub mod Same
 pub mod SplitCommander

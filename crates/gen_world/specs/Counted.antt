@@ -4,8 +4,8 @@ use Rattle.std.specs.List.{flat_map}
 use Rattle.gen_types.specs.Ends.{is_among}
 use Rattle.gen_net.specs.Header.{RunHeader}
 use Rattle.gen_chain.specs.declared.fault.ChainFault.{ChainFault}
-use Rattle.gen_chain.specs.Chain.{Chain, path_of}
-use Rattle.gen_chain.specs.ChainOf.{chain_at}
+use Rattle.gen_chain.specs.Chain.{Chain, signed_path}
+use Rattle.gen_chain.specs.ChainReading.{chain_at}
 use Rattle.gen_world.specs.declared.counting.Delivery.{Delivery}
 use Rattle.gen_world.specs.Counting.{AreCounted}
 use Rattle.gen_world.specs.Verified.{is_verified}
@@ -19,8 +19,8 @@ is_last (a ∷ b ∷ path) g = is_last (b ∷ path) g
 -- the chain may count: as many signers as rounds, its sender last, its receiver not among them, and it verifies
 unfoldable pub may_count : RunHeader → Delivery → Chain → Bool
 may_count h d c =
-    (length (path_of c.signers) == d.round && is_last (path_of c.signers) d.from)
-    && (not (is_among (path_of c.signers) d.to) && is_verified h c)
+    (length (signed_path c.signers) == d.round && is_last (signed_path c.signers) d.from)
+    && (not (is_among (signed_path c.signers) d.to) && is_verified h c)
 
 -- what was read of a parcel and the bytes after it: the chain, where nothing is left and it may count
 abbrev pub if_whole : RunHeader → Delivery → Result (Chain × List ℕ) ChainFault → List Chain

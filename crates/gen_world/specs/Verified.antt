@@ -16,17 +16,17 @@ use Rattle.gen_chain.specs.Verifying.{ChainVerifies}
 unfoldable pub is_under : List ℕ → ℕ → List ℕ → List ℕ → Bool
 is_under root leaf digest signature = nat_lt leaf leaf_count && pointwise nat_eq (root_of leaf digest signature) root
 
--- the signer is a general of the network, and has signed the statement
-unfoldable pub has_signed : RunHeader → Statement → Signer → Bool
-has_signed h statement s =
-    nat_lt s.general h.network.generals
-    && is_under (headers.root_of h s.general) (leaf_of_order statement.order) (statement_digest h statement) s.signature
+-- the general is one of the network, and has signed the statement
+unfoldable pub has_signed : RunHeader → ℕ → Statement → List ℕ → Bool
+has_signed h general statement signature =
+    nat_lt general h.network.generals
+    && is_under (headers.root_of h general) (leaf_of_order statement.order) (statement_digest h statement) signature
 
 -- each of the signers behind a path has signed the order together with the path up to himself
 unfoldable pub are_signed : RunHeader → ℕ → List ℕ → List Signer → Bool
 are_signed h order path [] = true
 are_signed h order path (s ∷ others) =
-    has_signed h (record { order = order; path = path ++ s.general ∷ [] }) s
+    has_signed h s.general (record { order = order; path = path ++ s.general ∷ [] }) s.signature
     && are_signed h order (path ++ s.general ∷ []) others
 
 unfoldable pub is_verified : RunHeader → Chain → Bool
