@@ -24,11 +24,11 @@ pub struct Outgoing {
 fn due(net: &Net, me: GeneralNo, to: GeneralNo, path: &Path) -> Option<Path>
     ensures { (longer : List ℕ) → (result ≡ Some longer) ↔ GoesOn net.now me to path.now longer }
 {
-    if path.len() >= net.rounds() as usize {
+    if path.len() >= usize::from(net.rounds()) || path.contains(me) {
         return None;
     }
     let mut longer = *path;
-    longer.push(me).ok()?;
+    longer.push_new(me);
     if longer.contains(to) {
         return None;
     }
