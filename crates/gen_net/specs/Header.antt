@@ -30,11 +30,14 @@ edge_bytes e = e.0 ∷ e.1 ∷ []
 
 -- the bytes before the edges: version, n, m, d, q, choice and the number of edges
 abbrev pub fixed_part : Network → List ℕ
-fixed_part net = header_version ∷ net.generals ∷ net.traitors ∷ net.diameter ∷ net.orders ∷ choice_number net.choice ∷ length net.edges ∷ []
+fixed_part net =
+    header_version ∷ net.generals ∷ net.traitors ∷ net.diameter ∷ net.orders
+    ∷ choice_number net.choice ∷ length net.edges ∷ []
 
 -- the one spelling of a header
 abbrev pub header_spelling : RunHeader → List ℕ
-header_spelling h = fixed_part h.network ++ flat_map edge_bytes h.network.edges ++ flat_map (λ root. root) h.roots
+header_spelling h =
+    fixed_part h.network ++ flat_map edge_bytes h.network.edges ++ flat_map (λ root. root) h.roots
 
 -- the run id, which names the run that a header is about
 unfoldable pub run_id_of : RunHeader → List ℕ
@@ -56,4 +59,6 @@ pub record IsHeader (h : RunHeader) : Type 0 where
 
 -- the header of a network and these roots
 abbrev pub header_with : Network → List (List ℕ) → Result RunHeader HeaderFault
-header_with net roots = if length roots == net.generals then Ok (record { network = net; roots = roots }) else Err RootCount
+header_with net roots =
+    if length roots == net.generals then Ok (record { network = net; roots = roots })
+    else Err RootCount

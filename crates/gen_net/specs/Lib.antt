@@ -1,7 +1,8 @@
 pub mod Chain
+pub mod Edges
 pub mod Follows
 pub mod Header
-pub mod HeaderOf
+pub mod HeaderReading
 pub mod Log
 pub mod Network
 pub mod NetworkOf

@@ -15,7 +15,16 @@ pub const HEADER_VERSION: u8 = 1;
 const RUN_ID_PREFIX: u8 = 0x31;
 
 /// The bytes of a header before its edges.
-pub fn fixed_bytes(net: &Net) -> [u8; 7]
+pub const FIXED_LENGTH: usize = 7;
+
+/// The bytes of an edge.
+pub const EDGE_LENGTH: usize = 2;
+
+/// The bytes of a root.
+pub const ROOT_LENGTH: usize = 32;
+
+/// The bytes of a header before its edges.
+pub fn fixed_bytes(net: &Net) -> [u8; FIXED_LENGTH]
     ensures { result ≡ fixed_part net.now }
 {
     [
@@ -31,7 +40,10 @@ pub fn fixed_bytes(net: &Net) -> [u8; 7]
 
 /// Feeds a hasher with the bytes of edges.
 fn feed_edges(hasher: &mut Sha256, edges: &[(GeneralNo, GeneralNo)])
-    ensures { (m : List ℕ) → Holds256 hasher.old m → Holds256 hasher.new (m ++ flat_map edge_bytes edges.now) }
+    ensures {
+        (m : List ℕ) → Holds256 hasher.old m
+            → Holds256 hasher.new (m ++ flat_map edge_bytes edges.now)
+    }
 {
     'edges: for edge in edges {
         hasher.update([edge.0.get(), edge.1.get()]);
@@ -40,7 +52,10 @@ fn feed_edges(hasher: &mut Sha256, edges: &[(GeneralNo, GeneralNo)])
 
 /// Feeds a hasher with roots.
 fn feed_roots(hasher: &mut Sha256, roots: &[[u8; 32]])
-    ensures fed { (m : List ℕ) → Holds256 hasher.old m → Holds256 hasher.new (m ++ flat_map (λ root. root) roots.now) }
+    ensures fed {
+        (m : List ℕ) → Holds256 hasher.old m
+            → Holds256 hasher.new (m ++ flat_map (λ root. root) roots.now)
+    }
     ensures wide { AreRoots roots.now }
 {
     'roots: for root in roots {

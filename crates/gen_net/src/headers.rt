@@ -6,6 +6,7 @@ use crate::fault::HeaderFault;
 use crate::hashing::run_id_over;
 use crate::net::Net;
 use gen_types::GeneralNo;
+use std::alloc::AllocError;
 use std::marker::Model;
 
 /// What a run is about: a network, and for each general the root of his keys.
@@ -77,5 +78,19 @@ impl Header {
         ensures { result.now ≡ run_id_of self.now }
     {
         &self.run_id
+    }
+}
+
+/// A copy is equal to its original. It fails only where memory was refused.
+impl Clone for Header {
+    ghost is_clone = { λ header copy. copy ≡ header };
+
+    fn clone(&self) -> Result<Header, AllocError> {
+        let roots = Vec::from_slice(*self.roots.allocator(), self.roots.as_slice())?;
+        Ok(Header {
+            net: self.net.clone()?,
+            roots,
+            run_id: self.run_id,
+        })
     }
 }

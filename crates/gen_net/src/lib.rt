@@ -13,6 +13,7 @@ mod headers;
 pub mod laws;
 mod message;
 mod net;
+mod numbers;
 mod reading;
 mod writing;
 
@@ -20,6 +21,7 @@ pub use fault::HeaderFault;
 pub use headers::Header;
 pub use message::Message;
 pub use net::Net;
+pub use numbers::NetNumbers;
 pub use reading::read_header;
 pub use writing::header_bytes;
 

@@ -3,7 +3,7 @@ ghost use Rattle.std.specs.Prelude.{◌≡◌, ◌++◌, IfOk, OnOk};
 ghost use Rattle.std.specs.List.{flat_map};
 ghost use Rattle.gen_net.specs.Header.{edge_bytes, header_spelling, IsHeader};
 
-use crate::hashing::fixed_bytes;
+use crate::hashing::{EDGE_LENGTH, FIXED_LENGTH, ROOT_LENGTH, fixed_bytes};
 use crate::headers::Header;
 use gen_types::GeneralNo;
 use std::alloc::{AllocError, Global};
@@ -36,7 +36,8 @@ pub fn header_bytes(alloc: Global, header: &Header) -> Result<Vec<u8>, AllocErro
 {
     let edges = header.net().edges();
     let roots = header.roots();
-    let mut out = Vec::with_capacity(alloc, 7 + 2 * edges.len() + 32 * roots.len())?;
+    let length = FIXED_LENGTH + EDGE_LENGTH * edges.len() + ROOT_LENGTH * roots.len();
+    let mut out = Vec::with_capacity(alloc, length)?;
     out.extend_from_slice(&fixed_bytes(header.net()))?;
     put_edges(&mut out, edges)?;
     put_roots(&mut out, roots)?;
