@@ -23,13 +23,16 @@ numbers_at bytes = do
   diameter ← byte_at Truncated traitors.1
   orders ← byte_at Truncated diameter.1
   choice ← byte_at Truncated orders.1
-  Ok (record {
-    generals = generals.0;
-    traitors = traitors.0;
-    diameter = diameter.0;
-    orders = orders.0;
-    choice = choice.0;
-  }, choice.1)
+  Ok (
+    record {
+      generals = generals.0;
+      traitors = traitors.0;
+      diameter = diameter.0;
+      orders = orders.0;
+      choice = choice.0;
+    },
+    choice.1,
+  )
 
 -- one edge
 unfoldable pub edge_at : List ℕ → Result ((ℕ × ℕ) × List ℕ) HeaderFault

@@ -40,10 +40,8 @@ pub fn fixed_bytes(net: &Net) -> [u8; FIXED_LENGTH]
 
 /// Feeds a hasher with the bytes of edges.
 fn feed_edges(hasher: &mut Sha256, edges: &[(GeneralNo, GeneralNo)])
-    ensures {
-        (m : List ℕ) → Holds256 hasher.old m
-            → Holds256 hasher.new (m ++ flat_map edge_bytes edges.now)
-    }
+    ensures { (m : List ℕ) → Holds256 hasher.old m
+        → Holds256 hasher.new (m ++ flat_map edge_bytes edges.now) }
 {
     'edges: for edge in edges {
         hasher.update([edge.0.get(), edge.1.get()]);
@@ -52,10 +50,8 @@ fn feed_edges(hasher: &mut Sha256, edges: &[(GeneralNo, GeneralNo)])
 
 /// Feeds a hasher with roots.
 fn feed_roots(hasher: &mut Sha256, roots: &[[u8; 32]])
-    ensures fed {
-        (m : List ℕ) → Holds256 hasher.old m
-            → Holds256 hasher.new (m ++ flat_map (λ root. root) roots.now)
-    }
+    ensures fed { (m : List ℕ) → Holds256 hasher.old m
+        → Holds256 hasher.new (m ++ flat_map (λ root. root) roots.now) }
     ensures wide { AreRoots roots.now }
 {
     'roots: for root in roots {

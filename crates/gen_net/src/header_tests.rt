@@ -55,7 +55,7 @@ fn fault_of(alloc: Global, front: &[u8]) -> Result<Option<ReadError<HeaderFault>
 }
 
 #[test]
-fn smallest_header(rt: HostRuntime) -> Result<(), Fail> {
+fn smallest_header_with_an_edge(rt: HostRuntime) -> Result<(), Fail> {
     let alloc = rt.alloc();
     let (header, taken) = read_header(alloc, &OF_TWO).expect(&rt, "a header");
     assert_eq!(rt; taken, 73);
@@ -97,6 +97,38 @@ fn header_of_a_ring(rt: HostRuntime) -> Result<(), Fail> {
         let fault = Header::new(net, roots(alloc, count)?).err();
         assert_eq!(rt; fault, Some(HeaderFault::RootCount), "{count}");
     }
+    Ok(())
+}
+
+/// All edges between 16 generals, ascending.
+fn all_edges(alloc: Global) -> Result<Vec<(u8, u8)>, AllocError> {
+    let mut edges = Vec::new(alloc);
+    for low in 0..15u8 {
+        for high in low + 1..16 {
+            edges.push((low, high))?;
+        }
+    }
+    Ok(edges)
+}
+
+#[test]
+fn largest_header(rt: HostRuntime) -> Result<(), Fail> {
+    let alloc = rt.alloc();
+    let edges = all_edges(alloc)?;
+    let net = Net::new(alloc, 16, &edges, 8, 8, 15, 1).expect(&rt, "all edges");
+    let header = Header::new(net, roots(alloc, 16)?).expect(&rt, "16 roots");
+    let bytes = header_bytes(alloc, &header)?;
+    let mut front = Vec::new(alloc);
+    front.extend_from_slice(&[1, 16, 8, 8, 15, 1, 120])?;
+    for (low, high) in &edges {
+        front.extend_from_slice(&[*low, *high])?;
+    }
+    assert!(rt; bytes == bytes_with(alloc, &front, 16)?);
+    laws::one_header_spelling();
+    let (again, taken) = read_header(alloc, &bytes).expect(&rt, "all edges");
+    let copy = again.clone()?;
+    assert!(rt; taken == 759 && *copy.run_id() == *header.run_id());
+    assert!(rt; copy.net().clone()?.edges() == header.net().edges());
     Ok(())
 }
 

@@ -110,12 +110,14 @@ impl Net {
         q: u8,
         choice: u8,
     ) -> Result<Net, ReadError<HeaderFault>>
-        ensures {
-            Gives (λ net. net) result
-                (network_of (record {
-                    generals = n; traitors = m; diameter = d; orders = q; choice = choice
-                }) edges.now)
-        }
+        ensures { Gives (λ net. net) result
+            (network_of (record {
+              generals = n;
+              traitors = m;
+              diameter = d;
+              orders = q;
+              choice = choice;
+            }) edges.now) }
     {
         let numbers = NetNumbers {
             generals: n,

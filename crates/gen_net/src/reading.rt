@@ -91,10 +91,7 @@ fn read_many_edges(
 
 /// The edges behind their number.
 #[tactic(auto, unfolding(crate::specs::HeaderReading::edges_at))]
-fn read_edges(
-    alloc: Global,
-    bytes: &[u8],
-) -> Result<(Vec<(u8, u8)>, &[u8]), ReadError<HeaderFault>>
+fn read_edges(alloc: Global, bytes: &[u8]) -> Result<(Vec<(u8, u8)>, &[u8]), ReadError<HeaderFault>>
     ensures { Gives (λ x. (x.0.items, x.1.now)) result (edges_at bytes.now) }
 {
     let (count, rest) = u8_at(bytes, HeaderFault::Truncated)?;
@@ -122,11 +119,14 @@ fn read_roots(
 /// What stands after the version.
 #[tactic(auto, unfolding(crate::specs::HeaderReading::parts_at))]
 fn read_parts(alloc: Global, bytes: &[u8]) -> Result<(Parts, &[u8]), ReadError<HeaderFault>>
-    ensures {
-        Gives (λ x. (record {
-            numbers = x.0.numbers; edges = x.0.edges.items; roots = x.0.roots.items
-        }, x.1.now)) result (parts_at bytes.now)
-    }
+    ensures { Gives (λ x. (
+      record {
+        numbers = x.0.numbers;
+        edges = x.0.edges.items;
+        roots = x.0.roots.items;
+      },
+      x.1.now,
+    )) result (parts_at bytes.now) }
 {
     let (numbers, rest) = read_numbers(bytes)?;
     let (edges, rest) = read_edges(alloc, rest)?;
@@ -160,10 +160,7 @@ fn header_in_front(alloc: Global, bytes: &[u8]) -> Result<(Header, &[u8]), ReadE
 
 /// The header in front of the bytes, and how many bytes it has.
 #[tactic(auto, unfolding(crate::specs::HeaderReading::header_of))]
-fn counted_header(
-    alloc: Global,
-    bytes: &[u8],
-) -> Result<(Header, usize), ReadError<HeaderFault>>
+fn counted_header(alloc: Global, bytes: &[u8]) -> Result<(Header, usize), ReadError<HeaderFault>>
     ensures { Gives (λ x. x) result (header_of bytes.now) }
 {
     let (header, rest) = header_in_front(alloc, bytes)?;
@@ -177,16 +174,12 @@ fn counted_header(
 /// breaks; and Memory where memory was refused before.
 pub fn read_header(alloc: Global, bytes: &[u8]) -> Result<(Header, usize), ReadError<HeaderFault>>
     // What is read stands there.
-    ensures found {
-        IfOk result (λ x. IsHeader x.0
-            × ((rest : List ℕ) × (bytes.now ≡ header_spelling x.0 ++ rest))
-            × (x.1 ≡ length (header_spelling x.0)))
-    }
+    ensures found { IfOk result (λ x. IsHeader x.0
+        × ((rest : List ℕ) × (bytes.now ≡ header_spelling x.0 ++ rest))
+        × (x.1 ≡ length (header_spelling x.0))) }
     // What stands there is read, unless memory runs out.
-    ensures only {
-        (h : RunHeader) (rest : List ℕ) → IsHeader h → bytes.now ≡ header_spelling h ++ rest
-            → Gives (λ x. x) result (Ok (h, length (header_spelling h)))
-    }
+    ensures only { (h : RunHeader) (rest : List ℕ) → IsHeader h → bytes.now ≡ header_spelling h ++ rest
+        → Gives (λ x. x) result (Ok (h, length (header_spelling h))) }
     // Which fault it is.
     ensures exact { Gives (λ x. x) result (header_of bytes.now) }
 {
