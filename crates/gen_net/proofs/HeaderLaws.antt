@@ -1,4 +1,4 @@
--- The two laws of reading a header.
+-- The two laws of reading a header, field by field.
 use Rattle.std.proofs.Common.{◌≡◌, ℕ, ◌+◌, ◌-◌, ◌≤◌, true, eqb, List, [], ◌∷◌, ◌++◌, length, Result, Ok, refl, sym, ap, ◌∙◌, append_assoc, arith}
 use Rattle.std.specs.List.{flat_map, AllByRecursion}
 use Rattle.std.proofs.lemmas.List.{length-append}
@@ -16,7 +16,7 @@ use Rattle.gen_net.specs.declared.numbers.NetNumbers.{NetNumbers}
 use Rattle.gen_net.specs.Edges.{in_place}
 use Rattle.gen_net.specs.NetworkOf.{ranges_of, network_with, network_in_place}
 use Rattle.gen_net.specs.Header.{RunHeader, IsHeader, AreRoots, header_version, root_length, edge_bytes, header_spelling}
-use Rattle.gen_net.specs.HeaderReading.{after_version, numbers_at, edge_at, edges_at, root_at, Parts, parts_at, header_at, header_of}
+use Rattle.gen_net.specs.HeaderReading.{after_version, numbers_at, edge_at, edges_at, root_at, Parts, parts_at, header_at}
 use Rattle.gen_net.proofs.PlacedEdges.{placed_edges, placed_again}
 use Rattle.gen_net.proofs.Ranges.{accepted, numbers_of, accepted_again}
 
@@ -205,32 +205,5 @@ roots_fit bytes rest p after_them net fits e0 e1 e2 =
     let t1 = parts_take rest (p, after_them) t0.rest_fits e1 in
     t1.roots ∙ sym (ap (λ (m : NetNumbers). m.generals) (network_made p.numbers p.edges net e2).numbers_is)
 
-abbrev pub HeaderFound : List ℕ → RunHeader × ℕ → Type 0
-HeaderFound bytes x = IsHeader x.0 × ((rest : List ℕ) × (bytes ≡ header_spelling x.0 ++ rest)) × (x.1 ≡ length (header_spelling x.0))
-
-pub rest_is_shorter : (bytes : List ℕ) (h : RunHeader) (rest : List ℕ) → IsBytes bytes → header_at bytes ≡ Ok (h, rest) → length rest ≤ length bytes
-rest_is_shorter bytes h rest fits e =
-    let t = header_takes bytes (h, rest) fits e in
-    omega (arith, ap length t.0.parts ∙ length-append (header_spelling h) rest)
-
-pub header_found : (bytes : List ℕ) (x : RunHeader × ℕ) → IsBytes bytes → header_of bytes ≡ Ok x → HeaderFound bytes x
-unfolding header_of
-header_found bytes x fits e =
-    after (header_at bytes) (λ header. Ok (header.0, length bytes - length header.1)) x e (λ header r0 e0.
-    let t = header_takes bytes header fits r0 in
-    let total : length bytes ≡ length (header_spelling header.0) + length header.1 = ap length t.0.parts ∙ length-append (header_spelling header.0) header.1 in
-    let taken : length bytes - length header.1 ≡ length (header_spelling header.0) = omega (arith, total) in
-    at_end {F = HeaderFault} (HeaderFound bytes) (header.0, length bytes - length header.1) x e0 (t.1, (header.1, t.0.parts), taken))
-
-pub header_only : (bytes : List ℕ) (h : RunHeader) (rest : List ℕ) → IsHeader h → bytes ≡ header_spelling h ++ rest → header_of bytes ≡ Ok (h, length (header_spelling h))
-unfolding header_of
-header_only bytes h rest is e =
-    let read : header_at bytes ≡ Ok (h, rest) = ap header_at e ∙ header_again h rest is in
-    let total : length bytes ≡ length (header_spelling h) + length rest = ap length e ∙ length-append (header_spelling h) rest in
-    let taken : length bytes - length rest ≡ length (header_spelling h) = omega (arith, total) in
-    rw (read, taken) refl
-
-pub one_spelling : (h k : RunHeader) (rest more : List ℕ) → IsHeader h → IsHeader k → header_spelling h ++ rest ≡ header_spelling k ++ more → (h ≡ k) × (rest ≡ more)
-one_spelling h k rest more is_h is_k e =
-    let same = ok_is {F = HeaderFault} (h, rest) (k, more) (sym (header_again h rest is_h) ∙ ap header_at e ∙ header_again k more is_k) in
-    (ap (λ (p : RunHeader × List ℕ). p.0) same, ap (λ (p : RunHeader × List ℕ). p.1) same)
+pub header_reads : Reads header_at header_spelling IsHeader
+header_reads = record { takes = header_takes; again = header_again }

@@ -1,5 +1,5 @@
 -- Reading a header: another version first, then too few bytes, then the first rule that its network breaks.
-use Rattle.std.specs.Prelude.{ℕ, ◌-◌, ◌==◌, List, length, Result, Ok}
+use Rattle.std.specs.Prelude.{ℕ, ◌==◌, List, Result, Ok}
 use Rattle.gen_types.specs.Reading.{◌>>=◌, check}
 use Rattle.gen_types.specs.Bytes.{byte_at, bytes_at, many_at}
 use Rattle.gen_net.specs.declared.fault.HeaderFault.{HeaderFault}
@@ -71,9 +71,3 @@ header_at bytes = do
   parts ← parts_at rest
   net ← network_in_place parts.0.numbers parts.0.edges
   Ok (record { network = net; roots = parts.0.roots }, parts.1)
-
--- the header in front, and how many bytes it has
-unfoldable pub header_of : List ℕ → Result (RunHeader × ℕ) HeaderFault
-header_of bytes = do
-  header ← header_at bytes
-  Ok (header.0, length bytes - length header.1)

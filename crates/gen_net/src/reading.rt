@@ -1,9 +1,10 @@
 //! Reading headers.
-ghost use Rattle.std.specs.Prelude.{◌≡◌, ◌≤◌, ◌<◌, ◌++◌, ◌-◌, List, ℕ, length, IfOk, Ok};
+ghost use Rattle.std.specs.Prelude.{List, ℕ, length, IfOk, Ok};
 ghost use Rattle.gen_types.specs.Reading.{Gives};
+ghost use Rattle.gen_types.specs.Spelled.{StandsInFront, IsReadFrom, counted, IsRead, IsField};
 ghost use Rattle.gen_types.specs.Bytes.{many_at};
 ghost use Rattle.gen_net.specs.Header.{RunHeader, IsHeader, header_spelling};
-ghost use Rattle.gen_net.specs.HeaderReading.{after_version, numbers_at, edge_at, edges_at, root_at, Parts, parts_at, header_at, header_of};
+ghost use Rattle.gen_net.specs.HeaderReading.{after_version, numbers_at, edge_at, edges_at, root_at, Parts, parts_at, header_at};
 
 use crate::fault::HeaderFault;
 use crate::hashing::{HEADER_VERSION, ROOT_LENGTH};
@@ -34,7 +35,7 @@ fn skip_version(bytes: &[u8]) -> Result<&[u8], ReadError<HeaderFault>>
 /// The numbers of a network, a byte each.
 #[tactic(auto, unfolding(crate::specs::HeaderReading::numbers_at))]
 fn read_numbers(bytes: &[u8]) -> Result<(NetNumbers, &[u8]), ReadError<HeaderFault>>
-    ensures { Gives (λ x. (x.0, x.1.now)) result (numbers_at bytes.now) }
+    ensures { IsField result (numbers_at bytes.now) }
 {
     let (generals, rest) = u8_at(bytes, HeaderFault::Truncated)?;
     let (traitors, rest) = u8_at(rest, HeaderFault::Truncated)?;
@@ -54,7 +55,7 @@ fn read_numbers(bytes: &[u8]) -> Result<(NetNumbers, &[u8]), ReadError<HeaderFau
 /// One edge, as it stands.
 #[tactic(auto, unfolding(crate::specs::HeaderReading::edge_at))]
 fn read_edge(bytes: &[u8]) -> Result<((u8, u8), &[u8]), ReadError<HeaderFault>>
-    ensures { Gives (λ x. (x.0, x.1.now)) result (edge_at bytes.now) }
+    ensures { IsField result (edge_at bytes.now) }
 {
     let (low, rest) = u8_at(bytes, HeaderFault::Truncated)?;
     let (high, rest) = u8_at(rest, HeaderFault::Truncated)?;
@@ -63,7 +64,7 @@ fn read_edge(bytes: &[u8]) -> Result<((u8, u8), &[u8]), ReadError<HeaderFault>>
 
 /// One root.
 fn read_root(bytes: &[u8]) -> Result<([u8; 32], &[u8]), ReadError<HeaderFault>>
-    ensures { Gives (λ x. (x.0, x.1.now)) result (root_at bytes.now) }
+    ensures { IsField result (root_at bytes.now) }
 {
     let (front, rest) = bytes_at(bytes, ROOT_LENGTH, HeaderFault::Truncated)?;
     let mut root = [0; 32];
@@ -142,7 +143,7 @@ fn read_parts(alloc: Global, bytes: &[u8]) -> Result<(Parts, &[u8]), ReadError<H
 /// The header in front of the bytes, and the bytes after it.
 #[tactic(auto, unfolding(crate::specs::HeaderReading::header_at))]
 fn header_in_front(alloc: Global, bytes: &[u8]) -> Result<(Header, &[u8]), ReadError<HeaderFault>>
-    ensures { Gives (λ x. (x.0, x.1.now)) result (header_at bytes.now) }
+    ensures { IsField result (header_at bytes.now) }
 {
     let rest = skip_version(bytes)?;
     let (parts, rest) = read_parts(alloc, rest)?;
@@ -159,9 +160,8 @@ fn header_in_front(alloc: Global, bytes: &[u8]) -> Result<(Header, &[u8]), ReadE
 }
 
 /// The header in front of the bytes, and how many bytes it has.
-#[tactic(auto, unfolding(crate::specs::HeaderReading::header_of))]
 fn counted_header(alloc: Global, bytes: &[u8]) -> Result<(Header, usize), ReadError<HeaderFault>>
-    ensures { Gives (λ x. x) result (header_of bytes.now) }
+    ensures { IsRead result (counted header_at bytes.now) }
 {
     let (header, rest) = header_in_front(alloc, bytes)?;
     Ok((header, bytes.len() - rest.len()))
@@ -174,14 +174,12 @@ fn counted_header(alloc: Global, bytes: &[u8]) -> Result<(Header, usize), ReadEr
 /// breaks; and Memory where memory was refused before.
 pub fn read_header(alloc: Global, bytes: &[u8]) -> Result<(Header, usize), ReadError<HeaderFault>>
     // What is read stands there.
-    ensures found { IfOk result (λ x. IsHeader x.0
-        × ((rest : List ℕ) × (bytes.now ≡ header_spelling x.0 ++ rest))
-        × (x.1 ≡ length (header_spelling x.0))) }
+    ensures found { IfOk result (IsReadFrom IsHeader header_spelling bytes.now) }
     // What stands there is read, unless memory runs out.
-    ensures only { (h : RunHeader) (rest : List ℕ) → IsHeader h → bytes.now ≡ header_spelling h ++ rest
-        → Gives (λ x. x) result (Ok (h, length (header_spelling h))) }
+    ensures only { (h : RunHeader) → StandsInFront IsHeader header_spelling bytes.now h
+        → IsRead result (Ok (h, length (header_spelling h))) }
     // Which fault it is.
-    ensures exact { Gives (λ x. x) result (header_of bytes.now) }
+    ensures exact { IsRead result (counted header_at bytes.now) }
 {
     counted_header(alloc, bytes)
 }
