@@ -4,14 +4,15 @@ ghost use Rattle.gen_types.specs.Reading.{Gives};
 ghost use Rattle.gen_types.specs.Spelled.{StandsInFront, IsReadFrom, counted, IsRead, IsField};
 ghost use Rattle.gen_types.specs.Bytes.{many_at};
 ghost use Rattle.gen_net.specs.Header.{RunHeader, IsHeader, header_spelling};
-ghost use Rattle.gen_net.specs.HeaderReading.{after_version, numbers_at, edge_at, edges_at, root_at, Parts, parts_at, header_at};
+ghost use Rattle.gen_net.specs.HeaderReading.{slot_at, version_at, numbers_at, edge_at, edges_at, root_at, Parts, parts_at, header_at};
 
 use crate::fault::HeaderFault;
-use crate::hashing::{HEADER_VERSION, ROOT_LENGTH};
+use crate::hashing::{ROOT_LENGTH, VERSION_ONE, VERSION_TWO};
 use crate::headers::Header;
 use crate::net::Net;
 use crate::numbers::NetNumbers;
-use gen_types::{ReadError, bytes_at, check, u8_at};
+use crate::version::Version;
+use gen_types::{ReadError, bytes_at, u8_at};
 use std::alloc::Global;
 
 /// What stands after the version.
@@ -22,14 +23,26 @@ struct Parts {
     roots: Vec<[u8; 32]>,
 }
 
-/// The bytes after a known version.
-#[tactic(auto, unfolding(crate::specs::HeaderReading::after_version))]
-fn skip_version(bytes: &[u8]) -> Result<&[u8], ReadError<HeaderFault>>
-    ensures { Gives (λ rest. rest.now) result (after_version bytes.now) }
+/// The version behind its number, and the bytes after it.
+#[tactic(auto, unfolding(crate::specs::HeaderReading::slot_at))]
+fn read_slot(bytes: &[u8]) -> Result<(Version, &[u8]), ReadError<HeaderFault>>
+    ensures { IsField result (slot_at bytes.now) }
 {
-    let (version, rest) = u8_at(bytes, HeaderFault::Truncated)?;
-    check(version == HEADER_VERSION, HeaderFault::UnknownVersion)?;
-    Ok(rest)
+    let (slot, rest) = u8_at(bytes, HeaderFault::Truncated)?;
+    Ok((Version::Two { slot }, rest))
+}
+
+/// The version, with the slot where it has one, and the bytes after it.
+#[tactic(auto, unfolding(crate::specs::HeaderReading::version_at))]
+fn read_version(bytes: &[u8]) -> Result<(Version, &[u8]), ReadError<HeaderFault>>
+    ensures { IsField result (version_at bytes.now) }
+{
+    let (number, rest) = u8_at(bytes, HeaderFault::Truncated)?;
+    match number {
+        VERSION_ONE => Ok((Version::One, rest)),
+        VERSION_TWO => read_slot(rest),
+        _ => Err(ReadError::Fault(HeaderFault::UnknownVersion)),
+    }
 }
 
 /// The numbers of a network, a byte each.
@@ -145,7 +158,7 @@ fn read_parts(alloc: Global, bytes: &[u8]) -> Result<(Parts, &[u8]), ReadError<H
 fn header_in_front(alloc: Global, bytes: &[u8]) -> Result<(Header, &[u8]), ReadError<HeaderFault>>
     ensures { IsField result (header_at bytes.now) }
 {
-    let rest = skip_version(bytes)?;
+    let (version, rest) = read_version(bytes)?;
     let (parts, rest) = read_parts(alloc, rest)?;
     let Parts {
         numbers,
@@ -153,7 +166,7 @@ fn header_in_front(alloc: Global, bytes: &[u8]) -> Result<(Header, &[u8]), ReadE
         roots,
     } = parts;
     let net = Net::in_place(alloc, numbers, edges.as_slice())?;
-    match Header::new(net, roots) {
+    match Header::of_version(version, net, roots) {
         Ok(header) => Ok((header, rest)),
         Err(fault) => Err(ReadError::Fault(fault)),
     }
@@ -167,11 +180,13 @@ fn counted_header(alloc: Global, bytes: &[u8]) -> Result<(Header, usize), ReadEr
     Ok((header, bytes.len() - rest.len()))
 }
 
-/// Reads the header in front of the bytes, and returns how many bytes it has; more may follow it.
+/// Returns the header in front of the bytes, and how many bytes it has; more may follow it.
 ///
-/// It answers UnknownVersion where there is a first byte and it is no known version, then Truncated
-/// where the bytes end before the header does, then the first rule of `HeaderFault` that its network
-/// breaks; and Memory where memory was refused before.
+/// # Errors
+///
+/// UnknownVersion where there is a first byte and it is neither 1 nor 2; then Truncated where the bytes
+/// end before the header does; then the first rule of `HeaderFault` that its network breaks; then
+/// SlotRange where it is of version 2 with a slot above 3. Memory where memory was refused before.
 pub fn read_header(alloc: Global, bytes: &[u8]) -> Result<(Header, usize), ReadError<HeaderFault>>
     // What is read stands there.
     ensures found { IfOk result (IsReadFrom IsHeader header_spelling bytes.now) }
