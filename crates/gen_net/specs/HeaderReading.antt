@@ -1,19 +1,31 @@
--- Reading a header: another version first, then too few bytes, then the first rule that its network breaks.
-use Rattle.std.specs.Prelude.{ℕ, ◌-◌, ◌==◌, List, length, Result, Ok}
-use Rattle.gen_types.specs.Reading.{◌>>=◌, check}
+-- Reading a header: another version first, then too few bytes, then the first rule that its network or its slot breaks.
+use Rattle.std.specs.Prelude.{ℕ, ◌==◌, List, Result, Ok, Err, if◌then◌else◌}
+use Rattle.gen_types.specs.Reading.{◌>>=◌}
 use Rattle.gen_types.specs.Bytes.{byte_at, bytes_at, many_at}
 use Rattle.gen_net.specs.declared.fault.HeaderFault.{HeaderFault}
 use Rattle.gen_net.specs.declared.fault.HeaderFault.TheVariants.{Truncated, UnknownVersion}
 use Rattle.gen_net.specs.declared.numbers.NetNumbers.{NetNumbers}
+use Rattle.gen_net.specs.declared.version.Version.{Version}
+use Rattle.gen_net.specs.declared.version.Version.TheVariants.{One, Two}
 use Rattle.gen_net.specs.NetworkOf.{network_in_place}
-use Rattle.gen_net.specs.Header.{RunHeader, header_version, root_length}
+use Rattle.gen_net.specs.Version.{number_of_one, number_of_two}
+use Rattle.gen_net.specs.Header.{RunHeader, root_length, header_with}
 
--- the bytes after a known version
-unfoldable pub after_version : List ℕ → Result (List ℕ) HeaderFault
-after_version bytes = do
-  version ← byte_at Truncated bytes
-  known ← check (version.0 == header_version) UnknownVersion
-  Ok version.1
+-- the version and, where it has one, the slot
+unfoldable pub slot_at : List ℕ → Result (Version × List ℕ) HeaderFault
+slot_at bytes = do
+  slot ← byte_at Truncated bytes
+  Ok (Two slot.0, slot.1)
+
+abbrev pub version_behind : ℕ → List ℕ → Result (Version × List ℕ) HeaderFault
+version_behind number rest =
+    if number == number_of_one then Ok (One, rest)
+    else (if number == number_of_two then slot_at rest else Err UnknownVersion)
+
+unfoldable pub version_at : List ℕ → Result (Version × List ℕ) HeaderFault
+version_at bytes = do
+  number ← byte_at Truncated bytes
+  version_behind number.0 number.1
 
 -- n, m, d, q and the choice
 unfoldable pub numbers_at : List ℕ → Result (NetNumbers × List ℕ) HeaderFault
@@ -23,13 +35,16 @@ numbers_at bytes = do
   diameter ← byte_at Truncated traitors.1
   orders ← byte_at Truncated diameter.1
   choice ← byte_at Truncated orders.1
-  Ok (record {
-    generals = generals.0;
-    traitors = traitors.0;
-    diameter = diameter.0;
-    orders = orders.0;
-    choice = choice.0;
-  }, choice.1)
+  Ok (
+    record {
+      generals = generals.0;
+      traitors = traitors.0;
+      diameter = diameter.0;
+      orders = orders.0;
+      choice = choice.0;
+    },
+    choice.1,
+  )
 
 -- one edge
 unfoldable pub edge_at : List ℕ → Result ((ℕ × ℕ) × List ℕ) HeaderFault
@@ -64,13 +79,8 @@ parts_at bytes = do
 -- a header, and the bytes after it
 unfoldable pub header_at : List ℕ → Result (RunHeader × List ℕ) HeaderFault
 header_at bytes = do
-  rest ← after_version bytes
-  parts ← parts_at rest
+  version ← version_at bytes
+  parts ← parts_at version.1
   net ← network_in_place parts.0.numbers parts.0.edges
-  Ok (record { network = net; roots = parts.0.roots }, parts.1)
-
--- the header in front, and how many bytes it has
-unfoldable pub header_of : List ℕ → Result (RunHeader × ℕ) HeaderFault
-header_of bytes = do
-  header ← header_at bytes
-  Ok (header.0, length bytes - length header.1)
+  header ← header_with version.0 net parts.0.roots
+  Ok (header, parts.1)

@@ -8,4 +8,5 @@ pub mod Network
 pub mod NetworkOf
 pub mod Run
 pub mod Signed
+pub mod Version
 pub mod Walks

@@ -1,7 +1,7 @@
 //! Networks.
 ghost use Rattle.std.specs.Prelude.{IsTrue, ◌≡◌, ◌≤◌, ◌↔◌};
 ghost use Rattle.gen_types.specs.Ascending.{IsListOf};
-ghost use Rattle.gen_types.specs.Reading.{Gives};
+ghost use Rattle.gen_types.specs.Spelled.{IsRead};
 ghost use Rattle.gen_net.specs.Network.{rounds, AreNeighbours, IsNetwork};
 ghost use Rattle.gen_net.specs.NetworkOf.{is_within, ranges_of, network_with, network_of, network_in_place};
 
@@ -65,7 +65,7 @@ fn lies_between(least: u8, greatest: u8, number: u8) -> bool
 /// The choice of these numbers, where they are in their ranges and the edges are good.
 #[tactic(auto, unfolding(crate::specs::NetworkOf::ranges_of))]
 fn ranges(numbers: NetNumbers, good_edges: bool) -> Result<ChoiceKind, ReadError<HeaderFault>>
-    ensures { Gives (λ kind. kind) result (ranges_of numbers good_edges) }
+    ensures { IsRead result (ranges_of numbers good_edges) }
 {
     let NetNumbers {
         generals,
@@ -110,12 +110,14 @@ impl Net {
         q: u8,
         choice: u8,
     ) -> Result<Net, ReadError<HeaderFault>>
-        ensures {
-            Gives (λ net. net) result
-                (network_of (record {
-                    generals = n; traitors = m; diameter = d; orders = q; choice = choice
-                }) edges.now)
-        }
+        ensures { IsRead result
+            (network_of (record {
+              generals = n;
+              traitors = m;
+              diameter = d;
+              orders = q;
+              choice = choice;
+            }) edges.now) }
     {
         let numbers = NetNumbers {
             generals: n,
@@ -135,7 +137,7 @@ impl Net {
         numbers: NetNumbers,
         edges: &[(u8, u8)],
     ) -> Result<Net, ReadError<HeaderFault>>
-        ensures { Gives (λ net. net) result (network_in_place numbers edges.now) }
+        ensures { IsRead result (network_in_place numbers edges.now) }
     {
         let choice = ranges(numbers, stand_in_place(numbers.generals, edges))?;
         let edges = placed_edges(alloc, numbers.generals, edges)?;
