@@ -9,7 +9,7 @@ use std::alloc::Global;
 use std::test::Fail;
 
 /// What arrives in a round, and what is to be sent for it in the next.
-type Round<'a> = (&'a [Seen], &'a [Send]);
+type Round<'a> = (&'a [Seen], &'a [Outgoing]);
 
 const ALL_PAIRS: [(u8, u8); 6] = [(0, 1), (0, 2), (0, 3), (1, 2), (1, 3), (2, 3)];
 
@@ -32,8 +32,12 @@ fn seen(order: u8, path: Path) -> Seen {
 }
 
 /// The chain of this order and path, to this general.
-fn send(to: u8, order: u8, path: Path) -> Send {
-    (GeneralNo::at(to % 16), OrderNo::at(order % 16), path)
+fn send(to: u8, order: u8, path: Path) -> Outgoing {
+    Outgoing {
+        to: GeneralNo::at(to % 16),
+        order: OrderNo::at(order % 16),
+        path,
+    }
 }
 
 /// Whether there is a next round, and the lieutenant sends exactly this for it.
@@ -181,7 +185,7 @@ fn own_paths(rt: HostRuntime) -> Result<(), Fail> {
     let adds = lieutenant.round(&[seen(1, by_1), seen(2, first)]);
     // General 1 signed the path of order 1: handed in for him, it is sent to nobody.
     let (by_2, by_12) = (path_of(&[0, 2]), path_of(&[0, 1, 2]));
-    let rows: [(u8, &[Send]); 2] = [
+    let rows: [(u8, &[Outgoing]); 2] = [
         (1, &[send(2, 2, by_1), send(3, 2, by_1)]),
         (2, &[send(1, 2, by_2), send(3, 1, by_12), send(3, 2, by_2)]),
     ];

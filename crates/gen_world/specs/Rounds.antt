@@ -4,12 +4,13 @@ use Rattle.gen_net.specs.Network.{Network, rounds}
 use Rattle.gen_net.specs.declared.message.Message.{Message}
 use Rattle.gen_net.specs.Run.{Run}
 use Rattle.gen_core.specs.Seeing.{State, HasSeen}
-use Rattle.gen_core.specs.Sending.{Send}
+use Rattle.gen_core.specs.declared.sending.Outgoing.{Outgoing}
+use Rattle.gen_core.specs.Sending.{outgoing}
 use Rattle.gen_world.specs.World.{IsRelay}
 
 -- the message is one of these sends of this general
-abbrev pub IsAmong : ℕ → List Send → Message → Type 0
-IsAmong from out message = (message.from ≡ from) × Contains out (message.to, message.order, message.path)
+abbrev pub IsAmong : ℕ → List Outgoing → Message → Type 0
+IsAmong from out message = (message.from ≡ from) × Contains out (outgoing message.to message.order message.path)
 
 -- the message is one that g relays after round l, where there is another round
 abbrev pub RelayedBy : Network → Run → ℕ → ℕ → Message → Type 0

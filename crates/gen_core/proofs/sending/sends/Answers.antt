@@ -25,7 +25,7 @@ returns c = record {
   exactly = λ x. (
     (λ h. elim ((c.loop-number.invariant.exactly x).0 h) [ inl none ↦ absurd (Contains_nil x none) | inr q ↦ q.1 ]),
     (λ d.
-        let below : x.0 < c.args.net.now.generals = joined_below c.args.net.now c.generals-number-end.ensures.network c.args.me x.0 d.neighbour in
+        let below : x.to < c.args.net.now.generals = joined_below c.args.net.now c.generals-number-end.ensures.network c.args.me x.to d.neighbour in
         (c.loop-number.invariant.exactly x).1 (inr (omega (arith, c.generals-number-end.ensures.value), d))),
   );
   in_order = c.loop-number.invariant.order.in_order;
