@@ -9,9 +9,10 @@ use Rattle.gen_net.specs.Network.{Network, IsNetwork, rounds, AreNeighbours}
 use Rattle.gen_script.specs.declared.lines.ScriptLine.{ScriptLine}
 use Rattle.gen_script.specs.declared.lines.ScriptLine.TheVariants.{Make, Pass, Bend, Raw, Hide, TwoHeads}
 use Rattle.gen_script.specs.declared.path_fields.PathKind.TheVariants.{Whole, Added}
-use Rattle.gen_script.specs.LineFields.{round_in, neighbour_in, order_in, some_bytes, parcel_in}
-use Rattle.gen_script.specs.LineOf.{make_in, pass_in, bend_in, raw_in, hide_in, line_in, script_line_of}
-use Rattle.gen_script.specs.LineSpelling.{SpellsBytes, HasFields, IsRound, IsScriptLine, SpellsLine}
+use Rattle.gen_script.specs.FieldReading.{round_in, neighbour_in, order_in, some_bytes, parcel_in}
+use Rattle.gen_script.specs.LineReading.{make_in, pass_in, bend_in, raw_in, hide_in, line_in, script_line_of}
+use Rattle.gen_script.specs.Digits.{SpellsBytes}
+use Rattle.gen_script.specs.Line.{HasFields, IsRound, IsScriptLine, SpellsLine}
 use Rattle.gen_script.proofs.Hexes.{decoded_again, digits_free}
 use Rattle.gen_script.proofs.Joining.{joined_again, joined_below}
 use Rattle.gen_script.proofs.PathTexts.{digits_again, path_again, path_free}
