@@ -1,23 +1,29 @@
 -- What a lieutenant is to send, looked for one order and one receiver after another.
-use Rattle.std.proofs.Common.{◌≡◌, ℕ, ◌+◌, ◌<◌, ◌⊎◌, ◌↔◌, inl, inr, List, [], ◌∷◌, ◌++◌, length, Contains, Option, Some, None, slice_get, refl, sym, ap, ◌∙◌, subst, arith}
+use Rattle.std.proofs.Common.{◌≡◌, ℕ, ◌+◌, ◌<◌, ◌⊎◌, ◌↔◌, inl, inr, List, [], ◌∷◌, ◌++◌, length, Option, Some, None, slice_get, refl, sym, ap, ◌∙◌, subst, arith}
 use Rattle.std.proofs.lemmas.Bool.{cases_eq}
-use Rattle.std.proofs.lemmas.List.Elements.{All-push, All-weaker, Contains-push, Contains-append_left, Contains-push_cases}
+use Rattle.std.proofs.lemmas.List.Elements.{All-push, All-weaker}
 use Rattle.std.proofs.lemmas.Option.{slice_get_within}
 use Rattle.std.proofs.lemmas.List.Quantifiers.{all_pairs_push}
-use Rattle.gen_net.specs.Network.{Network, rounds, AreNeighbours}
+use Rattle.gen_net.specs.Network.{Network, AreNeighbours}
 use Rattle.gen_core.specs.Seeing.{Picked}
 use Rattle.gen_core.specs.declared.sending.Outgoing.{Outgoing}
-use Rattle.gen_core.specs.Sending.{outgoing, GoesBefore, IsDue, Appends, GoesUpTo}
+use Rattle.gen_core.specs.Sending.{outgoing, GoesBefore, IsDue, Appends}
+use Rattle.gen_core.specs.Loops.Pushing.{GoesOn, IsDueBelow, GoesUpTo}
 
 -- of one order and receiver, where a path is picked
 pub due_told : (net : Network) (me : ℕ) (adds : List (Option (List ℕ))) (to v : ℕ) (picked : List ℕ) (r : Option (List ℕ)) → Picked adds v picked → AreNeighbours net me to
-    → ((longer : List ℕ) → (r ≡ Some longer) ↔ ((length picked < rounds net) × (Contains picked me → ⊥) × (longer ≡ picked ++ me ∷ []) × (Contains longer to → ⊥))) → (x : List ℕ) → (r ≡ Some x) ↔ IsDue net me adds (outgoing to v x)
+    → ((longer : List ℕ) → (r ≡ Some longer) ↔ GoesOn net me to picked longer) → (x : List ℕ) → (r ≡ Some x) ↔ IsDue net me adds (outgoing to v x)
 due_told net me adds to v picked r at edge told x = (
-  (λ e. let t = (told x).0 e in record { picked = picked; is_picked = at; in_time = t.0; new = t.1; longer = t.2; neighbour = edge; outside = t.3 }),
+  (λ e. let t = (told x).0 e in record { picked = picked; is_picked = at; in_time = t.in_time; new = t.new; longer = t.longer; neighbour = edge; outside = t.outside }),
   (λ d.
       let e : slice_get adds v ≡ Some (Some d.picked) = d.is_picked in
       let same : d.picked ≡ picked = cc in
-      (told x).1 (rw (← same) d.in_time, rw (← same) d.new, d.longer ∙ ap (λ p. p ++ me ∷ []) same, d.outside)),
+      (told x).1 (record {
+        in_time = rw (← same) d.in_time;
+        new = rw (← same) d.new;
+        longer = d.longer ∙ ap (λ p. p ++ me ∷ []) same;
+        outside = d.outside;
+      })),
 )
 
 -- and where none is picked
@@ -27,36 +33,10 @@ none_told net me adds to v none x = (
   (λ d. absurd (none d.picked d.is_picked)),
 )
 
--- one more is appended
-pub appended_one : (P Q : Outgoing → Type 0) (old now new : List Outgoing) (y : Outgoing) → Appends P old now → new ≡ now ++ y ∷ [] → ((x : Outgoing) → Q x ↔ (P x ⊎ (y ≡ x))) → Appends Q old new
-appended_one P Q old now new y so_far grown same x = (
-  (λ h. let h' : Contains (now ++ y ∷ []) x = rw grown at h in elim (Contains-push_cases now y x h') [
-    | inl k ↦ elim ((so_far x).0 k) [ inl o ↦ inl o | inr p ↦ inr ((same x).1 (inl p)) ]
-    | inr e ↦ inr ((same x).1 (inr e))
-  ]),
-  (λ h. rw grown (elim h [
-    | inl o ↦ Contains-append_left now (y ∷ []) x ((so_far x).1 (inl o))
-    | inr q ↦ elim ((same x).0 q) [
-      | inl p ↦ Contains-append_left now (y ∷ []) x ((so_far x).1 (inr p))
-      | inr e ↦ subst (λ z. Contains (now ++ y ∷ []) z) e (Contains-push now y)
-    ]
-  ])),
-)
-
-pub appended_none : (P Q : Outgoing → Type 0) (old now : List Outgoing) → Appends P old now → ((x : Outgoing) → Q x ↔ P x) → Appends Q old now
-appended_none P Q old now so_far same x = (
-  (λ h. elim ((so_far x).0 h) [ inl o ↦ inl o | inr p ↦ inr ((same x).1 p) ]),
-  (λ h. elim h [ inl o ↦ (so_far x).1 (inl o) | inr q ↦ (so_far x).1 (inr ((same x).0 q)) ]),
-)
-
--- due to one receiver, of the orders below n
-abbrev pub DueBelow : Network → ℕ → List (Option (List ℕ)) → ℕ → ℕ → Outgoing → Type 0
-DueBelow net me adds to n x = (x.to ≡ to) × (x.order < n) × IsDue net me adds x
-
 same_send : (x : Outgoing) (to v : ℕ) (path : List ℕ) → x.to ≡ to → x.order ≡ v → path ≡ x.path → outgoing to v path ≡ x
 same_send x to v path a b c = λ i. record { to = sym a i; order = sym b i; path = c i }
 
-pub more_due : (net : Network) (me : ℕ) (adds : List (Option (List ℕ))) (to n : ℕ) (r : Option (List ℕ)) → ((path : List ℕ) → (r ≡ Some path) ↔ IsDue net me adds (outgoing to n path)) → (path : List ℕ) → r ≡ Some path → (x : Outgoing) → DueBelow net me adds to (n + 1) x ↔ (DueBelow net me adds to n x ⊎ (outgoing to n path ≡ x))
+pub more_due : (net : Network) (me : ℕ) (adds : List (Option (List ℕ))) (to n : ℕ) (r : Option (List ℕ)) → ((path : List ℕ) → (r ≡ Some path) ↔ IsDue net me adds (outgoing to n path)) → (path : List ℕ) → r ≡ Some path → (x : Outgoing) → IsDueBelow net me adds to (n + 1) x ↔ (IsDueBelow net me adds to n x ⊎ (outgoing to n path ≡ x))
 more_due net me adds to n r told path is x = (
   (λ q. elim (cases_eq x.order n) [
     | inr ne ↦ inl (q.0, omega (arith, q.1), q.2)
@@ -68,19 +48,19 @@ more_due net me adds to n r told path is x = (
   ]),
   (λ h. elim h [
     | inl p ↦ (p.0, omega (arith, p.1), p.2)
-    | inr e ↦ subst (DueBelow net me adds to (n + 1)) e (refl, omega arith, (told path).0 is)
+    | inr e ↦ subst (IsDueBelow net me adds to (n + 1)) e (refl, omega arith, (told path).0 is)
   ]),
 )
 
-pub no_due : (net : Network) (me : ℕ) (adds : List (Option (List ℕ))) (to n : ℕ) (r : Option (List ℕ)) → ((path : List ℕ) → (r ≡ Some path) ↔ IsDue net me adds (outgoing to n path)) → ((path : List ℕ) → r ≡ Some path → ⊥) → (x : Outgoing) → DueBelow net me adds to (n + 1) x ↔ DueBelow net me adds to n x
+pub no_due : (net : Network) (me : ℕ) (adds : List (Option (List ℕ))) (to n : ℕ) (r : Option (List ℕ)) → ((path : List ℕ) → (r ≡ Some path) ↔ IsDue net me adds (outgoing to n path)) → ((path : List ℕ) → r ≡ Some path → ⊥) → (x : Outgoing) → IsDueBelow net me adds to n x ↔ IsDueBelow net me adds to (n + 1) x
 no_due net me adds to n r told none x = (
+  (λ p. (p.0, omega (arith, p.1), p.2)),
   (λ q. elim (cases_eq x.order n) [
     | inr ne ↦ (q.0, omega (arith, q.1), q.2)
     | inl e ↦
         let here : (outgoing to n x.path) ≡ x = same_send x to n x.path q.0 e refl in
         absurd (none x.path ((told x.path).1 (subst (λ y. IsDue net me adds y) (sym here) q.2)))
   ]),
-  (λ p. (p.0, omega (arith, p.1), p.2)),
 )
 
 -- what is due is of an order that has a place
@@ -91,7 +71,7 @@ due_small net me adds x d = slice_get_within adds x.order (Some d.picked) d.is_p
 abbrev pub DueRows : Network → ℕ → List (Option (List ℕ)) → ℕ → Outgoing → Type 0
 DueRows net me adds n x = (x.to < n) × IsDue net me adds x
 
-pub more_rows : (net : Network) (me : ℕ) (adds : List (Option (List ℕ))) (n most : ℕ) (old now new : List Outgoing) → ((x : Outgoing) → IsDue net me adds x → x.order < most) → Appends (DueRows net me adds n) old now → Appends (DueBelow net me adds n most) now new → Appends (DueRows net me adds (n + 1)) old new
+pub more_rows : (net : Network) (me : ℕ) (adds : List (Option (List ℕ))) (n most : ℕ) (old now new : List Outgoing) → ((x : Outgoing) → IsDue net me adds x → x.order < most) → Appends (DueRows net me adds n) old now → Appends (IsDueBelow net me adds n most) now new → Appends (DueRows net me adds (n + 1)) old new
 more_rows net me adds n most old now new small so_far row x = (
   (λ h. elim ((row x).0 h) [
     | inl before ↦ elim ((so_far x).0 before) [ inl o ↦ inl o | inr p ↦ inr (omega (arith, p.0), p.1) ]

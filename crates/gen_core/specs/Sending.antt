@@ -1,5 +1,5 @@
 -- What a follower is to send, and in which order.
-use Rattle.std.specs.Prelude.{ℕ, ◌≡◌, ◌<◌, ◌↔◌, ◌⊎◌, List, [], ◌∷◌, ◌++◌, length, Contains, All, AllPairs, Option}
+use Rattle.std.specs.Prelude.{ℕ, ◌≡◌, ◌<◌, ◌↔◌, ◌⊎◌, List, [], ◌∷◌, ◌++◌, length, Contains, AllPairs, Option}
 use Rattle.gen_net.specs.Network.{Network, rounds, AreNeighbours}
 use Rattle.gen_core.specs.declared.sending.Outgoing.{Outgoing}
 use Rattle.gen_core.specs.Seeing.{Picked}
@@ -8,7 +8,7 @@ use Rattle.gen_core.specs.Seeing.{Picked}
 abbrev pub outgoing : ℕ → ℕ → List ℕ → Outgoing
 outgoing to order path = record { to = to; order = order; path = path }
 
--- the sends ascend by receiver, and for one receiver by order
+-- x goes before y: to a lesser receiver, or to the same with a lesser order
 abbrev pub GoesBefore : Outgoing → Outgoing → Type 0
 GoesBefore x y = (x.to < y.to) ⊎ ((x.to ≡ y.to) × (x.order < y.order))
 
@@ -27,7 +27,7 @@ pub record IsDue (net : Network) (g : ℕ) (adds : List (Option (List ℕ))) (x 
   pub neighbour : AreNeighbours net g x.to
   pub outside : Contains x.path x.to → ⊥
 
--- the list has exactly the sends with this property, each once, in order
+-- the list has exactly the chains with this property, each once, in order
 pub record AreSends (P : Outgoing → Type 0) (out : List Outgoing) : Type 0 where
   pub exactly : (x : Outgoing) → Contains out x ↔ P x
   pub in_order : AllPairs GoesBefore out
@@ -35,8 +35,3 @@ pub record AreSends (P : Outgoing → Type 0) (out : List Outgoing) : Type 0 whe
 -- exactly what has this property is added to the list
 abbrev pub Appends : {X : Type 0} → (X → Type 0) → List X → List X → Type 0
 Appends {X} P old new = (x : X) → Contains new x ↔ (Contains old x ⊎ P x)
-
--- the list is in order, and each of its sends goes before one of this order to this receiver
-pub record GoesUpTo (out : List Outgoing) (to order : ℕ) : Type 0 where
-  pub in_order : AllPairs GoesBefore out
-  pub before : All (λ x. (x.to < to) ⊎ ((x.to ≡ to) × (x.order < order))) out

@@ -38,7 +38,7 @@ impl Commander {
     pub fn sends(&self, alloc: Global, net: &Net) -> Result<Vec<Outgoing>, AllocError>
         ensures { IfOk result (λ out. AreSends (IsCommand net.now self.now) out.items) }
     {
-        let path = commanders_path();
+        let path = Path::commander();
         let mut out = Vec::new(alloc);
         for to in net.neighbours(GeneralNo::commander()) {
             out.push(Outgoing {
@@ -56,16 +56,5 @@ impl Commander {
         ensures order { result.1 ≡ self.now }
     {
         (OrderSet::only(self.order), self.order)
-    }
-}
-
-/// The path of the commander alone.
-fn commanders_path() -> Path
-    ensures { result ≡ 0 ∷ [] }
-{
-    let mut path = Path::new();
-    match path.push(GeneralNo::commander()) {
-        Ok(()) => path,
-        Err(_) => unreachable!(),
     }
 }

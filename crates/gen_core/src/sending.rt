@@ -1,7 +1,7 @@
 //! What a lieutenant sends.
-ghost use Rattle.std.specs.Prelude.{ℕ, ◌≡◌, ◌<◌, ◌++◌, ◌∷◌, ◌↔◌, List, [], Contains, Some, length, IfOk, OnOk};
-ghost use Rattle.gen_net.specs.Network.{rounds};
-ghost use Rattle.gen_core.specs.Sending.{outgoing, IsDue, Appends, AreSends, GoesUpTo};
+ghost use Rattle.std.specs.Prelude.{ℕ, ◌≡◌, ◌↔◌, List, Some, length, IfOk, OnOk};
+ghost use Rattle.gen_core.specs.Sending.{outgoing, IsDue, Appends, AreSends};
+ghost use Rattle.gen_core.specs.Loops.Pushing.{GoesOn, IsDueBelow, GoesUpTo};
 
 use crate::picks::Adds;
 use gen_net::Net;
@@ -19,25 +19,26 @@ pub struct Outgoing {
     pub path: Path,
 }
 
-/// The path lengthened by `me`, and None where it has as many signers as there are rounds, or has `me`,
-/// or has `to` once it is longer.
+/// Returns the path lengthened by `me`, and None where it has as many signers as there are rounds, or
+/// has `me`, or has `to` once it is longer.
 fn due(net: &Net, me: GeneralNo, to: GeneralNo, path: &Path) -> Option<Path>
-    ensures { (longer : List ℕ) → (result ≡ Some longer) ↔ ((length path.now < rounds net.now) × (Contains path.now me → ⊥) × (longer ≡ path.now ++ me ∷ []) × (Contains longer to → ⊥)) }
+    ensures { (longer : List ℕ) → (result ≡ Some longer) ↔ GoesOn net.now me to path.now longer }
 {
-    if path.len() >= net.rounds() as usize {
+    if path.len() >= usize::from(net.rounds()) || path.contains(me) {
         return None;
     }
     let mut longer = *path;
-    longer.push(me).ok()?;
+    longer.push_new(me);
     if longer.contains(to) {
         return None;
     }
     Some(longer)
 }
 
-/// The path of one order that is due to one general.
+/// Returns the path of one order that is due to one general, if there is one.
 fn due_at(net: &Net, me: GeneralNo, to: GeneralNo, adds: &Adds, order: OrderNo) -> Option<Path>
-    ensures { (path : List ℕ) → (result ≡ Some path) ↔ IsDue net.now me adds.now (outgoing to order path) }
+    ensures { (path : List ℕ) →
+        (result ≡ Some path) ↔ IsDue net.now me adds.now (outgoing to order path) }
 {
     if !net.has_edge(me, to) {
         return None;
@@ -54,7 +55,8 @@ fn push_due(
     adds: &Adds,
 ) -> Result<(), AllocError>
     requires { GoesUpTo out.old.items to 0 }
-    ensures exactly { OnOk result (Appends (λ x. (x.to ≡ to) × (x.order < length adds.now) × IsDue net.now me adds.now x) out.old.items out.new.items) }
+    ensures exactly { let due = IsDueBelow net.now me adds.now to (length adds.now) in
+        OnOk result (Appends due out.old.items out.new.items) }
     ensures order { OnOk result (GoesUpTo out.new.items to (length adds.now)) }
 {
     for number in 0..adds.places() {

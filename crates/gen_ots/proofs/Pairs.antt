@@ -3,7 +3,8 @@ use Rattle.std.proofs.Common.{◌≡◌, ℕ, zero, suc, ◌+◌, ◌*◌, Bool,
 use Rattle.std.proofs.lemmas.List.{take_at, drop_at, append-nil}
 use Rattle.rand_chacha.specs.ChaCha.{key_of}
 use Rattle.sha2.proofs.Facts256.{length-sha256}
-use Rattle.gen_ots.specs.OneTime.{image, leaf_over, bit_of, first_images, leaf_value, signed_pair, on_side, first_pairs, signature_of, both_images, given_images, leaf_value_of}
+use Rattle.gen_ots.specs.OneTime.{image, leaf_over, bit_of, first_images, key_leaf_value, on_side}
+use Rattle.gen_ots.specs.Signatures.{signed_pair, first_pairs, signature_of, both_images, given_images, signed_leaf_value}
 use Rattle.gen_ots.specs.Secrets.{KeyName, eight_words, secret_at, secret_of, secret_place}
 
 pub length-secret_at : (key : List ℕ) (place : ℕ) → length (secret_at key place) ≡ 32
@@ -107,9 +108,9 @@ given_images-first_pairs k digest (suc n) rest =
     ∙ sym (first_images-suc k n)
 
 -- the leaf value that a key's signature stands for is the key's
-pub leaf_value_of-signature_of : (k : KeyName) (digest : List ℕ) → leaf_value_of (signature_of k digest) digest ≡ leaf_value k
-unfolding leaf_value_of signature_of leaf_value
-leaf_value_of-signature_of k digest =
+pub signed_leaf_value-signature_of : (k : KeyName) (digest : List ℕ) → signed_leaf_value (signature_of k digest) digest ≡ key_leaf_value k
+unfolding signed_leaf_value signature_of key_leaf_value
+signed_leaf_value-signature_of k digest =
     ap leaf_over (rw (append-nil (first_pairs k digest 256)) at (given_images-first_pairs k digest 256 []))
 
 pub length-signature_of : (k : KeyName) (digest : List ℕ) → length (signature_of k digest) ≡ 16384

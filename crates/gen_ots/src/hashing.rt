@@ -12,7 +12,7 @@ const IMAGE_PREFIX: u8 = 0x00;
 /// The byte before the images of a key, where its leaf value is hashed.
 const LEAF_PREFIX: u8 = 0x01;
 
-/// The image of a secret.
+/// Returns the image of a secret.
 pub fn image_bytes(secret: &[u8]) -> [u8; 32]
     ensures { result ≡ image secret.now }
 {
@@ -22,7 +22,7 @@ pub fn image_bytes(secret: &[u8]) -> [u8; 32]
     hasher.finalize()
 }
 
-/// A hasher of a leaf value, which is still to be fed with the images.
+/// Returns a hasher of a leaf value, which is still to be fed with the images.
 pub fn leaf_hasher() -> Sha256
     ensures { Holds256 result (leaf_prefix ∷ []) }
 {
@@ -31,7 +31,7 @@ pub fn leaf_hasher() -> Sha256
     hasher
 }
 
-/// Whether a bit of a digest is 1, counted from the most significant bit of byte 0.
+/// Returns whether a bit of a digest is 1, counted from the most significant bit of byte 0.
 pub fn is_one(digest: &[u8; 32], bit: usize) -> bool
     requires { bit < DIGEST_BITS }
     ensures { result ≡ bit_of digest.now bit }
@@ -39,7 +39,7 @@ pub fn is_one(digest: &[u8; 32], bit: usize) -> bool
     (digest[bit / 8] >> (7 - bit % 8)) % 2 == 1
 }
 
-/// What stands on the side that a bit names, of what stands on sides 0 and 1.
+/// Returns what stands on the side that a bit names, of what stands on sides 0 and 1.
 #[tactic(auto, unfolding(crate::specs::OneTime::on_side))]
 pub fn chosen<'a>(one: bool, zeroth: &'a [u8], first: &'a [u8]) -> &'a [u8]
     requires zeroth { length zeroth.now ≡ HASH_BYTES }

@@ -1,7 +1,7 @@
 //! One-time keys.
 ghost use Rattle.std.specs.Prelude.{◌≡◌, ◌<◌, length, true, false};
-ghost use Rattle.gen_ots.specs.OneTime.{signature_of, leaf_value_of};
-ghost use Rattle.gen_ots.specs.OneTime.{leaf_value as value_of_leaf};
+ghost use Rattle.gen_ots.specs.OneTime.{key_leaf_value};
+ghost use Rattle.gen_ots.specs.Signatures.{signature_of, signed_leaf_value};
 
 use crate::hashing::{chosen, image_bytes, is_one, leaf_hasher};
 use crate::secrets::{next_secret, secrets_of};
@@ -42,7 +42,7 @@ impl Drop for OneTimeKey {
 }
 
 impl OneTimeKey {
-    /// The key of a seed and a leaf, whose number is below `LEAVES`.
+    /// Returns the key of a seed and a leaf, whose number is below `LEAVES`.
     pub fn new(seed: &[u8; 32], leaf: u8) -> OneTimeKey
         requires { leaf < LEAVES }
         ensures { result ≡ record { name = record { seed = seed.now; leaf = leaf }; live = true } }
@@ -54,16 +54,16 @@ impl OneTimeKey {
         }
     }
 
-    /// The number of the key's leaf.
+    /// Returns the number of the key's leaf.
     pub fn leaf(&self) -> u8
         ensures { result ≡ self.now.name.leaf }
     {
         self.leaf
     }
 
-    /// The leaf value of the key: the hash of the images of all its secrets.
+    /// Returns the leaf value of the key: the hash of the images of all its secrets.
     pub fn leaf_value(&self) -> [u8; 32]
-        ensures { result ≡ value_of_leaf self.now.name }
+        ensures { result ≡ key_leaf_value self.now.name }
     {
         let mut words = secrets_of(&self.seed, self.leaf);
         let mut hasher = leaf_hasher();
@@ -76,10 +76,11 @@ impl OneTimeKey {
         hasher.finalize()
     }
 
-    /// Signs a digest and ends the key. It takes no memory beyond the room, and can't fail.
+    /// Ends the key, and returns its signature of a digest. It takes no memory beyond the room, and
+    /// can't fail.
     pub fn sign(self, room: SigRoom, digest: &[u8; 32]) -> OtsSig
         ensures bytes { result ≡ signature_of self.name digest.now }
-        ensures leaf { leaf_value_of result digest.now ≡ value_of_leaf self.name }
+        ensures leaf { signed_leaf_value result digest.now ≡ key_leaf_value self.name }
         ensures width { length result ≡ OTS_BYTES }
     {
         let mut this = self;
@@ -97,7 +98,7 @@ impl OneTimeKey {
         OtsSig { bytes }
     }
 
-    /// Ends the key unused, and gives the number of its leaf.
+    /// Ends the key unused, and returns the number of its leaf.
     pub fn retire(self) -> u8
         ensures { result ≡ self.name.leaf }
     {

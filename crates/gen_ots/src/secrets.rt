@@ -15,9 +15,11 @@ const WORDS_PER_SECRET: usize = 8;
 /// The words of all secrets of one key: two secrets for each bit of a digest.
 const WORDS_PER_KEY: usize = 2 * WORDS_PER_SECRET * DIGEST_BITS;
 
-/// The generator of a key's secrets, at the first of them: bit 0, side 0.
+/// Returns the generator of a key's secrets, at the first of them: bit 0, side 0.
 pub fn secrets_of(seed: &[u8; 32], leaf: u8) -> ChaCha20Rng
-    ensures { result ≡ record { key = key_of seed.now; stream = SECRET_STREAM; word_pos = secret_place leaf 0 0 } }
+    ensures key { result.key ≡ key_of seed.now }
+    ensures stream { result.stream ≡ SECRET_STREAM }
+    ensures place { result.word_pos ≡ secret_place leaf 0 0 }
 {
     let mut words = ChaCha20Rng::from_seed(*seed);
     words.set_stream(SECRET_STREAM);
@@ -25,7 +27,7 @@ pub fn secrets_of(seed: &[u8; 32], leaf: u8) -> ChaCha20Rng
     words
 }
 
-// The next eight words.
+/// Returns the next eight words.
 #[tactic(auto, unfolding(crate::specs::Secrets::eight_words))]
 fn next_words(words: &mut ChaCha20Rng) -> [u32; WORDS_PER_SECRET]
     requires stream { words.old.stream ≡ SECRET_STREAM }
@@ -45,7 +47,7 @@ fn next_words(words: &mut ChaCha20Rng) -> [u32; WORDS_PER_SECRET]
     ]
 }
 
-/// The next secret: eight words, each with its low byte first.
+/// Returns the next secret: eight words, each with its low byte first.
 #[tactic(auto, unfolding(crate::specs::Secrets::secret_at))]
 pub fn next_secret(words: &mut ChaCha20Rng) -> [u8; 32]
     requires stream { words.old.stream ≡ SECRET_STREAM }

@@ -1,6 +1,10 @@
 //! One-time signatures, and the room that they are written into.
 ghost use Rattle.std.specs.Prelude.{◌≡◌, length};
-ghost use Rattle.gen_ots.specs.OneTime.{leaf_value_of};
+ghost use Rattle.std.specs.Cmp.{partial_equiv_from_equiv};
+ghost use Rattle.std.specs.Cmp.Lexicographic.{pointwise};
+ghost use Rattle.std.specs.Bool.{nat_eq};
+ghost use Rattle.std.proofs.lemmas.Cmp.{nat_list_eq_equiv};
+ghost use Rattle.gen_ots.specs.Signatures.{signed_leaf_value};
 
 use crate::hashing::{chosen, image_bytes, is_one, leaf_hasher};
 use crate::sizes::{DIGEST_BITS, HASH_BYTES, OTS_BYTES, PAIR_BYTES};
@@ -9,7 +13,7 @@ use std::alloc::{AllocError, Global};
 use std::marker::Model;
 
 /// Room for one signature: all the memory that making or reading one takes.
-#[derive(Drop)]
+#[derive(Debug, Drop)]
 pub struct SigRoom {
     pub(crate) bytes: Vec<u8>,
 }
@@ -26,7 +30,11 @@ impl Model for SigRoom {
 }
 
 impl SigRoom {
-    /// Makes the room, or says that memory was refused.
+    /// Returns room for a signature.
+    ///
+    /// # Errors
+    ///
+    /// `AllocError` where memory is refused.
     pub fn new(alloc: Global) -> Result<SigRoom, AllocError> {
         let bytes = Vec::with_capacity(alloc, OTS_BYTES)?;
         Ok(SigRoom { bytes })
@@ -37,7 +45,7 @@ impl SigRoom {
 /// that the bit names and the image of the other side.
 ///
 /// It may be anybody's bytes: whom it speaks for is what `image_of` says.
-#[derive(Drop)]
+#[derive(Debug, Drop)]
 pub struct OtsSig {
     pub(crate) bytes: Vec<u8>,
 }
@@ -54,7 +62,7 @@ impl Model for OtsSig {
 }
 
 impl OtsSig {
-    /// The signature with these bytes, of which there are `OTS_BYTES`.
+    /// Returns the signature with these bytes, of which there are `OTS_BYTES`.
     pub fn read(room: SigRoom, pairs: &[u8]) -> OtsSig
         requires { length pairs.now ≡ OTS_BYTES }
         ensures { result ≡ pairs.now }
@@ -64,14 +72,14 @@ impl OtsSig {
         OtsSig { bytes }
     }
 
-    /// The same signature again, in other room.
+    /// Returns the same signature again, in other room.
     pub fn copy(&self, room: SigRoom) -> OtsSig
         ensures { result ≡ self.now }
     {
         OtsSig::read(room, self.as_bytes())
     }
 
-    /// The bytes of the signature.
+    /// Returns the bytes of the signature.
     pub fn as_bytes(&self) -> &[u8]
         ensures value { result.now ≡ self.now }
         ensures width { length result.now ≡ OTS_BYTES }
@@ -80,10 +88,24 @@ impl OtsSig {
     }
 }
 
-/// The leaf value that a signature of a digest stands for: the hash of the images of the secrets that it
-/// shows and the images that it gives, each on its side.
+impl PartialEq for OtsSig {
+    ghost eq = { pointwise nat_eq };
+
+    ghost laws = { partial_equiv_from_equiv nat_list_eq_equiv };
+
+    fn eq(&self, other: &OtsSig) -> bool {
+        self.bytes == other.bytes
+    }
+}
+
+impl Eq for OtsSig {
+    ghost laws = { nat_list_eq_equiv };
+}
+
+/// Returns the leaf value that a signature of a digest stands for: the hash of the images of the
+/// secrets that it shows and the images that it gives, each on its side.
 pub fn image_of(signature: &OtsSig, digest: &[u8; 32]) -> [u8; 32]
-    ensures { result ≡ leaf_value_of signature.now digest.now }
+    ensures { result ≡ signed_leaf_value signature.now digest.now }
 {
     let pairs = signature.bytes.as_slice();
     let mut hasher = leaf_hasher();

@@ -5,7 +5,7 @@ ghost use Rattle.gen_tree.specs.Tree.{ring_root};
 
 use crate::keys::LeafKey;
 use crate::leaf_set::LeafSet;
-use crate::nodes::{node_over, siblings_of};
+use crate::nodes::{node_at, siblings_of};
 use gen_ots::OneTimeKey;
 use gen_ots::sizes::{LEAVES, TREE_HEIGHT};
 use std::alloc::{AllocError, Global};
@@ -33,10 +33,14 @@ impl Model for KeyRing {
 }
 
 impl KeyRing {
-    /// The ring of a seed, with no leaf taken, or that memory was refused.
+    /// Returns the ring of a seed, with no leaf taken.
     ///
     /// The ring of a general is that of `general_seed`. A second ring of the same seed gives each leaf
     /// again: whoever makes one has to see to it that no leaf signs two digests.
+    ///
+    /// # Errors
+    ///
+    /// `AllocError` where memory is refused.
     pub fn from_seed(alloc: Global, seed: &[u8; 32]) -> Result<KeyRing, AllocError>
         ensures { IfOk result (λ ring. ring ≡ record { seed = seed.now; taken = [] }) }
     {
@@ -54,14 +58,15 @@ impl KeyRing {
         })
     }
 
-    /// The root of the ring's tree, which is its public key.
+    /// Returns the root of the ring's tree, which is its public key.
     pub fn root(&self) -> [u8; 32]
         ensures { result ≡ ring_root self.now.seed }
     {
-        node_over(self.leaves.as_slice(), TREE_HEIGHT, 0)
+        node_at(self.leaves.as_slice(), TREE_HEIGHT, 0)
     }
 
-    /// Takes the key of a leaf; None exactly where the leaf was taken before, or the number is no leaf's.
+    /// Takes a leaf, and returns its key; None exactly where the leaf was taken before, or the number is
+    /// no leaf's.
     pub fn take(&mut self, leaf: u8) -> Option<LeafKey>
         ensures none { IsNone result ↔ ((LEAVES ≤ leaf) ⊎ Contains self.old.taken leaf) }
         ensures unchanged { IfNone result (self.new ≡ self.old) }
@@ -79,7 +84,7 @@ impl KeyRing {
         })
     }
 
-    /// Ends the ring, and gives the leaves that were taken.
+    /// Ends the ring, and returns the leaves that were taken.
     pub fn close(self) -> LeafSet
         ensures { result ≡ self.taken }
     {

@@ -10,7 +10,7 @@ use Rattle.gen_core.specs.Seeing.{AreArrivals, AreAdds}
 use Rattle.gen_core.specs.declared.sending.Outgoing.{Outgoing}
 use Rattle.gen_core.specs.Sending.{outgoing, Appends, AreSends, IsCommand, IsDue}
 use Rattle.gen_world.specs.World.{IsRelay}
-use Rattle.gen_world.specs.Rounds.{IsAmong, RelayedBy}
+use Rattle.gen_world.specs.Loops.Rounds.{IsAmong, RelayedBy}
 
 abbrev pub seen_of : Message → Seen
 seen_of m = record { from = m.from; order = m.order; path = m.path }

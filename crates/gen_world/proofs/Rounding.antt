@@ -14,7 +14,7 @@ use Rattle.gen_core.specs.Sending.{Appends}
 use Rattle.gen_net.specs.Follows.{LieutenantDecides}
 use Rattle.gen_world.specs.World.{IsDecision, IsRelay}
 use Rattle.gen_world.specs.declared.scenario.Decision.{Decision}
-use Rattle.gen_world.specs.Rounds.{RelayedBy, AreRelays, IsReady, numbers_of}
+use Rattle.gen_world.specs.Loops.Rounds.{RelayedBy, AreRelays, IsReady, numbers_of}
 use Rattle.gen_world.proofs.Growing.{WorldTo, AreNext, seen_longer}
 
 -- what holds of all from a place on holds at this place

@@ -3,11 +3,13 @@ ghost use Rattle.std.specs.Prelude.{◌≡◌, ◌+◌, ◌<◌, ◌↔◌, ◌�
 ghost use Rattle.std.specs.List.{range_with_len};
 ghost use Rattle.gen_net.specs.Network.{Network, rounds, AreNeighbours, IsNetwork};
 ghost use Rattle.gen_net.specs.Run.{Run, IsRun};
+ghost use Rattle.gen_net.specs.Walks.{HasDiameter};
 ghost use Rattle.gen_net.specs.declared.message.Message.{Message as Sent};
 ghost use Rattle.gen_core.specs.Seeing.{HasSeen, AreArrivals};
 ghost use Rattle.gen_core.specs.Sending.{Appends};
 ghost use Rattle.gen_world.specs.World.{IsDecision, IsOutcome};
-ghost use Rattle.gen_world.specs.Rounds.{IsAmong, RelayedBy, IsReady, AreRelays, numbers_of};
+ghost use Rattle.gen_world.specs.WorldFollows.{AllDecide};
+ghost use Rattle.gen_world.specs.Loops.Rounds.{IsAmong, RelayedBy, IsReady, AreRelays, numbers_of};
 
 use crate::scenario::{Decision, PlainRun, PlainScenario};
 use gen_core::{Commander, Lieutenant, Outgoing, Seen, sends};
@@ -158,7 +160,9 @@ fn decisions(
 /// The decisions of all generals in the run of the scenario, in which everybody follows the algorithm
 /// and of several chains of a new order the least sender's is picked. Only memory can be refused.
 pub fn run_plain(alloc: Global, scenario: &PlainScenario) -> Result<PlainRun, AllocError>
-    ensures { IfOk result (λ run. IsOutcome scenario.now.net scenario.now.order run) }
+    ensures outcome { IfOk result (λ run. IsOutcome scenario.now.net scenario.now.order run) }
+    // Where no two generals are more than d edges apart, all decide the commander's order.
+    ensures obeyed { HasDiameter scenario.now.net [] → IfOk result (λ run. AllDecide scenario.now.order run) }
 {
     let net = scenario.net();
     let commander = Commander::new(scenario.order());

@@ -1,5 +1,6 @@
 use Rattle.std.proofs.Common.{◌≡◌, ◌+◌, ◌-◌, ◌*◌, ◌∷◌, take, drop, arith, add-one, append_assoc}
-use Rattle.gen_ots.specs.OneTime.{image, given_images, leaf_value_of}
+use Rattle.gen_ots.specs.OneTime.{image}
+use Rattle.gen_ots.specs.Signatures.{given_images, signed_leaf_value}
 use Rattle.gen_ots.proofs.Pairs.{given_images-suc}
 use Rattle.gen_ots.proofs.signatures.image_of.Goals as goal
 
@@ -21,7 +22,7 @@ bits-preserved c =
     rw (add-one, given_images-suc, ← append_assoc, ← a, ← b) two
 
 pub returns : goal.returns
-unfolding leaf_value_of
+unfolding signed_leaf_value
 returns c =
     let n : c.bits.bit ≡ 256 = omega arith in
     let m = c.finalize.ensures (1 ∷ given_images c.as_slice-pairs.result.now c.args.digest.now 256) (rw n at c.bits.invariant) in

@@ -1,6 +1,6 @@
 use Rattle.std.proofs.Common.{◌∷◌}
 use Rattle.sha2.specs.Hashers.{Holds256}
-use Rattle.gen_ots.specs.OneTime.{given_images}
+use Rattle.gen_ots.specs.Signatures.{given_images}
 use Rattle.gen_ots.proofs.signatures.image_of.Given as goal
 
 abbrev pub invariant-bits : goal.invariant-bits

@@ -2,7 +2,7 @@ use Rattle.std.proofs.Common.{subst, List}
 use Rattle.gen_net.specs.declared.message.Message.{Message}
 use Rattle.gen_core.specs.declared.sending.Outgoing.{Outgoing}
 use Rattle.gen_core.specs.Sending.{Appends}
-use Rattle.gen_world.specs.Rounds.{IsAmong}
+use Rattle.gen_world.specs.Loops.Rounds.{IsAmong}
 use Rattle.gen_world.proofs.Arriving.{first_sends}
 use Rattle.gen_world.proofs.running.first_round.Goals as goal
 

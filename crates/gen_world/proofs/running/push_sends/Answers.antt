@@ -1,7 +1,7 @@
 use Rattle.std.proofs.Common.{◌≡◌, ◌+◌, ◌++◌, ◌∷◌, [], take, sym, ap, ◌∙◌, subst}
 use Rattle.std.proofs.lemmas.List.{take_more, take_all}
 use Rattle.gen_core.specs.Sending.{Appends}
-use Rattle.gen_world.specs.Rounds.{IsAmong}
+use Rattle.gen_world.specs.Loops.Rounds.{IsAmong}
 use Rattle.gen_world.proofs.Arriving.{appended, part_more}
 use Rattle.gen_world.proofs.running.push_sends.Goals as goal
 

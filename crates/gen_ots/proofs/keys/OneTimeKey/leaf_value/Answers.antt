@@ -1,6 +1,6 @@
 use Rattle.std.proofs.Common.{rules, ◌≡◌, ◌+◌, ◌∷◌, arith, add-one}
 use Rattle.rand_chacha.specs.ChaCha.{key_of}
-use Rattle.gen_ots.specs.OneTime.{image, first_images, leaf_value}
+use Rattle.gen_ots.specs.OneTime.{image, first_images, key_leaf_value}
 use Rattle.gen_ots.specs.Secrets.{secret_of, secret_place}
 use Rattle.gen_ots.proofs.Pairs.{first_images-suc}
 use Rattle.gen_ots.proofs.Words.{read-at, moved-to}
@@ -26,7 +26,7 @@ bits-preserved c =
     (w2, rw (add-one, first_images-suc, ← e0, ← e1) two)
 
 pub returns : goal.returns
-unfolding leaf_value
+unfolding key_leaf_value
 returns c =
     let n : c.bits._bit ≡ 256 = omega arith in
     c.finalize.ensures (1 ∷ first_images c.args.self.now.name 256) (rw n at c.bits.invariant.1)

@@ -1,9 +1,10 @@
 use Rattle.std.proofs.Common.{rules, ◌≡◌, ◌+◌, ◌++◌, length, arith, add-one, append_assoc}
 use Rattle.std.proofs.lemmas.Slice.{pushed}
 use Rattle.rand_chacha.specs.ChaCha.{key_of}
-use Rattle.gen_ots.specs.OneTime.{on_side, bit_of, image, first_pairs, signature_of}
+use Rattle.gen_ots.specs.OneTime.{on_side, bit_of, image}
+use Rattle.gen_ots.specs.Signatures.{first_pairs, signature_of}
 use Rattle.gen_ots.specs.Secrets.{secret_of, secret_place}
-use Rattle.gen_ots.proofs.Pairs.{first_pairs-suc, length-first_pairs, length-image, whole-signature, leaf_value_of-signature_of}
+use Rattle.gen_ots.proofs.Pairs.{first_pairs-suc, length-first_pairs, length-image, whole-signature, signed_leaf_value-signature_of}
 use Rattle.gen_ots.proofs.Words.{read-at, moved-to}
 use Rattle.gen_ots.proofs.keys.OneTimeKey.sign.Goals as goal
 
@@ -53,7 +54,7 @@ pub returns-clause-leaf : goal.returns-clause-leaf
 returns-clause-leaf c =
     let n : c.bits.bit ≡ 256 = omega arith in
     let e : c.bits.bytes.items ≡ signature_of c.args.self.name c.args.digest.now = whole-signature c.args.self.name c.args.digest.now c.bits.bytes.items (rw n at c.bits.invariant.1) in
-    rw e (leaf_value_of-signature_of c.args.self.name c.args.digest.now)
+    rw e (signed_leaf_value-signature_of c.args.self.name c.args.digest.now)
 
 pub returns-clause-width : goal.returns-clause-width
 returns-clause-width c =

@@ -1,6 +1,6 @@
 use Rattle.std.proofs.Common.{◌≡◌, ◌≤◌, ◌*◌, vec_len, vec_capacity}
 use Rattle.rand_chacha.specs.ChaCha.{key_of}
-use Rattle.gen_ots.specs.OneTime.{first_pairs}
+use Rattle.gen_ots.specs.Signatures.{first_pairs}
 use Rattle.gen_ots.specs.Sizes.{secret_stream}
 use Rattle.gen_ots.specs.Secrets.{secret_place}
 use Rattle.gen_ots.proofs.keys.OneTimeKey.sign.Given as goal
