@@ -13,7 +13,7 @@ use Rattle.gen_types.specs.Texts.{fields}
 use Rattle.gen_types.proofs.Steps.{after, after_check, at_end}
 use Rattle.gen_types.proofs.Decimals.{both}
 use Rattle.gen_net.specs.Network.{Network, rounds, AreNeighbours}
-use Rattle.gen_net.specs.NetworkOf.{joins}
+use Rattle.gen_net.specs.Edges.{joins}
 use Rattle.gen_script.specs.declared.fault.ScriptFault.{ScriptFault}
 use Rattle.gen_script.specs.declared.fault.ScriptFault.TheVariants.{Shape, BadRound, NoNeighbour, BadOrder}
 use Rattle.gen_script.specs.declared.lines.ScriptLine.{ScriptLine}
