@@ -33,8 +33,8 @@ AreNext net run n new = (t : Message) → Contains new t ↔ IsNextRelay net run
 -- the ends of an edge are two generals
 edge_facts : (net : Network) → IsNetwork net → (a b : ℕ) → AreNeighbours net a b → (a < net.generals) × (b < net.generals) × (a ≢ b)
 edge_facts net ok a b joined = elim joined [
-  | inl h ↦ let r = ok.edges a b h in (omega (arith, r.0, r.1), r.1, λ e. absurd (omega (arith, r.0, e)))
-  | inr h ↦ let r = ok.edges b a h in (r.1, omega (arith, r.0, r.1), λ e. absurd (omega (arith, r.0, e)))
+  | inl h ↦ let r = ok.edges.inside a b h in (omega (arith, r.0, r.1), r.1, λ e. absurd (omega (arith, r.0, e)))
+  | inr h ↦ let r = ok.edges.inside b a h in (r.1, omega (arith, r.0, r.1), λ e. absurd (omega (arith, r.0, e)))
 ]
 
 -- once all rounds are there it is the world
@@ -186,7 +186,7 @@ first_round net order first sound known told = record {
             distinct = rw m.3 (λ i j d l k. absurd (omega arith));
             from_commander = ([], m.3);
           };
-          in_time = let one : length t.path ≡ 1 = ap length m.3 in omega (arith, sound.some_diameter);
+          in_time = let one : length t.path ≡ 1 = ap length m.3 in omega (arith, sound.ranges.some_diameter);
           signer = ([], m.3 ∙ ap (λ g. g ∷ []) (sym m.0));
           outside = λ h'. elim (Contains_cases 0 t.to [] (rw m.3 at h')) [ inl e ↦ edge.2 e | inr none ↦ absurd (Contains_nil t.to none) ];
         };

@@ -14,8 +14,10 @@ EachIsChoice = (net : Network) → IsChoice (choose net)
 
 -- with this choice lieutenants of the rest choose alike from their sets, and choose the order of a commander of the rest
 pub record ChosenAlike (here : Case) (choice : List ℕ → ℕ) : Type 0 where
-  pub alike : (g h : ℕ) (orders others : List ℕ) → IsLoyalLieutenant here g → IsLoyalLieutenant here h → IsSetOf here g orders → IsSetOf here h others → choice orders ≡ choice others
-  pub obeyed : (own g : ℕ) (orders : List ℕ) → HasLoyalCommander here own → IsLoyalLieutenant here g → IsSetOf here g orders → choice orders ≡ own
+  pub alike : (g h : ℕ) (orders others : List ℕ) → IsLoyalLieutenant here g → IsLoyalLieutenant here h
+      → IsSetOf here g orders → IsSetOf here h others → choice orders ≡ choice others
+  pub obeyed : (own g : ℕ) (orders : List ℕ) → HasLoyalCommander here own → IsLoyalLieutenant here g
+      → IsSetOf here g orders → choice orders ≡ own
 
 -- and so with every choice that has the two laws
 abbrev pub AnyChoice : Case → Type 0

@@ -38,8 +38,10 @@ firsts (c ∷ others) = c ∷ filter (λ k. not (k.order == c.order)) (firsts ot
 
 -- the chains of the frame that count; none where the frame has more parcels than there are orders
 unfoldable pub counted_of : RunHeader → Delivery → List (List ℕ) → List Chain
-counted_of h d frame = if nat_le (length frame) h.network.orders then firsts (flat_map (carried_by h d) frame) else []
+counted_of h d frame =
+    if nat_le (length frame) h.network.orders then firsts (flat_map (carried_by h d) frame) else []
 
 -- the list is that of the chains that count
 abbrev pub CountsThese : Type 0
-CountsThese = (h : RunHeader) (d : Delivery) (frame : List (List ℕ)) → AreCounted h d frame (counted_of h d frame)
+CountsThese =
+    (h : RunHeader) (d : Delivery) (frame : List (List ℕ)) → AreCounted h d frame (counted_of h d frame)

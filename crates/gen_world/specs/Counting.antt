@@ -28,7 +28,8 @@ pub record Counts (h : RunHeader) (d : Delivery) (frame : List (List ℕ)) (c : 
   pub after : List (List ℕ)
   pub stands : frame ≡ before ++ parcel ∷ after
   pub carried : Carries h d parcel c
-  pub first : (other : List ℕ) (k : Chain) → Contains before other → Carries h d other k → k.order ≢ c.order
+  pub first : (other : List ℕ) (k : Chain) → Contains before other → Carries h d other k
+      → k.order ≢ c.order
 
 -- the list has exactly the chains that count, of each order at most one
 pub record AreCounted (h : RunHeader) (d : Delivery) (frame : List (List ℕ)) (chains : List Chain) : Type 0 where

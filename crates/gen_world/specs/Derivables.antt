@@ -25,8 +25,14 @@ pub record Prolongs (faulty : List ℕ) (source message : Message) : Type 0 wher
 
 -- a message that faulty generals alone have signed is derivable
 abbrev pub SignedByFaulty : Type 0
-SignedByFaulty = (net : Network) (faulty : List ℕ) (run : Run) (message : Message) → All (λ g. Contains faulty g) message.path → IsDerivable net faulty run message
+SignedByFaulty =
+    (net : Network) (faulty : List ℕ) (run : Run) (message : Message)
+    → All (λ g. Contains faulty g) message.path
+    → IsDerivable net faulty run message
 
 -- and so is one that prolongs what they heard
 abbrev pub ProlongedByFaulty : Type 0
-ProlongedByFaulty = (net : Network) (faulty : List ℕ) (run : Run) (source message : Message) → IsHeard net faulty run source → Prolongs faulty source message → IsDerivable net faulty run message
+ProlongedByFaulty =
+    (net : Network) (faulty : List ℕ) (run : Run) (source message : Message)
+    → IsHeard net faulty run source → Prolongs faulty source message
+    → IsDerivable net faulty run message

@@ -44,20 +44,30 @@ DecidesHere here g order = (orders : List ℕ) × LieutenantDecides here.net her
 
 -- any two lieutenants of the rest accept the same orders
 abbrev pub Agreement : Case → Type 0
-Agreement here = (g h v : ℕ) → IsLoyalLieutenant here g → IsLoyalLieutenant here h → AcceptsHere here g v ↔ AcceptsHere here h v
+Agreement here =
+    (g h v : ℕ) → IsLoyalLieutenant here g → IsLoyalLieutenant here h
+    → AcceptsHere here g v ↔ AcceptsHere here h v
 
 -- where the commander is of the rest, a lieutenant of the rest accepts exactly the commander's order
 abbrev pub Validity : Case → Type 0
-Validity here = (own g v : ℕ) → HasLoyalCommander here own → IsLoyalLieutenant here g → AcceptsHere here g v ↔ (v ≡ own)
+Validity here =
+    (own g v : ℕ) → HasLoyalCommander here own → IsLoyalLieutenant here g
+    → AcceptsHere here g v ↔ (v ≡ own)
 
 -- any two lieutenants of the rest decide alike (IC1)
 abbrev pub DecideAlike : Case → Type 0
-DecideAlike here = (g h order other : ℕ) → IsLoyalLieutenant here g → IsLoyalLieutenant here h → DecidesHere here g order → DecidesHere here h other → order ≡ other
+DecideAlike here =
+    (g h order other : ℕ) → IsLoyalLieutenant here g → IsLoyalLieutenant here h
+    → DecidesHere here g order → DecidesHere here h other → order ≡ other
 
 -- where the commander is of the rest, a lieutenant of the rest decides the commander's order (IC2)
 abbrev pub ObeyCommander : Case → Type 0
-ObeyCommander here = (own g order : ℕ) → HasLoyalCommander here own → IsLoyalLieutenant here g → DecidesHere here g order → order ≡ own
+ObeyCommander here =
+    (own g order : ℕ) → HasLoyalCommander here own → IsLoyalLieutenant here g
+    → DecidesHere here g order → order ≡ own
 
 -- in every run a lieutenant has a decision
 abbrev pub EachDecides : Type 0
-EachDecides = (net : Network) (run : Run) → IsRun net run → (g : ℕ) → g ≢ 0 → (orders : List ℕ) × (order : ℕ) × LieutenantDecides net run g orders order
+EachDecides =
+    (net : Network) (run : Run) → IsRun net run → (g : ℕ) → g ≢ 0
+    → (orders : List ℕ) × (order : ℕ) × LieutenantDecides net run g orders order

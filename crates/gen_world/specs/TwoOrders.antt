@@ -10,7 +10,14 @@ use Rattle.gen_world.specs.Theorem.{Case, IsLoyalLieutenant, AcceptsHere}
 
 -- three generals, all neighbours, with m = 1, d = 1 and two orders
 abbrev pub three : Network
-three = record { generals = 3; edges = (0, 1) ∷ (0, 2) ∷ (1, 2) ∷ []; traitors = 1; diameter = 1; orders = 2; choice = Only }
+three = record {
+  generals = 3;
+  edges = (0, 1) ∷ (0, 2) ∷ (1, 2) ∷ [];
+  traitors = 1;
+  diameter = 1;
+  orders = 2;
+  choice = Only;
+}
 
 -- the messages of round 1
 abbrev pub zero_to_1 : Message
@@ -36,8 +43,15 @@ taken g v = if g == 1
     else (if v == 0 then 0 ∷ 1 ∷ [] else 0 ∷ [])
 
 abbrev pub two_orders_case : Case
-two_orders_case = record { net = three; faulty = 0 ∷ []; run = two_orders; conducts = λ g. Relays (taken g) }
+two_orders_case = record {
+  net = three;
+  faulty = 0 ∷ [];
+  run = two_orders;
+  conducts = λ g. Relays (taken g);
+}
 
 -- each lieutenant accepts both orders
 abbrev pub BothAccepted : Type 0
-BothAccepted = (g v : ℕ) → IsLoyalLieutenant two_orders_case g → AcceptsHere two_orders_case g v ↔ (v < 2)
+BothAccepted =
+    (g v : ℕ) → IsLoyalLieutenant two_orders_case g
+    → AcceptsHere two_orders_case g v ↔ (v < 2)

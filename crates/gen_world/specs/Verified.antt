@@ -14,13 +14,15 @@ use Rattle.gen_chain.specs.Verifying.{ChainVerifies}
 
 -- the signature of the digest by the leaf stands under the root
 unfoldable pub is_under : List ℕ → ℕ → List ℕ → List ℕ → Bool
-is_under root leaf digest signature = nat_lt leaf leaf_count && pointwise nat_eq (root_of leaf digest signature) root
+is_under root leaf digest signature =
+    nat_lt leaf leaf_count && pointwise nat_eq (root_of leaf digest signature) root
 
 -- the general is one of the network, and has signed the statement
 unfoldable pub has_signed : RunHeader → ℕ → Statement → List ℕ → Bool
 has_signed h general statement signature =
     nat_lt general h.network.generals
-    && is_under (headers.root_of h general) (leaf_of_order statement.order) (statement_digest h statement) signature
+    && is_under (headers.root_of h general) (leaf_of_order statement.order)
+    (statement_digest h statement) signature
 
 -- each of the signers behind a path has signed the order together with the path up to himself
 unfoldable pub are_signed : RunHeader → ℕ → List ℕ → List Signer → Bool

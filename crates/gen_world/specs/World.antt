@@ -21,7 +21,8 @@ pub record IsRelay (net : Network) (run : Run) (g l : ℕ) (message : Message) :
 -- g sends nothing in round 1, and in each later round exactly what he relays
 pub record RelaysLeast (net : Network) (run : Run) (g : ℕ) : Type 0 where
   pub silent : (message : Message) → IsSent run 1 message → message.from ≢ g
-  pub sends : (l : ℕ) (message : Message) → 0 < l → l < rounds net → message.from ≡ g → IsSent run (l + 1) message ↔ IsRelay net run g l message
+  pub sends : (l : ℕ) (message : Message) → 0 < l → l < rounds net → message.from ≡ g
+      → IsSent run (l + 1) message ↔ IsRelay net run g l message
 
 -- the run is that of the scenario of this network and order
 pub record IsWorld (net : Network) (order : ℕ) (run : Run) : Type 0 where
@@ -31,12 +32,16 @@ pub record IsWorld (net : Network) (order : ℕ) (run : Run) : Type 0 where
 
 -- two runs of one scenario have the same messages
 abbrev pub OneWorld : Type 0
-OneWorld = (net : Network) (order : ℕ) (run other : Run) → IsWorld net order run → IsWorld net order other → (message : Message) → Contains run message ↔ Contains other message
+OneWorld =
+    (net : Network) (order : ℕ) (run other : Run) → IsWorld net order run → IsWorld net order other
+    → (message : Message) → Contains run message ↔ Contains other message
 
 -- the commander decides his order alone, and a lieutenant by the orders that he accepted
 pub record IsDecision (net : Network) (order : ℕ) (run : Run) (decision : Decision) : Type 0 where
-  pub commander : decision.general ≡ 0 → (decision.orders ≡ order ∷ []) × (decision.order ≡ order)
-  pub lieutenant : decision.general ≢ 0 → LieutenantDecides net run decision.general decision.orders decision.order
+  pub commander : decision.general ≡ 0
+      → (decision.orders ≡ order ∷ []) × (decision.order ≡ order)
+  pub lieutenant : decision.general ≢ 0
+      → LieutenantDecides net run decision.general decision.orders decision.order
 
 -- the decisions of all generals, in ascending order, in the run of the scenario
 pub record IsOutcome (net : Network) (order : ℕ) (decisions : List Decision) : Type 0 where

@@ -11,11 +11,16 @@ use Rattle.gen_world.specs.World.{IsWorld}
 
 -- each lieutenant follows, with some pick
 abbrev pub LieutenantsFollow : Type 0
-LieutenantsFollow = (net : Network) (order : ℕ) (run : Run) → IsWorld net order run → (g : ℕ) → g < net.generals → g ≢ 0 → (pick : ℕ → List ℕ) × LieutenantFollows net run g pick
+LieutenantsFollow =
+    (net : Network) (order : ℕ) (run : Run) → IsWorld net order run
+    → (g : ℕ) → g < net.generals → g ≢ 0
+    → (pick : ℕ → List ℕ) × LieutenantFollows net run g pick
 
 -- the run is one in which no general is faulty, the commander with the scenario's order
 abbrev pub WorldIsSigned : Type 0
-WorldIsSigned = (net : Network) (order : ℕ) (run : Run) → IsWorld net order run → (conducts : ℕ → Conduct) × IsSignedRun net [] run conducts × (conducts 0 ≡ Commands order)
+WorldIsSigned =
+    (net : Network) (order : ℕ) (run : Run) → IsWorld net order run
+    → (conducts : ℕ → Conduct) × IsSignedRun net [] run conducts × (conducts 0 ≡ Commands order)
 
 -- the case of a run in which nobody is faulty
 abbrev pub nobody_faulty : Network → Run → (ℕ → Conduct) → Case
@@ -23,7 +28,9 @@ nobody_faulty net run conducts = record { net = net; faulty = []; run = run; con
 
 -- where no two generals are more than d edges apart, the run meets what Theorem 4 asks for, with nobody faulty
 abbrev pub WorldMeetsPremises : Type 0
-WorldMeetsPremises = (net : Network) (order : ℕ) (run : Run) → IsWorld net order run → HasDiameter net [] → (conducts : ℕ → Conduct) × Premises (nobody_faulty net run conducts) × (conducts 0 ≡ Commands order)
+WorldMeetsPremises =
+    (net : Network) (order : ℕ) (run : Run) → IsWorld net order run → HasDiameter net []
+    → (conducts : ℕ → Conduct) × Premises (nobody_faulty net run conducts) × (conducts 0 ≡ Commands order)
 
 -- every general decides this order
 abbrev pub AllDecide : ℕ → List Decision → Type 0

@@ -45,8 +45,10 @@ fn carried(
     delivery: &Delivery,
     parcel: &[u8],
 ) -> Result<Option<SignedChain>, AllocError>
-    ensures some { (c : Chain) → result ≡ Ok (Some c) → Carries header.now delivery.now parcel.now c }
-    ensures none { result ≡ Ok None → (c : Chain) → Carries header.now delivery.now parcel.now c → ⊥ }
+    ensures some { (c : Chain) → result ≡ Ok (Some c)
+        → Carries header.now delivery.now parcel.now c }
+    ensures none { result ≡ Ok None
+        → (c : Chain) → Carries header.now delivery.now parcel.now c → ⊥ }
 {
     match read_chain(alloc, parcel) {
         Err(ReadError::Memory) => Err(AllocError),

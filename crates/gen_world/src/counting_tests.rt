@@ -18,18 +18,22 @@ fn ring_of(alloc: Global, general: GeneralNo) -> Result<KeyRing, Fail> {
     Ok(KeyRing::from_seed(alloc, &general_seed(&MASTER, general))?)
 }
 
-/// The header of four generals who are all neighbours, with three rounds and two orders.
-fn header_of_four(alloc: Global) -> Result<Header, Fail> {
-    let edges = [(0, 1), (0, 2), (0, 3), (1, 2), (1, 3), (2, 3)];
-    let net = Net::new(alloc, 4, &edges, 2, 1, 2, 0)?;
+/// The header of a network whose generals have the rings under the master seed.
+fn header_over(alloc: Global, net: Net) -> Result<Header, Fail> {
     let mut roots = Vec::new(alloc);
-    for number in 0..4u8 {
-        let ring = ring_of(alloc, GeneralNo::at(number))?;
+    for number in 0..net.generals() {
+        let ring = ring_of(alloc, GeneralNo::new(number).ok_or("no general")?)?;
         let root = ring.root();
         let _leaves = ring.close();
         roots.push(root)?;
     }
     Ok(Header::new(net, roots)?)
+}
+
+/// The header of four generals who are all neighbours, with three rounds and two orders.
+fn header_of_four(alloc: Global) -> Result<Header, Fail> {
+    let edges = [(0, 1), (0, 2), (0, 3), (1, 2), (1, 3), (2, 3)];
+    header_over(alloc, Net::new(alloc, 4, &edges, 2, 1, 2, 0)?)
 }
 
 /// The chain of an order that the commander alone has signed.
@@ -143,6 +147,25 @@ fn first_of_an_order_counts(rt: HostRuntime) -> Result<(), Fail> {
     frame.push(parcel(alloc, &header, 0, &[3, 1])?)?;
     let none = counted(alloc, &header, (1, 2, 3), frame.as_slice())?;
     assert!(rt; none.is_empty());
+    Ok(())
+}
+
+#[test]
+fn each_of_fifteen_orders_counts(rt: HostRuntime) -> Result<(), Fail> {
+    let alloc = rt.alloc();
+    let header = header_over(alloc, Net::new(alloc, 2, &[(0, 1)], 0, 1, 15, 0)?)?;
+    let mut frame = Vec::new(alloc);
+    for order in 0..15u8 {
+        frame.push(parcel(alloc, &header, 14 - order, &[])?)?;
+    }
+    let all = counted(alloc, &header, (0, 1, 1), frame.as_slice())?;
+    assert_eq!(rt; all.len(), 15);
+    // They stand in the order of their parcels.
+    let mut next = 15;
+    for (order, signers) in all.as_slice() {
+        assert_eq!(rt; (*order + 1, *signers), (next, 1));
+        next = *order;
+    }
     Ok(())
 }
 

@@ -73,7 +73,9 @@ fn step(
     ensures me { OnOk result (lieutenant.new.me ≡ lieutenant.old.me) }
     ensures gone { OnOk result (lieutenant.new.gone ≡ lieutenant.old.gone + 1) }
     ensures seen { OnOk result (HasSeen net.now before.now lieutenant.new) }
-    ensures sent { OnOk result (Appends (RelayedBy net.now before.now lieutenant.old.me (lieutenant.old.gone + 1)) next.old.items next.new.items) }
+    ensures sent { OnOk result (Appends
+        (RelayedBy net.now before.now lieutenant.old.me (lieutenant.old.gone + 1))
+        next.old.items next.new.items) }
 {
     let me = lieutenant.me();
     let seen = arrivals(alloc, before, me, lieutenant.gone() + 1)?;
@@ -96,7 +98,8 @@ fn one_round(
     requires ready { All (IsReady net.now before.now gone) lieutenants.old }
     ensures numbers { OnOk result (numbers_of lieutenants.new ≡ numbers_of lieutenants.old) }
     ensures ready { OnOk result (All (IsReady net.now before.now (gone + 1)) lieutenants.new) }
-    ensures sent { IfOk result (λ next. AreRelays net.now before.now (gone + 1) (numbers_of lieutenants.old) next.items) }
+    ensures sent { IfOk result (λ next.
+        AreRelays net.now before.now (gone + 1) (numbers_of lieutenants.old) next.items) }
 {
     let mut next = Vec::new(alloc);
     for lieutenant in lieutenants.iter_mut() {
@@ -107,7 +110,9 @@ fn one_round(
 
 /// The messages of round 1: what the commander sends.
 fn first_round(alloc: Global, net: &Net, commander: &Commander) -> Result<Vec<Message>, AllocError>
-    ensures { IfOk result (λ first. (message : Sent) → Contains first.items message ↔ ((message.from ≡ 0) × AreNeighbours net.now 0 message.to × (message.order ≡ commander.now) × (message.path ≡ 0 ∷ []))) }
+    ensures { IfOk result (λ first. (message : Sent) → Contains first.items message
+        ↔ ((message.from ≡ 0) × AreNeighbours net.now 0 message.to
+        × (message.order ≡ commander.now) × (message.path ≡ 0 ∷ []))) }
 {
     let out = commander.sends(alloc, net)?;
     let mut first = Vec::new(alloc);
@@ -117,8 +122,10 @@ fn first_round(alloc: Global, net: &Net, commander: &Commander) -> Result<Vec<Me
 
 /// The lieutenants before round 1, in ascending order.
 fn all_lieutenants(alloc: Global, net: &Net) -> Result<Vec<Lieutenant>, AllocError>
-    ensures numbers { IfOk result (λ all. 0 ∷ numbers_of all.items ≡ range_with_len 0 net.now.generals) }
-    ensures ready { IfOk result (λ all. (run : Run) → IsRun net.now run → All (IsReady net.now run 0) all.items) }
+    ensures numbers { IfOk result (λ all.
+        0 ∷ numbers_of all.items ≡ range_with_len 0 net.now.generals) }
+    ensures ready { IfOk result (λ all.
+        (run : Run) → IsRun net.now run → All (IsReady net.now run 0) all.items) }
 {
     let mut all = Vec::new(alloc);
     for number in 1..net.generals() {
@@ -134,8 +141,11 @@ fn decisions(
     lieutenants: &[Lieutenant],
 ) -> Result<Vec<Decision>, AllocError>
     requires { All (λ s. (s.gone ≡ s.rounds) × (s.me ≢ 0)) lieutenants.now }
-    ensures generals { IfOk result (λ out. map (λ decision. decision.general) out.items ≡ 0 ∷ numbers_of lieutenants.now) }
-    ensures each { IfOk result (λ out. (net : Network) (run : Run) → All (HasSeen net run) lieutenants.now → All (IsDecision net commander.now run) out.items) }
+    ensures generals { IfOk result (λ out.
+        map (λ decision. decision.general) out.items ≡ 0 ∷ numbers_of lieutenants.now) }
+    ensures each { IfOk result (λ out. (net : Network) (run : Run)
+        → All (HasSeen net run) lieutenants.now
+        → All (IsDecision net commander.now run) out.items) }
 {
     let mut out = Vec::new(alloc);
     let (orders, order) = commander.decide();
@@ -157,12 +167,18 @@ fn decisions(
     Ok(out)
 }
 
-/// The decisions of all generals in the run of the scenario, in which everybody follows the algorithm
-/// and of several chains of a new order the least sender's is picked. Only memory can be refused.
+/// Returns the decisions of all generals in the run of the scenario, in which everybody follows the
+/// algorithm SM of the paper of 1982 and picks the least sender's of several messages of a new order. Where
+/// no two generals are more than d edges apart, each decides the commander's order.
+///
+/// # Errors
+///
+/// Only where memory was refused.
 pub fn run_plain(alloc: Global, scenario: &PlainScenario) -> Result<PlainRun, AllocError>
     ensures outcome { IfOk result (λ run. IsOutcome scenario.now.net scenario.now.order run) }
     // Where no two generals are more than d edges apart, all decide the commander's order.
-    ensures obeyed { HasDiameter scenario.now.net [] → IfOk result (λ run. AllDecide scenario.now.order run) }
+    ensures obeyed { HasDiameter scenario.now.net []
+        → IfOk result (λ run. AllDecide scenario.now.order run) }
 {
     let net = scenario.net();
     let commander = Commander::new(scenario.order());

@@ -1,6 +1,6 @@
 use super::*;
 use gen_net::Net;
-use gen_types::{GeneralNo, OrderNo};
+use gen_types::OrderNo;
 use std::alloc::Global;
 use std::test::Fail;
 
@@ -57,6 +57,34 @@ fn an_order_goes_as_far_as_there_are_rounds(rt: HostRuntime) -> Result<(), Fail>
     Ok(())
 }
 
+/// All pairs of 16 generals.
+fn all_edges(alloc: Global) -> Result<Vec<(u8, u8)>, Fail> {
+    let mut edges = Vec::new(alloc);
+    for b in 1..16u8 {
+        for a in 0..b {
+            edges.push((a, b))?;
+        }
+    }
+    Ok(edges)
+}
+
+#[test]
+fn the_largest_scenario_runs(rt: HostRuntime) -> Result<(), Fail> {
+    let alloc = rt.alloc();
+    let edges = all_edges(alloc)?;
+    let net = Net::new(alloc, 16, &edges, 8, 8, 15, 1)?;
+    let order = OrderNo::new(14).ok_or("no order")?;
+    assert_eq!(rt; net.edges().len(), 120);
+    if order.get() < net.orders() {
+        let run = run_plain(alloc, &PlainScenario::new(net, order))?;
+        assert_eq!(rt; run.decisions().len(), 16);
+        for decision in run.decisions() {
+            assert_eq!(rt; (decision.orders.len(), decision.order.get()), (1, 14));
+        }
+    }
+    Ok(())
+}
+
 #[test]
 fn a_scenario_keeps_what_it_is_given(rt: HostRuntime) -> Result<(), Fail> {
     let net = Net::new(rt.alloc(), 2, &[(1, 0)], 0, 1, 3, 1)?;
@@ -64,11 +92,9 @@ fn a_scenario_keeps_what_it_is_given(rt: HostRuntime) -> Result<(), Fail> {
     if order.get() < net.orders() {
         let scenario = PlainScenario::new(net, order);
         assert_eq!(rt; scenario.order().get(), 2);
-        assert!(rt;
-            scenario
-                .net()
-                .has_edge(GeneralNo::commander(), GeneralNo::at(1))
-        );
+        assert_eq!(rt; scenario.net().edges().len(), 1);
+        let (net, order) = scenario.into_parts();
+        assert_eq!(rt; (net.orders(), order.get()), (3, 2));
     }
     Ok(())
 }
@@ -78,5 +104,8 @@ fn the_laws_are_there_to_be_called(_rt: HostRuntime) -> Result<(), Fail> {
     laws::one_world();
     laws::world_follows();
     laws::theorem_four();
+    laws::derivables();
+    laws::two_orders();
+    laws::counting();
     Ok(())
 }

@@ -2,7 +2,8 @@ use Rattle.std.proofs.Common.{◌≡◌, ◌+◌, ◌++◌, ◌∷◌, [], take,
 use Rattle.std.proofs.lemmas.List.{take_more, take_all}
 use Rattle.gen_core.specs.Sending.{Appends}
 use Rattle.gen_world.specs.Loops.Rounds.{IsAmong}
-use Rattle.gen_world.proofs.Arriving.{appended, part_more}
+use Rattle.gen_core.proofs.Appending.{appended}
+use Rattle.gen_world.proofs.Arriving.{part_more}
 use Rattle.gen_world.proofs.running.push_sends.Goals as goal
 
 pub loop-part-preserved : goal.loop-part-preserved
