@@ -16,7 +16,7 @@ use Rattle.gen_net.specs.Network.{Network, IsNetwork}
 use Rattle.gen_net.specs.declared.numbers.NetNumbers.{NetNumbers}
 use Rattle.gen_net.specs.Edges.{in_place}
 use Rattle.gen_net.specs.NetworkOf.{ranges_of, network_with, network_in_place}
-use Rattle.gen_net.specs.Version.{slot_in, greatest_slot, number_of_one, number_of_two, version_bytes}
+use Rattle.gen_net.specs.Version.{slot_in, greatest_slot, version_one, version_two, version_bytes}
 use Rattle.gen_net.specs.Header.{RunHeader, slot_of, IsHeader, AreRoots, root_length, header_with, header_spelling}
 use Rattle.gen_net.specs.NetworkSpelling.{edge_bytes}
 use Rattle.gen_net.specs.HeaderReading.{root_at, Parts, parts_at, header_at}
@@ -38,18 +38,18 @@ slot_taken bytes x fits e =
     at_end {F = HeaderFault} (λ (y : Version × List ℕ). (u : ℕ) × (y.0 ≡ Two u) × Takes bytes (u ∷ []) y.1) (Two slot.0, slot.1) x e0 (slot.0, refl, t0.0))
 
 behind : (bytes : List ℕ) (number : ℕ) (rest : List ℕ) (x : Version × List ℕ) → Takes bytes (number ∷ []) rest → version_behind number rest ≡ Ok x → VersionTaken bytes x
-behind bytes number rest x t e = elim (bool_cases (eqb number number_of_one)) [
+behind bytes number rest x t e = elim (bool_cases (eqb number version_one)) [
   | inl one ↦
       let read : Ok (One, rest) ≡ Ok x = rw one at e in
-      let is : number ≡ number_of_one = eqb-true _ _ one in
+      let is : number ≡ version_one = eqb-true _ _ one in
       at_end {F = HeaderFault} (VersionTaken bytes) (One, rest) x read (rw is at t)
   | inr not_one ↦
       let next = rw not_one at e in
-      elim (bool_cases (eqb number number_of_two)) [
+      elim (bool_cases (eqb number version_two)) [
         | inl two ↦
-            let is : number ≡ number_of_two = eqb-true _ _ two in
+            let is : number ≡ version_two = eqb-true _ _ two in
             let s = slot_taken rest x t.rest_fits (rw two at next) in
-            rw s.1 (Takes-then bytes (number_of_two ∷ []) rest (s.0 ∷ []) x.1 (rw is at t) s.2)
+            rw s.1 (Takes-then bytes (version_two ∷ []) rest (s.0 ∷ []) x.1 (rw is at t) s.2)
         | inr not_two ↦
             let refused = rw not_two at next in
             absurd cc

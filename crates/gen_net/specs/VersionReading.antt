@@ -6,7 +6,7 @@ use Rattle.gen_net.specs.declared.fault.HeaderFault.{HeaderFault}
 use Rattle.gen_net.specs.declared.fault.HeaderFault.TheVariants.{Truncated, UnknownVersion}
 use Rattle.gen_net.specs.declared.version.Version.{Version}
 use Rattle.gen_net.specs.declared.version.Version.TheVariants.{One, Two}
-use Rattle.gen_net.specs.Version.{number_of_one, number_of_two}
+use Rattle.gen_net.specs.Version.{version_one, version_two}
 
 -- version 2 with the slot that stands in front
 unfoldable pub slot_at : List ℕ → Result (Version × List ℕ) HeaderFault
@@ -17,8 +17,8 @@ slot_at bytes = do
 -- the version of this number
 abbrev pub version_behind : ℕ → List ℕ → Result (Version × List ℕ) HeaderFault
 version_behind number rest =
-    if number == number_of_one then Ok (One, rest)
-    else (if number == number_of_two then slot_at rest else Err UnknownVersion)
+    if number == version_one then Ok (One, rest)
+    else (if number == version_two then slot_at rest else Err UnknownVersion)
 
 -- a version, and the bytes after it
 unfoldable pub version_at : List ℕ → Result (Version × List ℕ) HeaderFault

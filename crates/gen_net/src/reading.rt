@@ -9,7 +9,7 @@ ghost use Rattle.gen_net.specs.NetworkReading.{numbers_at, edge_at, edges_at};
 ghost use Rattle.gen_net.specs.VersionReading.{slot_at, version_at};
 
 use crate::fault::HeaderFault;
-use crate::hashing::{ROOT_LENGTH, VERSION_ONE, VERSION_TWO};
+use crate::format::{ROOT_LENGTH, VERSION_ONE, VERSION_TWO};
 use crate::headers::Header;
 use crate::net::Net;
 use crate::numbers::NetNumbers;
