@@ -1,7 +1,9 @@
+pub mod Among
 pub mod BitSteps
 pub mod ByteFields
 pub mod Cutting
 pub mod Decimals
+pub mod Front
 pub mod Laws
 pub mod Lists
 pub mod ManyFields

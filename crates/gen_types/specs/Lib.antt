@@ -4,8 +4,11 @@ pub mod Bits
 pub mod Bytes
 pub mod ChoiceOf
 pub mod Choices
+pub mod Ends
+pub mod Heights
 pub mod Members
 pub mod PathLaws
 pub mod PathModel
 pub mod Reading
+pub mod Spelled
 pub mod Texts

@@ -2,16 +2,22 @@
 //!
 //! A reader of bytes takes one field after another. A field that does not stand whole in front of the
 //! bytes is refused with the fault that the caller names.
-ghost use Rattle.std.specs.Prelude.{◌≡◌, length, IfOk};
+ghost use Rattle.std.specs.Prelude.{◌≡◌, length, IfOk, IfErr};
 ghost use Rattle.std.specs.Int.{w16, w32, w64};
 ghost use Rattle.gen_types.specs.Reading.{Gives};
-ghost use Rattle.gen_types.specs.Bytes.{byte_at, number_at, bytes_at as slice_at};
+ghost use Rattle.gen_types.specs.Spelled.{IsField};
+ghost use Rattle.gen_types.specs.Bytes as front;
 
 use crate::reading::ReadError;
 
-/// Returns the first byte, and the bytes after it. It answers this fault where there is none.
+/// Returns the first byte, and the bytes after it.
+///
+/// # Errors
+///
+/// The fault `short` where there is none; no call of this module asks for memory.
 pub fn u8_at<F: Copy>(bytes: &[u8], short: F) -> Result<(u8, &[u8]), ReadError<F>>
-    ensures { Gives (λ x. (x.0, x.1.now)) result (byte_at short bytes.now) }
+    ensures exact { IsField result (front.byte_at short bytes.now) }
+    ensures short { IfErr result (λ e. e ≡ ReadError.Fault short) }
 {
     match bytes {
         [] => Err(ReadError::Fault(short)),
@@ -19,15 +25,19 @@ pub fn u8_at<F: Copy>(bytes: &[u8], short: F) -> Result<(u8, &[u8]), ReadError<F
     }
 }
 
-/// Returns the first bytes, this many of them, and the bytes after them. It answers this fault where
-/// there are fewer.
+/// Returns the first bytes, `count` of them, and the bytes after them.
+///
+/// # Errors
+///
+/// The fault `short` where there are fewer.
 pub fn bytes_at<F: Copy>(
     bytes: &[u8],
     count: usize,
     short: F,
 ) -> Result<(&[u8], &[u8]), ReadError<F>>
-    ensures exact { Gives (λ x. (x.0.now, x.1.now)) result (slice_at short count bytes.now) }
+    ensures exact { Gives (λ x. (x.0.now, x.1.now)) result (front.bytes_at short count bytes.now) }
     ensures width { IfOk result (λ x. length x.0.now ≡ count) }
+    ensures short { IfErr result (λ e. e ≡ ReadError.Fault short) }
 {
     if bytes.len() < count {
         return Err(ReadError::Fault(short));
@@ -36,10 +46,14 @@ pub fn bytes_at<F: Copy>(
     Ok((front, rest))
 }
 
-/// Returns the number in the first two bytes, big-endian, and the bytes after them. It answers this fault
-/// where there are fewer.
+/// Returns the number in the first two bytes, big-endian, and the bytes after them.
+///
+/// # Errors
+///
+/// The fault `short` where there are fewer.
 pub fn u16_at<F: Copy>(bytes: &[u8], short: F) -> Result<(u16, &[u8]), ReadError<F>>
-    ensures { Gives (λ x. (x.0, x.1.now)) result (number_at short w16 bytes.now) }
+    ensures exact { IsField result (front.number_at short w16 bytes.now) }
+    ensures short { IfErr result (λ e. e ≡ ReadError.Fault short) }
 {
     if bytes.len() < 2 {
         return Err(ReadError::Fault(short));
@@ -48,10 +62,14 @@ pub fn u16_at<F: Copy>(bytes: &[u8], short: F) -> Result<(u16, &[u8]), ReadError
     Ok((u16::from_be_bytes([front[0], front[1]]), rest))
 }
 
-/// Returns the number in the first four bytes, big-endian, and the bytes after them. It answers this
-/// fault where there are fewer.
+/// Returns the number in the first four bytes, big-endian, and the bytes after them.
+///
+/// # Errors
+///
+/// The fault `short` where there are fewer.
 pub fn u32_at<F: Copy>(bytes: &[u8], short: F) -> Result<(u32, &[u8]), ReadError<F>>
-    ensures { Gives (λ x. (x.0, x.1.now)) result (number_at short w32 bytes.now) }
+    ensures exact { IsField result (front.number_at short w32 bytes.now) }
+    ensures short { IfErr result (λ e. e ≡ ReadError.Fault short) }
 {
     if bytes.len() < 4 {
         return Err(ReadError::Fault(short));
@@ -61,10 +79,14 @@ pub fn u32_at<F: Copy>(bytes: &[u8], short: F) -> Result<(u32, &[u8]), ReadError
     Ok((number, rest))
 }
 
-/// Returns the number in the first eight bytes, big-endian, and the bytes after them. It answers this
-/// fault where there are fewer.
+/// Returns the number in the first eight bytes, big-endian, and the bytes after them.
+///
+/// # Errors
+///
+/// The fault `short` where there are fewer.
 pub fn u64_at<F: Copy>(bytes: &[u8], short: F) -> Result<(u64, &[u8]), ReadError<F>>
-    ensures { Gives (λ x. (x.0, x.1.now)) result (number_at short w64 bytes.now) }
+    ensures exact { IsField result (front.number_at short w64 bytes.now) }
+    ensures short { IfErr result (λ e. e ≡ ReadError.Fault short) }
 {
     if bytes.len() < 8 {
         return Err(ReadError::Fault(short));

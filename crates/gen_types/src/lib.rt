@@ -8,6 +8,7 @@
 
 mod choices;
 mod fields;
+mod heights;
 pub mod limits;
 mod number_set;
 mod numbers;
@@ -18,7 +19,8 @@ mod texts;
 
 pub use choices::{Choice, ChoiceKind, MedianOrder, OnlyOrRetreat};
 pub use fields::{bytes_at, u8_at, u16_at, u32_at, u64_at};
-pub use numbers::{GeneralNo, OrderNo};
+pub use heights::TreeHeight;
+pub use numbers::{GeneralNo, NumberFault, OrderNo};
 pub use paths::{Path, PathFault};
 pub use reading::{ReadError, check};
 pub use sets::{GeneralMembers, GeneralSet, OrderMembers, OrderSet};

@@ -1,6 +1,7 @@
 //! Sets of numbers below 16, kept as the bits of one number.
 ghost use Rattle.std.specs.Prelude.{IsTrue, ℕ, ◌≡◌, ◌<◌, ◌↔◌, ◌⊎◌, [], List, Contains, AllPairs, length, slice_get, IfSome, IsSome};
 ghost use Rattle.gen_types.specs.Ascending.{IsListOf};
+ghost use Rattle.gen_types.specs.Bits.{members_of, bits_of};
 ghost use Rattle.std.specs.Cmp.{partial_equiv_from_equiv};
 ghost use Rattle.std.specs.Cmp.Lexicographic.{pointwise};
 ghost use Rattle.std.specs.Bool.{nat_eq};
@@ -35,6 +36,20 @@ impl NumberSet {
         ensures { result ≡ [] }
     {
         NumberSet { bits: 0 }
+    }
+
+    /// The set of the numbers whose bits are set.
+    pub fn from_bits(bits: u16) -> NumberSet
+        ensures { result ≡ members_of bits }
+    {
+        NumberSet { bits }
+    }
+
+    /// The number of which exactly the bits of the members are set.
+    pub fn bits(&self) -> u16
+        ensures { result ≡ bits_of self.now }
+    {
+        self.bits
     }
 
     /// Whether the number is a member.

@@ -1,11 +1,23 @@
 //! The numbers of generals and of orders.
-ghost use Rattle.std.specs.Prelude.{ℕ, ◌≡◌, ◌<◌};
+ghost use Rattle.std.specs.Prelude.{ℕ, ◌≡◌, ◌<◌, Some, decimal};
 ghost use Rattle.std.specs.Option.{SomeIff};
+ghost use Rattle.std.specs.Result.{OkIff};
+ghost use Rattle.gen_types.specs.declared.numbers.NumberFault.TheVariants.{AboveFifteen};
 
+use std::fmt;
 use std::marker::Model;
+use thiserror::Error;
+
+/// Why a number is no general's and no order's.
+#[derive(Clone, Copy, PartialEq, Eq, Debug, Error)]
+pub enum NumberFault {
+    /// The number is above 15.
+    #[error("the number is above 15")]
+    AboveFifteen,
+}
 
 /// The number of a general, 0 to 15. General 0 is the commander.
-#[derive(Clone, Copy, PartialEq, Eq, PartialOrd, Ord, Debug)]
+#[derive(Clone, Copy, PartialEq, Eq, PartialOrd, Ord, Hash, Debug)]
 pub struct GeneralNo {
     number: u8,
 }
@@ -58,7 +70,7 @@ impl GeneralNo {
 
 /// The number of an order, 0 to 15. Order 0 is RETREAT, the order of section 4 of the paper of 1982 for
 /// a lieutenant whom no order reaches.
-#[derive(Clone, Copy, PartialEq, Eq, PartialOrd, Ord, Debug)]
+#[derive(Clone, Copy, PartialEq, Eq, PartialOrd, Ord, Hash, Debug)]
 pub struct OrderNo {
     number: u8,
 }
@@ -106,5 +118,51 @@ impl OrderNo {
         ensures below { result < 16 }
     {
         self.number
+    }
+}
+
+impl TryFrom<u8> for GeneralNo {
+    type Error = NumberFault;
+
+    ghost try_from_gives = { λ number result. OkIff result (number < 16) number };
+
+    /// # Errors
+    ///
+    /// `AboveFifteen` exactly where the number is above 15.
+    fn try_from(number: u8) -> Result<GeneralNo, NumberFault> {
+        GeneralNo::new(number).ok_or(NumberFault::AboveFifteen)
+    }
+}
+
+impl fmt::Display for GeneralNo {
+    ghost output = { λ number. Some (decimal number) };
+
+    /// Writes the number in decimal digits.
+    fn fmt<W: fmt::Write>(&self, f: &mut fmt::Formatter<W>) -> fmt::Result {
+        let number = self.number;
+        write!(f, "{number}")
+    }
+}
+
+impl TryFrom<u8> for OrderNo {
+    type Error = NumberFault;
+
+    ghost try_from_gives = { λ number result. OkIff result (number < 16) number };
+
+    /// # Errors
+    ///
+    /// `AboveFifteen` exactly where the number is above 15.
+    fn try_from(number: u8) -> Result<OrderNo, NumberFault> {
+        OrderNo::new(number).ok_or(NumberFault::AboveFifteen)
+    }
+}
+
+impl fmt::Display for OrderNo {
+    ghost output = { λ number. Some (decimal number) };
+
+    /// Writes the number in decimal digits.
+    fn fmt<W: fmt::Write>(&self, f: &mut fmt::Formatter<W>) -> fmt::Result {
+        let number = self.number;
+        write!(f, "{number}")
     }
 }

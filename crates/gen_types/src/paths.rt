@@ -1,9 +1,10 @@
 //! Paths: who signed an order, one after another.
-ghost use Rattle.std.specs.Prelude.{IsTrue, ℕ, ◌≡◌, ◌≢◌, ◌<◌, ◌≤◌, ◌-◌, ◌↔◌, ◌++◌, [], ◌∷◌, List, Contains, AllPairs, All, length, slice_get, OnOk, OnErr};
+ghost use Rattle.std.specs.Prelude.{IsTrue, ◌≡◌, ◌≢◌, ◌<◌, ◌≤◌, ◌-◌, ◌↔◌, ◌++◌, [], ◌∷◌, Contains, AllPairs, All, length, slice_get, OnOk, OnErr};
 ghost use Rattle.std.specs.Cmp.{partial_equiv_from_equiv};
 ghost use Rattle.std.specs.Cmp.Lexicographic.{pointwise};
 ghost use Rattle.std.specs.Bool.{nat_eq};
 ghost use Rattle.std.proofs.lemmas.Cmp.{nat_list_eq_equiv};
+ghost use Rattle.gen_types.specs.Ends.{BeginsWith, EndsWith};
 
 use crate::numbers::GeneralNo;
 use std::marker::Model;
@@ -25,7 +26,7 @@ pub enum PathFault {
 ///
 /// The path of the message `v:0:j1:..:jk` of section 4 of the paper of 1982 is `0, j1, .., jk`: each of
 /// its generals signed the order together with the path up to himself.
-#[derive(Clone, Copy, Debug)]
+#[derive(Clone, Copy, Hash, Debug)]
 pub struct Path {
     generals: [GeneralNo; 16],
     len: usize,
@@ -56,6 +57,15 @@ impl Path {
             generals: [GeneralNo::commander(); 16],
             len: 0,
         }
+    }
+
+    /// Returns the path of the commander alone, with which every message of a run begins.
+    pub fn commander() -> Path
+        ensures { result ≡ 0 ∷ [] }
+    {
+        let mut path = Path::new();
+        path.push_new(GeneralNo::commander());
+        path
     }
 
     /// Returns how many generals the path has, at most 16.
@@ -98,9 +108,27 @@ impl Path {
 
     /// Returns whether the first generals of this path are exactly those of the other.
     pub fn starts_with(&self, front: &Path) -> bool
-        ensures { IsTrue result ↔ ((rest : List ℕ) × (self.now ≡ front.now ++ rest)) }
+        ensures { IsTrue result ↔ BeginsWith self.now front.now }
     {
         self.generals().starts_with(front.generals())
+    }
+
+    /// Returns whether the general is the last of the path.
+    pub fn ends_with(&self, general: GeneralNo) -> bool
+        ensures { IsTrue result ↔ EndsWith self.now general }
+    {
+        self.generals().ends_with(&[general])
+    }
+
+    /// Puts the general at the end of the path, which must have fewer than 16 generals and not him.
+    pub fn push_new(&mut self, general: GeneralNo)
+        requires room { length self.old < 16 }
+        requires new { ¬ Contains self.old general }
+        ensures { self.new ≡ self.old ++ general ∷ [] }
+    {
+        let _below_16 = general.get();
+        self.generals[self.len] = general;
+        self.len += 1;
     }
 
     /// Puts the general at the end of the path.
@@ -119,10 +147,17 @@ impl Path {
         if self.contains(general) {
             return Err(PathFault::Repeated);
         }
-        let below = general.get();
-        self.generals[self.len] = general;
-        self.len += 1;
+        self.push_new(general);
         Ok(())
+    }
+}
+
+impl Default for Path {
+    ghost is_default = { λ path. path ≡ [] };
+
+    /// Returns the empty path.
+    fn default() -> Path {
+        Path::new()
     }
 }
 

@@ -2,6 +2,7 @@
 ghost use Rattle.std.specs.Prelude.{IsTrue, ℕ, ◌≡◌, ◌<◌, ◌↔◌, ◌⊎◌, [], ◌∷◌, List, Contains, AllPairs, length, slice_get, IsSome};
 ghost use Rattle.std.specs.Iterator.{YieldsFirst, item_count};
 ghost use Rattle.gen_types.specs.Ascending.{IsListOf};
+ghost use Rattle.gen_types.specs.Bits.{members_of, bits_of};
 
 use crate::number_set::NumberSet;
 use crate::numbers::{GeneralNo, OrderNo};
@@ -38,6 +39,22 @@ impl GeneralSet {
         let mut set = GeneralSet::new();
         set.insert(general);
         set
+    }
+
+    /// Returns the set of the generals whose bits are set: bit k is that of general k.
+    pub fn from_bits(bits: u16) -> GeneralSet
+        ensures { result ≡ members_of bits }
+    {
+        GeneralSet {
+            members: NumberSet::from_bits(bits),
+        }
+    }
+
+    /// Returns the number of which exactly the bits of the members are set: bit k is that of general k.
+    pub fn bits(&self) -> u16
+        ensures { result ≡ bits_of self.now }
+    {
+        self.members.bits()
     }
 
     /// Returns whether the general is a member.
@@ -93,12 +110,33 @@ impl GeneralSet {
     }
 }
 
+impl Default for GeneralSet {
+    ghost is_default = { λ set. set ≡ [] };
+
+    /// Returns the empty set.
+    fn default() -> GeneralSet {
+        GeneralSet::new()
+    }
+}
+
 impl IntoIterator for GeneralSet {
     type Item = GeneralNo;
 
     type IntoIter = GeneralMembers;
 
     ghost into_iter_gives = { λ set members. members ≡ set };
+
+    fn into_iter(self) -> GeneralMembers {
+        self.iter()
+    }
+}
+
+impl IntoIterator for &GeneralSet {
+    type Item = GeneralNo;
+
+    type IntoIter = GeneralMembers;
+
+    ghost into_iter_gives = { λ set members. members ≡ set.now };
 
     fn into_iter(self) -> GeneralMembers {
         self.iter()
@@ -167,6 +205,22 @@ impl OrderSet {
         set
     }
 
+    /// Returns the set of the orders whose bits are set: bit k is that of order k.
+    pub fn from_bits(bits: u16) -> OrderSet
+        ensures { result ≡ members_of bits }
+    {
+        OrderSet {
+            members: NumberSet::from_bits(bits),
+        }
+    }
+
+    /// Returns the number of which exactly the bits of the members are set: bit k is that of order k.
+    pub fn bits(&self) -> u16
+        ensures { result ≡ bits_of self.now }
+    {
+        self.members.bits()
+    }
+
     /// Returns whether the order is a member.
     pub fn contains(&self, order: OrderNo) -> bool
         ensures { IsTrue result ↔ Contains self.now order }
@@ -220,12 +274,33 @@ impl OrderSet {
     }
 }
 
+impl Default for OrderSet {
+    ghost is_default = { λ set. set ≡ [] };
+
+    /// Returns the empty set.
+    fn default() -> OrderSet {
+        OrderSet::new()
+    }
+}
+
 impl IntoIterator for OrderSet {
     type Item = OrderNo;
 
     type IntoIter = OrderMembers;
 
     ghost into_iter_gives = { λ set members. members ≡ set };
+
+    fn into_iter(self) -> OrderMembers {
+        self.iter()
+    }
+}
+
+impl IntoIterator for &OrderSet {
+    type Item = OrderNo;
+
+    type IntoIter = OrderMembers;
+
+    ghost into_iter_gives = { λ set members. members ≡ set.now };
 
     fn into_iter(self) -> OrderMembers {
         self.iter()

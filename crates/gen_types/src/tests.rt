@@ -87,6 +87,22 @@ fn numbers(rt: HostRuntime) {
             "order {number}"
         );
     }
+    for (number, want) in [
+        (0, Ok(0)),
+        (15, Ok(15)),
+        (16, Err(NumberFault::AboveFifteen)),
+    ] {
+        assert_eq!(rt;
+            GeneralNo::try_from(number).map(GeneralNo::get),
+            want,
+            "general {number}"
+        );
+        assert_eq!(rt;
+            OrderNo::try_from(number).map(OrderNo::get),
+            want,
+            "order {number}"
+        );
+    }
     assert_eq!(rt; GeneralNo::at(7).get(), 7);
     assert_eq!(rt; OrderNo::at(7).get(), 7);
     assert_eq!(rt; GeneralNo::commander().get(), 0);
@@ -95,8 +111,8 @@ fn numbers(rt: HostRuntime) {
 
 #[test]
 fn sets_ascend(rt: HostRuntime) {
-    let mut generals = GeneralSet::new();
-    let mut orders = OrderSet::new();
+    let mut generals = GeneralSet::default();
+    let mut orders = OrderSet::default();
     assert!(rt; generals.is_empty() && orders.is_empty());
     for (number, new) in [(9, true), (0, true), (15, true), (9, false), (0, false)] {
         assert_eq!(rt;
@@ -120,7 +136,11 @@ fn sets_ascend(rt: HostRuntime) {
             "order {number}"
         );
     }
+    assert!(rt; generals.bits() == 0x8201 && orders.bits() == 0x8201);
+    assert!(rt; GeneralSet::from_bits(0x8201) == generals && OrderSet::from_bits(0x8201) == orders);
     let ascending = [0, 9, 15];
+    assert!(rt; (&generals).into_iter().map(GeneralNo::get).eq(ascending));
+    assert!(rt; (&orders).into_iter().map(OrderNo::get).eq(ascending));
     assert!(rt; generals.iter().map(GeneralNo::get).eq(ascending));
     assert!(rt; generals.into_iter().map(GeneralNo::get).eq(ascending));
     assert!(rt; orders.iter().map(OrderNo::get).eq(ascending));
@@ -143,8 +163,8 @@ fn sets_ascend(rt: HostRuntime) {
 
 #[test]
 fn paths_refuse(rt: HostRuntime) -> Result<(), Fail> {
-    let mut path = Path::new();
-    assert!(rt; path.is_empty() && path.last().is_none());
+    let mut path = Path::default();
+    assert!(rt; path.is_empty() && path.last().is_none() && !path.ends_with(GeneralNo::at(0)));
     for number in 0..16 {
         let before = path;
         assert_eq!(rt; path.push(GeneralNo::at(number)), Ok(()));
@@ -167,7 +187,14 @@ fn paths_refuse(rt: HostRuntime) -> Result<(), Fail> {
     assert!(rt; short.len() == 3 && !path.starts_with(&short));
     assert!(rt; short.generals().iter().map(|g| g.get()).eq([0, 2, 1]));
     assert!(rt; short.contains(GeneralNo::at(1)) && !short.contains(GeneralNo::at(3)));
+    assert!(rt; short.ends_with(GeneralNo::at(1)) && !short.ends_with(GeneralNo::at(0)));
+    let mut pair = Path::commander();
+    assert!(rt; pair.generals() == [GeneralNo::at(0)].as_slice() && short.starts_with(&pair));
+    pair.push_new(GeneralNo::at(2));
+    assert!(rt; pair.generals() == [GeneralNo::at(0), GeneralNo::at(2)].as_slice());
     let alloc = rt.alloc();
+    assert_eq!(rt; OrderNo::at(15).to_string(alloc)?.as_str(), "15");
+    assert_eq!(rt; GeneralNo::at(7).to_string(alloc)?.as_str(), "7");
     assert_eq!(rt;
         PathFault::Full.to_string(alloc)?.as_str(),
         "the path is full"
@@ -180,7 +207,7 @@ fn paths_refuse(rt: HostRuntime) -> Result<(), Fail> {
 }
 
 #[test]
-fn readers_share(rt: HostRuntime) {
+fn readers_share(rt: HostRuntime) -> Result<(), Fail> {
     assert_eq!(rt; check(true, 'H'), Ok(()));
     assert_eq!(rt; check(false, 'H'), Err(ReadError::Fault('H')));
     assert_eq!(rt; ReadError::<char>::from(AllocError), ReadError::Memory);
@@ -188,6 +215,22 @@ fn readers_share(rt: HostRuntime) {
         ReadError::<char>::from(AllocFailed { value: 1 }),
         ReadError::Memory
     );
+    let alloc = rt.alloc();
+    let shown = [ReadError::Memory, ReadError::Fault('H')];
+    let texts = [shown[0].to_string(alloc)?, shown[1].to_string(alloc)?];
+    assert!(rt; texts[0].as_str() == "memory was refused" && texts[1].as_str() == "H");
+    Ok(())
+}
+
+#[test]
+fn heights(rt: HostRuntime) {
+    for (height, levels, leaves) in [(TreeHeight::Four, 4, 16), (TreeHeight::Six, 6, 64)] {
+        assert_eq!(rt;
+            (height.levels(), height.leaves()),
+            (levels, leaves),
+            "{height:?}"
+        );
+    }
 }
 
 #[test]
