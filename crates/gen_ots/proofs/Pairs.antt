@@ -83,10 +83,6 @@ pub first_images-suc : (k : KeyName) (n : ℕ) → first_images k (suc n) ≡ fi
 unfolding first_images
 first_images-suc k n = refl
 
-pub first_pairs-zero : (k : KeyName) (digest : List ℕ) → first_pairs k digest 0 ≡ []
-unfolding first_pairs
-first_pairs-zero k digest = refl
-
 given_images-zero : (k : KeyName) (pairs digest : List ℕ) → given_images pairs digest 0 ≡ first_images k 0
 unfolding given_images first_images
 given_images-zero k pairs digest = refl

@@ -11,8 +11,8 @@
 //! What is promised: each call gives exactly the bytes that its contract names, a key signs at most one
 //! digest, and code that lets an unspent key go is not accepted. What is not: that nobody else can make
 //! a signature that stands for a leaf value, that seeds and secrets stay secret (calls take time that may
-//! depend on them), that memory is wiped, or that one seed, height and leaf make only one key: whoever has the
-//! seed can make the key again.
+//! depend on them), that memory is wiped, or that one seed, height and leaf make only one key: whoever
+//! has the seed can make the key again.
 #![tactic(auto)]
 
 mod hashing;
