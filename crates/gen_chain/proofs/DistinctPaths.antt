@@ -1,19 +1,16 @@
 -- Lists of distinct generals: one general more, and the test whether some general stands twice.
-use Rattle.std.proofs.Common.{◌≡◌, ◌≢◌, ◌↔◌, ◌<◌, ◌≤◌, ◌+◌, inl, inr, ℕ, Bool, true, false, ◌||◌, eqb, List, [], ◌∷◌, ◌++◌, length, Contains, All, AllPairs, Result, Ok, Err, refl, sym, ap, subst, ◌∙◌, arith, length-append, append_assoc}
-use Rattle.std.specs.Result.{IsOk}
+use Rattle.std.proofs.Common.{◌≡◌, ◌≢◌, ◌<◌, ◌≤◌, ◌+◌, inl, inr, ℕ, Bool, true, false, ◌||◌, eqb, List, [], ◌∷◌, ◌++◌, length, Contains, All, AllPairs, refl, sym, ap, subst, ◌∙◌, arith, length-append, append_assoc}
 use Rattle.std.specs.List.{list_any, range_with_len}
-use Rattle.std.proofs.lemmas.Bool.{eqb-false, ne_eqb}
-use Rattle.std.proofs.lemmas.List.{append-nil}
+use Rattle.std.proofs.lemmas.List.{append-nil, length-map}
 use Rattle.std.proofs.lemmas.List.Elements.{All-contains, Contains-append_cases}
-use Rattle.std.proofs.lemmas.List.Folds.{list_any_none}
 use Rattle.std.proofs.lemmas.List.FromFn.{length-range_with_len}
 use Rattle.std.proofs.lemmas.List.Kept.{AllPairs-cons}
-use Rattle.gen_types.specs.declared.paths.PathFault.{PathFault}
-use Rattle.gen_types.specs.declared.paths.PathFault.TheVariants.{Full, Repeated}
+use Rattle.gen_types.specs.Ends.{is_among}
+use Rattle.gen_types.proofs.Among.{among_out, out_among}
 use Rattle.gen_types.proofs.Lists.{Contains_cases, Contains_nil, Contains-middle, Contains_in_range, AllPairs_head, AllPairs_tail, AllPairs-append, All_of, length-le_from_distinct}
 use Rattle.gen_chain.specs.declared.chains.Signer.{Signer}
-use Rattle.gen_chain.specs.Chain.{path_of}
-use Rattle.gen_chain.specs.ChainOf.{repeats}
+use Rattle.gen_chain.specs.Chain.{signed_path}
+use Rattle.gen_chain.specs.ChainReading.{repeats}
 
 abbrev pub AreDistinct : List ℕ → Type 0
 AreDistinct path = AllPairs (λ g h. g ≢ h) path
@@ -53,16 +50,6 @@ has_room n path g apart below small new =
     let all = few n (path ++ g ∷ []) (distinct-push path g apart new) (below-push n path g below small) in
     omega (arith, all, length-append path (g ∷ []))
 
--- a path takes a new general
-pub takes_new : (path : List ℕ) (g : ℕ) (r : Result (Unit {0}) PathFault) → AreDistinct path → AreBelow 16 path → g < 16 → (Contains path g → ⊥)
-    → ((r ≡ Err Full) ↔ (length path ≡ 16)) → ((r ≡ Err Repeated) ↔ ((length path ≢ 16) × Contains path g)) → IsOk r
-takes_new path g (Ok u) apart below small new full repeated = refl
-takes_new path g (Err Full) apart below small new full repeated =
-    let e : length path ≡ 16 = full.0 refl in
-    let room = has_room 16 path g apart below small new in
-    absurd (omega arith)
-takes_new path g (Err Repeated) apart below small new full repeated = absurd (new (repeated.0 refl).1)
-
 -- ---- the path of signers, one after another
 
 -- who stands before a place of a list of distinct numbers doesn't stand at that place
@@ -73,19 +60,25 @@ not_before (x ∷ front) back g apart h = elim (Contains_cases x g front h) [
   | inr k ↦ not_before front back g (AllPairs_tail (λ a b. a ≢ b) x (front ++ g ∷ back) apart) k
 ]
 
-pub next_is_new : (path : List ℕ) (rest others signers : List Signer) (s : Signer) → AreDistinct (path_of signers) → rest ≡ s ∷ others → path ++ path_of rest ≡ path_of signers → Contains path s.general → ⊥
+pub next_is_new : (path : List ℕ) (rest others signers : List Signer) (s : Signer) → AreDistinct (signed_path signers) → rest ≡ s ∷ others → path ++ signed_path rest ≡ signed_path signers → Contains path s.general → ⊥
 next_is_new path rest others signers s apart e so_far =
-    let split : path ++ s.general ∷ path_of others ≡ path_of signers = rw e at so_far in
-    not_before path (path_of others) s.general (subst AreDistinct (sym split) apart)
+    let split : path ++ s.general ∷ signed_path others ≡ signed_path signers = rw e at so_far in
+    not_before path (signed_path others) s.general (subst AreDistinct (sym split) apart)
 
-pub next_path : (path longer : List ℕ) (rest others signers : List Signer) (s : Signer) → rest ≡ s ∷ others → longer ≡ path ++ s.general ∷ [] → path ++ path_of rest ≡ path_of signers → longer ++ path_of others ≡ path_of signers
+-- and before the end of a list there is room for one more
+pub next_fits : (path : List ℕ) (rest others signers : List Signer) (s : Signer) → length signers ≤ 16 → rest ≡ s ∷ others → path ++ signed_path rest ≡ signed_path signers → length path < 16
+next_fits path rest others signers s few e so_far =
+    let split : path ++ s.general ∷ signed_path others ≡ signed_path signers = rw e at so_far in
+    omega (arith, few, ap length split, length-append path (s.general ∷ signed_path others), length-map signers (λ (t : Signer). t.general))
+
+pub next_path : (path longer : List ℕ) (rest others signers : List Signer) (s : Signer) → rest ≡ s ∷ others → longer ≡ path ++ s.general ∷ [] → path ++ signed_path rest ≡ signed_path signers → longer ++ signed_path others ≡ signed_path signers
 next_path path longer rest others signers s e pushed so_far =
-    let split : path ++ s.general ∷ path_of others ≡ path_of signers = rw e at so_far in
-    ap (λ (p : List ℕ). p ++ path_of others) pushed ∙ append_assoc path (s.general ∷ []) (path_of others) ∙ split
+    let split : path ++ s.general ∷ signed_path others ≡ signed_path signers = rw e at so_far in
+    ap (λ (p : List ℕ). p ++ signed_path others) pushed ∙ append_assoc path (s.general ∷ []) (signed_path others) ∙ split
 
-pub whole_path : (path : List ℕ) (rest signers : List Signer) → rest ≡ [] → path ++ path_of rest ≡ path_of signers → path ≡ path_of signers
+pub whole_path : (path : List ℕ) (rest signers : List Signer) → rest ≡ [] → path ++ signed_path rest ≡ signed_path signers → path ≡ signed_path signers
 whole_path path rest signers e so_far =
-    let last : path ++ [] ≡ path_of signers = rw e at so_far in
+    let last : path ++ [] ≡ signed_path signers = rw e at so_far in
     sym (append-nil path) ∙ last
 
 -- ---- whether some general stands twice
@@ -94,38 +87,29 @@ neither : (a b : Bool) → (a || b) ≡ false → (a ≡ false) × (b ≡ false)
 neither true b e = absurd cc
 neither false b e = (refl, e)
 
-pub not_among : (g : ℕ) (path : List ℕ) (h : ℕ) → list_any (λ k. eqb k g) path ≡ false → Contains path h → g ≡ h → ⊥
-not_among g [] h none at same = Contains_nil h at
-not_among g (x ∷ path) h none at same =
-    let parts = neither (eqb x g) (list_any (λ k. eqb k g) path) none in
-    elim (Contains_cases x h path at) [
-      | inl e ↦ eqb-false x g parts.0 (e ∙ sym same)
-      | inr k ↦ not_among g path h parts.1 k same
-    ]
-
 pub distinct_from : (path : List ℕ) → repeats path ≡ false → AreDistinct path
 distinct_from [] e = λ i j d l m. absurd (omega arith)
 distinct_from (g ∷ path) e =
-    let parts = neither (list_any (λ h. eqb h g) path) (repeats path) e in
-    AllPairs-cons (λ a b. a ≢ b) g path (All_of (λ h. g ≢ h) path (λ h at. not_among g path h parts.0 at)) (distinct_from path parts.1)
+    let parts = neither (is_among path g) (repeats path) e in
+    AllPairs-cons (λ a b. a ≢ b) g path (All_of (λ h. g ≢ h) path (λ h at same. among_out path g parts.0 (subst (λ k. Contains path k) (sym same) at))) (distinct_from path parts.1)
 
 pub repeats_not : (path : List ℕ) → AreDistinct path → repeats path ≡ false
 repeats_not [] apart = refl
 repeats_not (g ∷ path) apart =
     let head = AllPairs_head (λ a b. a ≢ b) g path apart in
-    let once : list_any (λ h. eqb h g) path ≡ false = list_any_none (λ h. eqb h g) path (All_of (λ h. eqb h g ≡ false) path (λ h at. ne_eqb h g (λ e. All-contains (λ z. g ≢ z) path h head at (sym e)))) in
+    let once : is_among path g ≡ false = out_among path g (λ at. All-contains (λ z. g ≢ z) path g head at refl) in
     rw (once, repeats_not path (AllPairs_tail (λ a b. a ≢ b) g path apart)) refl
 
-any_of_path : (g : ℕ) (signers : List Signer) → list_any (λ h. eqb h g) (path_of signers) ≡ list_any (λ s. eqb s.general g) signers
+any_of_path : (g : ℕ) (signers : List Signer) → is_among (signed_path signers) g ≡ list_any (λ s. eqb s.general g) signers
 any_of_path g [] = refl
 any_of_path g (s ∷ signers) = ap (λ (b : Bool). eqb s.general g || b) (any_of_path g signers)
 
-pub comes_twice : (rest others : List Signer) (first : Signer) → rest ≡ first ∷ others → list_any (λ s. eqb s.general first.general) others ≡ true → repeats (path_of rest) ≡ true
+pub comes_twice : (rest others : List Signer) (first : Signer) → rest ≡ first ∷ others → list_any (λ s. eqb s.general first.general) others ≡ true → repeats (signed_path rest) ≡ true
 comes_twice rest others first e twice =
-    let t : list_any (λ h. eqb h first.general) (path_of others) ≡ true = any_of_path first.general others ∙ twice in
+    let t : is_among (signed_path others) first.general ≡ true = any_of_path first.general others ∙ twice in
     rw (e, t) refl
 
-pub comes_once : (rest others : List Signer) (first : Signer) → rest ≡ first ∷ others → list_any (λ s. eqb s.general first.general) others ≡ false → repeats (path_of others) ≡ repeats (path_of rest)
+pub comes_once : (rest others : List Signer) (first : Signer) → rest ≡ first ∷ others → list_any (λ s. eqb s.general first.general) others ≡ false → repeats (signed_path others) ≡ repeats (signed_path rest)
 comes_once rest others first e once =
-    let t : list_any (λ h. eqb h first.general) (path_of others) ≡ false = any_of_path first.general others ∙ once in
+    let t : is_among (signed_path others) first.general ≡ false = any_of_path first.general others ∙ once in
     rw (e, t) refl

@@ -1,3 +1,5 @@
 pub mod ChainLaws
 pub mod DistinctPaths
+mod LongerChains
+pub mod Parts
 mod SignedSoFar

@@ -1,5 +1,6 @@
 pub mod Chain
-pub mod ChainOf
+pub mod ChainReading
 pub mod Making
+pub mod Prefixes
 pub mod Texts
 pub mod Verifying

@@ -5,20 +5,31 @@ use Rattle.gen_tree.specs.Tree.{ring_root, tree_signature}
 use Rattle.gen_net.specs.Header.{RunHeader, root_of}
 use Rattle.gen_chain.specs.declared.chains.Signer.{Signer}
 use Rattle.gen_chain.specs.declared.statements.Statement.{Statement}
-use Rattle.gen_chain.specs.Chain.{Chain, path_of}
+use Rattle.gen_chain.specs.Chain.{Chain, signed_path}
 use Rattle.gen_chain.specs.Texts.{statement_digest}
 
 -- a general and his signature of a statement by a key
 abbrev pub signed_by : KeyName → RunHeader → Statement → ℕ → Signer
-signed_by key h statement me = record { general = me; signature = tree_signature key (statement_digest h statement) }
+signed_by key h statement me =
+    record { general = me; signature = tree_signature key (statement_digest h statement) }
 
 -- the chain that the commander alone has signed
 abbrev pub begun : RunHeader → ℕ → KeyName → Chain
-begun h order key = record { order = order; signers = signed_by key h (record { order = order; path = 0 ∷ [] }) 0 ∷ [] }
+begun h order key = record {
+  order = order;
+  signers = signed_by key h (record { order = order; path = 0 ∷ [] }) 0 ∷ [];
+}
+
+-- what one signer more signs
+abbrev pub next_statement : Chain → ℕ → Statement
+next_statement c me = record { order = c.order; path = signed_path c.signers ++ me ∷ [] }
 
 -- the chain with one signer more
 abbrev pub extended : RunHeader → Chain → ℕ → KeyName → Chain
-extended h c me key = record { order = c.order; signers = c.signers ++ signed_by key h (record { order = c.order; path = path_of c.signers ++ me ∷ [] }) me ∷ [] }
+extended h c me key = record {
+  order = c.order;
+  signers = c.signers ++ signed_by key h (next_statement c me) me ∷ [];
+}
 
 -- the key is of a ring with the general's root
 abbrev pub IsKeyOf : RunHeader → ℕ → KeyName → Type 0

@@ -1,21 +1,27 @@
--- When a chain verifies.
+-- When a signature of a statement verifies, and when a chain does.
 use Rattle.std.specs.Prelude.{◌≡◌, ◌<◌, ℕ, List, [], ◌∷◌, ◌++◌}
 use Rattle.gen_tree.specs.Tree.{Verifies}
 use Rattle.gen_net.specs.Header.{RunHeader, root_of}
 use Rattle.gen_chain.specs.declared.chains.Signer.{Signer}
 use Rattle.gen_chain.specs.declared.statements.Statement.{Statement}
-use Rattle.gen_chain.specs.Chain.{Chain, path_of}
+use Rattle.gen_chain.specs.Chain.{Chain, signed_path}
 use Rattle.gen_chain.specs.Texts.{statement_digest, leaf_of_order}
 
--- the signer is a general of the network, and his signature of the statement stands under his root and the order's leaf
-abbrev pub HasSigned : RunHeader → Statement → Signer → Type 0
-HasSigned h statement s = (s.general < h.network.generals) × Verifies (root_of h s.general) (leaf_of_order statement.order) (statement_digest h statement) s.signature
+-- The general is one of the network, and the signature of the statement stands under his root and the order's leaf.
+abbrev pub HasSigned : RunHeader → ℕ → Statement → List ℕ → Type 0
+HasSigned h general statement signature =
+    (general < h.network.generals)
+    × Verifies (root_of h general) (leaf_of_order statement.order) (statement_digest h statement) signature
+
+-- the signer has signed the order together with the path of those in front of him and himself
+abbrev pub HasSignedBehind : RunHeader → ℕ → List Signer → Signer → Type 0
+HasSignedBehind h order front s =
+    HasSigned h s.general (record { order = order; path = signed_path front ++ s.general ∷ [] }) s.signature
 
 -- each signer has signed the order together with the path up to himself
 abbrev pub AreSigned : RunHeader → ℕ → List Signer → Type 0
 AreSigned h order signers =
-    (front back : List Signer) (s : Signer) → signers ≡ front ++ s ∷ back
-    → HasSigned h (record { order = order; path = path_of front ++ s.general ∷ [] }) s
+    (front back : List Signer) (s : Signer) → signers ≡ front ++ s ∷ back → HasSignedBehind h order front s
 
 -- the order is one of the network's, and each signer has signed
 abbrev pub ChainVerifies : RunHeader → Chain → Type 0

@@ -1,17 +1,20 @@
 //! Chains.
-ghost use Rattle.std.specs.Prelude.{◌≡◌, ◌≢◌, ◌++◌, ◌∷◌, [], AllPairs, Contains};
-ghost use Rattle.gen_chain.specs.Chain.{IsChain, path_of};
+ghost use Rattle.std.specs.Prelude.{◌≡◌, ◌≢◌, ◌≤◌, AllPairs, length};
+ghost use Rattle.gen_chain.specs.Chain.{IsSignedChain, signed_path};
 
+use crate::sizes::MOST_SIGNERS;
+use gen_ots::SigRoom;
 use gen_tree::Signature;
 use gen_types::{GeneralNo, OrderNo, Path};
+use std::alloc::AllocError;
 use std::marker::Model;
 
 /// A general, and his signature.
-#[derive(Drop)]
+#[derive(Debug, Drop)]
 pub struct Signer {
     /// The general.
     pub general: GeneralNo,
-    /// What he signed with. It may be anybody's bytes: whether it is his is what `chain_verifies` says.
+    /// What he signed with. It may be anybody's bytes: whether it is his is what `has_signed` says.
     pub signature: Signature,
 }
 
@@ -20,34 +23,34 @@ pub struct Signer {
 ///
 /// Its order is at most 14. Its signers are 1 to 16 distinct generals, of whom general 0, the commander,
 /// is the first. A contract sees the order and the list of signers.
-#[derive(Drop)]
+#[derive(Debug, Drop)]
 pub struct SignedChain {
     pub(crate) order: OrderNo,
     pub(crate) signers: Vec<Signer>,
 }
 
 impl Model for SignedChain {
-    ghost use Rattle.gen_chain.specs.Chain.{Chain, IsChain};
+    ghost use Rattle.gen_chain.specs.Chain.{Chain, IsSignedChain};
 
     ghost Value = { Chain };
 
     ghost view = { λ c. record { order = c.order; signers = c.signers.items } };
 
-    ghost invariant = { λ c. IsChain (record { order = c.order; signers = c.signers.items }) };
+    ghost invariant = { λ c. IsSignedChain (record { order = c.order; signers = c.signers.items }) };
 }
 
 impl SignedChain {
     /// Returns the order, which is at most 14.
     pub fn order(&self) -> OrderNo
         ensures value { result ≡ self.now.order }
-        ensures chain { IsChain self.now }
+        ensures chain { IsSignedChain self.now }
     {
         self.order
     }
 
     /// Returns the generals who signed, from the first to the last.
     pub fn path(&self) -> Path
-        ensures { result ≡ path_of self.now.signers }
+        ensures { result ≡ signed_path self.now.signers }
     {
         path_along(&self.signers)
     }
@@ -60,25 +63,46 @@ impl SignedChain {
     }
 }
 
-/// Puts at the end of a path a general who doesn't stand in it.
-pub fn lengthen(path: &mut Path, general: GeneralNo)
-    requires { Contains path.old general → ⊥ }
-    ensures { path.new ≡ path.old ++ general ∷ [] }
-{
-    let _distinct = path.len();
-    let _below = general.get();
-    path.push(general).unwrap();
+/// A copy is equal to its original. It fails only where memory was refused.
+impl Clone for SignedChain {
+    ghost is_clone = { λ chain copy. copy ≡ chain };
+
+    fn clone(&self) -> Result<SignedChain, AllocError> {
+        let alloc = *self.signers.allocator();
+        let mut signers = Vec::with_capacity(alloc, self.signers.len())?;
+        'signers: for signer in &self.signers {
+            let room = SigRoom::new(alloc)?;
+            signers.push(signer.copy(room))?;
+        }
+        Ok(SignedChain {
+            order: self.order,
+            signers,
+        })
+    }
+}
+
+impl Signer {
+    /// Returns the same signer again, with his signature in other room.
+    pub fn copy(&self, room: SigRoom) -> Signer
+        ensures { result ≡ self.now }
+    {
+        Signer {
+            general: self.general,
+            signature: self.signature.copy(room),
+        }
+    }
 }
 
 /// The path of distinct signers.
 fn path_along(signers: &[Signer]) -> Path
-    requires { AllPairs (λ g h. g ≢ h) (path_of signers.now) }
-    ensures { result ≡ path_of signers.now }
+    requires few { length signers.now ≤ MOST_SIGNERS }
+    requires distinct { AllPairs (λ g h. g ≢ h) (signed_path signers.now) }
+    ensures { result ≡ signed_path signers.now }
 {
     let mut path = Path::new();
     let mut rest = signers;
     while let Some((signer, others)) = rest.split_first() {
-        lengthen(&mut path, signer.general);
+        path.push_new(signer.general);
         rest = others;
     }
     path

@@ -7,14 +7,15 @@
 //!
 //! What is promised: the texts that are signed and the bytes of a chain are exactly the definitions, each
 //! chain has one spelling, `chain_verifies` is true exactly where every signature of the chain verifies,
-//! and a chain that is made with the signers' own keys verifies. What is not: that nobody else can make a
-//! signature that verifies.
+//! a chain that is made with the signers' own keys verifies, and no statement is the head of a log. What is
+//! not: that nobody else can make a signature that verifies.
 #![tactic(auto)]
 
 mod chains;
 mod fault;
 pub mod laws;
 mod making;
+mod prefixes;
 mod reading;
 pub mod sizes;
 mod statements;
@@ -25,8 +26,10 @@ pub use chains::{SignedChain, Signer};
 pub use fault::ChainFault;
 pub use making::{ChainRoom, begin_chain, extend_chain};
 pub use reading::read_chain;
-pub use statements::{HeadText, Statement, head_digest, leaf_of_order, statement_digest};
-pub use verifying::chain_verifies;
+pub use statements::{
+    HeadText, Statement, head_digest, head_text, leaf_of_order, statement_digest, statement_text,
+};
+pub use verifying::{chain_verifies, has_signed};
 pub use writing::write_chain;
 
 #[cfg(test)]

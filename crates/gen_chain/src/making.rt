@@ -1,11 +1,12 @@
 //! Making chains, in room that was made before.
-ghost use Rattle.std.specs.Prelude.{◌≡◌, ◌≤◌, ◌<◌, ◌+◌, IfOk, [], ◌∷◌, ◌++◌, length, vec_len, vec_capacity, Contains};
-ghost use Rattle.gen_chain.specs.Chain.{path_of};
-ghost use Rattle.gen_chain.specs.Texts.{leaf_of_order as order_leaf};
+ghost use Rattle.std.specs.Prelude.{◌≡◌, ◌≤◌, ◌<◌, ◌+◌, IfOk, ◌∷◌, [], ◌++◌};
+ghost use Rattle.std.specs.Prelude.{length, vec_len, vec_capacity, Contains};
+ghost use Rattle.gen_chain.specs.Chain.{signed_path};
+ghost use Rattle.gen_chain.specs.Texts as texts;
 ghost use Rattle.gen_chain.specs.Verifying.{HasSigned, ChainVerifies};
 ghost use Rattle.gen_chain.specs.Making.{signed_by, begun, extended, IsKeyOf};
 
-use crate::chains::{SignedChain, Signer, lengthen};
+use crate::chains::{SignedChain, Signer};
 use crate::sizes::GREATEST_ORDER;
 use crate::statements::{Statement, statement_digest};
 use gen_net::Header;
@@ -40,8 +41,12 @@ impl Model for ChainRoom {
 }
 
 impl ChainRoom {
-    /// Makes room for a chain of this many signers, or says that memory was refused. Any number may be
-    /// asked for, though no chain has none or more than 16.
+    /// Returns room for a chain of this many signers. Any number may be asked for, though no chain has
+    /// none or more than 16.
+    ///
+    /// # Errors
+    ///
+    /// `AllocError` where memory is refused.
     pub fn new(alloc: Global, length: u8) -> Result<ChainRoom, AllocError>
         ensures { IfOk result (λ room. room ≡ length) }
     {
@@ -69,11 +74,7 @@ fn copy_signers(from: &[Signer], into: &mut Vec<Signer>, copies: &mut Vec<SigRoo
 {
     'signers: for signer in from {
         let room = copies.pop().unwrap();
-        let copy = Signer {
-            general: signer.general,
-            signature: signer.signature.copy(room),
-        };
-        into.push(copy).unwrap();
+        into.push(signer.copy(room)).unwrap();
     }
 }
 
@@ -87,10 +88,11 @@ fn sign_behind(
     key: LeafKey,
 )
     requires room { vec_len signers.old < vec_capacity signers.old }
-    requires leaf { key.leaf ≡ order_leaf statement.now.order }
+    requires leaf { key.leaf ≡ texts.leaf_of_order statement.now.order }
     requires me { me < header.now.network.generals }
     ensures items { signers.new.items ≡ signers.old.items ++ signed_by key header.now statement.now me ∷ [] }
-    ensures signed { IsKeyOf header.now me key → HasSigned header.now statement.now (signed_by key header.now statement.now me) }
+    ensures signed { IsKeyOf header.now me key → HasSigned header.now me statement.now
+        (signed_by key header.now statement.now me).signature }
     ensures width { length (signed_by key header.now statement.now me).signature ≡ SIGNATURE_BYTES }
 {
     let digest = statement_digest(header, statement);
@@ -102,7 +104,7 @@ fn sign_behind(
     signers.push(signer).unwrap();
 }
 
-/// Makes the chain of an order that general 0, the commander, alone has signed, with this key.
+/// Returns the chain of an order that general 0, the commander, alone has signed, with this key.
 ///
 /// It asks that the order is at most 14, that the room is for 1 signer or more, and that the key is one of
 /// the order's leaf. The key is spent. It takes no memory beyond the rooms, and can't fail. The chain
@@ -116,25 +118,25 @@ pub fn begin_chain(
 ) -> SignedChain
     requires order { order ≤ GREATEST_ORDER }
     requires room { 1 ≤ room }
-    requires leaf { key.leaf ≡ order_leaf order }
+    requires leaf { key.leaf ≡ texts.leaf_of_order order }
     ensures chain { result ≡ begun header.now order key }
-    ensures verifies { IsKeyOf header.now 0 key → order < header.now.network.orders → ChainVerifies header.now result }
+    ensures verifies { IsKeyOf header.now 0 key → order < header.now.network.orders
+        → ChainVerifies header.now result }
 {
-    let _header = header.net();
+    let _has_generals = header.net();
     let ChainRoom {
         length: _,
         mut signers,
         copies: _,
     } = room;
     let me = GeneralNo::commander();
-    let mut path = Path::new();
-    lengthen(&mut path, me);
+    let path = Path::commander();
     let statement = Statement { order, path };
     sign_behind(header, me, &statement, &mut signers, signature, key);
     SignedChain { order, signers }
 }
 
-/// Makes the chain that a general hands on: the given one with himself as one signer more, who signs with
+/// Returns the chain that a general hands on: the given one with himself as one signer more, who signs with
 /// this key.
 ///
 /// It asks that he is a general of the network and not in the chain's path, that the room is for one
@@ -150,13 +152,14 @@ pub fn extend_chain(
     key: LeafKey,
 ) -> SignedChain
     requires me { me < header.now.network.generals }
-    requires new { Contains (path_of chain.now.signers) me → ⊥ }
+    requires new { Contains (signed_path chain.now.signers) me → ⊥ }
     requires room { length chain.now.signers + 1 ≤ room }
-    requires leaf { key.leaf ≡ order_leaf chain.now.order }
+    requires leaf { key.leaf ≡ texts.leaf_of_order chain.now.order }
     ensures chain { result ≡ extended header.now chain.now me key }
-    ensures verifies { IsKeyOf header.now me key → ChainVerifies header.now chain.now → ChainVerifies header.now result }
+    ensures verifies { IsKeyOf header.now me key → ChainVerifies header.now chain.now
+        → ChainVerifies header.now result }
 {
-    let _below = me.get();
+    let _below_16 = me.get();
     let ChainRoom {
         length: _,
         mut signers,
@@ -164,7 +167,7 @@ pub fn extend_chain(
     } = room;
     let order = chain.order;
     let mut path = chain.path();
-    lengthen(&mut path, me);
+    path.push_new(me);
     copy_signers(&chain.signers, &mut signers, &mut copies);
     let statement = Statement { order, path };
     sign_behind(header, me, &statement, &mut signers, signature, key);

@@ -1,10 +1,12 @@
 //! Reading chains.
-ghost use Rattle.std.specs.Prelude.{◌≡◌, ◌≤◌, ◌++◌, ◌-◌, List, ℕ, length, IfOk, Ok, not, ◌==◌};
+ghost use Rattle.std.specs.Prelude.{◌≡◌, ◌≤◌, length, IfOk, Ok, not, ◌==◌};
 ghost use Rattle.std.specs.List.{list_any};
 ghost use Rattle.gen_types.specs.Reading.{Gives};
+ghost use Rattle.gen_types.specs.Spelled.{IsRead, IsField, IsReadFrom, StandsInFront, counted};
 ghost use Rattle.gen_types.specs.Bytes.{many_at};
-ghost use Rattle.gen_chain.specs.Chain.{Chain, IsChain, path_of, chain_spelling};
-ghost use Rattle.gen_chain.specs.ChainOf.{signer_at, front_at, signers_at, chain_at, chain_of, repeats, begins_with_commander};
+ghost use Rattle.gen_chain.specs.Chain.{Chain, IsSignedChain, signed_path, chain_spelling};
+ghost use Rattle.gen_chain.specs.ChainReading.{signer_at, chain_front_at, signers_at, chain_at};
+ghost use Rattle.gen_chain.specs.ChainReading.{repeats, begins_with_commander};
 
 use crate::chains::{SignedChain, Signer};
 use crate::fault::ChainFault;
@@ -18,15 +20,15 @@ use std::alloc::Global;
 
 /// What stands before the signers: the order, and the number of signers.
 #[derive(Clone, Copy)]
-struct Front {
+struct ChainFront {
     order: u8,
     count: u8,
 }
 
 /// A signer, and the bytes after him.
-#[tactic(auto, unfolding(crate::specs::ChainOf::signer_at))]
+#[tactic(auto, unfolding(crate::specs::ChainReading::signer_at))]
 fn read_signer(alloc: Global, bytes: &[u8]) -> Result<(Signer, &[u8]), ReadError<ChainFault>>
-    ensures { Gives (λ x. (x.0, x.1.now)) result (signer_at bytes.now) }
+    ensures { IsField result (signer_at bytes.now) }
 {
     let (number, rest) = u8_at(bytes, ChainFault::Truncated)?;
     let (signature, rest) = bytes_at(rest, SIGNATURE_BYTES, ChainFault::Truncated)?;
@@ -39,16 +41,17 @@ fn read_signer(alloc: Global, bytes: &[u8]) -> Result<(Signer, &[u8]), ReadError
     Ok((signer, rest))
 }
 
-#[tactic(auto, unfolding(crate::specs::ChainOf::front_at))]
-fn read_front(bytes: &[u8]) -> Result<(Front, &[u8]), ReadError<ChainFault>>
-    ensures exact { Gives (λ x. (record { order = x.0.order; count = x.0.count }, x.1.now)) result (front_at bytes.now) }
+#[tactic(auto, unfolding(crate::specs::ChainReading::chain_front_at))]
+fn read_front(bytes: &[u8]) -> Result<(ChainFront, &[u8]), ReadError<ChainFault>>
+    ensures exact { Gives (λ x. (record { order = x.0.order; count = x.0.count }, x.1.now)) result
+        (chain_front_at bytes.now) }
     ensures known { IfOk result (λ x. x.0.order ≤ GREATEST_ORDER) }
 {
     let (order, rest) = u8_at(bytes, ChainFault::Truncated)?;
     let (count, rest) = u8_at(rest, ChainFault::Truncated)?;
     check(order <= GREATEST_ORDER, ChainFault::OrderRange)?;
     check(1 <= count && count <= MOST_SIGNERS, ChainFault::SignerCount)?;
-    Ok((Front { order, count }, rest))
+    Ok((ChainFront { order, count }, rest))
 }
 
 /// This many signers.
@@ -78,7 +81,7 @@ fn stands_in(general: GeneralNo, signers: &[Signer]) -> bool
 
 /// Whether no general comes twice.
 fn are_distinct(signers: &[Signer]) -> bool
-    ensures { result ≡ not (repeats (path_of signers.now)) }
+    ensures { result ≡ not (repeats (signed_path signers.now)) }
 {
     let mut rest = signers;
     while let Some((first, others)) = rest.split_first() {
@@ -92,7 +95,7 @@ fn are_distinct(signers: &[Signer]) -> bool
 
 /// Whether the commander is the first.
 fn begin(signers: &[Signer]) -> bool
-    ensures { result ≡ begins_with_commander (path_of signers.now) }
+    ensures { result ≡ begins_with_commander (signed_path signers.now) }
 {
     match signers {
         [] => false,
@@ -101,7 +104,7 @@ fn begin(signers: &[Signer]) -> bool
 }
 
 /// This many signers, who make a path.
-#[tactic(auto, unfolding(crate::specs::ChainOf::signers_at))]
+#[tactic(auto, unfolding(crate::specs::ChainReading::signers_at))]
 fn read_signers(
     alloc: Global,
     count: u8,
@@ -116,12 +119,12 @@ fn read_signers(
 }
 
 /// The chain in front of the bytes, and the bytes after it.
-#[tactic(auto, unfolding(crate::specs::ChainOf::chain_at))]
+#[tactic(auto, unfolding(crate::specs::ChainReading::chain_at))]
 fn chain_in_front(
     alloc: Global,
     bytes: &[u8],
 ) -> Result<(SignedChain, &[u8]), ReadError<ChainFault>>
-    ensures { Gives (λ x. (x.0, x.1.now)) result (chain_at bytes.now) }
+    ensures { IsField result (chain_at bytes.now) }
 {
     let (front, rest) = read_front(bytes)?;
     let enough = SIGNER_BYTES * usize::from(front.count) <= rest.len();
@@ -134,28 +137,32 @@ fn chain_in_front(
     Ok((chain, rest))
 }
 
-#[tactic(auto, unfolding(crate::specs::ChainOf::chain_of))]
-fn whole(alloc: Global, bytes: &[u8]) -> Result<(SignedChain, usize), ReadError<ChainFault>>
-    ensures { Gives (λ x. x) result (chain_of bytes.now) }
+/// The chain in front of the bytes, and how many bytes it has.
+fn counted_chain(alloc: Global, bytes: &[u8]) -> Result<(SignedChain, usize), ReadError<ChainFault>>
+    ensures { IsRead result (counted chain_at bytes.now) }
 {
     let (chain, rest) = chain_in_front(alloc, bytes)?;
     Ok((chain, bytes.len() - rest.len()))
 }
 
-/// Reads the chain in front of the bytes, and says how many bytes it has; more may follow it.
+/// Returns the chain in front of the bytes, and how many bytes it has; more may follow it. Signatures are
+/// read and not verified.
 ///
-/// It answers the first rule of `ChainFault` that the bytes break, in the order that stands there; and
-/// Memory where memory was refused before. Signatures are read and not verified.
+/// # Errors
+///
+/// The first rule of `ChainFault` that the bytes break, in the order that stands there; and Memory where
+/// memory was refused before.
 pub fn read_chain(
     alloc: Global,
     bytes: &[u8],
 ) -> Result<(SignedChain, usize), ReadError<ChainFault>>
     // What is read stands there.
-    ensures found { IfOk result (λ x. IsChain x.0 × ((rest : List ℕ) × (bytes.now ≡ chain_spelling x.0 ++ rest)) × (x.1 ≡ length (chain_spelling x.0))) }
+    ensures found { IfOk result (IsReadFrom IsSignedChain chain_spelling bytes.now) }
     // What stands there is read, unless memory runs out.
-    ensures only { (c : Chain) (rest : List ℕ) → IsChain c → bytes.now ≡ chain_spelling c ++ rest → Gives (λ x. x) result (Ok (c, length (chain_spelling c))) }
+    ensures only { (c : Chain) → StandsInFront IsSignedChain chain_spelling bytes.now c
+        → IsRead result (Ok (c, length (chain_spelling c))) }
     // Which fault it is.
-    ensures exact { Gives (λ x. x) result (chain_of bytes.now) }
+    ensures exact { IsRead result (counted chain_at bytes.now) }
 {
-    whole(alloc, bytes)
+    counted_chain(alloc, bytes)
 }

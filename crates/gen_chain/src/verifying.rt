@@ -1,41 +1,45 @@
 //! Whether the signatures of a chain verify.
-ghost use Rattle.std.specs.Prelude.{IsTrue, ◌≡◌, ◌≢◌, ◌↔◌, ◌++◌, AllPairs};
-ghost use Rattle.gen_chain.specs.Chain.{path_of};
+ghost use Rattle.std.specs.Prelude.{IsTrue, ◌≡◌, ◌≢◌, ◌≤◌, ◌↔◌, AllPairs, length};
+ghost use Rattle.gen_chain.specs.Chain.{signed_path};
 ghost use Rattle.gen_chain.specs.Verifying.{HasSigned, AreSigned, ChainVerifies};
 
-use crate::chains::{SignedChain, Signer, lengthen};
+use crate::chains::{SignedChain, Signer};
+use crate::sizes::MOST_SIGNERS;
 use crate::statements::{Statement, leaf_of_order, statement_digest};
 use gen_net::Header;
-use gen_tree::verify;
-use gen_types::{OrderNo, Path};
+use gen_tree::{Signature, verify};
+use gen_types::{GeneralNo, OrderNo, Path};
 
-/// Whether a signer is a general of the network and signed the statement.
-fn has_signed(header: &Header, statement: &Statement, signer: &Signer) -> bool
-    ensures { IsTrue result ↔ HasSigned header.now statement.now signer.now }
+/// Returns whether a general signed a statement in the run of this header: he is below n, and the
+/// signature of the statement verifies under his root and the leaf of its order. It takes no memory.
+pub fn has_signed(
+    header: &Header,
+    general: GeneralNo,
+    statement: &Statement,
+    signature: &Signature,
+) -> bool
+    ensures { IsTrue result ↔ HasSigned header.now general statement.now signature.now }
 {
-    if signer.general.get() >= header.net().generals() {
+    if general.get() >= header.net().generals() {
         return false;
     }
     let digest = statement_digest(header, statement);
-    let root = header.root(signer.general);
-    verify(
-        root,
-        leaf_of_order(statement.order),
-        &digest,
-        &signer.signature,
-    )
+    let leaf = leaf_of_order(statement.order);
+    verify(header.root(general), leaf, &digest, signature)
 }
 
 /// Whether each signer signed the order together with the path up to himself.
 fn are_signed(header: &Header, order: OrderNo, signers: &[Signer]) -> bool
-    requires { AllPairs (λ g h. g ≢ h) (path_of signers.now) }
+    requires few { length signers.now ≤ MOST_SIGNERS }
+    requires distinct { AllPairs (λ g h. g ≢ h) (signed_path signers.now) }
     ensures { IsTrue result ↔ AreSigned header.now order signers.now }
 {
     let mut path = Path::new();
     let mut rest = signers;
     while let Some((signer, others)) = rest.split_first() {
-        lengthen(&mut path, signer.general);
-        let signed = has_signed(header, &Statement { order, path }, signer);
+        path.push_new(signer.general);
+        let statement = Statement { order, path };
+        let signed = has_signed(header, signer.general, &statement, &signer.signature);
         if !signed {
             return false;
         }

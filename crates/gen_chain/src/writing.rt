@@ -29,10 +29,12 @@ impl SignedChain {
     }
 
     /// Appends the one spelling of the chain: the order and the number of signers, a byte each, and for
-    /// each signer a byte with his number, and his signature.
+    /// each signer a byte with his number, and his signature. Where the vector has room for the chain, no
+    /// memory is asked for.
     ///
-    /// Where memory is refused the vector is unchanged; where the vector has room for the chain, none is
-    /// asked for.
+    /// # Errors
+    ///
+    /// `AllocError` where memory is refused: then the vector is unchanged.
     pub fn append_to(&self, out: &mut Vec<u8>) -> Result<(), AllocError>
         ensures ok { OnOk result (out.new.items ≡ out.old.items ++ chain_spelling self.now) }
         ensures err { OnErr result (out.new.items ≡ out.old.items) }
@@ -49,7 +51,11 @@ impl SignedChain {
 }
 
 /// Returns the one spelling of a chain: the order and the number of signers, a byte each, and for each
-/// signer a byte with his number, and his signature. It fails only where memory was refused.
+/// signer a byte with his number, and his signature.
+///
+/// # Errors
+///
+/// `AllocError` where memory is refused.
 pub fn write_chain(alloc: Global, chain: &SignedChain) -> Result<Vec<u8>, AllocError>
     ensures { IfOk result (λ bytes. bytes.items ≡ chain_spelling chain.now) }
 {

@@ -6,8 +6,8 @@ use Rattle.std.proofs.lemmas.List.Kept.{AllPairs-filter}
 use Rattle.std.proofs.lemmas.List.FromFn.{get_or-map-range_with_len, length-range_with_len}
 use Rattle.std.proofs.lemmas.List.{length-map}
 use Rattle.gen_types.proofs.Lists.{Contains_filtered, Contains_mapped, Contains_flat_mapped, Contains_range, AllPairs-append}
-use Rattle.gen_net.specs.Network.{IsBefore}
-use Rattle.gen_net.specs.NetworkOf.{joins, row, pairs, edges_of}
+use Rattle.gen_net.specs.Network.{IsBefore, AreEdges}
+use Rattle.gen_net.specs.Edges.{joins, row, pairs, edges_of}
 
 row_inside : (n a : ℕ) (e : ℕ × ℕ) → Contains (row n a) e → (e.0 ≡ a) × (a < e.1) × (e.1 < n)
 row_inside n a e h =
@@ -17,7 +17,7 @@ row_inside n a e h =
     let second : r.0 ≡ e.1 = ap (λ (p : ℕ × ℕ). p.1) r.2 in
     (sym first, omega (arith, k.0), omega (arith, k.1))
 
-pub edges_inside : (n : ℕ) (given : List (ℕ × ℕ)) (a b : ℕ) → Contains (edges_of n given) (a, b) → (a < b) × (b < n)
+edges_inside : (n : ℕ) (given : List (ℕ × ℕ)) (a b : ℕ) → Contains (edges_of n given) (a, b) → (a < b) × (b < n)
 edges_inside n given a b h =
     let kept = Contains_filtered (λ p. list_any (joins p.0 p.1) given) (pairs n) (a, b) h in
     let r = Contains_flat_mapped (row n) (range_with_len 0 n) (a, b) kept.0 in
@@ -40,5 +40,8 @@ rows_ascend n a (suc k) = rw flat_map-cons (AllPairs-append IsBefore (row n a) (
     let right = row_inside n r.0 y r.2 in
     inl (omega (arith, left.0, right.0, below.0))))
 
-pub edges_ascend : (n : ℕ) (given : List (ℕ × ℕ)) → AllPairs IsBefore (edges_of n given)
+edges_ascend : (n : ℕ) (given : List (ℕ × ℕ)) → AllPairs IsBefore (edges_of n given)
 edges_ascend n given = AllPairs-filter IsBefore (λ p. list_any (joins p.0 p.1) given) (pairs n) (rows_ascend n 0 n)
+
+pub given_edges : (n : ℕ) (given : List (ℕ × ℕ)) → AreEdges n (edges_of n given)
+given_edges n given = record { inside = edges_inside n given; ascending = edges_ascend n given }

@@ -1,56 +1,102 @@
--- The two laws of reading a header.
-use Rattle.std.proofs.Common.{◌≡◌, ℕ, ◌+◌, ◌-◌, ◌≤◌, true, not, eqb, List, [], ◌∷◌, ◌++◌, length, Ok, refl, sym, ap, ◌∙◌, append_assoc, arith}
+-- The two laws of reading a header, field by field.
+use Rattle.std.proofs.Common.{◌≡◌, ℕ, true, eqb, leb, List, [], ◌∷◌, ◌++◌, length, Result, Ok, refl, ap, append_assoc, inl, inr}
 use Rattle.std.specs.List.{flat_map, AllByRecursion}
-use Rattle.std.proofs.lemmas.List.{length-append}
-use Rattle.std.proofs.lemmas.Bool.{eqb-true}
-use Rattle.gen_types.specs.ChoiceOf.{choice_number}
+use Rattle.std.proofs.lemmas.Bool.{eqb-true, eq-eqb, leb-true, le-leb}
 use Rattle.gen_types.specs.Reading.{◌>>=◌, check}
 use Rattle.gen_types.specs.Bytes.{byte_at, many_at}
-use Rattle.gen_types.proofs.Steps.{after, after_check, at_end, ok_is}
+use Rattle.gen_types.proofs.Lists.{bool_cases}
+use Rattle.gen_types.proofs.Steps.{after, after_check, at_end}
 use Rattle.gen_types.proofs.ByteFields.{IsBytes, Takes, Takes-then, byte_takes, bytes_takes, bytes_again}
 use Rattle.gen_types.proofs.ManyFields.{Reads, many_take, many_again}
 use Rattle.gen_net.specs.declared.fault.HeaderFault.{HeaderFault}
-use Rattle.gen_net.specs.declared.fault.HeaderFault.TheVariants.{Truncated, UnknownVersion}
+use Rattle.gen_net.specs.declared.fault.HeaderFault.TheVariants.{Truncated, RootCount, SlotRange}
+use Rattle.gen_net.specs.declared.version.Version.{Version}
+use Rattle.gen_net.specs.declared.version.Version.TheVariants.{One, Two}
 use Rattle.gen_net.specs.Network.{Network, IsNetwork}
-use Rattle.gen_net.specs.NetworkOf.{in_place, ranges_of, network_in_place}
-use Rattle.gen_net.specs.Header.{RunHeader, IsHeader, AreRoots, header_version, root_length, edge_bytes, header_spelling}
-use Rattle.gen_net.specs.HeaderOf.{after_version, Three, three_at, edge_at, root_at, Parts, parts_at, network_from, header_at, header_of}
-use Rattle.gen_net.proofs.PlacedEdges.{good_places, placed_inside, placed_ascend, placed_again}
-use Rattle.gen_net.proofs.Ranges.{in_ranges, ranges_again}
+use Rattle.gen_net.specs.declared.numbers.NetNumbers.{NetNumbers}
+use Rattle.gen_net.specs.Edges.{in_place}
+use Rattle.gen_net.specs.NetworkOf.{ranges_of, network_with, network_in_place}
+use Rattle.gen_net.specs.Version.{slot_in, greatest_slot, number_of_one, number_of_two, version_bytes}
+use Rattle.gen_net.specs.Header.{RunHeader, slot_of, IsHeader, AreRoots, root_length, header_with, header_spelling}
+use Rattle.gen_net.specs.NetworkSpelling.{edge_bytes}
+use Rattle.gen_net.specs.HeaderReading.{root_at, Parts, parts_at, header_at}
+use Rattle.gen_net.specs.NetworkReading.{numbers_at, edge_at, edges_at}
+use Rattle.gen_net.specs.VersionReading.{slot_at, version_behind, version_at}
+use Rattle.gen_net.proofs.PlacedEdges.{placed_edges, placed_again}
+use Rattle.gen_net.proofs.Ranges.{accepted, numbers_of, accepted_again}
 
 -- ---- fields
 
-version_taken : (bytes rest : List ℕ) → IsBytes bytes → after_version bytes ≡ Ok rest → Takes bytes (header_version ∷ []) rest
-unfolding after_version
-version_taken bytes rest fits e =
-    after (byte_at Truncated bytes) (λ version. check (eqb version.0 header_version) UnknownVersion >>= λ known. Ok version.1) rest e (λ version r0 e0.
-    after_check (eqb version.0 header_version) UnknownVersion (λ known. Ok version.1) rest e0 (λ known e1.
-    let t0 = byte_takes Truncated bytes version.0 version.1 fits r0 in
-    let one : version.0 ≡ header_version = eqb-true _ _ known in
-    at_end {F = HeaderFault} (λ (y : List ℕ). Takes bytes (header_version ∷ []) y) version.1 rest e1 (rw one at t0.0)))
+abbrev VersionTaken : List ℕ → Version × List ℕ → Type 0
+VersionTaken bytes x = Takes bytes (version_bytes x.0) x.1
 
-abbrev three_bytes : Three → List ℕ
-three_bytes t = t.one ∷ t.two ∷ t.three ∷ []
+slot_taken : (bytes : List ℕ) (x : Version × List ℕ) → IsBytes bytes → slot_at bytes ≡ Ok x → (slot : ℕ) × (x.0 ≡ Two slot) × Takes bytes (slot ∷ []) x.1
+unfolding slot_at
+slot_taken bytes x fits e =
+    after (byte_at Truncated bytes) (λ slot. Ok (Two slot.0, slot.1)) x e (λ slot r0 e0.
+    let t0 = byte_takes Truncated bytes slot.0 slot.1 fits r0 in
+    at_end {F = HeaderFault} (λ (y : Version × List ℕ). (u : ℕ) × (y.0 ≡ Two u) × Takes bytes (u ∷ []) y.1) (Two slot.0, slot.1) x e0 (slot.0, refl, t0.0))
 
-abbrev ThreeTaken : List ℕ → Three × List ℕ → Type 0
-ThreeTaken bytes x = Takes bytes (three_bytes x.0) x.1
+behind : (bytes : List ℕ) (number : ℕ) (rest : List ℕ) (x : Version × List ℕ) → Takes bytes (number ∷ []) rest → version_behind number rest ≡ Ok x → VersionTaken bytes x
+behind bytes number rest x t e = elim (bool_cases (eqb number number_of_one)) [
+  | inl one ↦
+      let read : Ok (One, rest) ≡ Ok x = rw one at e in
+      let is : number ≡ number_of_one = eqb-true _ _ one in
+      at_end {F = HeaderFault} (VersionTaken bytes) (One, rest) x read (rw is at t)
+  | inr not_one ↦
+      let next = rw not_one at e in
+      elim (bool_cases (eqb number number_of_two)) [
+        | inl two ↦
+            let is : number ≡ number_of_two = eqb-true _ _ two in
+            let s = slot_taken rest x t.rest_fits (rw two at next) in
+            rw s.1 (Takes-then bytes (number_of_two ∷ []) rest (s.0 ∷ []) x.1 (rw is at t) s.2)
+        | inr not_two ↦
+            let refused = rw not_two at next in
+            absurd cc
+      ]
+]
 
-three_takes : (bytes : List ℕ) (x : Three × List ℕ) → IsBytes bytes → three_at bytes ≡ Ok x → ThreeTaken bytes x
-unfolding three_at
-three_takes bytes x fits e =
-    after (byte_at Truncated bytes) (λ one. byte_at Truncated one.1 >>= λ two. byte_at Truncated two.1 >>= λ three. Ok (record { one = one.0; two = two.0; three = three.0 }, three.1)) x e (λ one r0 e0.
-    after (byte_at Truncated one.1) (λ two. byte_at Truncated two.1 >>= λ three. Ok (record { one = one.0; two = two.0; three = three.0 }, three.1)) x e0 (λ two r1 e1.
-    after (byte_at Truncated two.1) (λ three. Ok (record { one = one.0; two = two.0; three = three.0 }, three.1)) x e1 (λ three r2 e2.
-    let t0 = byte_takes Truncated bytes one.0 one.1 fits r0 in
-    let t1 = byte_takes Truncated one.1 two.0 two.1 t0.0.rest_fits r1 in
-    let t2 = byte_takes Truncated two.1 three.0 three.1 t1.0.rest_fits r2 in
-    let last = Takes-then one.1 (two.0 ∷ []) two.1 (three.0 ∷ []) three.1 t1.0 t2.0 in
-    at_end {F = HeaderFault} (ThreeTaken bytes) (record { one = one.0; two = two.0; three = three.0 }, three.1) x e2
-    (Takes-then bytes (one.0 ∷ []) one.1 (two.0 ∷ three.0 ∷ []) three.1 t0.0 last))))
+version_taken : (bytes : List ℕ) (x : Version × List ℕ) → IsBytes bytes → version_at bytes ≡ Ok x → VersionTaken bytes x
+unfolding version_at
+version_taken bytes x fits e =
+    after (byte_at Truncated bytes) (λ number. version_behind number.0 number.1) x e (λ number r0 e0.
+    let t0 = byte_takes Truncated bytes number.0 number.1 fits r0 in
+    behind bytes number.0 number.1 x t0.0 e0)
 
-three_again : (t : Three) (rest : List ℕ) → three_at (three_bytes t ++ rest) ≡ Ok (t, rest)
-unfolding three_at
-three_again t rest = refl
+version_again : (version : Version) (rest : List ℕ) → version_at (version_bytes version ++ rest) ≡ Ok (version, rest)
+unfolding version_at slot_at
+version_again One rest = refl
+version_again (Two slot) rest = refl
+
+abbrev numbers_bytes : NetNumbers → List ℕ
+numbers_bytes n = n.generals ∷ n.traitors ∷ n.diameter ∷ n.orders ∷ n.choice ∷ []
+
+abbrev NumbersTaken : List ℕ → NetNumbers × List ℕ → Type 0
+NumbersTaken bytes x = Takes bytes (numbers_bytes x.0) x.1
+
+numbers_take : (bytes : List ℕ) (x : NetNumbers × List ℕ) → IsBytes bytes → numbers_at bytes ≡ Ok x → NumbersTaken bytes x
+unfolding numbers_at
+numbers_take bytes x fits e =
+    let made : ℕ → ℕ → ℕ → ℕ → ℕ × List ℕ → Result (NetNumbers × List ℕ) HeaderFault = λ n m d q choice. Ok (record { generals = n; traitors = m; diameter = d; orders = q; choice = choice.0 }, choice.1) in
+    after (byte_at Truncated bytes) (λ n. byte_at Truncated n.1 >>= λ m. byte_at Truncated m.1 >>= λ d. byte_at Truncated d.1 >>= λ q. byte_at Truncated q.1 >>= made n.0 m.0 d.0 q.0) x e (λ n r0 e0.
+    after (byte_at Truncated n.1) (λ m. byte_at Truncated m.1 >>= λ d. byte_at Truncated d.1 >>= λ q. byte_at Truncated q.1 >>= made n.0 m.0 d.0 q.0) x e0 (λ m r1 e1.
+    after (byte_at Truncated m.1) (λ d. byte_at Truncated d.1 >>= λ q. byte_at Truncated q.1 >>= made n.0 m.0 d.0 q.0) x e1 (λ d r2 e2.
+    after (byte_at Truncated d.1) (λ q. byte_at Truncated q.1 >>= made n.0 m.0 d.0 q.0) x e2 (λ q r3 e3.
+    after (byte_at Truncated q.1) (made n.0 m.0 d.0 q.0) x e3 (λ choice r4 e4.
+    let t0 = byte_takes Truncated bytes n.0 n.1 fits r0 in
+    let t1 = byte_takes Truncated n.1 m.0 m.1 t0.0.rest_fits r1 in
+    let t2 = byte_takes Truncated m.1 d.0 d.1 t1.0.rest_fits r2 in
+    let t3 = byte_takes Truncated d.1 q.0 q.1 t2.0.rest_fits r3 in
+    let t4 = byte_takes Truncated q.1 choice.0 choice.1 t3.0.rest_fits r4 in
+    let t34 = Takes-then d.1 (q.0 ∷ []) q.1 (choice.0 ∷ []) choice.1 t3.0 t4.0 in
+    let t24 = Takes-then m.1 (d.0 ∷ []) d.1 (q.0 ∷ choice.0 ∷ []) choice.1 t2.0 t34 in
+    let t14 = Takes-then n.1 (m.0 ∷ []) m.1 (d.0 ∷ q.0 ∷ choice.0 ∷ []) choice.1 t1.0 t24 in
+    at_end {F = HeaderFault} (NumbersTaken bytes) (record { generals = n.0; traitors = m.0; diameter = d.0; orders = q.0; choice = choice.0 }, choice.1) x e4
+    (Takes-then bytes (n.0 ∷ []) n.1 (m.0 ∷ d.0 ∷ q.0 ∷ choice.0 ∷ []) choice.1 t0.0 t14))))))
+
+numbers_again : (n : NetNumbers) (rest : List ℕ) → numbers_at (numbers_bytes n ++ rest) ≡ Ok (n, rest)
+unfolding numbers_at
+numbers_again n rest = refl
 
 abbrev AnyEdge : ℕ × ℕ → Type 0
 AnyEdge e = Unit {0}
@@ -78,6 +124,24 @@ any_edges : (es : List (ℕ × ℕ)) → AllByRecursion AnyEdge es
 any_edges [] = tt
 any_edges (e ∷ es) = (tt, any_edges es)
 
+abbrev counted_edges : List (ℕ × ℕ) → List ℕ
+counted_edges es = length es ∷ flat_map edge_bytes es
+
+abbrev EdgesTaken : List ℕ → List (ℕ × ℕ) × List ℕ → Type 0
+EdgesTaken bytes x = Takes bytes (counted_edges x.0) x.1
+
+edges_take : (bytes : List ℕ) (x : List (ℕ × ℕ) × List ℕ) → IsBytes bytes → edges_at bytes ≡ Ok x → EdgesTaken bytes x
+unfolding edges_at
+edges_take bytes x fits e =
+    after (byte_at Truncated bytes) (λ count. many_at edge_at count.0 count.1) x e (λ count r0 r1.
+    let t0 = byte_takes Truncated bytes count.0 count.1 fits r0 in
+    let t1 = many_take edge_at edge_bytes AnyEdge edges_read count.0 count.1 x t0.0.rest_fits r1 in
+    rw t1.1 (Takes-then bytes (count.0 ∷ []) count.1 (flat_map edge_bytes x.0) x.1 t0.0 t1.0))
+
+edges_again : (es : List (ℕ × ℕ)) (rest : List ℕ) → edges_at (counted_edges es ++ rest) ≡ Ok (es, rest)
+unfolding edges_at
+edges_again es rest = many_again edge_at edge_bytes AnyEdge edges_read es rest (any_edges es)
+
 abbrev IsWide : List ℕ → Type 0
 IsWide root = length root ≡ root_length
 
@@ -90,88 +154,72 @@ roots_read = record { takes = λ bytes x fits e. bytes_takes Truncated root_leng
 -- ---- what stands after the version
 
 abbrev parts_bytes : Parts → List ℕ
-parts_bytes p = three_bytes p.front ++ (three_bytes p.back ++ (flat_map edge_bytes p.edges ++ flat_map itself p.roots))
+parts_bytes p = numbers_bytes p.numbers ++ (counted_edges p.edges ++ flat_map itself p.roots)
 
 record PartsTaken (bytes : List ℕ) (x : Parts × List ℕ) : Type 0 where
   taken : Takes bytes (parts_bytes x.0) x.1
-  edges : length x.0.edges ≡ x.0.back.three
-  roots : length x.0.roots ≡ x.0.front.one
+  roots : length x.0.roots ≡ x.0.numbers.generals
   wide : AreRoots x.0.roots
 
 parts_take : (bytes : List ℕ) (x : Parts × List ℕ) → IsBytes bytes → parts_at bytes ≡ Ok x → PartsTaken bytes x
 unfolding parts_at
 parts_take bytes x fits e =
-    after (three_at bytes) (λ front. three_at front.1 >>= λ back. many_at edge_at back.0.three back.1 >>= λ edges. many_at root_at front.0.one edges.1 >>= λ roots. Ok (record { front = front.0; back = back.0; edges = edges.0; roots = roots.0 }, roots.1)) x e (λ front r0 e0.
-    after (three_at front.1) (λ back. many_at edge_at back.0.three back.1 >>= λ edges. many_at root_at front.0.one edges.1 >>= λ roots. Ok (record { front = front.0; back = back.0; edges = edges.0; roots = roots.0 }, roots.1)) x e0 (λ back r1 e1.
-    after (many_at edge_at back.0.three back.1) (λ edges. many_at root_at front.0.one edges.1 >>= λ roots. Ok (record { front = front.0; back = back.0; edges = edges.0; roots = roots.0 }, roots.1)) x e1 (λ edges r2 e2.
-    after (many_at root_at front.0.one edges.1) (λ roots. Ok (record { front = front.0; back = back.0; edges = edges.0; roots = roots.0 }, roots.1)) x e2 (λ roots r3 e3.
-    let t0 = three_takes bytes front fits r0 in
-    let t1 = three_takes front.1 back t0.rest_fits r1 in
-    let t2 = many_take edge_at edge_bytes AnyEdge edges_read back.0.three back.1 edges t1.rest_fits r2 in
-    let t3 = many_take root_at itself IsWide roots_read front.0.one edges.1 roots t2.0.rest_fits r3 in
-    let t23 = Takes-then back.1 (flat_map edge_bytes edges.0) edges.1 (flat_map itself roots.0) roots.1 t2.0 t3.0 in
-    let t13 = Takes-then front.1 (three_bytes back.0) back.1 (flat_map edge_bytes edges.0 ++ flat_map itself roots.0) roots.1 t1 t23 in
-    let t03 = Takes-then bytes (three_bytes front.0) front.1 (three_bytes back.0 ++ (flat_map edge_bytes edges.0 ++ flat_map itself roots.0)) roots.1 t0 t13 in
-    at_end {F = HeaderFault} (PartsTaken bytes) (record { front = front.0; back = back.0; edges = edges.0; roots = roots.0 }, roots.1) x e3
-    (record { taken = t03; edges = t2.1; roots = t3.1; wide = t3.2 })))))
+    let made : NetNumbers → List (ℕ × ℕ) → List (List ℕ) × List ℕ → Result (Parts × List ℕ) HeaderFault = λ n es roots. Ok (record { numbers = n; edges = es; roots = roots.0 }, roots.1) in
+    after (numbers_at bytes) (λ n. edges_at n.1 >>= λ es. many_at root_at n.0.generals es.1 >>= made n.0 es.0) x e (λ n r0 e0.
+    after (edges_at n.1) (λ es. many_at root_at n.0.generals es.1 >>= made n.0 es.0) x e0 (λ es r1 e1.
+    after (many_at root_at n.0.generals es.1) (made n.0 es.0) x e1 (λ roots r2 e2.
+    let t0 = numbers_take bytes n fits r0 in
+    let t1 = edges_take n.1 es t0.rest_fits r1 in
+    let t2 = many_take root_at itself IsWide roots_read n.0.generals es.1 roots t1.rest_fits r2 in
+    let t12 = Takes-then n.1 (counted_edges es.0) es.1 (flat_map itself roots.0) roots.1 t1 t2.0 in
+    let t02 = Takes-then bytes (numbers_bytes n.0) n.1 (counted_edges es.0 ++ flat_map itself roots.0) roots.1 t0 t12 in
+    at_end {F = HeaderFault} (PartsTaken bytes) (record { numbers = n.0; edges = es.0; roots = roots.0 }, roots.1) x e2
+    (record { taken = t02; roots = t2.1; wide = t2.2 }))))
 
-parts_again : (p : Parts) (rest : List ℕ) → length p.edges ≡ p.back.three → length p.roots ≡ p.front.one → AreRoots p.roots → parts_at (parts_bytes p ++ rest) ≡ Ok (p, rest)
+parts_again : (p : Parts) (rest : List ℕ) → length p.roots ≡ p.numbers.generals → AreRoots p.roots → parts_at (parts_bytes p ++ rest) ≡ Ok (p, rest)
 unfolding parts_at
-parts_again p rest count n wide =
-    let regrouped : (flat_map edge_bytes p.edges ++ flat_map itself p.roots) ++ rest ≡ flat_map edge_bytes p.edges ++ (flat_map itself p.roots ++ rest) = append_assoc (flat_map edge_bytes p.edges) (flat_map itself p.roots) rest in
-    let edges : many_at edge_at p.back.three (flat_map edge_bytes p.edges ++ (flat_map itself p.roots ++ rest)) ≡ Ok (p.edges, flat_map itself p.roots ++ rest) = rw (← count) (many_again edge_at edge_bytes AnyEdge edges_read p.edges (flat_map itself p.roots ++ rest) (any_edges p.edges)) in
-    let roots : many_at root_at p.front.one (flat_map itself p.roots ++ rest) ≡ Ok (p.roots, rest) = rw (← n) (many_again root_at itself IsWide roots_read p.roots rest wide) in
-    rw (three_again p.front (three_bytes p.back ++ ((flat_map edge_bytes p.edges ++ flat_map itself p.roots) ++ rest)), three_again p.back ((flat_map edge_bytes p.edges ++ flat_map itself p.roots) ++ rest), regrouped, edges, roots) refl
+parts_again p rest n wide =
+    let regrouped : (counted_edges p.edges ++ flat_map itself p.roots) ++ rest ≡ counted_edges p.edges ++ (flat_map itself p.roots ++ rest) = append_assoc (counted_edges p.edges) (flat_map itself p.roots) rest in
+    let roots : many_at root_at p.numbers.generals (flat_map itself p.roots ++ rest) ≡ Ok (p.roots, rest) = rw (← n) (many_again root_at itself IsWide roots_read p.roots rest wide) in
+    rw (numbers_again p.numbers ((counted_edges p.edges ++ flat_map itself p.roots) ++ rest), regrouped, edges_again p.edges (flat_map itself p.roots ++ rest), roots) refl
 
 -- ---- the network of the parts
 
--- what a network that was made of parts is
-record NetworkMade (p : Parts) (net : Network) : Type 0 where
+-- what a network that was made of numbers and edges is
+record NetworkMade (numbers : NetNumbers) (edges : List (ℕ × ℕ)) (net : Network) : Type 0 where
   is_network : IsNetwork net
-  generals : net.generals ≡ p.front.one
-  edges : net.edges ≡ p.edges
-  traitors : net.traitors ≡ p.front.two
-  diameter : net.diameter ≡ p.front.three
-  orders : net.orders ≡ p.back.one
-  choice : choice_number net.choice ≡ p.back.two
+  numbers_is : numbers_of net ≡ numbers
+  edges_is : net.edges ≡ edges
 
-network_made : (p : Parts) (net : Network) → network_from p ≡ Ok net → NetworkMade p net
+network_made : (numbers : NetNumbers) (edges : List (ℕ × ℕ)) (net : Network) → network_in_place numbers edges ≡ Ok net → NetworkMade numbers edges net
 unfolding network_in_place
-network_made p net e =
-    after (ranges_of p.front.one (not (in_place p.front.one p.edges)) p.front.two p.front.three p.back.one p.back.two) (λ kind. Ok (record { generals = p.front.one; edges = p.edges; traitors = p.front.two; diameter = p.front.three; orders = p.back.one; choice = kind })) net e (λ kind ranged e0.
-    let r = in_ranges _ _ _ _ _ _ _ ranged in
-    let good = good_places p.front.one p.edges r.good in
-    at_end {F = HeaderFault} (NetworkMade p) (record { generals = p.front.one; edges = p.edges; traitors = p.front.two; diameter = p.front.three; orders = p.back.one; choice = kind }) net e0 (record {
-      is_network = record {
-        some_generals = r.some_generals;
-        few_generals = r.few_generals;
-        edges = placed_inside p.front.one p.edges good;
-        ascending = placed_ascend p.front.one p.edges good;
-        few_traitors = r.few_traitors;
-        some_diameter = r.some_diameter;
-        few_diameter = r.few_diameter;
-        few_rounds = r.few_rounds;
-        some_orders = r.some_orders;
-        few_orders = r.few_orders;
-      };
-      generals = refl;
-      edges = refl;
-      traitors = refl;
-      diameter = refl;
-      orders = refl;
-      choice = r.known;
+network_made numbers edges net e =
+    after (ranges_of numbers (in_place numbers.generals edges)) (λ choice. Ok (network_with numbers edges choice)) net e (λ choice ranged e0.
+    let r = accepted numbers (in_place numbers.generals edges) choice ranged in
+    let same : numbers_of (network_with numbers edges choice) ≡ numbers = ap (λ (c : ℕ). record numbers { choice = c }) r.choice in
+    at_end {F = HeaderFault} (NetworkMade numbers edges) (network_with numbers edges choice) net e0 (record {
+      is_network = record { ranges = r.ranges; edges = placed_edges numbers.generals edges r.edges };
+      numbers_is = same;
+      edges_is = refl;
     }))
 
-parts_of : RunHeader → Parts
-parts_of h = record { front = record { one = h.network.generals; two = h.network.traitors; three = h.network.diameter }; back = record { one = h.network.orders; two = choice_number h.network.choice; three = length h.network.edges }; edges = h.network.edges; roots = h.roots }
-
-network_again : (net : Network) → IsNetwork net → network_in_place net.generals net.edges net.traitors net.diameter net.orders (choice_number net.choice) ≡ Ok net
+network_again : (net : Network) → IsNetwork net → network_in_place (numbers_of net) net.edges ≡ Ok net
 unfolding network_in_place
-network_again net ok =
-    let good : in_place net.generals net.edges ≡ true = placed_again net.generals net.edges ok.edges ok.ascending in
-    rw (good, ranges_again net ok) refl
+network_again net ok = rw (placed_again net.generals net.edges ok.edges, accepted_again net ok) refl
+
+abbrev parts_of : RunHeader → Parts
+parts_of h = record { numbers = numbers_of h.network; edges = h.network.edges; roots = h.roots }
 
 -- ---- the header
+
+-- what a header that was made of its parts is
+header_made : (version : Version) (net : Network) (roots : List (List ℕ)) (h : RunHeader) → IsNetwork net → AreRoots roots → header_with version net roots ≡ Ok h → (h ≡ record { version = version; network = net; roots = roots }) × IsHeader h
+header_made version net roots h is wide e =
+    let made : RunHeader = record { version = version; network = net; roots = roots } in
+    after_check (eqb (length roots) net.generals) RootCount (λ one_each. check (leb (slot_in version) greatest_slot) SlotRange >>= λ slot. Ok made) h e (λ counted e0.
+    after_check (leb (slot_in version) greatest_slot) SlotRange (λ slot. Ok made) h e0 (λ slot e1.
+    at_end {F = HeaderFault} (λ (k : RunHeader). (k ≡ made) × IsHeader k) made h e1
+    (refl, record { network = is; slot = leb-true _ _ slot; one_each = eqb-true _ _ counted; wide = wide })))
 
 abbrev HeaderTaken : List ℕ → RunHeader × List ℕ → Type 0
 HeaderTaken bytes x = Takes bytes (header_spelling x.0) x.1 × IsHeader x.0
@@ -179,53 +227,29 @@ HeaderTaken bytes x = Takes bytes (header_spelling x.0) x.1 × IsHeader x.0
 header_takes : (bytes : List ℕ) (x : RunHeader × List ℕ) → IsBytes bytes → header_at bytes ≡ Ok x → HeaderTaken bytes x
 unfolding header_at
 header_takes bytes x fits e =
-    after (after_version bytes) (λ rest. parts_at rest >>= λ parts. network_from parts.0 >>= λ net. Ok (record { network = net; roots = parts.0.roots }, parts.1)) x e (λ rest r0 e0.
-    after (parts_at rest) (λ parts. network_from parts.0 >>= λ net. Ok (record { network = net; roots = parts.0.roots }, parts.1)) x e0 (λ parts r1 e1.
-    after (network_from parts.0) (λ net. Ok (record { network = net; roots = parts.0.roots }, parts.1)) x e1 (λ net r2 e2.
-    let t0 = version_taken bytes rest fits r0 in
-    let t1 = parts_take rest parts t0.rest_fits r1 in
-    let made = network_made parts.0 net r2 in
-    let all = Takes-then bytes (header_version ∷ []) rest (parts_bytes parts.0) parts.1 t0 t1.taken in
-    let spelled : Takes bytes (header_spelling (record { network = net; roots = parts.0.roots })) parts.1 = rw (made.edges, made.generals, made.traitors, made.diameter, made.orders, made.choice, t1.edges) all in
-    let header : IsHeader (record { network = net; roots = parts.0.roots }) = record { network = made.is_network; one_each = t1.roots ∙ sym made.generals; wide = t1.wide } in
-    at_end {F = HeaderFault} (HeaderTaken bytes) (record { network = net; roots = parts.0.roots }, parts.1) x e2 (spelled, header))))
+    let made : Parts × List ℕ → RunHeader → Result (RunHeader × List ℕ) HeaderFault = λ parts header. Ok (header, parts.1) in
+    let joined : Version × List ℕ → Parts × List ℕ → Network → Result (RunHeader × List ℕ) HeaderFault = λ version parts net. header_with version.0 net parts.0.roots >>= made parts in
+    after (version_at bytes) (λ version. parts_at version.1 >>= λ parts. network_in_place parts.0.numbers parts.0.edges >>= joined version parts) x e (λ version r0 e0.
+    after (parts_at version.1) (λ parts. network_in_place parts.0.numbers parts.0.edges >>= joined version parts) x e0 (λ parts r1 e1.
+    after (network_in_place parts.0.numbers parts.0.edges) (joined version parts) x e1 (λ net r2 e2.
+    after (header_with version.0 net parts.0.roots) (made parts) x e2 (λ header r3 e3.
+    let t0 = version_taken bytes version fits r0 in
+    let t1 = parts_take version.1 parts t0.rest_fits r1 in
+    let net_is = network_made parts.0.numbers parts.0.edges net r2 in
+    let whole = Takes-then bytes (version_bytes version.0) version.1 (parts_bytes parts.0) parts.1 t0 t1.taken in
+    let h : RunHeader = record { version = version.0; network = net; roots = parts.0.roots } in
+    let same : parts_of h ≡ parts.0 = λ i. record { numbers = net_is.numbers_is i; edges = net_is.edges_is i; roots = parts.0.roots } in
+    let spelled : Takes bytes (header_spelling h) parts.1 = rw (← same) at whole in
+    let valid = header_made version.0 net parts.0.roots header net_is.is_network t1.wide r3 in
+    at_end {F = HeaderFault} (HeaderTaken bytes) (header, parts.1) x e3 (rw valid.0 spelled, valid.1)))))
 
 header_again : (h : RunHeader) (rest : List ℕ) → IsHeader h → header_at (header_spelling h ++ rest) ≡ Ok (h, rest)
-unfolding header_at after_version parts_of
-header_again h rest is = rw (parts_again (parts_of h) rest refl is.one_each is.wide, network_again h.network is.network) refl
+unfolding header_at
+header_again h rest is =
+    let regrouped : header_spelling h ++ rest ≡ version_bytes h.version ++ (parts_bytes (parts_of h) ++ rest) = append_assoc (version_bytes h.version) (parts_bytes (parts_of h)) rest in
+    let counted : eqb (length h.roots) h.network.generals ≡ true = eq-eqb _ _ is.one_each in
+    let slot : leb (slot_of h) greatest_slot ≡ true = le-leb _ _ is.slot in
+    rw (regrouped, version_again h.version (parts_bytes (parts_of h) ++ rest), parts_again (parts_of h) rest is.one_each is.wide, network_again h.network is.network, counted, slot) refl
 
-pub roots_fit : (bytes rest : List ℕ) (p : Parts) (after_them : List ℕ) (net : Network) → IsBytes bytes → after_version bytes ≡ Ok rest → parts_at rest ≡ Ok (p, after_them) → network_from p ≡ Ok net → length p.roots ≡ net.generals
-roots_fit bytes rest p after_them net fits e0 e1 e2 =
-    let t0 = version_taken bytes rest fits e0 in
-    let t1 = parts_take rest (p, after_them) t0.rest_fits e1 in
-    t1.roots ∙ sym (network_made p net e2).generals
-
-abbrev pub HeaderFound : List ℕ → RunHeader × ℕ → Type 0
-HeaderFound bytes x = IsHeader x.0 × ((rest : List ℕ) × (bytes ≡ header_spelling x.0 ++ rest)) × (x.1 ≡ length (header_spelling x.0))
-
-pub rest_is_shorter : (bytes : List ℕ) (h : RunHeader) (rest : List ℕ) → IsBytes bytes → header_at bytes ≡ Ok (h, rest) → length rest ≤ length bytes
-rest_is_shorter bytes h rest fits e =
-    let t = header_takes bytes (h, rest) fits e in
-    omega (arith, ap length t.0.parts ∙ length-append (header_spelling h) rest)
-
-pub header_found : (bytes : List ℕ) (x : RunHeader × ℕ) → IsBytes bytes → header_of bytes ≡ Ok x → HeaderFound bytes x
-unfolding header_of
-header_found bytes x fits e =
-    after (header_at bytes) (λ header. Ok (header.0, length bytes - length header.1)) x e (λ header r0 e0.
-    let t = header_takes bytes header fits r0 in
-    let total : length bytes ≡ length (header_spelling header.0) + length header.1 = ap length t.0.parts ∙ length-append (header_spelling header.0) header.1 in
-    let taken : length bytes - length header.1 ≡ length (header_spelling header.0) = omega (arith, total) in
-    at_end {F = HeaderFault} (HeaderFound bytes) (header.0, length bytes - length header.1) x e0 (t.1, (header.1, t.0.parts), taken))
-
-pub header_only : (bytes : List ℕ) (h : RunHeader) (rest : List ℕ) → IsHeader h → bytes ≡ header_spelling h ++ rest → header_of bytes ≡ Ok (h, length (header_spelling h))
-unfolding header_of
-header_only bytes h rest is e =
-    let read : header_at bytes ≡ Ok (h, rest) = ap header_at e ∙ header_again h rest is in
-    let total : length bytes ≡ length (header_spelling h) + length rest = ap length e ∙ length-append (header_spelling h) rest in
-    let taken : length bytes - length rest ≡ length (header_spelling h) = omega (arith, total) in
-    rw (read, taken) refl
-
-pub one_spelling : (h k : RunHeader) (rest more : List ℕ) → IsHeader h → IsHeader k → header_spelling h ++ rest ≡ header_spelling k ++ more → (h ≡ k) × (rest ≡ more)
-one_spelling h k rest more is_h is_k e =
-    let same = ok_is {F = HeaderFault} (h, rest) (k, more) (sym (header_again h rest is_h) ∙ ap header_at e ∙ header_again k more is_k) in
-    (ap (λ (p : RunHeader × List ℕ). p.0) same, ap (λ (p : RunHeader × List ℕ). p.1) same)
+pub header_reads : Reads header_at header_spelling IsHeader
+header_reads = record { takes = header_takes; again = header_again }

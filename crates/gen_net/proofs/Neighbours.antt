@@ -44,6 +44,6 @@ all_looked_at P found n so_far below = record {
 -- whoever is joined to a general is below n
 pub joined_below : (net : Network) → IsNetwork net → (a b : ℕ) → AreNeighbours net a b → b < net.generals
 joined_below net ok a b joined = elim joined [
-  | inl h ↦ (ok.edges a b h).1
-  | inr h ↦ let r = ok.edges b a h in omega (arith, r.0, r.1)
+  | inl h ↦ (ok.edges.inside a b h).1
+  | inr h ↦ let r = ok.edges.inside b a h in omega (arith, r.0, r.1)
 ]

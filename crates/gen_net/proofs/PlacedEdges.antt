@@ -1,15 +1,15 @@
 -- Edges that stand in their places are those of a network.
-use Rattle.std.proofs.Common.{◌≡◌, ◌≢◌, ℕ, ◌+◌, ◌*◌, ◌<◌, inl, inr, true, false, not, ◌&&◌, ltb, eqb, List, [], ◌∷◌, length, map, Contains, AllPairs, refl, subst, ◌∙◌, arith}
+use Rattle.std.proofs.Common.{◌≡◌, ◌≢◌, ℕ, ◌+◌, ◌*◌, ◌<◌, inl, inr, true, false, ◌&&◌, ltb, eqb, List, [], ◌∷◌, length, map, Contains, AllPairs, refl, subst, ◌∙◌, arith}
 use Rattle.std.specs.List.{range_with_len}
 use Rattle.std.proofs.lemmas.Bool.{ltb-true, lt-ltb, le-ltb, eqb-true, cases_lt, eq-eqb}
 use Rattle.std.proofs.lemmas.List.Kept.{AllPairs-cons}
 use Rattle.std.proofs.Math.Bool.{and-eq-true_iff}
-use Rattle.gen_types.proofs.Lists.{bool_cases, Contains_here, Contains_there, Contains_cases, Contains_nil, AllPairs_head, AllPairs_tail, All_of, Contains_mapped, Contains_in_range, length-le_from_distinct}
+use Rattle.gen_types.proofs.Lists.{Contains_here, Contains_there, Contains_cases, Contains_nil, AllPairs_head, AllPairs_tail, All_of, Contains_mapped, Contains_in_range, length-le_from_distinct}
 use Rattle.std.proofs.lemmas.List.{length-map}
 use Rattle.std.proofs.lemmas.List.FromFn.{length-range_with_len}
 use Rattle.std.proofs.lemmas.List.Elements.{All-contains}
-use Rattle.gen_net.specs.Network.{Network, IsBefore, IsNetwork}
-use Rattle.gen_net.specs.NetworkOf.{goes_before, goes_first, in_place}
+use Rattle.gen_net.specs.Network.{Network, IsBefore, AreEdges, IsNetwork}
+use Rattle.gen_net.specs.Edges.{goes_before, goes_first, in_place}
 
 -- what a place in order says
 record Placed (n : ℕ) (e : ℕ × ℕ) (es : List (ℕ × ℕ)) : Type 0 where
@@ -57,12 +57,9 @@ before_all e f g h k = elim h [
   | inr l ↦ elim k [ inl m ↦ inl (omega (arith, l.0)) | inr m ↦ inr (l.0 ∙ m.0, omega (arith, l.1, m.1)) ]
 ]
 
-pub good_places : (n : ℕ) (es : List (ℕ × ℕ)) → not (in_place n es) ≡ false → in_place n es ≡ true
-good_places n es h = elim (bool_cases (in_place n es)) [ inl e ↦ e | inr e ↦ absurd cc ]
-
 -- ---- from places to a network's edges
 
-pub placed_inside : (n : ℕ) (es : List (ℕ × ℕ)) → in_place n es ≡ true → (a b : ℕ) → Contains es (a, b) → (a < b) × (b < n)
+placed_inside : (n : ℕ) (es : List (ℕ × ℕ)) → in_place n es ≡ true → (a b : ℕ) → Contains es (a, b) → (a < b) × (b < n)
 placed_inside n [] h a b k = absurd (Contains_nil (a, b) k)
 placed_inside n (e ∷ es) h a b k =
     let p = placed n e es h in
@@ -71,7 +68,7 @@ placed_inside n (e ∷ es) h a b k =
       | inr later ↦ placed_inside n es p.others a b later
     ]
 
-pub placed_ascend : (n : ℕ) (es : List (ℕ × ℕ)) → in_place n es ≡ true → AllPairs IsBefore es
+placed_ascend : (n : ℕ) (es : List (ℕ × ℕ)) → in_place n es ≡ true → AllPairs IsBefore es
 placed_ascend n [] h = λ i j d l m. absurd (omega arith)
 placed_ascend n (e ∷ []) h = λ i j d l m. absurd (omega arith)
 placed_ascend n (e ∷ f ∷ es) h =
@@ -83,18 +80,24 @@ placed_ascend n (e ∷ f ∷ es) h =
       | inr there ↦ before_all e f g next (All-contains (IsBefore f) es g (AllPairs_head IsBefore f es later) there)
     ])) later
 
+pub placed_edges : (n : ℕ) (es : List (ℕ × ℕ)) → in_place n es ≡ true → AreEdges n es
+placed_edges n es h = record { inside = placed_inside n es h; ascending = placed_ascend n es h }
+
 -- ---- and back
 
 first_again : (e : ℕ × ℕ) (es : List (ℕ × ℕ)) → AllPairs IsBefore (e ∷ es) → goes_first e es ≡ true
 first_again e [] h = refl
 first_again e (f ∷ es) h = before_again e f (h 0 1 e (omega arith) (omega arith))
 
-pub placed_again : (n : ℕ) (es : List (ℕ × ℕ)) → ((a b : ℕ) → Contains es (a, b) → (a < b) × (b < n)) → AllPairs IsBefore es → in_place n es ≡ true
-placed_again n [] inside up = refl
-placed_again n (e ∷ es) inside up =
+in_place_again : (n : ℕ) (es : List (ℕ × ℕ)) → ((a b : ℕ) → Contains es (a, b) → (a < b) × (b < n)) → AllPairs IsBefore es → in_place n es ≡ true
+in_place_again n [] inside up = refl
+in_place_again n (e ∷ es) inside up =
     let here = inside e.0 e.1 (Contains_here e es) in
     placed_back n e es here.0 here.1 (first_again e es up)
-    (placed_again n es (λ a b k. inside a b (Contains_there e (a, b) es k)) (AllPairs_tail IsBefore e es up))
+    (in_place_again n es (λ a b k. inside a b (Contains_there e (a, b) es k)) (AllPairs_tail IsBefore e es up))
+
+pub placed_again : (n : ℕ) (es : List (ℕ × ℕ)) → AreEdges n es → in_place n es ≡ true
+placed_again n es edges = in_place_again n es edges.inside edges.ascending
 
 -- ---- how many there are
 
@@ -116,9 +119,9 @@ apart (e ∷ es) low up =
 -- a network has fewer than 256 edges
 pub few_edges : (net : Network) → IsNetwork net → length net.edges < 256
 few_edges net ok =
-    let low : (a b : ℕ) → Contains net.edges (a, b) → (a < b) × (b < 16) = λ a b k. let r = ok.edges a b k in (r.0, omega (arith, r.1, ok.few_generals)) in
+    let low : (a b : ℕ) → Contains net.edges (a, b) → (a < b) × (b < 16) = λ a b k. let r = ok.edges.inside a b k in (r.0, omega (arith, r.1, ok.ranges.few_generals)) in
     let inside : (x : ℕ) → Contains (map code net.edges) x → Contains (range_with_len 0 240) x = λ x k.
     let r = Contains_mapped code net.edges x k in
     let b = low r.0.0 r.0.1 r.1 in
     Contains_in_range 0 240 x (omega arith) (omega (arith, r.2, b.0, b.1)) in
-    omega (arith, length-map net.edges code, length-range_with_len 0 240, length-le_from_distinct (map code net.edges) (range_with_len 0 240) (apart net.edges (λ a b k. (low a b k).1) ok.ascending) inside)
+    omega (arith, length-map net.edges code, length-range_with_len 0 240, length-le_from_distinct (map code net.edges) (range_with_len 0 240) (apart net.edges (λ a b k. (low a b k).1) ok.edges.ascending) inside)

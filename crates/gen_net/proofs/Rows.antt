@@ -5,7 +5,7 @@ use Rattle.std.proofs.lemmas.List.{append-nil}
 use Rattle.std.proofs.lemmas.List.FromFn.{filter_of_map_range_with_len_more}
 use Rattle.std.proofs.lemmas.List.Elements.{filter-append}
 use Rattle.std.proofs.lemmas.Grind.{flat_map-append}
-use Rattle.gen_net.specs.NetworkOf.{row}
+use Rattle.gen_net.specs.Edges.{row}
 
 one_more : (P : ℕ × ℕ → Bool) (a b : ℕ) → a + 1 ≤ b → filter P (map (λ c. (a, c)) (range_with_len (a + 1) ((b + 1) - (a + 1)))) ≡ filter P (map (λ c. (a, c)) (range_with_len (a + 1) (b - (a + 1)))) ++ cond (P (a, b)) ((a, b) ∷ []) []
 one_more P a b le =

@@ -8,14 +8,25 @@ use Rattle.gen_net.specs.Run.{Run, IsSent, Adds, Accepts, IsPick}
 -- The commander sends exactly his order, signed by him alone, to each neighbour in round 1.
 pub record CommanderFollows (net : Network) (run : Run) (own : ℕ) : Type 0 where
   pub order_known : own < net.orders
-  pub sends : (message : Message) → message.from ≡ 0 → Contains run message ↔ (AreNeighbours net 0 message.to × (message.order ≡ own) × (message.path ≡ 0 ∷ []))
+  pub sends : (message : Message) → message.from ≡ 0
+      → Contains run message
+      ↔ (AreNeighbours net 0 message.to × (message.order ≡ own) × (message.path ≡ 0 ∷ []))
 
--- A lieutenant sends nothing in round 1. In each later round he sends exactly, for each order that he added in the round before
--- and each neighbour outside the longer path, the picked path lengthened by himself.
+-- what g relays in round l + 1: an order that he added in round l, with the picked path lengthened by himself, to a neighbour
+-- outside that path
+pub record IsRelayed (net : Network) (run : Run) (g l : ℕ) (pick : ℕ → List ℕ) (message : Message)
+    : Type 0 where
+  pub added : Adds run g l message.order
+  pub longer : message.path ≡ pick message.order ++ g ∷ []
+  pub neighbour : AreNeighbours net g message.to
+  pub outside : Contains message.path message.to → ⊥
+
+-- A lieutenant sends nothing in round 1, and in each later round exactly what he relays.
 pub record LieutenantFollows (net : Network) (run : Run) (g : ℕ) (pick : ℕ → List ℕ) : Type 0 where
   pub picks : IsPick run g pick
   pub silent : (message : Message) → IsSent run 1 message → message.from ≢ g
-  pub sends : (l : ℕ) (message : Message) → 0 < l → l < rounds net → message.from ≡ g → IsSent run (l + 1) message ↔ (Adds run g l message.order × (message.path ≡ pick message.order ++ g ∷ []) × AreNeighbours net g message.to × (Contains message.path message.to → ⊥))
+  pub sends : (l : ℕ) (message : Message) → 0 < l → l < rounds net → message.from ≡ g
+      → IsSent run (l + 1) message ↔ IsRelayed net run g l pick message
 
 -- what a follower may choose: the commander his order, a lieutenant which path he takes for each order
 pub data Conduct : Type 0 where

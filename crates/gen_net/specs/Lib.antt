@@ -1,10 +1,16 @@
 pub mod Chain
+pub mod Departs
+pub mod Edges
 pub mod Follows
 pub mod Header
-pub mod HeaderOf
+pub mod HeaderReading
 pub mod Log
 pub mod Network
 pub mod NetworkOf
+pub mod NetworkReading
+pub mod NetworkSpelling
 pub mod Run
 pub mod Signed
+pub mod Version
+pub mod VersionReading
 pub mod Walks

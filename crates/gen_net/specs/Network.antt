@@ -33,15 +33,23 @@ IsLoyal net faulty g = (g < net.generals) × (Contains faulty g → ⊥)
 abbrev pub IsBefore : ℕ × ℕ → ℕ × ℕ → Type 0
 IsBefore e f = (e.0 < f.0) ⊎ ((e.0 ≡ f.0) × (e.1 < f.1))
 
--- What each net keeps: its numbers are in their ranges, each edge (a, b) has a < b < n, and the edges ascend strictly.
+-- n, m, d and q are in their ranges
+pub record AreInRange (generals traitors diameter orders : ℕ) : Type 0 where
+  pub some_generals : 2 ≤ generals
+  pub few_generals : generals ≤ 16
+  pub few_traitors : traitors ≤ 8
+  pub some_diameter : 1 ≤ diameter
+  pub few_diameter : diameter ≤ 15
+  pub few_rounds : traitors + diameter ≤ 16
+  pub some_orders : 2 ≤ orders
+  pub few_orders : orders ≤ 15
+
+-- each edge (a, b) has a < b < n, and the edges ascend strictly
+pub record AreEdges (generals : ℕ) (edges : List (ℕ × ℕ)) : Type 0 where
+  pub inside : (a b : ℕ) → Contains edges (a, b) → (a < b) × (b < generals)
+  pub ascending : AllPairs IsBefore edges
+
+-- what each net keeps
 pub record IsNetwork (net : Network) : Type 0 where
-  pub some_generals : 2 ≤ net.generals
-  pub few_generals : net.generals ≤ 16
-  pub edges : (a b : ℕ) → Contains net.edges (a, b) → (a < b) × (b < net.generals)
-  pub ascending : AllPairs IsBefore net.edges
-  pub few_traitors : net.traitors ≤ 8
-  pub some_diameter : 1 ≤ net.diameter
-  pub few_diameter : net.diameter ≤ 15
-  pub few_rounds : rounds net ≤ 16
-  pub some_orders : 2 ≤ net.orders
-  pub few_orders : net.orders ≤ 15
+  pub ranges : AreInRange net.generals net.traitors net.diameter net.orders
+  pub edges : AreEdges net.generals net.edges

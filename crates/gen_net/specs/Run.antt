@@ -3,7 +3,8 @@
 use Rattle.std.specs.Prelude.{ℕ, ◌≡◌, ◌<◌, ◌≤◌, List, length, Contains}
 use Rattle.gen_net.specs.declared.message.Message.{Message}
 use Rattle.gen_net.specs.Network.{Network, rounds, AreNeighbours}
-use Rattle.gen_net.specs.Chain.{IsChain, EndsWith}
+use Rattle.gen_types.specs.Ends.{EndsWith}
+use Rattle.gen_net.specs.Chain.{IsChain}
 
 -- All messages, read as a set. The round of a message is the length of its path.
 abbrev pub Run : Type 0
@@ -24,7 +25,8 @@ pub record IsWellFormed (net : Network) (message : Message) : Type 0 where
 -- all messages are well formed, and in each round there is at most one for one sender, receiver and order
 pub record IsRun (net : Network) (run : Run) : Type 0 where
   pub messages : (message : Message) → Contains run message → IsWellFormed net message
-  pub once : (l : ℕ) (x y : Message) → IsSent run l x → IsSent run l y → x.from ≡ y.from → x.to ≡ y.to → x.order ≡ y.order → x ≡ y
+  pub once : (l : ℕ) (x y : Message) → IsSent run l x → IsSent run l y
+      → x.from ≡ y.from → x.to ≡ y.to → x.order ≡ y.order → x ≡ y
 
 -- the message is one of round l to g
 abbrev pub Arrives : Run → ℕ → ℕ → Message → Type 0
@@ -45,4 +47,5 @@ Accepts net run g v = (l : ℕ) × (l ≤ rounds net) × Adds run g l v
 
 -- the pick gives, for each order that g adds, the path of one of the messages of it that arrive in that round
 abbrev pub IsPick : Run → ℕ → (ℕ → List ℕ) → Type 0
-IsPick run g pick = (l v : ℕ) → Adds run g l v → (message : Message) × Arrives run g l message × (message.order ≡ v) × (message.path ≡ pick v)
+IsPick run g pick = (l v : ℕ) → Adds run g l v
+    → (message : Message) × Arrives run g l message × (message.order ≡ v) × (message.path ≡ pick v)

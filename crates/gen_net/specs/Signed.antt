@@ -1,7 +1,7 @@
 -- Runs in which no loyal signature is forged (assumption A4 of section 4 of the paper of 1982, said of messages).
 use Rattle.std.specs.Prelude.{ℕ, ◌≡◌, ◌<◌, ◌⊎◌, List, [], ◌∷◌, ◌++◌, length, Contains, All}
 use Rattle.gen_net.specs.Network.{Network, IsLoyal}
-use Rattle.gen_net.specs.Chain.{BeginsWith}
+use Rattle.gen_types.specs.Ends.{BeginsWith}
 use Rattle.gen_net.specs.declared.message.Message.{Message}
 use Rattle.gen_net.specs.Run.{Run, IsRun}
 use Rattle.gen_net.specs.Follows.{Conduct, Follows}
@@ -25,10 +25,12 @@ pub record Derivation (net : Network) (faulty : List ℕ) (run : Run) (message :
 
 -- The message forges no loyal signature: its path has nobody of the rest, or it derives from a message of the rest.
 abbrev pub IsDerivable : Network → List ℕ → Run → Message → Type 0
-IsDerivable net faulty run message = All (λ g. IsLoyal net faulty g → ⊥) message.path ⊎ Derivation net faulty run message
+IsDerivable net faulty run message =
+    All (λ g. IsLoyal net faulty g → ⊥) message.path ⊎ Derivation net faulty run message
 
 -- A run for a set of faulty generals: everybody of the rest follows, and every message from a faulty general is derivable.
 pub record IsSignedRun (net : Network) (faulty : List ℕ) (run : Run) (conducts : ℕ → Conduct) : Type 0 where
   pub run_of_net : IsRun net run
   pub follows : (g : ℕ) → IsLoyal net faulty g → Follows net run g (conducts g)
-  pub derivable : (message : Message) → Contains run message → Contains faulty message.from → IsDerivable net faulty run message
+  pub derivable : (message : Message) → Contains run message → Contains faulty message.from
+      → IsDerivable net faulty run message

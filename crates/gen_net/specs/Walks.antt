@@ -5,8 +5,10 @@ use Rattle.gen_net.specs.Network.{Network, AreNeighbours, IsLoyal}
 -- a walk of this many edges leads from a to b, each general after a being of the rest
 abbrev pub IsWalk : Network → List ℕ → ℕ → ℕ → ℕ → Type 0
 IsWalk net faulty zero a b = a ≡ b
-IsWalk net faulty (suc edges) a b = (c : ℕ) × AreNeighbours net a c × IsLoyal net faulty c × IsWalk net faulty edges c b
+IsWalk net faulty (suc edges) a b =
+    (c : ℕ) × AreNeighbours net a c × IsLoyal net faulty c × IsWalk net faulty edges c b
 
 -- any two of the rest are joined inside the rest by at most d edges
 abbrev pub HasDiameter : Network → List ℕ → Type 0
-HasDiameter net faulty = (a b : ℕ) → IsLoyal net faulty a → IsLoyal net faulty b → (edges : ℕ) × (edges ≤ net.diameter) × IsWalk net faulty edges a b
+HasDiameter net faulty = (a b : ℕ) → IsLoyal net faulty a → IsLoyal net faulty b
+    → (edges : ℕ) × (edges ≤ net.diameter) × IsWalk net faulty edges a b

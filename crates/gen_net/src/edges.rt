@@ -1,7 +1,7 @@
 //! Lists of edges, as they are given and as a network keeps them.
 ghost use Rattle.std.specs.Prelude.{◌≡◌, ◌<◌, ◌≤◌, ◌++◌, OnOk, IfOk, filter, true};
 ghost use Rattle.std.specs.List.{list_any};
-ghost use Rattle.gen_net.specs.NetworkOf.{joins, has_bad_edge, row, edges_of, goes_before, goes_first, in_place};
+ghost use Rattle.gen_net.specs.Edges.{joins, has_bad_edge, row, edges_of, goes_before, goes_first, in_place};
 
 use gen_types::GeneralNo;
 use std::alloc::{AllocError, Global};
@@ -47,7 +47,8 @@ fn push_row(
 ) -> Result<(), AllocError>
     requires below { a < n }
     requires few { n ≤ 16 }
-    ensures { OnOk result (edges.new.items ≡ edges.old.items ++ filter (λ p. list_any (joins p.0 p.1) given.now) (row n a)) }
+    ensures { OnOk result (edges.new.items
+        ≡ edges.old.items ++ filter (λ p. list_any (joins p.0 p.1) given.now) (row n a)) }
 {
     for b in a + 1..n {
         if is_joined(a, b, given) {

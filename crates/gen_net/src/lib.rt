@@ -13,14 +13,18 @@ mod headers;
 pub mod laws;
 mod message;
 mod net;
+mod numbers;
 mod reading;
+mod version;
 mod writing;
 
 pub use fault::HeaderFault;
 pub use headers::Header;
 pub use message::Message;
 pub use net::Net;
+pub use numbers::NetNumbers;
 pub use reading::read_header;
+pub use version::{GREATEST_SLOT, Version};
 pub use writing::header_bytes;
 
 #[cfg(test)]

@@ -1,14 +1,19 @@
 //! Networks.
 ghost use Rattle.std.specs.Prelude.{IsTrue, ◌≡◌, ◌≤◌, ◌↔◌};
 ghost use Rattle.gen_types.specs.Ascending.{IsListOf};
-ghost use Rattle.gen_types.specs.Reading.{Gives};
+ghost use Rattle.gen_types.specs.Spelled.{IsRead};
 ghost use Rattle.gen_net.specs.Network.{rounds, AreNeighbours, IsNetwork};
-ghost use Rattle.gen_net.specs.NetworkOf.{ranges_of, network_of, network_in_place};
+ghost use Rattle.gen_net.specs.NetworkOf.{is_within, ranges_of, network_with, network_of, network_in_place};
 
 use crate::edges::{edge_list, has_fault, placed_edges, stand_in_place};
 use crate::fault::HeaderFault;
+use crate::numbers::NetNumbers;
+use gen_types::limits::{
+    FEWEST_GENERALS, FEWEST_ORDERS, GREATEST_DIAMETER, LEAST_DIAMETER, MOST_GENERALS, MOST_ORDERS,
+    MOST_ROUNDS, MOST_TRAITORS,
+};
 use gen_types::{ChoiceKind, GeneralNo, GeneralSet, ReadError};
-use std::alloc::Global;
+use std::alloc::{AllocError, Global};
 use std::marker::Model;
 
 /// A network of generals together with the numbers of a run on it (section 5 of the paper of 1982).
@@ -50,48 +55,54 @@ impl Model for Net {
     }) };
 }
 
-/// The choice of this number, where the numbers of a network are in their ranges and no edge is bad.
-#[tactic(auto, unfolding(crate::specs::NetworkOf::ranges_of))]
-fn ranges(
-    n: u8,
-    bad_edge: bool,
-    m: u8,
-    d: u8,
-    q: u8,
-    choice: u8,
-) -> Result<ChoiceKind, ReadError<HeaderFault>>
-    ensures { Gives (λ kind. kind) result (ranges_of n bad_edge m d q choice) }
+/// Whether the number is one of these two, or between them.
+fn lies_between(least: u8, greatest: u8, number: u8) -> bool
+    ensures { result ≡ is_within least greatest number }
 {
-    if n < 2 || n > 16 {
+    least <= number && number <= greatest
+}
+
+/// The choice of these numbers, where they are in their ranges and the edges are good.
+#[tactic(auto, unfolding(crate::specs::NetworkOf::ranges_of))]
+fn ranges(numbers: NetNumbers, good_edges: bool) -> Result<ChoiceKind, ReadError<HeaderFault>>
+    ensures { IsRead result (ranges_of numbers good_edges) }
+{
+    let NetNumbers {
+        generals,
+        traitors,
+        diameter,
+        orders,
+        choice,
+    } = numbers;
+    if !lies_between(FEWEST_GENERALS, MOST_GENERALS, generals) {
         return Err(ReadError::Fault(HeaderFault::GeneralCount));
     }
-    if bad_edge {
+    if !good_edges {
         return Err(ReadError::Fault(HeaderFault::BadEdge));
     }
-    if m > 8 {
+    if traitors > MOST_TRAITORS {
         return Err(ReadError::Fault(HeaderFault::TraitorCount));
     }
-    if d < 1 || d > 15 {
+    if !lies_between(LEAST_DIAMETER, GREATEST_DIAMETER, diameter) {
         return Err(ReadError::Fault(HeaderFault::DiameterRange));
     }
-    if m + d > 16 {
+    if traitors + diameter > MOST_ROUNDS {
         return Err(ReadError::Fault(HeaderFault::RoundCount));
     }
-    if q < 2 || q > 15 {
+    if !lies_between(FEWEST_ORDERS, MOST_ORDERS, orders) {
         return Err(ReadError::Fault(HeaderFault::OrderCount));
     }
-    let Some(choice) = ChoiceKind::new(choice) else {
-        return Err(ReadError::Fault(HeaderFault::UnknownChoice));
-    };
-    Ok(choice)
+    ChoiceKind::new(choice).ok_or(ReadError::Fault(HeaderFault::UnknownChoice))
 }
 
 impl Net {
-    /// Makes the network of n generals with these edges, which come in any order and direction, planned
+    /// Returns the network of n generals with these edges, which come in any order and direction, planned
     /// for m traitors and diameter d, with q orders and the choice of this number.
     ///
-    /// It answers the first fault of `HeaderFault` that holds, and Memory where memory was refused.
-    #[tactic(auto, unfolding(crate::specs::NetworkOf::network_of, crate::specs::NetworkOf::ranges_of))]
+    /// # Errors
+    ///
+    /// The first rule of `HeaderFault` that they break, and Memory where memory was refused before.
+    #[tactic(auto, unfolding(crate::specs::NetworkOf::network_of))]
     pub fn new(
         alloc: Global,
         n: u8,
@@ -101,43 +112,53 @@ impl Net {
         q: u8,
         choice: u8,
     ) -> Result<Net, ReadError<HeaderFault>>
-        ensures { Gives (λ net. net) result (network_of n edges.now m d q choice) }
+        ensures { IsRead result
+            (network_of (record {
+              generals = n;
+              traitors = m;
+              diameter = d;
+              orders = q;
+              choice = choice;
+            }) edges.now) }
     {
-        let choice = ranges(n, has_fault(n, edges), m, d, q, choice)?;
-        let edges = edge_list(alloc, n, edges)?;
-        Ok(Net {
+        let numbers = NetNumbers {
             generals: n,
-            edges,
             traitors: m,
             diameter: d,
             orders: q,
             choice,
-        })
+        };
+        let choice = ranges(numbers, !has_fault(n, edges))?;
+        Ok(Net::of_parts(numbers, edge_list(alloc, n, edges)?, choice))
     }
 
-    /// Makes the same of edges that have to stand in their places: each (a, b) with a < b, and ascending.
-    #[tactic(auto, unfolding(crate::specs::NetworkOf::network_in_place, crate::specs::NetworkOf::ranges_of))]
+    /// Returns the same of edges that have to stand in their places: each (a, b) with a < b, and ascending.
+    #[tactic(auto, unfolding(crate::specs::NetworkOf::network_in_place))]
     pub(crate) fn in_place(
         alloc: Global,
-        n: u8,
+        numbers: NetNumbers,
         edges: &[(u8, u8)],
-        m: u8,
-        d: u8,
-        q: u8,
-        choice: u8,
     ) -> Result<Net, ReadError<HeaderFault>>
-        ensures { Gives (λ net. net) result (network_in_place n edges.now m d q choice) }
+        ensures { IsRead result (network_in_place numbers edges.now) }
     {
-        let choice = ranges(n, !stand_in_place(n, edges), m, d, q, choice)?;
-        let edges = placed_edges(alloc, n, edges)?;
-        Ok(Net {
-            generals: n,
+        let choice = ranges(numbers, stand_in_place(numbers.generals, edges))?;
+        let edges = placed_edges(alloc, numbers.generals, edges)?;
+        Ok(Net::of_parts(numbers, edges, choice))
+    }
+
+    /// Returns the network of these parts, whose numbers are in their ranges and whose edges are in their places.
+    fn of_parts(numbers: NetNumbers, edges: Vec<(GeneralNo, GeneralNo)>, choice: ChoiceKind) -> Net
+        requires { IsNetwork (network_with numbers edges.items choice) }
+        ensures { result ≡ network_with numbers edges.items choice }
+    {
+        Net {
+            generals: numbers.generals,
             edges,
-            traitors: m,
-            diameter: d,
-            orders: q,
+            traitors: numbers.traitors,
+            diameter: numbers.diameter,
+            orders: numbers.orders,
             choice,
-        })
+        }
     }
 
     /// Returns the number of generals, n, which is 2 to 16.
@@ -213,5 +234,22 @@ impl Net {
             }
         }
         set
+    }
+}
+
+/// A copy is equal to its original. It fails only where memory was refused.
+impl Clone for Net {
+    ghost is_clone = { λ net copy. copy ≡ net };
+
+    fn clone(&self) -> Result<Net, AllocError> {
+        let edges = Vec::from_slice(*self.edges.allocator(), self.edges.as_slice())?;
+        Ok(Net {
+            generals: self.generals,
+            edges,
+            traitors: self.traitors,
+            diameter: self.diameter,
+            orders: self.orders,
+            choice: self.choice,
+        })
     }
 }

@@ -1,6 +1,6 @@
 use Rattle.std.proofs.lemmas.Result.{err_from_is_err_and}
 use Rattle.gen_types.proofs.ManyFields.{goes_on, ends, is_done}
-use Rattle.gen_chain.specs.ChainOf.{signer_at}
+use Rattle.gen_chain.specs.ChainReading.{signer_at}
 use Rattle.gen_chain.proofs.reading.read_many.Goals as goal
 
 pub returns-in_err-signer : goal.returns-in_err-signer

@@ -1,7 +1,7 @@
 use Rattle.std.proofs.Common.{◌≡◌, ◌-◌}
 use Rattle.gen_types.specs.Bytes.{many_at}
 use Rattle.gen_types.proofs.ManyFields.{with_front}
-use Rattle.gen_chain.specs.ChainOf.{signer_at}
+use Rattle.gen_chain.specs.ChainReading.{signer_at}
 use Rattle.gen_chain.proofs.reading.read_many.Given as goal
 
 abbrev pub invariant-loop : goal.invariant-loop

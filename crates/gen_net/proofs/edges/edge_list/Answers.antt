@@ -1,6 +1,6 @@
 use Rattle.std.proofs.Common.{ℕ, Bool}
 use Rattle.std.specs.List.{list_any}
-use Rattle.gen_net.specs.NetworkOf.{joins}
+use Rattle.gen_net.specs.Edges.{joins}
 use Rattle.gen_net.proofs.Rows.{row_done}
 use Rattle.gen_net.proofs.edges.edge_list.Goals as goal
 

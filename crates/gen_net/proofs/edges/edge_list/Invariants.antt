@@ -1,6 +1,6 @@
 use Rattle.std.proofs.Common.{◌≡◌, filter}
 use Rattle.std.specs.List.{list_any, flat_map, range_with_len}
-use Rattle.gen_net.specs.NetworkOf.{joins, row}
+use Rattle.gen_net.specs.Edges.{joins, row}
 use Rattle.gen_net.proofs.edges.edge_list.Given as goal
 
 abbrev pub invariant-loop-a : goal.invariant-loop-a

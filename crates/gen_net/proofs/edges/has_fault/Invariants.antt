@@ -1,5 +1,5 @@
 use Rattle.std.proofs.Common.{◌≡◌, length}
-use Rattle.gen_net.specs.NetworkOf.{has_bad_edge}
+use Rattle.gen_net.specs.Edges.{has_bad_edge}
 use Rattle.gen_net.proofs.edges.has_fault.Given as goal
 
 abbrev pub invariant-loop-rest : goal.invariant-loop-rest

@@ -1,6 +1,6 @@
 use Rattle.std.proofs.Common.{ℕ, Bool, sym, ap, ◌∙◌}
 use Rattle.std.specs.List.{list_any}
-use Rattle.gen_net.specs.NetworkOf.{joins}
+use Rattle.gen_net.specs.Edges.{joins}
 use Rattle.gen_net.proofs.Rows.{place_taken, place_passed}
 use Rattle.gen_net.proofs.edges.push_row.Goals as goal
 use Rattle.gen_net.proofs.edges.push_row.Goals.{then-is_joined+in_ok-push, else-is_joined}

@@ -1,6 +1,6 @@
 use Rattle.std.proofs.Common.{◌≡◌, ◌+◌, ◌-◌, ◌++◌, map, filter}
 use Rattle.std.specs.List.{list_any, range_with_len}
-use Rattle.gen_net.specs.NetworkOf.{joins}
+use Rattle.gen_net.specs.Edges.{joins}
 use Rattle.gen_net.proofs.edges.push_row.Given as goal
 
 abbrev pub invariant-loop-b : goal.invariant-loop-b

@@ -1,5 +1,5 @@
 use Rattle.std.proofs.Common.{◌≡◌, length}
-use Rattle.gen_net.specs.NetworkOf.{in_place}
+use Rattle.gen_net.specs.Edges.{in_place}
 use Rattle.gen_net.proofs.edges.stand_in_place.Given as goal
 
 abbrev pub invariant-loop-rest : goal.invariant-loop-rest

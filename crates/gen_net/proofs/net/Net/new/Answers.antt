@@ -1,19 +1,11 @@
-use Rattle.gen_net.proofs.EdgeLists.{edges_inside, edges_ascend}
-use Rattle.gen_net.proofs.Ranges.{in_ranges}
+use Rattle.gen_net.proofs.EdgeLists.{given_edges}
+use Rattle.gen_net.proofs.Ranges.{accepted}
 use Rattle.gen_net.proofs.net.Net.new.Goals as goal
 
-pub invariant_of-result : goal.invariant_of-result
-invariant_of-result c =
-    let r = in_ranges _ _ _ _ _ _ _ c.in_ok-choice.ensures in
-    record {
-      some_generals = r.some_generals;
-      few_generals = r.few_generals;
-      edges = rw c.in_ok-edges.ensures (edges_inside c.args.n c.args.edges.now);
-      ascending = rw c.in_ok-edges.ensures (edges_ascend c.args.n c.args.edges.now);
-      few_traitors = r.few_traitors;
-      some_diameter = r.some_diameter;
-      few_diameter = r.few_diameter;
-      few_rounds = r.few_rounds;
-      some_orders = r.some_orders;
-      few_orders = r.few_orders;
-    }
+pub edge_list-requires : goal.edge_list-requires
+edge_list-requires c = (accepted _ _ _ c.in_ok-choice.ensures).ranges.few_generals
+
+pub of_parts-requires : goal.of_parts-requires
+of_parts-requires c =
+    let r = accepted _ _ _ c.in_ok-choice.ensures in
+    record { ranges = r.ranges; edges = rw c.in_ok-edge_list.ensures (given_edges c.args.n c.args.edges.now) }
