@@ -14,8 +14,8 @@ use std::marker::Model;
 
 /// A one-time key, which signs one digest or is retired.
 ///
-/// It can't be cloned, and it has to be spent by `sign` or `retire`: code that lets go a key that may be
-/// unspent is not accepted. Spending it can't fail. Its seed isn't wiped from memory.
+/// It has no `Clone`, so it can't be copied, and it has to be spent by `sign` or `retire`: code that lets
+/// go a key that may be unspent can't be proved. Spending it can't fail. Its seed isn't wiped from memory.
 pub struct OneTimeKey {
     seed: [u8; 32],
     height: TreeHeight,

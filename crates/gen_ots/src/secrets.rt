@@ -49,7 +49,8 @@ pub fn secrets_of(seed: &[u8; 32], height: TreeHeight, leaf: u8) -> ChaCha20Rng
 fn next_words(words: &mut ChaCha20Rng) -> [u32; WORDS_PER_SECRET]
     requires room { words.old.word_pos + WORDS_PER_SECRET < 2 ^ 68 }
     ensures eight { result ≡ eight_words words.old.key words.old.stream words.old.word_pos }
-    ensures moved { words.new ≡ record words.old { word_pos = words.old.word_pos + WORDS_PER_SECRET } }
+    ensures moved { words.new
+        ≡ record words.old { word_pos = words.old.word_pos + WORDS_PER_SECRET } }
 {
     [
         words.next_word(),
@@ -68,7 +69,8 @@ fn next_words(words: &mut ChaCha20Rng) -> [u32; WORDS_PER_SECRET]
 pub fn next_secret(words: &mut ChaCha20Rng) -> [u8; 32]
     requires room { words.old.word_pos + WORDS_PER_SECRET < 2 ^ 68 }
     ensures secret { result ≡ secret_at words.old.key words.old.stream words.old.word_pos }
-    ensures moved { words.new ≡ record words.old { word_pos = words.old.word_pos + WORDS_PER_SECRET } }
+    ensures moved { words.new
+        ≡ record words.old { word_pos = words.old.word_pos + WORDS_PER_SECRET } }
 {
     let eight = next_words(words);
     let mut secret = [0; HASH_BYTES];

@@ -7,13 +7,14 @@ use Rattle.gen_ots.specs.Secrets.{KeyName}
 use Rattle.gen_ots.specs.OneTime.{key_leaf_value}
 use Rattle.gen_tree.specs.Tree.{node_over, first_siblings}
 
--- what a ring is: its seed, the height of its tree, and the ascending list of the leaves that were taken
+-- what a ring is: its seed, the height of its tree, and the ascending list of the leaves that were
+-- taken
 pub record Ring : Type 0 where
   pub seed : List ℕ
   pub height : TreeHeight
   pub taken : List ℕ
 
--- the byte before a master seed and a general, where the general's seed is hashed: 30 in hexadecimal
+-- the byte before a master seed and a general, where the general's seed is hashed: hexadecimal 30
 abbrev pub seed_prefix : ℕ
 seed_prefix = 48
 

@@ -15,8 +15,8 @@ use std::marker::Model;
 
 /// The one-time keys of a seed, one for each leaf of a tree, under one root.
 ///
-/// It can't be cloned, and it has to be ended by `close`: code that lets it go is not accepted. Its seed
-/// isn't wiped from memory.
+/// It has no `Clone` and no `Drop`, so it can't be copied and has to be ended by `close`. Its seed isn't
+/// wiped from memory.
 pub struct KeyRing {
     seed: [u8; 32],
     height: TreeHeight,
@@ -51,7 +51,8 @@ impl KeyRing {
         seed: &[u8; 32],
         height: TreeHeight,
     ) -> Result<KeyRing, AllocError>
-        ensures { IfOk result (λ ring. ring ≡ record { seed = seed.now; height = height; taken = [] }) }
+        ensures { IfOk result (λ ring. ring
+            ≡ record { seed = seed.now; height = height; taken = [] }) }
     {
         let mut leaves = Vec::with_capacity(alloc, usize::from(height.leaves()))?;
         'leaves: for leaf in 0..height.leaves() {
@@ -85,7 +86,8 @@ impl KeyRing {
     /// Takes a leaf, and returns its key; None exactly where the leaf was taken before, or the number is
     /// no leaf's.
     pub fn take(&mut self, leaf: u8) -> Option<LeafKey>
-        ensures none { IsNone result ↔ ((leaves_of self.old.height ≤ leaf) ⊎ Contains self.old.taken leaf) }
+        ensures none { IsNone result
+            ↔ ((leaves_of self.old.height ≤ leaf) ⊎ Contains self.old.taken leaf) }
         ensures unchanged { IfNone result (self.new ≡ self.old) }
         ensures key { IfSome result (λ key. key ≡ record {
           seed = self.old.seed;
@@ -94,7 +96,8 @@ impl KeyRing {
         }) }
         ensures seed { self.new.seed ≡ self.old.seed }
         ensures height { self.new.height ≡ self.old.height }
-        ensures taken { OnSome result (IsListOf self.new.taken (λ v. Contains self.old.taken v ⊎ (v ≡ leaf))) }
+        ensures taken { OnSome result
+            (IsListOf self.new.taken (λ v. Contains self.old.taken v ⊎ (v ≡ leaf))) }
     {
         if leaf >= self.height.leaves() || self.taken.contains(leaf) {
             return None;
