@@ -6,7 +6,7 @@ use Rattle.std.proofs.lemmas.Bool.{cases_eq}
 use Rattle.gen_types.specs.Members.{bool_cases, Contains_nil}
 use Rattle.gen_types.specs.Ascending.{IsListOf}
 use Rattle.gen_core.specs.declared.arrivals.Seen.{Seen}
-use Rattle.gen_core.specs.Best.{better, OrderIn, IsBest, AreBest}
+use Rattle.gen_core.specs.Loops.Picking.{better, OrderIn, IsBest, AreBest}
 
 pub order_in_more : (xs : List Seen) (s : Seen) (v : ℕ) → OrderIn (xs ++ s ∷ []) v → OrderIn xs v ⊎ (v ≡ s.order)
 order_in_more xs s v (t, h, e) = elim (Contains-push_cases xs s t h) [

@@ -4,12 +4,13 @@ use Rattle.std.proofs.lemmas.List.{append-nil, length-map, get_or-map}
 use Rattle.gen_types.specs.Ascending.{IsListOf}
 use Rattle.gen_types.proofs.Lists.{Contains_mapped, Contains_here, Contains_there, Contains_cases, Contains_nil}
 use Rattle.gen_net.specs.Network.{Network, AreNeighbours}
-use Rattle.gen_core.specs.Sending.{Send, GoesBefore, IsCommand, AreSends}
+use Rattle.gen_core.specs.declared.sending.Outgoing.{Outgoing}
+use Rattle.gen_core.specs.Sending.{outgoing, GoesBefore, IsCommand, AreSends}
 
-abbrev command : ℕ → List ℕ → ℕ → Send
-command own path to = (to, own, path)
+abbrev command : ℕ → List ℕ → ℕ → Outgoing
+command own path to = outgoing to own path
 
-Contains_map : (f : ℕ → Send) (xs : List ℕ) (x : ℕ) → Contains xs x → Contains (map f xs) (f x)
+Contains_map : (f : ℕ → Outgoing) (xs : List ℕ) (x : ℕ) → Contains xs x → Contains (map f xs) (f x)
 Contains_map f [] x h = absurd (Contains_nil x h)
 Contains_map f (y ∷ xs) x h = elim (Contains_cases y x xs h) [
   | inl e ↦ subst (λ z. Contains (f y ∷ map f xs) (f z)) e (Contains_here (f y) (map f xs))
@@ -23,7 +24,7 @@ in_order own path xs up i j d l m =
     let second : get_or (map (command own path) xs) j d ≡ command own path (get_or xs j 0) = get_or-map (command own path) xs j 0 d long in
     rw (first, second) (inl (up i j 0 l long))
 
-pub commands_of : (net : Network) (own : ℕ) (path neighbours yielded rest : List ℕ) (out : List Send) → IsListOf neighbours (AreNeighbours net 0) → path ≡ 0 ∷ [] → neighbours ≡ yielded ++ rest → rest ≡ [] → out ≡ map (λ to. (to, own, path)) yielded → AreSends (IsCommand net own) out
+pub commands_of : (net : Network) (own : ℕ) (path neighbours yielded rest : List ℕ) (out : List Outgoing) → IsListOf neighbours (AreNeighbours net 0) → path ≡ 0 ∷ [] → neighbours ≡ yielded ++ rest → rest ≡ [] → out ≡ map (λ to. outgoing to own path) yielded → AreSends (IsCommand net own) out
 commands_of net own path neighbours yielded rest out all alone split empty sent =
     let whole : neighbours ≡ yielded = split ∙ (ap (λ r. yielded ++ r) empty ∙ append-nil yielded) in
     let made : out ≡ map (command own path) neighbours = sent ∙ ap (map (command own path)) (sym whole) in
@@ -31,11 +32,11 @@ commands_of net own path neighbours yielded rest out all alone split empty sent 
       exactly = λ x. (
         (λ h.
             let r = Contains_mapped (command own path) neighbours x h in
-            let to : r.0 ≡ x.0 = ap (λ (s : Send). s.0) r.2 in
-            (subst (AreNeighbours net 0) to ((all.members r.0).0 r.1), sym (ap (λ (s : Send). s.1) r.2), sym (ap (λ (s : Send). s.2) r.2) ∙ alone)),
+            let to : r.0 ≡ x.to = ap (λ (s : Outgoing). s.to) r.2 in
+            (subst (AreNeighbours net 0) to ((all.members r.0).0 r.1), sym (ap (λ (s : Outgoing). s.order) r.2), sym (ap (λ (s : Outgoing). s.path) r.2) ∙ alone)),
         (λ q.
-            let here : command own path x.0 ≡ x = λ i. (x.0, sym q.1 i, (alone ∙ sym q.2) i) in
-            subst (λ s. Contains (map (command own path) neighbours) s) here (Contains_map (command own path) neighbours x.0 ((all.members x.0).1 q.0))),
+            let here : command own path x.to ≡ x = λ i. record { to = x.to; order = sym q.1 i; path = (alone ∙ sym q.2) i } in
+            subst (λ s. Contains (map (command own path) neighbours) s) here (Contains_map (command own path) neighbours x.to ((all.members x.to).1 q.0))),
       );
       in_order = in_order own path neighbours all.ascending;
     })

@@ -1,96 +1,77 @@
 -- What a lieutenant is to send, looked for one order and one receiver after another.
-use Rattle.std.proofs.Common.{◌≡◌, ℕ, ◌+◌, ◌<◌, ◌⊎◌, ◌↔◌, inl, inr, List, [], ◌∷◌, ◌++◌, length, Contains, Option, Some, None, slice_get, refl, sym, ap, ◌∙◌, subst, arith}
+use Rattle.std.proofs.Common.{◌≡◌, ℕ, ◌+◌, ◌<◌, ◌⊎◌, ◌↔◌, inl, inr, List, [], ◌∷◌, ◌++◌, length, Option, Some, None, slice_get, refl, sym, ap, ◌∙◌, subst, arith}
 use Rattle.std.proofs.lemmas.Bool.{cases_eq}
-use Rattle.std.proofs.lemmas.List.Elements.{All-push, All-weaker, Contains-push, Contains-append_left, Contains-push_cases}
+use Rattle.std.proofs.lemmas.List.Elements.{All-push, All-weaker}
 use Rattle.std.proofs.lemmas.Option.{slice_get_within}
 use Rattle.std.proofs.lemmas.List.Quantifiers.{all_pairs_push}
-use Rattle.gen_net.specs.Network.{Network, rounds, AreNeighbours}
+use Rattle.gen_net.specs.Network.{Network, AreNeighbours}
 use Rattle.gen_core.specs.Seeing.{Picked}
-use Rattle.gen_core.specs.Sending.{Send, GoesBefore, IsDue, Appends, GoesUpTo}
+use Rattle.gen_core.specs.declared.sending.Outgoing.{Outgoing}
+use Rattle.gen_core.specs.Sending.{outgoing, GoesBefore, IsDue, Appends}
+use Rattle.gen_core.specs.Loops.Pushing.{GoesOn, IsDueBelow, GoesUpTo}
 
 -- of one order and receiver, where a path is picked
 pub due_told : (net : Network) (me : ℕ) (adds : List (Option (List ℕ))) (to v : ℕ) (picked : List ℕ) (r : Option (List ℕ)) → Picked adds v picked → AreNeighbours net me to
-    → ((longer : List ℕ) → (r ≡ Some longer) ↔ ((length picked < rounds net) × (Contains picked me → ⊥) × (longer ≡ picked ++ me ∷ []) × (Contains longer to → ⊥))) → (x : List ℕ) → (r ≡ Some x) ↔ IsDue net me adds (to, v, x)
+    → ((longer : List ℕ) → (r ≡ Some longer) ↔ GoesOn net me to picked longer) → (x : List ℕ) → (r ≡ Some x) ↔ IsDue net me adds (outgoing to v x)
 due_told net me adds to v picked r at edge told x = (
-  (λ e. let t = (told x).0 e in record { picked = picked; is_picked = at; in_time = t.0; new = t.1; longer = t.2; neighbour = edge; outside = t.3 }),
+  (λ e. let t = (told x).0 e in record { picked = picked; is_picked = at; in_time = t.in_time; new = t.new; longer = t.longer; neighbour = edge; outside = t.outside }),
   (λ d.
       let e : slice_get adds v ≡ Some (Some d.picked) = d.is_picked in
       let same : d.picked ≡ picked = cc in
-      (told x).1 (rw (← same) d.in_time, rw (← same) d.new, d.longer ∙ ap (λ p. p ++ me ∷ []) same, d.outside)),
+      (told x).1 (record {
+        in_time = rw (← same) d.in_time;
+        new = rw (← same) d.new;
+        longer = d.longer ∙ ap (λ p. p ++ me ∷ []) same;
+        outside = d.outside;
+      })),
 )
 
 -- and where none is picked
-pub none_told : (net : Network) (me : ℕ) (adds : List (Option (List ℕ))) (to v : ℕ) → ((path : List ℕ) → Picked adds v path → ⊥) → (x : List ℕ) → (None ≡ Some x) ↔ IsDue net me adds (to, v, x)
+pub none_told : (net : Network) (me : ℕ) (adds : List (Option (List ℕ))) (to v : ℕ) → ((path : List ℕ) → Picked adds v path → ⊥) → (x : List ℕ) → (None ≡ Some x) ↔ IsDue net me adds (outgoing to v x)
 none_told net me adds to v none x = (
   (λ e. absurd (let f : ⊥ = cc in f)),
   (λ d. absurd (none d.picked d.is_picked)),
 )
 
--- one more is appended
-pub appended_one : (P Q : Send → Type 0) (old now new : List Send) (y : Send) → Appends P old now → new ≡ now ++ y ∷ [] → ((x : Send) → Q x ↔ (P x ⊎ (y ≡ x))) → Appends Q old new
-appended_one P Q old now new y so_far grown same x = (
-  (λ h. let h' : Contains (now ++ y ∷ []) x = rw grown at h in elim (Contains-push_cases now y x h') [
-    | inl k ↦ elim ((so_far x).0 k) [ inl o ↦ inl o | inr p ↦ inr ((same x).1 (inl p)) ]
-    | inr e ↦ inr ((same x).1 (inr e))
-  ]),
-  (λ h. rw grown (elim h [
-    | inl o ↦ Contains-append_left now (y ∷ []) x ((so_far x).1 (inl o))
-    | inr q ↦ elim ((same x).0 q) [
-      | inl p ↦ Contains-append_left now (y ∷ []) x ((so_far x).1 (inr p))
-      | inr e ↦ subst (λ z. Contains (now ++ y ∷ []) z) e (Contains-push now y)
-    ]
-  ])),
-)
+same_send : (x : Outgoing) (to v : ℕ) (path : List ℕ) → x.to ≡ to → x.order ≡ v → path ≡ x.path → outgoing to v path ≡ x
+same_send x to v path a b c = λ i. record { to = sym a i; order = sym b i; path = c i }
 
-pub appended_none : (P Q : Send → Type 0) (old now : List Send) → Appends P old now → ((x : Send) → Q x ↔ P x) → Appends Q old now
-appended_none P Q old now so_far same x = (
-  (λ h. elim ((so_far x).0 h) [ inl o ↦ inl o | inr p ↦ inr ((same x).1 p) ]),
-  (λ h. elim h [ inl o ↦ (so_far x).1 (inl o) | inr q ↦ (so_far x).1 (inr ((same x).0 q)) ]),
-)
-
--- due to one receiver, of the orders below n
-abbrev pub DueBelow : Network → ℕ → List (Option (List ℕ)) → ℕ → ℕ → Send → Type 0
-DueBelow net me adds to n x = (x.0 ≡ to) × (x.1 < n) × IsDue net me adds x
-
-same_send : (x : Send) (to v : ℕ) (path : List ℕ) → x.0 ≡ to → x.1 ≡ v → path ≡ x.2 → (to, v, path) ≡ x
-same_send x to v path a b c = λ i. (sym a i, sym b i, c i)
-
-pub more_due : (net : Network) (me : ℕ) (adds : List (Option (List ℕ))) (to n : ℕ) (r : Option (List ℕ)) → ((path : List ℕ) → (r ≡ Some path) ↔ IsDue net me adds (to, n, path)) → (path : List ℕ) → r ≡ Some path → (x : Send) → DueBelow net me adds to (n + 1) x ↔ (DueBelow net me adds to n x ⊎ ((to, n, path) ≡ x))
+pub more_due : (net : Network) (me : ℕ) (adds : List (Option (List ℕ))) (to n : ℕ) (r : Option (List ℕ)) → ((path : List ℕ) → (r ≡ Some path) ↔ IsDue net me adds (outgoing to n path)) → (path : List ℕ) → r ≡ Some path → (x : Outgoing) → IsDueBelow net me adds to (n + 1) x ↔ (IsDueBelow net me adds to n x ⊎ (outgoing to n path ≡ x))
 more_due net me adds to n r told path is x = (
-  (λ q. elim (cases_eq x.1 n) [
+  (λ q. elim (cases_eq x.order n) [
     | inr ne ↦ inl (q.0, omega (arith, q.1), q.2)
     | inl e ↦
-        let here : (to, n, x.2) ≡ x = same_send x to n x.2 q.0 e refl in
-        let same : r ≡ Some x.2 = (told x.2).1 (subst (λ y. IsDue net me adds y) (sym here) q.2) in
-        let one : path ≡ x.2 = cc in
+        let here : (outgoing to n x.path) ≡ x = same_send x to n x.path q.0 e refl in
+        let same : r ≡ Some x.path = (told x.path).1 (subst (λ y. IsDue net me adds y) (sym here) q.2) in
+        let one : path ≡ x.path = cc in
         inr (same_send x to n path q.0 e one)
   ]),
   (λ h. elim h [
     | inl p ↦ (p.0, omega (arith, p.1), p.2)
-    | inr e ↦ subst (DueBelow net me adds to (n + 1)) e (refl, omega arith, (told path).0 is)
+    | inr e ↦ subst (IsDueBelow net me adds to (n + 1)) e (refl, omega arith, (told path).0 is)
   ]),
 )
 
-pub no_due : (net : Network) (me : ℕ) (adds : List (Option (List ℕ))) (to n : ℕ) (r : Option (List ℕ)) → ((path : List ℕ) → (r ≡ Some path) ↔ IsDue net me adds (to, n, path)) → ((path : List ℕ) → r ≡ Some path → ⊥) → (x : Send) → DueBelow net me adds to (n + 1) x ↔ DueBelow net me adds to n x
+pub no_due : (net : Network) (me : ℕ) (adds : List (Option (List ℕ))) (to n : ℕ) (r : Option (List ℕ)) → ((path : List ℕ) → (r ≡ Some path) ↔ IsDue net me adds (outgoing to n path)) → ((path : List ℕ) → r ≡ Some path → ⊥) → (x : Outgoing) → IsDueBelow net me adds to n x ↔ IsDueBelow net me adds to (n + 1) x
 no_due net me adds to n r told none x = (
-  (λ q. elim (cases_eq x.1 n) [
+  (λ p. (p.0, omega (arith, p.1), p.2)),
+  (λ q. elim (cases_eq x.order n) [
     | inr ne ↦ (q.0, omega (arith, q.1), q.2)
     | inl e ↦
-        let here : (to, n, x.2) ≡ x = same_send x to n x.2 q.0 e refl in
-        absurd (none x.2 ((told x.2).1 (subst (λ y. IsDue net me adds y) (sym here) q.2)))
+        let here : (outgoing to n x.path) ≡ x = same_send x to n x.path q.0 e refl in
+        absurd (none x.path ((told x.path).1 (subst (λ y. IsDue net me adds y) (sym here) q.2)))
   ]),
-  (λ p. (p.0, omega (arith, p.1), p.2)),
 )
 
 -- what is due is of an order that has a place
-pub due_small : (net : Network) (me : ℕ) (adds : List (Option (List ℕ))) (x : Send) → IsDue net me adds x → x.1 < length adds
-due_small net me adds x d = slice_get_within adds x.1 (Some d.picked) d.is_picked
+pub due_small : (net : Network) (me : ℕ) (adds : List (Option (List ℕ))) (x : Outgoing) → IsDue net me adds x → x.order < length adds
+due_small net me adds x d = slice_get_within adds x.order (Some d.picked) d.is_picked
 
 -- due to the receivers below n
-abbrev pub DueRows : Network → ℕ → List (Option (List ℕ)) → ℕ → Send → Type 0
-DueRows net me adds n x = (x.0 < n) × IsDue net me adds x
+abbrev pub DueRows : Network → ℕ → List (Option (List ℕ)) → ℕ → Outgoing → Type 0
+DueRows net me adds n x = (x.to < n) × IsDue net me adds x
 
-pub more_rows : (net : Network) (me : ℕ) (adds : List (Option (List ℕ))) (n most : ℕ) (old now new : List Send) → ((x : Send) → IsDue net me adds x → x.1 < most) → Appends (DueRows net me adds n) old now → Appends (DueBelow net me adds n most) now new → Appends (DueRows net me adds (n + 1)) old new
+pub more_rows : (net : Network) (me : ℕ) (adds : List (Option (List ℕ))) (n most : ℕ) (old now new : List Outgoing) → ((x : Outgoing) → IsDue net me adds x → x.order < most) → Appends (DueRows net me adds n) old now → Appends (IsDueBelow net me adds n most) now new → Appends (DueRows net me adds (n + 1)) old new
 more_rows net me adds n most old now new small so_far row x = (
   (λ h. elim ((row x).0 h) [
     | inl before ↦ elim ((so_far x).0 before) [ inl o ↦ inl o | inr p ↦ inr (omega (arith, p.0), p.1) ]
@@ -98,7 +79,7 @@ more_rows net me adds n most old now new small so_far row x = (
   ]),
   (λ h. elim h [
     | inl o ↦ (row x).1 (inl ((so_far x).1 (inl o)))
-    | inr q ↦ elim (cases_eq x.0 n) [
+    | inr q ↦ elim (cases_eq x.to n) [
       | inl e ↦ (row x).1 (inr (e, small x q.1, q.1))
       | inr ne ↦ (row x).1 (inl ((so_far x).1 (inr (omega (arith, q.0), q.1))))
     ]
@@ -110,22 +91,22 @@ more_rows net me adds n most old now new small so_far row x = (
 pub goes_up_to_none : GoesUpTo [] 0 0
 goes_up_to_none = record { in_order = λ i j d l m. absurd (omega arith); before = λ k d l. absurd (omega arith) }
 
-pub one_order_more : (out : List Send) (to n : ℕ) → GoesUpTo out to n → GoesUpTo out to (n + 1)
+pub one_order_more : (out : List Outgoing) (to n : ℕ) → GoesUpTo out to n → GoesUpTo out to (n + 1)
 one_order_more out to n h = record {
   in_order = h.in_order;
-  before = All-weaker (λ x. (x.0 < to) ⊎ ((x.0 ≡ to) × (x.1 < n))) (λ x. (x.0 < to) ⊎ ((x.0 ≡ to) × (x.1 < n + 1))) (λ x b. elim b [ inl l ↦ inl l | inr e ↦ inr (e.0, omega (arith, e.1)) ]) out h.before;
+  before = All-weaker (λ x. (x.to < to) ⊎ ((x.to ≡ to) × (x.order < n))) (λ x. (x.to < to) ⊎ ((x.to ≡ to) × (x.order < n + 1))) (λ x b. elim b [ inl l ↦ inl l | inr e ↦ inr (e.0, omega (arith, e.1)) ]) out h.before;
 }
 
-pub one_receiver_more : (out : List Send) (to n : ℕ) → GoesUpTo out to n → GoesUpTo out (to + 1) 0
+pub one_receiver_more : (out : List Outgoing) (to n : ℕ) → GoesUpTo out to n → GoesUpTo out (to + 1) 0
 one_receiver_more out to n h = record {
   in_order = h.in_order;
-  before = All-weaker (λ x. (x.0 < to) ⊎ ((x.0 ≡ to) × (x.1 < n))) (λ x. (x.0 < to + 1) ⊎ ((x.0 ≡ to + 1) × (x.1 < 0))) (λ x b. elim b [ inl l ↦ inl (omega arith) | inr e ↦ inl (omega (arith, e.0)) ]) out h.before;
+  before = All-weaker (λ x. (x.to < to) ⊎ ((x.to ≡ to) × (x.order < n))) (λ x. (x.to < to + 1) ⊎ ((x.to ≡ to + 1) × (x.order < 0))) (λ x b. elim b [ inl l ↦ inl (omega arith) | inr e ↦ inl (omega (arith, e.0)) ]) out h.before;
 }
 
-pub pushed_in_order : (out new : List Send) (to n : ℕ) (path : List ℕ) → GoesUpTo out to n → new ≡ out ++ (to, n, path) ∷ [] → GoesUpTo new to (n + 1)
+pub pushed_in_order : (out new : List Outgoing) (to n : ℕ) (path : List ℕ) → GoesUpTo out to n → new ≡ out ++ (outgoing to n path) ∷ [] → GoesUpTo new to (n + 1)
 pushed_in_order out new to n path h grown =
     let longer = one_order_more out to n h in
     rw grown (record {
-      in_order = all_pairs_push GoesBefore out (to, n, path) h.in_order (λ k d l. h.before k d l);
-      before = All-push (λ x. (x.0 < to) ⊎ ((x.0 ≡ to) × (x.1 < n + 1))) out (to, n, path) longer.before (inr (refl, omega arith));
+      in_order = all_pairs_push GoesBefore out (outgoing to n path) h.in_order (λ k d l. h.before k d l);
+      before = All-push (λ x. (x.to < to) ⊎ ((x.to ≡ to) × (x.order < n + 1))) out (outgoing to n path) longer.before (inr (refl, omega arith));
     })

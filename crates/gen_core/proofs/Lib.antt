@@ -1,3 +1,4 @@
+pub mod Appending
 pub mod Best
 pub mod Commands
 pub mod Decisions

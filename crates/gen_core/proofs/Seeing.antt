@@ -11,7 +11,7 @@ use Rattle.gen_net.specs.Run.{Run, Arrives, OrderArrives, Adds, IsRun}
 use Rattle.gen_net.specs.Network.{rounds}
 use Rattle.gen_net.specs.Run.{Accepts}
 use Rattle.gen_core.proofs.Rounds.{added_by}
-use Rattle.gen_core.specs.Best.{OrderIn, IsBest, AreBest}
+use Rattle.gen_core.specs.Loops.Picking.{OrderIn, IsBest, AreBest}
 use Rattle.gen_core.specs.Seeing.{State, AreArrivals, HasSeen, IsFromLeast}
 use Rattle.gen_core.proofs.PickedPaths.{ChainPicked, ArePicks}
 

@@ -1,4 +1,4 @@
-pub mod Best
+pub mod Loops
 pub mod Paths
 pub mod Seeing
 pub mod Sending

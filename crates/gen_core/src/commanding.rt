@@ -2,7 +2,7 @@
 ghost use Rattle.std.specs.Prelude.{◌≡◌, [], ◌∷◌, IfOk};
 ghost use Rattle.gen_core.specs.Sending.{AreSends, IsCommand};
 
-use crate::sending::Send;
+use crate::sending::Outgoing;
 use gen_net::Net;
 use gen_types::{GeneralNo, OrderNo, OrderSet, Path};
 use std::alloc::{AllocError, Global};
@@ -35,13 +35,17 @@ impl Commander {
     /// Returns what he sends in round 1 (step 1 of SM(m), section 4 of the paper of 1982): his order,
     /// signed by himself alone, to each neighbour, in ascending order of neighbours. It fails only where
     /// memory was refused.
-    pub fn sends(&self, alloc: Global, net: &Net) -> Result<Vec<Send>, AllocError>
+    pub fn sends(&self, alloc: Global, net: &Net) -> Result<Vec<Outgoing>, AllocError>
         ensures { IfOk result (λ out. AreSends (IsCommand net.now self.now) out.items) }
     {
-        let path = commanders_path();
+        let path = Path::commander();
         let mut out = Vec::new(alloc);
         for to in net.neighbours(GeneralNo::commander()) {
-            out.push((to, self.order, path))?;
+            out.push(Outgoing {
+                to,
+                order: self.order,
+                path,
+            })?;
         }
         Ok(out)
     }
@@ -52,16 +56,5 @@ impl Commander {
         ensures order { result.1 ≡ self.now }
     {
         (OrderSet::only(self.order), self.order)
-    }
-}
-
-/// The path of the commander alone.
-fn commanders_path() -> Path
-    ensures { result ≡ 0 ∷ [] }
-{
-    let mut path = Path::new();
-    match path.push(GeneralNo::commander()) {
-        Ok(()) => path,
-        Err(_) => unreachable!(),
     }
 }

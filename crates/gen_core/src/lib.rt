@@ -16,7 +16,7 @@ pub use arrivals::Seen;
 pub use commanding::Commander;
 pub use lieutenants::Lieutenant;
 pub use picks::Adds;
-pub use sending::{Send, sends};
+pub use sending::{Outgoing, sends};
 
 #[cfg(test)]
 mod tests;

@@ -4,7 +4,7 @@ ghost use Rattle.gen_types.specs.Ascending.{IsListOf};
 ghost use Rattle.gen_net.specs.Network.{Network, rounds};
 ghost use Rattle.gen_net.specs.Run.{Run, IsRun};
 ghost use Rattle.gen_net.specs.Follows.{LieutenantDecides};
-ghost use Rattle.gen_core.specs.Best.{OrderIn};
+ghost use Rattle.gen_core.specs.Loops.Picking.{OrderIn};
 ghost use Rattle.gen_core.specs.Seeing.{HasSeen, AreArrivals, AreAdds};
 
 use crate::arrivals::Seen;
@@ -17,7 +17,8 @@ use std::marker::Model;
 fn learn(known: &mut OrderSet, seen: &[Seen])
     ensures { IsListOf known.new (λ v. Contains known.old v ⊎ OrderIn seen.now v) }
 {
-    let _count = known.len();
+    // The set's list ascends, which a read makes known.
+    let _ = known.len();
     for chain in seen {
         known.insert(chain.order);
     }
@@ -25,7 +26,7 @@ fn learn(known: &mut OrderSet, seen: &[Seen])
 
 /// A lieutenant after some of the rounds: his number, 1 to 15, the rounds, the orders that arrived so
 /// far (the set V of SM(m), section 4 of the paper of 1982), and his choice.
-#[derive(Debug, Drop)]
+#[derive(Clone, Copy, Debug)]
 pub struct Lieutenant {
     me: GeneralNo,
     rounds: u8,
@@ -39,9 +40,23 @@ impl Model for Lieutenant {
 
     ghost Value = { State };
 
-    ghost view = { λ l. record { me = l.me; rounds = l.rounds; gone = l.gone; known = l.known; choice = l.choice } };
+    ghost view = { λ l. record {
+      me = l.me;
+      rounds = l.rounds;
+      gone = l.gone;
+      known = l.known;
+      choice = l.choice;
+    } };
 
     ghost invariant = { λ l. IsKept l.gone l.rounds };
+
+    ghost inverse = { λ state. record {
+      me = state.me;
+      rounds = state.rounds;
+      gone = state.gone;
+      known = state.known;
+      choice = state.choice;
+    } };
 }
 
 impl Lieutenant {
@@ -55,7 +70,8 @@ impl Lieutenant {
         ensures rounds { result.rounds ≡ rounds net.now }
         ensures seen { (run : Run) → IsRun net.now run → HasSeen net.now run result }
     {
-        let _orders = net.orders();
+        // A network has at most 15 orders, which a read makes known.
+        let _ = net.orders();
         Lieutenant {
             me,
             rounds: net.rounds(),
@@ -92,8 +108,14 @@ impl Lieutenant {
         ensures me { self.new.me ≡ self.old.me }
         ensures gone { self.new.gone ≡ self.old.gone + 1 }
         ensures rounds { self.new.rounds ≡ self.old.rounds }
-        ensures adds { (net : Network) (run : Run) → HasSeen net run self.old → AreArrivals run self.old.me (self.old.gone + 1) seen.now → AreAdds run self.old.me (self.old.gone + 1) result }
-        ensures seen { (net : Network) (run : Run) → HasSeen net run self.old → AreArrivals run self.old.me (self.old.gone + 1) seen.now → HasSeen net run self.new }
+        ensures adds { (net : Network) (run : Run) →
+            HasSeen net run self.old →
+            AreArrivals run self.old.me (self.old.gone + 1) seen.now →
+            AreAdds run self.old.me (self.old.gone + 1) result }
+        ensures seen { (net : Network) (run : Run) →
+            HasSeen net run self.old →
+            AreArrivals run self.old.me (self.old.gone + 1) seen.now →
+            HasSeen net run self.new }
     {
         let adds = pick(&self.known, seen);
         learn(&mut self.known, seen);
@@ -105,7 +127,9 @@ impl Lieutenant {
     /// 4 of the paper of 1982), in each run of which he has seen what arrived. All rounds must have gone.
     pub fn decide(&self) -> (OrderSet, OrderNo)
         requires { self.now.gone ≡ self.now.rounds }
-        ensures { (net : Network) (run : Run) → HasSeen net run self.now → LieutenantDecides net run self.now.me result.0 result.1 }
+        ensures { (net : Network) (run : Run) →
+            HasSeen net run self.now →
+            LieutenantDecides net run self.now.me result.0 result.1 }
     {
         (self.known, self.choice.choose(self.known))
     }

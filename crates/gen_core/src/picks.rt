@@ -1,9 +1,7 @@
 //! Which chain of a new order a lieutenant picks.
 ghost use Rattle.std.specs.Prelude.{ℕ, ◌≡◌, ◌↔◌, List, Some, Option, length};
-ghost use Rattle.gen_core.specs.Best.{better, AreBest};
+ghost use Rattle.gen_core.specs.Loops.Picking.{better, AreBest, AreBestPaths};
 ghost use Rattle.gen_core.specs.Seeing.{Picked};
-ghost use Rattle.gen_core.specs.Paths.{paths_of};
-ghost use Rattle.gen_core.specs.declared.arrivals.Seen.{Seen as SeenChain};
 
 use crate::arrivals::Seen;
 use gen_types::{OrderNo, OrderSet, Path};
@@ -28,7 +26,7 @@ impl Model for Adds {
 }
 
 impl Adds {
-    /// How many orders there are places for.
+    /// Returns how many orders there are places for.
     pub(crate) fn places(&self) -> u8
         ensures value { result ≡ length self.now }
         ensures all { result ≡ 16 }
@@ -48,7 +46,7 @@ impl Adds {
     }
 }
 
-/// Of two chains of one order the one from the lesser sender.
+/// Returns of two chains of one order the one from the lesser sender.
 fn lesser(before: Option<Seen>, seen: Seen) -> Seen
     ensures { result ≡ better before seen }
 {
@@ -58,7 +56,7 @@ fn lesser(before: Option<Seen>, seen: Seen) -> Seen
     }
 }
 
-/// For each order that isn't known the chain from the least sender.
+/// Returns for each order that isn't known the chain from the least sender.
 fn best_of(known: &OrderSet, seen: &[Seen]) -> [Option<Seen>; 16]
     ensures { AreBest known.now seen.now result }
 {
@@ -72,9 +70,9 @@ fn best_of(known: &OrderSet, seen: &[Seen]) -> [Option<Seen>; 16]
     picked
 }
 
-/// The orders of the chains that aren't known, each with the chain from its least sender.
-pub fn pick(known: &OrderSet, seen: &[Seen]) -> Adds
-    ensures { (picked : List (Option SeenChain)) × AreBest known.now seen.now picked × (result ≡ paths_of picked) }
+/// Returns the orders of the chains that aren't known, each with the chain from its least sender.
+pub(crate) fn pick(known: &OrderSet, seen: &[Seen]) -> Adds
+    ensures { AreBestPaths known.now seen.now result }
 {
     Adds {
         picked: best_of(known, seen),

@@ -1,7 +1,7 @@
 //! What a lieutenant sends.
-ghost use Rattle.std.specs.Prelude.{ℕ, ◌≡◌, ◌<◌, ◌++◌, ◌∷◌, ◌↔◌, List, [], Contains, Some, length, IfOk, OnOk};
-ghost use Rattle.gen_net.specs.Network.{rounds};
-ghost use Rattle.gen_core.specs.Sending.{IsDue, Appends, AreSends, GoesUpTo};
+ghost use Rattle.std.specs.Prelude.{ℕ, ◌≡◌, ◌↔◌, List, Some, length, IfOk, OnOk};
+ghost use Rattle.gen_core.specs.Sending.{outgoing, IsDue, Appends, AreSends};
+ghost use Rattle.gen_core.specs.Loops.Pushing.{GoesOn, IsDueBelow, GoesUpTo};
 
 use crate::picks::Adds;
 use gen_net::Net;
@@ -9,27 +9,36 @@ use gen_types::{GeneralNo, OrderNo, Path};
 use std::alloc::{AllocError, Global};
 
 /// A chain that is to be sent: its receiver, its order and its path.
-pub type Send = (GeneralNo, OrderNo, Path);
+#[derive(Clone, Copy, Debug, PartialEq, Eq)]
+pub struct Outgoing {
+    /// The general to whom it goes.
+    pub to: GeneralNo,
+    /// The chain's order.
+    pub order: OrderNo,
+    /// The chain's path: the generals who signed, of whom the sender is the last.
+    pub path: Path,
+}
 
-/// The path lengthened by `me`, and None where it has as many signers as there are rounds, or has `me`,
-/// or has `to` once it is longer.
+/// Returns the path lengthened by `me`, and None where it has as many signers as there are rounds, or
+/// has `me`, or has `to` once it is longer.
 fn due(net: &Net, me: GeneralNo, to: GeneralNo, path: &Path) -> Option<Path>
-    ensures { (longer : List ℕ) → (result ≡ Some longer) ↔ ((length path.now < rounds net.now) × (Contains path.now me → ⊥) × (longer ≡ path.now ++ me ∷ []) × (Contains longer to → ⊥)) }
+    ensures { (longer : List ℕ) → (result ≡ Some longer) ↔ GoesOn net.now me to path.now longer }
 {
-    if path.len() >= net.rounds() as usize {
+    if path.len() >= usize::from(net.rounds()) || path.contains(me) {
         return None;
     }
     let mut longer = *path;
-    longer.push(me).ok()?;
+    longer.push_new(me);
     if longer.contains(to) {
         return None;
     }
     Some(longer)
 }
 
-/// The path of one order that is due to one general.
+/// Returns the path of one order that is due to one general, if there is one.
 fn due_at(net: &Net, me: GeneralNo, to: GeneralNo, adds: &Adds, order: OrderNo) -> Option<Path>
-    ensures { (path : List ℕ) → (result ≡ Some path) ↔ IsDue net.now me adds.now (to, order, path) }
+    ensures { (path : List ℕ) →
+        (result ≡ Some path) ↔ IsDue net.now me adds.now (outgoing to order path) }
 {
     if !net.has_edge(me, to) {
         return None;
@@ -39,20 +48,21 @@ fn due_at(net: &Net, me: GeneralNo, to: GeneralNo, adds: &Adds, order: OrderNo) 
 
 /// Appends what is due to one general, by order.
 fn push_due(
-    out: &mut Vec<Send>,
+    out: &mut Vec<Outgoing>,
     net: &Net,
     me: GeneralNo,
     to: GeneralNo,
     adds: &Adds,
 ) -> Result<(), AllocError>
     requires { GoesUpTo out.old.items to 0 }
-    ensures exactly { OnOk result (Appends (λ x. (x.0 ≡ to) × (x.1 < length adds.now) × IsDue net.now me adds.now x) out.old.items out.new.items) }
+    ensures exactly { let due = IsDueBelow net.now me adds.now to (length adds.now) in
+        OnOk result (Appends due out.old.items out.new.items) }
     ensures order { OnOk result (GoesUpTo out.new.items to (length adds.now)) }
 {
     for number in 0..adds.places() {
         let order = OrderNo::at(number);
         if let Some(path) = due_at(net, me, to, adds, order) {
-            out.push((to, order, path))?;
+            out.push(Outgoing { to, order, path })?;
         }
     }
     Ok(())
@@ -63,7 +73,12 @@ fn push_due(
 /// is not in the longer path, in ascending order of receiver and order. He sends nothing for a path that
 /// has as many signers as there are rounds, or that has himself, which none that arrives at him has. It
 /// fails only where memory was refused.
-pub fn sends(alloc: Global, net: &Net, me: GeneralNo, adds: &Adds) -> Result<Vec<Send>, AllocError>
+pub fn sends(
+    alloc: Global,
+    net: &Net,
+    me: GeneralNo,
+    adds: &Adds,
+) -> Result<Vec<Outgoing>, AllocError>
     ensures { IfOk result (λ out. AreSends (IsDue net.now me adds.now) out.items) }
 {
     let mut out = Vec::new(alloc);

@@ -3,15 +3,18 @@ ghost use Rattle.std.specs.Prelude.{◌≡◌};
 ghost use Rattle.gen_net.specs.Network.{rounds};
 
 use super::*;
-use gen_net::Net;
-use gen_types::{GeneralNo, OrderNo, OrderSet, Path};
+use gen_net::{HeaderFault, Net};
+use gen_types::{GeneralNo, OrderNo, OrderSet, Path, ReadError};
 use std::alloc::Global;
 use std::test::Fail;
 
 /// What arrives in a round, and what is to be sent for it in the next.
-type Round<'a> = (&'a [Seen], &'a [Send]);
+type Round<'a> = (&'a [Seen], &'a [Outgoing]);
 
 const ALL_PAIRS: [(u8, u8); 6] = [(0, 1), (0, 2), (0, 3), (1, 2), (1, 3), (2, 3)];
+
+/// The numbers of all generals; the first 15 are those of all orders too.
+const NUMBERS: [u8; 16] = [0, 1, 2, 3, 4, 5, 6, 7, 8, 9, 10, 11, 12, 13, 14, 15];
 
 /// The path of these generals.
 fn path_of(generals: &[u8]) -> Path {
@@ -32,8 +35,12 @@ fn seen(order: u8, path: Path) -> Seen {
 }
 
 /// The chain of this order and path, to this general.
-fn send(to: u8, order: u8, path: Path) -> Send {
-    (GeneralNo::at(to % 16), OrderNo::at(order % 16), path)
+fn send(to: u8, order: u8, path: Path) -> Outgoing {
+    Outgoing {
+        to: GeneralNo::at(to % 16),
+        order: OrderNo::at(order % 16),
+        path,
+    }
 }
 
 /// Whether there is a next round, and the lieutenant sends exactly this for it.
@@ -181,7 +188,7 @@ fn own_paths(rt: HostRuntime) -> Result<(), Fail> {
     let adds = lieutenant.round(&[seen(1, by_1), seen(2, first)]);
     // General 1 signed the path of order 1: handed in for him, it is sent to nobody.
     let (by_2, by_12) = (path_of(&[0, 2]), path_of(&[0, 1, 2]));
-    let rows: [(u8, &[Send]); 2] = [
+    let rows: [(u8, &[Outgoing]); 2] = [
         (1, &[send(2, 2, by_1), send(3, 2, by_1)]),
         (2, &[send(1, 2, by_2), send(3, 1, by_12), send(3, 2, by_2)]),
     ];
@@ -205,4 +212,57 @@ fn commands(rt: HostRuntime) -> Result<(), Fail> {
     );
     assert!(rt; is_decision(Some(commander.decide()), &[2], 2));
     Ok(())
+}
+
+/// The greatest network: 16 generals, all 120 edges, 16 rounds, 15 orders.
+fn greatest_net(alloc: Global) -> Result<Net, ReadError<HeaderFault>> {
+    let mut edges = Vec::new(alloc);
+    for b in NUMBERS {
+        for a in 0..b {
+            edges.push((a, b))?;
+        }
+    }
+    Net::new(alloc, 16, &edges, 8, 8, 15, 0)
+}
+
+/// How many chains the lieutenant sends after a first round in which each order arrives with this path.
+fn relayed_of_all(alloc: Global, net: &Net, me: u8, path: Path) -> Option<usize> {
+    let me = GeneralNo::new(me)?;
+    if me.get() == 0 || me.get() >= net.generals() || net.rounds() == 0 {
+        return None;
+    }
+    let mut arrived = [seen(0, path); 15];
+    for order in 0..15u8 {
+        arrived[usize::from(order)] = seen(order, path);
+    }
+    let adds = Lieutenant::new(net, me).round(&arrived);
+    Some(sends(alloc, net, me, &adds).ok()?.len())
+}
+
+#[test]
+fn at_the_limits(rt: HostRuntime) -> Result<(), Fail> {
+    let alloc = rt.alloc();
+    let net = greatest_net(alloc).expect(&rt, "net");
+    let commander = Commander::new(OrderNo::at(14));
+    assert_eq!(rt; commander.sends(alloc, &net)?.len(), 15);
+    // 15 orders to each who is not in the longer path: 14 generals, then one, then nobody.
+    for (me, sent) in [(1, 210), (14, 15), (15, 0)] {
+        let path = path_of(&NUMBERS[..usize::from(me)]);
+        assert_eq!(rt; relayed_of_all(alloc, &net, me, path), Some(sent));
+    }
+    Ok(())
+}
+
+/// A lieutenant is copied: a round of the copy leaves him as he was.
+#[test]
+fn a_copy(rt: HostRuntime) {
+    let alloc = rt.alloc();
+    let net = Net::new(alloc, 3, &[(0, 1), (1, 2)], 0, 2, 3, 1).expect(&rt, "net");
+    assert!(rt; net.generals() == 3);
+    let lieutenant = Lieutenant::new(&net, GeneralNo::at(1));
+    let mut later = lieutenant;
+    assert!(rt; later.gone() < net.rounds());
+    let adds = later.round(&[seen(2, path_of(&[0]))]);
+    assert!(rt; adds.get(OrderNo::at(2)).is_some());
+    assert!(rt; (lieutenant.gone(), later.gone()) == (0, 1));
 }

@@ -1,35 +1,72 @@
--- The two laws of reading a header.
-use Rattle.std.proofs.Common.{◌≡◌, ℕ, ◌+◌, ◌-◌, ◌≤◌, true, eqb, List, [], ◌∷◌, ◌++◌, length, Result, Ok, refl, sym, ap, ◌∙◌, append_assoc, arith}
+-- The two laws of reading a header, field by field.
+use Rattle.std.proofs.Common.{◌≡◌, ℕ, true, eqb, leb, List, [], ◌∷◌, ◌++◌, length, Result, Ok, refl, ap, append_assoc, inl, inr}
 use Rattle.std.specs.List.{flat_map, AllByRecursion}
-use Rattle.std.proofs.lemmas.List.{length-append}
-use Rattle.std.proofs.lemmas.Bool.{eqb-true}
-use Rattle.gen_types.specs.ChoiceOf.{choice_number}
+use Rattle.std.proofs.lemmas.Bool.{eqb-true, eq-eqb, leb-true, le-leb}
 use Rattle.gen_types.specs.Reading.{◌>>=◌, check}
 use Rattle.gen_types.specs.Bytes.{byte_at, many_at}
-use Rattle.gen_types.proofs.Steps.{after, after_check, at_end, ok_is}
+use Rattle.gen_types.proofs.Lists.{bool_cases}
+use Rattle.gen_types.proofs.Steps.{after, after_check, at_end}
 use Rattle.gen_types.proofs.ByteFields.{IsBytes, Takes, Takes-then, byte_takes, bytes_takes, bytes_again}
 use Rattle.gen_types.proofs.ManyFields.{Reads, many_take, many_again}
 use Rattle.gen_net.specs.declared.fault.HeaderFault.{HeaderFault}
-use Rattle.gen_net.specs.declared.fault.HeaderFault.TheVariants.{Truncated, UnknownVersion}
+use Rattle.gen_net.specs.declared.fault.HeaderFault.TheVariants.{Truncated, RootCount, SlotRange}
+use Rattle.gen_net.specs.declared.version.Version.{Version}
+use Rattle.gen_net.specs.declared.version.Version.TheVariants.{One, Two}
 use Rattle.gen_net.specs.Network.{Network, IsNetwork}
 use Rattle.gen_net.specs.declared.numbers.NetNumbers.{NetNumbers}
 use Rattle.gen_net.specs.Edges.{in_place}
 use Rattle.gen_net.specs.NetworkOf.{ranges_of, network_with, network_in_place}
-use Rattle.gen_net.specs.Header.{RunHeader, IsHeader, AreRoots, header_version, root_length, edge_bytes, header_spelling}
-use Rattle.gen_net.specs.HeaderReading.{after_version, numbers_at, edge_at, edges_at, root_at, Parts, parts_at, header_at, header_of}
+use Rattle.gen_net.specs.Version.{slot_in, greatest_slot, number_of_one, number_of_two, version_bytes}
+use Rattle.gen_net.specs.Header.{RunHeader, slot_of, IsHeader, AreRoots, root_length, header_with, header_spelling}
+use Rattle.gen_net.specs.NetworkSpelling.{edge_bytes}
+use Rattle.gen_net.specs.HeaderReading.{root_at, Parts, parts_at, header_at}
+use Rattle.gen_net.specs.NetworkReading.{numbers_at, edge_at, edges_at}
+use Rattle.gen_net.specs.VersionReading.{slot_at, version_behind, version_at}
 use Rattle.gen_net.proofs.PlacedEdges.{placed_edges, placed_again}
 use Rattle.gen_net.proofs.Ranges.{accepted, numbers_of, accepted_again}
 
 -- ---- fields
 
-version_taken : (bytes rest : List ℕ) → IsBytes bytes → after_version bytes ≡ Ok rest → Takes bytes (header_version ∷ []) rest
-unfolding after_version
-version_taken bytes rest fits e =
-    after (byte_at Truncated bytes) (λ version. check (eqb version.0 header_version) UnknownVersion >>= λ known. Ok version.1) rest e (λ version r0 e0.
-    after_check (eqb version.0 header_version) UnknownVersion (λ known. Ok version.1) rest e0 (λ known e1.
-    let t0 = byte_takes Truncated bytes version.0 version.1 fits r0 in
-    let one : version.0 ≡ header_version = eqb-true _ _ known in
-    at_end {F = HeaderFault} (λ (y : List ℕ). Takes bytes (header_version ∷ []) y) version.1 rest e1 (rw one at t0.0)))
+abbrev VersionTaken : List ℕ → Version × List ℕ → Type 0
+VersionTaken bytes x = Takes bytes (version_bytes x.0) x.1
+
+slot_taken : (bytes : List ℕ) (x : Version × List ℕ) → IsBytes bytes → slot_at bytes ≡ Ok x → (slot : ℕ) × (x.0 ≡ Two slot) × Takes bytes (slot ∷ []) x.1
+unfolding slot_at
+slot_taken bytes x fits e =
+    after (byte_at Truncated bytes) (λ slot. Ok (Two slot.0, slot.1)) x e (λ slot r0 e0.
+    let t0 = byte_takes Truncated bytes slot.0 slot.1 fits r0 in
+    at_end {F = HeaderFault} (λ (y : Version × List ℕ). (u : ℕ) × (y.0 ≡ Two u) × Takes bytes (u ∷ []) y.1) (Two slot.0, slot.1) x e0 (slot.0, refl, t0.0))
+
+behind : (bytes : List ℕ) (number : ℕ) (rest : List ℕ) (x : Version × List ℕ) → Takes bytes (number ∷ []) rest → version_behind number rest ≡ Ok x → VersionTaken bytes x
+behind bytes number rest x t e = elim (bool_cases (eqb number number_of_one)) [
+  | inl one ↦
+      let read : Ok (One, rest) ≡ Ok x = rw one at e in
+      let is : number ≡ number_of_one = eqb-true _ _ one in
+      at_end {F = HeaderFault} (VersionTaken bytes) (One, rest) x read (rw is at t)
+  | inr not_one ↦
+      let next = rw not_one at e in
+      elim (bool_cases (eqb number number_of_two)) [
+        | inl two ↦
+            let is : number ≡ number_of_two = eqb-true _ _ two in
+            let s = slot_taken rest x t.rest_fits (rw two at next) in
+            rw s.1 (Takes-then bytes (number_of_two ∷ []) rest (s.0 ∷ []) x.1 (rw is at t) s.2)
+        | inr not_two ↦
+            let refused = rw not_two at next in
+            absurd cc
+      ]
+]
+
+version_taken : (bytes : List ℕ) (x : Version × List ℕ) → IsBytes bytes → version_at bytes ≡ Ok x → VersionTaken bytes x
+unfolding version_at
+version_taken bytes x fits e =
+    after (byte_at Truncated bytes) (λ number. version_behind number.0 number.1) x e (λ number r0 e0.
+    let t0 = byte_takes Truncated bytes number.0 number.1 fits r0 in
+    behind bytes number.0 number.1 x t0.0 e0)
+
+version_again : (version : Version) (rest : List ℕ) → version_at (version_bytes version ++ rest) ≡ Ok (version, rest)
+unfolding version_at slot_at
+version_again One rest = refl
+version_again (Two slot) rest = refl
 
 abbrev numbers_bytes : NetNumbers → List ℕ
 numbers_bytes n = n.generals ∷ n.traitors ∷ n.diameter ∷ n.orders ∷ n.choice ∷ []
@@ -175,62 +212,44 @@ parts_of h = record { numbers = numbers_of h.network; edges = h.network.edges; r
 
 -- ---- the header
 
+-- what a header that was made of its parts is
+header_made : (version : Version) (net : Network) (roots : List (List ℕ)) (h : RunHeader) → IsNetwork net → AreRoots roots → header_with version net roots ≡ Ok h → (h ≡ record { version = version; network = net; roots = roots }) × IsHeader h
+header_made version net roots h is wide e =
+    let made : RunHeader = record { version = version; network = net; roots = roots } in
+    after_check (eqb (length roots) net.generals) RootCount (λ one_each. check (leb (slot_in version) greatest_slot) SlotRange >>= λ slot. Ok made) h e (λ counted e0.
+    after_check (leb (slot_in version) greatest_slot) SlotRange (λ slot. Ok made) h e0 (λ slot e1.
+    at_end {F = HeaderFault} (λ (k : RunHeader). (k ≡ made) × IsHeader k) made h e1
+    (refl, record { network = is; slot = leb-true _ _ slot; one_each = eqb-true _ _ counted; wide = wide })))
+
 abbrev HeaderTaken : List ℕ → RunHeader × List ℕ → Type 0
 HeaderTaken bytes x = Takes bytes (header_spelling x.0) x.1 × IsHeader x.0
 
 header_takes : (bytes : List ℕ) (x : RunHeader × List ℕ) → IsBytes bytes → header_at bytes ≡ Ok x → HeaderTaken bytes x
 unfolding header_at
 header_takes bytes x fits e =
-    let made : Parts × List ℕ → Network → Result (RunHeader × List ℕ) HeaderFault = λ parts net. Ok (record { network = net; roots = parts.0.roots }, parts.1) in
-    after (after_version bytes) (λ rest. parts_at rest >>= λ parts. network_in_place parts.0.numbers parts.0.edges >>= made parts) x e (λ rest r0 e0.
-    after (parts_at rest) (λ parts. network_in_place parts.0.numbers parts.0.edges >>= made parts) x e0 (λ parts r1 e1.
-    after (network_in_place parts.0.numbers parts.0.edges) (made parts) x e1 (λ net r2 e2.
-    let t0 = version_taken bytes rest fits r0 in
-    let t1 = parts_take rest parts t0.rest_fits r1 in
+    let made : Parts × List ℕ → RunHeader → Result (RunHeader × List ℕ) HeaderFault = λ parts header. Ok (header, parts.1) in
+    let joined : Version × List ℕ → Parts × List ℕ → Network → Result (RunHeader × List ℕ) HeaderFault = λ version parts net. header_with version.0 net parts.0.roots >>= made parts in
+    after (version_at bytes) (λ version. parts_at version.1 >>= λ parts. network_in_place parts.0.numbers parts.0.edges >>= joined version parts) x e (λ version r0 e0.
+    after (parts_at version.1) (λ parts. network_in_place parts.0.numbers parts.0.edges >>= joined version parts) x e0 (λ parts r1 e1.
+    after (network_in_place parts.0.numbers parts.0.edges) (joined version parts) x e1 (λ net r2 e2.
+    after (header_with version.0 net parts.0.roots) (made parts) x e2 (λ header r3 e3.
+    let t0 = version_taken bytes version fits r0 in
+    let t1 = parts_take version.1 parts t0.rest_fits r1 in
     let net_is = network_made parts.0.numbers parts.0.edges net r2 in
-    let whole = Takes-then bytes (header_version ∷ []) rest (parts_bytes parts.0) parts.1 t0 t1.taken in
-    let h : RunHeader = record { network = net; roots = parts.0.roots } in
+    let whole = Takes-then bytes (version_bytes version.0) version.1 (parts_bytes parts.0) parts.1 t0 t1.taken in
+    let h : RunHeader = record { version = version.0; network = net; roots = parts.0.roots } in
     let same : parts_of h ≡ parts.0 = λ i. record { numbers = net_is.numbers_is i; edges = net_is.edges_is i; roots = parts.0.roots } in
     let spelled : Takes bytes (header_spelling h) parts.1 = rw (← same) at whole in
-    let n : net.generals ≡ parts.0.numbers.generals = ap (λ (m : NetNumbers). m.generals) net_is.numbers_is in
-    at_end {F = HeaderFault} (HeaderTaken bytes) (h, parts.1) x e2 (spelled, record { network = net_is.is_network; one_each = t1.roots ∙ sym n; wide = t1.wide }))))
+    let valid = header_made version.0 net parts.0.roots header net_is.is_network t1.wide r3 in
+    at_end {F = HeaderFault} (HeaderTaken bytes) (header, parts.1) x e3 (rw valid.0 spelled, valid.1)))))
 
 header_again : (h : RunHeader) (rest : List ℕ) → IsHeader h → header_at (header_spelling h ++ rest) ≡ Ok (h, rest)
-unfolding header_at after_version
-header_again h rest is = rw (parts_again (parts_of h) rest is.one_each is.wide, network_again h.network is.network) refl
+unfolding header_at
+header_again h rest is =
+    let regrouped : header_spelling h ++ rest ≡ version_bytes h.version ++ (parts_bytes (parts_of h) ++ rest) = append_assoc (version_bytes h.version) (parts_bytes (parts_of h)) rest in
+    let counted : eqb (length h.roots) h.network.generals ≡ true = eq-eqb _ _ is.one_each in
+    let slot : leb (slot_of h) greatest_slot ≡ true = le-leb _ _ is.slot in
+    rw (regrouped, version_again h.version (parts_bytes (parts_of h) ++ rest), parts_again (parts_of h) rest is.one_each is.wide, network_again h.network is.network, counted, slot) refl
 
-pub roots_fit : (bytes rest : List ℕ) (p : Parts) (after_them : List ℕ) (net : Network) → IsBytes bytes → after_version bytes ≡ Ok rest → parts_at rest ≡ Ok (p, after_them) → network_in_place p.numbers p.edges ≡ Ok net → length p.roots ≡ net.generals
-roots_fit bytes rest p after_them net fits e0 e1 e2 =
-    let t0 = version_taken bytes rest fits e0 in
-    let t1 = parts_take rest (p, after_them) t0.rest_fits e1 in
-    t1.roots ∙ sym (ap (λ (m : NetNumbers). m.generals) (network_made p.numbers p.edges net e2).numbers_is)
-
-abbrev pub HeaderFound : List ℕ → RunHeader × ℕ → Type 0
-HeaderFound bytes x = IsHeader x.0 × ((rest : List ℕ) × (bytes ≡ header_spelling x.0 ++ rest)) × (x.1 ≡ length (header_spelling x.0))
-
-pub rest_is_shorter : (bytes : List ℕ) (h : RunHeader) (rest : List ℕ) → IsBytes bytes → header_at bytes ≡ Ok (h, rest) → length rest ≤ length bytes
-rest_is_shorter bytes h rest fits e =
-    let t = header_takes bytes (h, rest) fits e in
-    omega (arith, ap length t.0.parts ∙ length-append (header_spelling h) rest)
-
-pub header_found : (bytes : List ℕ) (x : RunHeader × ℕ) → IsBytes bytes → header_of bytes ≡ Ok x → HeaderFound bytes x
-unfolding header_of
-header_found bytes x fits e =
-    after (header_at bytes) (λ header. Ok (header.0, length bytes - length header.1)) x e (λ header r0 e0.
-    let t = header_takes bytes header fits r0 in
-    let total : length bytes ≡ length (header_spelling header.0) + length header.1 = ap length t.0.parts ∙ length-append (header_spelling header.0) header.1 in
-    let taken : length bytes - length header.1 ≡ length (header_spelling header.0) = omega (arith, total) in
-    at_end {F = HeaderFault} (HeaderFound bytes) (header.0, length bytes - length header.1) x e0 (t.1, (header.1, t.0.parts), taken))
-
-pub header_only : (bytes : List ℕ) (h : RunHeader) (rest : List ℕ) → IsHeader h → bytes ≡ header_spelling h ++ rest → header_of bytes ≡ Ok (h, length (header_spelling h))
-unfolding header_of
-header_only bytes h rest is e =
-    let read : header_at bytes ≡ Ok (h, rest) = ap header_at e ∙ header_again h rest is in
-    let total : length bytes ≡ length (header_spelling h) + length rest = ap length e ∙ length-append (header_spelling h) rest in
-    let taken : length bytes - length rest ≡ length (header_spelling h) = omega (arith, total) in
-    rw (read, taken) refl
-
-pub one_spelling : (h k : RunHeader) (rest more : List ℕ) → IsHeader h → IsHeader k → header_spelling h ++ rest ≡ header_spelling k ++ more → (h ≡ k) × (rest ≡ more)
-one_spelling h k rest more is_h is_k e =
-    let same = ok_is {F = HeaderFault} (h, rest) (k, more) (sym (header_again h rest is_h) ∙ ap header_at e ∙ header_again k more is_k) in
-    (ap (λ (p : RunHeader × List ℕ). p.0) same, ap (λ (p : RunHeader × List ℕ). p.1) same)
+pub header_reads : Reads header_at header_spelling IsHeader
+header_reads = record { takes = header_takes; again = header_again }

@@ -1,14 +1,7 @@
 -- Chains: an order and the generals who signed it, one after another (v:0:j1:..:jk of section 4 of the paper of 1982).
-use Rattle.std.specs.Prelude.{ℕ, ◌≡◌, ◌≢◌, ◌<◌, List, [], ◌∷◌, ◌++◌, All, AllPairs}
+use Rattle.std.specs.Prelude.{ℕ, ◌≢◌, ◌<◌, List, [], ◌∷◌, All, AllPairs}
+use Rattle.gen_types.specs.Ends.{BeginsWith}
 use Rattle.gen_net.specs.Network.{Network}
-
--- the path begins with these generals
-abbrev pub BeginsWith : List ℕ → List ℕ → Type 0
-BeginsWith path front = (rest : List ℕ) × (path ≡ front ++ rest)
-
--- the general is the last of the path
-abbrev pub EndsWith : List ℕ → ℕ → Type 0
-EndsWith path last = (front : List ℕ) × (path ≡ front ++ last ∷ [])
 
 -- an order below q, and a list of distinct generals below n that begins with the commander
 pub record IsChain (net : Network) (order : ℕ) (path : List ℕ) : Type 0 where

@@ -1,64 +1,65 @@
 -- Headers: what a run is about, and the one spelling of it in bytes.
-use Rattle.std.specs.Prelude.{◌≡◌, ℕ, List, [], ◌∷◌, ◌++◌, length, Result, Ok, Err, ◌==◌, if◌then◌else◌, slice_index_or}
+use Rattle.std.specs.Prelude.{◌≡◌, ◌≤◌, ℕ, List, [], ◌∷◌, ◌++◌, length, Result, Ok, ◌==◌, nat_le, slice_index_or}
 use Rattle.std.specs.List.{flat_map, AllByRecursion}
 use Rattle.sha2.specs.Sha256.{sha256}
-use Rattle.gen_types.specs.ChoiceOf.{choice_number}
+use Rattle.gen_types.specs.declared.heights.TreeHeight.{TreeHeight}
+use Rattle.gen_types.specs.Reading.{◌>>=◌, check}
 use Rattle.gen_net.specs.declared.fault.HeaderFault.{HeaderFault}
-use Rattle.gen_net.specs.declared.fault.HeaderFault.TheVariants.{RootCount}
+use Rattle.gen_net.specs.declared.fault.HeaderFault.TheVariants.{RootCount, SlotRange}
+use Rattle.gen_net.specs.declared.version.Version.{Version}
 use Rattle.gen_net.specs.Network.{Network, IsNetwork}
+use Rattle.gen_net.specs.NetworkSpelling.{network_bytes}
+use Rattle.gen_net.specs.Version.{height_in, slot_in, greatest_slot, version_bytes}
 
--- a network, and for each general the root of his keys
+-- a network, for each general the root of his keys, and the version with the run's slot
 pub record RunHeader : Type 0 where
+  pub version : Version
   pub network : Network
   pub roots : List (List ℕ)
 
--- the version of the format, which is the first byte of a header
-abbrev pub header_version : ℕ
-header_version = 1
+-- the height of the generals' trees of keys
+abbrev pub height_of : RunHeader → TreeHeight
+height_of h = height_in h.version
 
--- the byte before a header, where the run id is hashed: 31 in hexadecimal
-abbrev pub run_id_prefix : ℕ
-run_id_prefix = 49
-
--- the bytes of a root
-abbrev pub root_length : ℕ
-root_length = 32
-
--- an edge is two bytes
-abbrev pub edge_bytes : ℕ × ℕ → List ℕ
-edge_bytes e = e.0 ∷ e.1 ∷ []
-
--- the bytes before the edges: version, n, m, d, q, choice and the number of edges
-abbrev pub fixed_part : Network → List ℕ
-fixed_part net =
-    header_version ∷ net.generals ∷ net.traitors ∷ net.diameter ∷ net.orders
-    ∷ choice_number net.choice ∷ length net.edges ∷ []
-
--- the one spelling of a header
-abbrev pub header_spelling : RunHeader → List ℕ
-header_spelling h =
-    fixed_part h.network ++ flat_map edge_bytes h.network.edges ++ flat_map (λ root. root) h.roots
-
--- the run id, which names the run that a header is about
-unfoldable pub run_id_of : RunHeader → List ℕ
-run_id_of h = sha256 (run_id_prefix ∷ header_spelling h)
+-- which of the runs it is that a tree serves
+abbrev pub slot_of : RunHeader → ℕ
+slot_of h = slot_in h.version
 
 -- the root of a general's keys
 abbrev pub root_of : RunHeader → ℕ → List ℕ
 root_of h general = slice_index_or h.roots general []
 
+-- the bytes of a root
+abbrev pub root_length : ℕ
+root_length = 32
+
 -- each root has its 32 bytes
 abbrev pub AreRoots : List (List ℕ) → Type 0
 AreRoots roots = AllByRecursion (λ root. length root ≡ root_length) roots
 
--- what each header keeps: its network does what networks do, and there is a root for each general
+-- what each header keeps: its network does what networks do, its slot is known, and there is a root for each general
 pub record IsHeader (h : RunHeader) : Type 0 where
   pub network : IsNetwork h.network
+  pub slot : slot_of h ≤ greatest_slot
   pub one_each : length h.roots ≡ h.network.generals
   pub wide : AreRoots h.roots
 
--- the header of a network and these roots
-abbrev pub header_with : Network → List (List ℕ) → Result RunHeader HeaderFault
-header_with net roots =
-    if length roots == net.generals then Ok (record { network = net; roots = roots })
-    else Err RootCount
+-- the header of this version, network and roots; or the first rule that they break
+abbrev pub header_with : Version → Network → List (List ℕ) → Result RunHeader HeaderFault
+header_with version net roots = do
+  one_each ← check (length roots == net.generals) RootCount
+  slot ← check (nat_le (slot_in version) greatest_slot) SlotRange
+  Ok (record { version = version; network = net; roots = roots })
+
+-- the one spelling of a header
+abbrev pub header_spelling : RunHeader → List ℕ
+header_spelling h =
+    version_bytes h.version ++ (network_bytes h.network ++ flat_map (λ root. root) h.roots)
+
+-- the byte before a header, where the run id is hashed: 31 in hexadecimal
+abbrev pub run_id_prefix : ℕ
+run_id_prefix = 49
+
+-- the run id, which names the run that a header is about
+unfoldable pub run_id_of : RunHeader → List ℕ
+run_id_of h = sha256 (run_id_prefix ∷ header_spelling h)

@@ -1,48 +1,14 @@
--- Reading a header: another version first, then too few bytes, then the first rule that its network breaks.
-use Rattle.std.specs.Prelude.{ℕ, ◌-◌, ◌==◌, List, length, Result, Ok}
-use Rattle.gen_types.specs.Reading.{◌>>=◌, check}
-use Rattle.gen_types.specs.Bytes.{byte_at, bytes_at, many_at}
+-- Reading a header: another version first, then too few bytes, then the first rule that its network or its slot breaks.
+use Rattle.std.specs.Prelude.{ℕ, List, Result, Ok}
+use Rattle.gen_types.specs.Reading.{◌>>=◌}
+use Rattle.gen_types.specs.Bytes.{bytes_at, many_at}
 use Rattle.gen_net.specs.declared.fault.HeaderFault.{HeaderFault}
-use Rattle.gen_net.specs.declared.fault.HeaderFault.TheVariants.{Truncated, UnknownVersion}
+use Rattle.gen_net.specs.declared.fault.HeaderFault.TheVariants.{Truncated}
 use Rattle.gen_net.specs.declared.numbers.NetNumbers.{NetNumbers}
 use Rattle.gen_net.specs.NetworkOf.{network_in_place}
-use Rattle.gen_net.specs.Header.{RunHeader, header_version, root_length}
-
--- the bytes after a known version
-unfoldable pub after_version : List ℕ → Result (List ℕ) HeaderFault
-after_version bytes = do
-  version ← byte_at Truncated bytes
-  known ← check (version.0 == header_version) UnknownVersion
-  Ok version.1
-
--- n, m, d, q and the choice
-unfoldable pub numbers_at : List ℕ → Result (NetNumbers × List ℕ) HeaderFault
-numbers_at bytes = do
-  generals ← byte_at Truncated bytes
-  traitors ← byte_at Truncated generals.1
-  diameter ← byte_at Truncated traitors.1
-  orders ← byte_at Truncated diameter.1
-  choice ← byte_at Truncated orders.1
-  Ok (record {
-    generals = generals.0;
-    traitors = traitors.0;
-    diameter = diameter.0;
-    orders = orders.0;
-    choice = choice.0;
-  }, choice.1)
-
--- one edge
-unfoldable pub edge_at : List ℕ → Result ((ℕ × ℕ) × List ℕ) HeaderFault
-edge_at bytes = do
-  low ← byte_at Truncated bytes
-  high ← byte_at Truncated low.1
-  Ok ((low.0, high.0), high.1)
-
--- the edges behind their number
-unfoldable pub edges_at : List ℕ → Result (List (ℕ × ℕ) × List ℕ) HeaderFault
-edges_at bytes = do
-  count ← byte_at Truncated bytes
-  many_at edge_at count.0 count.1
+use Rattle.gen_net.specs.NetworkReading.{numbers_at, edges_at}
+use Rattle.gen_net.specs.Header.{RunHeader, root_length, header_with}
+use Rattle.gen_net.specs.VersionReading.{version_at}
 
 -- one root
 abbrev pub root_at : List ℕ → Result (List ℕ × List ℕ) HeaderFault
@@ -64,13 +30,8 @@ parts_at bytes = do
 -- a header, and the bytes after it
 unfoldable pub header_at : List ℕ → Result (RunHeader × List ℕ) HeaderFault
 header_at bytes = do
-  rest ← after_version bytes
-  parts ← parts_at rest
+  version ← version_at bytes
+  parts ← parts_at version.1
   net ← network_in_place parts.0.numbers parts.0.edges
-  Ok (record { network = net; roots = parts.0.roots }, parts.1)
-
--- the header in front, and how many bytes it has
-unfoldable pub header_of : List ℕ → Result (RunHeader × ℕ) HeaderFault
-header_of bytes = do
-  header ← header_at bytes
-  Ok (header.0, length bytes - length header.1)
+  header ← header_with version.0 net parts.0.roots
+  Ok (header, parts.1)

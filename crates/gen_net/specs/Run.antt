@@ -3,7 +3,8 @@
 use Rattle.std.specs.Prelude.{ℕ, ◌≡◌, ◌<◌, ◌≤◌, List, length, Contains}
 use Rattle.gen_net.specs.declared.message.Message.{Message}
 use Rattle.gen_net.specs.Network.{Network, rounds, AreNeighbours}
-use Rattle.gen_net.specs.Chain.{IsChain, EndsWith}
+use Rattle.gen_types.specs.Ends.{EndsWith}
+use Rattle.gen_net.specs.Chain.{IsChain}
 
 -- All messages, read as a set. The round of a message is the length of its path.
 abbrev pub Run : Type 0

@@ -1,7 +1,7 @@
 -- Runs in which no loyal signature is forged (assumption A4 of section 4 of the paper of 1982, said of messages).
 use Rattle.std.specs.Prelude.{ℕ, ◌≡◌, ◌<◌, ◌⊎◌, List, [], ◌∷◌, ◌++◌, length, Contains, All}
 use Rattle.gen_net.specs.Network.{Network, IsLoyal}
-use Rattle.gen_net.specs.Chain.{BeginsWith}
+use Rattle.gen_types.specs.Ends.{BeginsWith}
 use Rattle.gen_net.specs.declared.message.Message.{Message}
 use Rattle.gen_net.specs.Run.{Run, IsRun}
 use Rattle.gen_net.specs.Follows.{Conduct, Follows}

@@ -47,10 +47,8 @@ fn push_row(
 ) -> Result<(), AllocError>
     requires below { a < n }
     requires few { n ≤ 16 }
-    ensures {
-        OnOk result (edges.new.items
-            ≡ edges.old.items ++ filter (λ p. list_any (joins p.0 p.1) given.now) (row n a))
-    }
+    ensures { OnOk result (edges.new.items
+        ≡ edges.old.items ++ filter (λ p. list_any (joins p.0 p.1) given.now) (row n a)) }
 {
     for b in a + 1..n {
         if is_joined(a, b, given) {

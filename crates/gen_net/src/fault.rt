@@ -1,10 +1,11 @@
 //! Why numbers, edges and roots make no header.
 use thiserror::Error;
 
-/// Which rule a header breaks. The texts are `H1` to `H10`.
+/// Which rule a header breaks. The texts are `H1` to `H11`.
 ///
-/// Of the numbers and edges of a network it is the first in this order that is broken, `H1` to `H7`.
-/// Bytes are tested for `H10` first, where there is a first byte, then for `H9`, then for the others.
+/// Of the numbers and edges of a network it is the first in this order that is broken, `H1` to `H7`; of a
+/// network, its roots and a slot the first of `H8` and `H11`. Bytes are tested for `H10` first, where there
+/// is a first byte, then for `H9`, then for the others in their order.
 #[derive(Clone, Copy, Debug, PartialEq, Eq, Error)]
 pub enum HeaderFault {
     /// The number of generals is not 2 to 16.
@@ -38,4 +39,7 @@ pub enum HeaderFault {
     /// The first byte is not a version that is known.
     #[error("H10")]
     UnknownVersion,
+    /// The slot is not 0 to 3.
+    #[error("H11")]
+    SlotRange,
 }

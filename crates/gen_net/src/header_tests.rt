@@ -1,6 +1,6 @@
 //! Headers: bytes and run ids computed outside the program, each fault, each cut.
 use super::*;
-use gen_types::{GeneralNo, ReadError};
+use gen_types::{GeneralNo, ReadError, TreeHeight};
 use std::alloc::{AllocError, Global};
 use std::test::Fail;
 
@@ -17,6 +17,20 @@ const OF_TWO: [u8; 73] = [
 const RUN_OF_TWO: [u8; 32] = [
     0x4f, 0x09, 0x2d, 0x5b, 0xdc, 0xf1, 0xd0, 0xec, 0x35, 0x0c, 0x82, 0x6a, 0xc0, 0x71, 0xea, 0x3f,
     0xa9, 0x86, 0xce, 0x1d, 0x9c, 0xc2, 0x6b, 0x17, 0x0f, 0x8d, 0xed, 0x62, 0x13, 0x9a, 0xc4, 0xb4,
+];
+
+/// The header of the same run in slot 1 of taller trees, whose keys come from the same seed.
+const OF_TWO_IN_SLOT_1: [u8; 74] = [
+    0x02, 0x01, 0x02, 0x00, 0x01, 0x02, 0x00, 0x01, 0x00, 0x01, 0x3f, 0x3a, 0xbb, 0x06, 0xcd, 0xb8,
+    0x77, 0x45, 0x9f, 0x4f, 0x14, 0xc8, 0x4a, 0xe0, 0x58, 0x98, 0x97, 0x27, 0xc9, 0x68, 0xf9, 0x54,
+    0x77, 0x8c, 0xee, 0x01, 0xed, 0x80, 0xf9, 0x2f, 0xf9, 0xc2, 0xc7, 0x22, 0x5f, 0x60, 0x8a, 0xfc,
+    0x83, 0x4a, 0xda, 0xa6, 0x31, 0x93, 0xf9, 0xc8, 0x89, 0x86, 0xbd, 0xc4, 0xfa, 0x1e, 0xb5, 0x30,
+    0x9a, 0xe1, 0xc6, 0xc7, 0x64, 0xdb, 0xe2, 0x4f, 0xdf, 0x14,
+];
+
+const RUN_IN_SLOT_1: [u8; 32] = [
+    0x71, 0x33, 0x34, 0x16, 0x1d, 0xa6, 0x8b, 0x3a, 0x8a, 0xd5, 0x3a, 0x80, 0xfc, 0xc7, 0x0f, 0xb8,
+    0x8a, 0x5f, 0x89, 0x54, 0xd5, 0xc6, 0x32, 0xde, 0xa9, 0x92, 0x10, 0x2f, 0x26, 0xf8, 0x6e, 0x48,
 ];
 
 /// The first bytes of a header of a ring of four, whose roots follow.
@@ -49,13 +63,14 @@ fn bytes_with(alloc: Global, front: &[u8], count: u8) -> Result<Vec<u8>, AllocEr
 
 /// The fault of a header that begins with these bytes and has a root for each of its generals.
 fn fault_of(alloc: Global, front: &[u8]) -> Result<Option<ReadError<HeaderFault>>, AllocError> {
-    let count = front.get(1).copied().unwrap_or(0);
+    let place = if front.first() == Some(&2) { 2 } else { 1 };
+    let count = front.get(place).copied().unwrap_or(0);
     let bytes = bytes_with(alloc, front, count)?;
     Ok(read_header(alloc, &bytes).err())
 }
 
 #[test]
-fn smallest_header(rt: HostRuntime) -> Result<(), Fail> {
+fn smallest_header_with_an_edge(rt: HostRuntime) -> Result<(), Fail> {
     let alloc = rt.alloc();
     let (header, taken) = read_header(alloc, &OF_TWO).expect(&rt, "a header");
     assert_eq!(rt; taken, 73);
@@ -80,12 +95,50 @@ fn smallest_header(rt: HostRuntime) -> Result<(), Fail> {
 }
 
 #[test]
+fn header_in_slot_1(rt: HostRuntime) -> Result<(), Fail> {
+    let alloc = rt.alloc();
+    let (header, taken) = read_header(alloc, &OF_TWO_IN_SLOT_1).expect(&rt, "a header");
+    assert!(rt; taken == 74 && *header.run_id() == RUN_IN_SLOT_1);
+    assert!(rt; header_bytes(alloc, &header)?.as_slice() == OF_TWO_IN_SLOT_1.as_slice());
+    assert_eq!(rt;
+        (header.version(), header.slot()),
+        (Version::Two { slot: 1 }, 1)
+    );
+    assert_eq!(rt; header.height(), TreeHeight::Six);
+    let mut roots = Vec::new(alloc);
+    roots.extend_from_slice(header.roots())?;
+    let again = Header::new_in_slot(header.net().clone()?, 1, roots).expect(&rt, "slot 1");
+    assert!(rt; *again.run_id() == RUN_IN_SLOT_1);
+    Ok(())
+}
+
+#[test]
+fn slots(rt: HostRuntime) -> Result<(), Fail> {
+    let alloc = rt.alloc();
+    for (slot, count, fault) in [
+        (0, 2, None),
+        (3, 2, None),
+        (4, 2, Some(HeaderFault::SlotRange)),
+        (255, 2, Some(HeaderFault::SlotRange)),
+        (4, 3, Some(HeaderFault::RootCount)),
+        (3, 1, Some(HeaderFault::RootCount)),
+    ] {
+        let net = Net::new(alloc, 2, &[], 0, 1, 2, 0).expect(&rt, "two generals");
+        let found = Header::new_in_slot(net, slot, roots(alloc, count)?).err();
+        assert_eq!(rt; found, fault, "{slot} {count}");
+    }
+    Ok(())
+}
+
+#[test]
 fn header_of_a_ring(rt: HostRuntime) -> Result<(), Fail> {
     let alloc = rt.alloc();
     let given = [(3, 2), (1, 0), (3, 0), (1, 2)];
     let net = Net::new(alloc, 4, &given, 2, 3, 5, 1).expect(&rt, "a ring of four");
     let header = Header::new(net, roots(alloc, 4)?).expect(&rt, "four roots");
     assert!(rt; *header.run_id() == RUN_OF_RING);
+    assert_eq!(rt; (header.version(), header.slot()), (Version::One, 0));
+    assert_eq!(rt; header.height(), TreeHeight::Four);
     let bytes = header_bytes(alloc, &header)?;
     assert!(rt; bytes == bytes_with(alloc, &RING, 4)?);
     let (again, taken) = read_header(alloc, &bytes).expect(&rt, "a ring of four");
@@ -100,11 +153,49 @@ fn header_of_a_ring(rt: HostRuntime) -> Result<(), Fail> {
     Ok(())
 }
 
+/// All edges between 16 generals, ascending.
+fn all_edges(alloc: Global) -> Result<Vec<(u8, u8)>, AllocError> {
+    let mut edges = Vec::new(alloc);
+    for low in 0..15u8 {
+        for high in low + 1..16 {
+            edges.push((low, high))?;
+        }
+    }
+    Ok(edges)
+}
+
+#[test]
+fn largest_header(rt: HostRuntime) -> Result<(), Fail> {
+    let alloc = rt.alloc();
+    let edges = all_edges(alloc)?;
+    let net = Net::new(alloc, 16, &edges, 8, 8, 15, 1).expect(&rt, "all edges");
+    let header = Header::new(net, roots(alloc, 16)?).expect(&rt, "16 roots");
+    let bytes = header_bytes(alloc, &header)?;
+    let mut front = Vec::new(alloc);
+    front.extend_from_slice(&[1, 16, 8, 8, 15, 1, 120])?;
+    for (low, high) in &edges {
+        front.extend_from_slice(&[*low, *high])?;
+    }
+    assert!(rt; bytes == bytes_with(alloc, &front, 16)?);
+    laws::one_header_spelling();
+    let (again, taken) = read_header(alloc, &bytes).expect(&rt, "all edges");
+    let copy = again.clone()?;
+    assert!(rt; taken == 759 && *copy.run_id() == *header.run_id());
+    assert!(rt; copy.net().clone()?.edges() == header.net().edges());
+    Ok(())
+}
+
 #[test]
 fn header_faults(rt: HostRuntime) -> Result<(), Fail> {
-    let rows: [(&[u8], HeaderFault); 22] = [
+    let rows: [(&[u8], HeaderFault); 28] = [
         (&[0], HeaderFault::UnknownVersion),
-        (&[2, 2, 0, 1, 2, 0, 1, 0, 1], HeaderFault::UnknownVersion),
+        (&[3, 2, 0, 1, 2, 0, 1, 0, 1], HeaderFault::UnknownVersion),
+        (&[2], HeaderFault::Truncated),
+        (&[2, 4, 2, 0, 1, 2, 0, 1, 0], HeaderFault::Truncated),
+        (&[2, 4, 1, 0, 1, 2, 0, 0], HeaderFault::GeneralCount),
+        (&[2, 4, 2, 0, 1, 2, 2, 0], HeaderFault::UnknownChoice),
+        (&[2, 4, 2, 0, 1, 2, 0, 1, 0, 1], HeaderFault::SlotRange),
+        (&[2, 255, 2, 8, 8, 15, 1, 0], HeaderFault::SlotRange),
         (&[1, 17], HeaderFault::Truncated),
         (&[1, 17, 9, 0, 1, 2, 200], HeaderFault::Truncated),
         (&[1, 1, 0, 1, 2, 0, 0], HeaderFault::GeneralCount),
@@ -130,16 +221,19 @@ fn header_faults(rt: HostRuntime) -> Result<(), Fail> {
         let found = fault_of(rt.alloc(), front)?;
         assert_eq!(rt; found, Some(ReadError::Fault(fault)), "{front:?}");
     }
-    for front in [
-        &[1u8, 2, 8, 8, 15, 1, 1, 0, 1],
+    let passing: [&[u8]; 3] = [
+        &[1, 2, 8, 8, 15, 1, 1, 0, 1],
         &[1, 16, 0, 15, 2, 0, 1, 14, 15],
-    ] {
+        &[2, 3, 16, 0, 15, 2, 0, 1, 14, 15],
+    ];
+    for front in passing {
         assert_eq!(rt; fault_of(rt.alloc(), front)?, None, "{front:?}");
     }
     for (fault, text) in [
         (HeaderFault::RootCount, "H8"),
         (HeaderFault::Truncated, "H9"),
         (HeaderFault::UnknownVersion, "H10"),
+        (HeaderFault::SlotRange, "H11"),
     ] {
         assert_eq!(rt; fault.to_string(rt.alloc())?.as_str(), text);
     }

@@ -1,20 +1,24 @@
 //! Headers.
 ghost use Rattle.std.specs.Prelude.{◌≡◌, ◌<◌, length};
-ghost use Rattle.gen_net.specs.Header.{header_with, run_id_of, root_of, IsHeader};
+ghost use Rattle.gen_net.specs.declared.version.Version.TheVariants.{One, Two};
+ghost use Rattle.gen_net.specs.Header.{header_with, height_of, slot_of, run_id_of, root_of, IsHeader};
 
 use crate::fault::HeaderFault;
 use crate::hashing::run_id_over;
 use crate::net::Net;
-use gen_types::GeneralNo;
+use crate::version::{GREATEST_SLOT, Version};
+use gen_types::{GeneralNo, TreeHeight};
 use std::alloc::AllocError;
 use std::marker::Model;
 
-/// What a run is about: a network, and for each general the root of his keys.
+/// What a run is about: a network, for each general the root of his keys, and the version, which says
+/// which leaves of those keys are the run's.
 ///
 /// Its hash, the run id, names the run: it stands in everything that is signed in the run. A contract sees
-/// the network and the roots as one record.
+/// the version, the network and the roots as one record.
 #[derive(Debug, Drop)]
 pub struct Header {
+    version: Version,
     net: Net,
     roots: Vec<[u8; 32]>,
     run_id: [u8; 32],
@@ -26,27 +30,85 @@ impl Model for Header {
 
     ghost Value = { RunHeader };
 
-    ghost view = { λ h. record { network = h.net; roots = h.roots.items } };
+    ghost view = { λ h. record { version = h.version; network = h.net; roots = h.roots.items } };
 
     ghost invariant = { λ h. record {
-      header : IsHeader (record { network = h.net; roots = h.roots.items });
-      named : h.run_id ≡ run_id_of (record { network = h.net; roots = h.roots.items });
+      header : IsHeader (record { version = h.version; network = h.net; roots = h.roots.items });
+      named : h.run_id ≡ run_id_of
+          (record { version = h.version; network = h.net; roots = h.roots.items });
     } };
 }
 
 impl Header {
-    /// Makes the header of a network and the roots of its generals' keys, in their order.
-    ///
-    /// It answers RootCount exactly where there is not one root for each general; both are dropped then.
+    /// Returns the header of version 1 of a network and the roots of its generals' keys, in their order.
     /// It takes no memory.
+    ///
+    /// # Errors
+    ///
+    /// RootCount exactly where there is not one root for each general; both are dropped then.
     pub fn new(net: Net, roots: Vec<[u8; 32]>) -> Result<Header, HeaderFault>
-        ensures { result ≡ header_with net roots.items }
+        ensures { result ≡ header_with One net roots.items }
+    {
+        Header::of_version(Version::One, net, roots)
+    }
+
+    /// Returns the header of version 2 of a network and the roots of its generals' keys, in their order,
+    /// for the run of this slot, 0 to 3. It takes no memory.
+    ///
+    /// # Errors
+    ///
+    /// RootCount where there is not one root for each general, else SlotRange where the slot is above 3;
+    /// the network and the roots are dropped then.
+    pub fn new_in_slot(net: Net, slot: u8, roots: Vec<[u8; 32]>) -> Result<Header, HeaderFault>
+        ensures { result ≡ header_with (Two slot) net roots.items }
+    {
+        Header::of_version(Version::Two { slot }, net, roots)
+    }
+
+    /// Returns the header of these, or the first rule that they break.
+    pub(crate) fn of_version(
+        version: Version,
+        net: Net,
+        roots: Vec<[u8; 32]>,
+    ) -> Result<Header, HeaderFault>
+        ensures { result ≡ header_with version net roots.items }
     {
         if roots.len() != usize::from(net.generals()) {
             return Err(HeaderFault::RootCount);
         }
-        let run_id = run_id_over(&net, roots.as_slice());
-        Ok(Header { net, roots, run_id })
+        if version.slot() > GREATEST_SLOT {
+            return Err(HeaderFault::SlotRange);
+        }
+        let run_id = run_id_over(version, &net, roots.as_slice());
+        Ok(Header {
+            version,
+            net,
+            roots,
+            run_id,
+        })
+    }
+
+    /// Returns the version, with the slot where it has one.
+    pub fn version(&self) -> Version
+        ensures { result ≡ self.now.version }
+    {
+        self.version
+    }
+
+    /// Returns the height of the generals' trees of keys: four in version 1, and six in version 2.
+    pub fn height(&self) -> TreeHeight
+        ensures { result ≡ height_of self.now }
+    {
+        self.version.height()
+    }
+
+    /// Returns the slot, 0 to 3, which says which of the runs it is that a tree of keys serves; it is 0 in
+    /// version 1.
+    pub fn slot(&self) -> u8
+        ensures value { result ≡ slot_of self.now }
+        ensures header { IsHeader self.now }
+    {
+        self.version.slot()
     }
 
     /// Returns the network.
@@ -88,6 +150,7 @@ impl Clone for Header {
     fn clone(&self) -> Result<Header, AllocError> {
         let roots = Vec::from_slice(*self.roots.allocator(), self.roots.as_slice())?;
         Ok(Header {
+            version: self.version,
             net: self.net.clone()?,
             roots,
             run_id: self.run_id,

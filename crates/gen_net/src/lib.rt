@@ -15,6 +15,7 @@ mod message;
 mod net;
 mod numbers;
 mod reading;
+mod version;
 mod writing;
 
 pub use fault::HeaderFault;
@@ -23,6 +24,7 @@ pub use message::Message;
 pub use net::Net;
 pub use numbers::NetNumbers;
 pub use reading::read_header;
+pub use version::{GREATEST_SLOT, Version};
 pub use writing::header_bytes;
 
 #[cfg(test)]

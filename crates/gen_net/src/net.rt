@@ -1,7 +1,7 @@
 //! Networks.
 ghost use Rattle.std.specs.Prelude.{IsTrue, ◌≡◌, ◌≤◌, ◌↔◌};
 ghost use Rattle.gen_types.specs.Ascending.{IsListOf};
-ghost use Rattle.gen_types.specs.Reading.{Gives};
+ghost use Rattle.gen_types.specs.Spelled.{IsRead};
 ghost use Rattle.gen_net.specs.Network.{rounds, AreNeighbours, IsNetwork};
 ghost use Rattle.gen_net.specs.NetworkOf.{is_within, ranges_of, network_with, network_of, network_in_place};
 
@@ -65,7 +65,7 @@ fn lies_between(least: u8, greatest: u8, number: u8) -> bool
 /// The choice of these numbers, where they are in their ranges and the edges are good.
 #[tactic(auto, unfolding(crate::specs::NetworkOf::ranges_of))]
 fn ranges(numbers: NetNumbers, good_edges: bool) -> Result<ChoiceKind, ReadError<HeaderFault>>
-    ensures { Gives (λ kind. kind) result (ranges_of numbers good_edges) }
+    ensures { IsRead result (ranges_of numbers good_edges) }
 {
     let NetNumbers {
         generals,
@@ -96,10 +96,12 @@ fn ranges(numbers: NetNumbers, good_edges: bool) -> Result<ChoiceKind, ReadError
 }
 
 impl Net {
-    /// Makes the network of n generals with these edges, which come in any order and direction, planned
+    /// Returns the network of n generals with these edges, which come in any order and direction, planned
     /// for m traitors and diameter d, with q orders and the choice of this number.
     ///
-    /// It answers the first fault of `HeaderFault` that holds, and Memory where memory was refused.
+    /// # Errors
+    ///
+    /// The first rule of `HeaderFault` that they break, and Memory where memory was refused before.
     #[tactic(auto, unfolding(crate::specs::NetworkOf::network_of))]
     pub fn new(
         alloc: Global,
@@ -110,12 +112,14 @@ impl Net {
         q: u8,
         choice: u8,
     ) -> Result<Net, ReadError<HeaderFault>>
-        ensures {
-            Gives (λ net. net) result
-                (network_of (record {
-                    generals = n; traitors = m; diameter = d; orders = q; choice = choice
-                }) edges.now)
-        }
+        ensures { IsRead result
+            (network_of (record {
+              generals = n;
+              traitors = m;
+              diameter = d;
+              orders = q;
+              choice = choice;
+            }) edges.now) }
     {
         let numbers = NetNumbers {
             generals: n,
@@ -128,21 +132,21 @@ impl Net {
         Ok(Net::of_parts(numbers, edge_list(alloc, n, edges)?, choice))
     }
 
-    /// Makes the same of edges that have to stand in their places: each (a, b) with a < b, and ascending.
+    /// Returns the same of edges that have to stand in their places: each (a, b) with a < b, and ascending.
     #[tactic(auto, unfolding(crate::specs::NetworkOf::network_in_place))]
     pub(crate) fn in_place(
         alloc: Global,
         numbers: NetNumbers,
         edges: &[(u8, u8)],
     ) -> Result<Net, ReadError<HeaderFault>>
-        ensures { Gives (λ net. net) result (network_in_place numbers edges.now) }
+        ensures { IsRead result (network_in_place numbers edges.now) }
     {
         let choice = ranges(numbers, stand_in_place(numbers.generals, edges))?;
         let edges = placed_edges(alloc, numbers.generals, edges)?;
         Ok(Net::of_parts(numbers, edges, choice))
     }
 
-    /// The network of these parts, whose numbers are in their ranges and whose edges are in their places.
+    /// Returns the network of these parts, whose numbers are in their ranges and whose edges are in their places.
     fn of_parts(numbers: NetNumbers, edges: Vec<(GeneralNo, GeneralNo)>, choice: ChoiceKind) -> Net
         requires { IsNetwork (network_with numbers edges.items choice) }
         ensures { result ≡ network_with numbers edges.items choice }

@@ -1,16 +1,20 @@
 //! Reading headers.
-ghost use Rattle.std.specs.Prelude.{◌≡◌, ◌≤◌, ◌<◌, ◌++◌, ◌-◌, List, ℕ, length, IfOk, Ok};
+ghost use Rattle.std.specs.Prelude.{List, ℕ, length, IfOk, Ok};
 ghost use Rattle.gen_types.specs.Reading.{Gives};
+ghost use Rattle.gen_types.specs.Spelled.{StandsInFront, IsReadFrom, counted, IsRead, IsField};
 ghost use Rattle.gen_types.specs.Bytes.{many_at};
 ghost use Rattle.gen_net.specs.Header.{RunHeader, IsHeader, header_spelling};
-ghost use Rattle.gen_net.specs.HeaderReading.{after_version, numbers_at, edge_at, edges_at, root_at, Parts, parts_at, header_at, header_of};
+ghost use Rattle.gen_net.specs.HeaderReading.{root_at, Parts, parts_at, header_at};
+ghost use Rattle.gen_net.specs.NetworkReading.{numbers_at, edge_at, edges_at};
+ghost use Rattle.gen_net.specs.VersionReading.{slot_at, version_at};
 
 use crate::fault::HeaderFault;
-use crate::hashing::{HEADER_VERSION, ROOT_LENGTH};
+use crate::hashing::{ROOT_LENGTH, VERSION_ONE, VERSION_TWO};
 use crate::headers::Header;
 use crate::net::Net;
 use crate::numbers::NetNumbers;
-use gen_types::{ReadError, bytes_at, check, u8_at};
+use crate::version::Version;
+use gen_types::{ReadError, bytes_at, u8_at};
 use std::alloc::Global;
 
 /// What stands after the version.
@@ -21,20 +25,32 @@ struct Parts {
     roots: Vec<[u8; 32]>,
 }
 
-/// The bytes after a known version.
-#[tactic(auto, unfolding(crate::specs::HeaderReading::after_version))]
-fn skip_version(bytes: &[u8]) -> Result<&[u8], ReadError<HeaderFault>>
-    ensures { Gives (λ rest. rest.now) result (after_version bytes.now) }
+/// The version behind its number, and the bytes after it.
+#[tactic(auto, unfolding(crate::specs::VersionReading::slot_at))]
+fn read_slot(bytes: &[u8]) -> Result<(Version, &[u8]), ReadError<HeaderFault>>
+    ensures { IsField result (slot_at bytes.now) }
 {
-    let (version, rest) = u8_at(bytes, HeaderFault::Truncated)?;
-    check(version == HEADER_VERSION, HeaderFault::UnknownVersion)?;
-    Ok(rest)
+    let (slot, rest) = u8_at(bytes, HeaderFault::Truncated)?;
+    Ok((Version::Two { slot }, rest))
+}
+
+/// The version, with the slot where it has one, and the bytes after it.
+#[tactic(auto, unfolding(crate::specs::VersionReading::version_at))]
+fn read_version(bytes: &[u8]) -> Result<(Version, &[u8]), ReadError<HeaderFault>>
+    ensures { IsField result (version_at bytes.now) }
+{
+    let (number, rest) = u8_at(bytes, HeaderFault::Truncated)?;
+    match number {
+        VERSION_ONE => Ok((Version::One, rest)),
+        VERSION_TWO => read_slot(rest),
+        _ => Err(ReadError::Fault(HeaderFault::UnknownVersion)),
+    }
 }
 
 /// The numbers of a network, a byte each.
-#[tactic(auto, unfolding(crate::specs::HeaderReading::numbers_at))]
+#[tactic(auto, unfolding(crate::specs::NetworkReading::numbers_at))]
 fn read_numbers(bytes: &[u8]) -> Result<(NetNumbers, &[u8]), ReadError<HeaderFault>>
-    ensures { Gives (λ x. (x.0, x.1.now)) result (numbers_at bytes.now) }
+    ensures { IsField result (numbers_at bytes.now) }
 {
     let (generals, rest) = u8_at(bytes, HeaderFault::Truncated)?;
     let (traitors, rest) = u8_at(rest, HeaderFault::Truncated)?;
@@ -52,9 +68,9 @@ fn read_numbers(bytes: &[u8]) -> Result<(NetNumbers, &[u8]), ReadError<HeaderFau
 }
 
 /// One edge, as it stands.
-#[tactic(auto, unfolding(crate::specs::HeaderReading::edge_at))]
+#[tactic(auto, unfolding(crate::specs::NetworkReading::edge_at))]
 fn read_edge(bytes: &[u8]) -> Result<((u8, u8), &[u8]), ReadError<HeaderFault>>
-    ensures { Gives (λ x. (x.0, x.1.now)) result (edge_at bytes.now) }
+    ensures { IsField result (edge_at bytes.now) }
 {
     let (low, rest) = u8_at(bytes, HeaderFault::Truncated)?;
     let (high, rest) = u8_at(rest, HeaderFault::Truncated)?;
@@ -63,7 +79,7 @@ fn read_edge(bytes: &[u8]) -> Result<((u8, u8), &[u8]), ReadError<HeaderFault>>
 
 /// One root.
 fn read_root(bytes: &[u8]) -> Result<([u8; 32], &[u8]), ReadError<HeaderFault>>
-    ensures { Gives (λ x. (x.0, x.1.now)) result (root_at bytes.now) }
+    ensures { IsField result (root_at bytes.now) }
 {
     let (front, rest) = bytes_at(bytes, ROOT_LENGTH, HeaderFault::Truncated)?;
     let mut root = [0; 32];
@@ -90,11 +106,8 @@ fn read_many_edges(
 }
 
 /// The edges behind their number.
-#[tactic(auto, unfolding(crate::specs::HeaderReading::edges_at))]
-fn read_edges(
-    alloc: Global,
-    bytes: &[u8],
-) -> Result<(Vec<(u8, u8)>, &[u8]), ReadError<HeaderFault>>
+#[tactic(auto, unfolding(crate::specs::NetworkReading::edges_at))]
+fn read_edges(alloc: Global, bytes: &[u8]) -> Result<(Vec<(u8, u8)>, &[u8]), ReadError<HeaderFault>>
     ensures { Gives (λ x. (x.0.items, x.1.now)) result (edges_at bytes.now) }
 {
     let (count, rest) = u8_at(bytes, HeaderFault::Truncated)?;
@@ -122,11 +135,14 @@ fn read_roots(
 /// What stands after the version.
 #[tactic(auto, unfolding(crate::specs::HeaderReading::parts_at))]
 fn read_parts(alloc: Global, bytes: &[u8]) -> Result<(Parts, &[u8]), ReadError<HeaderFault>>
-    ensures {
-        Gives (λ x. (record {
-            numbers = x.0.numbers; edges = x.0.edges.items; roots = x.0.roots.items
-        }, x.1.now)) result (parts_at bytes.now)
-    }
+    ensures { Gives (λ x. (
+      record {
+        numbers = x.0.numbers;
+        edges = x.0.edges.items;
+        roots = x.0.roots.items;
+      },
+      x.1.now,
+    )) result (parts_at bytes.now) }
 {
     let (numbers, rest) = read_numbers(bytes)?;
     let (edges, rest) = read_edges(alloc, rest)?;
@@ -142,9 +158,9 @@ fn read_parts(alloc: Global, bytes: &[u8]) -> Result<(Parts, &[u8]), ReadError<H
 /// The header in front of the bytes, and the bytes after it.
 #[tactic(auto, unfolding(crate::specs::HeaderReading::header_at))]
 fn header_in_front(alloc: Global, bytes: &[u8]) -> Result<(Header, &[u8]), ReadError<HeaderFault>>
-    ensures { Gives (λ x. (x.0, x.1.now)) result (header_at bytes.now) }
+    ensures { IsField result (header_at bytes.now) }
 {
-    let rest = skip_version(bytes)?;
+    let (version, rest) = read_version(bytes)?;
     let (parts, rest) = read_parts(alloc, rest)?;
     let Parts {
         numbers,
@@ -152,43 +168,35 @@ fn header_in_front(alloc: Global, bytes: &[u8]) -> Result<(Header, &[u8]), ReadE
         roots,
     } = parts;
     let net = Net::in_place(alloc, numbers, edges.as_slice())?;
-    match Header::new(net, roots) {
+    match Header::of_version(version, net, roots) {
         Ok(header) => Ok((header, rest)),
         Err(fault) => Err(ReadError::Fault(fault)),
     }
 }
 
 /// The header in front of the bytes, and how many bytes it has.
-#[tactic(auto, unfolding(crate::specs::HeaderReading::header_of))]
-fn counted_header(
-    alloc: Global,
-    bytes: &[u8],
-) -> Result<(Header, usize), ReadError<HeaderFault>>
-    ensures { Gives (λ x. x) result (header_of bytes.now) }
+fn counted_header(alloc: Global, bytes: &[u8]) -> Result<(Header, usize), ReadError<HeaderFault>>
+    ensures { IsRead result (counted header_at bytes.now) }
 {
     let (header, rest) = header_in_front(alloc, bytes)?;
     Ok((header, bytes.len() - rest.len()))
 }
 
-/// Reads the header in front of the bytes, and returns how many bytes it has; more may follow it.
+/// Returns the header in front of the bytes, and how many bytes it has; more may follow it.
 ///
-/// It answers UnknownVersion where there is a first byte and it is no known version, then Truncated
-/// where the bytes end before the header does, then the first rule of `HeaderFault` that its network
-/// breaks; and Memory where memory was refused before.
+/// # Errors
+///
+/// UnknownVersion where there is a first byte and it is neither 1 nor 2; then Truncated where the bytes
+/// end before the header does; then the first rule of `HeaderFault` that its network breaks; then
+/// SlotRange where it is of version 2 with a slot above 3. Memory where memory was refused before.
 pub fn read_header(alloc: Global, bytes: &[u8]) -> Result<(Header, usize), ReadError<HeaderFault>>
     // What is read stands there.
-    ensures found {
-        IfOk result (λ x. IsHeader x.0
-            × ((rest : List ℕ) × (bytes.now ≡ header_spelling x.0 ++ rest))
-            × (x.1 ≡ length (header_spelling x.0)))
-    }
+    ensures found { IfOk result (IsReadFrom IsHeader header_spelling bytes.now) }
     // What stands there is read, unless memory runs out.
-    ensures only {
-        (h : RunHeader) (rest : List ℕ) → IsHeader h → bytes.now ≡ header_spelling h ++ rest
-            → Gives (λ x. x) result (Ok (h, length (header_spelling h)))
-    }
+    ensures only { (h : RunHeader) → StandsInFront IsHeader header_spelling bytes.now h
+        → IsRead result (Ok (h, length (header_spelling h))) }
     // Which fault it is.
-    ensures exact { Gives (λ x. x) result (header_of bytes.now) }
+    ensures exact { IsRead result (counted header_at bytes.now) }
 {
     counted_header(alloc, bytes)
 }

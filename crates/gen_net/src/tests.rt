@@ -134,3 +134,20 @@ fn neighbours_of_a_line(rt: HostRuntime) {
     }
     assert!(rt; net.neighbours(GeneralNo::at(4)).is_empty());
 }
+
+#[test]
+fn all_are_neighbours(rt: HostRuntime) -> Result<(), Fail> {
+    let mut edges = Vec::new(rt.alloc());
+    for high in 1..16u8 {
+        for low in 0..high {
+            edges.push((high, low))?;
+        }
+    }
+    let net = Net::new(rt.alloc(), 16, &edges, 8, 8, 15, 1).expect(&rt, "all edges");
+    let copy = net.clone()?;
+    assert!(rt; copy.edges().len() == 120 && copy.rounds() == 16 && copy.orders() == 15);
+    for number in 0..16 {
+        assert_eq!(rt; copy.neighbours(GeneralNo::at(number)).len(), 15);
+    }
+    Ok(())
+}

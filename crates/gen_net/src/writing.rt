@@ -1,12 +1,27 @@
 //! Writing headers.
 ghost use Rattle.std.specs.Prelude.{◌≡◌, ◌++◌, IfOk, OnOk};
 ghost use Rattle.std.specs.List.{flat_map};
-ghost use Rattle.gen_net.specs.Header.{edge_bytes, header_spelling, IsHeader};
+ghost use Rattle.gen_net.specs.Header.{header_spelling, IsHeader};
+ghost use Rattle.gen_net.specs.NetworkSpelling.{edge_bytes};
+ghost use Rattle.gen_net.specs.Version.{version_bytes};
 
-use crate::hashing::{EDGE_LENGTH, FIXED_LENGTH, ROOT_LENGTH, fixed_bytes};
+use crate::hashing::{
+    EDGE_LENGTH, NUMBERS_LENGTH, ROOT_LENGTH, VERSION_ONE, VERSION_TWO, number_bytes_of,
+};
 use crate::headers::Header;
+use crate::version::Version;
 use gen_types::GeneralNo;
 use std::alloc::{AllocError, Global};
+
+/// Appends the bytes of a version.
+fn put_version(out: &mut Vec<u8>, version: Version) -> Result<(), AllocError>
+    ensures { OnOk result (out.new.items ≡ out.old.items ++ version_bytes version) }
+{
+    match version {
+        Version::One => out.extend_from_slice(&[VERSION_ONE]),
+        Version::Two { slot } => out.extend_from_slice(&[VERSION_TWO, slot]),
+    }
+}
 
 /// Appends the bytes of edges.
 fn put_edges(out: &mut Vec<u8>, edges: &[(GeneralNo, GeneralNo)]) -> Result<(), AllocError>
@@ -28,17 +43,19 @@ fn put_roots(out: &mut Vec<u8>, roots: &[[u8; 32]]) -> Result<(), AllocError>
     Ok(())
 }
 
-/// Returns the one spelling of a header: version, n, m, d, q, choice and number of edges, a byte each;
-/// two bytes for each edge; 32 for each root. It fails only where memory was refused.
+/// Returns the one spelling of a header: 1 in version 1, or 2 and the slot in version 2; n, m, d, q, the
+/// choice and the number of edges, a byte each; two bytes for each edge; 32 for each root. It fails only
+/// where memory was refused.
 pub fn header_bytes(alloc: Global, header: &Header) -> Result<Vec<u8>, AllocError>
     ensures spelled { IfOk result (λ bytes. bytes.items ≡ header_spelling header.now) }
     ensures header { IsHeader header.now }
 {
     let edges = header.net().edges();
     let roots = header.roots();
-    let length = FIXED_LENGTH + EDGE_LENGTH * edges.len() + ROOT_LENGTH * roots.len();
-    let mut out = Vec::with_capacity(alloc, length)?;
-    out.extend_from_slice(&fixed_bytes(header.net()))?;
+    let most = 2 + NUMBERS_LENGTH + EDGE_LENGTH * edges.len() + ROOT_LENGTH * roots.len();
+    let mut out = Vec::with_capacity(alloc, most)?;
+    put_version(&mut out, header.version())?;
+    out.extend_from_slice(&number_bytes_of(header.net()))?;
     put_edges(&mut out, edges)?;
     put_roots(&mut out, roots)?;
     Ok(out)

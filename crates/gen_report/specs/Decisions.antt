@@ -2,7 +2,7 @@
 use Rattle.std.specs.Prelude.{ℕ, List, [], ◌∷◌, ◌++◌, codes}
 use Rattle.std.specs.List.{flat_map}
 use Rattle.std.specs.Fmt.{decimal}
-use Rattle.gen_world.specs.Scenario.{Decision}
+use Rattle.gen_world.specs.declared.scenario.Decision.{Decision}
 
 -- the orders of a set, ascending and parted by commas; a minus where there is none
 abbrev pub listed : List ℕ → List ℕ
@@ -11,7 +11,7 @@ listed (v ∷ vs) = decimal v ++ flat_map (λ w. codes "," ++ decimal w) vs
 
 -- a general, the orders of his set, and the order that he decides
 abbrev pub decision_line : Decision → List ℕ
-decision_line d = codes "general " ++ decimal d.0 ++ codes " set " ++ listed d.1 ++ codes " decides " ++ decimal d.2 ++ codes "\n"
+decision_line d = codes "general " ++ decimal d.general ++ codes " set " ++ listed d.orders ++ codes " decides " ++ decimal d.order ++ codes "\n"
 
 -- a line for each decision
 abbrev pub decisions_text : List Decision → List ℕ

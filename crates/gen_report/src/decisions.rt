@@ -26,10 +26,10 @@ fn push_orders(out: &mut String, orders: OrderSet) -> Result<(), AllocError>
 fn push_decision(out: &mut String, decision: &Decision) -> Result<(), AllocError>
     ensures { OnOk result (string_bytes out.new ≡ string_bytes out.old ++ decision_line decision.now) }
 {
-    let general = decision.0.get();
-    let order = decision.2.get();
+    let general = decision.general.get();
+    let order = decision.order.get();
     write!(out, "general {general} set ")?;
-    push_orders(out, decision.1)?;
+    push_orders(out, decision.orders)?;
     write!(out, " decides {order}\n")
 }
 

@@ -1,6 +1,7 @@
 use super::*;
 use gen_net::HeaderFault;
 use gen_types::{GeneralNo, OrderNo, OrderSet, ReadError};
+use gen_world::Decision;
 use std::alloc::Global;
 use std::test::*;
 
@@ -156,8 +157,16 @@ fn prints_decisions(rt: HostRuntime) -> Result<(), Fail> {
     two.insert(OrderNo::at(12));
     two.insert(OrderNo::at(0));
     let decisions = [
-        (GeneralNo::at(1), two, OrderNo::at(12)),
-        (GeneralNo::at(15), OrderSet::new(), OrderNo::retreat()),
+        Decision {
+            general: GeneralNo::at(1),
+            orders: two,
+            order: OrderNo::at(12),
+        },
+        Decision {
+            general: GeneralNo::at(15),
+            orders: OrderSet::new(),
+            order: OrderNo::retreat(),
+        },
     ];
     let text = print_decisions(rt.alloc(), &decisions)?;
     let want = b"general 1 set 0,12 decides 12\ngeneral 15 set - decides 0\n";

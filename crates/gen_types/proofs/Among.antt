@@ -1,5 +1,5 @@
 -- The test whether a number is a member of a list says exactly whether it is.
-use Rattle.std.proofs.Common.{◌≡◌, ◌⊎◌, ℕ, Bool, true, false, ◌||◌, eqb, List, [], ◌∷◌, Contains, refl, sym, subst, inl, inr, eq-eqb}
+use Rattle.std.proofs.Common.{◌≡◌, ◌⊎◌, ℕ, Bool, true, false, ◌||◌, eqb, List, [], ◌∷◌, Contains, refl, subst, inl, inr, eq-eqb}
 use Rattle.std.proofs.lemmas.Bool.{eqb-true}
 use Rattle.gen_types.specs.Ends.{is_among}
 use Rattle.gen_types.specs.Members.{Contains_here, Contains_there, Contains_cases, Contains_nil, bool_cases}

@@ -1,9 +1,8 @@
 -- What a reader of bytes promises, proved once for every format: from the two laws of reading it, Reads.
-use Rattle.std.proofs.Common.{◌≡◌, ℕ, ◌+◌, ◌-◌, ◌≤◌, List, ◌++◌, length, Result, Ok, refl, sym, ap, ◌∙◌, subst, arith}
+use Rattle.std.proofs.Common.{◌≡◌, ℕ, ◌+◌, ◌-◌, ◌≤◌, List, length, Result, Ok, refl, sym, ap, ◌∙◌, arith}
 use Rattle.std.specs.Prelude.{IfOk}
-use Rattle.std.proofs.lemmas.List.{length-append, append-nil}
+use Rattle.std.proofs.lemmas.List.{length-append}
 use Rattle.gen_types.specs.declared.reading.ReadError.{ReadError}
-use Rattle.gen_types.specs.Reading.{◌>>=◌, Gives}
 use Rattle.gen_types.specs.Spelled.{StandsInFront, IsReadFrom, HasOneSpelling, counted, IsRead}
 use Rattle.gen_types.proofs.ByteFields.{IsBytes}
 use Rattle.gen_types.proofs.Laws.{found_by, only_by}

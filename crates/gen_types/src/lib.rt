@@ -10,7 +10,6 @@ mod choices;
 mod fields;
 mod heights;
 pub mod limits;
-mod number_set;
 mod numbers;
 mod paths;
 mod reading;
@@ -20,10 +19,10 @@ mod texts;
 pub use choices::{Choice, ChoiceKind, MedianOrder, OnlyOrRetreat};
 pub use fields::{bytes_at, u8_at, u16_at, u32_at, u64_at};
 pub use heights::TreeHeight;
-pub use numbers::{GeneralNo, NumberFault, OrderNo};
+pub use numbers::{GeneralNo, Generals, Number, NumberFault, OrderNo, Orders};
 pub use paths::{Path, PathFault};
 pub use reading::{ReadError, check};
-pub use sets::{GeneralMembers, GeneralSet, OrderMembers, OrderSet};
+pub use sets::{GeneralMembers, GeneralSet, Members, NumberSet, OrderMembers, OrderSet};
 pub use texts::{decimal_number, split_fields};
 
 #[cfg(test)]

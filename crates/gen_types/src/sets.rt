@@ -1,75 +1,107 @@
-//! Sets of generals and of orders.
+//! Sets of generals and of orders, kept as the bits of one number.
 ghost use Rattle.std.specs.Prelude.{IsTrue, ℕ, ◌≡◌, ◌<◌, ◌↔◌, ◌⊎◌, [], ◌∷◌, List, Contains, AllPairs, length, slice_get, IsSome};
 ghost use Rattle.std.specs.Iterator.{YieldsFirst, item_count};
 ghost use Rattle.gen_types.specs.Ascending.{IsListOf};
 ghost use Rattle.gen_types.specs.Bits.{members_of, bits_of};
+ghost use Rattle.std.specs.Cmp.{partial_equiv_from_equiv};
+ghost use Rattle.std.specs.Cmp.Lexicographic.{pointwise};
+ghost use Rattle.std.specs.Bool.{nat_eq};
+ghost use Rattle.std.proofs.lemmas.Cmp.{nat_list_eq_equiv};
 
-use crate::number_set::NumberSet;
-use crate::numbers::{GeneralNo, OrderNo};
-use std::marker::Model;
+use crate::numbers::{Generals, Number, Orders};
+use std::marker::{Model, PhantomData};
 
-/// A set of generals. A contract sees the ascending list of its members.
-#[derive(Clone, Copy, PartialEq, Eq, Debug)]
-pub struct GeneralSet {
-    members: NumberSet,
+/// A set of numbers of the kind K, at most 16. A contract sees the ascending list of its members.
+#[derive_where(Clone, Copy, Debug)]
+pub struct NumberSet<K> {
+    bits: u16,
+    #[derive_where(skip)]
+    kind: PhantomData<K>,
 }
 
-impl Model for GeneralSet {
+/// A set of generals.
+pub type GeneralSet = NumberSet<Generals>;
+
+/// A set of orders.
+pub type OrderSet = NumberSet<Orders>;
+
+impl<K> Model for NumberSet<K> {
+    ghost use Rattle.std.specs.Prelude.{ℕ, List, ◌<◌, ◌^◌};
+    ghost use Rattle.gen_types.specs.Bits.{members_of, bits_of};
+    ghost use Rattle.gen_types.specs.BitLaws.{bits_of-members_of};
+
     ghost Value = { List ℕ };
 
-    ghost view = { λ s. s.members };
+    ghost view = { λ s. members_of s.bits };
 
-    ghost inverse = { λ xs. record { members = xs } };
+    ghost invariant = { λ s. s.bits < 2 ^ 16 };
+
+    ghost inverse = { λ xs. record { bits = bits_of xs; kind = record {} } };
+
+    ghost inverse_ok = { λ s below. Prim.rw (bits_of-members_of s.bits below) };
 }
 
-impl GeneralSet {
+impl<K> NumberSet<K> {
     /// Returns the empty set.
-    pub fn new() -> GeneralSet
+    pub fn new() -> NumberSet<K>
         ensures { result ≡ [] }
     {
-        GeneralSet {
-            members: NumberSet::new(),
+        NumberSet {
+            bits: 0,
+            kind: PhantomData,
         }
     }
 
-    /// Returns the set of this general alone.
-    pub fn only(general: GeneralNo) -> GeneralSet
-        ensures { result ≡ general ∷ [] }
+    /// Returns the set of this member alone.
+    pub fn only(member: Number<K>) -> NumberSet<K>
+        ensures { result ≡ member ∷ [] }
     {
-        let mut set = GeneralSet::new();
-        set.insert(general);
+        let mut set = NumberSet::new();
+        set.insert(member);
         set
     }
 
-    /// Returns the set of the generals whose bits are set: bit k is that of general k.
-    pub fn from_bits(bits: u16) -> GeneralSet
+    /// Returns the set of the numbers whose bits are set: bit k is that of number k.
+    pub fn from_bits(bits: u16) -> NumberSet<K>
         ensures { result ≡ members_of bits }
     {
-        GeneralSet {
-            members: NumberSet::from_bits(bits),
+        NumberSet {
+            bits,
+            kind: PhantomData,
         }
     }
 
-    /// Returns the number of which exactly the bits of the members are set: bit k is that of general k.
+    /// Returns the number of which exactly the bits of the members are set: bit k is that of number k.
     pub fn bits(&self) -> u16
         ensures { result ≡ bits_of self.now }
     {
-        self.members.bits()
+        self.bits
     }
 
-    /// Returns whether the general is a member.
-    pub fn contains(&self, general: GeneralNo) -> bool
-        ensures { IsTrue result ↔ Contains self.now general }
+    /// Returns whether the number is a member.
+    pub fn contains(&self, number: Number<K>) -> bool
+        ensures { IsTrue result ↔ Contains self.now number }
     {
-        self.members.contains(general.get())
+        self.has(number.get())
     }
 
-    /// Makes the general a member, and returns true exactly where it was none before.
-    pub fn insert(&mut self, general: GeneralNo) -> bool
-        ensures members { IsListOf self.new (λ v. Contains self.old v ⊎ (v ≡ general)) }
-        ensures new { IsTrue result ↔ ¬ Contains self.old general }
+    /// Returns whether the number, which must be below 16, is a member.
+    fn has(&self, number: u8) -> bool
+        requires { number < 16 }
+        ensures { IsTrue result ↔ Contains self.now number }
     {
-        self.members.insert(general.get())
+        (self.bits >> number) & 1 == 1
+    }
+
+    /// Makes the number a member, and returns true exactly where it was none before.
+    pub fn insert(&mut self, number: Number<K>) -> bool
+        ensures members { IsListOf self.new (λ v. Contains self.old v ⊎ (v ≡ number)) }
+        ensures new { IsTrue result ↔ ¬ Contains self.old number }
+    {
+        let number = number.get();
+        let new = !self.has(number);
+        self.bits |= 1 << number;
+        new
     }
 
     /// Returns how many members the set has, at most 16.
@@ -78,243 +110,113 @@ impl GeneralSet {
         ensures ascending { AllPairs (λ v w. v < w) self.now }
         ensures below { (v : ℕ) → Contains self.now v → v < 16 }
     {
-        self.members.len()
+        let mut count = 0;
+        for number in 0..16u8 {
+            if (self.bits >> number) & 1 == 1 {
+                count += 1;
+            }
+        }
+        count
     }
 
     /// Returns whether the set has no member.
     pub fn is_empty(&self) -> bool
         ensures { IsTrue result ↔ (self.now ≡ []) }
     {
-        self.members.is_empty()
+        self.bits == 0
     }
 
     /// Returns the member at this place of the ascending list, counted from 0, and None past its end.
-    pub fn get(&self, index: usize) -> Option<GeneralNo>
+    pub fn get(&self, index: usize) -> Option<Number<K>>
         ensures member { result ≡ slice_get self.now index }
         ensures room { IsSome result → index < 16 }
     {
-        match self.members.get(index) {
-            Some(number) => GeneralNo::new(number),
-            None => None,
+        let mut before = 0;
+        for number in 0..16u8 {
+            if (self.bits >> number) & 1 == 1 {
+                if before == index {
+                    return Some(Number::at(number));
+                }
+                before += 1;
+            }
         }
+        None
     }
 
     /// Returns the members in ascending order.
-    pub fn iter(&self) -> GeneralMembers
+    pub fn iter(&self) -> Members<K>
         ensures { result ≡ self.now }
     {
-        GeneralMembers {
-            set: *self,
-            next: 0,
-        }
+        let set = NumberSet {
+            bits: self.bits,
+            kind: PhantomData,
+        };
+        Members { set, next: 0 }
     }
 }
 
-impl Default for GeneralSet {
+impl<K> Default for NumberSet<K> {
     ghost is_default = { λ set. set ≡ [] };
 
     /// Returns the empty set.
-    fn default() -> GeneralSet {
-        GeneralSet::new()
+    fn default() -> NumberSet<K> {
+        NumberSet::new()
     }
 }
 
-impl IntoIterator for GeneralSet {
-    type Item = GeneralNo;
+impl<K> PartialEq for NumberSet<K> {
+    ghost eq = { pointwise nat_eq };
 
-    type IntoIter = GeneralMembers;
+    ghost laws = { partial_equiv_from_equiv nat_list_eq_equiv };
+
+    fn eq(&self, other: &NumberSet<K>) -> bool {
+        self.bits == other.bits
+    }
+}
+
+impl<K> Eq for NumberSet<K> {
+    ghost laws = { nat_list_eq_equiv };
+}
+
+impl<K> IntoIterator for NumberSet<K> {
+    type Item = Number<K>;
+
+    type IntoIter = Members<K>;
 
     ghost into_iter_gives = { λ set members. members ≡ set };
 
-    fn into_iter(self) -> GeneralMembers {
+    fn into_iter(self) -> Members<K> {
         self.iter()
     }
 }
 
-impl IntoIterator for &GeneralSet {
-    type Item = GeneralNo;
+impl<K> IntoIterator for &NumberSet<K> {
+    type Item = Number<K>;
 
-    type IntoIter = GeneralMembers;
+    type IntoIter = Members<K>;
 
     ghost into_iter_gives = { λ set members. members ≡ set.now };
 
-    fn into_iter(self) -> GeneralMembers {
+    fn into_iter(self) -> Members<K> {
         self.iter()
     }
+}
+
+/// The members of a set that are still to come, ascending.
+#[derive(Drop)]
+#[derive_where(Debug)]
+pub struct Members<K> {
+    set: NumberSet<K>,
+    next: usize,
 }
 
 /// The members of a set of generals that are still to come, ascending.
-#[derive(Debug, Drop)]
-pub struct GeneralMembers {
-    set: GeneralSet,
-    next: usize,
-}
-
-impl Model for GeneralMembers {
-    ghost use Rattle.std.specs.Prelude.{ℕ, List, drop};
-
-    ghost Value = { List ℕ };
-
-    ghost view = { λ m. drop m.next m.set };
-}
-
-impl Iterator for GeneralMembers {
-    type Item = GeneralNo;
-
-    ghost next_gives = { YieldsFirst (λ m. m) };
-
-    ghost remaining = { item_count (λ m. m) };
-
-    fn next(&mut self) -> Option<GeneralNo> {
-        let member = self.set.get(self.next)?;
-        self.next += 1;
-        Some(member)
-    }
-}
-
-/// A set of orders. A contract sees the ascending list of its members.
-#[derive(Clone, Copy, PartialEq, Eq, Debug)]
-pub struct OrderSet {
-    members: NumberSet,
-}
-
-impl Model for OrderSet {
-    ghost Value = { List ℕ };
-
-    ghost view = { λ s. s.members };
-
-    ghost inverse = { λ xs. record { members = xs } };
-}
-
-impl OrderSet {
-    /// Returns the empty set.
-    pub fn new() -> OrderSet
-        ensures { result ≡ [] }
-    {
-        OrderSet {
-            members: NumberSet::new(),
-        }
-    }
-
-    /// Returns the set of this order alone.
-    pub fn only(order: OrderNo) -> OrderSet
-        ensures { result ≡ order ∷ [] }
-    {
-        let mut set = OrderSet::new();
-        set.insert(order);
-        set
-    }
-
-    /// Returns the set of the orders whose bits are set: bit k is that of order k.
-    pub fn from_bits(bits: u16) -> OrderSet
-        ensures { result ≡ members_of bits }
-    {
-        OrderSet {
-            members: NumberSet::from_bits(bits),
-        }
-    }
-
-    /// Returns the number of which exactly the bits of the members are set: bit k is that of order k.
-    pub fn bits(&self) -> u16
-        ensures { result ≡ bits_of self.now }
-    {
-        self.members.bits()
-    }
-
-    /// Returns whether the order is a member.
-    pub fn contains(&self, order: OrderNo) -> bool
-        ensures { IsTrue result ↔ Contains self.now order }
-    {
-        self.members.contains(order.get())
-    }
-
-    /// Makes the order a member, and returns true exactly where it was none before.
-    pub fn insert(&mut self, order: OrderNo) -> bool
-        ensures members { IsListOf self.new (λ v. Contains self.old v ⊎ (v ≡ order)) }
-        ensures new { IsTrue result ↔ ¬ Contains self.old order }
-    {
-        self.members.insert(order.get())
-    }
-
-    /// Returns how many members the set has, at most 16.
-    pub fn len(&self) -> usize
-        ensures length { result ≡ length self.now }
-        ensures ascending { AllPairs (λ v w. v < w) self.now }
-        ensures below { (v : ℕ) → Contains self.now v → v < 16 }
-    {
-        self.members.len()
-    }
-
-    /// Returns whether the set has no member.
-    pub fn is_empty(&self) -> bool
-        ensures { IsTrue result ↔ (self.now ≡ []) }
-    {
-        self.members.is_empty()
-    }
-
-    /// Returns the member at this place of the ascending list, counted from 0, and None past its end.
-    pub fn get(&self, index: usize) -> Option<OrderNo>
-        ensures member { result ≡ slice_get self.now index }
-        ensures room { IsSome result → index < 16 }
-    {
-        match self.members.get(index) {
-            Some(number) => OrderNo::new(number),
-            None => None,
-        }
-    }
-
-    /// Returns the members in ascending order.
-    pub fn iter(&self) -> OrderMembers
-        ensures { result ≡ self.now }
-    {
-        OrderMembers {
-            set: *self,
-            next: 0,
-        }
-    }
-}
-
-impl Default for OrderSet {
-    ghost is_default = { λ set. set ≡ [] };
-
-    /// Returns the empty set.
-    fn default() -> OrderSet {
-        OrderSet::new()
-    }
-}
-
-impl IntoIterator for OrderSet {
-    type Item = OrderNo;
-
-    type IntoIter = OrderMembers;
-
-    ghost into_iter_gives = { λ set members. members ≡ set };
-
-    fn into_iter(self) -> OrderMembers {
-        self.iter()
-    }
-}
-
-impl IntoIterator for &OrderSet {
-    type Item = OrderNo;
-
-    type IntoIter = OrderMembers;
-
-    ghost into_iter_gives = { λ set members. members ≡ set.now };
-
-    fn into_iter(self) -> OrderMembers {
-        self.iter()
-    }
-}
+pub type GeneralMembers = Members<Generals>;
 
 /// The members of a set of orders that are still to come, ascending.
-#[derive(Debug, Drop)]
-pub struct OrderMembers {
-    set: OrderSet,
-    next: usize,
-}
+pub type OrderMembers = Members<Orders>;
 
-impl Model for OrderMembers {
+impl<K> Model for Members<K> {
     ghost use Rattle.std.specs.Prelude.{ℕ, List, drop};
 
     ghost Value = { List ℕ };
@@ -322,14 +224,14 @@ impl Model for OrderMembers {
     ghost view = { λ m. drop m.next m.set };
 }
 
-impl Iterator for OrderMembers {
-    type Item = OrderNo;
+impl<K> Iterator for Members<K> {
+    type Item = Number<K>;
 
     ghost next_gives = { YieldsFirst (λ m. m) };
 
     ghost remaining = { item_count (λ m. m) };
 
-    fn next(&mut self) -> Option<OrderNo> {
+    fn next(&mut self) -> Option<Number<K>> {
         let member = self.set.get(self.next)?;
         self.next += 1;
         Some(member)

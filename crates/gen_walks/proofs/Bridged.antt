@@ -3,11 +3,9 @@ use Rattle.std.proofs.Common.{ℕ, zero, suc, ◌<◌, ◌≤◌, inl, inr, List
 use Rattle.std.proofs.lemmas.Bool.{cases_order}
 use Rattle.gen_net.specs.Network.{Network, AreNeighbours, IsLoyal}
 use Rattle.gen_net.specs.Walks.{IsWalk, HasDiameter}
+use Rattle.gen_walks.specs.Loops.Checking.{IsBad, IsGood}
+use Rattle.gen_walks.proofs.Greedy.{turned_edge}
 use Rattle.gen_walks.specs.Walks.{AreJoined, Leads, IsPair, IsShortWalk, IsWithinDiameter, IsRestOf, Bridges, BoundsDiameter, IsLeastBadPair}
-
-turned_edge : (net : Network) (a b : ℕ) → AreNeighbours net a b → AreNeighbours net b a
-turned_edge net a b (inl h) = inr h
-turned_edge net a b (inr h) = inl h
 
 one_edge_more : (net : Network) (faulty : List ℕ) (edges a b c : ℕ) → IsWalk net faulty edges a b → AreNeighbours net b c → IsLoyal net faulty c → IsWalk net faulty (suc edges) a c
 one_edge_more net faulty zero a b c w near loyal = (c, subst (λ x. AreNeighbours net x c) (sym w) near, loyal, refl)
@@ -45,12 +43,12 @@ within_of net rest walks bound a b p = let w = bound a b p in (w.0, w.2)
 pub bound_of : (net : Network) (rest : List ℕ) (walks : List (List ℕ)) (n : ℕ) → net.generals ≤ n → ((x y : ℕ) → x < n → IsPair net rest x y → Bridges net rest walks x y) → BoundsDiameter net rest walks
 bound_of net rest walks n le so a b p = so a b (omega (arith, p.1.0)) p
 
-pub least_bad : (net : Network) (rest : List ℕ) (walks : List (List ℕ)) (a b : ℕ) → ((x y : ℕ) → x < a → IsPair net rest x y → Bridges net rest walks x y) → IsPair net rest a b × (Bridges net rest walks a b → ⊥) → ((y : ℕ) → IsPair net rest a y → y < b → Bridges net rest walks a y) → IsLeastBadPair net rest (Bridges net rest walks) a b
+pub least_bad : (net : Network) (rest : List ℕ) (walks : List (List ℕ)) (a b : ℕ) → ((x y : ℕ) → x < a → IsPair net rest x y → Bridges net rest walks x y) → IsBad net rest walks a b → ((y : ℕ) → y < b → IsGood net rest walks a y) → IsLeastBadPair net rest (Bridges net rest walks) a b
 least_bad net rest walks a b rows fails row = record {
   pair = fails.0;
   bad = fails.1;
   least = λ x y h. elim h.1 [
     | inl l ↦ rows x y l h.0
-    | inr (q, l) ↦ subst (λ z. Bridges net rest walks z y) (sym q) (row y (subst (λ z. IsPair net rest z y) q h.0) l)
+    | inr (q, l) ↦ subst (λ z. Bridges net rest walks z y) (sym q) (row y l (subst (λ z. IsPair net rest z y) q h.0))
   ];
 }

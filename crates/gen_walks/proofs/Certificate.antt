@@ -3,7 +3,8 @@ use Rattle.std.proofs.Common.{ℕ, ◌+◌, ◌<◌, ◌≤◌, inl, inr, List, 
 use Rattle.std.proofs.lemmas.Bool.{cases_lt}
 use Rattle.gen_net.specs.Network.{Network}
 use Rattle.gen_walks.specs.Walks.{AreJoined, Leads}
-use Rattle.gen_walks.specs.Levels.{level, IsSteep, IsLevelRow, NoWalkIsShorter}
+use Rattle.gen_walks.specs.Levels.{level, IsLevelRow, NoWalkIsShorter}
+use Rattle.gen_walks.specs.Loops.Checking.{IsSteep, IsEvenFrom}
 
 -- along a walk the level rises by at most the number of its edges
 pub rises : (near : ℕ → ℕ → Type 0) (lev : ℕ → ℕ) → ((a b : ℕ) → near a b → lev b ≤ lev a + 1) → (a : ℕ) (more : List ℕ) (b : ℕ) → Leads near a more b → lev b ≤ lev a + length more
@@ -16,9 +17,9 @@ falls_by near lev even a [] b e = omega (arith, ap lev e)
 falls_by near lev even a (c ∷ more) b h = omega (arith, even a c h.0, falls_by near lev even c more b h.1)
 
 -- where no edge between generals is steep, none is
-pub even_of : (net : Network) (rest row : List ℕ) → ((a b : ℕ) → a < net.generals → b < net.generals → IsSteep net rest row a b → ⊥) → (a b : ℕ) → AreJoined net rest a b → level row b ≤ level row a + 1
+pub even_of : (net : Network) (rest row : List ℕ) → ((a : ℕ) → a < net.generals → IsEvenFrom net rest row a) → (a b : ℕ) → AreJoined net rest a b → level row b ≤ level row a + 1
 even_of net rest row h a b near = elim (cases_lt (level row a + 1) (level row b)) [
-  | inl steep ↦ absurd (h a b near.1.0 near.2.0 (steep, near))
+  | inl steep ↦ absurd (h a near.1.0 b near.2.0 (steep, near))
   | inr gentle ↦ gentle
 ]
 

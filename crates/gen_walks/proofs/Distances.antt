@@ -1,17 +1,17 @@
 -- Levels that the search finds are distances.
-use Rattle.std.proofs.Common.{◌≡◌, ℕ, zero, suc, ◌+◌, ◌<◌, ◌≤◌, inl, inr, List, [], ◌∷◌, ◌++◌, length, refl, sym, ap, arith, subst, length-append}
+use Rattle.std.proofs.Common.{◌≡◌, ◌≢◌, ℕ, zero, suc, ◌+◌, ◌<◌, ◌≤◌, inl, inr, List, [], ◌∷◌, ◌++◌, length, refl, sym, ap, arith, subst, length-append}
 use Rattle.gen_net.specs.Network.{Network, IsNetwork}
 use Rattle.gen_walks.specs.Walks.{IsInside, AreJoined, Leads, IsWalkInside, HasShortWalk}
 use Rattle.gen_walks.specs.Levels.{level, IsDistance, IsDistanceRow}
 use Rattle.gen_walks.specs.BestWalks.{IsBestWalk}
-use Rattle.gen_walks.specs.Search.{AreLevels}
+use Rattle.gen_walks.specs.Loops.Search.{AreLevels}
 use Rattle.gen_walks.proofs.Certificate.{shows}
 use Rattle.gen_walks.proofs.Greedy.{turned}
 
 -- generals whom an edge inside the set joins are below 16
 pub ends_in : (net : Network) (rest : List ℕ) → IsNetwork net → (u v : ℕ) → AreJoined net rest u v → (u < 16) × (v < 16)
 ends_in net rest ok u v n =
-    let few : net.generals ≤ 16 = ok.few_generals in
+    let few : net.generals ≤ 16 = ok.ranges.few_generals in
     (omega (arith, n.1.0), omega (arith, n.2.0))
 
 on_by : (near : ℕ → ℕ → Type 0) (a : ℕ) (more : List ℕ) (b c : ℕ) → Leads near a more b → near b c → Leads near a (more ++ c ∷ []) c
@@ -46,13 +46,23 @@ module _ (near : ℕ → ℕ → Type 0) (ends : (u v : ℕ) → near u v → (u
       let up : lev a ≤ lev c + 1 = levels.even c a (turn a c h.0) in
       elim (levels.bounded a (ends a c h.0).0) [ inl e ↦ absurd (omega arith) | inr e ↦ e ]
 
+  -- who is not the source and near to nobody has no level
+  apart : (v : ℕ) → v < 16 → v ≢ source → ((u : ℕ) → near u v → ⊥) → lev v ≡ 255
+  apart v l other none = elim (levels.bounded v l) [
+    | inl e ↦ e
+    | inr low ↦ elim (levels.comes v l (omega arith)) [
+      | inl q ↦ absurd (other q)
+      | inr (u, n, e) ↦ absurd (none u n)
+    ]
+  ]
+
 more_of : (net : Network) (rest : List ℕ) (a b : ℕ) (walk : List ℕ) → IsWalkInside net rest a b walk → (more : List ℕ) × Leads (AreJoined net rest) a more b
 more_of net rest a b [] h = absurd h
 more_of net rest a b (x ∷ more) h = (more, h.2)
 
 pub distances : (net : Network) (rest : List ℕ) (source : ℕ) (row : List ℕ) → IsNetwork net → IsInside net rest source → AreLevels (AreJoined net rest) source (level row) → IsDistanceRow net rest source row
 distances net rest source row ok inside levels =
-    let few : net.generals ≤ 16 = ok.few_generals in
+    let few : net.generals ≤ 16 = ok.ranges.few_generals in
     record {
       levels = record { inside = inside; lowest = levels.lowest; even = levels.even };
       reached = λ g l h.
@@ -67,6 +77,7 @@ distances net rest source row ok inside levels =
       unreached = λ g l e walk h.
           let m = more_of net rest source g walk h in
           omega (arith, e, stays (AreJoined net rest) (ends_in net rest ok) source (level row) levels source m.0 g m.1 (omega (arith, levels.lowest)));
+      no_general = λ g out l. apart (AreJoined net rest) (ends_in net rest ok) source (level row) levels g l (λ e. omega (arith, e, inside.0)) (λ u n. omega (arith, n.2.0));
     }
 
 -- where a walk leads from a to b, the levels from b reach a

@@ -3,7 +3,7 @@ use Rattle.std.proofs.Common.{◌≡◌, ◌≢◌, ℕ, zero, suc, ◌+◌, ◌
 use Rattle.std.proofs.lemmas.Bool.{cases_eq, cases_lt, cond_both, eq-eqb, ne_eqb}
 use Rattle.std.proofs.Math.ListN.{set, replicate}
 use Rattle.gen_walks.specs.Levels.{level}
-use Rattle.gen_walks.specs.Search.{IsNext, AreLevels}
+use Rattle.gen_walks.specs.Loops.Search.{IsNext, AreLevels}
 
 -- how many of the generals below n have no level
 pub unmet : (ℕ → ℕ) → ℕ → ℕ

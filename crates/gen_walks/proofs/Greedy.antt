@@ -4,10 +4,10 @@ use Rattle.gen_net.specs.Network.{Network, AreNeighbours}
 use Rattle.gen_net.specs.Log.{Precedes}
 use Rattle.gen_walks.specs.Walks.{AreJoined, Leads, IsInside, IsWalkInside}
 use Rattle.gen_walks.specs.BestWalks.{IsBestWalk}
-use Rattle.gen_walks.specs.Search.{AreLevels, IsNearest}
+use Rattle.gen_walks.specs.Loops.Search.{AreLevels, IsNearest}
 use Rattle.gen_walks.proofs.Certificate.{falls_by}
 
-turned_edge : (net : Network) (a b : ℕ) → AreNeighbours net a b → AreNeighbours net b a
+pub turned_edge : (net : Network) (a b : ℕ) → AreNeighbours net a b → AreNeighbours net b a
 turned_edge net a b (inl h) = inr h
 turned_edge net a b (inr h) = inl h
 

@@ -4,7 +4,7 @@ use Rattle.std.proofs.Math.ListN.{set}
 use Rattle.std.specs.Bool.{OnTrue, OnFalse}
 use Rattle.std.proofs.lemmas.Bool.{cases_eq}
 use Rattle.gen_walks.specs.Levels.{level}
-use Rattle.gen_walks.specs.Search.{IsNext}
+use Rattle.gen_walks.specs.Loops.Search.{IsNext}
 
 pub record Kept (near : ℕ → ℕ → Type 0) (lev : ℕ → ℕ) (k v : ℕ) (next : List ℕ) (changed : Bool) : Type 0 where
   pub done : (w : ℕ) → w < v → IsNext near lev k w (level next w)

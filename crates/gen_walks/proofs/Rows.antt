@@ -6,7 +6,7 @@ use Rattle.std.proofs.Math.Seq.{get_or-append_seam}
 use Rattle.gen_net.specs.Network.{Network}
 use Rattle.gen_walks.specs.Walks.{AreJoined}
 use Rattle.gen_walks.specs.Levels.{level}
-use Rattle.gen_walks.specs.Search.{AreLevels, AreLevelRows}
+use Rattle.gen_walks.specs.Loops.Search.{AreLevels, AreLevelRows}
 
 pub no_row : (net : Network) (rest : List ℕ) → AreLevelRows net rest 0 []
 no_row net rest = record { long = omega arith; each = λ g row l. absurd (omega arith) }

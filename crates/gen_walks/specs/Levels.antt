@@ -17,10 +17,6 @@ pub record IsLevelRow (net : Network) (rest : List ℕ) (source : ℕ) (row : Li
 abbrev pub NoWalkIsShorter : Network → List ℕ → ℕ → List ℕ → Type 0
 NoWalkIsShorter net rest source row = (g : ℕ) (walk : List ℕ) → IsWalkInside net rest source g walk → level row g + 1 ≤ length walk
 
--- the edge from a to b raises the level by more than 1
-abbrev pub IsSteep : Network → List ℕ → List ℕ → ℕ → ℕ → Type 0
-IsSteep net rest row a b = (level row a + 1 < level row b) × AreJoined net rest a b
-
 -- so many edges has the shortest walk inside the set from a to b
 pub record IsDistance (net : Network) (rest : List ℕ) (a b edges : ℕ) : Type 0 where
   pub walk : List ℕ
@@ -32,8 +28,9 @@ pub record IsDistance (net : Network) (rest : List ℕ) (a b edges : ℕ) : Type
 abbrev pub HasNoWalk : Network → List ℕ → ℕ → ℕ → Type 0
 HasNoWalk net rest a b = (walk : List ℕ) → IsWalkInside net rest a b walk → ⊥
 
--- The levels are the distances from the source inside the set, and 255 where no walk leads.
+-- The levels are the distances from the source inside the set, and 255 where no walk leads and for the numbers of no general.
 pub record IsDistanceRow (net : Network) (rest : List ℕ) (source : ℕ) (row : List ℕ) : Type 0 where
   pub levels : IsLevelRow net rest source row
   pub reached : (g : ℕ) → g < net.generals → level row g < 255 → IsDistance net rest source g (level row g)
   pub unreached : (g : ℕ) → g < net.generals → level row g ≡ 255 → HasNoWalk net rest source g
+  pub no_general : (g : ℕ) → net.generals ≤ g → g < 16 → level row g ≡ 255

@@ -1,5 +1,5 @@
 pub mod BestWalks
 pub mod Faults
 pub mod Levels
-pub mod Search
+pub mod Loops
 pub mod Walks

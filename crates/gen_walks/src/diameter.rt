@@ -1,8 +1,12 @@
 //! Walks that bound the diameter of a set of generals.
-ghost use Rattle.std.specs.Prelude.{ℕ, List, IsTrue, ◌≡◌, ◌<◌, ◌↔◌, OnOk, IfOk, IfErr, IfSome, IfNone};
+ghost use Rattle.std.specs.Prelude.{ℕ, List, IsTrue, ◌≡◌, ◌<◌, ◌↔◌};
+ghost use Rattle.std.specs.Prelude.{OnOk, IfOk, IfErr, IfSome, IfNone};
 ghost use Rattle.std.specs.Bool.{OnTrue, OnFalse};
 ghost use Rattle.gen_net.specs.Walks.{HasDiameter};
-ghost use Rattle.gen_walks.specs.Walks.{AreJoined, Leads, IsPair, IsWalkInside, IsShortWalk, IsRestOf, IsWithinDiameter, Bridges, BoundsDiameter, IsLeastBadPair};
+ghost use Rattle.gen_walks.specs.Walks.{AreJoined, Leads, IsWalkInside, IsShortWalk};
+ghost use Rattle.gen_walks.specs.Walks.{IsPair, IsRestOf, IsWithinDiameter};
+ghost use Rattle.gen_walks.specs.Walks.{Bridges, BoundsDiameter, IsLeastBadPair};
+ghost use Rattle.gen_walks.specs.Loops.Checking.{IsBad, IsGood};
 
 use crate::fault::BadPair;
 use crate::inside::{are_joined, general, is_inside};
@@ -35,18 +39,21 @@ impl Model for DiameterProof {
 }
 
 impl DiameterProof {
-    /// What the proof shows: each pair of the set has a walk of at most d edges inside the set; so where
-    /// the set is the rest of some faulty generals, the graph of the rest has a diameter of at most d.
+    /// States what the proof shows: each pair of the set has a walk of at most d edges inside the set.
+    /// So where the set is the rest of some faulty generals, the graph of the rest has a diameter of at
+    /// most d. It does nothing.
     pub fn bounds(&self)
         ensures walks { IsWithinDiameter self.now.network self.now.rest }
-        ensures diameter { (faulty : List ℕ) → IsRestOf self.now.network faulty self.now.rest → HasDiameter self.now.network faulty }
+        ensures diameter { (faulty : List ℕ) →
+            IsRestOf self.now.network faulty self.now.rest →
+            HasDiameter self.now.network faulty }
     {
         // The fact is the type's invariant, which a read of a field makes known.
         let _ = &self.net;
     }
 }
 
-/// Whether these generals lead on from a to b, along edges inside the set.
+/// Returns whether these generals lead on from a to b, along edges inside the set.
 fn leads(
     net: &Net,
     rest: &GeneralSet,
@@ -68,7 +75,7 @@ fn leads(
     at == to
 }
 
-/// Whether the generals are a walk from a to b inside the set.
+/// Returns whether the generals are a walk from a to b inside the set.
 fn is_walk(net: &Net, rest: &GeneralSet, a: GeneralNo, b: GeneralNo, walk: &[GeneralNo]) -> bool
     ensures { IsTrue result ↔ IsWalkInside net.now rest.now a b walk.now }
 {
@@ -80,7 +87,7 @@ fn is_walk(net: &Net, rest: &GeneralSet, a: GeneralNo, b: GeneralNo, walk: &[Gen
     }
 }
 
-/// Whether the walk is one from a to b inside the set, of at most d edges.
+/// Returns whether the walk is one from a to b inside the set, of at most d edges.
 fn is_short_walk(net: &Net, rest: &GeneralSet, a: GeneralNo, b: GeneralNo, walk: &Walk) -> bool
     ensures { IsTrue result ↔ IsShortWalk net.now rest.now a b walk.now }
 {
@@ -88,7 +95,7 @@ fn is_short_walk(net: &Net, rest: &GeneralSet, a: GeneralNo, b: GeneralNo, walk:
     is_walk(net, rest, a, b, generals) && generals.len() <= usize::from(net.diameter()) + 1
 }
 
-/// Whether one of the walks leads from a to b inside the set by at most d edges.
+/// Returns whether one of the walks leads from a to b inside the set by at most d edges.
 fn is_bridged(net: &Net, rest: &GeneralSet, walks: &Walks, a: GeneralNo, b: GeneralNo) -> bool
     ensures { IsTrue result ↔ Bridges net.now rest.now walks.now a b }
 {
@@ -98,26 +105,26 @@ fn is_bridged(net: &Net, rest: &GeneralSet, walks: &Walks, a: GeneralNo, b: Gene
         .any(|walk| is_short_walk(net, rest, a, b, walk))
 }
 
-/// Whether a and b are a pair of the set.
-pub fn is_pair(net: &Net, rest: &GeneralSet, a: GeneralNo, b: GeneralNo) -> bool
+/// Returns whether a and b are a pair of the set.
+pub(crate) fn is_pair(net: &Net, rest: &GeneralSet, a: GeneralNo, b: GeneralNo) -> bool
     ensures { IsTrue result ↔ IsPair net.now rest.now a b }
 {
     a < b && is_inside(net, rest, a) && is_inside(net, rest, b)
 }
 
-/// Whether a and b are a pair of the set for whom no walk is given.
+/// Returns whether a and b are a pair of the set for whom no walk is given.
 fn is_bad(net: &Net, rest: &GeneralSet, walks: &Walks, a: GeneralNo, b: GeneralNo) -> bool
-    ensures yes { OnTrue result (IsPair net.now rest.now a b × (Bridges net.now rest.now walks.now a b → ⊥)) }
-    ensures no { OnFalse result (IsPair net.now rest.now a b → Bridges net.now rest.now walks.now a b) }
+    ensures yes { OnTrue result (IsBad net.now rest.now walks.now a b) }
+    ensures no { OnFalse result (IsGood net.now rest.now walks.now a b) }
 {
     is_pair(net, rest, a, b) && !is_bridged(net, rest, walks, a, b)
 }
 
-/// The least general for whom no walk from a is given, if there is one.
+/// Returns the least general for whom no walk from a is given, if there is one.
 fn first_bad(net: &Net, rest: &GeneralSet, walks: &Walks, a: GeneralNo) -> Option<GeneralNo>
-    ensures none { IfNone result ((b : ℕ) → IsPair net.now rest.now a b → Bridges net.now rest.now walks.now a b) }
-    ensures some { IfSome result (λ b. IsPair net.now rest.now a b × (Bridges net.now rest.now walks.now a b → ⊥)) }
-    ensures least { IfSome result (λ b. (y : ℕ) → IsPair net.now rest.now a y → y < b → Bridges net.now rest.now walks.now a y) }
+    ensures none { IfNone result ((b : ℕ) → IsGood net.now rest.now walks.now a b) }
+    ensures some { IfSome result (IsBad net.now rest.now walks.now a) }
+    ensures least { IfSome result (λ b. (y : ℕ) → y < b → IsGood net.now rest.now walks.now a y) }
 {
     for number in 0..net.generals() {
         let b = general(net, number);
@@ -128,16 +135,17 @@ fn first_bad(net: &Net, rest: &GeneralSet, walks: &Walks, a: GeneralNo) -> Optio
     None
 }
 
-/// Checks that the walks bound the diameter of a set, the rest, by d: for each pair a < b of the set
-/// one of them begins with a, ends with b, stays inside the set, steps along edges and has at most d of
-/// them. Else the least pair for which none does.
+/// Returns a proof where the walks bound the diameter of a set, the rest, by d: for each pair a < b of
+/// the set one of them begins with a, ends with b, stays inside the set, steps along edges and has at
+/// most d of them. Else it returns the least pair for which none does.
 ///
 /// Other walks may stand among them in any order. Members of the set that are no generals of the
 /// network count as absent. It takes no memory.
 pub fn check_walks(net: &Net, rest: &GeneralSet, walks: &Walks) -> Result<DiameterProof, BadPair>
     ensures ok { OnOk result (BoundsDiameter net.now rest.now walks.now) }
     ensures proof { IfOk result (λ proof. (proof.network ≡ net.now) × (proof.rest ≡ rest.now)) }
-    ensures err { IfErr result (λ bad. IsLeastBadPair net.now rest.now (Bridges net.now rest.now walks.now) bad.a bad.b) }
+    ensures err { let bridges = Bridges net.now rest.now walks.now in
+        IfErr result (λ bad. IsLeastBadPair net.now rest.now bridges bad.a bad.b) }
 {
     for number in 0..net.generals() {
         let a = general(net, number);

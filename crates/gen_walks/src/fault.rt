@@ -5,7 +5,8 @@ use std::alloc::{AllocError, AllocFailed};
 use thiserror::Error;
 
 /// Two generals a < b of a set for whom a walk is missing.
-#[derive(Clone, Copy, Debug, PartialEq, Eq)]
+#[derive(Clone, Copy, Debug, PartialEq, Eq, Error)]
+#[error("generals {a} and {b} have no short walk")]
 pub struct BadPair {
     /// The lesser general.
     pub a: GeneralNo,
@@ -14,7 +15,8 @@ pub struct BadPair {
 }
 
 /// Why no walks were made: of the least pair that has no walk of at most d edges inside the set, with
-/// the distances from its lesser general, 255 where no walk leads. `check_levels` holds for these.
+/// the distances from its lesser general, 255 where no walk leads and for the numbers of no general.
+/// `check_levels` holds for these.
 #[derive(Debug, Drop, Error)]
 pub enum WalkFault {
     /// Memory was refused.

@@ -5,8 +5,8 @@ ghost use Rattle.gen_walks.specs.Walks.{IsInside, AreJoined};
 use gen_net::Net;
 use gen_types::{GeneralNo, GeneralSet};
 
-/// The general of a number below n.
-pub fn general(net: &Net, number: u8) -> GeneralNo
+/// Returns the general of a number below n.
+pub(crate) fn general(net: &Net, number: u8) -> GeneralNo
     requires { number < net.now.generals }
     ensures { result ≡ number }
 {
@@ -14,15 +14,15 @@ pub fn general(net: &Net, number: u8) -> GeneralNo
     GeneralNo::at(number)
 }
 
-/// Whether the general is one of the network and of the set.
-pub fn is_inside(net: &Net, rest: &GeneralSet, general: GeneralNo) -> bool
+/// Returns whether the general is one of the network and of the set.
+pub(crate) fn is_inside(net: &Net, rest: &GeneralSet, general: GeneralNo) -> bool
     ensures { IsTrue result ↔ IsInside net.now rest.now general }
 {
     general.get() < net.generals() && rest.contains(general)
 }
 
-/// Whether an edge inside the set joins a and b.
-pub fn are_joined(net: &Net, rest: &GeneralSet, a: GeneralNo, b: GeneralNo) -> bool
+/// Returns whether an edge inside the set joins a and b.
+pub(crate) fn are_joined(net: &Net, rest: &GeneralSet, a: GeneralNo, b: GeneralNo) -> bool
     ensures { IsTrue result ↔ AreJoined net.now rest.now a b }
 {
     net.has_edge(a, b) && is_inside(net, rest, a) && is_inside(net, rest, b)

@@ -1,7 +1,8 @@
 //! Levels of generals, which show that no walk is shorter.
 ghost use Rattle.std.specs.Prelude.{ℕ, IsTrue, ◌≡◌, ◌<◌, ◌↔◌};
 ghost use Rattle.std.specs.Bool.{OnTrue, OnFalse};
-ghost use Rattle.gen_walks.specs.Levels.{level, IsLevelRow, IsSteep, NoWalkIsShorter};
+ghost use Rattle.gen_walks.specs.Levels.{level, IsLevelRow, NoWalkIsShorter};
+ghost use Rattle.gen_walks.specs.Loops.Checking.{IsSteep, IsEvenFrom};
 
 use crate::inside::{are_joined, general, is_inside};
 use gen_net::Net;
@@ -11,7 +12,8 @@ use std::marker::Model;
 /// The level of a general to whom no walk leads.
 pub const UNREACHED: u8 = 255;
 
-/// A number for each general, 0..254 edges from a source, or `UNREACHED`.
+/// A number for each general, 0 to 254 edges from a source, or `UNREACHED`. A contract sees the list of
+/// 16 numbers, general 0 first.
 #[derive(Clone, Copy, Debug, PartialEq, Eq)]
 pub struct LevelRow {
     levels: [u8; 16],
@@ -28,34 +30,32 @@ impl Model for LevelRow {
 }
 
 impl LevelRow {
-    /// The row of these levels, general 0 first; those of numbers that are no generals don't count.
+    /// Returns the row of these levels, general 0 first. Those of numbers that are no generals of a
+    /// network don't count where the row is checked.
     pub fn new(levels: [u8; 16]) -> LevelRow
         ensures { result ≡ levels }
     {
         LevelRow { levels }
     }
 
-    /// The level of the general.
+    /// Returns the level of the general.
     pub fn level(&self, general: GeneralNo) -> u8
         ensures { result ≡ level self.now general }
     {
-        match self.levels.get(general.get() as usize) {
-            Some(level) => *level,
-            None => UNREACHED,
-        }
+        self.levels[usize::from(general.get())]
     }
 }
 
-/// Whether the edge from a to b is inside the set and raises the level by more than 1.
+/// Returns whether the edge from a to b is inside the set and raises the level by more than 1.
 fn is_steep(net: &Net, rest: &GeneralSet, row: &LevelRow, a: GeneralNo, b: GeneralNo) -> bool
     ensures { IsTrue result ↔ IsSteep net.now rest.now row.now a b }
 {
     u16::from(row.level(a)) + 1 < u16::from(row.level(b)) && are_joined(net, rest, a, b)
 }
 
-/// Whether no edge from a inside the set is steep.
+/// Returns whether no edge from a inside the set is steep.
 fn is_even_from(net: &Net, rest: &GeneralSet, row: &LevelRow, a: GeneralNo) -> bool
-    ensures yes { OnTrue result ((b : ℕ) → b < net.now.generals → IsSteep net.now rest.now row.now a b → ⊥) }
+    ensures yes { OnTrue result (IsEvenFrom net.now rest.now row.now a) }
     ensures no { OnFalse result ((b : ℕ) × IsSteep net.now rest.now row.now a b) }
 {
     for number in 0..net.generals() {
@@ -66,9 +66,10 @@ fn is_even_from(net: &Net, rest: &GeneralSet, row: &LevelRow, a: GeneralNo) -> b
     true
 }
 
-/// Whether no edge inside the set is steep.
+/// Returns whether no edge inside the set is steep.
 fn is_even(net: &Net, rest: &GeneralSet, row: &LevelRow) -> bool
-    ensures yes { OnTrue result ((a b : ℕ) → a < net.now.generals → b < net.now.generals → IsSteep net.now rest.now row.now a b → ⊥) }
+    ensures yes { OnTrue result (
+        (a : ℕ) → a < net.now.generals → IsEvenFrom net.now rest.now row.now a) }
     ensures no { OnFalse result ((a b : ℕ) × IsSteep net.now rest.now row.now a b) }
 {
     for number in 0..net.generals() {
@@ -79,15 +80,15 @@ fn is_even(net: &Net, rest: &GeneralSet, row: &LevelRow) -> bool
     true
 }
 
-/// Whether the source is inside the set with level 0 and no edge inside the set is steep.
+/// Returns whether the source is inside the set with level 0 and no edge inside the set is steep.
 fn is_level_row(net: &Net, rest: &GeneralSet, source: GeneralNo, row: &LevelRow) -> bool
     ensures { IsTrue result ↔ IsLevelRow net.now rest.now source row.now }
 {
     is_inside(net, rest, source) && row.level(source) == 0 && is_even(net, rest, row)
 }
 
-/// Whether the levels are a certificate of distances from the source: he is one of the set and has
-/// level 0, and no edge inside the set raises the level by more than 1.
+/// Returns whether the levels are a certificate of distances from the source: he is one of the set and
+/// has level 0, and no edge inside the set raises the level by more than 1.
 ///
 /// A yes shows that no walk inside the set from the source to a general has fewer edges than his level.
 /// Members of the set that are no generals of the network count as absent.

@@ -20,18 +20,29 @@ impl Model for Walk {
 }
 
 impl Walk {
-    /// The walk along these generals, whom nothing is asked of: `check_walks` judges it.
+    /// Returns the walk along these generals, of whom nothing is asked: `check_walks` judges it.
     pub fn new(generals: Vec<GeneralNo>) -> Walk
         ensures { result ≡ generals.items }
     {
         Walk { generals }
     }
 
-    /// The generals from the first to the last.
+    /// Returns the generals from the first to the last.
     pub fn generals(&self) -> &[GeneralNo]
         ensures { result.now ≡ self.now }
     {
         &self.generals
+    }
+}
+
+impl Clone for Walk {
+    ghost is_clone = { λ walk copy. copy ≡ walk };
+
+    /// Returns a walk along the same generals. It fails only where memory was refused.
+    fn clone(&self) -> Result<Walk, AllocError> {
+        Ok(Walk {
+            generals: self.generals.clone()?,
+        })
     }
 }
 
@@ -50,7 +61,7 @@ impl Model for Walks {
 }
 
 impl Walks {
-    /// The empty list, which takes no memory yet.
+    /// Returns the empty list, which takes no memory yet.
     pub fn new(alloc: Global) -> Walks
         ensures { result ≡ [] }
     {
@@ -59,7 +70,7 @@ impl Walks {
         }
     }
 
-    /// Appends a walk; where memory is refused the list stays as it was.
+    /// Appends a walk. It fails only where memory was refused, and the list is unchanged then.
     pub fn push(&mut self, walk: Walk) -> Result<(), AllocError>
         ensures ok { OnOk result (self.new ≡ self.old ++ walk ∷ []) }
         ensures err { OnErr result (self.new ≡ self.old) }
@@ -68,10 +79,21 @@ impl Walks {
         Ok(())
     }
 
-    /// The walks in their order.
+    /// Returns the walks in their order.
     pub fn as_slice(&self) -> &[Walk]
         ensures { result.now ≡ self.now }
     {
         &self.walks
+    }
+}
+
+impl Clone for Walks {
+    ghost is_clone = { λ walks copy. copy ≡ walks };
+
+    /// Returns a list of the same walks. It fails only where memory was refused.
+    fn clone(&self) -> Result<Walks, AllocError> {
+        Ok(Walks {
+            walks: self.walks.clone()?,
+        })
     }
 }

@@ -3,7 +3,7 @@ ghost use Rattle.std.specs.Prelude.{◌≡◌, ◌+◌, ◌<◌, IfOk, IfErr, On
 ghost use Rattle.gen_net.specs.Network.{IsNetwork};
 ghost use Rattle.gen_walks.specs.Walks.{IsPair, IsPairBefore, BoundsDiameter};
 ghost use Rattle.gen_walks.specs.BestWalks.{IsBestFor, AreBestFor, AreBestWalks};
-ghost use Rattle.gen_walks.specs.Search.{AreLevelRows};
+ghost use Rattle.gen_walks.specs.Loops.Search.{AreLevelRows};
 ghost use Rattle.gen_walks.specs.Faults.{Explains, IsWalkFault};
 
 use crate::diameter::is_pair;
@@ -16,7 +16,7 @@ use gen_net::Net;
 use gen_types::{GeneralNo, GeneralSet};
 use std::alloc::Global;
 
-/// The best walk of a pair, or why it has none of at most d edges.
+/// Returns the best walk of a pair, or why it has none of at most d edges.
 fn walk_for(
     alloc: Global,
     net: &Net,
@@ -59,7 +59,8 @@ fn push_walks(
 ) -> Result<(), WalkFault>
     requires rows { AreLevelRows net.now rest.now net.now.generals rows.now }
     requires best { AreBestFor net.now rest.now (IsPairBefore net.now rest.now a 0) walks.old }
-    ensures best { OnOk result (AreBestFor net.now rest.now (IsPairBefore net.now rest.now (a + 1) 0) walks.new) }
+    ensures best { let before_next = IsPairBefore net.now rest.now (a + 1) 0 in
+        OnOk result (AreBestFor net.now rest.now before_next walks.new) }
     ensures err { IfErr result (IsWalkFault net.now rest.now) }
 {
     for number in 0..net.generals() {
@@ -72,7 +73,7 @@ fn push_walks(
     Ok(())
 }
 
-/// Makes for each pair a < b of a set of generals, the rest, the lexicographically least among its
+/// Returns for each pair a < b of a set of generals, the rest, the lexicographically least among its
 /// shortest walks inside the set, in the order of the pairs. So they bound the set's diameter by d.
 ///
 /// A fault tells of the least pair that has no walk of at most d edges: NoWalk where none leads from a

@@ -3,7 +3,7 @@ ghost use Rattle.std.specs.Prelude.{ℕ, List, ◌≡◌, ◌≢◌, ◌+◌, �
 ghost use Rattle.std.specs.Bool.{OnTrue, OnFalse};
 ghost use Rattle.gen_walks.specs.Walks.{IsInside, AreJoined, IsWalkInside};
 ghost use Rattle.gen_walks.specs.Levels.{level, IsDistanceRow};
-ghost use Rattle.gen_walks.specs.Search.{AreLevels, AreLevelRows, IsNext, IsNearest};
+ghost use Rattle.gen_walks.specs.Loops.Search.{AreLevels, AreLevelRows, IsNext, IsNearest};
 ghost use Rattle.gen_walks.specs.BestWalks.{IsBestWalk};
 ghost use Rattle.gen_net.specs.Network.{IsNetwork};
 
@@ -14,10 +14,11 @@ use gen_net::Net;
 use gen_types::{GeneralNo, GeneralSet};
 use std::alloc::{AllocError, Global};
 
-/// Whether an edge inside the set joins v to somebody of level k.
+/// Returns whether an edge inside the set joins v to somebody of level k.
 fn is_near_level(net: &Net, rest: &GeneralSet, row: &LevelRow, k: u8, v: GeneralNo) -> bool
     ensures yes { OnTrue result ((u : ℕ) × AreJoined net.now rest.now u v × (level row.now u ≡ k)) }
-    ensures no { OnFalse result ((u : ℕ) → AreJoined net.now rest.now u v → level row.now u ≡ k → ⊥) }
+    ensures no { OnFalse result (
+        (u : ℕ) → AreJoined net.now rest.now u v → level row.now u ≡ k → ⊥) }
 {
     for number in 0..net.generals() {
         let u = general(net, number);
@@ -28,7 +29,7 @@ fn is_near_level(net: &Net, rest: &GeneralSet, row: &LevelRow, k: u8, v: General
     false
 }
 
-/// The level of v after the round that reaches level k + 1.
+/// Returns the level of v after the round that reaches level k + 1.
 fn next_level(net: &Net, rest: &GeneralSet, row: &LevelRow, k: u8, v: GeneralNo) -> u8
     requires { k < 254 }
     ensures { IsNext (AreJoined net.now rest.now) (level row.now) k v result }
@@ -41,12 +42,15 @@ fn next_level(net: &Net, rest: &GeneralSet, row: &LevelRow, k: u8, v: GeneralNo)
     }
 }
 
-/// One round of the search, from the levels in `row` to those in `next`; whether it reached anybody.
+/// Makes one round of the search, from the levels in `row` to those in `next`, and returns whether it
+/// reached anybody.
 fn spread(net: &Net, rest: &GeneralSet, row: &LevelRow, k: u8, next: &mut [u8; 16]) -> bool
     requires k { k < 254 }
     requires same { next.old ≡ row.now }
-    ensures next { (v : ℕ) → v < 16 → IsNext (AreJoined net.now rest.now) (level row.now) k v (level next.new v) }
-    ensures yes { OnTrue result ((v : ℕ) × (v < 16) × (level row.now v ≡ 255) × (level next.new v ≢ 255)) }
+    ensures next { let joined = AreJoined net.now rest.now in
+        (v : ℕ) → v < 16 → IsNext joined (level row.now) k v (level next.new v) }
+    ensures yes { OnTrue result (
+        (v : ℕ) × (v < 16) × (level row.now v ≡ 255) × (level next.new v ≢ 255)) }
     ensures no { OnFalse result ((v : ℕ) → v < 16 → level next.new v ≡ level row.now v) }
 {
     let mut changed = false;
@@ -61,7 +65,8 @@ fn spread(net: &Net, rest: &GeneralSet, row: &LevelRow, k: u8, next: &mut [u8; 1
     changed
 }
 
-/// The levels by steps from the source inside the set: rounds of the search until one reaches nobody.
+/// Returns the levels by steps from the source inside the set: rounds of the search until one reaches
+/// nobody.
 fn levels_from(net: &Net, rest: &GeneralSet, source: GeneralNo) -> LevelRow
     requires { IsNetwork net.now }
     ensures { AreLevels (AreJoined net.now rest.now) source (level result) }
@@ -77,8 +82,12 @@ fn levels_from(net: &Net, rest: &GeneralSet, source: GeneralNo) -> LevelRow
     LevelRow::new(levels)
 }
 
-/// The levels from each general inside the set, general 0 first.
-pub fn level_rows(alloc: Global, net: &Net, rest: &GeneralSet) -> Result<Vec<LevelRow>, AllocError>
+/// Returns the levels from each general inside the set, general 0 first.
+pub(crate) fn level_rows(
+    alloc: Global,
+    net: &Net,
+    rest: &GeneralSet,
+) -> Result<Vec<LevelRow>, AllocError>
     ensures { IfOk result (λ rows. AreLevelRows net.now rest.now net.now.generals rows.items) }
 {
     let mut rows = Vec::new(alloc);
@@ -88,8 +97,13 @@ pub fn level_rows(alloc: Global, net: &Net, rest: &GeneralSet) -> Result<Vec<Lev
     Ok(rows)
 }
 
-/// The levels from one general of the set, which are his distances.
-pub fn row_from(net: &Net, rest: &GeneralSet, rows: &[LevelRow], source: GeneralNo) -> LevelRow
+/// Returns the levels from one general of the set, which are his distances.
+pub(crate) fn row_from(
+    net: &Net,
+    rest: &GeneralSet,
+    rows: &[LevelRow],
+    source: GeneralNo,
+) -> LevelRow
     requires network { IsNetwork net.now }
     requires rows { AreLevelRows net.now rest.now net.now.generals rows.now }
     requires source { IsInside net.now rest.now source }
@@ -99,9 +113,10 @@ pub fn row_from(net: &Net, rest: &GeneralSet, rows: &[LevelRow], source: General
     rows[usize::from(source.get())]
 }
 
-/// The least general joined to `at` inside the set who is one level nearer.
+/// Returns the least general joined to `at` inside the set who is one level nearer.
 fn nearest(net: &Net, rest: &GeneralSet, row: &LevelRow, at: GeneralNo) -> GeneralNo
-    requires { (u : ℕ) × AreJoined net.now rest.now at u × (level row.now at ≡ level row.now u + 1) }
+    requires { (u : ℕ) ×
+        AreJoined net.now rest.now at u × (level row.now at ≡ level row.now u + 1) }
     ensures { IsNearest (AreJoined net.now rest.now) (level row.now) at result }
 {
     for number in 0..net.generals() {
@@ -115,9 +130,9 @@ fn nearest(net: &Net, rest: &GeneralSet, row: &LevelRow, at: GeneralNo) -> Gener
     at
 }
 
-/// The least of the shortest walks from a to b inside the set, where one leads there: by the levels from
-/// b it goes each time to the nearest general, until the level is 0.
-pub fn best_walk(
+/// Returns the least of the shortest walks from a to b inside the set, where one leads there: by the
+/// levels from b it goes each time to the nearest general, until the level is 0.
+pub(crate) fn best_walk(
     alloc: Global,
     net: &Net,
     rest: &GeneralSet,

@@ -171,6 +171,12 @@ fn levels_of_a_line(rt: HostRuntime) {
         );
     }
     assert!(rt; row_of(&[0, 1]).level(GeneralNo::commander()) == 0);
+    // A line of all 16 generals, whose levels are their numbers.
+    let edges = edges_up_to(alloc, 1).expect(&rt, "edges");
+    let line = Net::new(alloc, 16, &edges, 1, 15, 2, 0).expect(&rt, "net");
+    let numbers: [u8; 16] = [0, 1, 2, 3, 4, 5, 6, 7, 8, 9, 10, 11, 12, 13, 14, 15];
+    let source = GeneralNo::commander();
+    assert!(rt; check_levels(&line, &set_of(&numbers), source, &row_of(&numbers)));
 }
 
 /// On a line of three generals with diameter 1 the ends have no short walk, without the middle none.
@@ -190,6 +196,9 @@ fn faults_are_shown(rt: HostRuntime) {
     let memory = WalkFault::Memory;
     let shown = format!(in alloc; "{memory}").expect(&rt, "text");
     assert!(rt; shown.as_str() == "memory");
+    let bad = pair_of(2, 14).expect(&rt, "pair");
+    let shown = format!(in alloc; "{bad}").expect(&rt, "text");
+    assert!(rt; shown.as_str() == "generals 2 and 14 have no short walk");
 }
 
 /// Where an allocation is refused the answer is Memory, and else all walks; so it passes with each
@@ -203,5 +212,52 @@ fn all_walks_or_memory(rt: HostRuntime) {
             Err(WalkFault::Memory) => {}
             Err(_) => panic!(rt; "another fault"),
         }
+    }
+}
+
+/// The edges between 16 generals that join numbers at most this far apart.
+fn edges_up_to(alloc: Global, far: u8) -> Result<Vec<(u8, u8)>, AllocError> {
+    let mut edges = Vec::new(alloc);
+    for b in 0..16u8 {
+        for a in 0..b {
+            if b - a <= far {
+                edges.push((a, b))?;
+            }
+        }
+    }
+    Ok(edges)
+}
+
+/// How many walks are made for all of 16 generals on such edges, and how many generals the longest has;
+/// None where a copy of the walks is not as they are, or does not bound the diameter.
+fn made_for_all(alloc: Global, far: u8, d: u8) -> Option<(usize, usize)> {
+    let edges = edges_up_to(alloc, far).ok()?;
+    let net = Net::new(alloc, 16, &edges, 1, d, 2, 0).ok()?;
+    let mut all = GeneralSet::new();
+    for number in 0..16u8 {
+        all.insert(GeneralNo::at(number));
+    }
+    let walks = make_walks(alloc, &net, &all).ok()?;
+    let copy = walks.clone().ok()?;
+    if check_walks(&net, &all, &copy).is_err() {
+        return None;
+    }
+    let mut longest = 0;
+    for (walk, copied) in walks.as_slice().iter().zip(copy.as_slice().iter()) {
+        let again = walk.clone().ok()?;
+        if again.generals() != copied.generals() {
+            return None;
+        }
+        longest = longest.max(again.generals().len());
+    }
+    Some((copy.as_slice().len(), longest))
+}
+
+/// All 120 edges, and a line of 16: the most edges, the longest walks.
+#[test]
+fn at_the_limits(rt: HostRuntime) {
+    let alloc = rt.alloc();
+    for (far, d, longest) in [(15, 1, 2), (1, 15, 16)] {
+        assert!(rt; made_for_all(alloc, far, d) == Some((120, longest)));
     }
 }

@@ -13,7 +13,8 @@ use Rattle.gen_net.specs.Follows.{LieutenantFollows}
 use Rattle.gen_core.proofs.Decisions.{decision}
 use Rattle.gen_core.proofs.Rounds.{added_by}
 use Rattle.gen_core.proofs.SignedRuns.{RestFollows, rest_follows, own_of, pick_of, signer_added, neighbour_adds, every_order_own}
-use Rattle.gen_world.specs.Theorem.{Agreement, Validity, EachDecides, DecideAlike, ObeyCommander, EachIsChoice, AnyChoice}
+use Rattle.gen_world.specs.Theorem.{Case, Premises, IsLoyalLieutenant, HasLoyalCommander, AcceptsHere, Agreement, Validity, EachDecides, DecideAlike, ObeyCommander}
+use Rattle.gen_world.specs.AnyChoice.{EachIsChoice, AnyChoice}
 
 -- g has the order by round i, as one that he added or as his own
 abbrev Knows : Run → ℕ → ℕ → ℕ → ℕ → Type 0
@@ -117,15 +118,18 @@ obey net faulty run own picks follow diameter loyal g loyal_g ng v = (
       accepts net faulty run own picks follow g v ng (walk net faulty run own picks follow w.0 0 g 0 v loyal (inl (refl, mine)) (omega arith) w.2)),
 )
 
-pub agreement : Agreement
-agreement net faulty run conducts p g h loyal_g loyal_h v =
-    let follow = rest_follows net faulty run conducts p.signed in (
-      agree net faulty run (own_of (conducts 0)) (λ x. pick_of (conducts x)) follow p.few p.diameter g h loyal_g.0 loyal_g.1 loyal_h.0 loyal_h.1 v,
-      agree net faulty run (own_of (conducts 0)) (λ x. pick_of (conducts x)) follow p.few p.diameter h g loyal_h.0 loyal_h.1 loyal_g.0 loyal_g.1 v,
+pub agreement : (here : Case) → Premises here → Agreement here
+agreement here p g h v loyal_g loyal_h =
+    let own = own_of (here.conducts 0) in
+    let follow = rest_follows here.net here.faulty here.run here.conducts p.signed in (
+      agree here.net here.faulty here.run own (λ x. pick_of (here.conducts x)) follow p.few p.diameter g h loyal_g.0 loyal_g.1 loyal_h.0 loyal_h.1 v,
+      agree here.net here.faulty here.run own (λ x. pick_of (here.conducts x)) follow p.few p.diameter h g loyal_h.0 loyal_h.1 loyal_g.0 loyal_g.1 v,
     )
 
-pub validity : Validity
-validity net faulty run conducts p own commander g loyal v = rw commander.1 at (obey net faulty run (own_of (conducts 0)) (λ x. pick_of (conducts x)) (rest_follows net faulty run conducts p.signed) p.diameter commander.0 g loyal.0 loyal.1 v)
+pub validity : (here : Case) → Premises here → Validity here
+validity here p own g v commander loyal =
+    let follow = rest_follows here.net here.faulty here.run here.conducts p.signed in
+    rw commander.1 at (obey here.net here.faulty here.run (own_of (here.conducts 0)) (λ x. pick_of (here.conducts x)) follow p.diameter commander.0 g loyal.0 loyal.1 v)
 
 -- two ascending lists of numbers with one property are one
 lists_alike : (xs ys : List ℕ) (P Q : ℕ → Type 0) → ((v : ℕ) → P v ↔ Q v) → IsListOf xs P → IsListOf ys Q → xs ≡ ys
@@ -140,10 +144,10 @@ list_of_one xs P x same all = only_one xs x (record {
   members = λ v. ((λ h. inr ((same v).0 ((all.members v).0 h))), (λ h. (all.members v).1 ((same v).1 (elim h [ inl none ↦ absurd (Contains_nil v none) | inr e ↦ e ]))));
 })
 
-pub any_choice : AnyChoice
-any_choice net faulty run conducts p choice laws = record {
-  alike = λ g h loyal_g loyal_h orders others left right. ap choice (lists_alike orders others (Accepts net run g) (Accepts net run h) (agreement net faulty run conducts p g h loyal_g loyal_h) left right);
-  obeyed = λ own commander g loyal orders all. ap choice (list_of_one orders (Accepts net run g) own (validity net faulty run conducts p own commander g loyal) all) ∙ laws.of_one own;
+pub any_choice : (here : Case) → Premises here → AnyChoice here
+any_choice here p choice laws = record {
+  alike = λ g h orders others loyal_g loyal_h left right. ap choice (lists_alike orders others (AcceptsHere here g) (AcceptsHere here h) (λ v. agreement here p g h v loyal_g loyal_h) left right);
+  obeyed = λ own g orders commander loyal all. ap choice (list_of_one orders (AcceptsHere here g) own (λ v. validity here p own g v commander loyal) all) ∙ laws.of_one own;
 }
 
 pub each_is_choice : EachIsChoice
@@ -152,10 +156,10 @@ each_is_choice net = record { of_one = choice_of-one net.choice; of_none = choic
 pub each_decides : EachDecides
 each_decides net run ok g lieutenant = decision net run ok g
 
-pub decide_alike : DecideAlike
-decide_alike net faulty run conducts p g h loyal_g loyal_h orders others order other left right =
-    left.chosen ∙ (any_choice net faulty run conducts p (choose net) (each_is_choice net)).alike g h loyal_g loyal_h orders others left.set right.set ∙ sym right.chosen
+pub decide_alike : (here : Case) → Premises here → DecideAlike here
+decide_alike here p g h order other loyal_g loyal_h left right =
+    left.1.chosen ∙ (any_choice here p (choose here.net) (each_is_choice here.net)).alike g h left.0 right.0 loyal_g loyal_h left.1.set right.1.set ∙ sym right.1.chosen
 
-pub obey_commander : ObeyCommander
-obey_commander net faulty run conducts p own commander g loyal orders order decides =
-    decides.chosen ∙ (any_choice net faulty run conducts p (choose net) (each_is_choice net)).obeyed own commander g loyal orders decides.set
+pub obey_commander : (here : Case) → Premises here → ObeyCommander here
+obey_commander here p own g order commander loyal decides =
+    decides.1.chosen ∙ (any_choice here p (choose here.net) (each_is_choice here.net)).obeyed own g decides.0 commander loyal decides.1.set

@@ -7,9 +7,10 @@ use Rattle.gen_core.specs.declared.arrivals.Seen.{Seen}
 use Rattle.gen_net.specs.Network.{Network, AreNeighbours}
 use Rattle.gen_net.specs.Run.{Run, IsRun}
 use Rattle.gen_core.specs.Seeing.{AreArrivals, AreAdds}
-use Rattle.gen_core.specs.Sending.{Send, Appends, AreSends, IsCommand, IsDue}
+use Rattle.gen_core.specs.declared.sending.Outgoing.{Outgoing}
+use Rattle.gen_core.specs.Sending.{outgoing, Appends, AreSends, IsCommand, IsDue}
 use Rattle.gen_world.specs.World.{IsRelay}
-use Rattle.gen_world.specs.Rounds.{IsAmong, RelayedBy}
+use Rattle.gen_world.specs.Loops.Rounds.{IsAmong, RelayedBy}
 
 abbrev pub seen_of : Message → Seen
 seen_of m = record { from = m.from; order = m.order; path = m.path }
@@ -64,29 +65,29 @@ appended_same P Q old new so_far same x = (
   (λ h. elim h [ inl o ↦ (so_far x).1 (inl o) | inr q ↦ (so_far x).1 (inr ((same x).1 q)) ]),
 )
 
-pub part_more : (me : ℕ) (parts : List Send) (p : Send) (m : Message) → IsAmong me (parts ++ p ∷ []) m ↔ (IsAmong me parts m ⊎ (record { from = me; to = p.0; order = p.1; path = p.2 } ≡ m))
+pub part_more : (me : ℕ) (parts : List Outgoing) (p : Outgoing) (m : Message) → IsAmong me (parts ++ p ∷ []) m ↔ (IsAmong me parts m ⊎ (record { from = me; to = p.to; order = p.order; path = p.path } ≡ m))
 part_more me parts p m = (
-  (λ h. elim (Contains-push_cases parts p (m.to, m.order, m.path) h.1) [
+  (λ h. elim (Contains-push_cases parts p (outgoing m.to m.order m.path) h.1) [
     | inl k ↦ inl (h.0, k)
-    | inr e ↦ inr (λ i. record { from = sym h.0 i; to = (e i).0; order = (e i).1; path = (e i).2 })
+    | inr e ↦ inr (λ i. record { from = sym h.0 i; to = (e i).to; order = (e i).order; path = (e i).path })
   ]),
   (λ h. elim h [
-    | inl k ↦ (k.0, Contains-append_left parts (p ∷ []) (m.to, m.order, m.path) k.1)
+    | inl k ↦ (k.0, Contains-append_left parts (p ∷ []) (outgoing m.to m.order m.path) k.1)
     | inr e ↦ subst (λ x. IsAmong me (parts ++ p ∷ []) x) e (refl, Contains-push parts p)
   ]),
 )
 
-pub relayed : (net : Network) (run : Run) (g l : ℕ) (adds : List (Option (List ℕ))) (out : List Send) → IsRun net run → AreAdds run g l adds → AreSends (IsDue net g adds) out → (m : Message) → IsAmong g out m ↔ RelayedBy net run g l m
+pub relayed : (net : Network) (run : Run) (g l : ℕ) (adds : List (Option (List ℕ))) (out : List Outgoing) → IsRun net run → AreAdds run g l adds → AreSends (IsDue net g adds) out → (m : Message) → IsAmong g out m ↔ RelayedBy net run g l m
 relayed net run g l adds out run_of_net told sends m = (
   (λ h.
-      let d : IsDue net g adds (m.to, m.order, m.path) = (sends.exactly (m.to, m.order, m.path)).0 h.1 in
+      let d : IsDue net g adds (outgoing m.to m.order m.path) = (sends.exactly (outgoing m.to m.order m.path)).0 h.1 in
       let both = (told m.order d.picked).0 d.is_picked in
       (h.0, omega (arith, d.in_time, both.1.arrives.0.1), record { picked = d.picked; added = both.0; least = both.1; longer = d.longer; neighbour = d.neighbour; outside = d.outside })),
   (λ h.
       let r : IsRelay net run g l m = h.2 in
       let was : Message = record { from = r.least.from; to = g; order = m.order; path = r.picked } in (
         h.0,
-        (sends.exactly (m.to, m.order, m.path)).1 (record {
+        (sends.exactly (outgoing m.to m.order m.path)).1 (record {
           picked = r.picked;
           is_picked = (told m.order r.picked).1 (r.added, r.least);
           in_time = omega (arith, h.1, r.least.arrives.0.1);
@@ -99,11 +100,11 @@ relayed net run g l adds out run_of_net told sends m = (
 )
 
 -- what the commander sends
-pub first_sends : (net : Network) (own : ℕ) (out : List Send) (first : List Message) → AreSends (IsCommand net own) out → Appends (IsAmong 0 out) [] first → (m : Message) → Contains first m ↔ ((m.from ≡ 0) × AreNeighbours net 0 m.to × (m.order ≡ own) × (m.path ≡ 0 ∷ []))
+pub first_sends : (net : Network) (own : ℕ) (out : List Outgoing) (first : List Message) → AreSends (IsCommand net own) out → Appends (IsAmong 0 out) [] first → (m : Message) → Contains first m ↔ ((m.from ≡ 0) × AreNeighbours net 0 m.to × (m.order ≡ own) × (m.path ≡ 0 ∷ []))
 first_sends net own out first sends sent m = (
   (λ h. elim ((sent m).0 h) [
     | inl none ↦ absurd (Contains_nil m none)
-    | inr a ↦ let q = (sends.exactly (m.to, m.order, m.path)).0 a.1 in (a.0, q.0, q.1, q.2)
+    | inr a ↦ let q = (sends.exactly (outgoing m.to m.order m.path)).0 a.1 in (a.0, q.0, q.1, q.2)
   ]),
-  (λ q. (sent m).1 (inr (q.0, (sends.exactly (m.to, m.order, m.path)).1 (q.1, q.2, q.3)))),
+  (λ q. (sent m).1 (inr (q.0, (sends.exactly (outgoing m.to m.order m.path)).1 (q.1, q.2, q.3)))),
 )

@@ -1,7 +1,11 @@
-pub mod FirstCarried
 pub mod Agree
 pub mod Arriving
+pub mod Deriving
+pub mod FirstChains
 pub mod Growing
+pub mod Obeying
 pub mod Rounding
 pub mod Same
+pub mod SplitCommander
+pub mod Verifying
 pub mod WorldFollowers

@@ -13,8 +13,8 @@ use Rattle.gen_core.specs.Seeing.{State, HasSeen}
 use Rattle.gen_core.specs.Sending.{Appends}
 use Rattle.gen_net.specs.Follows.{LieutenantDecides}
 use Rattle.gen_world.specs.World.{IsDecision, IsRelay}
-use Rattle.gen_world.specs.Scenario.{Decision}
-use Rattle.gen_world.specs.Rounds.{RelayedBy, AreRelays, IsReady, numbers_of}
+use Rattle.gen_world.specs.declared.scenario.Decision.{Decision}
+use Rattle.gen_world.specs.Loops.Rounds.{RelayedBy, AreRelays, IsReady, numbers_of}
 use Rattle.gen_world.proofs.Growing.{WorldTo, AreNext, seen_longer}
 
 -- what holds of all from a place on holds at this place
@@ -78,12 +78,12 @@ numbers_pushed states new k so_far e =
 
 -- ---- the decisions
 
-pub generals_pushed : (out : List Decision) (decision : Decision) (states : List State) (i : ℕ) (d : State) → map (λ (x : Decision). x.0) out ≡ 0 ∷ take i (numbers_of states) → i < length states → decision.0 ≡ (get_or states i d).me → map (λ (x : Decision). x.0) (out ++ decision ∷ []) ≡ 0 ∷ take (i + 1) (numbers_of states)
+pub generals_pushed : (out : List Decision) (decision : Decision) (states : List State) (i : ℕ) (d : State) → map (λ (x : Decision). x.general) out ≡ 0 ∷ take i (numbers_of states) → i < length states → decision.general ≡ (get_or states i d).me → map (λ (x : Decision). x.general) (out ++ decision ∷ []) ≡ 0 ∷ take (i + 1) (numbers_of states)
 generals_pushed out decision states i d so_far lt e =
-    map-append (λ (x : Decision). x.0) out (decision ∷ []) ∙ (ap (λ ns. ns ++ decision.0 ∷ []) so_far ∙ (ap (λ g. 0 ∷ (take i (numbers_of states) ++ g ∷ [])) e ∙ ap (λ ns. 0 ∷ ns) (sym (numbers_taken states (numbers_of states) i d refl lt))))
+    map-append (λ (x : Decision). x.general) out (decision ∷ []) ∙ (ap (λ ns. ns ++ decision.general ∷ []) so_far ∙ (ap (λ g. 0 ∷ (take i (numbers_of states) ++ g ∷ [])) e ∙ ap (λ ns. 0 ∷ ns) (sym (numbers_taken states (numbers_of states) i d refl lt))))
 
 -- a lieutenant's decision
-pub lieutenants_decision : (net : Network) (own : ℕ) (run : Run) (me : ℕ) (set : List ℕ) (order : ℕ) → me ≢ 0 → LieutenantDecides net run me set order → IsDecision net own run (me, set, order)
+pub lieutenants_decision : (net : Network) (own : ℕ) (run : Run) (me : ℕ) (set : List ℕ) (order : ℕ) → me ≢ 0 → LieutenantDecides net run me set order → IsDecision net own run (record { general = me; orders = set; order = order })
 lieutenants_decision net own run me set order ne decides = record { commander = λ e. absurd (ne e); lieutenant = λ other. decides }
 
 -- ---- what is written back

@@ -1,8 +1,8 @@
 -- Which chains of a frame count at its receiver. A frame is a list of parcels, and a parcel is a list of bytes.
 use Rattle.std.specs.Prelude.{ℕ, ◌≡◌, ◌≢◌, ◌≤◌, ◌↔◌, List, ◌∷◌, ◌++◌, length, Contains, AllPairs}
-use Rattle.gen_net.specs.Chain.{EndsWith}
+use Rattle.gen_types.specs.Ends.{EndsWith}
 use Rattle.gen_net.specs.Header.{RunHeader}
-use Rattle.gen_chain.specs.Chain.{Chain, IsChain, path_of, chain_spelling}
+use Rattle.gen_chain.specs.Chain.{Chain, IsSignedChain, signed_path, chain_spelling}
 use Rattle.gen_chain.specs.Verifying.{ChainVerifies}
 use Rattle.gen_world.specs.declared.counting.Delivery.{Delivery}
 
@@ -10,14 +10,14 @@ use Rattle.gen_world.specs.declared.counting.Delivery.{Delivery}
 -- did not sign it.
 pub record MayCount (h : RunHeader) (d : Delivery) (c : Chain) : Type 0 where
   pub verifies : ChainVerifies h c
-  pub in_time : length (path_of c.signers) ≡ d.round
-  pub from_sender : EndsWith (path_of c.signers) d.from
-  pub outside : Contains (path_of c.signers) d.to → ⊥
+  pub in_time : length (signed_path c.signers) ≡ d.round
+  pub from_sender : EndsWith (signed_path c.signers) d.from
+  pub outside : Contains (signed_path c.signers) d.to → ⊥
 
 -- the parcel is exactly one chain, which may count
 pub record Carries (h : RunHeader) (d : Delivery) (parcel : List ℕ) (c : Chain) : Type 0 where
   pub spelled : parcel ≡ chain_spelling c
-  pub is_chain : IsChain c
+  pub is_chain : IsSignedChain c
   pub may_count : MayCount h d c
 
 -- A chain of the frame counts: the frame is not too long, and no parcel before the chain's carries one of the same order.

@@ -1,7 +1,11 @@
-pub mod CountedSoFar
+pub mod AnyChoice
+pub mod Counted
 pub mod Counting
-pub mod Rounds
+pub mod Derivables
+pub mod Loops
 pub mod Scenario
 pub mod Theorem
+pub mod TwoOrders
+pub mod Verified
 pub mod World
 pub mod WorldFollows

@@ -8,55 +8,56 @@ use Rattle.gen_net.specs.Run.{Run, IsRun, Accepts}
 use Rattle.gen_net.specs.Follows.{Conduct, Commands, LieutenantDecides}
 use Rattle.gen_net.specs.Signed.{IsSignedRun}
 
+-- a network, its faulty generals, a run of it, and what each of the rest chose
+pub record Case : Type 0 where
+  pub net : Network
+  pub faulty : List ℕ
+  pub run : Run
+  pub conducts : ℕ → Conduct
+
 -- What the theorem asks for: a run for these faulty generals, at most m of them, and any two of the rest joined inside the rest
 -- by at most d edges.
-pub record Premises (net : Network) (faulty : List ℕ) (run : Run) (conducts : ℕ → Conduct) : Type 0 where
-  pub signed : IsSignedRun net faulty run conducts
-  pub few : length faulty ≤ net.traitors
-  pub diameter : HasDiameter net faulty
+pub record Premises (here : Case) : Type 0 where
+  pub signed : IsSignedRun here.net here.faulty here.run here.conducts
+  pub few : length here.faulty ≤ here.net.traitors
+  pub diameter : HasDiameter here.net here.faulty
 
 -- g is a lieutenant of the rest
-abbrev pub IsLoyalLieutenant : Network → List ℕ → ℕ → Type 0
-IsLoyalLieutenant net faulty g = IsLoyal net faulty g × (g ≢ 0)
+abbrev pub IsLoyalLieutenant : Case → ℕ → Type 0
+IsLoyalLieutenant here g = IsLoyal here.net here.faulty g × (g ≢ 0)
 
 -- the commander is of the rest, with this order
-abbrev pub HasLoyalCommander : Network → List ℕ → (ℕ → Conduct) → ℕ → Type 0
-HasLoyalCommander net faulty conducts own = IsLoyal net faulty 0 × (conducts 0 ≡ Commands own)
+abbrev pub HasLoyalCommander : Case → ℕ → Type 0
+HasLoyalCommander here own = IsLoyal here.net here.faulty 0 × (here.conducts 0 ≡ Commands own)
+
+-- g accepts the order
+abbrev pub AcceptsHere : Case → ℕ → ℕ → Type 0
+AcceptsHere here g v = Accepts here.net here.run g v
+
+-- these are all orders that g accepts
+abbrev pub IsSetOf : Case → ℕ → List ℕ → Type 0
+IsSetOf here g orders = IsListOf orders (AcceptsHere here g)
+
+-- g decides the order
+abbrev pub DecidesHere : Case → ℕ → ℕ → Type 0
+DecidesHere here g order = (orders : List ℕ) × LieutenantDecides here.net here.run g orders order
 
 -- any two lieutenants of the rest accept the same orders
-abbrev pub Agreement : Type 0
-Agreement = (net : Network) (faulty : List ℕ) (run : Run) (conducts : ℕ → Conduct) → Premises net faulty run conducts → (g h : ℕ) → IsLoyalLieutenant net faulty g → IsLoyalLieutenant net faulty h → (v : ℕ) → Accepts net run g v ↔ Accepts net run h v
+abbrev pub Agreement : Case → Type 0
+Agreement here = (g h v : ℕ) → IsLoyalLieutenant here g → IsLoyalLieutenant here h → AcceptsHere here g v ↔ AcceptsHere here h v
 
 -- where the commander is of the rest, a lieutenant of the rest accepts exactly the commander's order
-abbrev pub Validity : Type 0
-Validity = (net : Network) (faulty : List ℕ) (run : Run) (conducts : ℕ → Conduct) → Premises net faulty run conducts → (own : ℕ) → HasLoyalCommander net faulty conducts own → (g : ℕ) → IsLoyalLieutenant net faulty g → (v : ℕ) → Accepts net run g v ↔ (v ≡ own)
+abbrev pub Validity : Case → Type 0
+Validity here = (own g v : ℕ) → HasLoyalCommander here own → IsLoyalLieutenant here g → AcceptsHere here g v ↔ (v ≡ own)
+
+-- any two lieutenants of the rest decide alike (IC1)
+abbrev pub DecideAlike : Case → Type 0
+DecideAlike here = (g h order other : ℕ) → IsLoyalLieutenant here g → IsLoyalLieutenant here h → DecidesHere here g order → DecidesHere here h other → order ≡ other
+
+-- where the commander is of the rest, a lieutenant of the rest decides the commander's order (IC2)
+abbrev pub ObeyCommander : Case → Type 0
+ObeyCommander here = (own g order : ℕ) → HasLoyalCommander here own → IsLoyalLieutenant here g → DecidesHere here g order → order ≡ own
 
 -- in every run a lieutenant has a decision
 abbrev pub EachDecides : Type 0
 EachDecides = (net : Network) (run : Run) → IsRun net run → (g : ℕ) → g ≢ 0 → (orders : List ℕ) × (order : ℕ) × LieutenantDecides net run g orders order
-
--- any two lieutenants of the rest decide alike (IC1)
-abbrev pub DecideAlike : Type 0
-DecideAlike = (net : Network) (faulty : List ℕ) (run : Run) (conducts : ℕ → Conduct) → Premises net faulty run conducts → (g h : ℕ) → IsLoyalLieutenant net faulty g → IsLoyalLieutenant net faulty h → (orders others : List ℕ) (order other : ℕ) → LieutenantDecides net run g orders order → LieutenantDecides net run h others other → order ≡ other
-
--- where the commander is of the rest, a lieutenant of the rest decides the commander's order (IC2)
-abbrev pub ObeyCommander : Type 0
-ObeyCommander = (net : Network) (faulty : List ℕ) (run : Run) (conducts : ℕ → Conduct) → Premises net faulty run conducts → (own : ℕ) → HasLoyalCommander net faulty conducts own → (g : ℕ) → IsLoyalLieutenant net faulty g → (orders : List ℕ) (order : ℕ) → LieutenantDecides net run g orders order → order ≡ own
-
--- the two laws of a choice: of one order it is this order, of none it is RETREAT
-pub record IsChoice (choice : List ℕ → ℕ) : Type 0 where
-  pub of_one : (v : ℕ) → choice (v ∷ []) ≡ v
-  pub of_none : choice [] ≡ 0
-
--- every choice that a network can name has the two laws
-abbrev pub EachIsChoice : Type 0
-EachIsChoice = (net : Network) → IsChoice (choose net)
-
--- with this choice lieutenants of the rest choose alike from their sets, and choose the order of a commander of the rest
-pub record ChosenAlike (net : Network) (faulty : List ℕ) (run : Run) (conducts : ℕ → Conduct) (choice : List ℕ → ℕ) : Type 0 where
-  pub alike : (g h : ℕ) → IsLoyalLieutenant net faulty g → IsLoyalLieutenant net faulty h → (orders others : List ℕ) → IsListOf orders (Accepts net run g) → IsListOf others (Accepts net run h) → choice orders ≡ choice others
-  pub obeyed : (own : ℕ) → HasLoyalCommander net faulty conducts own → (g : ℕ) → IsLoyalLieutenant net faulty g → (orders : List ℕ) → IsListOf orders (Accepts net run g) → choice orders ≡ own
-
--- and so with every choice that has the two laws
-abbrev pub AnyChoice : Type 0
-AnyChoice = (net : Network) (faulty : List ℕ) (run : Run) (conducts : ℕ → Conduct) → Premises net faulty run conducts → (choice : List ℕ → ℕ) → IsChoice choice → ChosenAlike net faulty run conducts choice

@@ -7,7 +7,7 @@ use Rattle.gen_net.specs.declared.message.Message.{Message}
 use Rattle.gen_net.specs.Run.{Run, IsSent, IsRun, Adds}
 use Rattle.gen_net.specs.Follows.{CommanderFollows, LieutenantDecides}
 use Rattle.gen_core.specs.Seeing.{IsFromLeast}
-use Rattle.gen_world.specs.Scenario.{Decision}
+use Rattle.gen_world.specs.declared.scenario.Decision.{Decision}
 
 -- g relays in round l + 1 what he added in round l: the least sender's path lengthened by himself, to a neighbour outside it
 pub record IsRelay (net : Network) (run : Run) (g l : ℕ) (message : Message) : Type 0 where
@@ -35,12 +35,12 @@ OneWorld = (net : Network) (order : ℕ) (run other : Run) → IsWorld net order
 
 -- the commander decides his order alone, and a lieutenant by the orders that he accepted
 pub record IsDecision (net : Network) (order : ℕ) (run : Run) (decision : Decision) : Type 0 where
-  pub commander : decision.0 ≡ 0 → (decision.1 ≡ order ∷ []) × (decision.2 ≡ order)
-  pub lieutenant : decision.0 ≢ 0 → LieutenantDecides net run decision.0 decision.1 decision.2
+  pub commander : decision.general ≡ 0 → (decision.orders ≡ order ∷ []) × (decision.order ≡ order)
+  pub lieutenant : decision.general ≢ 0 → LieutenantDecides net run decision.general decision.orders decision.order
 
 -- the decisions of all generals, in ascending order, in the run of the scenario
 pub record IsOutcome (net : Network) (order : ℕ) (decisions : List Decision) : Type 0 where
   pub run : Run
   pub world : IsWorld net order run
-  pub generals : map (λ decision. decision.0) decisions ≡ range_with_len 0 net.generals
+  pub generals : map (λ decision. decision.general) decisions ≡ range_with_len 0 net.generals
   pub each : All (IsDecision net order run) decisions

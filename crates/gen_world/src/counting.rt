@@ -1,14 +1,13 @@
 //! Which chains of a frame count at its receiver.
 ghost use Rattle.std.specs.Prelude.{IsTrue, ℕ, List, ◌≡◌, ◌↔◌, ◌∷◌, [], ◌++◌, map, Contains, Ok, Some, None, IfOk, OnOk};
-ghost use Rattle.gen_net.specs.Chain.{EndsWith};
 ghost use Rattle.gen_chain.specs.Chain.{Chain};
 ghost use Rattle.gen_world.specs.Counting.{MayCount, Carries, AreCounted};
-ghost use Rattle.gen_world.specs.CountedSoFar.{CountedSoFar};
+ghost use Rattle.gen_world.specs.Counted.{counted_of};
+ghost use Rattle.gen_world.specs.Loops.Listing.{AreListed};
 
-use gen_chain::laws::one_chain_spelling;
 use gen_chain::{SignedChain, chain_verifies, read_chain};
 use gen_net::Header;
-use gen_types::{GeneralNo, OrderNo, Path, ReadError};
+use gen_types::{GeneralNo, OrderNo, ReadError};
 use std::alloc::{AllocError, Global};
 
 /// Which frame it is: who sends it to whom, in which round, 1 to R.
@@ -22,16 +21,6 @@ pub struct Delivery {
     pub round: u8,
 }
 
-/// Whether the general is the last of the path.
-fn ends_with(path: &Path, general: GeneralNo) -> bool
-    ensures { IsTrue result ↔ EndsWith path.now general }
-{
-    match path.last() {
-        Some(last) => last == general,
-        None => false,
-    }
-}
-
 /// Whether a chain of this frame may count.
 fn may_count(header: &Header, delivery: &Delivery, chain: &SignedChain) -> bool
     ensures { IsTrue result ↔ MayCount header.now delivery.now chain.now }
@@ -40,7 +29,7 @@ fn may_count(header: &Header, delivery: &Delivery, chain: &SignedChain) -> bool
     if path.len() != usize::from(delivery.round) {
         return false;
     }
-    if !ends_with(&path, delivery.from) {
+    if !path.ends_with(delivery.from) {
         return false;
     }
     if path.contains(delivery.to) {
@@ -89,9 +78,10 @@ fn count_parcel(
     parcel: &[u8],
     counted: &mut Vec<SignedChain>,
 ) -> Result<(), AllocError>
-    ensures { OnOk result ((parcels : List (List ℕ)) → CountedSoFar header.now delivery.now parcels counted.old.items → CountedSoFar header.now delivery.now (parcels ++ parcel.now ∷ []) counted.new.items) }
+    ensures { OnOk result ((parcels : List (List ℕ))
+        → AreListed header.now delivery.now parcels counted.old.items
+        → AreListed header.now delivery.now (parcels ++ parcel.now ∷ []) counted.new.items) }
 {
-    one_chain_spelling();
     if let Some(chain) = carried(alloc, header, delivery, parcel)? {
         if !has_order(counted.as_slice(), chain.order()) {
             counted.push(chain)?;
@@ -100,19 +90,27 @@ fn count_parcel(
     Ok(())
 }
 
-/// Returns the chains of a frame that count at its receiver: none where the frame has more parcels than
-/// there are orders; else each parcel that is exactly one chain, verifies, has as many signers as the
-/// round's number, of whom the sender is the last and the receiver none, and is the first such of its
-/// order. All other parcels are ignored. It fails only where memory was refused.
+/// Returns the chains of a frame that count at its receiver, in the order of their parcels: none where the
+/// frame has more parcels than there are orders; else each parcel that is exactly one chain, verifies, has
+/// as many signers as the round's number, of whom the sender is the last and the receiver none, and is the
+/// first such of its order. All other parcels are ignored.
+///
+/// # Errors
+///
+/// Only where memory was refused.
 pub fn count_frame(
     alloc: Global,
     header: &Header,
     delivery: &Delivery,
     frame: &[Vec<u8>],
 ) -> Result<Vec<SignedChain>, AllocError>
-    ensures { IfOk result (λ chains. AreCounted header.now delivery.now (map (λ p. p.items) frame.now) chains.items) }
+    // Which chains they are.
+    ensures counted { IfOk result (λ chains.
+        AreCounted header.now delivery.now (map (λ p. p.items) frame.now) chains.items) }
+    // And in which order.
+    ensures exact { IfOk result (λ chains.
+        chains.items ≡ counted_of header.now delivery.now (map (λ p. p.items) frame.now)) }
 {
-    one_chain_spelling();
     let mut counted = Vec::new(alloc);
     if frame.len() > usize::from(header.net().orders()) {
         return Ok(counted);

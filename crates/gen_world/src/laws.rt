@@ -1,7 +1,13 @@
 //! Laws of runs. Each is a function with an empty body whose contract is the law: a caller that calls it knows the law.
-ghost use Rattle.gen_world.specs.Theorem.{Agreement, AnyChoice, DecideAlike, EachDecides, EachIsChoice, ObeyCommander, Validity};
+ghost use Rattle.gen_net.specs.Network.{IsNetwork};
+ghost use Rattle.gen_world.specs.AnyChoice.{AnyChoice, EachIsChoice};
+ghost use Rattle.gen_world.specs.Counted.{CountsThese};
+ghost use Rattle.gen_world.specs.Derivables.{ProlongedByFaulty, SignedByFaulty};
+ghost use Rattle.gen_world.specs.Theorem.{Agreement, Case, DecideAlike, EachDecides, ObeyCommander, Premises, Validity};
+ghost use Rattle.gen_world.specs.TwoOrders.{BothAccepted, three, two_orders_case};
+ghost use Rattle.gen_world.specs.Verified.{TestsVerifying};
 ghost use Rattle.gen_world.specs.World.{OneWorld};
-ghost use Rattle.gen_world.specs.WorldFollows.{LieutenantsFollow, WorldIsSigned};
+ghost use Rattle.gen_world.specs.WorldFollows.{LieutenantsFollow, WorldIsSigned, WorldMeetsPremises};
 
 /// A plain scenario has one run: two runs of it have the same messages.
 pub fn one_world()
@@ -9,10 +15,12 @@ pub fn one_world()
 {}
 
 /// In the run of a plain scenario every general follows the algorithm SM of the paper of 1982, so it is a run for no faulty
-/// general: `lieutenants`, each with some pick; `signed`, all together, the commander with the scenario's order.
+/// general: `lieutenants`, each with some pick; `signed`, all together, the commander with the scenario's order; `premises`, it
+/// meets what Theorem 4 asks for wherever no two generals are more than d edges apart.
 pub fn world_follows()
     ensures lieutenants { LieutenantsFollow }
     ensures signed { WorldIsSigned }
+    ensures premises { WorldMeetsPremises }
 {}
 
 /// Theorem 4 of the paper of 1982 (section 5). In a run for a set of at most m faulty generals, where any two of the rest are
@@ -27,11 +35,34 @@ pub fn world_follows()
 ///   the empty set;
 /// - `each_is_choice`: every choice that a network can name is such a choice.
 pub fn theorem_four()
-    ensures agreement { Agreement }
-    ensures validity { Validity }
+    ensures agreement { (here : Case) → Premises here → Agreement here }
+    ensures validity { (here : Case) → Premises here → Validity here }
     ensures each_decides { EachDecides }
-    ensures decide_alike { DecideAlike }
-    ensures obey_commander { ObeyCommander }
-    ensures any_choice { AnyChoice }
+    ensures decide_alike { (here : Case) → Premises here → DecideAlike here }
+    ensures obey_commander { (here : Case) → Premises here → ObeyCommander here }
+    ensures any_choice { (here : Case) → Premises here → AnyChoice here }
     ensures each_is_choice { EachIsChoice }
+{}
+
+/// What faulty generals can send without forging a signature of the rest: `signed_by_faulty`, what they alone have signed;
+/// `prolonged_by_faulty`, a front of what somebody of the rest sent to one of them in an earlier round, lengthened by them alone.
+pub fn derivables()
+    ensures signed_by_faulty { SignedByFaulty }
+    ensures prolonged_by_faulty { ProlongedByFaulty }
+{}
+
+/// Theorem 4 speaks of runs with a traitor too. Here is one: of three generals, all neighbours (`network`), the faulty commander
+/// gives order 0 to one lieutenant and order 1 to the other; the run meets what the theorem asks for (`premises`), and each
+/// lieutenant accepts both orders (`both_accepted`).
+pub fn two_orders()
+    ensures network { IsNetwork three }
+    ensures premises { Premises two_orders_case }
+    ensures both_accepted { BothAccepted }
+{}
+
+/// Counting as a function: `verified`, the test whether a chain verifies says exactly whether it does; `counted`, the list of the
+/// chains of a frame that count has exactly those that count, of each order one.
+pub fn counting()
+    ensures verified { TestsVerifying }
+    ensures counted { CountsThese }
 {}

@@ -3,14 +3,16 @@ ghost use Rattle.std.specs.Prelude.{◌≡◌, ◌+◌, ◌<◌, ◌↔◌, ◌�
 ghost use Rattle.std.specs.List.{range_with_len};
 ghost use Rattle.gen_net.specs.Network.{Network, rounds, AreNeighbours, IsNetwork};
 ghost use Rattle.gen_net.specs.Run.{Run, IsRun};
+ghost use Rattle.gen_net.specs.Walks.{HasDiameter};
 ghost use Rattle.gen_net.specs.declared.message.Message.{Message as Sent};
 ghost use Rattle.gen_core.specs.Seeing.{HasSeen, AreArrivals};
 ghost use Rattle.gen_core.specs.Sending.{Appends};
 ghost use Rattle.gen_world.specs.World.{IsDecision, IsOutcome};
-ghost use Rattle.gen_world.specs.Rounds.{IsAmong, RelayedBy, IsReady, AreRelays, numbers_of};
+ghost use Rattle.gen_world.specs.WorldFollows.{AllDecide};
+ghost use Rattle.gen_world.specs.Loops.Rounds.{IsAmong, RelayedBy, IsReady, AreRelays, numbers_of};
 
 use crate::scenario::{Decision, PlainRun, PlainScenario};
-use gen_core::{Commander, Lieutenant, Seen, Send, sends};
+use gen_core::{Commander, Lieutenant, Outgoing, Seen, sends};
 use gen_net::{Message, Net};
 use gen_types::GeneralNo;
 use std::alloc::{AllocError, Global};
@@ -38,15 +40,19 @@ fn arrivals(
 }
 
 /// Appends what a general sends, as messages.
-fn push_sends(messages: &mut Vec<Message>, from: GeneralNo, out: &[Send]) -> Result<(), AllocError>
+fn push_sends(
+    messages: &mut Vec<Message>,
+    from: GeneralNo,
+    out: &[Outgoing],
+) -> Result<(), AllocError>
     ensures { OnOk result (Appends (IsAmong from out.now) messages.old.items messages.new.items) }
 {
     for part in out {
         messages.push(Message {
             from,
-            to: part.0,
-            order: part.1,
-            path: part.2,
+            to: part.to,
+            order: part.order,
+            path: part.path,
         })?;
     }
     Ok(())
@@ -128,15 +134,25 @@ fn decisions(
     lieutenants: &[Lieutenant],
 ) -> Result<Vec<Decision>, AllocError>
     requires { All (λ s. (s.gone ≡ s.rounds) × (s.me ≢ 0)) lieutenants.now }
-    ensures generals { IfOk result (λ out. map (λ decision. decision.0) out.items ≡ 0 ∷ numbers_of lieutenants.now) }
+    ensures generals { IfOk result (λ out. map (λ decision. decision.general) out.items ≡ 0 ∷ numbers_of lieutenants.now) }
     ensures each { IfOk result (λ out. (net : Network) (run : Run) → All (HasSeen net run) lieutenants.now → All (IsDecision net commander.now run) out.items) }
 {
     let mut out = Vec::new(alloc);
-    let (set, order) = commander.decide();
-    out.push((GeneralNo::commander(), set, order))?;
+    let (orders, order) = commander.decide();
+    let general = GeneralNo::commander();
+    out.push(Decision {
+        general,
+        orders,
+        order,
+    })?;
     for lieutenant in lieutenants {
-        let (set, order) = lieutenant.decide();
-        out.push((lieutenant.me(), set, order))?;
+        let general = lieutenant.me();
+        let (orders, order) = lieutenant.decide();
+        out.push(Decision {
+            general,
+            orders,
+            order,
+        })?;
     }
     Ok(out)
 }
@@ -144,7 +160,9 @@ fn decisions(
 /// The decisions of all generals in the run of the scenario, in which everybody follows the algorithm
 /// and of several chains of a new order the least sender's is picked. Only memory can be refused.
 pub fn run_plain(alloc: Global, scenario: &PlainScenario) -> Result<PlainRun, AllocError>
-    ensures { IfOk result (λ run. IsOutcome scenario.now.net scenario.now.order run) }
+    ensures outcome { IfOk result (λ run. IsOutcome scenario.now.net scenario.now.order run) }
+    // Where no two generals are more than d edges apart, all decide the commander's order.
+    ensures obeyed { HasDiameter scenario.now.net [] → IfOk result (λ run. AllDecide scenario.now.order run) }
 {
     let net = scenario.net();
     let commander = Commander::new(scenario.order());

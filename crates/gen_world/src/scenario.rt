@@ -24,8 +24,8 @@ impl Model for PlainScenario {
 }
 
 impl PlainScenario {
-    /// The scenario on this network in which the commander has this order, which must be one of the
-    /// network's.
+    /// Returns the scenario on this network in which the commander has this order, which must be one
+    /// of the network's.
     pub fn new(net: Net, order: OrderNo) -> PlainScenario
         requires { order < net.orders }
         ensures net { result.net ≡ net }
@@ -34,24 +34,41 @@ impl PlainScenario {
         PlainScenario { net, order }
     }
 
-    /// The network.
+    /// Returns the network.
     pub fn net(&self) -> &Net
         ensures { result.now ≡ self.now.net }
     {
         &self.net
     }
 
-    /// The commander's order.
+    /// Returns the commander's order.
     pub fn order(&self) -> OrderNo
         ensures value { result ≡ self.now.order }
         ensures known { result < self.now.net.orders }
     {
         self.order
     }
+
+    /// Returns the network and the commander's order.
+    pub fn into_parts(self) -> (Net, OrderNo)
+        ensures net { result.0 ≡ self.net }
+        ensures order { result.1 ≡ self.order }
+        ensures known { result.1 < self.net.orders }
+    {
+        (self.net, self.order)
+    }
 }
 
-/// What a general decides: his number, his set of orders and the order that he chose.
-pub type Decision = (GeneralNo, OrderSet, OrderNo);
+/// What a general decides.
+#[derive(Clone, Copy, Debug, PartialEq, Eq)]
+pub struct Decision {
+    /// The general.
+    pub general: GeneralNo,
+    /// The orders that he accepted; of the commander his own order alone.
+    pub orders: OrderSet,
+    /// The order that he chose from them.
+    pub order: OrderNo,
+}
 
 /// The decisions of the run of a plain scenario, in ascending order of generals.
 #[derive(Debug, Drop)]
@@ -61,7 +78,7 @@ pub struct PlainRun {
 
 impl Model for PlainRun {
     ghost use Rattle.std.specs.Prelude.{List};
-    ghost use Rattle.gen_world.specs.Scenario.{Decision};
+    ghost use Rattle.gen_world.specs.declared.scenario.Decision.{Decision};
 
     ghost Value = { List Decision };
 
@@ -69,14 +86,14 @@ impl Model for PlainRun {
 }
 
 impl PlainRun {
-    /// The run with these decisions.
+    /// Returns the run with these decisions.
     pub(crate) fn new(decisions: Vec<Decision>) -> PlainRun
         ensures { result ≡ decisions.items }
     {
         PlainRun { decisions }
     }
 
-    /// The decisions, in ascending order of generals.
+    /// Returns the decisions, in ascending order of generals.
     pub fn decisions(&self) -> &[Decision]
         ensures { result.now ≡ self.now }
     {

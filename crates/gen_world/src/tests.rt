@@ -18,8 +18,9 @@ fn decided(
     if order.get() < net.orders() {
         let scenario = PlainScenario::new(net, order);
         let run = run_plain(alloc, &scenario)?;
-        for (general, set, chosen) in run.decisions() {
-            decided.push((general.get(), set.len(), chosen.get()))?;
+        for decision in run.decisions() {
+            let size = decision.orders.len();
+            decided.push((decision.general.get(), size, decision.order.get()))?;
         }
     }
     Ok(decided)

@@ -1,7 +1,8 @@
 -- What the job decide makes of its input.
 use Rattle.std.specs.Prelude.{◌≡◌, ℕ, List, Option, Err}
 use Rattle.std.specs.Io.KnownBytes.{Appends}
-use Rattle.gen_world.specs.Scenario.{Plain, Decision}
+use Rattle.gen_world.specs.Scenario.{Plain}
+use Rattle.gen_world.specs.declared.scenario.Decision.{Decision}
 use Rattle.gen_world.specs.World.{IsOutcome}
 use Rattle.gen_report.specs.Spelling.{Spells}
 use Rattle.gen_report.specs.Reading.{scenario_of}

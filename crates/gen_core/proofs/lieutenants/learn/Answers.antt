@@ -1,12 +1,12 @@
 use Rattle.std.proofs.Common.{subst, take, Contains, ◌⊎◌}
 use Rattle.std.proofs.lemmas.List.{take_more, take_all}
 use Rattle.gen_types.specs.Ascending.{IsListOf}
-use Rattle.gen_core.specs.Best.{OrderIn}
+use Rattle.gen_core.specs.Loops.Picking.{OrderIn}
 use Rattle.gen_core.proofs.Best.{learn_start, learn_more}
 use Rattle.gen_core.proofs.lieutenants.learn.Goals as goal
 
 pub loop-chain-init : goal.loop-chain-init
-loop-chain-init c = learn_start c.args.known.now c.len-count.ensures.ascending
+loop-chain-init c = learn_start c.args.known.now c.len.ensures.ascending
 
 pub loop-chain-preserved : goal.loop-chain-preserved
 loop-chain-preserved c =

@@ -1,6 +1,6 @@
 use Rattle.std.proofs.Common.{take, Contains, ◌⊎◌}
 use Rattle.gen_types.specs.Ascending.{IsListOf}
-use Rattle.gen_core.specs.Best.{OrderIn}
+use Rattle.gen_core.specs.Loops.Picking.{OrderIn}
 use Rattle.gen_core.proofs.lieutenants.learn.Given as goal
 
 abbrev pub invariant-loop-chain : goal.invariant-loop-chain

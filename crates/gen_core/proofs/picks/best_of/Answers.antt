@@ -1,4 +1,4 @@
-use Rattle.gen_core.specs.Best.{better}
+use Rattle.gen_core.specs.Loops.Picking.{better}
 use Rattle.std.proofs.Common.{get_or, ◌<◌, ◌≡◌, true, take}
 use Rattle.std.proofs.lemmas.List.{take_more}
 use Rattle.gen_core.proofs.Best.{best_start, best_known, best_more}

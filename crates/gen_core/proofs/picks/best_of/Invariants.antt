@@ -1,5 +1,5 @@
 use Rattle.std.proofs.Common.{take}
-use Rattle.gen_core.specs.Best.{AreBest}
+use Rattle.gen_core.specs.Loops.Picking.{AreBest}
 use Rattle.gen_core.proofs.picks.best_of.Given as goal
 
 abbrev pub invariant-loop-chain : goal.invariant-loop-chain

@@ -1,5 +1,6 @@
 use Rattle.std.proofs.Common.{[]}
-use Rattle.gen_core.specs.Sending.{Appends, GoesUpTo}
+use Rattle.gen_core.specs.Sending.{Appends}
+use Rattle.gen_core.specs.Loops.Pushing.{GoesUpTo}
 use Rattle.gen_core.proofs.Due.{DueRows}
 use Rattle.gen_core.proofs.sending.sends.Given as goal
 

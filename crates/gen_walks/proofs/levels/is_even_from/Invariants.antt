@@ -1,5 +1,5 @@
 use Rattle.std.proofs.Common.{◌<◌, ℕ}
-use Rattle.gen_walks.specs.Levels.{IsSteep}
+use Rattle.gen_walks.specs.Loops.Checking.{IsSteep}
 use Rattle.gen_walks.proofs.levels.is_even_from.Given as goal
 
 abbrev pub invariant-loop-number : goal.invariant-loop-number

@@ -1,7 +1,7 @@
 use Rattle.std.proofs.Common.{arith, ◌≡◌, subst}
 use Rattle.gen_walks.specs.Walks.{AreJoined}
 use Rattle.gen_walks.specs.Levels.{level}
-use Rattle.gen_walks.specs.Search.{AreLevels, AreLevelRows}
+use Rattle.gen_walks.specs.Loops.Search.{AreLevels, AreLevelRows}
 use Rattle.gen_walks.proofs.Rows.{no_row, row_added}
 use Rattle.gen_walks.proofs.search.level_rows.Goals as goal
 

@@ -1,4 +1,4 @@
-use Rattle.gen_walks.specs.Search.{AreLevelRows}
+use Rattle.gen_walks.specs.Loops.Search.{AreLevelRows}
 use Rattle.gen_walks.proofs.search.level_rows.Given as goal
 
 abbrev pub invariant-loop-number : goal.invariant-loop-number

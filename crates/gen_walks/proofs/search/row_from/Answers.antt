@@ -1,7 +1,7 @@
 use Rattle.std.proofs.Common.{◌∙◌}
 use Rattle.gen_walks.specs.Walks.{AreJoined}
 use Rattle.gen_walks.specs.Levels.{level}
-use Rattle.gen_walks.specs.Search.{AreLevels}
+use Rattle.gen_walks.specs.Loops.Search.{AreLevels}
 use Rattle.gen_walks.proofs.Distances.{distances}
 use Rattle.gen_walks.proofs.Rows.{row_at}
 use Rattle.gen_walks.proofs.search.row_from.Goals as goal

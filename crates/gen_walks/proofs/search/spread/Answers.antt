@@ -2,7 +2,7 @@ use Rattle.std.proofs.Common.{arith, ◌≡◌, length, ℕ, ap, sym, ◌∙◌,
 use Rattle.std.proofs.Math.ListN.{length-set}
 use Rattle.gen_walks.specs.Walks.{AreJoined}
 use Rattle.gen_walks.specs.Levels.{level}
-use Rattle.gen_walks.specs.Search.{IsNext}
+use Rattle.gen_walks.specs.Loops.Search.{IsNext}
 use Rattle.gen_walks.proofs.Round.{taken, passed}
 use Rattle.gen_walks.proofs.search.spread.Goals as goal
 use Rattle.gen_walks.proofs.search.spread.Goals.{then-found-level, else-found-level}

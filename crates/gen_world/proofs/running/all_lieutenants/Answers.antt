@@ -1,6 +1,6 @@
 use Rattle.std.proofs.Common.{◌≡◌, ◌≢◌, ◌∙◌, arith}
 use Rattle.std.proofs.lemmas.List.Elements.{All-push}
-use Rattle.gen_world.specs.Rounds.{IsReady}
+use Rattle.gen_world.specs.Loops.Rounds.{IsReady}
 use Rattle.gen_world.proofs.Rounding.{numbers_pushed}
 use Rattle.gen_world.proofs.running.all_lieutenants.Goals as goal
 

@@ -1,7 +1,7 @@
 use Rattle.std.proofs.Common.{◌≡◌, ◌∷◌, All}
 use Rattle.std.specs.List.{range_with_len}
 use Rattle.gen_net.specs.Run.{Run, IsRun}
-use Rattle.gen_world.specs.Rounds.{IsReady, numbers_of}
+use Rattle.gen_world.specs.Loops.Rounds.{IsReady, numbers_of}
 use Rattle.gen_world.proofs.running.all_lieutenants.Given as goal
 
 abbrev pub invariant-loop-number : goal.invariant-loop-number

@@ -11,11 +11,11 @@ loop-lieutenant-preserved c =
     let i = c.loop-lieutenant.lieutenant-index in
     let d = c.lieutenant-item.result in
     let out = c.loop-lieutenant.out.items in
-    let me : c.me.result ≡ (get_or states i d).me = c.me.ensures ∙ ap (λ (s : State). s.me) c.lieutenant-item.is in
+    let me : c.me-general.result ≡ (get_or states i d).me = c.me-general.ensures ∙ ap (λ (s : State). s.me) c.lieutenant-item.is in
     let lieutenant = All-get_or (λ (s : State). (s.gone ≡ s.rounds) × (s.me ≢ 0)) states i d c.loop-lieutenant-test.true c.requires in
     record {
       generals = rw c.in_ok-push-2.ensures.items (generals_pushed out _ states i d c.loop-lieutenant.invariant.generals c.loop-lieutenant-test.true me);
       each = λ net run saw.
           let here : HasSeen net run d = rw c.lieutenant-item.is (All-get_or (HasSeen net run) states i d c.loop-lieutenant-test.true saw) in
-          rw c.in_ok-push-2.ensures.items (All-push (IsDecision net c.args.commander.now run) out _ (c.loop-lieutenant.invariant.each net run saw) (lieutenants_decision net c.args.commander.now run c.me.result _ _ (λ e. lieutenant.1 (sym me ∙ e)) (rw c.me.ensures (c.decide-set-in-loop-lieutenant.ensures net run here))));
+          rw c.in_ok-push-2.ensures.items (All-push (IsDecision net c.args.commander.now run) out _ (c.loop-lieutenant.invariant.each net run saw) (lieutenants_decision net c.args.commander.now run c.me-general.result _ _ (λ e. lieutenant.1 (sym me ∙ e)) (rw c.me-general.ensures (c.decide-orders-in-loop-lieutenant.ensures net run here))));
     }

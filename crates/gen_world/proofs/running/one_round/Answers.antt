@@ -1,6 +1,6 @@
 use Rattle.std.proofs.Common.{◌+◌, ◌<◌, ◌≤◌, length, All, take, subst, ◌∙◌, arith}
 use Rattle.std.proofs.lemmas.List.{take_all, length-map}
-use Rattle.gen_world.specs.Rounds.{IsReady, AreRelays, numbers_of}
+use Rattle.gen_world.specs.Loops.Rounds.{IsReady, AreRelays, numbers_of}
 use Rattle.gen_world.proofs.Rounding.{here_of_rest, rest_after, done_after, numbers_set, numbers_taken, relays_more, ready_next}
 use Rattle.gen_world.proofs.running.one_round.Goals as goal
 

@@ -1,5 +1,5 @@
 use Rattle.std.proofs.Common.{◌≡◌, ◌+◌, All, take, drop}
-use Rattle.gen_world.specs.Rounds.{IsReady, AreRelays, numbers_of}
+use Rattle.gen_world.specs.Loops.Rounds.{IsReady, AreRelays, numbers_of}
 use Rattle.gen_world.proofs.running.one_round.Given as goal
 
 abbrev pub invariant-loop-lieutenant : goal.invariant-loop-lieutenant

@@ -4,8 +4,10 @@ use Rattle.std.proofs.lemmas.List.Elements.{All-weaker}
 use Rattle.gen_net.specs.Network.{rounds}
 use Rattle.gen_net.specs.Run.{Run}
 use Rattle.gen_core.specs.Seeing.{HasSeen}
-use Rattle.gen_world.specs.Rounds.{IsReady, AreRelays, numbers_of}
+use Rattle.gen_world.specs.World.{IsOutcome}
+use Rattle.gen_world.specs.Loops.Rounds.{IsReady, AreRelays, numbers_of}
 use Rattle.gen_world.proofs.Growing.{AreNext, first_round, world_more, world_of}
+use Rattle.gen_world.proofs.Obeying.{all_obey}
 use Rattle.gen_world.proofs.Rounding.{written_back, next_of_relays, ready_longer}
 use Rattle.gen_world.proofs.running.run_plain.Goals as goal
 
@@ -46,10 +48,13 @@ returns c =
     let states = c.loop-gone.lieutenants.items in
     let done : rounds net ≤ c.loop-gone.gone + 1 = omega (arith, c.rounds-gone-end.ensures.value) in
     let saw : All (HasSeen net run) c.deref-2.result.now = rw c.deref-2.ensures.value (All-weaker (IsReady net run c.loop-gone.gone) (HasSeen net run) (λ s r. r.seen) states c.loop-gone.invariant.ready) in
-    rw (← c.net-net.ensures, ← c.order.ensures.value, ← c.new-commander.ensures, c.new.ensures)
-    (record {
+    let outcome : IsOutcome net order c.in_ok-decisions.decisions.items = record {
       run = run;
       world = world_of net order run (c.loop-gone.gone + 1) done c.loop-gone.invariant.world;
       generals = c.in_ok-decisions.ensures.generals ∙ (ap (λ ss. 0 ∷ numbers_of ss) c.deref-2.ensures.value ∙ c.loop-gone.invariant.numbers);
       each = c.in_ok-decisions.ensures.each net run saw;
+    } in
+    rw (← c.net-net.ensures, ← c.order.ensures.value, ← c.new-commander.ensures, c.new.ensures) (record {
+      outcome = outcome;
+      obeyed = λ near. all_obey net order c.in_ok-decisions.decisions.items outcome near;
     })

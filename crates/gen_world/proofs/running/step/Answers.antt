@@ -1,7 +1,7 @@
 use Rattle.std.proofs.Common.{◌+◌, subst}
 use Rattle.gen_core.specs.Seeing.{AreArrivals, AreAdds}
 use Rattle.gen_core.specs.Sending.{AreSends, Appends, IsDue}
-use Rattle.gen_world.specs.Rounds.{IsAmong, RelayedBy}
+use Rattle.gen_world.specs.Loops.Rounds.{IsAmong, RelayedBy}
 use Rattle.gen_world.proofs.Arriving.{appended_same, relayed}
 use Rattle.gen_world.proofs.running.step.Goals as goal
 

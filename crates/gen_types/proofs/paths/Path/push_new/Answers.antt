@@ -1,4 +1,4 @@
-use Rattle.std.proofs.Common.{◌≡◌, ◌<◌, Contains, length, arith}
+use Rattle.std.proofs.Common.{Contains, arith}
 use Rattle.gen_types.specs.PathLaws.{length_of_take}
 use Rattle.gen_types.proofs.Pushing.{pushed}
 use Rattle.gen_types.proofs.paths.Path.push_new.Goals as goal

@@ -1,0 +1,3 @@
+-- What loops and private functions keep on their way: no public contract speaks of it.
+pub mod Picking
+pub mod Pushing

@@ -1,4 +1,0 @@
-use Rattle.gen_types.proofs.sets.GeneralSet.insert.Goals as goal
-
-pub returns : goal.returns
-returns c = rw (← c.self.view_is, ← c.get.ensures.value) c.insert.ensures

@@ -1,0 +1,3 @@
+-- Definitions that only loops and the functions inside them speak of.
+pub mod Listing
+pub mod Rounds
