@@ -7,6 +7,8 @@ use Rattle.std.proofs.lemmas.List.Concat.{flat_map-cons}
 use Rattle.std.proofs.lemmas.List.Elements.{All-contains}
 use Rattle.std.proofs.lemmas.Bool.{leb-true, le-leb, ltb-true, lt-ltb, eqb-true}
 use Rattle.std.proofs.Math.Bool.{and-eq-true_iff}
+use Rattle.std.proofs.Math.Nat.{mul-suc}
+use Rattle.gen_types.specs.declared.heights.TreeHeight.{TreeHeight}
 use Rattle.gen_types.specs.Ends.{BeginsWith}
 use Rattle.gen_types.specs.Reading.{◌>>=◌, check}
 use Rattle.gen_types.specs.Bytes.{byte_at, bytes_at, many_at}
@@ -18,7 +20,7 @@ use Rattle.gen_tree.specs.Sizes.{signature_length}
 use Rattle.gen_chain.specs.declared.fault.ChainFault.{ChainFault}
 use Rattle.gen_chain.specs.declared.fault.ChainFault.TheVariants.{Truncated, OrderRange, SignerCount, BadSigner, NotFromCommander}
 use Rattle.gen_chain.specs.declared.chains.Signer.{Signer}
-use Rattle.gen_chain.specs.Chain.{Chain, IsSignedChain, AreSignatures, greatest_order, most_signers, signed_path, signer_length, signer_spelling, chain_spelling, chain_length}
+use Rattle.gen_chain.specs.Chain.{Chain, IsSignedChain, AreSignatures, greatest_order, most_signers, signed_path, signer_length, signer_spelling, chain_spelling}
 use Rattle.gen_chain.specs.ChainReading.{repeats, begins_with_commander, signer_at, ChainFront, chain_front_at, signers_at, chain_at}
 use Rattle.gen_chain.proofs.DistinctPaths.{AreDistinct, distinct_from, repeats_not}
 use Rattle.gen_chain.proofs.Parts.{byte_parts, bytes_parts, ReadsParts, ManyParts, many_parts, takes_by}
@@ -26,51 +28,51 @@ use Rattle.gen_chain.proofs.Parts.{byte_parts, bytes_parts, ReadsParts, ManyPart
 -- ---- signers
 
 -- a signer who can be written
-pub record CanStand (s : Signer) : Type 0 where
+pub record CanStand (height : TreeHeight) (s : Signer) : Type 0 where
   pub below : s.general < 16
-  pub wide : length s.signature ≡ signature_length
+  pub wide : length s.signature ≡ signature_length height
 
-signer_parts : ReadsParts signer_at signer_spelling CanStand
+signer_parts : (height : TreeHeight) → ReadsParts (signer_at height) signer_spelling (CanStand height)
 unfolding signer_at
-signer_parts bytes x e =
-    after (byte_at Truncated bytes) (λ general. bytes_at Truncated signature_length general.1 >>= λ signature. check (nat_lt general.0 16) BadSigner >>= λ known. Ok (record { general = general.0; signature = signature.0 }, signature.1)) x e (λ general r0 e0.
-    after (bytes_at Truncated signature_length general.1) (λ signature. check (nat_lt general.0 16) BadSigner >>= λ known. Ok (record { general = general.0; signature = signature.0 }, signature.1)) x e0 (λ signature r1 e1.
+signer_parts height bytes x e =
+    after (byte_at Truncated bytes) (λ general. bytes_at Truncated (signature_length height) general.1 >>= λ signature. check (nat_lt general.0 16) BadSigner >>= λ known. Ok (record { general = general.0; signature = signature.0 }, signature.1)) x e (λ general r0 e0.
+    after (bytes_at Truncated (signature_length height) general.1) (λ signature. check (nat_lt general.0 16) BadSigner >>= λ known. Ok (record { general = general.0; signature = signature.0 }, signature.1)) x e0 (λ signature r1 e1.
     after_check (nat_lt general.0 16) BadSigner (λ known. Ok (record { general = general.0; signature = signature.0 }, signature.1)) x e1 (λ known e2.
     let t0 : bytes ≡ general.0 ∷ general.1 = byte_parts Truncated bytes general.0 general.1 r0 in
-    let t1 = bytes_parts Truncated signature_length general.1 signature.0 signature.1 r1 in
-    at_end {F = ChainFault} (λ (y : Signer × List ℕ). (bytes ≡ signer_spelling y.0 ++ y.1) × CanStand y.0) (record { general = general.0; signature = signature.0 }, signature.1) x e2
+    let t1 = bytes_parts Truncated (signature_length height) general.1 signature.0 signature.1 r1 in
+    at_end {F = ChainFault} (λ (y : Signer × List ℕ). (bytes ≡ signer_spelling y.0 ++ y.1) × CanStand height y.0) (record { general = general.0; signature = signature.0 }, signature.1) x e2
     (t0 ∙ ap (λ (t : List ℕ). general.0 ∷ t) t1.0, record { below = ltb-true _ _ known; wide = t1.1 }))))
 
-signer_again : (s : Signer) (rest : List ℕ) → CanStand s → signer_at (signer_spelling s ++ rest) ≡ Ok (s, rest)
+signer_again : (height : TreeHeight) (s : Signer) (rest : List ℕ) → CanStand height s → signer_at height (signer_spelling s ++ rest) ≡ Ok (s, rest)
 unfolding signer_at
-signer_again s rest fits =
+signer_again height s rest fits =
     let known : nat_lt s.general 16 ≡ true = lt-ltb _ _ fits.below in
-    rw (bytes_again Truncated signature_length s.signature rest fits.wide, known) refl
+    rw (bytes_again Truncated (signature_length height) s.signature rest fits.wide, known) refl
 
-signers_read : Reads signer_at signer_spelling CanStand
-signers_read = record {
-  takes = λ bytes x are e. let t = signer_parts bytes x e in (takes_by bytes (signer_spelling x.0) x.1 are t.0, t.1);
-  again = signer_again;
+signers_read : (height : TreeHeight) → Reads (signer_at height) signer_spelling (CanStand height)
+signers_read height = record {
+  takes = λ bytes x are e. let t = signer_parts height bytes x e in (takes_by bytes (signer_spelling x.0) x.1 are t.0, t.1);
+  again = signer_again height;
 }
 
 -- all of them can be written where the generals are below 16 and the signatures have their bytes
-abbrev pub CanAllStand : List Signer → Type 0
-CanAllStand signers = AllByRecursion CanStand signers
+abbrev pub CanAllStand : TreeHeight → List Signer → Type 0
+CanAllStand height signers = AllByRecursion (CanStand height) signers
 
-all_wide : (signers : List Signer) → CanAllStand signers → AreSignatures signers
-all_wide [] all = tt
-all_wide (s ∷ signers) all = (all.0.wide, all_wide signers all.1)
+all_wide : (height : TreeHeight) (signers : List Signer) → CanAllStand height signers → AreSignatures height signers
+all_wide height [] all = tt
+all_wide height (s ∷ signers) all = (all.0.wide, all_wide height signers all.1)
 
-each_below : (signers : List Signer) → CanAllStand signers → (g : ℕ) → Contains (signed_path signers) g → g < 16
-each_below [] all g h = absurd (Contains_nil g h)
-each_below (s ∷ signers) all g h = elim (Contains_cases s.general g (signed_path signers) h) [
+each_below : (height : TreeHeight) (signers : List Signer) → CanAllStand height signers → (g : ℕ) → Contains (signed_path signers) g → g < 16
+each_below height [] all g h = absurd (Contains_nil g h)
+each_below height (s ∷ signers) all g h = elim (Contains_cases s.general g (signed_path signers) h) [
   | inl e ↦ subst (λ k. k < 16) e all.0.below
-  | inr k ↦ each_below signers all.1 g k
+  | inr k ↦ each_below height signers all.1 g k
 ]
 
-all_stand : (signers : List Signer) → ((g : ℕ) → Contains (signed_path signers) g → g < 16) → AreSignatures signers → CanAllStand signers
-all_stand [] below wide = tt
-all_stand (s ∷ signers) below wide = (record { below = below s.general (Contains_here s.general (signed_path signers)); wide = wide.0 }, all_stand signers (λ g h. below g (Contains_there s.general g (signed_path signers) h)) wide.1)
+all_stand : (height : TreeHeight) (signers : List Signer) → ((g : ℕ) → Contains (signed_path signers) g → g < 16) → AreSignatures height signers → CanAllStand height signers
+all_stand height [] below wide = tt
+all_stand height (s ∷ signers) below wide = (record { below = below s.general (Contains_here s.general (signed_path signers)); wide = wide.0 }, all_stand height signers (λ g h. below g (Contains_there s.general g (signed_path signers) h)) wide.1)
 
 -- ---- who make a path
 
@@ -85,27 +87,27 @@ no_repeat : (b : Bool) → not b ≡ true → b ≡ false
 no_repeat true e = absurd cc
 no_repeat false e = refl
 
-record SignersParts (count : ℕ) (bytes : List ℕ) (x : List Signer × List ℕ) : Type 0 where
-  many : ManyParts signer_spelling CanStand bytes count x
+record SignersParts (height : TreeHeight) (count : ℕ) (bytes : List ℕ) (x : List Signer × List ℕ) : Type 0 where
+  many : ManyParts signer_spelling (CanStand height) bytes count x
   distinct : AreDistinct (signed_path x.0)
   first : BeginsWith (signed_path x.0) (0 ∷ [])
 
-signers_parts : (count : ℕ) (bytes : List ℕ) (x : List Signer × List ℕ) → signers_at count bytes ≡ Ok x → SignersParts count bytes x
+signers_parts : (height : TreeHeight) (count : ℕ) (bytes : List ℕ) (x : List Signer × List ℕ) → signers_at height count bytes ≡ Ok x → SignersParts height count bytes x
 unfolding signers_at
-signers_parts count bytes x e =
-    after (many_at signer_at count bytes) (λ signers. check (not (repeats (signed_path signers.0))) BadSigner >>= λ distinct. check (begins_with_commander (signed_path signers.0)) NotFromCommander >>= λ first. Ok signers) x e (λ signers r0 e0.
+signers_parts height count bytes x e =
+    after (many_at (signer_at height) count bytes) (λ signers. check (not (repeats (signed_path signers.0))) BadSigner >>= λ distinct. check (begins_with_commander (signed_path signers.0)) NotFromCommander >>= λ first. Ok signers) x e (λ signers r0 e0.
     after_check (not (repeats (signed_path signers.0))) BadSigner (λ distinct. check (begins_with_commander (signed_path signers.0)) NotFromCommander >>= λ first. Ok signers) x e0 (λ distinct e1.
     after_check (begins_with_commander (signed_path signers.0)) NotFromCommander (λ first. Ok signers) x e1 (λ first e2.
-    at_end {F = ChainFault} (SignersParts count bytes) signers x e2 (record {
-      many = many_parts signer_at signer_spelling CanStand signer_parts count bytes signers r0;
+    at_end {F = ChainFault} (SignersParts height count bytes) signers x e2 (record {
+      many = many_parts (signer_at height) signer_spelling (CanStand height) (signer_parts height) count bytes signers r0;
       distinct = distinct_from (signed_path signers.0) (no_repeat (repeats (signed_path signers.0)) distinct);
       first = from_commander (signed_path signers.0) first;
     }))))
 
-signers_again : (signers : List Signer) (rest : List ℕ) → CanAllStand signers → AreDistinct (signed_path signers) → BeginsWith (signed_path signers) (0 ∷ []) → signers_at (length signers) (flat_map signer_spelling signers ++ rest) ≡ Ok (signers, rest)
+signers_again : (height : TreeHeight) (signers : List Signer) (rest : List ℕ) → CanAllStand height signers → AreDistinct (signed_path signers) → BeginsWith (signed_path signers) (0 ∷ []) → signers_at height (length signers) (flat_map signer_spelling signers ++ rest) ≡ Ok (signers, rest)
 unfolding signers_at
-signers_again signers rest stand distinct first =
-    rw (many_again signer_at signer_spelling CanStand signers_read signers rest stand, repeats_not (signed_path signers) distinct, commander_first (signed_path signers) first) refl
+signers_again height signers rest stand distinct first =
+    rw (many_again (signer_at height) signer_spelling (CanStand height) (signers_read height) signers rest stand, repeats_not (signed_path signers) distinct, commander_first (signed_path signers) first) refl
 
 -- ---- what stands before them
 
@@ -142,60 +144,63 @@ front_again order count rest low some few =
 
 -- ---- how many bytes a chain has
 
-pub length-signers : (signers : List Signer) → AreSignatures signers → length (flat_map signer_spelling signers) ≡ signer_length * length signers
-length-signers [] wide = refl
-length-signers (s ∷ signers) wide =
-    let more = length-signers signers wide.1 in
-    let first : length s.signature ≡ signature_length = wide.0 in
-    let all : length (flat_map signer_spelling (s ∷ signers)) ≡ suc (length s.signature) + length (flat_map signer_spelling signers) = ap length (flat_map-cons signer_spelling s signers) ∙ length-append (signer_spelling s) (flat_map signer_spelling signers) in
-    omega (arith, all, more, first)
+none_times : (w : ℕ) → 0 ≡ w * 0
+none_times w = omega arith
 
-pub length-chain : (c : Chain) → IsSignedChain c → length (chain_spelling c) ≡ chain_length c
-length-chain c is = let signers = length-signers c.signers is.wide in omega (arith, signers)
+one_more : (w l rest n : ℕ) → l ≡ w → rest ≡ (1 + w) * n → suc l + rest ≡ (1 + w) * (suc n)
+one_more w l rest n first more = omega (arith, mul-suc (1 + w) n, first, more)
+
+pub length-signers : (height : TreeHeight) (signers : List Signer) → AreSignatures height signers → length (flat_map signer_spelling signers) ≡ signer_length height * length signers
+length-signers height [] wide = none_times (signer_length height)
+length-signers height (s ∷ signers) wide =
+    let more = length-signers height signers wide.1 in
+    let first : length s.signature ≡ signature_length height = wide.0 in
+    let all : length (flat_map signer_spelling (s ∷ signers)) ≡ suc (length s.signature) + length (flat_map signer_spelling signers) = ap length (flat_map-cons signer_spelling s signers) ∙ length-append (signer_spelling s) (flat_map signer_spelling signers) in
+    all ∙ one_more (signature_length height) (length s.signature) (length (flat_map signer_spelling signers)) (length signers) first more
 
 -- ---- the chain
 
 -- what was read makes a chain
-pub is_chain : (bytes : List ℕ) (front : ChainFront) (rest : List ℕ) (signers : List Signer) (after_them : List ℕ) → chain_front_at bytes ≡ Ok (front, rest) → signers_at front.count rest ≡ Ok (signers, after_them) → IsSignedChain (record { order = front.order; signers = signers })
-is_chain bytes front rest signers after_them e s =
+pub is_chain : (height : TreeHeight) (bytes : List ℕ) (front : ChainFront) (rest : List ℕ) (signers : List Signer) (after_them : List ℕ) → chain_front_at bytes ≡ Ok (front, rest) → signers_at height front.count rest ≡ Ok (signers, after_them) → IsSignedChain height (record { order = front.order; signers = signers })
+is_chain height bytes front rest signers after_them e s =
     let t0 = front_parts bytes (front, rest) e in
-    let t1 = signers_parts front.count rest (signers, after_them) s in
+    let t1 = signers_parts height front.count rest (signers, after_them) s in
     let count_is : length signers ≡ front.count = t1.many.count_is in
     record {
       order = t0.order;
       some = omega (arith, count_is, t0.some);
       few = omega (arith, count_is, t0.few);
-      below = All_of (λ g. g < 16) (signed_path signers) (each_below signers t1.many.fit);
+      below = All_of (λ g. g < 16) (signed_path signers) (each_below height signers t1.many.fit);
       distinct = t1.distinct;
       from_commander = t1.first;
-      wide = all_wide signers t1.many.fit;
+      wide = all_wide height signers t1.many.fit;
     }
 
-pub chain_parts : ReadsParts chain_at chain_spelling IsSignedChain
+pub chain_parts : (height : TreeHeight) → ReadsParts (chain_at height) chain_spelling (IsSignedChain height)
 unfolding chain_at
-chain_parts bytes x e =
-    after (chain_front_at bytes) (λ front. check (nat_le (signer_length * front.0.count) (length front.1)) Truncated >>= λ enough. signers_at front.0.count front.1 >>= λ signers. Ok (record { order = front.0.order; signers = signers.0 }, signers.1)) x e (λ front r0 e0.
-    after_check (nat_le (signer_length * front.0.count) (length front.1)) Truncated (λ enough. signers_at front.0.count front.1 >>= λ signers. Ok (record { order = front.0.order; signers = signers.0 }, signers.1)) x e0 (λ enough e1.
-    after (signers_at front.0.count front.1) (λ signers. Ok (record { order = front.0.order; signers = signers.0 }, signers.1)) x e1 (λ signers r2 e2.
+chain_parts height bytes x e =
+    after (chain_front_at bytes) (λ front. check (nat_le (signer_length height * front.0.count) (length front.1)) Truncated >>= λ enough. signers_at height front.0.count front.1 >>= λ signers. Ok (record { order = front.0.order; signers = signers.0 }, signers.1)) x e (λ front r0 e0.
+    after_check (nat_le (signer_length height * front.0.count) (length front.1)) Truncated (λ enough. signers_at height front.0.count front.1 >>= λ signers. Ok (record { order = front.0.order; signers = signers.0 }, signers.1)) x e0 (λ enough e1.
+    after (signers_at height front.0.count front.1) (λ signers. Ok (record { order = front.0.order; signers = signers.0 }, signers.1)) x e1 (λ signers r2 e2.
     let t0 = front_parts bytes front r0 in
-    let t1 = signers_parts front.0.count front.1 signers r2 in
+    let t1 = signers_parts height front.0.count front.1 signers r2 in
     let start : bytes ≡ front.0.order ∷ length signers.0 ∷ front.1 = rw t1.many.count_is t0.parts in
-    at_end {F = ChainFault} (λ (y : Chain × List ℕ). (bytes ≡ chain_spelling y.0 ++ y.1) × IsSignedChain y.0) (record { order = front.0.order; signers = signers.0 }, signers.1) x e2 (
+    at_end {F = ChainFault} (λ (y : Chain × List ℕ). (bytes ≡ chain_spelling y.0 ++ y.1) × IsSignedChain height y.0) (record { order = front.0.order; signers = signers.0 }, signers.1) x e2 (
       start ∙ ap (λ (t : List ℕ). front.0.order ∷ length signers.0 ∷ t) t1.many.parts,
-      is_chain bytes front.0 front.1 signers.0 signers.1 r0 r2,
+      is_chain height bytes front.0 front.1 signers.0 signers.1 r0 r2,
     ))))
 
-chain_again : (c : Chain) (rest : List ℕ) → IsSignedChain c → chain_at (chain_spelling c ++ rest) ≡ Ok (c, rest)
+chain_again : (height : TreeHeight) (c : Chain) (rest : List ℕ) → IsSignedChain height c → chain_at height (chain_spelling c ++ rest) ≡ Ok (c, rest)
 unfolding chain_at
-chain_again c rest is =
-    let stand = all_stand c.signers (λ g h. All-contains (λ k. k < 16) (signed_path c.signers) g is.below h) is.wide in
-    let long : signer_length * length c.signers ≤ length (flat_map signer_spelling c.signers ++ rest) = omega (arith, length-signers c.signers is.wide, length-append (flat_map signer_spelling c.signers) rest) in
-    let enough : nat_le (signer_length * length c.signers) (length (flat_map signer_spelling c.signers ++ rest)) ≡ true = le-leb _ _ long in
-    rw (front_again c.order (length c.signers) (flat_map signer_spelling c.signers ++ rest) is.order is.some is.few, enough, signers_again c.signers rest stand is.distinct is.from_commander) refl
+chain_again height c rest is =
+    let stand = all_stand height c.signers (λ g h. All-contains (λ k. k < 16) (signed_path c.signers) g is.below h) is.wide in
+    let long : signer_length height * length c.signers ≤ length (flat_map signer_spelling c.signers ++ rest) = omega (arith, length-signers height c.signers is.wide, length-append (flat_map signer_spelling c.signers) rest) in
+    let enough : nat_le (signer_length height * length c.signers) (length (flat_map signer_spelling c.signers ++ rest)) ≡ true = le-leb _ _ long in
+    rw (front_again c.order (length c.signers) (flat_map signer_spelling c.signers ++ rest) is.order is.some is.few, enough, signers_again height c.signers rest stand is.distinct is.from_commander) refl
 
 -- so a chain can be a field of longer bytes
-pub chains_read : Reads chain_at chain_spelling IsSignedChain
-chains_read = record {
-  takes = λ bytes x are e. let t = chain_parts bytes x e in (takes_by bytes (chain_spelling x.0) x.1 are t.0, t.1);
-  again = chain_again;
+pub chains_read : (height : TreeHeight) → Reads (chain_at height) chain_spelling (IsSignedChain height)
+chains_read height = record {
+  takes = λ bytes x are e. let t = chain_parts height bytes x e in (takes_by bytes (chain_spelling x.0) x.1 are t.0, t.1);
+  again = chain_again height;
 }

@@ -2,4 +2,5 @@ pub mod ChainLaws
 pub mod DistinctPaths
 mod LongerChains
 pub mod Parts
+mod Room
 mod SignedSoFar

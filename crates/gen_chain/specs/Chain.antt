@@ -1,6 +1,7 @@
 -- Signed chains, and the one spelling of each in bytes.
-use Rattle.std.specs.Prelude.{◌≡◌, ◌≢◌, ◌≤◌, ◌<◌, ℕ, ◌+◌, ◌*◌, List, [], ◌∷◌, length, map, All, AllPairs}
+use Rattle.std.specs.Prelude.{◌≡◌, ◌≢◌, ◌≤◌, ◌<◌, ℕ, ◌+◌, List, [], ◌∷◌, length, map, All, AllPairs}
 use Rattle.std.specs.List.{flat_map, AllByRecursion}
+use Rattle.gen_types.specs.declared.heights.TreeHeight.{TreeHeight}
 use Rattle.gen_types.specs.Ends.{BeginsWith}
 use Rattle.gen_tree.specs.Sizes.{signature_length}
 use Rattle.gen_chain.specs.declared.chains.Signer.{Signer}
@@ -21,30 +22,30 @@ most_signers = 16
 abbrev pub signed_path : List Signer → List ℕ
 signed_path signers = map (λ s. s.general) signers
 
--- each signature has its bytes
-abbrev pub AreSignatures : List Signer → Type 0
-AreSignatures signers = AllByRecursion (λ s. length s.signature ≡ signature_length) signers
+-- each signature has as many bytes as those by trees of this height
+abbrev pub AreSignatures : TreeHeight → List Signer → Type 0
+AreSignatures height signers = AllByRecursion (λ s. length s.signature ≡ signature_length height) signers
 
--- What each chain keeps: its order is not too great, and its signers are distinct generals of whom the commander is the first.
-pub record IsSignedChain (c : Chain) : Type 0 where
+-- What each chain keeps: its order is not too great, its signers are distinct generals of whom the commander is the first, and
+-- they signed by trees of one height.
+pub record IsSignedChain (height : TreeHeight) (c : Chain) : Type 0 where
   pub order : c.order ≤ greatest_order
   pub some : 1 ≤ length c.signers
   pub few : length c.signers ≤ most_signers
   pub below : All (λ g. g < 16) (signed_path c.signers)
   pub distinct : AllPairs (λ g h. g ≢ h) (signed_path c.signers)
   pub from_commander : BeginsWith (signed_path c.signers) (0 ∷ [])
-  pub wide : AreSignatures c.signers
+  pub wide : AreSignatures height c.signers
 
 -- the bytes of a signer: a byte with his number, and his signature
-abbrev pub signer_length : ℕ
-signer_length = 1 + signature_length
+abbrev pub signer_length : TreeHeight → ℕ
+signer_length height = 1 + signature_length height
 
 abbrev pub signer_spelling : Signer → List ℕ
 signer_spelling s = s.general ∷ s.signature
 
--- the bytes before the signers: the order, and how many signed
-abbrev pub front_length : ℕ
-front_length = 2
+abbrev pub signers_length : List Signer → ℕ
+signers_length signers = length (flat_map signer_spelling signers)
 
 -- the one spelling of a chain: the order, how many signed, and each of them
 abbrev pub chain_spelling : Chain → List ℕ
@@ -52,4 +53,4 @@ chain_spelling c = c.order ∷ length c.signers ∷ flat_map signer_spelling c.s
 
 -- how many bytes that is
 abbrev pub chain_length : Chain → ℕ
-chain_length c = front_length + signer_length * length c.signers
+chain_length c = length (chain_spelling c)

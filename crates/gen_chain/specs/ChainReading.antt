@@ -1,5 +1,6 @@
 -- Reading a chain from left to right, with the first fault that is met.
 use Rattle.std.specs.Prelude.{ℕ, ◌*◌, Bool, false, not, ◌&&◌, ◌||◌, ◌==◌, List, [], ◌∷◌, length, Result, Ok, nat_le, nat_lt}
+use Rattle.gen_types.specs.declared.heights.TreeHeight.{TreeHeight}
 use Rattle.gen_types.specs.Reading.{◌>>=◌, check}
 use Rattle.gen_types.specs.Bytes.{byte_at, bytes_at, many_at}
 use Rattle.gen_types.specs.Ends.{is_among}
@@ -20,10 +21,10 @@ begins_with_commander [] = false
 begins_with_commander (g ∷ others) = g == 0
 
 -- a signer, and the bytes after him
-unfoldable pub signer_at : List ℕ → Result (Signer × List ℕ) ChainFault
-signer_at bytes = do
+unfoldable pub signer_at : TreeHeight → List ℕ → Result (Signer × List ℕ) ChainFault
+signer_at height bytes = do
   general ← byte_at Truncated bytes
-  signature ← bytes_at Truncated signature_length general.1
+  signature ← bytes_at Truncated (signature_length height) general.1
   known ← check (nat_lt general.0 16) BadSigner
   Ok (record { general = general.0; signature = signature.0 }, signature.1)
 
@@ -41,17 +42,17 @@ chain_front_at bytes = do
   Ok (record { order = order.0; count = count.0 }, count.1)
 
 -- this many signers, who make a path
-unfoldable pub signers_at : ℕ → List ℕ → Result (List Signer × List ℕ) ChainFault
-signers_at count bytes = do
-  signers ← many_at signer_at count bytes
+unfoldable pub signers_at : TreeHeight → ℕ → List ℕ → Result (List Signer × List ℕ) ChainFault
+signers_at height count bytes = do
+  signers ← many_at (signer_at height) count bytes
   distinct ← check (not (repeats (signed_path signers.0))) BadSigner
   first ← check (begins_with_commander (signed_path signers.0)) NotFromCommander
   Ok signers
 
 -- a chain, and the bytes after it
-unfoldable pub chain_at : List ℕ → Result (Chain × List ℕ) ChainFault
-chain_at bytes = do
+unfoldable pub chain_at : TreeHeight → List ℕ → Result (Chain × List ℕ) ChainFault
+chain_at height bytes = do
   front ← chain_front_at bytes
-  enough ← check (nat_le (signer_length * front.0.count) (length front.1)) Truncated
-  signers ← signers_at front.0.count front.1
+  enough ← check (nat_le (signer_length height * front.0.count) (length front.1)) Truncated
+  signers ← signers_at height front.0.count front.1
   Ok (record { order = front.0.order; signers = signers.0 }, signers.1)

@@ -1,5 +1,6 @@
 pub mod Chain
 pub mod ChainReading
+pub mod Leaves
 pub mod Making
 pub mod Prefixes
 pub mod Texts

@@ -1,17 +1,19 @@
 -- When a signature of a statement verifies, and when a chain does.
 use Rattle.std.specs.Prelude.{◌≡◌, ◌<◌, ℕ, List, [], ◌∷◌, ◌++◌}
-use Rattle.gen_tree.specs.Tree.{Verifies}
-use Rattle.gen_net.specs.Header.{RunHeader, root_of}
+use Rattle.gen_tree.specs.Signatures.{Verifies}
+use Rattle.gen_net.specs.Header.{RunHeader, height_of, root_of}
 use Rattle.gen_chain.specs.declared.chains.Signer.{Signer}
 use Rattle.gen_chain.specs.declared.statements.Statement.{Statement}
 use Rattle.gen_chain.specs.Chain.{Chain, signed_path}
-use Rattle.gen_chain.specs.Texts.{statement_digest, leaf_of_order}
+use Rattle.gen_chain.specs.Leaves.{leaf_of_order}
+use Rattle.gen_chain.specs.Texts.{statement_digest}
 
 -- The general is one of the network, and the signature of the statement stands under his root and the order's leaf.
 abbrev pub HasSigned : RunHeader → ℕ → Statement → List ℕ → Type 0
 HasSigned h general statement signature =
     (general < h.network.generals)
-    × Verifies (root_of h general) (leaf_of_order statement.order) (statement_digest h statement) signature
+    × Verifies (root_of h general) (height_of h) (leaf_of_order h statement.order)
+        (statement_digest h statement) signature
 
 -- the signer has signed the order together with the path of those in front of him and himself
 abbrev pub HasSignedBehind : RunHeader → ℕ → List Signer → Signer → Type 0

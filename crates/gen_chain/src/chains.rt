@@ -2,10 +2,10 @@
 ghost use Rattle.std.specs.Prelude.{◌≡◌, ◌≢◌, ◌≤◌, AllPairs, length};
 ghost use Rattle.gen_chain.specs.Chain.{IsSignedChain, signed_path};
 
-use crate::sizes::MOST_SIGNERS;
+use crate::sizes::{GREATEST_ORDER, MOST_SIGNERS};
 use gen_ots::SigRoom;
 use gen_tree::Signature;
-use gen_types::{GeneralNo, OrderNo, Path};
+use gen_types::{GeneralNo, OrderNo, Path, TreeHeight};
 use std::alloc::AllocError;
 use std::marker::Model;
 
@@ -22,11 +22,13 @@ pub struct Signer {
 /// of the paper of 1982, with its signatures.
 ///
 /// Its order is at most 14. Its signers are 1 to 16 distinct generals, of whom general 0, the commander,
-/// is the first. A contract sees the order and the list of signers.
+/// is the first, and all their signatures are by trees of one height. A contract sees the order and the
+/// list of signers.
 #[derive(Debug, Drop)]
 pub struct SignedChain {
     pub(crate) order: OrderNo,
     pub(crate) signers: Vec<Signer>,
+    pub(crate) height: TreeHeight,
 }
 
 impl Model for SignedChain {
@@ -36,16 +38,24 @@ impl Model for SignedChain {
 
     ghost view = { λ c. record { order = c.order; signers = c.signers.items } };
 
-    ghost invariant = { λ c. IsSignedChain (record { order = c.order; signers = c.signers.items }) };
+    ghost invariant = { λ c. IsSignedChain c.height
+        (record { order = c.order; signers = c.signers.items }) };
 }
 
 impl SignedChain {
     /// Returns the order, which is at most 14.
     pub fn order(&self) -> OrderNo
         ensures value { result ≡ self.now.order }
-        ensures chain { IsSignedChain self.now }
+        ensures most { result ≤ GREATEST_ORDER }
     {
         self.order
+    }
+
+    /// Returns the height of the trees by which its signers signed.
+    pub fn height(&self) -> TreeHeight
+        ensures { IsSignedChain result self.now }
+    {
+        self.height
     }
 
     /// Returns the generals who signed, from the first to the last.
@@ -71,12 +81,13 @@ impl Clone for SignedChain {
         let alloc = *self.signers.allocator();
         let mut signers = Vec::with_capacity(alloc, self.signers.len())?;
         'signers: for signer in &self.signers {
-            let room = SigRoom::new(alloc)?;
+            let room = SigRoom::new(alloc, self.height)?;
             signers.push(signer.copy(room))?;
         }
         Ok(SignedChain {
             order: self.order,
             signers,
+            height: self.height,
         })
     }
 }

@@ -14,6 +14,7 @@
 mod chains;
 mod fault;
 pub mod laws;
+mod leaves;
 mod making;
 mod prefixes;
 mod reading;
@@ -24,10 +25,11 @@ mod writing;
 
 pub use chains::{SignedChain, Signer};
 pub use fault::ChainFault;
+pub use leaves::{leaf_of_head, leaf_of_order};
 pub use making::{ChainRoom, begin_chain, extend_chain};
 pub use reading::read_chain;
 pub use statements::{
-    HeadText, Statement, head_digest, head_text, leaf_of_order, statement_digest, statement_text,
+    HeadText, Statement, head_digest, head_text, statement_digest, statement_text,
 };
 pub use verifying::{chain_verifies, has_signed};
 pub use writing::write_chain;

@@ -1,10 +1,11 @@
 //! Making chains, in room that was made before.
 ghost use Rattle.std.specs.Prelude.{◌≡◌, ◌≤◌, ◌<◌, ◌+◌, IfOk, ◌∷◌, [], ◌++◌};
 ghost use Rattle.std.specs.Prelude.{length, vec_len, vec_capacity, Contains};
-ghost use Rattle.gen_chain.specs.Chain.{signed_path};
-ghost use Rattle.gen_chain.specs.Texts as texts;
+ghost use Rattle.gen_net.specs.Header.{height_of};
+ghost use Rattle.gen_tree.specs.Sizes.{signature_length};
+ghost use Rattle.gen_chain.specs.Chain.{IsSignedChain, signed_path};
 ghost use Rattle.gen_chain.specs.Verifying.{HasSigned, ChainVerifies};
-ghost use Rattle.gen_chain.specs.Making.{signed_by, begun, extended, IsKeyOf};
+ghost use Rattle.gen_chain.specs.Making.{signed_by, begun, extended, IsLeafOf, IsKeyOf};
 
 use crate::chains::{SignedChain, Signer};
 use crate::sizes::GREATEST_ORDER;
@@ -12,8 +13,7 @@ use crate::statements::{Statement, statement_digest};
 use gen_net::Header;
 use gen_ots::SigRoom;
 use gen_tree::LeafKey;
-use gen_tree::sizes::SIGNATURE_BYTES;
-use gen_types::{GeneralNo, OrderNo, Path};
+use gen_types::{GeneralNo, OrderNo, Path, TreeHeight};
 use std::alloc::{AllocError, Global};
 use std::marker::Model;
 
@@ -53,7 +53,8 @@ impl ChainRoom {
         let signers = Vec::with_capacity(alloc, usize::from(length))?;
         let mut copies = Vec::with_capacity(alloc, usize::from(length))?;
         'rooms: for _room in 1..length {
-            let room = SigRoom::new(alloc)?;
+            // Room takes as much for either height, and a copy may be of either.
+            let room = SigRoom::new(alloc, TreeHeight::Six)?;
             copies.push(room)?;
         }
         Ok(ChainRoom {
@@ -88,12 +89,13 @@ fn sign_behind(
     key: LeafKey,
 )
     requires room { vec_len signers.old < vec_capacity signers.old }
-    requires leaf { key.leaf ≡ texts.leaf_of_order statement.now.order }
+    requires leaf { IsLeafOf header.now statement.now.order key }
+    requires signature { room ≡ height_of header.now }
     requires me { me < header.now.network.generals }
     ensures items { signers.new.items ≡ signers.old.items ++ signed_by key header.now statement.now me ∷ [] }
     ensures signed { IsKeyOf header.now me key → HasSigned header.now me statement.now
         (signed_by key header.now statement.now me).signature }
-    ensures width { length (signed_by key header.now statement.now me).signature ≡ SIGNATURE_BYTES }
+    ensures width { length (signed_by key header.now statement.now me).signature ≡ signature_length (height_of header.now) }
 {
     let digest = statement_digest(header, statement);
     let signature = key.sign(room, &digest);
@@ -106,8 +108,8 @@ fn sign_behind(
 
 /// Returns the chain of an order that general 0, the commander, alone has signed, with this key.
 ///
-/// It asks that the order is at most 14, that the room is for 1 signer or more, and that the key is one of
-/// the order's leaf. The key is spent. It takes no memory beyond the rooms, and can't fail. The chain
+/// It asks that the order is at most 14, that the room is for 1 signer or more, and that the key and the
+/// room for its signature are of the run's height and the key is of the order's leaf. The key is spent. It takes no memory beyond the rooms, and can't fail. The chain
 /// verifies where the key is of a ring with the commander's root and the order is below q.
 pub fn begin_chain(
     header: &Header,
@@ -118,7 +120,8 @@ pub fn begin_chain(
 ) -> SignedChain
     requires order { order ≤ GREATEST_ORDER }
     requires room { 1 ≤ room }
-    requires leaf { key.leaf ≡ texts.leaf_of_order order }
+    requires leaf { IsLeafOf header.now order key }
+    requires signature { signature ≡ height_of header.now }
     ensures chain { result ≡ begun header.now order key }
     ensures verifies { IsKeyOf header.now 0 key → order < header.now.network.orders
         → ChainVerifies header.now result }
@@ -133,15 +136,19 @@ pub fn begin_chain(
     let path = Path::commander();
     let statement = Statement { order, path };
     sign_behind(header, me, &statement, &mut signers, signature, key);
-    SignedChain { order, signers }
+    SignedChain {
+        order,
+        signers,
+        height: header.height(),
+    }
 }
 
 /// Returns the chain that a general hands on: the given one with himself as one signer more, who signs with
 /// this key.
 ///
 /// It asks that he is a general of the network and not in the chain's path, that the room is for one
-/// signer more than the chain has, or for more, and that the key is one of the order's leaf. The key is
-/// spent. It takes no memory beyond the rooms, and can't fail. The chain verifies where the key is of a
+/// signer more than the chain has, or for more, that the chain, the key and the room for its signature are
+/// of the run's height, and that the key is of the order's leaf. The key is spent. It takes no memory beyond the rooms, and can't fail. The chain verifies where the key is of a
 /// ring with his root and the given chain verifies.
 pub fn extend_chain(
     header: &Header,
@@ -154,7 +161,9 @@ pub fn extend_chain(
     requires me { me < header.now.network.generals }
     requires new { Contains (signed_path chain.now.signers) me → ⊥ }
     requires room { length chain.now.signers + 1 ≤ room }
-    requires leaf { key.leaf ≡ texts.leaf_of_order chain.now.order }
+    requires leaf { IsLeafOf header.now chain.now.order key }
+    requires signature { signature ≡ height_of header.now }
+    requires height { IsSignedChain (height_of header.now) chain.now }
     ensures chain { result ≡ extended header.now chain.now me key }
     ensures verifies { IsKeyOf header.now me key → ChainVerifies header.now chain.now
         → ChainVerifies header.now result }
@@ -171,5 +180,9 @@ pub fn extend_chain(
     copy_signers(&chain.signers, &mut signers, &mut copies);
     let statement = Statement { order, path };
     sign_behind(header, me, &statement, &mut signers, signature, key);
-    SignedChain { order, signers }
+    SignedChain {
+        order,
+        signers,
+        height: header.height(),
+    }
 }

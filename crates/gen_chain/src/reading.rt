@@ -10,12 +10,12 @@ ghost use Rattle.gen_chain.specs.ChainReading.{repeats, begins_with_commander};
 
 use crate::chains::{SignedChain, Signer};
 use crate::fault::ChainFault;
-use crate::sizes::{GREATEST_ORDER, MOST_SIGNERS, SIGNER_BYTES};
+use crate::sizes::{GREATEST_ORDER, MOST_SIGNERS, signers_bytes};
 use gen_ots::SigRoom;
 use gen_tree::Signature;
-use gen_tree::sizes::SIGNATURE_BYTES;
+use gen_tree::sizes::signature_bytes;
 use gen_types::limits::MOST_GENERALS;
-use gen_types::{GeneralNo, OrderNo, ReadError, bytes_at, check, u8_at};
+use gen_types::{GeneralNo, OrderNo, ReadError, TreeHeight, bytes_at, check, u8_at};
 use std::alloc::Global;
 
 /// What stands before the signers: the order, and the number of signers.
@@ -27,13 +27,17 @@ struct ChainFront {
 
 /// A signer, and the bytes after him.
 #[tactic(auto, unfolding(crate::specs::ChainReading::signer_at))]
-fn read_signer(alloc: Global, bytes: &[u8]) -> Result<(Signer, &[u8]), ReadError<ChainFault>>
-    ensures { IsField result (signer_at bytes.now) }
+fn read_signer(
+    alloc: Global,
+    height: TreeHeight,
+    bytes: &[u8],
+) -> Result<(Signer, &[u8]), ReadError<ChainFault>>
+    ensures { IsField result (signer_at height bytes.now) }
 {
     let (number, rest) = u8_at(bytes, ChainFault::Truncated)?;
-    let (signature, rest) = bytes_at(rest, SIGNATURE_BYTES, ChainFault::Truncated)?;
+    let (signature, rest) = bytes_at(rest, signature_bytes(height), ChainFault::Truncated)?;
     check(number < MOST_GENERALS, ChainFault::BadSigner)?;
-    let room = SigRoom::new(alloc)?;
+    let room = SigRoom::new(alloc, height)?;
     let signer = Signer {
         general: GeneralNo::at(number),
         signature: Signature::read(room, signature),
@@ -57,15 +61,16 @@ fn read_front(bytes: &[u8]) -> Result<(ChainFront, &[u8]), ReadError<ChainFault>
 /// This many signers.
 fn read_many(
     alloc: Global,
+    height: TreeHeight,
     count: u8,
     bytes: &[u8],
 ) -> Result<(Vec<Signer>, &[u8]), ReadError<ChainFault>>
-    ensures { Gives (λ x. (x.0.items, x.1.now)) result (many_at signer_at count bytes.now) }
+    ensures { Gives (λ x. (x.0.items, x.1.now)) result (many_at (signer_at height) count bytes.now) }
 {
     let mut signers = Vec::with_capacity(alloc, usize::from(count))?;
     let mut rest = bytes;
     for _ in 0..count {
-        let (signer, after) = read_signer(alloc, rest)?;
+        let (signer, after) = read_signer(alloc, height, rest)?;
         signers.push(signer)?;
         rest = after;
     }
@@ -107,12 +112,13 @@ fn begin(signers: &[Signer]) -> bool
 #[tactic(auto, unfolding(crate::specs::ChainReading::signers_at))]
 fn read_signers(
     alloc: Global,
+    height: TreeHeight,
     count: u8,
     bytes: &[u8],
 ) -> Result<(Vec<Signer>, &[u8]), ReadError<ChainFault>>
-    ensures { Gives (λ x. (x.0.items, x.1.now)) result (signers_at count bytes.now) }
+    ensures { Gives (λ x. (x.0.items, x.1.now)) result (signers_at height count bytes.now) }
 {
-    let (signers, rest) = read_many(alloc, count, bytes)?;
+    let (signers, rest) = read_many(alloc, height, count, bytes)?;
     check(are_distinct(&signers), ChainFault::BadSigner)?;
     check(begin(&signers), ChainFault::NotFromCommander)?;
     Ok((signers, rest))
@@ -122,31 +128,37 @@ fn read_signers(
 #[tactic(auto, unfolding(crate::specs::ChainReading::chain_at))]
 fn chain_in_front(
     alloc: Global,
+    height: TreeHeight,
     bytes: &[u8],
 ) -> Result<(SignedChain, &[u8]), ReadError<ChainFault>>
-    ensures { IsField result (chain_at bytes.now) }
+    ensures { IsField result (chain_at height bytes.now) }
 {
     let (front, rest) = read_front(bytes)?;
-    let enough = SIGNER_BYTES * usize::from(front.count) <= rest.len();
+    let enough = signers_bytes(height, front.count) <= rest.len();
     check(enough, ChainFault::Truncated)?;
-    let (signers, rest) = read_signers(alloc, front.count, rest)?;
+    let (signers, rest) = read_signers(alloc, height, front.count, rest)?;
     let chain = SignedChain {
         order: OrderNo::at(front.order),
         signers,
+        height,
     };
     Ok((chain, rest))
 }
 
 /// The chain in front of the bytes, and how many bytes it has.
-fn counted_chain(alloc: Global, bytes: &[u8]) -> Result<(SignedChain, usize), ReadError<ChainFault>>
-    ensures { IsRead result (counted chain_at bytes.now) }
+fn counted_chain(
+    alloc: Global,
+    height: TreeHeight,
+    bytes: &[u8],
+) -> Result<(SignedChain, usize), ReadError<ChainFault>>
+    ensures { IsRead result (counted (chain_at height) bytes.now) }
 {
-    let (chain, rest) = chain_in_front(alloc, bytes)?;
+    let (chain, rest) = chain_in_front(alloc, height, bytes)?;
     Ok((chain, bytes.len() - rest.len()))
 }
 
-/// Returns the chain in front of the bytes, and how many bytes it has; more may follow it. Signatures are
-/// read and not verified.
+/// Returns the chain in front of the bytes, whose signatures are by trees of this height, and how many
+/// bytes it has; more may follow it. Signatures are read and not verified.
 ///
 /// # Errors
 ///
@@ -154,15 +166,16 @@ fn counted_chain(alloc: Global, bytes: &[u8]) -> Result<(SignedChain, usize), Re
 /// memory was refused before.
 pub fn read_chain(
     alloc: Global,
+    height: TreeHeight,
     bytes: &[u8],
 ) -> Result<(SignedChain, usize), ReadError<ChainFault>>
     // What is read stands there.
-    ensures found { IfOk result (IsReadFrom IsSignedChain chain_spelling bytes.now) }
+    ensures found { IfOk result (IsReadFrom (IsSignedChain height) chain_spelling bytes.now) }
     // What stands there is read, unless memory runs out.
-    ensures only { (c : Chain) → StandsInFront IsSignedChain chain_spelling bytes.now c
+    ensures only { (c : Chain) → StandsInFront (IsSignedChain height) chain_spelling bytes.now c
         → IsRead result (Ok (c, length (chain_spelling c))) }
     // Which fault it is.
-    ensures exact { IsRead result (counted chain_at bytes.now) }
+    ensures exact { IsRead result (counted (chain_at height) bytes.now) }
 {
-    counted_chain(alloc, bytes)
+    counted_chain(alloc, height, bytes)
 }

@@ -1,5 +1,9 @@
 //! The sizes of chains in bytes.
-use gen_tree::sizes::SIGNATURE_BYTES;
+ghost use Rattle.std.specs.Prelude.{◌≡◌, ◌*◌};
+ghost use Rattle.gen_chain.specs.Chain.{signer_length};
+
+use gen_tree::sizes::signature_bytes;
+use gen_types::TreeHeight;
 use gen_types::limits::{MOST_GENERALS, MOST_ORDERS};
 
 /// The greatest order of a chain, whatever the network.
@@ -11,5 +15,17 @@ pub const MOST_SIGNERS: u8 = MOST_GENERALS;
 /// The bytes of a chain before its signers: the order, and the number of signers.
 pub const FRONT_BYTES: usize = 2;
 
-/// The bytes of a signer: his number, and his signature.
-pub const SIGNER_BYTES: usize = 1 + SIGNATURE_BYTES;
+/// Returns the bytes of a signer, where signatures are by trees of this height: his number, and his
+/// signature.
+pub fn signer_bytes(height: TreeHeight) -> usize
+    ensures { result ≡ signer_length height }
+{
+    1 + signature_bytes(height)
+}
+
+/// Returns the bytes of this many signers.
+pub fn signers_bytes(height: TreeHeight, count: u8) -> usize
+    ensures { result ≡ signer_length height * count }
+{
+    signer_bytes(height) * usize::from(count)
+}

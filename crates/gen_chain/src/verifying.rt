@@ -4,8 +4,9 @@ ghost use Rattle.gen_chain.specs.Chain.{signed_path};
 ghost use Rattle.gen_chain.specs.Verifying.{HasSigned, AreSigned, ChainVerifies};
 
 use crate::chains::{SignedChain, Signer};
+use crate::leaves::leaf_of_order;
 use crate::sizes::MOST_SIGNERS;
-use crate::statements::{Statement, leaf_of_order, statement_digest};
+use crate::statements::{Statement, statement_digest};
 use gen_net::Header;
 use gen_tree::{Signature, verify};
 use gen_types::{GeneralNo, OrderNo, Path};
@@ -24,8 +25,9 @@ pub fn has_signed(
         return false;
     }
     let digest = statement_digest(header, statement);
-    let leaf = leaf_of_order(statement.order);
-    verify(header.root(general), leaf, &digest, signature)
+    let leaf = leaf_of_order(header, statement.order);
+    let root = header.root(general);
+    verify(root, header.height(), leaf, &digest, signature)
 }
 
 /// Whether each signer signed the order together with the path up to himself.

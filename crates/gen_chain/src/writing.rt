@@ -1,17 +1,17 @@
 //! Writing chains.
 ghost use Rattle.std.specs.Prelude.{◌≡◌, ◌≤◌, ◌<◌, ◌+◌, ◌*◌, ◌++◌, IfOk, OnOk, OnErr, length, vec_len, vec_capacity};
 ghost use Rattle.std.specs.List.{flat_map};
-ghost use Rattle.gen_chain.specs.Chain.{signer_spelling, chain_spelling, chain_length};
+ghost use Rattle.gen_chain.specs.Chain.{signer_spelling, signers_length, chain_spelling, chain_length};
 
 use crate::chains::{SignedChain, Signer};
-use crate::sizes::{FRONT_BYTES, SIGNER_BYTES};
+use crate::sizes::{FRONT_BYTES, signers_bytes};
 use std::alloc::{AllocError, Global};
 
 /// Appends signers, in reserved room.
 fn put_signers(out: &mut Vec<u8>, signers: &[Signer])
-    requires room { vec_len out.old + SIGNER_BYTES * length signers.now ≤ vec_capacity out.old }
+    requires room { vec_len out.old + signers_length signers.now ≤ vec_capacity out.old }
     ensures items { out.new.items ≡ out.old.items ++ flat_map signer_spelling signers.now }
-    ensures len { vec_len out.new ≡ vec_len out.old + SIGNER_BYTES * length signers.now }
+    ensures len { vec_len out.new ≡ vec_len out.old + signers_length signers.now }
     ensures capacity { vec_capacity out.old ≤ vec_capacity out.new }
 {
     'signers: for signer in signers {
@@ -25,7 +25,7 @@ impl SignedChain {
     fn byte_count(&self) -> usize
         ensures { result ≡ chain_length self.now }
     {
-        FRONT_BYTES + SIGNER_BYTES * self.signers.len()
+        FRONT_BYTES + signers_bytes(self.height, self.signers.len() as u8)
     }
 
     /// Appends the one spelling of the chain: the order and the number of signers, a byte each, and for

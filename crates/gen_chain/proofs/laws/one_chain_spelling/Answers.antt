@@ -5,4 +5,4 @@ use Rattle.gen_chain.proofs.ChainLaws.{chains_read}
 use Rattle.gen_chain.proofs.laws.one_chain_spelling.Goals as goal
 
 pub returns : goal.returns
-returns c = one_spelling_by chain_at chain_spelling IsSignedChain chains_read
+returns c = λ height. one_spelling_by (chain_at height) chain_spelling (IsSignedChain height) (chains_read height)

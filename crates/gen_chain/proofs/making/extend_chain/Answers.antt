@@ -1,4 +1,5 @@
 use Rattle.std.proofs.Common.{◌≡◌, ◌∷◌, ◌++◌, [], length, ap, arith}
+use Rattle.gen_net.specs.Header.{height_of}
 use Rattle.gen_chain.specs.declared.chains.Signer.{Signer}
 use Rattle.gen_chain.specs.Chain.{signed_path}
 use Rattle.gen_chain.specs.Making.{signed_by}
@@ -20,7 +21,8 @@ invariant_of-result c =
     let s : Signer = signed_by c.args.key c.args.header.now (record { order = c.chain.inside.order; path = c.push_new.new.self }) c.args.me in
     let items : c.sign_behind.new.signers.items ≡ old ++ s ∷ [] = rw (c.copy_signers.ensures.items, c.room.invariant.empty, c.deref.ensures.value) at c.sign_behind.ensures.items in
     let new = rw (← c.chain.view_is) at c.requires.new in
-    rw items (chain-push c.chain.inside.order old s c.chain.invariant (omega (arith, c.get-below_16.ensures.value, c.get-below_16.ensures.below)) new c.sign_behind.ensures.width)
+    let was = rw (← c.chain.view_is) at c.requires.height in
+    rw (items, c.height.ensures) (chain-push (height_of c.args.header.now) c.chain.inside.order old s was (omega (arith, c.get-below_16.ensures.value, c.get-below_16.ensures.below)) new c.sign_behind.ensures.width)
 
 pub returns-clause-verifies : goal.returns-clause-verifies
 returns-clause-verifies c = λ of_key before.

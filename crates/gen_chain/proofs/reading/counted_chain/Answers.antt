@@ -6,4 +6,4 @@ use Rattle.gen_chain.proofs.ChainLaws.{chains_read}
 use Rattle.gen_chain.proofs.reading.counted_chain.Goals as goal
 
 pub overflow_sub-result : goal.overflow_sub-result
-overflow_sub-result c = front_shorter chain_at chain_spelling IsSignedChain chains_read c.args.bytes.now _ _ (λ i. omega (arith, c.type_inv.bytes i)) c.in_ok-chain.ensures
+overflow_sub-result c = front_shorter (chain_at c.args.height) chain_spelling (IsSignedChain c.args.height) (chains_read c.args.height) c.args.bytes.now _ _ (λ i. omega (arith, c.type_inv.bytes i)) c.in_ok-chain.ensures
