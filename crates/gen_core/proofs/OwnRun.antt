@@ -8,7 +8,8 @@ use Rattle.gen_net.specs.declared.message.Message.{Message}
 use Rattle.gen_net.specs.Network.{Network}
 use Rattle.gen_net.specs.Run.{Run, IsRun}
 use Rattle.gen_net.specs.Follows.{Conduct, Follows}
-use Rattle.gen_net.specs.Log.{LogEntry, Started, Signed, Sent, Received, Decided, IsEntry, Keeps, IsFollowersLog}
+use Rattle.gen_net.specs.Log.{LogEntry, Started, Signed, Sent, Received, Decided, IsEntry, Keeps}
+use Rattle.gen_net.specs.Departs.{IsFollowersLog}
 use Rattle.gen_core.specs.Shown.{shown_by, shown_run}
 use Rattle.gen_core.proofs.Views.{SameView, view_follows, view_keeps}
 

@@ -1,13 +1,11 @@
 -- The two laws of reading a header, field by field.
-use Rattle.std.proofs.Common.{◌≡◌, ℕ, zero, suc, ◌+◌, ◌-◌, ◌≤◌, true, eqb, leb, List, [], ◌∷◌, ◌++◌, length, Result, Ok, refl, sym, ap, ◌∙◌, append_assoc, inl, inr}
+use Rattle.std.proofs.Common.{◌≡◌, ℕ, true, eqb, leb, List, [], ◌∷◌, ◌++◌, length, Result, Ok, refl, ap, append_assoc, inl, inr}
 use Rattle.std.specs.List.{flat_map, AllByRecursion}
-use Rattle.std.proofs.lemmas.List.{length-append}
 use Rattle.std.proofs.lemmas.Bool.{eqb-true, eq-eqb, leb-true, le-leb}
-use Rattle.gen_types.specs.ChoiceOf.{choice_number}
 use Rattle.gen_types.specs.Reading.{◌>>=◌, check}
 use Rattle.gen_types.specs.Bytes.{byte_at, many_at}
 use Rattle.gen_types.proofs.Lists.{bool_cases}
-use Rattle.gen_types.proofs.Steps.{after, after_check, at_end, ok_is}
+use Rattle.gen_types.proofs.Steps.{after, after_check, at_end}
 use Rattle.gen_types.proofs.ByteFields.{IsBytes, Takes, Takes-then, byte_takes, bytes_takes, bytes_again}
 use Rattle.gen_types.proofs.ManyFields.{Reads, many_take, many_again}
 use Rattle.gen_net.specs.declared.fault.HeaderFault.{HeaderFault}
@@ -18,9 +16,12 @@ use Rattle.gen_net.specs.Network.{Network, IsNetwork}
 use Rattle.gen_net.specs.declared.numbers.NetNumbers.{NetNumbers}
 use Rattle.gen_net.specs.Edges.{in_place}
 use Rattle.gen_net.specs.NetworkOf.{ranges_of, network_with, network_in_place}
-use Rattle.gen_net.specs.Version.{slot_in, greatest_slot, number_of_one, number_of_two, version_bytes}
-use Rattle.gen_net.specs.Header.{RunHeader, slot_of, IsHeader, AreRoots, root_length, header_with, edge_bytes, header_spelling}
-use Rattle.gen_net.specs.HeaderReading.{slot_at, version_behind, version_at, numbers_at, edge_at, edges_at, root_at, Parts, parts_at, header_at}
+use Rattle.gen_net.specs.Version.{slot_in, greatest_slot, version_one, version_two, version_bytes}
+use Rattle.gen_net.specs.Header.{RunHeader, slot_of, IsHeader, AreRoots, root_length, header_with, header_spelling}
+use Rattle.gen_net.specs.NetworkSpelling.{edge_bytes}
+use Rattle.gen_net.specs.HeaderReading.{root_at, Parts, parts_at, header_at}
+use Rattle.gen_net.specs.NetworkReading.{numbers_at, edge_at, edges_at}
+use Rattle.gen_net.specs.VersionReading.{slot_at, version_behind, version_at}
 use Rattle.gen_net.proofs.PlacedEdges.{placed_edges, placed_again}
 use Rattle.gen_net.proofs.Ranges.{accepted, numbers_of, accepted_again}
 
@@ -37,18 +38,18 @@ slot_taken bytes x fits e =
     at_end {F = HeaderFault} (λ (y : Version × List ℕ). (u : ℕ) × (y.0 ≡ Two u) × Takes bytes (u ∷ []) y.1) (Two slot.0, slot.1) x e0 (slot.0, refl, t0.0))
 
 behind : (bytes : List ℕ) (number : ℕ) (rest : List ℕ) (x : Version × List ℕ) → Takes bytes (number ∷ []) rest → version_behind number rest ≡ Ok x → VersionTaken bytes x
-behind bytes number rest x t e = elim (bool_cases (eqb number number_of_one)) [
+behind bytes number rest x t e = elim (bool_cases (eqb number version_one)) [
   | inl one ↦
       let read : Ok (One, rest) ≡ Ok x = rw one at e in
-      let is : number ≡ number_of_one = eqb-true _ _ one in
+      let is : number ≡ version_one = eqb-true _ _ one in
       at_end {F = HeaderFault} (VersionTaken bytes) (One, rest) x read (rw is at t)
   | inr not_one ↦
       let next = rw not_one at e in
-      elim (bool_cases (eqb number number_of_two)) [
+      elim (bool_cases (eqb number version_two)) [
         | inl two ↦
-            let is : number ≡ number_of_two = eqb-true _ _ two in
+            let is : number ≡ version_two = eqb-true _ _ two in
             let s = slot_taken rest x t.rest_fits (rw two at next) in
-            rw s.1 (Takes-then bytes (number_of_two ∷ []) rest (s.0 ∷ []) x.1 (rw is at t) s.2)
+            rw s.1 (Takes-then bytes (version_two ∷ []) rest (s.0 ∷ []) x.1 (rw is at t) s.2)
         | inr not_two ↦
             let refused = rw not_two at next in
             absurd cc

@@ -39,6 +39,7 @@ Follows net run g (Commands own) = (g ≡ 0) × CommanderFollows net run own
 Follows net run g (Relays pick) = (g ≢ 0) × LieutenantFollows net run g pick
 
 -- A lieutenant decides the choice of the set of the orders that he accepts.
-pub record LieutenantDecides (net : Network) (run : Run) (g : ℕ) (orders : List ℕ) (order : ℕ) : Type 0 where
+pub record LieutenantDecides (net : Network) (run : Run) (g : ℕ) (orders : List ℕ) (order : ℕ)
+    : Type 0 where
   pub set : IsListOf orders (Accepts net run g)
   pub chosen : order ≡ choose net orders

@@ -8,7 +8,8 @@ use Rattle.gen_net.specs.Follows.{Conduct, Follows}
 
 -- The path of the message, up to its last general of the rest, begins the path of a message of the same order that somebody of
 -- the rest sent to somebody faulty in a round before.
-pub record Derivation (net : Network) (faulty : List ℕ) (run : Run) (message : Message) : Type 0 where
+pub record Derivation (net : Network) (faulty : List ℕ) (run : Run) (message : Message)
+    : Type 0 where
   pub front : List ℕ
   pub last : ℕ
   pub forged : List ℕ
@@ -29,7 +30,8 @@ IsDerivable net faulty run message =
     All (λ g. IsLoyal net faulty g → ⊥) message.path ⊎ Derivation net faulty run message
 
 -- A run for a set of faulty generals: everybody of the rest follows, and every message from a faulty general is derivable.
-pub record IsSignedRun (net : Network) (faulty : List ℕ) (run : Run) (conducts : ℕ → Conduct) : Type 0 where
+pub record IsSignedRun (net : Network) (faulty : List ℕ) (run : Run) (conducts : ℕ → Conduct)
+    : Type 0 where
   pub run_of_net : IsRun net run
   pub follows : (g : ℕ) → IsLoyal net faulty g → Follows net run g (conducts g)
   pub derivable : (message : Message) → Contains run message → Contains faulty message.from

@@ -20,13 +20,13 @@ abbrev pub greatest_slot : ℕ
 greatest_slot = 3
 
 -- the first byte of a header, which is the number of its version
-abbrev pub number_of_one : ℕ
-number_of_one = 1
+abbrev pub version_one : ℕ
+version_one = 1
 
-abbrev pub number_of_two : ℕ
-number_of_two = 2
+abbrev pub version_two : ℕ
+version_two = 2
 
 -- the first bytes of a header: the number of its version, and in version 2 the slot
 abbrev pub version_bytes : Version → List ℕ
-version_bytes One = number_of_one ∷ []
-version_bytes (Two slot) = number_of_two ∷ slot ∷ []
+version_bytes One = version_one ∷ []
+version_bytes (Two slot) = version_two ∷ slot ∷ []

@@ -2,45 +2,18 @@
 ghost use Rattle.std.specs.Prelude.{◌≡◌, ◌++◌, ◌<◌, List, ℕ, length};
 ghost use Rattle.std.specs.List.{flat_map};
 ghost use Rattle.sha2.specs.Hashers.{Holds256};
-ghost use Rattle.gen_net.specs.Header.{edge_bytes, number_bytes, AreRoots, run_id_of};
+ghost use Rattle.gen_net.specs.Header.{AreRoots, run_id_of};
+ghost use Rattle.gen_net.specs.NetworkSpelling.{edge_bytes};
 ghost use Rattle.gen_net.specs.Version.{version_bytes};
 
+use crate::format::{VERSION_ONE, VERSION_TWO, number_bytes_of};
 use crate::net::Net;
 use crate::version::Version;
 use gen_types::GeneralNo;
 use sha2::{Digest, Sha256};
 
-/// The number of version 1, which is the first byte of its headers.
-pub const VERSION_ONE: u8 = 1;
-
-/// The number of version 2.
-pub const VERSION_TWO: u8 = 2;
-
-/// The bytes of the numbers before the edges.
-pub const NUMBERS_LENGTH: usize = 6;
-
-/// The bytes of an edge.
-pub const EDGE_LENGTH: usize = 2;
-
-/// The bytes of a root.
-pub const ROOT_LENGTH: usize = 32;
-
 /// The byte before a header, where the run id is hashed.
 const RUN_ID_PREFIX: u8 = 0x31;
-
-/// The bytes of a header between its version and its edges.
-pub fn number_bytes_of(net: &Net) -> [u8; NUMBERS_LENGTH]
-    ensures { result ≡ number_bytes net.now }
-{
-    [
-        net.generals(),
-        net.traitors(),
-        net.diameter(),
-        net.orders(),
-        net.choice().number(),
-        net.edges().len() as u8,
-    ]
-}
 
 /// Feeds a hasher with the bytes of a version.
 fn feed_version(hasher: &mut Sha256, version: Version)

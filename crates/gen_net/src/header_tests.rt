@@ -78,6 +78,12 @@ fn smallest_header_with_an_edge(rt: HostRuntime) -> Result<(), Fail> {
     assert!(rt; header_bytes(alloc, &header)?.as_slice() == OF_TWO.as_slice());
     assert!(rt; header.roots().len() == 2 && header.net().rounds() == 1);
     assert!(rt; header.root(GeneralNo::at(1)).as_slice() == &OF_TWO[41..]);
+    Ok(())
+}
+
+#[test]
+fn cut_headers(rt: HostRuntime) {
+    let alloc = rt.alloc();
     for count in 0..73usize {
         let fault = read_header(alloc, &OF_TWO[..count]).err();
         assert_eq!(rt;
@@ -86,6 +92,11 @@ fn smallest_header_with_an_edge(rt: HostRuntime) -> Result<(), Fail> {
             "{count}"
         );
     }
+}
+
+#[test]
+fn header_and_more(rt: HostRuntime) -> Result<(), Fail> {
+    let alloc = rt.alloc();
     let mut longer = Vec::new(alloc);
     longer.extend_from_slice(&OF_TWO)?;
     longer.push(1)?;
@@ -137,18 +148,32 @@ fn header_of_a_ring(rt: HostRuntime) -> Result<(), Fail> {
     let net = Net::new(alloc, 4, &given, 2, 3, 5, 1).expect(&rt, "a ring of four");
     let header = Header::new(net, roots(alloc, 4)?).expect(&rt, "four roots");
     assert!(rt; *header.run_id() == RUN_OF_RING);
-    assert_eq!(rt; (header.version(), header.slot()), (Version::One, 0));
-    assert_eq!(rt; header.height(), TreeHeight::Four);
-    let bytes = header_bytes(alloc, &header)?;
-    assert!(rt; bytes == bytes_with(alloc, &RING, 4)?);
-    let (again, taken) = read_header(alloc, &bytes).expect(&rt, "a ring of four");
-    assert!(rt; taken == 143 && *again.run_id() == RUN_OF_RING);
-    assert!(rt; again.net().generals() == 4);
-    assert!(rt; *again.root(GeneralNo::at(3)) == [4; 32]);
-    for count in [0, 3, 5] {
-        let net = Net::new(alloc, 4, &given, 2, 3, 5, 1).expect(&rt, "a ring of four");
-        let fault = Header::new(net, roots(alloc, count)?).err();
-        assert_eq!(rt; fault, Some(HeaderFault::RootCount), "{count}");
+    assert!(rt; header.version() == Version::One && header.slot() == 0);
+    assert!(rt; header.height() == TreeHeight::Four);
+    assert!(rt; header_bytes(alloc, &header)? == bytes_with(alloc, &RING, 4)?);
+    Ok(())
+}
+
+#[test]
+fn ring_in_bytes(rt: HostRuntime) -> Result<(), Fail> {
+    let bytes = bytes_with(rt.alloc(), &RING, 4)?;
+    let (header, taken) = read_header(rt.alloc(), &bytes).expect(&rt, "a ring of four");
+    assert!(rt; taken == 143 && *header.run_id() == RUN_OF_RING);
+    assert!(rt; header.net().generals() == 4 && *header.root(GeneralNo::at(3)) == [4; 32]);
+    Ok(())
+}
+
+#[test]
+fn root_counts(rt: HostRuntime) -> Result<(), Fail> {
+    for (count, fault) in [
+        (0, Some(HeaderFault::RootCount)),
+        (1, Some(HeaderFault::RootCount)),
+        (2, None),
+        (3, Some(HeaderFault::RootCount)),
+    ] {
+        let net = Net::new(rt.alloc(), 2, &[], 0, 1, 2, 0).expect(&rt, "two generals");
+        let found = Header::new(net, roots(rt.alloc(), count)?).err();
+        assert_eq!(rt; found, fault, "{count}");
     }
     Ok(())
 }
@@ -164,24 +189,32 @@ fn all_edges(alloc: Global) -> Result<Vec<(u8, u8)>, AllocError> {
     Ok(edges)
 }
 
-#[test]
-fn largest_header(rt: HostRuntime) -> Result<(), Fail> {
-    let alloc = rt.alloc();
-    let edges = all_edges(alloc)?;
-    let net = Net::new(alloc, 16, &edges, 8, 8, 15, 1).expect(&rt, "all edges");
-    let header = Header::new(net, roots(alloc, 16)?).expect(&rt, "16 roots");
-    let bytes = header_bytes(alloc, &header)?;
+/// The bytes of the largest header: version 1, 16 generals, all edges, 16 rounds and 15 orders.
+fn largest_bytes(alloc: Global) -> Result<Vec<u8>, AllocError> {
     let mut front = Vec::new(alloc);
     front.extend_from_slice(&[1, 16, 8, 8, 15, 1, 120])?;
-    for (low, high) in &edges {
+    for (low, high) in &all_edges(alloc)? {
         front.extend_from_slice(&[*low, *high])?;
     }
-    assert!(rt; bytes == bytes_with(alloc, &front, 16)?);
+    bytes_with(alloc, &front, 16)
+}
+
+#[test]
+fn largest_header_written(rt: HostRuntime) -> Result<(), Fail> {
+    let alloc = rt.alloc();
+    let net = Net::new(alloc, 16, &all_edges(alloc)?, 8, 8, 15, 1).expect(&rt, "all edges");
+    let header = Header::new(net, roots(alloc, 16)?).expect(&rt, "16 roots");
+    assert!(rt; header_bytes(alloc, &header)? == largest_bytes(alloc)?);
+    Ok(())
+}
+
+#[test]
+fn largest_header_read(rt: HostRuntime) -> Result<(), Fail> {
     laws::one_header_spelling();
-    let (again, taken) = read_header(alloc, &bytes).expect(&rt, "all edges");
-    let copy = again.clone()?;
-    assert!(rt; taken == 759 && *copy.run_id() == *header.run_id());
-    assert!(rt; copy.net().clone()?.edges() == header.net().edges());
+    let bytes = largest_bytes(rt.alloc())?;
+    let (header, taken) = read_header(rt.alloc(), &bytes).expect(&rt, "all edges");
+    assert_eq!(rt; taken, 759);
+    assert!(rt; header_bytes(rt.alloc(), &header.clone()?)? == bytes);
     Ok(())
 }
 

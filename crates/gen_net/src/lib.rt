@@ -8,6 +8,7 @@
 
 mod edges;
 mod fault;
+mod format;
 mod hashing;
 mod headers;
 pub mod laws;

@@ -1,11 +1,13 @@
 //! Writing headers.
 ghost use Rattle.std.specs.Prelude.{◌≡◌, ◌++◌, IfOk, OnOk};
 ghost use Rattle.std.specs.List.{flat_map};
-ghost use Rattle.gen_net.specs.Header.{edge_bytes, header_spelling, IsHeader};
+ghost use Rattle.gen_net.specs.Header.{header_spelling, IsHeader};
+ghost use Rattle.gen_net.specs.NetworkSpelling.{edge_bytes};
 ghost use Rattle.gen_net.specs.Version.{version_bytes};
 
-use crate::hashing::{
-    EDGE_LENGTH, NUMBERS_LENGTH, ROOT_LENGTH, VERSION_ONE, VERSION_TWO, number_bytes_of,
+use crate::format::{
+    EDGE_LENGTH, NUMBERS_LENGTH, ROOT_LENGTH, VERSION_LENGTH, VERSION_ONE, VERSION_TWO,
+    number_bytes_of,
 };
 use crate::headers::Header;
 use crate::version::Version;
@@ -51,8 +53,8 @@ pub fn header_bytes(alloc: Global, header: &Header) -> Result<Vec<u8>, AllocErro
 {
     let edges = header.net().edges();
     let roots = header.roots();
-    let most = 2 + NUMBERS_LENGTH + EDGE_LENGTH * edges.len() + ROOT_LENGTH * roots.len();
-    let mut out = Vec::with_capacity(alloc, most)?;
+    let lists = EDGE_LENGTH * edges.len() + ROOT_LENGTH * roots.len();
+    let mut out = Vec::with_capacity(alloc, VERSION_LENGTH + NUMBERS_LENGTH + lists)?;
     put_version(&mut out, header.version())?;
     out.extend_from_slice(&number_bytes_of(header.net()))?;
     put_edges(&mut out, edges)?;

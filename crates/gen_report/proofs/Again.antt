@@ -11,11 +11,14 @@ use Rattle.std.proofs.lemmas.Slice.Eq.{bytes_eq-Decides}
 use Rattle.gen_types.specs.Texts.{fields}
 use Rattle.gen_types.proofs.Cutting.{cut_front, cut_none, all_append}
 use Rattle.gen_types.proofs.Decimals.{both, two_digits, three_digits, number_again}
+use Rattle.gen_net.specs.NetworkOf.{network_of}
 use Rattle.gen_world.specs.Scenario.{Plain}
 use Rattle.gen_report.specs.Text.{parts, is_foreign}
-use Rattle.gen_report.specs.Lines.{number_at, number_behind, fields_at, numbered, edge_in, edges_at, word_alone}
-use Rattle.gen_report.specs.Reading.{opening_at, settings_at, closing_at, scenario_of}
-use Rattle.gen_report.specs.Spelling.{Given, said, edge_line, lines_of, text_of, Spells}
+use Rattle.gen_report.specs.LineReading.{number_in, number_behind, fields_at, numbered, word_alone}
+use Rattle.gen_report.specs.EdgeReading.{edge_in, edge_lines_at}
+use Rattle.gen_report.specs.NumbersReading.{opening_at, settings_at}
+use Rattle.gen_report.specs.ScenarioReading.{closing_at, scenario_of}
+use Rattle.gen_report.specs.Scenario.{Given, said, edge_line, lines_of, text_of, SpellsScenario}
 use Rattle.gen_report.proofs.Cuts.{line_at_is}
 use Rattle.gen_report.proofs.Found.{line_of, FitsByte}
 
@@ -99,8 +102,8 @@ three_fields f g e h k m = record {
 fields_again : (k : ℕ) (fs more : List (List ℕ)) → IsLine fs → eqb (length more) 0 ≡ false → fields_at k (line_of fs ∷ more) ≡ Ok (fs, more)
 fields_again k fs more h going = rw (line_at_is k (line_of fs ∷ more) (line_of fs) more refl h.clean (omega (arith, h.short)) going, h.cut) refl
 
-digits_again : (k n : ℕ) → n < 256 → number_at k (decimal n) ≡ Ok n
-digits_again k n lt = rw (number_again n lt, number_at) refl
+digits_again : (k n : ℕ) → n < 256 → number_in k (decimal n) ≡ Ok n
+digits_again k n lt = rw (number_again n lt, number_in) refl
 
 behind_again : (k n : ℕ) (word : List ℕ) → n < 256 → number_behind k word (said word n) ≡ Ok n
 unfolding number_behind
@@ -125,8 +128,8 @@ longer fs [] line more = grind (arith, nat_tests)
 longer fs (e ∷ es) line more = grind (arith, nat_tests)
 
 edges_again : (k : ℕ) (es : List (ℕ × ℕ)) (m : ℕ) (more : List (List ℕ)) → AllByRecursion FitsByte es → m < 256 → eqb (length more) 0 ≡ false
-    → (j : ℕ) × (edges_at k (map (λ e. line_of (edge_line e)) es ++ (line_of (said (codes "traitors") m) ∷ more)) ≡ Ok (record { found = es; next = said (codes "traitors") m; line = j; after = more }))
-unfolding edges_at edge_in
+    → (j : ℕ) × (edge_lines_at k (map (λ e. line_of (edge_line e)) es ++ (line_of (said (codes "traitors") m) ∷ more)) ≡ Ok (record { found = es; next = said (codes "traitors") m; line = j; after = more }))
+unfolding edge_lines_at edge_in
 edges_again k [] m more fits lt going = (k, rw (fields_again k (said (codes "traitors") m) more (said_is_line (codes "traitors") m (record { plain = refl; short = omega arith }) lt) going) refl)
 edges_again k (e ∷ es) m more fits lt going =
     let rest = edges_again (k + 1) es m more fits.1 lt going in
@@ -164,23 +167,23 @@ edges_are_lines [] ls h k = k
 edges_are_lines (e ∷ es) ls h k = (edge_is_line e h.0, edges_are_lines es ls h.1 k)
 
 closing_of : Given → List (List (List ℕ))
-closing_of g = said (codes "traitors") g.traitors ∷ said (codes "diameter") g.diameter ∷ said (codes "orders") g.orders ∷ said (codes "choice") g.choice ∷ said (codes "order") g.order ∷ (codes "end" ∷ []) ∷ []
+closing_of g = said (codes "traitors") g.numbers.traitors ∷ said (codes "diameter") g.numbers.diameter ∷ said (codes "orders") g.numbers.orders ∷ said (codes "choice") g.numbers.choice ∷ said (codes "order") g.order ∷ (codes "end" ∷ []) ∷ []
 
 word : (f : List ℕ) → list_all is_plain f ≡ true → length f ≤ 9 → IsField f
 word f p l = record { plain = p; short = l }
 
-given_lines : (text : List ℕ) (v : Plain) (s : Spells text v) → AllByRecursion IsLine (lines_of s.given)
+given_lines : (text : List ℕ) (v : Plain) (s : SpellsScenario text v) → AllByRecursion IsLine (lines_of s.given)
 given_lines text v s =
     let n = s.bytes in (
-      said_is_line (codes "generals") s.given.generals (word _ refl (omega arith)) n.generals,
+      said_is_line (codes "generals") s.given.numbers.generals (word _ refl (omega arith)) n.generals,
       edges_are_lines s.given.edges _ n.edges (
-        said_is_line (codes "traitors") s.given.traitors (word _ refl (omega arith)) n.traitors,
+        said_is_line (codes "traitors") s.given.numbers.traitors (word _ refl (omega arith)) n.traitors,
         (
-          said_is_line (codes "diameter") s.given.diameter (word _ refl (omega arith)) n.diameter,
+          said_is_line (codes "diameter") s.given.numbers.diameter (word _ refl (omega arith)) n.diameter,
           (
-            said_is_line (codes "orders") s.given.orders (word _ refl (omega arith)) n.orders,
+            said_is_line (codes "orders") s.given.numbers.orders (word _ refl (omega arith)) n.orders,
             (
-              said_is_line (codes "choice") s.given.choice (word _ refl (omega arith)) n.choice,
+              said_is_line (codes "choice") s.given.numbers.choice (word _ refl (omega arith)) n.choice,
               (
                 said_is_line (codes "order") s.given.order (word _ refl (omega arith)) n.order,
                 (one_field (codes "end") (word _ refl (omega arith)), tt),
@@ -191,28 +194,29 @@ given_lines text v s =
       ),
     )
 
-regrouped : (g : Given) → map line_of (lines_of g) ++ [] ∷ [] ≡ line_of (said (codes "generals") g.generals) ∷ (map (λ e. line_of (edge_line e)) g.edges ++ (line_of (said (codes "traitors") g.traitors) ∷ line_of (said (codes "diameter") g.diameter) ∷ line_of (said (codes "orders") g.orders) ∷ line_of (said (codes "choice") g.choice) ∷ line_of (said (codes "order") g.order) ∷ line_of (codes "end" ∷ []) ∷ [] ∷ []))
+regrouped : (g : Given) → map line_of (lines_of g) ++ [] ∷ [] ≡ line_of (said (codes "generals") g.numbers.generals) ∷ (map (λ e. line_of (edge_line e)) g.edges ++ (line_of (said (codes "traitors") g.numbers.traitors) ∷ line_of (said (codes "diameter") g.numbers.diameter) ∷ line_of (said (codes "orders") g.numbers.orders) ∷ line_of (said (codes "choice") g.numbers.choice) ∷ line_of (said (codes "order") g.order) ∷ line_of (codes "end" ∷ []) ∷ [] ∷ []))
 unfolding closing_of
 regrouped g =
-    ap (λ (r : List (List ℕ)). line_of (said (codes "generals") g.generals) ∷ r)
+    ap (λ (r : List (List ℕ)). line_of (said (codes "generals") g.numbers.generals) ∷ r)
     (ap (λ (r : List (List ℕ)). r ++ [] ∷ []) (map-append line_of (map edge_line g.edges) (closing_of g) ∙ ap (λ (r : List (List ℕ)). r ++ map line_of (closing_of g)) (map-map line_of edge_line g.edges))
     ∙ append_assoc (map (λ e. line_of (edge_line e)) g.edges) (map line_of (closing_of g)) ([] ∷ []))
 
-pub scenario_again : (text : List ℕ) (v : Plain) → Spells text v → scenario_of text ≡ Ok v
+pub scenario_again : (text : List ℕ) (v : Plain) → SpellsScenario text v → scenario_of text ≡ Ok v
 unfolding scenario_of
 scenario_again text v s =
     let g = s.given in
     let n = s.bytes in
-    let tail : List (List ℕ) = line_of (said (codes "diameter") g.diameter) ∷ line_of (said (codes "orders") g.orders) ∷ line_of (said (codes "choice") g.choice) ∷ line_of (said (codes "order") g.order) ∷ line_of (codes "end" ∷ []) ∷ [] ∷ [] in
-    let all : parts text ≡ line_of (said (codes "generals") g.generals) ∷ (map (λ e. line_of (edge_line e)) g.edges ++ (line_of (said (codes "traitors") g.traitors) ∷ tail)) =
+    let tail : List (List ℕ) = line_of (said (codes "diameter") g.numbers.diameter) ∷ line_of (said (codes "orders") g.numbers.orders) ∷ line_of (said (codes "choice") g.numbers.choice) ∷ line_of (said (codes "order") g.order) ∷ line_of (codes "end" ∷ []) ∷ [] ∷ [] in
+    let all : parts text ≡ line_of (said (codes "generals") g.numbers.generals) ∷ (map (λ e. line_of (edge_line e)) g.edges ++ (line_of (said (codes "traitors") g.numbers.traitors) ∷ tail)) =
     ap parts s.text_is ∙ parts_again (lines_of g) (given_lines text v s) ∙ regrouped g in
-    let o = opening_again g.generals g.edges g.traitors tail n.generals n.edges n.traitors refl in
+    let o = opening_again g.numbers.generals g.edges g.numbers.traitors tail n.generals n.edges n.traitors refl in
+    let made : network_of (record { generals = g.numbers.generals; traitors = g.numbers.traitors; diameter = g.numbers.diameter; orders = g.numbers.orders; choice = g.numbers.choice }) g.edges ≡ Ok v.net = s.network in
     let below : ltb g.order v.net.orders ≡ true = lt-ltb _ _ (rw s.order s.known) in
     rw (
       all,
       o.1,
-      settings_again o.0 g.diameter g.orders g.choice (line_of (said (codes "order") g.order) ∷ line_of (codes "end" ∷ []) ∷ [] ∷ []) n.diameter n.orders n.choice refl,
-      s.network,
+      settings_again o.0 g.numbers.diameter g.numbers.orders g.numbers.choice (line_of (said (codes "order") g.order) ∷ line_of (codes "end" ∷ []) ∷ [] ∷ []) n.diameter n.orders n.choice refl,
+      made,
       numbered_again (o.0 + 4) g.order (codes "order") (line_of (codes "end" ∷ []) ∷ [] ∷ []) (word _ refl (omega arith)) n.order refl,
       below,
       closing_again (o.0 + 5),

@@ -1,7 +1,7 @@
 -- A text that is cut at its first line feed.
 use Rattle.std.proofs.Common.{◌≡◌, ℕ, ◌+◌, ◌<◌, ◌≤◌, Bool, true, false, cond, not, ltb, eqb, List, [], ◌∷◌, length, take, drop, Some, None, Ok, refl, ap, arith}
 use Rattle.gen_report.specs.Text.{is_foreign, parts}
-use Rattle.gen_report.specs.Lines.{line_at}
+use Rattle.gen_report.specs.LineReading.{line_at}
 use Rattle.std.specs.List.{list_any, join_with_byte, slice_split, onto_first, position, position_or_len}
 use Rattle.std.proofs.lemmas.Bool.{ltb-true, ltb-false, le-ltb}
 use Rattle.std.proofs.lemmas.Bool.Decides.{nat_tests}

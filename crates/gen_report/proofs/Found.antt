@@ -21,9 +21,11 @@ use Rattle.gen_report.specs.declared.fault.LineFault.TheVariants.{Unfinished, Sh
 use Rattle.gen_report.specs.declared.fault.LineFault.TheVariants as faults
 use Rattle.gen_report.specs.declared.fault.ScenarioFault.{ScenarioFault}
 use Rattle.gen_report.specs.Text.{parts, is_foreign}
-use Rattle.gen_report.specs.Lines.{EdgeLines, fault_at, after_edge, number_at, number_behind, line_at, fields_at, numbered, edge_in, edges_at, word_alone}
-use Rattle.gen_report.specs.Reading.{Opening, Settings, network_at, opening_at, settings_at, closing_at, scenario_of}
-use Rattle.gen_report.specs.Spelling.{Given, said, edge_line, lines_of, text_of, Spells}
+use Rattle.gen_report.specs.LineReading.{fault_at, number_in, number_behind, line_at, fields_at, numbered, word_alone}
+use Rattle.gen_report.specs.EdgeReading.{EdgeLines, after_edge, edge_in, edge_lines_at}
+use Rattle.gen_report.specs.NumbersReading.{Opening, Settings, opening_at, settings_at, numbers_said}
+use Rattle.gen_report.specs.ScenarioReading.{network_at, closing_at, scenario_of}
+use Rattle.gen_report.specs.Scenario.{Given, said, edge_line, lines_of, text_of, SpellsScenario}
 use Rattle.gen_report.proofs.Cuts.{joined}
 
 abbrev pub line_of : List (List ℕ) → List ℕ
@@ -67,7 +69,7 @@ given : (o : Option ℕ) (k n : ℕ) → (let r : Result ℕ ScenarioFault = eli
 given None k n e = absurd cc
 given (Some m) k n e = cc
 
-digits_found : (k n : ℕ) (bs : List ℕ) → number_at k bs ≡ Ok n → (bs ≡ decimal n) × (n < 256)
+digits_found : (k n : ℕ) (bs : List ℕ) → number_in k bs ≡ Ok n → (bs ≡ decimal n) × (n < 256)
 digits_found k n bs e = number_found bs n (given (number_of bs) k n e)
 
 behind_found : (k n : ℕ) (word : List ℕ) (fs : List (List ℕ)) → number_behind k word fs ≡ Ok n → (fs ≡ said word n) × (n < 256)
@@ -75,7 +77,7 @@ unfolding number_behind
 behind_found k n word [] e = absurd cc
 behind_found k n word (w ∷ []) e = absurd cc
 behind_found k n word (w ∷ x ∷ []) e =
-    passed (bytes_eq w word) (fault_at Shape k) (number_at k x) n e (λ same read.
+    passed (bytes_eq w word) (fault_at Shape k) (number_in k x) n e (λ same read.
     let d = digits_found k n x read in
     let is : w ≡ word = (bytes_eq-Decides w word).0 same in
     (rw (is, d.0) refl, d.1))
@@ -113,9 +115,9 @@ edge_found k [] e h = absurd cc
 edge_found k (w ∷ []) e h = absurd cc
 edge_found k (w ∷ x ∷ []) e h = absurd cc
 edge_found k (w ∷ x ∷ y ∷ []) e h =
-    chosen (bytes_eq w (codes "edge")) (number_at k x >>= λ a. number_at k y >>= λ b. some_edge a b) e h (λ word h0.
-    after (number_at k x) (λ a. number_at k y >>= λ b. some_edge a b) (Some e) h0 (λ a first h1.
-    after (number_at k y) (λ b. some_edge a b) (Some e) h1 (λ b second h2.
+    chosen (bytes_eq w (codes "edge")) (number_in k x >>= λ a. number_in k y >>= λ b. some_edge a b) e h (λ word h0.
+    after (number_in k x) (λ a. number_in k y >>= λ b. some_edge a b) (Some e) h0 (λ a first h1.
+    after (number_in k y) (λ b. some_edge a b) (Some e) h1 (λ b second h2.
     let same : w ≡ codes "edge" = (bytes_eq-Decides w (codes "edge")).0 word in
     let da = digits_found k a x first in
     let db = digits_found k b y second in
@@ -137,14 +139,14 @@ after_found (Some x) k line more fs rest others o is long was each e =
     let head : line ≡ line_of (edge_line x) = cc in
     at_end {F = ScenarioFault} (EdgesOf (line ∷ more)) (record p { found = x ∷ p.found }) o made (ap (λ (l : List ℕ). l ∷ more) head ∙ ap (λ (m : List (List ℕ)). line_of (edge_line x) ∷ m) t.0, (f.1, t.1), t.2))
 
-edges_found : (k : ℕ) (ps : List (List ℕ)) (o : EdgeLines) → edges_at k ps ≡ Ok o → EdgesOf ps o
-unfolding edges_at
+edges_found : (k : ℕ) (ps : List (List ℕ)) (o : EdgeLines) → edge_lines_at k ps ≡ Ok o → EdgesOf ps o
+unfolding edge_lines_at
 edges_found k [] o e = absurd cc
 edges_found k (line ∷ more) o e =
-    after (fields_at k (line ∷ more)) (λ l. edge_in k l.0 >>= λ edge. after_edge edge k l.0 l.1 (edges_at (k + 1) more)) o e (λ l read e0.
-    after (edge_in k l.0) (λ edge. after_edge edge k l.0 l.1 (edges_at (k + 1) more)) o e0 (λ edge was e1.
+    after (fields_at k (line ∷ more)) (λ l. edge_in k l.0 >>= λ edge. after_edge edge k l.0 l.1 (edge_lines_at (k + 1) more)) o e (λ l read e0.
+    after (edge_in k l.0) (λ edge. after_edge edge k l.0 l.1 (edge_lines_at (k + 1) more)) o e0 (λ edge was e1.
     let f = fields_found k (line ∷ more) l read in
-    after_found edge k line more l.0 l.1 (edges_at (k + 1) more) o f.0 f.1 was (λ p h. edges_found (k + 1) more p h) e1))
+    after_found edge k line more l.0 l.1 (edge_lines_at (k + 1) more) o f.0 f.1 was (λ p h. edges_found (k + 1) more p h) e1))
 
 -- the first part is a word, and parts follow it
 abbrev AloneOf : List ℕ → List (List ℕ) → List (List ℕ) → Type 0
@@ -198,8 +200,8 @@ opening_made ps n edges m first found next little = record {
 opening_found : (ps : List (List ℕ)) (o : Opening) → opening_at ps ≡ Ok o → OpeningOf ps o
 unfolding opening_at
 opening_found ps o e =
-    after (numbered (codes "generals") 1 ps) (λ n. edges_at 2 n.1 >>= λ edges. number_behind edges.line (codes "traitors") edges.next >>= λ m. done (record { generals = n.0; edges = edges.found; traitors = m; line = edges.line; after = edges.after })) o e (λ n r0 e0.
-    after (edges_at 2 n.1) (λ edges. number_behind edges.line (codes "traitors") edges.next >>= λ m. done (record { generals = n.0; edges = edges.found; traitors = m; line = edges.line; after = edges.after })) o e0 (λ edges r1 e1.
+    after (numbered (codes "generals") 1 ps) (λ n. edge_lines_at 2 n.1 >>= λ edges. number_behind edges.line (codes "traitors") edges.next >>= λ m. done (record { generals = n.0; edges = edges.found; traitors = m; line = edges.line; after = edges.after })) o e (λ n r0 e0.
+    after (edge_lines_at 2 n.1) (λ edges. number_behind edges.line (codes "traitors") edges.next >>= λ m. done (record { generals = n.0; edges = edges.found; traitors = m; line = edges.line; after = edges.after })) o e0 (λ edges r1 e1.
     after (number_behind edges.line (codes "traitors") edges.next) (λ m. done (record { generals = n.0; edges = edges.found; traitors = m; line = edges.line; after = edges.after })) o e1 (λ m r2 e2.
     let next = behind_found edges.line m (codes "traitors") edges.next r2 in
     at_end {F = ScenarioFault} (OpeningOf ps) (record { generals = n.0; edges = edges.found; traitors = m; line = edges.line; after = edges.after }) o e2
@@ -242,11 +244,11 @@ closing_found k ps u e =
     f.0 ∙ ap (λ (r : List (List ℕ)). line_of (codes "end" ∷ []) ∷ r) (nothing_left rest f.1 (checked _ _ u e0)))
 
 -- the numbers that were read
-abbrev numbers_of : Opening → Settings → ℕ → Given
-numbers_of o s order = record { generals = o.generals; edges = o.edges; traitors = o.traitors; diameter = s.diameter; orders = s.orders; choice = s.choice; order = order }
+abbrev given_by : Opening → Settings → ℕ → Given
+given_by o s order = record { numbers = numbers_said o s; edges = o.edges; order = order }
 
 lines_are : (text : List ℕ) (o : Opening) (s : Settings) (v : ℕ × List (List ℕ)) → OpeningOf (parts text) o → SettingsOf o.after s → s.after ≡ line_of (said (codes "order") v.0) ∷ v.1 → v.1 ≡ line_of (codes "end" ∷ []) ∷ [] ∷ []
-    → parts text ≡ map line_of (lines_of (numbers_of o s v.0)) ++ [] ∷ []
+    → parts text ≡ map line_of (lines_of (given_by o s v.0)) ++ [] ∷ []
 lines_are text o s v first then order last =
     let closing : List (List (List ℕ)) = said (codes "traitors") o.traitors ∷ said (codes "diameter") s.diameter ∷ said (codes "orders") s.orders ∷ said (codes "choice") s.choice ∷ said (codes "order") v.0 ∷ (codes "end" ∷ []) ∷ [] in
     let tail : line_of (said (codes "traitors") o.traitors) ∷ o.after ≡ map line_of closing ++ [] ∷ [] =
@@ -255,11 +257,11 @@ lines_are text o s v first then order last =
     ap (λ (r : List (List ℕ)). r ++ [] ∷ []) (map-append line_of (map edge_line o.edges) closing ∙ ap (λ (r : List (List ℕ)). r ++ map line_of closing) (map-map line_of edge_line o.edges)) ∙ append_assoc (map (λ e. line_of (edge_line e)) o.edges) (map line_of closing) ([] ∷ []) in
     first.lines ∙ ap (λ (r : List (List ℕ)). line_of (said (codes "generals") o.generals) ∷ r) (ap (λ (r : List (List ℕ)). map (λ e. line_of (edge_line e)) o.edges ++ r) tail ∙ sym edges)
 
-spelled : (text : List ℕ) (o : Opening) (s : Settings) (net : Network) (v : ℕ × List (List ℕ)) → OpeningOf (parts text) o → SettingsOf o.after s → network_of o.generals o.edges o.traitors s.diameter s.orders s.choice ≡ Ok net
-    → NumberedOf (codes "order") s.after v → v.0 < net.orders → v.1 ≡ line_of (codes "end" ∷ []) ∷ [] ∷ [] → Spells text (record { net = net; order = v.0 })
+spelled : (text : List ℕ) (o : Opening) (s : Settings) (net : Network) (v : ℕ × List (List ℕ)) → OpeningOf (parts text) o → SettingsOf o.after s → network_of (numbers_said o s) o.edges ≡ Ok net
+    → NumberedOf (codes "order") s.after v → v.0 < net.orders → v.1 ≡ line_of (codes "end" ∷ []) ∷ [] ∷ [] → SpellsScenario text (record { net = net; order = v.0 })
 spelled text o s net v first then is order known last = record {
-  given = numbers_of o s v.0;
-  text_is = sym (joined text) ∙ ap (join_with_byte 10) (lines_are text o s v first then order.0 last) ∙ joined_lines (lines_of (numbers_of o s v.0));
+  given = given_by o s v.0;
+  text_is = sym (joined text) ∙ ap (join_with_byte 10) (lines_are text o s v first then order.0 last) ∙ joined_lines (lines_of (given_by o s v.0));
   bytes = record { generals = first.generals; edges = first.edges; traitors = first.traitors; diameter = then.diameter; orders = then.orders; choice = then.choice; order = order.1 };
   network = is;
   order = refl;
@@ -267,20 +269,20 @@ spelled text o s net v first then is order known last = record {
 }
 
 abbrev network_given : Opening → Settings → Result Network HeaderFault
-network_given o s = network_of o.generals o.edges o.traitors s.diameter s.orders s.choice
+network_given o s = network_of (numbers_said o s) o.edges
 
 rest_found : (text : List ℕ) (o : Opening) (s : Settings) (said : Plain) → OpeningOf (parts text) o → SettingsOf o.after s
     → (network_at (o.line + 3) (network_given o s) >>= λ net. numbered (codes "order") (o.line + 4) s.after >>= λ v. check (nat_lt v.0 net.orders) (fault_at UnknownOrder (o.line + 4)) >>= λ below. closing_at (o.line + 5) v.1 >>= λ ended. done (record { net = net; order = v.0 })) ≡ Ok said
-    → Spells text said
+    → SpellsScenario text said
 rest_found text o s said first then e =
     after (network_at (o.line + 3) (network_given o s)) (λ net. numbered (codes "order") (o.line + 4) s.after >>= λ v. check (nat_lt v.0 net.orders) (fault_at UnknownOrder (o.line + 4)) >>= λ below. closing_at (o.line + 5) v.1 >>= λ ended. done (record { net = net; order = v.0 })) said e (λ net r0 e0.
     after (numbered (codes "order") (o.line + 4) s.after) (λ v. check (nat_lt v.0 net.orders) (fault_at UnknownOrder (o.line + 4)) >>= λ below. closing_at (o.line + 5) v.1 >>= λ ended. done (record { net = net; order = v.0 })) said e0 (λ v r1 e1.
     after_check (nat_lt v.0 net.orders) (fault_at UnknownOrder (o.line + 4)) (λ below. closing_at (o.line + 5) v.1 >>= λ ended. done (record { net = net; order = v.0 })) said e1 (λ below e2.
     after (closing_at (o.line + 5) v.1) (λ ended. done (record { net = net; order = v.0 })) said e2 (λ ended r3 e3.
-    at_end {F = ScenarioFault} (Spells text) (record { net = net; order = v.0 }) said e3
+    at_end {F = ScenarioFault} (SpellsScenario text) (record { net = net; order = v.0 }) said e3
     (spelled text o s net v first then (mapped_ok (λ f. fault_at (faults.Network f) (o.line + 3)) (network_given o s) net r0) (numbered_found (o.line + 4) (codes "order") s.after v r1) (ltb-true _ _ below) (closing_found (o.line + 5) v.1 ended r3))))))
 
-pub scenario_found : (text : List ℕ) (said : Plain) → scenario_of text ≡ Ok said → Spells text said
+pub scenario_found : (text : List ℕ) (said : Plain) → scenario_of text ≡ Ok said → SpellsScenario text said
 unfolding scenario_of
 scenario_found text said e =
     after (opening_at (parts text)) (λ o. settings_at o.line o.after >>= λ s. network_at (o.line + 3) (network_given o s) >>= λ net. numbered (codes "order") (o.line + 4) s.after >>= λ v. check (nat_lt v.0 net.orders) (fault_at UnknownOrder (o.line + 4)) >>= λ below. closing_at (o.line + 5) v.1 >>= λ ended. done (record { net = net; order = v.0 })) said e (λ o r0 e0.

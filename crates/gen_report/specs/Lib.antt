@@ -1,5 +1,7 @@
 pub mod Decisions
-pub mod Lines
-pub mod Reading
-pub mod Spelling
+pub mod EdgeReading
+pub mod LineReading
+pub mod NumbersReading
+pub mod Scenario
+pub mod ScenarioReading
 pub mod Text

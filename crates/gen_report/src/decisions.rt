@@ -23,8 +23,12 @@ fn push_orders(out: &mut String, orders: OrderSet) -> Result<(), AllocError>
     Ok(())
 }
 
+/// Appends the line of a decision.
 fn push_decision(out: &mut String, decision: &Decision) -> Result<(), AllocError>
-    ensures { OnOk result (string_bytes out.new ≡ string_bytes out.old ++ decision_line decision.now) }
+    ensures {
+        OnOk result
+            (string_bytes out.new ≡ string_bytes out.old ++ decision_line decision.now)
+    }
 {
     let general = decision.general.get();
     let order = decision.order.get();
@@ -33,7 +37,7 @@ fn push_decision(out: &mut String, decision: &Decision) -> Result<(), AllocError
     write!(out, " decides {order}\n")
 }
 
-/// The text of decisions: for each a line `general G set 0,1 decides V`, the empty set as `-`.
+/// Returns the text of decisions: for each a line `general G set 0,1 decides V`, the empty set as `-`.
 pub fn print_decisions(alloc: Global, decisions: &[Decision]) -> Result<Vec<u8>, AllocError>
     ensures { IfOk result (λ v. v.items ≡ decisions_text decisions.now) }
 {

@@ -1,7 +1,7 @@
 //! Why a scenario text could not be read.
 ghost use Rattle.std.specs.Prelude.{◌≡◌};
 ghost use Rattle.gen_types.specs.declared.reading.ReadError.TheVariants.{Fault};
-ghost use Rattle.gen_report.specs.Lines.{fault_at};
+ghost use Rattle.gen_report.specs.LineReading.{fault_at};
 
 use gen_net::HeaderFault;
 use gen_types::ReadError;

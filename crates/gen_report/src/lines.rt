@@ -2,8 +2,10 @@
 ghost use Rattle.std.specs.Prelude.{◌≡◌, ◌==◌, ◌<◌, ◌+◌, [], ◌∷◌, length, map, IfOk, MatchOption};
 ghost use Rattle.std.specs.List.{list_any, position};
 ghost use Rattle.gen_types.specs.Reading.{Gives};
+ghost use Rattle.gen_types.specs.Spelled.{IsRead};
 ghost use Rattle.gen_report.specs.Text.{parts, is_foreign};
-ghost use Rattle.gen_report.specs.Lines.{line_at, number_at, number_behind, fields_at, numbered, edge_in, word_alone};
+ghost use Rattle.gen_report.specs.LineReading.{line_at, number_in, number_behind, fields_at, numbered, word_alone};
+ghost use Rattle.gen_report.specs.EdgeReading.{edge_in};
 
 use crate::fault::{LineFault, ScenarioFault};
 use gen_types::{ReadError, decimal_number, split_fields};
@@ -20,8 +22,11 @@ fn line_feed(text: &[u8]) -> Option<usize>
 
 /// The bytes before the first line feed, and what follows it, where there is one.
 fn cut_line(text: &[u8]) -> (&[u8], Option<&[u8]>)
-    ensures { MatchOption result.1 (parts text.now ≡ result.0.now ∷ [])
-        (λ rest. (parts text.now ≡ result.0.now ∷ parts rest.now) × (length text.now ≡ length result.0.now + (length rest.now + 1))) }
+    ensures {
+        MatchOption result.1 (parts text.now ≡ result.0.now ∷ [])
+            (λ rest. (parts text.now ≡ result.0.now ∷ parts rest.now)
+            × (length text.now ≡ length result.0.now + (length rest.now + 1)))
+    }
 {
     match line_feed(text) {
         None => (text, None),
@@ -58,8 +63,8 @@ fn line_at(text: &[u8], line: usize) -> Result<(&[u8], &[u8]), ReadError<Scenari
 }
 
 /// A number in the line.
-fn number_at(digits: &[u8], line: usize) -> Result<u8, ReadError<ScenarioFault>>
-    ensures { Gives (λ n. n) result (number_at line digits.now) }
+fn number_in(digits: &[u8], line: usize) -> Result<u8, ReadError<ScenarioFault>>
+    ensures { IsRead result (number_in line digits.now) }
 {
     match decimal_number(digits) {
         None => Err(LineFault::Number.refused(line)),
@@ -68,18 +73,18 @@ fn number_at(digits: &[u8], line: usize) -> Result<u8, ReadError<ScenarioFault>>
 }
 
 /// The number behind a word, where the line has these two fields.
-#[tactic(auto, unfolding(crate::specs::Lines::number_behind))]
+#[tactic(auto, unfolding(crate::specs::LineReading::number_behind))]
 pub fn number_behind(
     fields: &[&[u8]],
     word: &[u8],
     line: usize,
 ) -> Result<u8, ReadError<ScenarioFault>>
-    ensures { Gives (λ n. n) result (number_behind line word.now (map (λ x. x.now) fields.now)) }
+    ensures { IsRead result (number_behind line word.now (map (λ x. x.now) fields.now)) }
 {
     match fields {
         [first, second] => {
             if *first == word {
-                number_at(second, line)
+                number_in(second, line)
             } else {
                 Err(LineFault::Shape.refused(line))
             }
@@ -94,7 +99,10 @@ pub fn fields_at<'a>(
     text: &'a [u8],
     line: usize,
 ) -> Result<(Vec<&'a [u8]>, &'a [u8]), ReadError<ScenarioFault>>
-    ensures exact { Gives (λ x. (map (λ f. f.now) x.0.items, parts x.1.now)) result (fields_at line (parts text.now)) }
+    ensures exact {
+        Gives (λ x. (map (λ f. f.now) x.0.items, parts x.1.now)) result
+            (fields_at line (parts text.now))
+    }
     ensures shorter { IfOk result (λ x. length x.1.now < length text.now) }
 {
     let (bytes, rest) = line_at(text, line)?;
@@ -103,14 +111,16 @@ pub fn fields_at<'a>(
 }
 
 /// The number behind a word in the line at the front, and the text after it.
-#[tactic(auto, unfolding(crate::specs::Lines::numbered))]
+#[tactic(auto, unfolding(crate::specs::LineReading::numbered))]
 pub fn numbered<'a>(
     alloc: Global,
     text: &'a [u8],
     word: &[u8],
     line: usize,
 ) -> Result<(u8, &'a [u8]), ReadError<ScenarioFault>>
-    ensures exact { Gives (λ x. (x.0, parts x.1.now)) result (numbered word.now line (parts text.now)) }
+    ensures exact {
+        Gives (λ x. (x.0, parts x.1.now)) result (numbered word.now line (parts text.now))
+    }
     ensures shorter { IfOk result (λ x. length x.1.now + 1 < length text.now) }
 {
     let (bytes, rest) = line_at(text, line)?;
@@ -123,14 +133,14 @@ pub fn numbered<'a>(
 }
 
 /// The edge that a line has, where it is a line of an edge.
-#[tactic(auto, unfolding(crate::specs::Lines::edge_in))]
+#[tactic(auto, unfolding(crate::specs::EdgeReading::edge_in))]
 pub fn edge_in(fields: &[&[u8]], line: usize) -> Result<Option<(u8, u8)>, ReadError<ScenarioFault>>
-    ensures { Gives (λ e. e) result (edge_in line (map (λ f. f.now) fields.now)) }
+    ensures { IsRead result (edge_in line (map (λ f. f.now) fields.now)) }
 {
     match fields {
         [word, a, b] if *word == b"edge".as_slice() => {
-            let a = number_at(a, line)?;
-            let b = number_at(b, line)?;
+            let a = number_in(a, line)?;
+            let b = number_in(b, line)?;
             Ok(Some((a, b)))
         }
         _ => Ok(None),
@@ -138,7 +148,7 @@ pub fn edge_in(fields: &[&[u8]], line: usize) -> Result<Option<(u8, u8)>, ReadEr
 }
 
 /// The text after the line at the front, where that line is this word alone.
-#[tactic(auto, unfolding(crate::specs::Lines::word_alone))]
+#[tactic(auto, unfolding(crate::specs::LineReading::word_alone))]
 pub fn only_word<'a>(
     alloc: Global,
     text: &'a [u8],

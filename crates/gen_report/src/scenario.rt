@@ -1,16 +1,18 @@
 //! Scenarios as texts.
 ghost use Rattle.std.specs.Prelude.{◌≡◌, ◌<◌, ◌+◌, ◌^◌, length, map, IfOk, Ok};
 ghost use Rattle.gen_types.specs.Reading.{Gives};
+ghost use Rattle.gen_types.specs.Spelled.{IsRead};
 ghost use Rattle.gen_net.specs.NetworkOf.{network_of};
 ghost use Rattle.gen_world.specs.Scenario.{Plain};
 ghost use Rattle.gen_report.specs.Text.{parts};
-ghost use Rattle.gen_report.specs.Lines.{edges_at};
-ghost use Rattle.gen_report.specs.Reading.{network_at, opening_at, settings_at, closing_at, scenario_of};
-ghost use Rattle.gen_report.specs.Spelling.{OneScenario, Spells};
+ghost use Rattle.gen_report.specs.EdgeReading.{edge_lines_at};
+ghost use Rattle.gen_report.specs.NumbersReading.{opening_at, settings_at};
+ghost use Rattle.gen_report.specs.ScenarioReading.{network_at, closing_at, scenario_of};
+ghost use Rattle.gen_report.specs.Scenario.{OneScenario, SpellsScenario};
 
 use crate::fault::{LineFault, ScenarioFault};
 use crate::lines::{edge_in, fields_at, number_behind, numbered, only_word};
-use gen_net::Net;
+use gen_net::{Net, NetNumbers};
 use gen_types::{OrderNo, ReadError};
 use gen_world::PlainScenario;
 use std::alloc::Global;
@@ -38,7 +40,14 @@ fn edge_lines<'a>(
     first: usize,
 ) -> Result<EdgeLines<'a>, ReadError<ScenarioFault>>
     requires { first + length text.now < 2 ^ 64 }
-    ensures exact { Gives (λ e. record { found = e.found.items; next = map (λ f. f.now) e.next.items; line = e.line; after = parts e.after.now }) result (edges_at first (parts text.now)) }
+    ensures exact {
+        Gives (λ e. record {
+            found = e.found.items;
+            next = map (λ f. f.now) e.next.items;
+            line = e.line;
+            after = parts e.after.now;
+        }) result (edge_lines_at first (parts text.now))
+    }
     ensures room { IfOk result (λ e. e.line + 1 + length e.after.now < 2 ^ 64) }
 {
     let mut found = Vec::new(alloc);
@@ -72,9 +81,17 @@ struct Opening<'a> {
     after: &'a [u8],
 }
 
-#[tactic(auto, unfolding(crate::specs::Reading::opening_at))]
+#[tactic(auto, unfolding(crate::specs::NumbersReading::opening_at))]
 fn read_opening<'a>(alloc: Global, text: &'a [u8]) -> Result<Opening<'a>, ReadError<ScenarioFault>>
-    ensures exact { Gives (λ o. record { generals = o.generals; edges = o.edges.items; traitors = o.traitors; line = o.line; after = parts o.after.now }) result (opening_at (parts text.now)) }
+    ensures exact {
+        Gives (λ o. record {
+            generals = o.generals;
+            edges = o.edges.items;
+            traitors = o.traitors;
+            line = o.line;
+            after = parts o.after.now;
+        }) result (opening_at (parts text.now))
+    }
     ensures room { IfOk result (λ o. o.line + 1 + length o.after.now < 2 ^ 64) }
 {
     let (generals, rest) = numbered(alloc, text, b"generals", 1)?;
@@ -98,14 +115,21 @@ struct Settings<'a> {
     after: &'a [u8],
 }
 
-#[tactic(auto, unfolding(crate::specs::Reading::settings_at))]
+#[tactic(auto, unfolding(crate::specs::NumbersReading::settings_at))]
 fn read_settings<'a>(
     alloc: Global,
     text: &'a [u8],
     line: usize,
 ) -> Result<Settings<'a>, ReadError<ScenarioFault>>
     requires { line + 1 + length text.now < 2 ^ 64 }
-    ensures exact { Gives (λ s. record { diameter = s.diameter; orders = s.orders; choice = s.choice; after = parts s.after.now }) result (settings_at line (parts text.now)) }
+    ensures exact {
+        Gives (λ s. record {
+            diameter = s.diameter;
+            orders = s.orders;
+            choice = s.choice;
+            after = parts s.after.now;
+        }) result (settings_at line (parts text.now))
+    }
     ensures room { IfOk result (λ s. line + 4 + length s.after.now < 2 ^ 64) }
 {
     let (diameter, rest) = numbered(alloc, text, b"diameter", line + 1)?;
@@ -119,23 +143,23 @@ fn read_settings<'a>(
     })
 }
 
-/// The network of these numbers and edges; a fault of theirs is one of the line of the choice.
+/// Returns the network of these numbers and edges; a fault of theirs is one of this line.
 fn make_network(
     alloc: Global,
-    opening: &Opening<'_>,
-    settings: &Settings<'_>,
+    numbers: NetNumbers,
+    edges: &[(u8, u8)],
     line: usize,
 ) -> Result<Net, ReadError<ScenarioFault>>
-    ensures { Gives (λ net. net) result (network_at line (network_of opening.now.generals opening.now.edges.items opening.now.traitors settings.now.diameter settings.now.orders settings.now.choice)) }
+    ensures { IsRead result (network_at line (network_of numbers edges.now)) }
 {
     let made = Net::new(
         alloc,
-        opening.generals,
-        &opening.edges,
-        opening.traitors,
-        settings.diameter,
-        settings.orders,
-        settings.choice,
+        numbers.generals,
+        edges,
+        numbers.traitors,
+        numbers.diameter,
+        numbers.orders,
+        numbers.choice,
     );
     match made {
         Ok(net) => Ok(net),
@@ -145,10 +169,10 @@ fn make_network(
 }
 
 /// Passes where the line is `end` and nothing follows it.
-#[tactic(auto, using(crate::proofs::Cuts::joined), unfolding(crate::specs::Reading::closing_at))]
+#[tactic(auto, using(crate::proofs::Cuts::joined), unfolding(crate::specs::ScenarioReading::closing_at))]
 fn closing(alloc: Global, text: &[u8], line: usize) -> Result<(), ReadError<ScenarioFault>>
     requires { line + length text.now < 2 ^ 64 }
-    ensures { Gives (λ u. u) result (closing_at line (parts text.now)) }
+    ensures { IsRead result (closing_at line (parts text.now)) }
 {
     let rest = only_word(alloc, text, b"end", line)?;
     if !rest.is_empty() {
@@ -157,14 +181,21 @@ fn closing(alloc: Global, text: &[u8], line: usize) -> Result<(), ReadError<Scen
     Ok(())
 }
 
-#[tactic(auto, unfolding(crate::specs::Reading::scenario_of))]
+#[tactic(auto, unfolding(crate::specs::ScenarioReading::scenario_of))]
 fn whole(alloc: Global, text: &[u8]) -> Result<ScenarioText, ReadError<ScenarioFault>>
     ensures { Gives (λ s. s.plain) result (scenario_of text.now) }
 {
     let opening = read_opening(alloc, text)?;
     let line = opening.line;
     let settings = read_settings(alloc, opening.after, line)?;
-    let net = make_network(alloc, &opening, &settings, line + 3)?;
+    let numbers = NetNumbers {
+        generals: opening.generals,
+        traitors: opening.traitors,
+        diameter: settings.diameter,
+        orders: settings.orders,
+        choice: settings.choice,
+    };
+    let net = make_network(alloc, numbers, &opening.edges, line + 3)?;
     let (order, rest) = numbered(alloc, settings.after, b"order", line + 4)?;
     if order >= net.orders() {
         return Err(LineFault::UnknownOrder.refused(line + 4));
@@ -181,9 +212,11 @@ fn whole(alloc: Global, text: &[u8]) -> Result<ScenarioText, ReadError<ScenarioF
 /// a fault was met. Lines of seeds and scripts are not read, and are lines of another shape.
 pub fn read_scenario(alloc: Global, text: &[u8]) -> Result<ScenarioText, ReadError<ScenarioFault>>
     // What is read is spelled so.
-    ensures found { IfOk result (λ s. Spells text.now s.plain) }
+    ensures found { IfOk result (λ s. SpellsScenario text.now s.plain) }
     // What is spelled so is read, unless memory runs out.
-    ensures only { (said : Plain) → Spells text.now said → Gives (λ s. s.plain) result (Ok said) }
+    ensures only {
+        (said : Plain) → SpellsScenario text.now said → Gives (λ s. s.plain) result (Ok said)
+    }
     // Which fault is the first, and of which line.
     ensures exact { Gives (λ s. s.plain) result (scenario_of text.now) }
 {

@@ -2,7 +2,7 @@ use super::*;
 use gen_net::HeaderFault;
 use gen_types::{GeneralNo, OrderNo, OrderSet, ReadError};
 use gen_world::Decision;
-use std::alloc::Global;
+use std::alloc::{AllocError, Global};
 use std::test::*;
 
 const WHOLE: &[u8] =
@@ -29,8 +29,7 @@ fn reads_a_whole_text(rt: HostRuntime) {
 #[test]
 fn names_the_first_fault(rt: HostRuntime) {
     let alloc = rt.alloc();
-    let network = LineFault::Network;
-    let cases: [(&[u8], LineFault, usize); 26] = [
+    let cases: [(&[u8], LineFault, usize); 23] = [
         (b"", LineFault::Unfinished, 1),
         (b"generals 2\n", LineFault::Unfinished, 2),
         (b"generals", LineFault::Unfinished, 1),
@@ -48,21 +47,6 @@ fn names_the_first_fault(rt: HostRuntime) {
         (b"generals 1000\n", LineFault::Number, 1),
         (b"generals +2\n", LineFault::Number, 1),
         (b"generals 2\nedge 0 x\n", LineFault::Number, 2),
-        (
-            b"generals 1\ntraitors 0\ndiameter 1\norders 2\nchoice 0\n",
-            network(HeaderFault::GeneralCount),
-            5,
-        ),
-        (
-            b"generals 2\ntraitors 8\ndiameter 9\norders 2\nchoice 0\n",
-            network(HeaderFault::RoundCount),
-            5,
-        ),
-        (
-            b"generals 2\nedge 0 1\nedge 1 0\ntraitors 9\ndiameter 1\norders 2\nchoice 2\n",
-            network(HeaderFault::BadEdge),
-            7,
-        ),
         (
             b"generals 2\ntraitors 0\ndiameter 1\norders 2\nchoice 0\norder 2\n",
             LineFault::UnknownOrder,
@@ -84,6 +68,78 @@ fn names_the_first_fault(rt: HostRuntime) {
             "{kind} line {line}"
         );
     }
+}
+
+#[test]
+fn names_the_first_fault_of_a_network(rt: HostRuntime) {
+    let alloc = rt.alloc();
+    let cases: [(&[u8], HeaderFault, usize); 7] = [
+        (
+            b"generals 1\ntraitors 9\ndiameter 1\norders 2\nchoice 0\n",
+            HeaderFault::GeneralCount,
+            5,
+        ),
+        (
+            b"generals 2\nedge 0 1\nedge 1 0\ntraitors 9\ndiameter 1\norders 2\nchoice 2\n",
+            HeaderFault::BadEdge,
+            7,
+        ),
+        (
+            b"generals 2\ntraitors 9\ndiameter 0\norders 2\nchoice 0\n",
+            HeaderFault::TraitorCount,
+            5,
+        ),
+        (
+            b"generals 2\ntraitors 8\ndiameter 16\norders 1\nchoice 0\n",
+            HeaderFault::DiameterRange,
+            5,
+        ),
+        (
+            b"generals 2\ntraitors 8\ndiameter 9\norders 16\nchoice 0\n",
+            HeaderFault::RoundCount,
+            5,
+        ),
+        (
+            b"generals 2\ntraitors 8\ndiameter 8\norders 16\nchoice 2\n",
+            HeaderFault::OrderCount,
+            5,
+        ),
+        (
+            b"generals 2\nedge 1 0\ntraitors 0\ndiameter 1\norders 15\nchoice 2\n",
+            HeaderFault::UnknownChoice,
+            6,
+        ),
+    ];
+    for (text, inner, line) in cases {
+        assert!(rt;
+            fault(alloc, text) == Some((LineFault::Network(inner), line)),
+            "{inner} line {line}"
+        );
+    }
+}
+
+/// The text of the largest network: 16 generals who are all neighbours, 16 rounds and 15 orders.
+fn largest(alloc: Global) -> Result<String, AllocError> {
+    let mut text = String::from_str(alloc, "generals 16\n")?;
+    for high in 1..16u8 {
+        for low in 0..high {
+            write!(text, "edge {high} {low}\n")?;
+        }
+    }
+    text.push_str("traitors 1\ndiameter 15\norders 15\nchoice 1\norder 14\nend\n")?;
+    Ok(text)
+}
+
+#[test]
+fn reads_the_largest(rt: HostRuntime) -> Result<(), Fail> {
+    let text = largest(rt.alloc())?;
+    let read = read_scenario(rt.alloc(), text.as_bytes());
+    assert!(rt;
+        matches!(&read, Ok(said) if said.plain.net().edges().len() == 120
+            && said.plain.net().rounds() == 16
+            && said.plain.order().get() == 14)
+    );
+    Ok(())
 }
 
 #[test]
@@ -171,5 +227,25 @@ fn prints_decisions(rt: HostRuntime) -> Result<(), Fail> {
     let text = print_decisions(rt.alloc(), &decisions)?;
     let want = b"general 1 set 0,12 decides 12\ngeneral 15 set - decides 0\n";
     assert!(rt; text.as_slice() == want.as_slice());
+    Ok(())
+}
+
+#[test]
+fn prints_16_decisions(rt: HostRuntime) -> Result<(), Fail> {
+    let alloc = rt.alloc();
+    let mut orders = OrderSet::new();
+    for order in 0..15u8 {
+        orders.insert(OrderNo::at(order));
+    }
+    let mut decisions = Vec::new(alloc);
+    let mut want = String::new(alloc);
+    for number in 0..16u8 {
+        let general = GeneralNo::at(number);
+        let order = OrderNo::at(14);
+        decisions.push(Decision { general, orders, order })?;
+        write!(want, "general {number} set 0,1,2,3,4,5,6,7,8,9,10,11,12,13,14 decides 14\n")?;
+    }
+    let text = print_decisions(alloc, &decisions)?;
+    assert!(rt; text.as_slice() == want.as_bytes());
     Ok(())
 }

@@ -9,7 +9,7 @@ use Rattle.hex.proofs.HexLemmas.{decode_of-even}
 use Rattle.gen_types.proofs.Decimals.{both}
 use Rattle.gen_types.proofs.Steps.{after_guard, at_end}
 use Rattle.gen_types.proofs.Cutting.{IsFree}
-use Rattle.gen_script.specs.LineSpelling.{IsHexDigit, SpellsBytes}
+use Rattle.gen_script.specs.Digits.{IsHexDigit, SpellsBytes}
 
 after : {A B P : Type 0} (r : Result A FromHexError) (f : A → Result B FromHexError) (y : B) → (r >>= f) ≡ Ok y → ((x : A) → r ≡ Ok x → f x ≡ Ok y → P) → P
 after (Ok x) f y e k = k x refl e

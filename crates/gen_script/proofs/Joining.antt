@@ -8,7 +8,7 @@ use Rattle.gen_types.specs.Reading.{◌>>=◌, Fails}
 use Rattle.gen_types.proofs.Decimals.{both}
 use Rattle.gen_types.proofs.Lists.{Contains_here, Contains_there, Contains_cases, Contains_nil, bool_cases}
 use Rattle.gen_net.specs.Network.{Network, AreNeighbours, IsNetwork}
-use Rattle.gen_net.specs.NetworkOf.{joins}
+use Rattle.gen_net.specs.Edges.{joins}
 
 pub either : (a b : Bool) → (a || b) ≡ true → (a ≡ true) ⊎ (b ≡ true)
 either true b e = inl refl
@@ -73,8 +73,8 @@ joined_again a b edges (inr h) = any_of (joins a b) edges (b, a) h (joins_back a
 
 -- generals whom an edge joins are below n
 pub joined_below : (net : Network) → IsNetwork net → (a b : ℕ) → AreNeighbours net a b → (a < net.generals) × (b < net.generals)
-joined_below net ok a b (inl h) = let r = ok.edges a b h in (omega (arith, r.0, r.1), r.1)
-joined_below net ok a b (inr h) = let r = ok.edges b a h in (r.1, omega (arith, r.0, r.1))
+joined_below net ok a b (inl h) = let r = ok.edges.inside a b h in (omega (arith, r.0, r.1), r.1)
+joined_below net ok a b (inr h) = let r = ok.edges.inside b a h in (r.1, omega (arith, r.0, r.1))
 
 pub far_off : (net : Network) → IsNetwork net → (a b : ℕ) → net.generals ≤ b → list_any (joins a b) net.edges ≡ false
 far_off net ok a b le =

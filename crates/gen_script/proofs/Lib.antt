@@ -4,3 +4,4 @@ pub mod LineAgain
 pub mod LineFound
 pub mod PathSteps
 pub mod PathTexts
+pub mod Words

@@ -9,9 +9,10 @@ use Rattle.gen_net.specs.Network.{Network, IsNetwork, rounds, AreNeighbours}
 use Rattle.gen_script.specs.declared.lines.ScriptLine.{ScriptLine}
 use Rattle.gen_script.specs.declared.lines.ScriptLine.TheVariants.{Make, Pass, Bend, Raw, Hide, TwoHeads}
 use Rattle.gen_script.specs.declared.path_fields.PathKind.TheVariants.{Whole, Added}
-use Rattle.gen_script.specs.LineFields.{round_in, neighbour_in, order_in, some_bytes, parcel_in}
-use Rattle.gen_script.specs.LineOf.{make_in, pass_in, bend_in, raw_in, hide_in, line_in, script_line_of}
-use Rattle.gen_script.specs.LineSpelling.{SpellsBytes, HasFields, IsRound, IsScriptLine, SpellsLine}
+use Rattle.gen_script.specs.FieldReading.{round_in, neighbour_in, order_in, some_bytes, parcel_in}
+use Rattle.gen_script.specs.LineReading.{make_in, pass_in, bend_in, raw_in, hide_in, line_in, script_line_of}
+use Rattle.gen_script.specs.Digits.{SpellsBytes}
+use Rattle.gen_script.specs.Line.{HasFields, IsRound, IsScriptLine, SpellsLine}
 use Rattle.gen_script.proofs.Hexes.{decoded_again, digits_free}
 use Rattle.gen_script.proofs.Joining.{joined_again, joined_below}
 use Rattle.gen_script.proofs.PathTexts.{digits_again, path_again, path_free}
@@ -20,15 +21,15 @@ use Rattle.gen_script.proofs.PathTexts.{digits_again, path_again, path_free}
 
 round_again : (net : Network) (first r : ℕ) → IsNetwork net → IsRound net first r → round_in net first (decimal r) ≡ Ok r
 unfolding round_in
-round_again net first r ok is = rw (digits_again r (omega (arith, is.1, ok.few_rounds)), le-leb first r is.0, le-leb r (rounds net) is.1) refl
+round_again net first r ok is = rw (digits_again r (omega (arith, is.1, ok.ranges.few_rounds)), le-leb first r is.0, le-leb r (rounds net) is.1) refl
 
 neighbour_again : (net : Network) (me g : ℕ) → IsNetwork net → AreNeighbours net me g → neighbour_in net me (decimal g) ≡ Ok g
 unfolding neighbour_in
-neighbour_again net me g ok near = let below = joined_below net ok me g near in rw (digits_again g (omega (arith, below.1, ok.few_generals)), joined_again me g net.edges near) refl
+neighbour_again net me g ok near = let below = joined_below net ok me g near in rw (digits_again g (omega (arith, below.1, ok.ranges.few_generals)), joined_again me g net.edges near) refl
 
 order_again : (net : Network) (v : ℕ) → IsNetwork net → v < net.orders → order_in net (decimal v) ≡ Ok v
 unfolding order_in
-order_again net v ok lt = rw (digits_again v (omega (arith, ok.few_orders)), lt-ltb v net.orders lt) refl
+order_again net v ok lt = rw (digits_again v (omega (arith, ok.ranges.few_orders)), lt-ltb v net.orders lt) refl
 
 bytes_again : (bytes : List ℕ) → bytes ≢ [] → some_bytes (Ok bytes) ≡ Ok bytes
 bytes_again [] some = absurd (some refl)
@@ -42,9 +43,9 @@ parcel_again digits bytes h some = ap some_bytes (decoded_again digits bytes h) 
 line_again : (net : Network) (me : ℕ) (fs : List (List ℕ)) (said : ScriptLine) → IsNetwork net → HasFields fs said → IsScriptLine net me said → line_in net me fs ≡ Ok said
 unfolding line_in make_in pass_in bend_in raw_in hide_in
 line_again net me fs (Make r h v p) ok is so =
-    ap (line_in net me) is ∙ rw (round_again net 1 r ok so.0, neighbour_again net me h ok so.1, order_again net v ok so.2, path_again net me Whole r p ok.few_generals so.3 (so.4, so.5)) refl
+    ap (line_in net me) is ∙ rw (round_again net 1 r ok so.0, neighbour_again net me h ok so.1, order_again net v ok so.2, path_again net me Whole r p ok.ranges.few_generals so.3 (so.4, so.5)) refl
 line_again net me fs (Pass r h k v p) ok is so =
-    ap (line_in net me) is ∙ rw (round_again net 1 r ok so.0, neighbour_again net me h ok so.1, neighbour_again net me k ok so.2, order_again net v ok so.3, path_again net me Added r p ok.few_generals so.4 (so.5, so.6)) refl
+    ap (line_in net me) is ∙ rw (round_again net 1 r ok so.0, neighbour_again net me h ok so.1, neighbour_again net me k ok so.2, order_again net v ok so.3, path_again net me Added r p ok.ranges.few_generals so.4 (so.5, so.6)) refl
 line_again net me fs (Bend r h k v) ok is so =
     ap (line_in net me) is ∙ rw (round_again net 2 r ok so.0, neighbour_again net me h ok so.1, neighbour_again net me k ok so.2, order_again net v ok so.3) refl
 line_again net me fs (Raw r h parcel) ok is so =
@@ -56,13 +57,13 @@ line_again net me fs TwoHeads ok is so = ap (line_in net me) is
 -- ---- the fields of a line
 
 round_free : (net : Network) (first r : ℕ) → IsNetwork net → IsRound net first r → IsFree 32 (decimal r)
-round_free net first r ok is = decimal_free 32 r (omega arith) (omega (arith, is.1, ok.few_rounds))
+round_free net first r ok is = decimal_free 32 r (omega arith) (omega (arith, is.1, ok.ranges.few_rounds))
 
 neighbour_free : (net : Network) (me g : ℕ) → IsNetwork net → AreNeighbours net me g → IsFree 32 (decimal g)
-neighbour_free net me g ok near = let below = joined_below net ok me g near in decimal_free 32 g (omega arith) (omega (arith, below.1, ok.few_generals))
+neighbour_free net me g ok near = let below = joined_below net ok me g near in decimal_free 32 g (omega arith) (omega (arith, below.1, ok.ranges.few_generals))
 
 order_free : (net : Network) (v : ℕ) → IsNetwork net → v < net.orders → IsFree 32 (decimal v)
-order_free net v ok lt = decimal_free 32 v (omega arith) (omega (arith, ok.few_orders))
+order_free net v ok lt = decimal_free 32 v (omega arith) (omega (arith, ok.ranges.few_orders))
 
 -- parts that are joined and cut again are the same
 abbrev AreParts : List (List ℕ) → Type 0
@@ -70,9 +71,9 @@ AreParts fs = fields (join_with_byte 32 fs) ≡ fs
 
 fields_again : (net : Network) (me : ℕ) (fs : List (List ℕ)) (said : ScriptLine) → IsNetwork net → HasFields fs said → IsScriptLine net me said → AreParts fs
 fields_again net me fs (Make r h v p) ok is so =
-    rw is (cut_joined 32 (codes "make") _ refl (round_free net 1 r ok so.0, (neighbour_free net me h ok so.1, (order_free net v ok so.2, (path_free net me p ok.few_generals so.3, tt)))))
+    rw is (cut_joined 32 (codes "make") _ refl (round_free net 1 r ok so.0, (neighbour_free net me h ok so.1, (order_free net v ok so.2, (path_free net me p ok.ranges.few_generals so.3, tt)))))
 fields_again net me fs (Pass r h k v p) ok is so =
-    rw is (cut_joined 32 (codes "pass") _ refl (round_free net 1 r ok so.0, (neighbour_free net me h ok so.1, (neighbour_free net me k ok so.2, (order_free net v ok so.3, (path_free net me p ok.few_generals so.4, tt))))))
+    rw is (cut_joined 32 (codes "pass") _ refl (round_free net 1 r ok so.0, (neighbour_free net me h ok so.1, (neighbour_free net me k ok so.2, (order_free net v ok so.3, (path_free net me p ok.ranges.few_generals so.4, tt))))))
 fields_again net me fs (Bend r h k v) ok is so =
     rw is (cut_joined 32 (codes "bend") _ refl (round_free net 2 r ok so.0, (neighbour_free net me h ok so.1, (neighbour_free net me k ok so.2, (order_free net v ok so.3, tt)))))
 fields_again net me fs (Raw r h parcel) ok is so =

@@ -13,16 +13,17 @@ use Rattle.gen_types.specs.Texts.{fields}
 use Rattle.gen_types.proofs.Steps.{after, after_check, at_end}
 use Rattle.gen_types.proofs.Decimals.{both}
 use Rattle.gen_net.specs.Network.{Network, rounds, AreNeighbours}
-use Rattle.gen_net.specs.NetworkOf.{joins}
+use Rattle.gen_net.specs.Edges.{joins}
 use Rattle.gen_script.specs.declared.fault.ScriptFault.{ScriptFault}
 use Rattle.gen_script.specs.declared.fault.ScriptFault.TheVariants.{Shape, BadRound, NoNeighbour, BadOrder}
 use Rattle.gen_script.specs.declared.lines.ScriptLine.{ScriptLine}
 use Rattle.gen_script.specs.declared.lines.ScriptLine.TheVariants.{Make, Pass, Bend, Raw, Hide, TwoHeads}
 use Rattle.gen_script.specs.declared.path_fields.PathKind.TheVariants.{Whole, Added}
-use Rattle.gen_script.specs.LineFields.{number_in, round_in, neighbour_in, order_in, some_bytes, parcel_in}
-use Rattle.gen_script.specs.PathFields.{path_in}
-use Rattle.gen_script.specs.LineOf.{make_in, pass_in, bend_in, raw_in, hide_in, line_in, script_line_of}
-use Rattle.gen_script.specs.LineSpelling.{SpellsBytes, HasFields, IsRound, IsScriptLine, SpellsLine}
+use Rattle.gen_script.specs.FieldReading.{number_in, round_in, neighbour_in, order_in, some_bytes, parcel_in}
+use Rattle.gen_script.specs.PathReading.{path_in}
+use Rattle.gen_script.specs.LineReading.{make_in, pass_in, bend_in, raw_in, hide_in, line_in, script_line_of}
+use Rattle.gen_script.specs.Digits.{SpellsBytes}
+use Rattle.gen_script.specs.Line.{HasFields, IsRound, IsScriptLine, SpellsLine}
 use Rattle.gen_script.proofs.Hexes.{decoded_found}
 use Rattle.gen_script.proofs.Joining.{joined_found}
 use Rattle.gen_script.proofs.PathTexts.{done, digits_found, path_found}

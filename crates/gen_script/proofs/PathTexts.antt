@@ -13,17 +13,18 @@ use Rattle.gen_types.specs.Texts.{number_of}
 use Rattle.gen_types.proofs.Steps.{after, after_check, at_end}
 use Rattle.gen_types.proofs.Decimals.{both, number_found, number_again}
 use Rattle.gen_types.proofs.Cutting.{IsFree, cut_joined, joined_free, decimal_free}
-use Rattle.gen_types.proofs.Lists.{Contains_here, Contains_cases, Contains_nil, Contains-middle, AllPairs_head, AllPairs_tail, not_nil}
+use Rattle.gen_types.proofs.Lists.{Contains_here, Contains_cases, Contains_nil, Contains-middle, bool_cases, AllPairs_head, AllPairs_tail, not_nil}
 use Rattle.gen_net.specs.Network.{Network}
-use Rattle.gen_net.specs.Chain.{BeginsWith, EndsWith}
+use Rattle.gen_types.specs.Ends.{BeginsWith, EndsWith}
+use Rattle.gen_types.proofs.Among.{out_among}
 use Rattle.gen_script.specs.declared.fault.ScriptFault.{ScriptFault}
 use Rattle.gen_script.specs.declared.fault.ScriptFault.TheVariants.{BadPath}
 use Rattle.gen_script.specs.declared.path_fields.PathKind.{PathKind}
 use Rattle.gen_script.specs.declared.path_fields.PathKind.TheVariants.{Whole, Added}
-use Rattle.gen_script.specs.LineFields.{known_number, number_in}
-use Rattle.gen_script.specs.PathFields.{fits_place, may_follow, longer_by, numbers_in, path_parts, is_last, ends_with, has_length, path_in}
-use Rattle.gen_script.specs.LineSpelling.{path_text, IsPathTo}
-use Rattle.gen_script.proofs.PathSteps.{found_in, not_in, may_so}
+use Rattle.gen_script.specs.FieldReading.{known_number, number_in}
+use Rattle.gen_script.specs.PathReading.{fits_place, may_follow, longer_by, numbers_in, path_parts, is_last, ends_with, has_length, path_in}
+use Rattle.gen_script.specs.Line.{path_text, IsPathTo}
+use Rattle.gen_script.proofs.PathSteps.{new_in, may_so}
 
 abbrev pub done : {A : Type 0} → A → Result A ScriptFault
 done x = Ok x
@@ -64,15 +65,11 @@ place_more Added front g e p = λ h. elim (Contains-append_cases front (g ∷ []
   | inr r ↦ (elim (Contains_cases g 0 [] r) [ inl is ↦ other_than_0 g e is | inr none ↦ Contains_nil 0 none ])
 ]
 
-out_of : (g : ℕ) (front : List ℕ) (b : Bool) → not b ≡ true → (Contains front g → b ≡ true) → Contains front g → ⊥
-out_of g front true e has h = absurd cc
-out_of g front false e has h = let t : false ≡ true = has h in absurd cc
-
 fits_more : (net : Network) (kind : PathKind) (front : List ℕ) (g : ℕ) → may_follow net kind front g ≡ true → Fits net kind front → Fits net kind (front ++ g ∷ [])
 fits_more net kind front g may so =
     let h = both _ _ may in
     let k = both _ _ h.0 in
-    let out : Contains front g → ⊥ = out_of g front _ h.1 (found_in g front) in
+    let out : Contains front g → ⊥ = new_in net kind front g may in
     record {
       known = All-push (λ h. h < net.generals) front g so.known (ltb-true _ _ k.0);
       distinct = all_pairs_push (λ a b. a ≢ b) front g so.distinct (λ i d l e. out (subst (λ z. Contains front z) e (Contains-get_or front i d l)));
@@ -138,6 +135,14 @@ last_again front g =
     let k : length (front ++ g ∷ []) - 1 ≡ length front = omega (arith, length-append front (g ∷ [])) in
     rw (k, get_behind front g) (eq-eqb g g refl)
 
+-- a test that tells whether he is the last is that of the path
+pub last_told : (path : List ℕ) (g : ℕ) (t : Bool) → (t ≡ true → EndsWith path g) → (EndsWith path g → t ≡ true) → ends_with path g ≡ t
+last_told path g true ends then = let e = ends refl in subst (λ (p : List ℕ). ends_with p g ≡ true) (sym e.1) (last_again e.0 g)
+last_told path g false ends then = elim (bool_cases (ends_with path g)) [
+  | inl e ↦ absurd (let t = then (last_found path g e) in cc)
+  | inr e ↦ e
+]
+
 -- ---- the path of a line
 
 -- what is asked of a path of each kind in a line of this round
@@ -201,7 +206,7 @@ longer_again : (net : Network) (kind : PathKind) (front : List ℕ) (g : ℕ) (b
 unfolding longer_by
 longer_again net kind front g back few so =
     let lt : g < net.generals = All-contains (λ h. h < net.generals) (front ++ g ∷ back) g so.known (Contains-middle front g back) in
-    let may : may_follow net kind front g ≡ true = may_so net kind front g (lt-ltb _ _ lt) (next_fits kind front g back so.place) (not_in g front (before front g back so.distinct)) in
+    let may : may_follow net kind front g ≡ true = may_so net kind front g (lt-ltb _ _ lt) (next_fits kind front g back so.place) (out_among front g (before front g back so.distinct)) in
     rw (digits_again g (omega arith), may) refl
 
 numbers_again : (net : Network) (kind : PathKind) (front back : List ℕ) → net.generals ≤ 16 → Fits net kind (front ++ back) → numbers_in net kind front (map decimal back) ≡ Ok (front ++ back)

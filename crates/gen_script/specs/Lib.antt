@@ -1,5 +1,6 @@
-pub mod LineFields
-pub mod LineOf
-pub mod LineSpelling
-pub mod PathFields
-pub mod PathOf
+pub mod Digits
+pub mod FieldReading
+pub mod Line
+pub mod LineReading
+pub mod NamedPath
+pub mod PathReading

@@ -14,7 +14,7 @@ mod reading;
 
 pub use fault::ScriptFault;
 pub use lines::{Parcel, ScriptLine};
-pub use reading::{one_script_line, read_script_line};
+pub use reading::{one_script_line, read_script_bytes, read_script_line};
 
 #[cfg(test)]
 mod tests;

@@ -1,6 +1,6 @@
 //! What a line of a script says.
 ghost use Rattle.std.specs.Prelude.{◌≡◌, option_map};
-ghost use Rattle.gen_script.specs.PathOf.{path_of};
+ghost use Rattle.gen_script.specs.NamedPath.{named_path};
 
 use gen_types::{GeneralNo, OrderNo, Path};
 use std::marker::Model;
@@ -103,7 +103,7 @@ pub enum ScriptLine {
 impl ScriptLine {
     /// Returns the path that the line names, which a `make` line and a `pass` line do.
     pub fn path(&self) -> Option<&Path>
-        ensures { option_map (λ p. p.now) result ≡ path_of self.now }
+        ensures { option_map (λ p. p.now) result ≡ named_path self.now }
     {
         match self {
             ScriptLine::Make { path, .. } => Some(path),

@@ -1,11 +1,11 @@
 //! The path of a script line.
-ghost use Rattle.std.specs.Prelude.{◌≡◌, ◌==◌, ◌<◌, ◌++◌, [], ◌∷◌, map, IfOk, None, Some, if◌then◌else◌};
-ghost use Rattle.std.specs.List.{list_any};
-ghost use Rattle.gen_types.specs.Reading.{Gives};
-ghost use Rattle.gen_script.specs.PathFields.{fits_place, longer_by, numbers_in, path_parts, ends_with, has_length, path_in};
+ghost use Rattle.std.specs.Prelude.{◌≡◌, ◌<◌, [], map, IfOk};
+ghost use Rattle.gen_types.specs.Ends.{is_among};
+ghost use Rattle.gen_types.specs.Spelled.{IsRead};
+ghost use Rattle.gen_script.specs.PathReading.{fits_place, may_follow, longer_by, numbers_in, path_parts, ends_with, has_length, path_in};
 
 use crate::fault::ScriptFault;
-use crate::line_fields::number_in;
+use crate::line_fields::{Place, number_in};
 use gen_net::Net;
 use gen_types::{GeneralNo, Path, ReadError, check};
 use std::alloc::{AllocError, Global};
@@ -19,7 +19,7 @@ pub enum PathKind {
     Added,
 }
 
-/// Whether the number may stand behind the path, as far as 0 is concerned.
+/// Returns whether the number may stand behind the path, as far as 0 is concerned.
 fn fits_place(kind: PathKind, front: &Path, number: u8) -> bool
     ensures { result ≡ fits_place kind front.now number }
 {
@@ -29,45 +29,46 @@ fn fits_place(kind: PathKind, front: &Path, number: u8) -> bool
     }
 }
 
-/// The path with this general at its end, where he does not stand in it. A path of 16 has each general.
-fn with_general(front: Path, general: GeneralNo) -> Option<Path>
-    requires { general < 16 }
-    ensures { result ≡ (if list_any (λ h. h == general) front then None else Some (front ++ general ∷ [])) }
+/// Returns whether the general stands in the path.
+fn is_among(path: &Path, general: GeneralNo) -> bool
+    ensures { result ≡ is_among path.now general }
 {
-    if front.len() == 16 || front.contains(general) {
-        return None;
-    }
-    let mut path = front;
-    match path.push(general) {
-        Ok(()) => Some(path),
-        Err(_) => None,
-    }
+    path.contains(general)
 }
 
-/// The path with the number of these digits at its end.
-#[tactic(auto, unfolding(crate::specs::PathFields::longer_by))]
+/// Returns whether the number may stand behind the path: a general's, who does not stand in it.
+fn may_follow(net: &Net, kind: PathKind, front: &Path, number: u8) -> bool
+    ensures { result ≡ may_follow net.now kind front.now number }
+{
+    number < net.generals()
+        && fits_place(kind, front, number)
+        && !is_among(front, GeneralNo::at(number))
+}
+
+/// Returns the path with the number of these digits at its end.
+#[tactic(auto, unfolding(crate::specs::PathReading::longer_by))]
 fn longer_by(
     net: &Net,
     kind: PathKind,
     front: Path,
     digits: &[u8],
 ) -> Result<Path, ReadError<ScriptFault>>
-    ensures { Gives (λ p. p) result (longer_by net.now kind front digits.now) }
+    ensures { IsRead result (longer_by net.now kind front digits.now) }
 {
     let number = number_in(digits)?;
-    if number >= net.generals() || !fits_place(kind, &front, number) {
-        return Err(ReadError::Fault(ScriptFault::BadPath));
-    }
-    match with_general(front, GeneralNo::at(number)) {
-        None => Err(ReadError::Fault(ScriptFault::BadPath)),
-        Some(path) => Ok(path),
-    }
+    check(may_follow(net, kind, &front, number), ScriptFault::BadPath)?;
+    // There are at most 16 generals and the path has distinct ones, so one who is not in it has room:
+    // reads of the network and of the path tell.
+    let (_generals, _distinct) = (net.generals(), front.len());
+    let mut path = front;
+    path.push_new(GeneralNo::at(number));
+    Ok(path)
 }
 
-/// The path of these numbers.
-#[tactic(auto, unfolding(crate::specs::PathFields::numbers_in))]
+/// Returns the path of these numbers.
+#[tactic(auto, unfolding(crate::specs::PathReading::numbers_in))]
 fn numbers_in(net: &Net, kind: PathKind, parts: &[&[u8]]) -> Result<Path, ReadError<ScriptFault>>
-    ensures { Gives (λ p. p) result (numbers_in net.now kind [] (map (λ x. x.now) parts.now)) }
+    ensures { IsRead result (numbers_in net.now kind [] (map (λ x. x.now) parts.now)) }
 {
     let mut path = Path::new();
     let mut rest = parts;
@@ -78,24 +79,21 @@ fn numbers_in(net: &Net, kind: PathKind, parts: &[&[u8]]) -> Result<Path, ReadEr
     Ok(path)
 }
 
-/// The numbers of a path, parted by commas.
+/// Returns the numbers of a path, parted by commas.
 fn path_parts<'a>(alloc: Global, digits: &'a [u8]) -> Result<Vec<&'a [u8]>, AllocError>
     ensures { IfOk result (λ v. map (λ x. x.now) v.items ≡ path_parts digits.now) }
 {
     digits.split(|b| *b == b',').collect(alloc)
 }
 
-/// Whether this general is the path's last.
+/// Returns whether this general is the path's last.
 fn ends_with(path: &Path, me: GeneralNo) -> bool
     ensures { result ≡ ends_with path.now me }
 {
-    match path.last() {
-        None => false,
-        Some(general) => general == me,
-    }
+    path.ends_with(me)
 }
 
-/// Whether a path of this many generals may stand in a line of this round.
+/// Returns whether a path of this many generals may stand in a line of this round.
 fn has_length(kind: PathKind, round: u8, length: usize) -> bool
     ensures { result ≡ has_length kind round length }
 {
@@ -105,21 +103,21 @@ fn has_length(kind: PathKind, round: u8, length: usize) -> bool
     }
 }
 
-/// A path of a line of this general in this round.
-#[tactic(auto, unfolding(crate::specs::PathFields::path_in))]
+/// Returns the path of a line of this round.
+#[tactic(auto, unfolding(crate::specs::PathReading::path_in))]
 pub fn path_in(
-    alloc: Global,
-    net: &Net,
-    me: GeneralNo,
+    place: &Place<'_>,
     kind: PathKind,
     round: u8,
     digits: &[u8],
 ) -> Result<Path, ReadError<ScriptFault>>
-    ensures { Gives (λ p. p) result (path_in net.now me kind round digits.now) }
+    ensures { IsRead result (path_in place.now.net.now place.now.me kind round digits.now) }
 {
-    let parts = path_parts(alloc, digits)?;
-    let path = numbers_in(net, kind, &parts)?;
-    let fits = ends_with(&path, me) && has_length(kind, round, path.len());
-    check(fits, ScriptFault::BadPath)?;
+    let parts = path_parts(place.alloc, digits)?;
+    let path = numbers_in(place.net, kind, &parts)?;
+    check(
+        ends_with(&path, place.me) && has_length(kind, round, path.len()),
+        ScriptFault::BadPath,
+    )?;
     Ok(path)
 }

@@ -15,7 +15,7 @@ fn read(alloc: Global, line: &[u8]) -> Option<Result<ScriptLine, ReadError<Scrip
     if net.generals() < 4 {
         return None;
     }
-    Some(read_script_line(alloc, &net, GeneralNo::at(3), line))
+    Some(read_script_bytes(alloc, &net, GeneralNo::at(3), line))
 }
 
 /// Whether each of the lines has this fault.
@@ -251,6 +251,39 @@ fn sends_bytes_and_two_heads(rt: HostRuntime) {
         );
     }
     assert!(rt; matches!(&read(alloc, b"twohead"), Some(Ok(ScriptLine::TwoHeads))));
+}
+
+/// The longest path there is: 16 generals in a line, one traitor and so 16 rounds.
+#[test]
+fn longest_path(rt: HostRuntime) -> Result<(), Fail> {
+    let alloc = rt.alloc();
+    let mut edges = Vec::new(alloc);
+    for general in 0..15u8 {
+        edges.push((general, general + 1))?;
+    }
+    let net = Net::new(alloc, 16, &edges, 1, 15, 15, 1).expect(&rt, "net");
+    if net.generals() == 16 {
+        let line = "make 16 14 14 0,1,2,3,4,5,6,7,8,9,10,11,12,13,14,15";
+        let said = read_script_line(alloc, &net, GeneralNo::at(15), line);
+        assert!(rt;
+            matches!(&said, Ok(ScriptLine::Make { round, order, path, .. })
+            if *round == 16 && order.get() == 14 && path.len() == 16)
+        );
+    }
+    Ok(())
+}
+
+#[test]
+fn reads_text(rt: HostRuntime) -> Result<(), Fail> {
+    let alloc = rt.alloc();
+    let net = Net::new(alloc, 5, &EDGES, 2, 2, 3, 0).expect(&rt, "net");
+    if net.generals() > 3 {
+        let said = read_script_line(alloc, &net, GeneralNo::at(3), "twohead");
+        assert!(rt; matches!(&said, Ok(ScriptLine::TwoHeads)));
+        let said = read_script_line(alloc, &net, GeneralNo::at(3), "zweik\u{f6}pfig");
+        assert!(rt; matches!(&said, Err(ReadError::Fault(ScriptFault::Shape))));
+    }
+    Ok(())
 }
 
 #[test]

@@ -1,8 +1,12 @@
 -- Reads one after another.
-use Rattle.std.proofs.Common.{◌≡◌, ℕ, List, [], ◌++◌, take, Option, Some, None, refl, sym, ap, ◌∙◌, append_assoc}
+use Rattle.std.proofs.Common.{◌≡◌, ◌≤◌, length, ℕ, List, [], ◌++◌, take, Option, Some, None, refl, sym, ap, ◌∙◌, append_assoc, subst}
 use Rattle.std.specs.Prelude.{IfSome}
 use Rattle.std.specs.Io.KnownBytes.{Consumes, IsAtEnd, Keeps}
 use Rattle.std.proofs.lemmas.List.{append-nil}
+use Rattle.sm_tool.specs.declared.ends.JobEnd.{JobEnd}
+use Rattle.sm_tool.specs.declared.ends.JobEnd.TheVariants.{Done, Failed}
+use Rattle.sm_tool.specs.declared.ends.JobFault.TheVariants as faults
+use Rattle.sm_tool.specs.Ends.{IsTaken}
 
 pub reads_on : (old now new : Option (List ℕ)) (all taken : List ℕ) → Consumes old now all → Consumes now new taken → Consumes old new (all ++ taken)
 reads_on None now new all taken p q = tt
@@ -21,3 +25,16 @@ has_read (Some xs) (Some ys) (Some zs) all buffer p q e =
 pub kept : (x : Option (List ℕ)) → Keeps x x
 kept None = tt
 kept (Some xs) = refl
+
+within : (input : List ℕ) (end : JobEnd) → length input ≤ 1073741824 → IsTaken input end
+within input Done le = le
+within input (Failed faults.Memory) le = tt
+within input (Failed faults.Read) le = tt
+within input (Failed faults.Thread) le = le
+within input (Failed faults.Write) le = le
+within input (Failed (faults.Scenario f)) le = le
+
+-- an input that was read whole, and whose bytes are within the limit
+pub taken : (remaining : Option (List ℕ)) (all : List ℕ) (end : JobEnd) → IfSome remaining (λ input. all ≡ input) → length all ≤ 1073741824 → IfSome remaining (λ input. IsTaken input end)
+taken None all end whole le = tt
+taken (Some input) all end whole le = within input end (subst (λ (xs : List ℕ). length xs ≤ 1073741824) whole le)

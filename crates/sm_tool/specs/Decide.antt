@@ -4,8 +4,8 @@ use Rattle.std.specs.Io.KnownBytes.{Appends}
 use Rattle.gen_world.specs.Scenario.{Plain}
 use Rattle.gen_world.specs.declared.scenario.Decision.{Decision}
 use Rattle.gen_world.specs.World.{IsOutcome}
-use Rattle.gen_report.specs.Spelling.{Spells}
-use Rattle.gen_report.specs.Reading.{scenario_of}
+use Rattle.gen_report.specs.Scenario.{SpellsScenario}
+use Rattle.gen_report.specs.ScenarioReading.{scenario_of}
 use Rattle.gen_report.specs.Decisions.{decisions_text}
 use Rattle.sm_tool.specs.declared.ends.JobEnd.{JobEnd}
 use Rattle.sm_tool.specs.declared.ends.JobEnd.TheVariants.{Done, Failed}
@@ -14,7 +14,7 @@ use Rattle.sm_tool.specs.declared.ends.JobFault.TheVariants as faults
 -- The text is that of the decisions in the run of the scenario that the input spells.
 pub record IsAnswer (input text : List ℕ) : Type 0 where
   pub scenario : Plain
-  pub spelled : Spells input scenario
+  pub spelled : SpellsScenario input scenario
   pub decisions : List Decision
   pub outcome : IsOutcome scenario.net scenario.order decisions
   pub text_is : text ≡ decisions_text decisions

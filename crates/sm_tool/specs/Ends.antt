@@ -1,5 +1,5 @@
 -- How a job ends: its exit status, its line for standard error, and what it wrote.
-use Rattle.std.specs.Prelude.{◌≡◌, ℕ, List, Option, Some, None}
+use Rattle.std.specs.Prelude.{◌≡◌, ◌≤◌, ◌⊎◌, ℕ, List, length, Option, Some, None}
 use Rattle.std.specs.Io.KnownBytes.{Appends, Keeps}
 use Rattle.sm_tool.specs.declared.ends.JobEnd.{JobEnd}
 use Rattle.sm_tool.specs.declared.ends.JobEnd.TheVariants.{Done, Failed}
@@ -23,6 +23,23 @@ status_of (Failed f) = fault_status f
 abbrev pub fault_in : JobEnd → Option JobFault
 fault_in Done = None
 fault_in (Failed f) = Some f
+
+-- the exit status where words ask for no job
+abbrev pub words_status : ℕ
+words_status = 2
+
+-- an exit status of the program: that of words which ask for no job, or of a job's end
+abbrev pub IsStatus : ℕ → Type 0
+IsStatus status = (status ≡ words_status) ⊎ ((end : JobEnd) × (status ≡ status_of end))
+
+-- An input of more than 1,073,741,824 bytes is not taken: the read of it fails, or memory is refused before.
+abbrev pub IsTaken : List ℕ → JobEnd → Type 0
+IsTaken input (Failed faults.Memory) = Unit {0}
+IsTaken input (Failed faults.Read) = Unit {0}
+IsTaken input (Failed faults.Thread) = length input ≤ 1073741824
+IsTaken input (Failed faults.Write) = length input ≤ 1073741824
+IsTaken input (Failed (faults.Scenario f)) = length input ≤ 1073741824
+IsTaken input Done = length input ≤ 1073741824
 
 -- The output was written behind what the writer held, or the write failed.
 abbrev pub IsWritten : List ℕ → Option (List ℕ) → Option (List ℕ) → JobEnd → Type 0

@@ -1,3 +1,4 @@
 pub mod Decide
 pub mod Ends
+pub mod Refusal
 pub mod Tool

@@ -45,7 +45,7 @@ pub enum JobEnd {
 }
 
 impl JobEnd {
-    /// The program's exit status: 0 where the job is done, 3 for the input, 4 for memory or a thread, 5
+    /// Returns the program's exit status: 0 where the job is done, 3 for the input, 4 for memory or a thread, 5
     /// for a read or a write.
     pub fn status(self) -> u8
         ensures { result ≡ status_of self }
@@ -58,7 +58,7 @@ impl JobEnd {
         }
     }
 
-    /// Why the job failed, whose text is the one line for standard error; None where it is done.
+    /// Returns why the job failed, whose text is the one line for standard error, and None where it is done.
     pub fn fault(self) -> Option<JobFault>
         ensures { result ≡ fault_in self }
     {

@@ -1,6 +1,8 @@
 //! The program: from its words to its exit status.
 ghost use Rattle.std.specs.Prelude.{◌≡◌};
-ghost use Rattle.sm_tool.specs.Ends.{status_of};
+ghost use Rattle.sm_tool.specs.Ends.{status_of, IsStatus};
+ghost use Rattle.sm_tool.specs.Refusal.{IsShown, IsBlamed, Refuses};
+ghost use Rattle.sm_tool.specs.declared.ends.JobEnd.{JobEnd};
 
 use crate::ends::{JobEnd, JobFault};
 use crate::engine::decide_engine;
@@ -12,19 +14,32 @@ use std::{env, io};
 /// The exit status for a fault of the words.
 const WORDS_STATUS: u8 = 2;
 
-/// Does what the words ask for, and answers the exit status.
-pub fn run<R: Env + AllocGlobal + Input + Print + Eprint>(rt: &R) -> u8 {
+/// The end of each line about wrong words.
+const HELP_POINTER: &str = "; for more, try '--help'";
+
+/// Does what the words ask for, and returns the exit status.
+pub fn run<R: Env + AllocGlobal + Input + Print + Eprint>(rt: &R) -> u8
+    ensures { IsStatus result }
+{
     match given_job(rt) {
-        Ok(Job::Decide) => {
-            let mut reader = rt.reader();
-            let mut writer = io::writer(rt);
-            end_with(rt, decide_engine(rt.alloc(), &mut reader, &mut writer))
-        }
+        Ok(job) => finish(rt, job),
         Err(fault) => refuse(rt, &fault),
     }
 }
 
-/// The job that the words of this process ask for.
+/// Does the job from standard input to standard output, and returns the exit status of its end.
+fn finish<R: AllocGlobal + Input + Print + Eprint>(rt: &R, job: Job) -> u8
+    ensures { (end : JobEnd) × (result ≡ status_of end) }
+{
+    let mut reader = rt.reader();
+    let mut writer = io::writer(rt);
+    let end = match job {
+        Job::Decide => decide_engine(rt.alloc(), &mut reader, &mut writer),
+    };
+    end_with(rt, end)
+}
+
+/// Returns the job that the words of this process ask for.
 fn given_job<R: Env + AllocGlobal>(rt: &R) -> Result<Job, WordsFault> {
     let given = match env::args(rt) {
         Ok(given) => given,
@@ -36,7 +51,7 @@ fn given_job<R: Env + AllocGlobal>(rt: &R) -> Result<Job, WordsFault> {
     read_words(rt.alloc(), &words)
 }
 
-/// Writes the line of a job that failed to standard error, and answers its exit status.
+/// Writes the line of a job that failed to standard error, and returns its exit status.
 fn end_with<R: Eprint>(rt: &R, end: JobEnd) -> u8
     ensures { result ≡ status_of end }
 {
@@ -46,28 +61,46 @@ fn end_with<R: Eprint>(rt: &R, end: JobEnd) -> u8
     end.status()
 }
 
-/// Shows what the words did not ask for, and answers the exit status: help and the version go to
-/// standard output, and a mistake to standard error as one line.
-fn refuse<R: AllocGlobal + Print + Eprint>(rt: &R, fault: &WordsFault) -> u8 {
+/// Says why the words ask for no job, and returns the exit status.
+fn refuse<R: AllocGlobal + Print + Eprint>(rt: &R, fault: &WordsFault) -> u8
+    ensures by_fault { Refuses fault.now result }
+    ensures status { IsStatus result }
+{
     match fault {
         WordsFault::Memory => end_with(rt, JobEnd::Failed(JobFault::Memory)),
-        WordsFault::Words(error) if !error.use_stderr() => match print!(rt; "{error}") {
-            Ok(()) => end_with(rt, JobEnd::Done),
-            Err(_) => end_with(rt, JobEnd::Failed(JobFault::Write)),
-        },
-        _ => match fault_line(rt.alloc(), fault) {
-            Ok(line) => {
-                let _ = eprintln!(rt; "{line}");
-                WORDS_STATUS
-            }
-            Err(_) => end_with(rt, JobEnd::Failed(JobFault::Memory)),
-        },
+        WordsFault::Words(error) if !error.use_stderr() => show(rt, error),
+        _ => blame(rt, fault),
     }
 }
 
-/// What is wrong with the words, in one line.
+/// Writes help or the version, which the words asked for, to standard output, and returns the exit status.
+fn show<R: Print + Eprint>(rt: &R, text: &clap::Error) -> u8
+    ensures shown { IsShown result }
+    ensures status { IsStatus result }
+{
+    match print!(rt; "{text}") {
+        Ok(()) => end_with(rt, JobEnd::Done),
+        Err(_) => end_with(rt, JobEnd::Failed(JobFault::Write)),
+    }
+}
+
+/// Writes to standard error in one line what is wrong with the words, and returns the exit status.
+fn blame<R: AllocGlobal + Eprint>(rt: &R, fault: &WordsFault) -> u8
+    ensures blamed { IsBlamed result }
+    ensures status { IsStatus result }
+{
+    match fault_line(rt.alloc(), fault) {
+        Ok(line) => {
+            let _ = eprintln!(rt; "{line}");
+            WORDS_STATUS
+        }
+        Err(_) => end_with(rt, JobEnd::Failed(JobFault::Memory)),
+    }
+}
+
+/// Returns in one line what is wrong with the words, and at its end how to ask for help.
 pub fn fault_line(alloc: Global, fault: &WordsFault) -> Result<String, AllocError> {
     let text = fault.to_string(alloc)?;
     let first = text.lines().next().unwrap_or("");
-    String::from_str(alloc, first)
+    format!(in alloc; "{first}{HELP_POINTER}")
 }

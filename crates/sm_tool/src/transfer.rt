@@ -1,5 +1,5 @@
 //! The whole input, and the whole output.
-ghost use Rattle.std.specs.Prelude.{◌≡◌, ◌≤◌, IfOk, IfSome, vec_len};
+ghost use Rattle.std.specs.Prelude.{◌≡◌, ◌≤◌, IfOk, IfSome, length};
 ghost use Rattle.sm_tool.specs.Ends.{IsWritten};
 
 use crate::ends::{JobEnd, JobFault};
@@ -21,11 +21,11 @@ const MOST_BYTES: usize = 1_073_741_824;
 /// The most calls of `read` that an input may take, the one that finds its end included.
 const MOST_READS: u64 = 4_294_967_296;
 
-/// All that the reader gives up to its end: at most 1,073,741,824 bytes, by at most 4,294,967,296 calls
+/// Returns all that the reader gives up to its end: at most 1,073,741,824 bytes, by at most 4,294,967,296 calls
 /// of `read`. Past either limit the input has failed. An interrupted read is tried again.
 pub fn read_all<R: Read>(alloc: Global, reader: &mut R) -> Result<Vec<u8>, InputFault>
     ensures whole { IfOk result (λ v. IfSome (R.remaining reader.old) (λ input. v.items ≡ input)) }
-    ensures short { IfOk result (λ v. vec_len v ≤ 1073741824) }
+    ensures short { IfOk result (λ v. length v.items ≤ 1073741824) }
 {
     let mut all = Vec::new(alloc);
     let mut buffer = [0u8; 4096];
@@ -48,7 +48,7 @@ pub fn read_all<R: Read>(alloc: Global, reader: &mut R) -> Result<Vec<u8>, Input
     Err(InputFault::Failed)
 }
 
-/// Writes the whole output.
+/// Writes the whole output, and returns how the job ends by it.
 pub fn write_output<W: Write>(writer: &mut W, output: &[u8]) -> JobEnd
     ensures { IsWritten output.now (W.contents writer.old) (W.contents writer.new) result }
 {

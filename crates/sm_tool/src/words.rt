@@ -56,7 +56,7 @@ impl From<clap::Error> for WordsFault {
     }
 }
 
-/// The job of a command.
+/// Returns the job of a command.
 fn job_of(name: &str) -> Option<Job>
     ensures { result ≡ job_named name.now }
 {
@@ -66,7 +66,7 @@ fn job_of(name: &str) -> Option<Job>
     }
 }
 
-/// The command line of the program.
+/// Returns the command line of the program.
 fn tool_command<'a>(alloc: Global) -> Result<Command<'a>, AllocError>
     ensures { IfOk result (λ c. app_of c ≡ tool) }
 {
@@ -80,12 +80,14 @@ fn tool_command<'a>(alloc: Global) -> Result<Command<'a>, AllocError>
         .subcommand(decide)
 }
 
-/// The job that the words ask for; the first word is the program's name.
+/// Returns the job that the words ask for; the first word is the program's name.
 pub fn read_words<'a>(alloc: Global, words: &'a [&'a str]) -> Result<Job, WordsFault>
     // The words ask for the job.
     ensures ok { IfOk result (λ job. asked (map (λ w. w.now) words.now) ≡ Some job) }
     // Words that ask for a job fail only for want of memory.
-    ensures only { IfErr result (λ fault. IsSome (asked (map (λ w. w.now) words.now)) → fault ≡ Memory) }
+    ensures only {
+        IfErr result (λ fault. IsSome (asked (map (λ w. w.now) words.now)) → fault ≡ Memory)
+    }
     // A fault is one that the command line has at these words.
     ensures fault { IfErr result (IsFaultOf (map (λ w. w.now) words.now)) }
 {

@@ -1,7 +1,7 @@
 use Rattle.std.proofs.Common.{◌≡◌, [], sym, refl}
 use Rattle.std.proofs.lemmas.Bool.{eqb-true}
 use Rattle.std.proofs.lemmas.List.{nil_from_length}
-use Rattle.gen_report.specs.Lines.{numbered, number_behind}
+use Rattle.gen_report.specs.LineReading.{numbered, number_behind}
 use Rattle.gen_report.proofs.lines.numbered.Goals as goal
 
 pub returns-then-is_empty-clause-exact : goal.returns-then-is_empty-clause-exact

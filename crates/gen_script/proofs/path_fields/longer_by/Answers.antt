@@ -1,24 +1,14 @@
-use Rattle.std.proofs.Common.{refl, sym, ◌∙◌, arith}
-use Rattle.std.proofs.lemmas.Bool.{lt-ltb}
-use Rattle.gen_script.specs.PathFields.{longer_by}
-use Rattle.gen_script.proofs.PathSteps.{none_where, some_where, may_not, may_so}
+use Rattle.std.proofs.Common.{◌<◌, sym, ◌∙◌, arith}
+use Rattle.gen_script.proofs.PathSteps.{passed, known_in, new_in, room_for}
 use Rattle.gen_script.proofs.path_fields.longer_by.Goals as goal
 
-pub returns-in-None : goal.returns-in-None
-unfolding longer_by
-returns-in-None c =
-    let there = none_where _ _ (sym c.in-None.is ∙ c.with_general.ensures) in
-    let there' = rw c.at.ensures at there in
-    rw (c.in_ok-number.ensures, may_not c.args.net.now c.args.kind c.args.front c.in_ok-number.number there') refl
+pub at-requires : goal.at-requires
+at-requires c =
+    let may = sym c.may_follow.ensures ∙ passed c.may_follow.result _ c.in_ok-check.ensures.exact in
+    omega (arith, known_in c.args.net.now c.args.kind c.args.front c.in_ok-number.number may, c.generals-generals.ensures.network.ranges.few_generals)
 
-pub returns-in-Some : goal.returns-in-Some
-unfolding longer_by
-returns-in-Some c =
-    let kept = some_where _ _ _ (sym c.in-Some.is ∙ c.with_general.ensures) in
-    let new = rw c.at.ensures at kept.0 in
-    let path = rw c.at.ensures at kept.1 in
-    rw (
-      c.in_ok-number.ensures,
-      may_so c.args.net.now c.args.kind c.args.front c.in_ok-number.number (lt-ltb _ _ (omega (arith, c.generals.ensures.value, c.if-number-generals.false))) (sym c.if-not-fits_place.ensures) new,
-      path,
-    ) refl
+pub push_new-requires-clause-room : goal.push_new-requires-clause-room
+push_new-requires-clause-room c =
+    let may = sym c.may_follow.ensures ∙ passed c.may_follow.result _ c.in_ok-check.ensures.exact in
+    let below : c.in_ok-number.number < 16 = omega (arith, known_in c.args.net.now c.args.kind c.args.front c.in_ok-number.number may, c.generals-generals.ensures.network.ranges.few_generals) in
+    room_for c.in_ok-number.number c.args.front c.len-distinct.ensures.at_most c.len-distinct.ensures.distinct c.len-distinct.ensures.below below (new_in c.args.net.now c.args.kind c.args.front c.in_ok-number.number may)

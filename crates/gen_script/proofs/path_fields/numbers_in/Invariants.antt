@@ -1,5 +1,5 @@
 use Rattle.std.proofs.Common.{◌≡◌, [], map, length}
-use Rattle.gen_script.specs.PathFields.{numbers_in}
+use Rattle.gen_script.specs.PathReading.{numbers_in}
 use Rattle.gen_script.proofs.path_fields.numbers_in.Given as goal
 
 abbrev pub invariant-loop-rest : goal.invariant-loop-rest

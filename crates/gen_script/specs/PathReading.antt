@@ -1,13 +1,14 @@
 -- The path of a script line, number by number from left to right, and at its end what is asked of the whole.
 use Rattle.std.specs.Prelude.{ℕ, ◌-◌, ◌++◌, Bool, true, false, not, ◌&&◌, List, [], ◌∷◌, length, Option, Some, None, Result, Ok, nat_lt, ◌==◌, slice_get}
-use Rattle.std.specs.List.{list_any, slice_split}
+use Rattle.std.specs.List.{slice_split}
+use Rattle.gen_types.specs.Ends.{is_among}
 use Rattle.gen_types.specs.Reading.{◌>>=◌, check}
 use Rattle.gen_net.specs.Network.{Network}
 use Rattle.gen_script.specs.declared.fault.ScriptFault.{ScriptFault}
 use Rattle.gen_script.specs.declared.fault.ScriptFault.TheVariants.{BadPath}
 use Rattle.gen_script.specs.declared.path_fields.PathKind.{PathKind}
 use Rattle.gen_script.specs.declared.path_fields.PathKind.TheVariants.{Whole, Added}
-use Rattle.gen_script.specs.LineFields.{number_in}
+use Rattle.gen_script.specs.FieldReading.{number_in}
 
 -- A whole path has 0 in its first place, and an added one has no 0.
 abbrev pub fits_place : PathKind → List ℕ → ℕ → Bool
@@ -17,7 +18,8 @@ fits_place Added front g = not (g == 0)
 
 -- the number may stand behind those of front
 abbrev pub may_follow : Network → PathKind → List ℕ → ℕ → Bool
-may_follow net kind front g = nat_lt g net.generals && fits_place kind front g && not (list_any (λ h. h == g) front)
+may_follow net kind front g =
+    nat_lt g net.generals && fits_place kind front g && not (is_among front g)
 
 -- the path with the number of this part at its end
 unfoldable pub longer_by : Network → PathKind → List ℕ → List ℕ → Result (List ℕ) ScriptFault

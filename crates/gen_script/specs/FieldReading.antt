@@ -6,7 +6,7 @@ use Rattle.hex.specs.declared.error.FromHexError.{FromHexError}
 use Rattle.gen_types.specs.Reading.{◌>>=◌, check}
 use Rattle.gen_types.specs.Texts.{number_of}
 use Rattle.gen_net.specs.Network.{Network, rounds}
-use Rattle.gen_net.specs.NetworkOf.{joins}
+use Rattle.gen_net.specs.Edges.{joins}
 use Rattle.gen_script.specs.declared.fault.ScriptFault.{ScriptFault}
 use Rattle.gen_script.specs.declared.fault.ScriptFault.TheVariants.{Number, BadRound, NoNeighbour, BadOrder}
 

@@ -1,5 +1,5 @@
 -- One line of a text and what it says, with the line's first fault: its bytes, its length, its line feed, its shape, its numbers.
-use Rattle.std.specs.Prelude.{ℕ, ◌+◌, List, [], ◌∷◌, length, codes, Option, Some, None, Result, Ok, Err, nat_lt, ◌==◌, if◌then◌else◌}
+use Rattle.std.specs.Prelude.{ℕ, ◌+◌, List, [], ◌∷◌, length, Some, None, Result, Ok, Err, nat_lt, ◌==◌, if◌then◌else◌}
 use Rattle.std.specs.List.{list_any}
 use Rattle.std.specs.Str.{bytes_eq}
 use Rattle.gen_types.specs.Reading.{◌>>=◌}
@@ -23,14 +23,14 @@ line_at k (line ∷ more) =
     else Ok (line, more)))
 
 -- a number in the line k
-abbrev pub number_at : ℕ → List ℕ → Result ℕ ScenarioFault
-number_at k digits = elim (number_of digits) [ None ↦ Err (fault_at Number k) | Some n ↦ Ok n ]
+abbrev pub number_in : ℕ → List ℕ → Result ℕ ScenarioFault
+number_in k digits = elim (number_of digits) [ None ↦ Err (fault_at Number k) | Some n ↦ Ok n ]
 
 -- the number behind a word, where the line k has these two fields
 unfoldable pub number_behind : ℕ → List ℕ → List (List ℕ) → Result ℕ ScenarioFault
 number_behind k word [] = Err (fault_at Shape k)
 number_behind k word (w ∷ []) = Err (fault_at Shape k)
-number_behind k word (w ∷ x ∷ []) = if bytes_eq w word then number_at k x else Err (fault_at Shape k)
+number_behind k word (w ∷ x ∷ []) = if bytes_eq w word then number_in k x else Err (fault_at Shape k)
 number_behind k word (w ∷ x ∷ y ∷ more) = Err (fault_at Shape k)
 
 -- the fields of the line k, and the parts after it
@@ -51,37 +51,3 @@ unfoldable pub word_alone : List ℕ → ℕ → List (List ℕ) → Result (Lis
 word_alone word k ps = do
   l ← fields_at k ps
   elim l.0 [ [] ↦ Err (fault_at Shape k) | w ∷ more ↦ (elim more [ [] ↦ (if bytes_eq w word then Ok l.1 else Err (fault_at Shape k)) | x ∷ xs ↦ Err (fault_at Shape k) ]) ]
-
--- the edge of the line k, where it is a line of an edge
-unfoldable pub edge_in : ℕ → List (List ℕ) → Result (Option (ℕ × ℕ)) ScenarioFault
-edge_in k (w ∷ x ∷ y ∷ []) = if bytes_eq w (codes "edge") then (do
-  a ← number_at k x
-  b ← number_at k y
-  Ok (Some (a, b))) else Ok None
-edge_in k _ = Ok None
-
--- the edges of some lines, the fields and the number of the first line that has none, and the parts after it
-pub record EdgeLines : Type 0 where
-  pub found : List (ℕ × ℕ)
-  pub next : List (List ℕ)
-  pub line : ℕ
-  pub after : List (List ℕ)
-
--- one edge more, in front of others
-abbrev pub with_edge : Result EdgeLines ScenarioFault → ℕ × ℕ → Result EdgeLines ScenarioFault
-with_edge others e = do
-  o ← others
-  Ok (record o { found = e ∷ o.found })
-
--- what the line k with these fields, and what the lines after it give, make
-abbrev pub after_edge : Option (ℕ × ℕ) → ℕ → List (List ℕ) → List (List ℕ) → Result EdgeLines ScenarioFault → Result EdgeLines ScenarioFault
-after_edge None k next after others = Ok (record { found = []; next = next; line = k; after = after })
-after_edge (Some e) k next after others = with_edge others e
-
--- the edges of the lines from k on
-unfoldable pub edges_at : ℕ → List (List ℕ) → Result EdgeLines ScenarioFault
-edges_at k [] = Err (fault_at Unfinished k)
-edges_at k (line ∷ more) = do
-  l ← fields_at k (line ∷ more)
-  edge ← edge_in k l.0
-  after_edge edge k l.0 l.1 (edges_at (k + 1) more)

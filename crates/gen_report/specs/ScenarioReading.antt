@@ -10,40 +10,12 @@ use Rattle.gen_report.specs.declared.fault.LineFault.TheVariants.{UnknownOrder, 
 use Rattle.gen_report.specs.declared.fault.LineFault.TheVariants as faults
 use Rattle.gen_report.specs.declared.fault.ScenarioFault.{ScenarioFault}
 use Rattle.gen_report.specs.Text.{parts}
-use Rattle.gen_report.specs.Lines.{fault_at, numbered, number_behind, edges_at, word_alone}
+use Rattle.gen_report.specs.LineReading.{fault_at, numbered, word_alone}
+use Rattle.gen_report.specs.NumbersReading.{opening_at, settings_at, numbers_said}
 
 -- A fault of the network is one of the line k.
 abbrev pub network_at : ℕ → Result Network HeaderFault → Result Network ScenarioFault
 network_at k made = map_fault (λ f. fault_at (faults.Network f) k) made
-
--- what the lines up to that of the traitors say, the number of that line, and the parts after it
-pub record Opening : Type 0 where
-  pub generals : ℕ
-  pub edges : List (ℕ × ℕ)
-  pub traitors : ℕ
-  pub line : ℕ
-  pub after : List (List ℕ)
-
-unfoldable pub opening_at : List (List ℕ) → Result Opening ScenarioFault
-opening_at ps = do
-  n ← numbered (codes "generals") 1 ps
-  edges ← edges_at 2 n.1
-  m ← number_behind edges.line (codes "traitors") edges.next
-  Ok (record { generals = n.0; edges = edges.found; traitors = m; line = edges.line; after = edges.after })
-
--- what the three lines after the line k say, and the parts after them
-pub record Settings : Type 0 where
-  pub diameter : ℕ
-  pub orders : ℕ
-  pub choice : ℕ
-  pub after : List (List ℕ)
-
-unfoldable pub settings_at : ℕ → List (List ℕ) → Result Settings ScenarioFault
-settings_at k ps = do
-  d ← numbered (codes "diameter") (k + 1) ps
-  q ← numbered (codes "orders") (k + 2) d.1
-  c ← numbered (codes "choice") (k + 3) q.1
-  Ok (record { diameter = d.0; orders = q.0; choice = c.0; after = c.1 })
 
 -- The line k is the last, and nothing follows it.
 unfoldable pub closing_at : ℕ → List (List ℕ) → Result (Unit {0}) ScenarioFault
@@ -56,7 +28,7 @@ unfoldable pub scenario_of : List ℕ → Result Plain ScenarioFault
 scenario_of text = do
   o ← opening_at (parts text)
   s ← settings_at o.line o.after
-  net ← network_at (o.line + 3) (network_of o.generals o.edges o.traitors s.diameter s.orders s.choice)
+  net ← network_at (o.line + 3) (network_of (numbers_said o s) o.edges)
   v ← numbered (codes "order") (o.line + 4) s.after
   below ← check (nat_lt v.0 net.orders) (fault_at UnknownOrder (o.line + 4))
   ended ← closing_at (o.line + 5) v.1

@@ -9,8 +9,8 @@ use Rattle.gen_script.specs.declared.fault.ScriptFault.TheVariants.{Shape}
 use Rattle.gen_script.specs.declared.lines.ScriptLine.{ScriptLine}
 use Rattle.gen_script.specs.declared.lines.ScriptLine.TheVariants.{Make, Pass, Bend, Raw, Hide, TwoHeads}
 use Rattle.gen_script.specs.declared.path_fields.PathKind.TheVariants.{Whole, Added}
-use Rattle.gen_script.specs.LineFields.{round_in, neighbour_in, order_in, parcel_in}
-use Rattle.gen_script.specs.PathFields.{path_in}
+use Rattle.gen_script.specs.FieldReading.{round_in, neighbour_in, order_in, parcel_in}
+use Rattle.gen_script.specs.PathReading.{path_in}
 
 unfoldable pub make_in : Network → ℕ → List ℕ → List ℕ → List ℕ → List ℕ → Result ScriptLine ScriptFault
 make_in net me round to order path = do

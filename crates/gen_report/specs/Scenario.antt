@@ -2,17 +2,14 @@
 use Rattle.std.specs.Prelude.{◌≡◌, ℕ, ◌<◌, List, [], ◌∷◌, ◌++◌, map, codes, Ok}
 use Rattle.std.specs.List.{flat_map, join_with_byte, AllByRecursion}
 use Rattle.std.specs.Fmt.{decimal}
+use Rattle.gen_net.specs.declared.numbers.NetNumbers.{NetNumbers}
 use Rattle.gen_net.specs.NetworkOf.{network_of}
 use Rattle.gen_world.specs.Scenario.{Plain}
 
--- the numbers that a text gives, its edges in their order and direction
+-- what a text gives: a network's numbers, its edges in their order and direction, and the commander's order
 pub record Given : Type 0 where
-  pub generals : ℕ
+  pub numbers : NetNumbers
   pub edges : List (ℕ × ℕ)
-  pub traitors : ℕ
-  pub diameter : ℕ
-  pub orders : ℕ
-  pub choice : ℕ
   pub order : ℕ
 
 -- the fields of a line: a word and a number
@@ -26,9 +23,10 @@ edge_line e = codes "edge" ∷ decimal e.0 ∷ decimal e.1 ∷ []
 -- the lines of a text, each by its fields
 abbrev pub lines_of : Given → List (List (List ℕ))
 lines_of g =
-    said (codes "generals") g.generals ∷ (map edge_line g.edges ++
-    (said (codes "traitors") g.traitors ∷ said (codes "diameter") g.diameter ∷ said (codes "orders") g.orders ∷
-    said (codes "choice") g.choice ∷ said (codes "order") g.order ∷ (codes "end" ∷ []) ∷ []))
+    said (codes "generals") g.numbers.generals ∷ (map edge_line g.edges ++
+    (said (codes "traitors") g.numbers.traitors ∷ said (codes "diameter") g.numbers.diameter
+    ∷ said (codes "orders") g.numbers.orders ∷ said (codes "choice") g.numbers.choice
+    ∷ said (codes "order") g.order ∷ (codes "end" ∷ []) ∷ []))
 
 -- Fields are parted by one space, and each line ends with a line feed.
 abbrev pub text_of : List (List (List ℕ)) → List ℕ
@@ -36,23 +34,24 @@ text_of lines = flat_map (λ fs. join_with_byte 32 fs ++ 10 ∷ []) lines
 
 -- Each number is at most 255.
 pub record AreBytes (g : Given) : Type 0 where
-  pub generals : g.generals < 256
+  pub generals : g.numbers.generals < 256
   pub edges : AllByRecursion (λ e. (e.0 < 256) × (e.1 < 256)) g.edges
-  pub traitors : g.traitors < 256
-  pub diameter : g.diameter < 256
-  pub orders : g.orders < 256
-  pub choice : g.choice < 256
+  pub traitors : g.numbers.traitors < 256
+  pub diameter : g.numbers.diameter < 256
+  pub orders : g.numbers.orders < 256
+  pub choice : g.numbers.choice < 256
   pub order : g.order < 256
 
 -- The text spells the scenario: it gives numbers that make its network, and its order is one of the network's.
-pub record Spells (text : List ℕ) (said : Plain) : Type 0 where
+pub record SpellsScenario (text : List ℕ) (said : Plain) : Type 0 where
   pub given : Given
   pub text_is : text ≡ text_of (lines_of given)
   pub bytes : AreBytes given
-  pub network : network_of given.generals given.edges given.traitors given.diameter given.orders given.choice ≡ Ok said.net
+  pub network : network_of given.numbers given.edges ≡ Ok said.net
   pub order : given.order ≡ said.order
   pub known : said.order < said.net.orders
 
 -- a text spells at most one scenario
 abbrev pub OneScenario : Type 0
-OneScenario = (text : List ℕ) (said other : Plain) → Spells text said → Spells text other → said ≡ other
+OneScenario =
+    (text : List ℕ) (said other : Plain) → SpellsScenario text said → SpellsScenario text other → said ≡ other

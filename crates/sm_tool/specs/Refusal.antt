@@ -1,0 +1,29 @@
+-- What becomes of words that ask for no job.
+use Rattle.std.specs.Prelude.{◌≡◌, ℕ, ◌⊎◌}
+use Rattle.clap.specs.declared.error.Error.{Error}
+use Rattle.clap.specs.declared.error.kind.ErrorKind.TheVariants.{DisplayHelp, DisplayVersion}
+use Rattle.clap.specs.Words.{kind_of}
+use Rattle.sm_tool.specs.declared.ends.JobEnd.TheVariants.{Done, Failed}
+use Rattle.sm_tool.specs.declared.ends.JobFault.TheVariants as faults
+use Rattle.sm_tool.specs.declared.words.WordsFault.{WordsFault}
+use Rattle.sm_tool.specs.declared.words.WordsFault.TheVariants.{Memory, NotText, NoCommand, Words}
+use Rattle.sm_tool.specs.Ends.{status_of, words_status}
+
+-- the words ask for help or for the version
+abbrev pub AsksToShow : Error → Type 0
+AsksToShow e = (kind_of e ≡ DisplayHelp) ⊎ (kind_of e ≡ DisplayVersion)
+
+-- what they ask for is shown, or its write failed
+abbrev pub IsShown : ℕ → Type 0
+IsShown status = (status ≡ status_of Done) ⊎ (status ≡ status_of (Failed faults.Write))
+
+-- the words are blamed, or memory for the line that does was refused
+abbrev pub IsBlamed : ℕ → Type 0
+IsBlamed status = (status ≡ words_status) ⊎ (status ≡ status_of (Failed faults.Memory))
+
+-- the exit status for this fault of the words
+abbrev pub Refuses : WordsFault → ℕ → Type 0
+Refuses Memory status = status ≡ status_of (Failed faults.Memory)
+Refuses NotText status = IsBlamed status
+Refuses NoCommand status = IsBlamed status
+Refuses (Words e) status = (AsksToShow e → IsShown status) × ((AsksToShow e → ⊥) → IsBlamed status)
