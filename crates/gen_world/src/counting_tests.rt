@@ -155,17 +155,14 @@ fn each_of_fifteen_orders_counts(rt: HostRuntime) -> Result<(), Fail> {
     let alloc = rt.alloc();
     let header = header_over(alloc, Net::new(alloc, 2, &[(0, 1)], 0, 1, 15, 0)?)?;
     let mut frame = Vec::new(alloc);
-    for order in 0..15u8 {
-        frame.push(parcel(alloc, &header, 14 - order, &[])?)?;
+    let mut want = Vec::new(alloc);
+    for number in 0..15u8 {
+        let order = 14 - number;
+        frame.push(parcel(alloc, &header, order, &[])?)?;
+        want.push((order, 1usize))?;
     }
-    let all = counted(alloc, &header, (0, 1, 1), frame.as_slice())?;
-    assert_eq!(rt; all.len(), 15);
-    // They stand in the order of their parcels.
-    let mut next = 15;
-    for (order, signers) in all.as_slice() {
-        assert_eq!(rt; (*order + 1, *signers), (next, 1));
-        next = *order;
-    }
+    let found = counted(alloc, &header, (0, 1, 1), frame.as_slice())?;
+    assert_eq!(rt; found.as_slice(), want.as_slice());
     Ok(())
 }
 
