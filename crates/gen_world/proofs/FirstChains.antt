@@ -11,7 +11,7 @@ use Rattle.std.proofs.lemmas.Bool.{eqb-true, eq-eqb, le-leb, leb-true, cases_eq}
 use Rattle.gen_types.specs.Ends.{EndsWith, is_among}
 use Rattle.gen_types.proofs.Among.{among_out, out_among}
 use Rattle.gen_types.proofs.Lists.{Contains_here, Contains_there, Contains_cases, Contains_nil, Contains_filtered, All_of, decide_some, bool_cases}
-use Rattle.gen_net.specs.Header.{RunHeader}
+use Rattle.gen_net.specs.Header.{RunHeader, height_of}
 use Rattle.gen_chain.specs.declared.fault.ChainFault.{ChainFault}
 use Rattle.gen_chain.specs.Chain.{Chain, signed_path, chain_spelling}
 use Rattle.gen_chain.specs.ChainReading.{chain_at}
@@ -84,14 +84,14 @@ none_left : (rest : List ℕ) → eqb (length rest) 0 ≡ true → rest ≡ []
 none_left [] e = refl
 none_left (b ∷ rest) e = absurd (omega (arith, eqb-true _ _ e))
 
-whole_has : (h : RunHeader) (d : Delivery) (parcel : List ℕ) (r : Result (Chain × List ℕ) ChainFault) → chain_at parcel ≡ r → (c : Chain) → Contains (if_whole h d r) c → Carries h d parcel c
+whole_has : (h : RunHeader) (d : Delivery) (parcel : List ℕ) (r : Result (Chain × List ℕ) ChainFault) → chain_at (height_of h) parcel ≡ r → (c : Chain) → Contains (if_whole h d r) c → Carries h d parcel c
 whole_has h d parcel (Err f) e c k = absurd (Contains_nil c k)
 whole_has h d parcel (Ok read) e c k = elim (bool_cases (eqb (length read.1) 0 && may_count h d read.0)) [
   | inr out ↦ absurd (Contains_nil c (rw out at k))
   | inl test ↦
       let one : Contains (read.0 ∷ []) c = rw test at k in
       let p = both (eqb (length read.1) 0) (may_count h d read.0) test in
-      let parts = chain_parts parcel read e in
+      let parts = chain_parts (height_of h) parcel read e in
       let spelled : parcel ≡ chain_spelling read.0 = parts.0 ∙ ap (λ (r : List ℕ). chain_spelling read.0 ++ r) (none_left read.1 p.0) ∙ append-nil (chain_spelling read.0) in
       let made : Carries h d parcel read.0 = record { spelled = spelled; is_chain = parts.1; may_count = may_has h d read.0 p.1 } in
       elim (Contains_cases read.0 c [] one) [ inl same ↦ subst (λ x. Carries h d parcel x) same made | inr none ↦ absurd (Contains_nil c none) ]
@@ -99,12 +99,12 @@ whole_has h d parcel (Ok read) e c k = elim (bool_cases (eqb (length read.1) 0 &
 
 carried_has : (h : RunHeader) (d : Delivery) (parcel : List ℕ) (c : Chain) → Contains (carried_by h d parcel) c → Carries h d parcel c
 unfolding carried_by
-carried_has h d parcel c k = whole_has h d parcel (chain_at parcel) refl c k
+carried_has h d parcel c k = whole_has h d parcel (chain_at (height_of h) parcel) refl c k
 
 carried_gives : (h : RunHeader) (d : Delivery) (parcel : List ℕ) (c : Chain) → Carries h d parcel c → carried_by h d parcel ≡ c ∷ []
 unfolding carried_by
 carried_gives h d parcel c k =
-    let read : chain_at parcel ≡ Ok (c, []) = ap chain_at (k.spelled ∙ sym (append-nil (chain_spelling c))) ∙ chains_read.again c [] k.is_chain in
+    let read : chain_at (height_of h) parcel ≡ Ok (c, []) = ap (chain_at (height_of h)) (k.spelled ∙ sym (append-nil (chain_spelling c))) ∙ (chains_read (height_of h)).again c [] k.is_chain in
     rw (read, may_gives h d c k.may_count) refl
 
 -- a parcel carries one chain
@@ -120,7 +120,7 @@ one_or_none h d (Ok read) = elim (bool_cases (eqb (length read.1) 0 && may_count
 
 carried_cases : (h : RunHeader) (d : Delivery) (parcel : List ℕ) → (carried_by h d parcel ≡ []) ⊎ ((k : Chain) × (carried_by h d parcel ≡ k ∷ []))
 unfolding carried_by
-carried_cases h d parcel = one_or_none h d (chain_at parcel)
+carried_cases h d parcel = one_or_none h d (chain_at (height_of h) parcel)
 
 -- the chain of a parcel that carries one
 carries_it : (h : RunHeader) (d : Delivery) (parcel : List ℕ) (k : Chain) → carried_by h d parcel ≡ k ∷ [] → Carries h d parcel k

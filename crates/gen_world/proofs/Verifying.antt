@@ -1,19 +1,22 @@
 -- The test of verifying says exactly whether a chain verifies.
-use Rattle.std.proofs.Common.{◌≡◌, ℕ, Bool, true, ◌&&◌, List, [], ◌∷◌, ◌++◌, refl, sym, ap, subst, ◌∙◌, append_assoc, inl, inr}
+use Rattle.std.proofs.Common.{◌≡◌, ℕ, Bool, true, ◌&&◌, eqb, eq-eqb, length, List, [], ◌∷◌, ◌++◌, refl, sym, ap, subst, ◌∙◌, append_assoc, inl, inr}
 use Rattle.std.specs.Prelude.{nat_lt}
 use Rattle.std.specs.Bool.{nat_eq}
 use Rattle.std.specs.Cmp.Lexicographic.{pointwise, same_text, other_text}
-use Rattle.std.proofs.lemmas.Bool.{ltb-true, lt-ltb}
+use Rattle.std.proofs.lemmas.Bool.{ltb-true, lt-ltb, eqb-true}
 use Rattle.std.proofs.Math.Bool.{and-eq-true_iff}
 use Rattle.gen_types.proofs.Lists.{bool_cases, not_nil}
-use Rattle.gen_ots.specs.Sizes.{leaf_count}
-use Rattle.gen_tree.specs.Tree.{root_of, Verifies}
+use Rattle.gen_types.specs.declared.heights.TreeHeight.{TreeHeight}
+use Rattle.gen_types.specs.Heights.{leaves_of}
+use Rattle.gen_tree.specs.Signatures.{root_of, Verifies}
+use Rattle.gen_tree.specs.Sizes.{signature_length}
 use Rattle.gen_net.specs.Header as headers
-use Rattle.gen_net.specs.Header.{RunHeader}
+use Rattle.gen_net.specs.Header.{RunHeader, height_of}
 use Rattle.gen_chain.specs.declared.chains.Signer.{Signer}
 use Rattle.gen_chain.specs.declared.statements.Statement.{Statement}
 use Rattle.gen_chain.specs.Chain.{signed_path}
-use Rattle.gen_chain.specs.Texts.{statement_digest, leaf_of_order}
+use Rattle.gen_chain.specs.Leaves.{leaf_of_order}
+use Rattle.gen_chain.specs.Texts.{statement_digest}
 use Rattle.gen_chain.specs.Verifying.{HasSigned}
 use Rattle.gen_world.specs.Verified.{is_under, has_signed, are_signed, is_verified, TestsVerifying}
 
@@ -29,26 +32,28 @@ same_list xs = elim (bool_cases (pointwise nat_eq xs xs)) [
   | inr e ↦ absurd (other_text xs xs (sym e) refl)
 ]
 
-under_has : (root : List ℕ) (leaf : ℕ) (digest signature : List ℕ) → is_under root leaf digest signature ≡ true → Verifies root leaf digest signature
-unfolding is_under Verifies
-under_has root leaf digest signature e =
-    let p = both (nat_lt leaf leaf_count) (pointwise nat_eq (root_of leaf digest signature) root) e in
-    (ltb-true _ _ p.0, same_text (root_of leaf digest signature) root (sym p.1))
+under_has : (root : List ℕ) (height : TreeHeight) (leaf : ℕ) (digest signature : List ℕ) → is_under root height leaf digest signature ≡ true → Verifies root height leaf digest signature
+unfolding is_under
+under_has root height leaf digest signature e =
+    let p = both (eqb (length signature) (signature_length height) && nat_lt leaf (leaves_of height)) (pointwise nat_eq (root_of height leaf digest signature) root) e in
+    let q = both (eqb (length signature) (signature_length height)) (nat_lt leaf (leaves_of height)) p.0 in
+    record { siblings = eqb-true _ _ q.0; below = ltb-true _ _ q.1; leads = same_text (root_of height leaf digest signature) root (sym p.1) }
 
-under_gives : (root : List ℕ) (leaf : ℕ) (digest signature : List ℕ) → Verifies root leaf digest signature → is_under root leaf digest signature ≡ true
-unfolding is_under Verifies
-under_gives root leaf digest signature v =
-    and_so (nat_lt leaf leaf_count) (pointwise nat_eq (root_of leaf digest signature) root) (lt-ltb _ _ v.0) (subst (λ (r : List ℕ). pointwise nat_eq (root_of leaf digest signature) r ≡ true) v.1 (same_list (root_of leaf digest signature)))
+under_gives : (root : List ℕ) (height : TreeHeight) (leaf : ℕ) (digest signature : List ℕ) → Verifies root height leaf digest signature → is_under root height leaf digest signature ≡ true
+unfolding is_under
+under_gives root height leaf digest signature v =
+    let same : pointwise nat_eq (root_of height leaf digest signature) root ≡ true = subst (λ (r : List ℕ). pointwise nat_eq (root_of height leaf digest signature) r ≡ true) v.leads (same_list (root_of height leaf digest signature)) in
+    and_so (eqb (length signature) (signature_length height) && nat_lt leaf (leaves_of height)) (pointwise nat_eq (root_of height leaf digest signature) root) (and_so (eqb (length signature) (signature_length height)) (nat_lt leaf (leaves_of height)) (eq-eqb _ _ v.siblings) (lt-ltb _ _ v.below)) same
 
 signed_has : (h : RunHeader) (g : ℕ) (t : Statement) (signature : List ℕ) → has_signed h g t signature ≡ true → HasSigned h g t signature
 unfolding has_signed
 signed_has h g t signature e =
-    let p = both (nat_lt g h.network.generals) (is_under (headers.root_of h g) (leaf_of_order t.order) (statement_digest h t) signature) e in
-    (ltb-true _ _ p.0, under_has (headers.root_of h g) (leaf_of_order t.order) (statement_digest h t) signature p.1)
+    let p = both (nat_lt g h.network.generals) (is_under (headers.root_of h g) (height_of h) (leaf_of_order h t.order) (statement_digest h t) signature) e in
+    (ltb-true _ _ p.0, under_has (headers.root_of h g) (height_of h) (leaf_of_order h t.order) (statement_digest h t) signature p.1)
 
 signed_gives : (h : RunHeader) (g : ℕ) (t : Statement) (signature : List ℕ) → HasSigned h g t signature → has_signed h g t signature ≡ true
 unfolding has_signed
-signed_gives h g t signature v = and_so (nat_lt g h.network.generals) (is_under (headers.root_of h g) (leaf_of_order t.order) (statement_digest h t) signature) (lt-ltb _ _ v.0) (under_gives (headers.root_of h g) (leaf_of_order t.order) (statement_digest h t) signature v.1)
+signed_gives h g t signature v = and_so (nat_lt g h.network.generals) (is_under (headers.root_of h g) (height_of h) (leaf_of_order h t.order) (statement_digest h t) signature) (lt-ltb _ _ v.0) (under_gives (headers.root_of h g) (height_of h) (leaf_of_order h t.order) (statement_digest h t) signature v.1)
 
 -- each of these signers has signed, behind a path
 abbrev SignedAfter : RunHeader → ℕ → List ℕ → List Signer → Type 0

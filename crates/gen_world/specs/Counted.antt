@@ -2,7 +2,7 @@
 use Rattle.std.specs.Prelude.{ℕ, Bool, false, not, ◌&&◌, ◌==◌, if◌then◌else◌, List, [], ◌∷◌, length, filter, Result, Ok, Err, nat_le}
 use Rattle.std.specs.List.{flat_map}
 use Rattle.gen_types.specs.Ends.{is_among}
-use Rattle.gen_net.specs.Header.{RunHeader}
+use Rattle.gen_net.specs.Header.{RunHeader, height_of}
 use Rattle.gen_chain.specs.declared.fault.ChainFault.{ChainFault}
 use Rattle.gen_chain.specs.Chain.{Chain, signed_path}
 use Rattle.gen_chain.specs.ChainReading.{chain_at}
@@ -29,7 +29,7 @@ if_whole h d (Ok read) = if length read.1 == 0 && may_count h d read.0 then read
 
 -- the chain that a parcel carries: one or none
 unfoldable pub carried_by : RunHeader → Delivery → List ℕ → List Chain
-carried_by h d parcel = if_whole h d (chain_at parcel)
+carried_by h d parcel = if_whole h d (chain_at (height_of h) parcel)
 
 -- of the chains of one order the first alone
 unfoldable pub firsts : List Chain → List Chain

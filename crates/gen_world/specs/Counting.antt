@@ -1,7 +1,7 @@
 -- Which chains of a frame count at its receiver. A frame is a list of parcels, and a parcel is a list of bytes.
 use Rattle.std.specs.Prelude.{ℕ, ◌≡◌, ◌≢◌, ◌≤◌, ◌↔◌, List, ◌∷◌, ◌++◌, length, Contains, AllPairs}
 use Rattle.gen_types.specs.Ends.{EndsWith}
-use Rattle.gen_net.specs.Header.{RunHeader}
+use Rattle.gen_net.specs.Header.{RunHeader, height_of}
 use Rattle.gen_chain.specs.Chain.{Chain, IsSignedChain, signed_path, chain_spelling}
 use Rattle.gen_chain.specs.Verifying.{ChainVerifies}
 use Rattle.gen_world.specs.declared.counting.Delivery.{Delivery}
@@ -17,7 +17,7 @@ pub record MayCount (h : RunHeader) (d : Delivery) (c : Chain) : Type 0 where
 -- the parcel is exactly one chain, which may count
 pub record Carries (h : RunHeader) (d : Delivery) (parcel : List ℕ) (c : Chain) : Type 0 where
   pub spelled : parcel ≡ chain_spelling c
-  pub is_chain : IsSignedChain c
+  pub is_chain : IsSignedChain (height_of h) c
   pub may_count : MayCount h d c
 
 -- A chain of the frame counts: the frame is not too long, and no parcel before the chain's carries one of the same order.

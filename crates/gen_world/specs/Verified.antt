@@ -1,28 +1,32 @@
 -- Whether a chain verifies, as a test.
-use Rattle.std.specs.Prelude.{ℕ, ◌≡◌, ◌↔◌, Bool, true, ◌&&◌, List, [], ◌∷◌, ◌++◌, nat_lt}
+use Rattle.std.specs.Prelude.{ℕ, ◌≡◌, ◌↔◌, Bool, true, ◌&&◌, List, [], ◌∷◌, ◌++◌, length, nat_lt, ◌==◌}
 use Rattle.std.specs.Bool.{nat_eq}
 use Rattle.std.specs.Cmp.Lexicographic.{pointwise}
-use Rattle.gen_ots.specs.Sizes.{leaf_count}
-use Rattle.gen_tree.specs.Tree.{root_of}
+use Rattle.gen_types.specs.declared.heights.TreeHeight.{TreeHeight}
+use Rattle.gen_types.specs.Heights.{leaves_of}
+use Rattle.gen_tree.specs.Signatures.{root_of}
+use Rattle.gen_tree.specs.Sizes.{signature_length}
 use Rattle.gen_net.specs.Header as headers
-use Rattle.gen_net.specs.Header.{RunHeader}
+use Rattle.gen_net.specs.Header.{RunHeader, height_of}
 use Rattle.gen_chain.specs.declared.chains.Signer.{Signer}
 use Rattle.gen_chain.specs.declared.statements.Statement.{Statement}
 use Rattle.gen_chain.specs.Chain.{Chain}
-use Rattle.gen_chain.specs.Texts.{statement_digest, leaf_of_order}
+use Rattle.gen_chain.specs.Leaves.{leaf_of_order}
+use Rattle.gen_chain.specs.Texts.{statement_digest}
 use Rattle.gen_chain.specs.Verifying.{ChainVerifies}
 
--- the signature of the digest by the leaf stands under the root
-unfoldable pub is_under : List ℕ → ℕ → List ℕ → List ℕ → Bool
-is_under root leaf digest signature =
-    nat_lt leaf leaf_count && pointwise nat_eq (root_of leaf digest signature) root
+-- the signature of the digest by the leaf stands under the root of a tree of this height
+unfoldable pub is_under : List ℕ → TreeHeight → ℕ → List ℕ → List ℕ → Bool
+is_under root height leaf digest signature =
+    (length signature == signature_length height && nat_lt leaf (leaves_of height))
+    && pointwise nat_eq (root_of height leaf digest signature) root
 
 -- the general is one of the network, and has signed the statement
 unfoldable pub has_signed : RunHeader → ℕ → Statement → List ℕ → Bool
 has_signed h general statement signature =
     nat_lt general h.network.generals
-    && is_under (headers.root_of h general) (leaf_of_order statement.order)
-    (statement_digest h statement) signature
+    && is_under (headers.root_of h general) (height_of h) (leaf_of_order h statement.order)
+        (statement_digest h statement) signature
 
 -- each of the signers behind a path has signed the order together with the path up to himself
 unfoldable pub are_signed : RunHeader → ℕ → List ℕ → List Signer → Bool

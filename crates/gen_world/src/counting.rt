@@ -50,7 +50,7 @@ fn carried(
     ensures none { result ≡ Ok None
         → (c : Chain) → Carries header.now delivery.now parcel.now c → ⊥ }
 {
-    match read_chain(alloc, parcel) {
+    match read_chain(alloc, header.height(), parcel) {
         Err(ReadError::Memory) => Err(AllocError),
         Err(ReadError::Fault(_)) => Ok(None),
         Ok((chain, taken)) => {
