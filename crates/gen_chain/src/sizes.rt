@@ -17,8 +17,8 @@ pub const MOST_SIGNERS: u8 = MOST_GENERALS;
 pub const FRONT_BYTES: usize = 2;
 
 /// The most bytes of a chain: those of one with the most signers, who signed by the tallest trees.
-pub const MOST_CHAIN_BYTES: usize =
-    FRONT_BYTES + MOST_SIGNERS as usize * (1 + OTS_BYTES + MOST_SIBLING_BYTES);
+pub const MOST_CHAIN_BYTES: usize = FRONT_BYTES
+    + MOST_SIGNERS as usize * (1 + OTS_BYTES + MOST_SIBLING_BYTES);
 
 /// Returns the bytes of a signer, where signatures are by trees of this height: his number, and his
 /// signature.
