@@ -9,6 +9,7 @@ use Rattle.std.proofs.lemmas.Bool.{leb-true, le-leb, ltb-true, lt-ltb, eqb-true}
 use Rattle.std.proofs.Math.Bool.{and-eq-true_iff}
 use Rattle.std.proofs.Math.Nat.{mul-suc}
 use Rattle.gen_types.specs.declared.heights.TreeHeight.{TreeHeight}
+use Rattle.gen_types.specs.declared.heights.TreeHeight.TheVariants.{Four, Six}
 use Rattle.gen_types.specs.Ends.{BeginsWith}
 use Rattle.gen_types.specs.Reading.{◌>>=◌, check}
 use Rattle.gen_types.specs.Bytes.{byte_at, bytes_at, many_at}
@@ -157,6 +158,11 @@ length-signers height (s ∷ signers) wide =
     let first : length s.signature ≡ signature_length height = wide.0 in
     let all : length (flat_map signer_spelling (s ∷ signers)) ≡ suc (length s.signature) + length (flat_map signer_spelling signers) = ap length (flat_map-cons signer_spelling s signers) ∙ length-append (signer_spelling s) (flat_map signer_spelling signers) in
     all ∙ one_more (signature_length height) (length s.signature) (length (flat_map signer_spelling signers)) (length signers) first more
+
+-- and how many at most
+pub signers_most : (height : TreeHeight) (n : ℕ) → n ≤ most_signers → signer_length height * n ≤ 265232
+signers_most Four n few = omega (arith, few)
+signers_most Six n few = omega (arith, few)
 
 -- ---- the chain
 

@@ -13,7 +13,7 @@ abbrev pub HasSigned : RunHeader → ℕ → Statement → List ℕ → Type 0
 HasSigned h general statement signature =
     (general < h.network.generals)
     × Verifies (root_of h general) (height_of h) (leaf_of_order h statement.order)
-        (statement_digest h statement) signature
+    (statement_digest h statement) signature
 
 -- the signer has signed the order together with the path of those in front of him and himself
 abbrev pub HasSignedBehind : RunHeader → ℕ → List Signer → Signer → Type 0

@@ -19,10 +19,8 @@ pub fn one_chain_spelling()
 /// What is read as a chain is a chain, and its spelling stands in front of what was read. This holds of
 /// any list of numbers, also of one that is no list of bytes.
 pub fn chains_are_spelled()
-    ensures chain {
-        (height : TreeHeight) (bytes rest : List ℕ) (c : Chain)
-            → chain_at height bytes ≡ Ok (c, rest) → IsSignedChain height c
-    }
+    ensures chain { (height : TreeHeight) (bytes rest : List ℕ) (c : Chain)
+        → chain_at height bytes ≡ Ok (c, rest) → IsSignedChain height c }
     ensures spelled { (height : TreeHeight) (bytes rest : List ℕ) (c : Chain)
         → chain_at height bytes ≡ Ok (c, rest) → bytes ≡ chain_spelling c ++ rest }
 {}

@@ -2,7 +2,8 @@
 ghost use Rattle.std.specs.Prelude.{◌≡◌, ◌*◌};
 ghost use Rattle.gen_chain.specs.Chain.{signer_length};
 
-use gen_tree::sizes::signature_bytes;
+use gen_ots::sizes::OTS_BYTES;
+use gen_tree::sizes::{MOST_SIBLING_BYTES, signature_bytes};
 use gen_types::TreeHeight;
 use gen_types::limits::{MOST_GENERALS, MOST_ORDERS};
 
@@ -14,6 +15,10 @@ pub const MOST_SIGNERS: u8 = MOST_GENERALS;
 
 /// The bytes of a chain before its signers: the order, and the number of signers.
 pub const FRONT_BYTES: usize = 2;
+
+/// The most bytes of a chain: those of one with the most signers, who signed by the tallest trees.
+pub const MOST_CHAIN_BYTES: usize = FRONT_BYTES
+    + MOST_SIGNERS as usize * (1 + OTS_BYTES + MOST_SIBLING_BYTES);
 
 /// Returns the bytes of a signer, where signatures are by trees of this height: his number, and his
 /// signature.

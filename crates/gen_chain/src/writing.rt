@@ -4,7 +4,7 @@ ghost use Rattle.std.specs.List.{flat_map};
 ghost use Rattle.gen_chain.specs.Chain.{signer_spelling, signers_length, chain_spelling, chain_length};
 
 use crate::chains::{SignedChain, Signer};
-use crate::sizes::{FRONT_BYTES, signers_bytes};
+use crate::sizes::{FRONT_BYTES, MOST_CHAIN_BYTES, signers_bytes};
 use std::alloc::{AllocError, Global};
 
 /// Appends signers, in reserved room.
@@ -21,9 +21,10 @@ fn put_signers(out: &mut Vec<u8>, signers: &[Signer])
 }
 
 impl SignedChain {
-    /// How many bytes the chain has.
-    fn byte_count(&self) -> usize
-        ensures { result ≡ chain_length self.now }
+    /// Returns how many bytes the chain has.
+    pub fn byte_count(&self) -> usize
+        ensures value { result ≡ chain_length self.now }
+        ensures most { result ≤ MOST_CHAIN_BYTES }
     {
         FRONT_BYTES + signers_bytes(self.height, self.signers.len() as u8)
     }
