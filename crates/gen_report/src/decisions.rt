@@ -25,10 +25,8 @@ fn push_orders(out: &mut String, orders: OrderSet) -> Result<(), AllocError>
 
 /// Appends the line of a decision.
 fn push_decision(out: &mut String, decision: &Decision) -> Result<(), AllocError>
-    ensures {
-        OnOk result
-            (string_bytes out.new ≡ string_bytes out.old ++ decision_line decision.now)
-    }
+    ensures { OnOk result
+        (string_bytes out.new ≡ string_bytes out.old ++ decision_line decision.now) }
 {
     let general = decision.general.get();
     let order = decision.order.get();

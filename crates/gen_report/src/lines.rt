@@ -22,11 +22,9 @@ fn line_feed(text: &[u8]) -> Option<usize>
 
 /// The bytes before the first line feed, and what follows it, where there is one.
 fn cut_line(text: &[u8]) -> (&[u8], Option<&[u8]>)
-    ensures {
-        MatchOption result.1 (parts text.now ≡ result.0.now ∷ [])
-            (λ rest. (parts text.now ≡ result.0.now ∷ parts rest.now)
-            × (length text.now ≡ length result.0.now + (length rest.now + 1)))
-    }
+    ensures { MatchOption result.1 (parts text.now ≡ result.0.now ∷ [])
+        (λ rest. (parts text.now ≡ result.0.now ∷ parts rest.now)
+        × (length text.now ≡ length result.0.now + (length rest.now + 1))) }
 {
     match line_feed(text) {
         None => (text, None),
@@ -99,10 +97,8 @@ pub fn fields_at<'a>(
     text: &'a [u8],
     line: usize,
 ) -> Result<(Vec<&'a [u8]>, &'a [u8]), ReadError<ScenarioFault>>
-    ensures exact {
-        Gives (λ x. (map (λ f. f.now) x.0.items, parts x.1.now)) result
-            (fields_at line (parts text.now))
-    }
+    ensures exact { Gives (λ x. (map (λ f. f.now) x.0.items, parts x.1.now)) result
+        (fields_at line (parts text.now)) }
     ensures shorter { IfOk result (λ x. length x.1.now < length text.now) }
 {
     let (bytes, rest) = line_at(text, line)?;
@@ -118,9 +114,7 @@ pub fn numbered<'a>(
     word: &[u8],
     line: usize,
 ) -> Result<(u8, &'a [u8]), ReadError<ScenarioFault>>
-    ensures exact {
-        Gives (λ x. (x.0, parts x.1.now)) result (numbered word.now line (parts text.now))
-    }
+    ensures exact { Gives (λ x. (x.0, parts x.1.now)) result (numbered word.now line (parts text.now)) }
     ensures shorter { IfOk result (λ x. length x.1.now + 1 < length text.now) }
 {
     let (bytes, rest) = line_at(text, line)?;

@@ -40,14 +40,12 @@ fn edge_lines<'a>(
     first: usize,
 ) -> Result<EdgeLines<'a>, ReadError<ScenarioFault>>
     requires { first + length text.now < 2 ^ 64 }
-    ensures exact {
-        Gives (λ e. record {
-            found = e.found.items;
-            next = map (λ f. f.now) e.next.items;
-            line = e.line;
-            after = parts e.after.now;
-        }) result (edge_lines_at first (parts text.now))
-    }
+    ensures exact { Gives (λ e. record {
+      found = e.found.items;
+      next = map (λ f. f.now) e.next.items;
+      line = e.line;
+      after = parts e.after.now;
+    }) result (edge_lines_at first (parts text.now)) }
     ensures room { IfOk result (λ e. e.line + 1 + length e.after.now < 2 ^ 64) }
 {
     let mut found = Vec::new(alloc);
@@ -83,15 +81,13 @@ struct Opening<'a> {
 
 #[tactic(auto, unfolding(crate::specs::NumbersReading::opening_at))]
 fn read_opening<'a>(alloc: Global, text: &'a [u8]) -> Result<Opening<'a>, ReadError<ScenarioFault>>
-    ensures exact {
-        Gives (λ o. record {
-            generals = o.generals;
-            edges = o.edges.items;
-            traitors = o.traitors;
-            line = o.line;
-            after = parts o.after.now;
-        }) result (opening_at (parts text.now))
-    }
+    ensures exact { Gives (λ o. record {
+      generals = o.generals;
+      edges = o.edges.items;
+      traitors = o.traitors;
+      line = o.line;
+      after = parts o.after.now;
+    }) result (opening_at (parts text.now)) }
     ensures room { IfOk result (λ o. o.line + 1 + length o.after.now < 2 ^ 64) }
 {
     let (generals, rest) = numbered(alloc, text, b"generals", 1)?;
@@ -122,14 +118,12 @@ fn read_settings<'a>(
     line: usize,
 ) -> Result<Settings<'a>, ReadError<ScenarioFault>>
     requires { line + 1 + length text.now < 2 ^ 64 }
-    ensures exact {
-        Gives (λ s. record {
-            diameter = s.diameter;
-            orders = s.orders;
-            choice = s.choice;
-            after = parts s.after.now;
-        }) result (settings_at line (parts text.now))
-    }
+    ensures exact { Gives (λ s. record {
+      diameter = s.diameter;
+      orders = s.orders;
+      choice = s.choice;
+      after = parts s.after.now;
+    }) result (settings_at line (parts text.now)) }
     ensures room { IfOk result (λ s. line + 4 + length s.after.now < 2 ^ 64) }
 {
     let (diameter, rest) = numbered(alloc, text, b"diameter", line + 1)?;
@@ -214,9 +208,7 @@ pub fn read_scenario(alloc: Global, text: &[u8]) -> Result<ScenarioText, ReadErr
     // What is read is spelled so.
     ensures found { IfOk result (λ s. SpellsScenario text.now s.plain) }
     // What is spelled so is read, unless memory runs out.
-    ensures only {
-        (said : Plain) → SpellsScenario text.now said → Gives (λ s. s.plain) result (Ok said)
-    }
+    ensures only { (said : Plain) → SpellsScenario text.now said → Gives (λ s. s.plain) result (Ok said) }
     // Which fault is the first, and of which line.
     ensures exact { Gives (λ s. s.plain) result (scenario_of text.now) }
 {

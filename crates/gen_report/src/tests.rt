@@ -242,8 +242,15 @@ fn prints_16_decisions(rt: HostRuntime) -> Result<(), Fail> {
     for number in 0..16u8 {
         let general = GeneralNo::at(number);
         let order = OrderNo::at(14);
-        decisions.push(Decision { general, orders, order })?;
-        write!(want, "general {number} set 0,1,2,3,4,5,6,7,8,9,10,11,12,13,14 decides 14\n")?;
+        decisions.push(Decision {
+            general,
+            orders,
+            order,
+        })?;
+        write!(
+            want,
+            "general {number} set 0,1,2,3,4,5,6,7,8,9,10,11,12,13,14 decides 14\n"
+        )?;
     }
     let text = print_decisions(alloc, &decisions)?;
     assert!(rt; text.as_slice() == want.as_bytes());

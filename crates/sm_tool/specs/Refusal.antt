@@ -1,5 +1,5 @@
 -- What becomes of words that ask for no job.
-use Rattle.std.specs.Prelude.{◌≡◌, ℕ, ◌⊎◌}
+use Rattle.std.specs.Prelude.{◌≡◌, ℕ, ◌⊎◌, List, ◌++◌, codes}
 use Rattle.clap.specs.declared.error.Error.{Error}
 use Rattle.clap.specs.declared.error.kind.ErrorKind.TheVariants.{DisplayHelp, DisplayVersion}
 use Rattle.clap.specs.Words.{kind_of}
@@ -27,3 +27,7 @@ Refuses Memory status = status ≡ status_of (Failed faults.Memory)
 Refuses NotText status = IsBlamed status
 Refuses NoCommand status = IsBlamed status
 Refuses (Words e) status = (AsksToShow e → IsShown status) × ((AsksToShow e → ⊥) → IsBlamed status)
+
+-- The line ends by saying how to ask for help.
+abbrev pub PointsAtHelp : List ℕ → Type 0
+PointsAtHelp line = (front : List ℕ) × (line ≡ front ++ codes "; for more, try '--help'")

@@ -32,10 +32,8 @@ fn decisions_of(alloc: Global, input: &[u8]) -> Result<Vec<u8>, ReadError<Scenar
 #[tactic(auto, using(crate::proofs::Known::taken))]
 pub fn decide_engine<R: Read, W: Write>(alloc: Global, reader: &mut R, writer: &mut W) -> JobEnd
     // What is written answers what was read.
-    ensures answers {
-        IfSome (R.remaining reader.old) (λ input.
-            Answers input (W.contents writer.old) (W.contents writer.new) result)
-    }
+    ensures answers { IfSome (R.remaining reader.old) (λ input.
+        Answers input (W.contents writer.old) (W.contents writer.new) result) }
     // What was read is within the limit.
     ensures taken { IfSome (R.remaining reader.old) (λ input. IsTaken input result) }
     // Nothing is written before the output is whole.

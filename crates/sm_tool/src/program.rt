@@ -1,7 +1,7 @@
 //! The program: from its words to its exit status.
-ghost use Rattle.std.specs.Prelude.{◌≡◌};
+ghost use Rattle.std.specs.Prelude.{◌≡◌, IfOk, string_bytes};
 ghost use Rattle.sm_tool.specs.Ends.{status_of, IsStatus};
-ghost use Rattle.sm_tool.specs.Refusal.{IsShown, IsBlamed, Refuses};
+ghost use Rattle.sm_tool.specs.Refusal.{IsShown, IsBlamed, PointsAtHelp, Refuses};
 ghost use Rattle.sm_tool.specs.declared.ends.JobEnd.{JobEnd};
 
 use crate::ends::{JobEnd, JobFault};
@@ -13,9 +13,6 @@ use std::{env, io};
 
 /// The exit status for a fault of the words.
 const WORDS_STATUS: u8 = 2;
-
-/// The end of each line about wrong words.
-const HELP_POINTER: &str = "; for more, try '--help'";
 
 /// Does what the words ask for, and returns the exit status.
 pub fn run<R: Env + AllocGlobal + Input + Print + Eprint>(rt: &R) -> u8
@@ -99,8 +96,10 @@ fn blame<R: AllocGlobal + Eprint>(rt: &R, fault: &WordsFault) -> u8
 }
 
 /// Returns in one line what is wrong with the words, and at its end how to ask for help.
-pub fn fault_line(alloc: Global, fault: &WordsFault) -> Result<String, AllocError> {
+pub fn fault_line(alloc: Global, fault: &WordsFault) -> Result<String, AllocError>
+    ensures { IfOk result (λ line. PointsAtHelp (string_bytes line)) }
+{
     let text = fault.to_string(alloc)?;
     let first = text.lines().next().unwrap_or("");
-    format!(in alloc; "{first}{HELP_POINTER}")
+    format!(in alloc; "{first}; for more, try '--help'")
 }

@@ -239,7 +239,10 @@ fn reads_words(rt: HostRuntime) -> Result<(), Fail> {
             "{want:?}"
         );
         let line = fault_line(alloc, &fault)?;
-        assert!(rt; line.ends_with("try '--help'") && !line.contains('\n'), "{want:?}");
+        assert!(rt;
+            line.ends_with("try '--help'") && !line.contains('\n'),
+            "{want:?}"
+        );
     }
     Ok(())
 }
