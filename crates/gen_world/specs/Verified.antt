@@ -26,7 +26,7 @@ unfoldable pub has_signed : RunHeader → ℕ → Statement → List ℕ → Boo
 has_signed h general statement signature =
     nat_lt general h.network.generals
     && is_under (headers.root_of h general) (height_of h) (leaf_of_order h statement.order)
-        (statement_digest h statement) signature
+    (statement_digest h statement) signature
 
 -- each of the signers behind a path has signed the order together with the path up to himself
 unfoldable pub are_signed : RunHeader → ℕ → List ℕ → List Signer → Bool

@@ -1,12 +1,12 @@
 //! Frames, parcel by parcel: which chains count.
-ghost use Rattle.std.specs.Prelude.{◌≡◌};
+ghost use Rattle.std.specs.Prelude.{◌≡◌, IfOk};
 
 use super::*;
 use gen_chain::{ChainRoom, SignedChain, begin_chain, extend_chain, leaf_of_order, write_chain};
 use gen_net::{Header, Net};
 use gen_ots::SigRoom;
 use gen_tree::{KeyRing, general_seed};
-use gen_types::{GeneralNo, OrderNo};
+use gen_types::{GeneralNo, OrderNo, TreeHeight};
 use std::alloc::Global;
 use std::test::Fail;
 
@@ -14,15 +14,19 @@ use std::test::Fail;
 const MASTER: [u8; 32] = [7; 32];
 
 /// The ring of a general under the master seed.
-fn ring_of(alloc: Global, general: GeneralNo) -> Result<KeyRing, Fail> {
-    Ok(KeyRing::from_seed(alloc, &general_seed(&MASTER, general))?)
+fn ring_of(alloc: Global, general: GeneralNo, height: TreeHeight) -> Result<KeyRing, Fail>
+    ensures { IfOk result (λ ring. ring.height ≡ height) }
+{
+    let seed = general_seed(&MASTER, general);
+    Ok(KeyRing::from_seed(alloc, &seed, height)?)
 }
 
 /// The header of a network whose generals have the rings under the master seed.
 fn header_over(alloc: Global, net: Net) -> Result<Header, Fail> {
     let mut roots = Vec::new(alloc);
     for number in 0..net.generals() {
-        let ring = ring_of(alloc, GeneralNo::new(number).ok_or("no general")?)?;
+        let general = GeneralNo::new(number).ok_or("no general")?;
+        let ring = ring_of(alloc, general, TreeHeight::Four)?;
         let root = ring.root();
         let _leaves = ring.close();
         roots.push(root)?;
@@ -42,9 +46,9 @@ fn begun(alloc: Global, header: &Header, order: OrderNo) -> Result<SignedChain, 
         return Err("no order".into());
     }
     let room = ChainRoom::new(alloc, 1)?;
-    let signature = SigRoom::new(alloc)?;
-    let mut ring = ring_of(alloc, GeneralNo::commander())?;
-    let chain = match ring.take(leaf_of_order(order)) {
+    let signature = SigRoom::new(alloc, header.height())?;
+    let mut ring = ring_of(alloc, GeneralNo::commander(), header.height())?;
+    let chain = match ring.take(leaf_of_order(header, order)) {
         Some(key) => Some(begin_chain(header, order, room, signature, key)),
         None => None,
     };
@@ -64,10 +68,13 @@ fn longer(
     if me.get() >= header.net().generals() || chain.path().contains(me) || signers >= 4 {
         return Err("no signer".into());
     }
+    if chain.height() != header.height() {
+        return Err("another height".into());
+    }
     let room = ChainRoom::new(alloc, 4)?;
-    let signature = SigRoom::new(alloc)?;
-    let mut ring = ring_of(alloc, me)?;
-    let chain = match ring.take(leaf_of_order(order)) {
+    let signature = SigRoom::new(alloc, header.height())?;
+    let mut ring = ring_of(alloc, me, header.height())?;
+    let chain = match ring.take(leaf_of_order(header, order)) {
         Some(key) => Some(extend_chain(header, me, chain, room, signature, key)),
         None => None,
     };
