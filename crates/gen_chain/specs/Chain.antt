@@ -24,10 +24,11 @@ signed_path signers = map (λ s. s.general) signers
 
 -- each signature has as many bytes as those by trees of this height
 abbrev pub AreSignatures : TreeHeight → List Signer → Type 0
-AreSignatures height signers = AllByRecursion (λ s. length s.signature ≡ signature_length height) signers
+AreSignatures height signers =
+    AllByRecursion (λ s. length s.signature ≡ signature_length height) signers
 
--- What each chain keeps: its order is not too great, its signers are distinct generals of whom the commander is the first, and
--- they signed by trees of one height.
+-- What each chain keeps: its order is not too great, its signers are distinct generals of whom the
+-- commander is the first, and they signed by trees of one height.
 pub record IsSignedChain (height : TreeHeight) (c : Chain) : Type 0 where
   pub order : c.order ≤ greatest_order
   pub some : 1 ≤ length c.signers

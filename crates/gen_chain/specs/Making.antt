@@ -33,7 +33,8 @@ extended h c me key = record {
   signers = c.signers ++ signed_by key h (next_statement c me) me ∷ [];
 }
 
--- the key may sign statements of this order in the run: it is of a tree of the run's height, and of the order's leaf
+-- the key may sign statements of this order in the run: it is of a tree of the run's height, and of
+-- the order's leaf
 pub record IsLeafOf (h : RunHeader) (order : ℕ) (key : KeyName) : Type 0 where
   pub height : key.height ≡ height_of h
   pub leaf : key.leaf ≡ leaf_of_order h order

@@ -1,4 +1,5 @@
--- The byte before each text that is hashed here, in each version. No two are equal, so that no text of one kind is one of another.
+-- The byte before each text that is hashed here, in each version. No two are equal, so that no text
+-- of one kind is one of another.
 use Rattle.std.specs.Prelude.{ℕ}
 use Rattle.gen_net.specs.declared.version.Version.{Version}
 use Rattle.gen_net.specs.declared.version.Version.TheVariants.{One, Two}

@@ -18,12 +18,12 @@ pub struct Signer {
     pub signature: Signature,
 }
 
-/// An order, and those who signed it, each over those before him: the message `v:0:j1:..:jk` of section 4
-/// of the paper of 1982, with its signatures.
+/// An order, and those who signed it, each over those before him: the message `v:0:j1:..:jk` of
+/// section 4 of the paper of 1982, with its signatures.
 ///
-/// Its order is at most 14. Its signers are 1 to 16 distinct generals, of whom general 0, the commander,
-/// is the first, and all their signatures are by trees of one height. A contract sees the order and the
-/// list of signers.
+/// Its order is at most 14. Its signers are 1 to 16 distinct generals, of whom general 0, the
+/// commander, is the first, and all their signatures are by trees of one height. A contract sees
+/// the order and the list of signers.
 #[derive(Debug, Drop)]
 pub struct SignedChain {
     pub(crate) order: OrderNo,

@@ -1,4 +1,5 @@
-//! Laws of chains. Each is a function with an empty body whose contract is the law: a caller that calls it knows the law.
+//! Laws of chains. Each is a function with an empty body whose contract is the law: a caller that
+//! calls it knows the law.
 ghost use Rattle.std.specs.Prelude.{◌≡◌, ◌≢◌, ◌++◌, List, ℕ, Ok};
 ghost use Rattle.gen_types.specs.declared.heights.TreeHeight.{TreeHeight};
 ghost use Rattle.gen_types.specs.Spelled.{HasOneSpelling};
@@ -9,9 +10,9 @@ ghost use Rattle.gen_chain.specs.declared.statements.Statement.{Statement};
 ghost use Rattle.gen_chain.specs.declared.statements.HeadText.{HeadText};
 ghost use Rattle.gen_chain.specs.Texts.{statement_text, head_text};
 
-/// Each chain has one spelling, and no spelling of a chain is the beginning of another of one height: where
-/// two strings of bytes begin with spellings of chains and are equal, the chains are equal, and so is what
-/// follows.
+/// Each chain has one spelling, and no spelling of a chain is the beginning of another of one
+/// height: where two strings of bytes begin with spellings of chains and are equal, the chains are
+/// equal, and so is what follows.
 pub fn one_chain_spelling()
     ensures { (height : TreeHeight) → HasOneSpelling (IsSignedChain height) chain_spelling }
 {}

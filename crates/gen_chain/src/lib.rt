@@ -5,10 +5,11 @@
 //! who signed it one after another. Each signed the order together with the path up to himself, under
 //! the leaf of the order in his own tree of keys. A general also signs the head of his log.
 //!
-//! What is promised: the texts that are signed and the bytes of a chain are exactly the definitions, each
-//! chain has one spelling, `chain_verifies` is true exactly where every signature of the chain verifies,
-//! a chain that is made with the signers' own keys verifies, and no statement is the head of a log. What is
-//! not: that nobody else can make a signature that verifies.
+//! What is promised: the texts that are signed and the bytes of a chain are exactly the
+//! definitions, each chain has one spelling, `chain_verifies` is true exactly where every signature
+//! of the chain verifies, a chain that is made with the signers' own keys verifies, and no
+//! statement is the head of a log. What is not: that nobody else can make a signature that
+//! verifies.
 #![tactic(auto)]
 
 mod chains;

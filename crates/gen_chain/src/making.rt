@@ -17,8 +17,8 @@ use gen_types::{GeneralNo, OrderNo, Path, TreeHeight};
 use std::alloc::{AllocError, Global};
 use std::marker::Model;
 
-/// Room for a chain: all the memory that making one takes, without that of its last signature. A contract
-/// sees for how many signers it is.
+/// Room for a chain: all the memory that making one takes, without that of its last signature. A
+/// contract sees for how many signers it is.
 #[derive(Drop)]
 pub struct ChainRoom {
     length: u8,
@@ -92,10 +92,12 @@ fn sign_behind(
     requires leaf { IsLeafOf header.now statement.now.order key }
     requires signature { room ≡ height_of header.now }
     requires me { me < header.now.network.generals }
-    ensures items { signers.new.items ≡ signers.old.items ++ signed_by key header.now statement.now me ∷ [] }
+    ensures items { signers.new.items
+        ≡ signers.old.items ++ signed_by key header.now statement.now me ∷ [] }
     ensures signed { IsKeyOf header.now me key → HasSigned header.now me statement.now
         (signed_by key header.now statement.now me).signature }
-    ensures width { length (signed_by key header.now statement.now me).signature ≡ signature_length (height_of header.now) }
+    ensures width { length (signed_by key header.now statement.now me).signature
+        ≡ signature_length (height_of header.now) }
 {
     let digest = statement_digest(header, statement);
     let signature = key.sign(room, &digest);
@@ -108,9 +110,10 @@ fn sign_behind(
 
 /// Returns the chain of an order that general 0, the commander, alone has signed, with this key.
 ///
-/// It asks that the order is at most 14, that the room is for 1 signer or more, and that the key and the
-/// room for its signature are of the run's height and the key is of the order's leaf. The key is spent. It takes no memory beyond the rooms, and can't fail. The chain
-/// verifies where the key is of a ring with the commander's root and the order is below q.
+/// It asks that the order is at most 14, that the room is for 1 signer or more, that the key and
+/// the room for its signature are of the run's height, and that the key is of the order's leaf. The
+/// key is spent. It takes no memory beyond the rooms, and can't fail. The chain verifies where the
+/// key is of a ring with the commander's root and the order is below q.
 pub fn begin_chain(
     header: &Header,
     order: OrderNo,
@@ -143,13 +146,14 @@ pub fn begin_chain(
     }
 }
 
-/// Returns the chain that a general hands on: the given one with himself as one signer more, who signs with
-/// this key.
+/// Returns the chain that a general hands on: the given one with himself as one signer more, who
+/// signs with this key.
 ///
-/// It asks that he is a general of the network and not in the chain's path, that the room is for one
-/// signer more than the chain has, or for more, that the chain, the key and the room for its signature are
-/// of the run's height, and that the key is of the order's leaf. The key is spent. It takes no memory beyond the rooms, and can't fail. The chain verifies where the key is of a
-/// ring with his root and the given chain verifies.
+/// It asks that he is a general of the network and not in the chain's path, that the room is for
+/// one signer more than the chain has, or for more, that the chain, the key and the room for its
+/// signature are of the run's height, and that the key is of the order's leaf. The key is spent. It
+/// takes no memory beyond the rooms, and can't fail. The chain verifies where the key is of a ring
+/// with his root and the given chain verifies.
 pub fn extend_chain(
     header: &Header,
     me: GeneralNo,

@@ -162,8 +162,8 @@ fn counted_chain(
 ///
 /// # Errors
 ///
-/// The first rule of `ChainFault` that the bytes break, in the order that stands there; and Memory where
-/// memory was refused before.
+/// The first rule of `ChainFault` that the bytes break, in the order that stands there; and Memory
+/// where memory was refused before.
 pub fn read_chain(
     alloc: Global,
     height: TreeHeight,

@@ -50,9 +50,9 @@ fn are_signed(header: &Header, order: OrderNo, signers: &[Signer]) -> bool
     true
 }
 
-/// Returns whether a chain verifies in the run of this header: its order is below q, and each of its
-/// signers is below n, and his signature of the order together with the path up to himself verifies under
-/// his own root and the leaf of the order. It takes no memory.
+/// Returns whether a chain verifies in the run of this header: its order is below q, and each of
+/// its signers is below n, and his signature of the order together with the path up to himself
+/// verifies under his own root and the leaf of the order. It takes no memory.
 pub fn chain_verifies(header: &Header, chain: &SignedChain) -> bool
     ensures { IsTrue result ↔ ChainVerifies header.now chain.now }
 {

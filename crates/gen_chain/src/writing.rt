@@ -29,9 +29,9 @@ impl SignedChain {
         FRONT_BYTES + signers_bytes(self.height, self.signers.len() as u8)
     }
 
-    /// Appends the one spelling of the chain: the order and the number of signers, a byte each, and for
-    /// each signer a byte with his number, and his signature. Where the vector has room for the chain, no
-    /// memory is asked for.
+    /// Appends the one spelling of the chain: the order and the number of signers, a byte each, and
+    /// for each signer a byte with his number, and his signature. Where the vector has room for the
+    /// chain, no memory is asked for.
     ///
     /// # Errors
     ///
