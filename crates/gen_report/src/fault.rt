@@ -48,7 +48,7 @@ pub struct ScenarioFault {
 }
 
 impl LineFault {
-    /// The refusal of a text for this fault of this line.
+    /// Returns the refusal of a text for this fault of this line.
     pub fn refused(self, line: usize) -> ReadError<ScenarioFault>
         ensures { result ≡ Fault (fault_at self line) }
     {

@@ -14,13 +14,14 @@ use std::alloc::Global;
 /// The most bytes of a line, its line feed not counted.
 const LONGEST_LINE: usize = 600_000;
 
+/// Returns the place of the first line feed.
 fn line_feed(text: &[u8]) -> Option<usize>
     ensures { result ≡ position (λ b. b == 10) text.now }
 {
     text.iter().position(|b| *b == b'\n')
 }
 
-/// The bytes before the first line feed, and what follows it, where there is one.
+/// Returns the bytes before the first line feed, and what follows it, where there is one.
 fn cut_line(text: &[u8]) -> (&[u8], Option<&[u8]>)
     ensures { MatchOption result.1 (parts text.now ≡ result.0.now ∷ [])
         (λ rest. (parts text.now ≡ result.0.now ∷ parts rest.now)
@@ -35,14 +36,14 @@ fn cut_line(text: &[u8]) -> (&[u8], Option<&[u8]>)
     }
 }
 
-/// Whether a byte of the line may not stand in a text.
+/// Returns whether a byte of the line may not stand in a text.
 fn has_foreign(line: &[u8]) -> bool
     ensures { result ≡ list_any is_foreign line.now }
 {
     line.iter().any(|b| *b < 32 || *b > 126)
 }
 
-/// The line at the front, and the text after it. A long line is refused before it is cut into fields.
+/// Returns the line at the front, and the text after it. A long line is refused before it is cut into fields.
 fn line_at(text: &[u8], line: usize) -> Result<(&[u8], &[u8]), ReadError<ScenarioFault>>
     ensures exact { Gives (λ x. (x.0.now, parts x.1.now)) result (line_at line (parts text.now)) }
     ensures shorter { IfOk result (λ x. length text.now ≡ length x.0.now + (length x.1.now + 1)) }
@@ -60,7 +61,7 @@ fn line_at(text: &[u8], line: usize) -> Result<(&[u8], &[u8]), ReadError<Scenari
     }
 }
 
-/// A number in the line.
+/// Returns the number that the digits in the line spell.
 fn number_in(digits: &[u8], line: usize) -> Result<u8, ReadError<ScenarioFault>>
     ensures { IsRead result (number_in line digits.now) }
 {
@@ -70,7 +71,7 @@ fn number_in(digits: &[u8], line: usize) -> Result<u8, ReadError<ScenarioFault>>
     }
 }
 
-/// The number behind a word, where the line has these two fields.
+/// Returns the number behind a word, where the line has these two fields.
 #[tactic(auto, unfolding(crate::specs::LineReading::number_behind))]
 pub fn number_behind(
     fields: &[&[u8]],
@@ -91,7 +92,7 @@ pub fn number_behind(
     }
 }
 
-/// The fields of the line at the front, and the text after it.
+/// Returns the fields of the line at the front, and the text after it.
 pub fn fields_at<'a>(
     alloc: Global,
     text: &'a [u8],
@@ -106,7 +107,7 @@ pub fn fields_at<'a>(
     Ok((fields, rest))
 }
 
-/// The number behind a word in the line at the front, and the text after it.
+/// Returns the number behind a word in the line at the front, and the text after it.
 #[tactic(auto, unfolding(crate::specs::LineReading::numbered))]
 pub fn numbered<'a>(
     alloc: Global,
@@ -114,7 +115,8 @@ pub fn numbered<'a>(
     word: &[u8],
     line: usize,
 ) -> Result<(u8, &'a [u8]), ReadError<ScenarioFault>>
-    ensures exact { Gives (λ x. (x.0, parts x.1.now)) result (numbered word.now line (parts text.now)) }
+    ensures exact { Gives (λ x. (x.0, parts x.1.now)) result
+        (numbered word.now line (parts text.now)) }
     ensures shorter { IfOk result (λ x. length x.1.now + 1 < length text.now) }
 {
     let (bytes, rest) = line_at(text, line)?;
@@ -126,7 +128,7 @@ pub fn numbered<'a>(
     Ok((number, rest))
 }
 
-/// The edge that a line has, where it is a line of an edge.
+/// Returns the edge that a line has, where it is a line of an edge.
 #[tactic(auto, unfolding(crate::specs::EdgeReading::edge_in))]
 pub fn edge_in(fields: &[&[u8]], line: usize) -> Result<Option<(u8, u8)>, ReadError<ScenarioFault>>
     ensures { IsRead result (edge_in line (map (λ f. f.now) fields.now)) }
@@ -141,7 +143,7 @@ pub fn edge_in(fields: &[&[u8]], line: usize) -> Result<Option<(u8, u8)>, ReadEr
     }
 }
 
-/// The text after the line at the front, where that line is this word alone.
+/// Returns the text after the line at the front, where that line is this word alone.
 #[tactic(auto, unfolding(crate::specs::LineReading::word_alone))]
 pub fn only_word<'a>(
     alloc: Global,

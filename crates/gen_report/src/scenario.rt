@@ -24,6 +24,7 @@ pub struct ScenarioText {
     pub plain: PlainScenario,
 }
 
+/// The edges of some lines, the fields and the number of the first line that has none, and the text after it.
 #[derive(Drop)]
 struct EdgeLines<'a> {
     found: Vec<(u8, u8)>,
@@ -32,7 +33,7 @@ struct EdgeLines<'a> {
     after: &'a [u8],
 }
 
-/// The edges of the lines from `first` on, up to the first line that is none of an edge, and the fields
+/// Returns the edges of the lines from `first` on, up to the first line that is none of an edge, and the fields
 /// and the number of that line.
 fn edge_lines<'a>(
     alloc: Global,
@@ -79,6 +80,7 @@ struct Opening<'a> {
     after: &'a [u8],
 }
 
+/// Reads the lines up to that of the traitors.
 #[tactic(auto, unfolding(crate::specs::NumbersReading::opening_at))]
 fn read_opening<'a>(alloc: Global, text: &'a [u8]) -> Result<Opening<'a>, ReadError<ScenarioFault>>
     ensures exact { Gives (λ o. record {
@@ -111,6 +113,7 @@ struct Settings<'a> {
     after: &'a [u8],
 }
 
+/// Reads the three lines after that of the traitors, whose number is `line`.
 #[tactic(auto, unfolding(crate::specs::NumbersReading::settings_at))]
 fn read_settings<'a>(
     alloc: Global,
@@ -175,6 +178,7 @@ fn closing(alloc: Global, text: &[u8], line: usize) -> Result<(), ReadError<Scen
     Ok(())
 }
 
+/// Reads the text line by line.
 #[tactic(auto, unfolding(crate::specs::ScenarioReading::scenario_of))]
 fn whole(alloc: Global, text: &[u8]) -> Result<ScenarioText, ReadError<ScenarioFault>>
     ensures { Gives (λ s. s.plain) result (scenario_of text.now) }
@@ -199,16 +203,19 @@ fn whole(alloc: Global, text: &[u8]) -> Result<ScenarioText, ReadError<ScenarioF
     Ok(ScenarioText { plain })
 }
 
-/// The scenario that a text spells, or the text's first fault and its line.
+/// Returns the scenario that a text spells.
 ///
-/// Of one line the fault is the first of: a foreign byte, more than 600,000 bytes, no line feed before the
+/// # Errors
+///
+/// The text's first fault and its line. Of one line the fault is the first of: a foreign byte, more than 600,000 bytes, no line feed before the
 /// text ends, another shape, then the others from left to right. Memory where memory was refused before
 /// a fault was met. Lines of seeds and scripts are not read, and are lines of another shape.
 pub fn read_scenario(alloc: Global, text: &[u8]) -> Result<ScenarioText, ReadError<ScenarioFault>>
     // What is read is spelled so.
     ensures found { IfOk result (λ s. SpellsScenario text.now s.plain) }
     // What is spelled so is read, unless memory runs out.
-    ensures only { (said : Plain) → SpellsScenario text.now said → Gives (λ s. s.plain) result (Ok said) }
+    ensures only { (said : Plain) → SpellsScenario text.now said
+        → Gives (λ s. s.plain) result (Ok said) }
     // Which fault is the first, and of which line.
     ensures exact { Gives (λ s. s.plain) result (scenario_of text.now) }
 {

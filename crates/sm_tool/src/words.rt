@@ -85,7 +85,8 @@ pub fn read_words<'a>(alloc: Global, words: &'a [&'a str]) -> Result<Job, WordsF
     // The words ask for the job.
     ensures ok { IfOk result (λ job. asked (map (λ w. w.now) words.now) ≡ Some job) }
     // Words that ask for a job fail only for want of memory.
-    ensures only { IfErr result (λ fault. IsSome (asked (map (λ w. w.now) words.now)) → fault ≡ Memory) }
+    ensures only { IfErr result (λ fault.
+        IsSome (asked (map (λ w. w.now) words.now)) → fault ≡ Memory) }
     // A fault is one that the command line has at these words.
     ensures fault { IfErr result (IsFaultOf (map (λ w. w.now) words.now)) }
 {
