@@ -1,0 +1,4 @@
+mod LaneFacts
+mod BlockBytes
+mod Scheduled
+mod Taken
