@@ -89,12 +89,12 @@ module _ (net : Network) (faulty : List ℕ) (run : Run) (own : ℕ) (picks : �
       let l_below : l < rounds net = omega arith in
       let l_next : length t.path ≡ l + 1 = omega arith in
       let s = (f.sends l t l_pos l_below refl).0 (h, l_next) in
-      let u = f.picks l t.order s.0 in
+      let u = f.picks l t.order s.added in
       record {
         round = l;
         next = l_next;
-        added = s.0;
-        path = s.1;
+        added = s.added;
+        path = s.longer;
         was = u.0;
         was_sent = u.1.0.0;
         was_to = u.1.1;
@@ -146,7 +146,7 @@ module _ (net : Network) (faulty : List ℕ) (run : Run) (own : ℕ) (picks : �
       elim (decide_contains (picks x v ++ x ∷ []) y) [
         | inr outside ↦
             let t : Message = record { from = x; to = y; order = v; path = picks x v ++ x ∷ [] } in
-            let s : IsSent run (l + 1) t = (f.sends l t (omega arith) below refl).1 (added, refl, near, outside) in
+            let s : IsSent run (l + 1) t = (f.sends l t (omega arith) below refl).1 (record { added = added; longer = refl; neighbour = near; outside = outside }) in
             added_by run y (l + 1) v (t, (s, refl), refl)
         | inl inside ↦
             let p = split (picks x v ++ x ∷ []) y inside in

@@ -49,8 +49,8 @@ view_follows net run other g (Relays pick) same f =
         sends = λ l t pos below e.
             let s = f.1.sends l t pos below e in
             let w = same.sent t e in (
-              (λ h. let x = s.0 (w.1 h.0, h.1) in (view_adds run other g same l t.order x.0, x.1, x.2, x.3)),
-              (λ x. let h = s.1 (view_adds other run g back l t.order x.0, x.1, x.2, x.3) in (w.0 h.0, h.1)),
+              (λ h. let x = s.0 (w.1 h.0, h.1) in record { added = view_adds run other g same l t.order x.added; longer = x.longer; neighbour = x.neighbour; outside = x.outside }),
+              (λ x. let h = s.1 (record { added = view_adds other run g back l t.order x.added; longer = x.longer; neighbour = x.neighbour; outside = x.outside }) in (w.0 h.0, h.1)),
             );
       },
     )

@@ -1,13 +1,11 @@
 -- The two laws of reading a header, field by field.
-use Rattle.std.proofs.Common.{◌≡◌, ℕ, zero, suc, ◌+◌, ◌-◌, ◌≤◌, true, eqb, leb, List, [], ◌∷◌, ◌++◌, length, Result, Ok, refl, sym, ap, ◌∙◌, append_assoc, inl, inr}
+use Rattle.std.proofs.Common.{◌≡◌, ℕ, true, eqb, leb, List, [], ◌∷◌, ◌++◌, length, Result, Ok, refl, ap, append_assoc, inl, inr}
 use Rattle.std.specs.List.{flat_map, AllByRecursion}
-use Rattle.std.proofs.lemmas.List.{length-append}
 use Rattle.std.proofs.lemmas.Bool.{eqb-true, eq-eqb, leb-true, le-leb}
-use Rattle.gen_types.specs.ChoiceOf.{choice_number}
 use Rattle.gen_types.specs.Reading.{◌>>=◌, check}
 use Rattle.gen_types.specs.Bytes.{byte_at, many_at}
 use Rattle.gen_types.proofs.Lists.{bool_cases}
-use Rattle.gen_types.proofs.Steps.{after, after_check, at_end, ok_is}
+use Rattle.gen_types.proofs.Steps.{after, after_check, at_end}
 use Rattle.gen_types.proofs.ByteFields.{IsBytes, Takes, Takes-then, byte_takes, bytes_takes, bytes_again}
 use Rattle.gen_types.proofs.ManyFields.{Reads, many_take, many_again}
 use Rattle.gen_net.specs.declared.fault.HeaderFault.{HeaderFault}
@@ -19,8 +17,11 @@ use Rattle.gen_net.specs.declared.numbers.NetNumbers.{NetNumbers}
 use Rattle.gen_net.specs.Edges.{in_place}
 use Rattle.gen_net.specs.NetworkOf.{ranges_of, network_with, network_in_place}
 use Rattle.gen_net.specs.Version.{slot_in, greatest_slot, number_of_one, number_of_two, version_bytes}
-use Rattle.gen_net.specs.Header.{RunHeader, slot_of, IsHeader, AreRoots, root_length, header_with, edge_bytes, header_spelling}
-use Rattle.gen_net.specs.HeaderReading.{slot_at, version_behind, version_at, numbers_at, edge_at, edges_at, root_at, Parts, parts_at, header_at}
+use Rattle.gen_net.specs.Header.{RunHeader, slot_of, IsHeader, AreRoots, root_length, header_with, header_spelling}
+use Rattle.gen_net.specs.NetworkSpelling.{edge_bytes}
+use Rattle.gen_net.specs.HeaderReading.{root_at, Parts, parts_at, header_at}
+use Rattle.gen_net.specs.NetworkReading.{numbers_at, edge_at, edges_at}
+use Rattle.gen_net.specs.VersionReading.{slot_at, version_behind, version_at}
 use Rattle.gen_net.proofs.PlacedEdges.{placed_edges, placed_again}
 use Rattle.gen_net.proofs.Ranges.{accepted, numbers_of, accepted_again}
 

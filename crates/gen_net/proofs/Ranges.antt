@@ -1,5 +1,5 @@
 -- What numbers in their ranges are, and that a network's numbers are.
-use Rattle.std.proofs.Common.{◌≡◌, ℕ, zero, suc, ◌+◌, ◌≤◌, Bool, true, ◌&&◌, leb, Result, Ok, refl}
+use Rattle.std.proofs.Common.{◌≡◌, ℕ, zero, suc, ◌+◌, ◌≤◌, Bool, true, leb, Result, Ok, refl}
 use Rattle.std.proofs.lemmas.Bool.{leb-true, le-leb}
 use Rattle.std.proofs.Math.Bool.{and-eq-true_iff}
 use Rattle.gen_types.specs.declared.choices.ChoiceKind.{ChoiceKind}

@@ -3,12 +3,12 @@ use Rattle.std.specs.Prelude.{◌≡◌, ◌≤◌, ℕ, List, [], ◌∷◌, �
 use Rattle.std.specs.List.{flat_map, AllByRecursion}
 use Rattle.sha2.specs.Sha256.{sha256}
 use Rattle.gen_types.specs.declared.heights.TreeHeight.{TreeHeight}
-use Rattle.gen_types.specs.ChoiceOf.{choice_number}
 use Rattle.gen_types.specs.Reading.{◌>>=◌, check}
 use Rattle.gen_net.specs.declared.fault.HeaderFault.{HeaderFault}
 use Rattle.gen_net.specs.declared.fault.HeaderFault.TheVariants.{RootCount, SlotRange}
 use Rattle.gen_net.specs.declared.version.Version.{Version}
 use Rattle.gen_net.specs.Network.{Network, IsNetwork}
+use Rattle.gen_net.specs.NetworkSpelling.{network_bytes}
 use Rattle.gen_net.specs.Version.{height_in, slot_in, greatest_slot, version_bytes}
 
 -- a network, for each general the root of his keys, and the version with the run's slot
@@ -51,24 +51,10 @@ header_with version net roots = do
   slot ← check (nat_le (slot_in version) greatest_slot) SlotRange
   Ok (record { version = version; network = net; roots = roots })
 
--- an edge is two bytes
-abbrev pub edge_bytes : ℕ × ℕ → List ℕ
-edge_bytes e = e.0 ∷ e.1 ∷ []
-
--- the numbers before the edges: n, m, d, q, the choice and the number of edges
-abbrev pub number_bytes : Network → List ℕ
-number_bytes net =
-    net.generals ∷ net.traitors ∷ net.diameter ∷ net.orders ∷ choice_number net.choice
-    ∷ length net.edges ∷ []
-
--- the bytes after the version
-abbrev pub bytes_behind : RunHeader → List ℕ
-bytes_behind h =
-    number_bytes h.network ++ flat_map edge_bytes h.network.edges ++ flat_map (λ root. root) h.roots
-
 -- the one spelling of a header
 abbrev pub header_spelling : RunHeader → List ℕ
-header_spelling h = version_bytes h.version ++ bytes_behind h
+header_spelling h =
+    version_bytes h.version ++ (network_bytes h.network ++ flat_map (λ root. root) h.roots)
 
 -- the byte before a header, where the run id is hashed: 31 in hexadecimal
 abbrev pub run_id_prefix : ℕ

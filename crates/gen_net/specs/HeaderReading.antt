@@ -1,63 +1,14 @@
 -- Reading a header: another version first, then too few bytes, then the first rule that its network or its slot breaks.
-use Rattle.std.specs.Prelude.{ℕ, ◌==◌, List, Result, Ok, Err, if◌then◌else◌}
+use Rattle.std.specs.Prelude.{ℕ, List, Result, Ok}
 use Rattle.gen_types.specs.Reading.{◌>>=◌}
-use Rattle.gen_types.specs.Bytes.{byte_at, bytes_at, many_at}
+use Rattle.gen_types.specs.Bytes.{bytes_at, many_at}
 use Rattle.gen_net.specs.declared.fault.HeaderFault.{HeaderFault}
-use Rattle.gen_net.specs.declared.fault.HeaderFault.TheVariants.{Truncated, UnknownVersion}
+use Rattle.gen_net.specs.declared.fault.HeaderFault.TheVariants.{Truncated}
 use Rattle.gen_net.specs.declared.numbers.NetNumbers.{NetNumbers}
-use Rattle.gen_net.specs.declared.version.Version.{Version}
-use Rattle.gen_net.specs.declared.version.Version.TheVariants.{One, Two}
 use Rattle.gen_net.specs.NetworkOf.{network_in_place}
-use Rattle.gen_net.specs.Version.{number_of_one, number_of_two}
+use Rattle.gen_net.specs.NetworkReading.{numbers_at, edges_at}
 use Rattle.gen_net.specs.Header.{RunHeader, root_length, header_with}
-
--- the version and, where it has one, the slot
-unfoldable pub slot_at : List ℕ → Result (Version × List ℕ) HeaderFault
-slot_at bytes = do
-  slot ← byte_at Truncated bytes
-  Ok (Two slot.0, slot.1)
-
-abbrev pub version_behind : ℕ → List ℕ → Result (Version × List ℕ) HeaderFault
-version_behind number rest =
-    if number == number_of_one then Ok (One, rest)
-    else (if number == number_of_two then slot_at rest else Err UnknownVersion)
-
-unfoldable pub version_at : List ℕ → Result (Version × List ℕ) HeaderFault
-version_at bytes = do
-  number ← byte_at Truncated bytes
-  version_behind number.0 number.1
-
--- n, m, d, q and the choice
-unfoldable pub numbers_at : List ℕ → Result (NetNumbers × List ℕ) HeaderFault
-numbers_at bytes = do
-  generals ← byte_at Truncated bytes
-  traitors ← byte_at Truncated generals.1
-  diameter ← byte_at Truncated traitors.1
-  orders ← byte_at Truncated diameter.1
-  choice ← byte_at Truncated orders.1
-  Ok (
-    record {
-      generals = generals.0;
-      traitors = traitors.0;
-      diameter = diameter.0;
-      orders = orders.0;
-      choice = choice.0;
-    },
-    choice.1,
-  )
-
--- one edge
-unfoldable pub edge_at : List ℕ → Result ((ℕ × ℕ) × List ℕ) HeaderFault
-edge_at bytes = do
-  low ← byte_at Truncated bytes
-  high ← byte_at Truncated low.1
-  Ok ((low.0, high.0), high.1)
-
--- the edges behind their number
-unfoldable pub edges_at : List ℕ → Result (List (ℕ × ℕ) × List ℕ) HeaderFault
-edges_at bytes = do
-  count ← byte_at Truncated bytes
-  many_at edge_at count.0 count.1
+use Rattle.gen_net.specs.VersionReading.{version_at}
 
 -- one root
 abbrev pub root_at : List ℕ → Result (List ℕ × List ℕ) HeaderFault

@@ -1,4 +1,5 @@
 pub mod Chain
+pub mod Departs
 pub mod Edges
 pub mod Follows
 pub mod Header
@@ -6,7 +7,10 @@ pub mod HeaderReading
 pub mod Log
 pub mod Network
 pub mod NetworkOf
+pub mod NetworkReading
+pub mod NetworkSpelling
 pub mod Run
 pub mod Signed
 pub mod Version
+pub mod VersionReading
 pub mod Walks

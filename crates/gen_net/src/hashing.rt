@@ -2,7 +2,8 @@
 ghost use Rattle.std.specs.Prelude.{◌≡◌, ◌++◌, ◌<◌, List, ℕ, length};
 ghost use Rattle.std.specs.List.{flat_map};
 ghost use Rattle.sha2.specs.Hashers.{Holds256};
-ghost use Rattle.gen_net.specs.Header.{edge_bytes, number_bytes, AreRoots, run_id_of};
+ghost use Rattle.gen_net.specs.Header.{AreRoots, run_id_of};
+ghost use Rattle.gen_net.specs.NetworkSpelling.{edge_bytes, number_bytes};
 ghost use Rattle.gen_net.specs.Version.{version_bytes};
 
 use crate::net::Net;

@@ -96,10 +96,12 @@ fn ranges(numbers: NetNumbers, good_edges: bool) -> Result<ChoiceKind, ReadError
 }
 
 impl Net {
-    /// Makes the network of n generals with these edges, which come in any order and direction, planned
+    /// Returns the network of n generals with these edges, which come in any order and direction, planned
     /// for m traitors and diameter d, with q orders and the choice of this number.
     ///
-    /// It answers the first fault of `HeaderFault` that holds, and Memory where memory was refused.
+    /// # Errors
+    ///
+    /// The first rule of `HeaderFault` that they break, and Memory where memory was refused before.
     #[tactic(auto, unfolding(crate::specs::NetworkOf::network_of))]
     pub fn new(
         alloc: Global,
@@ -130,7 +132,7 @@ impl Net {
         Ok(Net::of_parts(numbers, edge_list(alloc, n, edges)?, choice))
     }
 
-    /// Makes the same of edges that have to stand in their places: each (a, b) with a < b, and ascending.
+    /// Returns the same of edges that have to stand in their places: each (a, b) with a < b, and ascending.
     #[tactic(auto, unfolding(crate::specs::NetworkOf::network_in_place))]
     pub(crate) fn in_place(
         alloc: Global,
@@ -144,7 +146,7 @@ impl Net {
         Ok(Net::of_parts(numbers, edges, choice))
     }
 
-    /// The network of these parts, whose numbers are in their ranges and whose edges are in their places.
+    /// Returns the network of these parts, whose numbers are in their ranges and whose edges are in their places.
     fn of_parts(numbers: NetNumbers, edges: Vec<(GeneralNo, GeneralNo)>, choice: ChoiceKind) -> Net
         requires { IsNetwork (network_with numbers edges.items choice) }
         ensures { result ≡ network_with numbers edges.items choice }

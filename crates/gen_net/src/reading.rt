@@ -4,7 +4,9 @@ ghost use Rattle.gen_types.specs.Reading.{Gives};
 ghost use Rattle.gen_types.specs.Spelled.{StandsInFront, IsReadFrom, counted, IsRead, IsField};
 ghost use Rattle.gen_types.specs.Bytes.{many_at};
 ghost use Rattle.gen_net.specs.Header.{RunHeader, IsHeader, header_spelling};
-ghost use Rattle.gen_net.specs.HeaderReading.{slot_at, version_at, numbers_at, edge_at, edges_at, root_at, Parts, parts_at, header_at};
+ghost use Rattle.gen_net.specs.HeaderReading.{root_at, Parts, parts_at, header_at};
+ghost use Rattle.gen_net.specs.NetworkReading.{numbers_at, edge_at, edges_at};
+ghost use Rattle.gen_net.specs.VersionReading.{slot_at, version_at};
 
 use crate::fault::HeaderFault;
 use crate::hashing::{ROOT_LENGTH, VERSION_ONE, VERSION_TWO};
@@ -24,7 +26,7 @@ struct Parts {
 }
 
 /// The version behind its number, and the bytes after it.
-#[tactic(auto, unfolding(crate::specs::HeaderReading::slot_at))]
+#[tactic(auto, unfolding(crate::specs::VersionReading::slot_at))]
 fn read_slot(bytes: &[u8]) -> Result<(Version, &[u8]), ReadError<HeaderFault>>
     ensures { IsField result (slot_at bytes.now) }
 {
@@ -33,7 +35,7 @@ fn read_slot(bytes: &[u8]) -> Result<(Version, &[u8]), ReadError<HeaderFault>>
 }
 
 /// The version, with the slot where it has one, and the bytes after it.
-#[tactic(auto, unfolding(crate::specs::HeaderReading::version_at))]
+#[tactic(auto, unfolding(crate::specs::VersionReading::version_at))]
 fn read_version(bytes: &[u8]) -> Result<(Version, &[u8]), ReadError<HeaderFault>>
     ensures { IsField result (version_at bytes.now) }
 {
@@ -46,7 +48,7 @@ fn read_version(bytes: &[u8]) -> Result<(Version, &[u8]), ReadError<HeaderFault>
 }
 
 /// The numbers of a network, a byte each.
-#[tactic(auto, unfolding(crate::specs::HeaderReading::numbers_at))]
+#[tactic(auto, unfolding(crate::specs::NetworkReading::numbers_at))]
 fn read_numbers(bytes: &[u8]) -> Result<(NetNumbers, &[u8]), ReadError<HeaderFault>>
     ensures { IsField result (numbers_at bytes.now) }
 {
@@ -66,7 +68,7 @@ fn read_numbers(bytes: &[u8]) -> Result<(NetNumbers, &[u8]), ReadError<HeaderFau
 }
 
 /// One edge, as it stands.
-#[tactic(auto, unfolding(crate::specs::HeaderReading::edge_at))]
+#[tactic(auto, unfolding(crate::specs::NetworkReading::edge_at))]
 fn read_edge(bytes: &[u8]) -> Result<((u8, u8), &[u8]), ReadError<HeaderFault>>
     ensures { IsField result (edge_at bytes.now) }
 {
@@ -104,7 +106,7 @@ fn read_many_edges(
 }
 
 /// The edges behind their number.
-#[tactic(auto, unfolding(crate::specs::HeaderReading::edges_at))]
+#[tactic(auto, unfolding(crate::specs::NetworkReading::edges_at))]
 fn read_edges(alloc: Global, bytes: &[u8]) -> Result<(Vec<(u8, u8)>, &[u8]), ReadError<HeaderFault>>
     ensures { Gives (λ x. (x.0.items, x.1.now)) result (edges_at bytes.now) }
 {

@@ -1,7 +1,8 @@
 //! Writing headers.
 ghost use Rattle.std.specs.Prelude.{◌≡◌, ◌++◌, IfOk, OnOk};
 ghost use Rattle.std.specs.List.{flat_map};
-ghost use Rattle.gen_net.specs.Header.{edge_bytes, header_spelling, IsHeader};
+ghost use Rattle.gen_net.specs.Header.{header_spelling, IsHeader};
+ghost use Rattle.gen_net.specs.NetworkSpelling.{edge_bytes};
 ghost use Rattle.gen_net.specs.Version.{version_bytes};
 
 use crate::hashing::{

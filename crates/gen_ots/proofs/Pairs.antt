@@ -5,11 +5,11 @@ use Rattle.rand_chacha.specs.ChaCha.{key_of}
 use Rattle.sha2.proofs.Facts256.{length-sha256}
 use Rattle.gen_ots.specs.OneTime.{image, leaf_over, bit_of, first_images, key_leaf_value, on_side}
 use Rattle.gen_ots.specs.Signatures.{signed_pair, first_pairs, signature_of, both_images, given_images, signed_leaf_value}
-use Rattle.gen_ots.specs.Secrets.{KeyName, eight_words, secret_at, secret_of, secret_place}
+use Rattle.gen_ots.specs.Secrets.{KeyName, eight_words, secret_at, secret_of, secret_place, secret_stream}
 
-pub length-secret_at : (key : List ℕ) (place : ℕ) → length (secret_at key place) ≡ 32
+pub length-secret_at : (key : List ℕ) (stream place : ℕ) → length (secret_at key stream place) ≡ 32
 unfolding secret_at eight_words
-length-secret_at key place = refl
+length-secret_at key stream place = refl
 
 pub length-image : (secret : List ℕ) → length (image secret) ≡ 32
 length-image secret = length-sha256 (0 ∷ secret)
@@ -23,7 +23,7 @@ length-signed_pair : (k : KeyName) (n : ℕ) (one : Bool) → length (signed_pai
 length-signed_pair k n one =
     let shown = on_side one (secret_of k n 0) (secret_of k n 1) in
     let hidden = on_side one (secret_of k n 1) (secret_of k n 0) in
-    let s : length shown ≡ 32 = length-on_side one _ _ (length-secret_at (key_of k.seed) (secret_place k.leaf n 0)) (length-secret_at (key_of k.seed) (secret_place k.leaf n 1)) in
+    let s : length shown ≡ 32 = length-on_side one _ _ (length-secret_at (key_of k.seed) (secret_stream k.height) (secret_place k.leaf n 0)) (length-secret_at (key_of k.seed) (secret_stream k.height) (secret_place k.leaf n 1)) in
     let o : length (image hidden) ≡ 32 = length-image hidden in
     let e = length-append shown (image hidden) in
     omega (arith, e, s, o)
@@ -63,7 +63,7 @@ pair-images : (k : KeyName) (n : ℕ) (one : Bool) (before rest : List ℕ) → 
 pair-images k n one before rest e =
     let x = secret_of k n 0 in
     let y = secret_of k n 1 in
-    let s : length (on_side one x y) ≡ 32 = length-on_side one x y (length-secret_at (key_of k.seed) (secret_place k.leaf n 0)) (length-secret_at (key_of k.seed) (secret_place k.leaf n 1)) in
+    let s : length (on_side one x y) ≡ 32 = length-on_side one x y (length-secret_at (key_of k.seed) (secret_stream k.height) (secret_place k.leaf n 0)) (length-secret_at (key_of k.seed) (secret_stream k.height) (secret_place k.leaf n 1)) in
     let o : length (image (on_side one y x)) ≡ 32 = length-image (on_side one y x) in
     ap (λ (z : List ℕ). both_images z (take 32 (drop (64 * n + 32) (before ++ (signed_pair k n one ++ rest)))) one) (shown-at (64 * n) before (on_side one x y) (image (on_side one y x)) rest e s)
     ∙ ap (λ (z : List ℕ). both_images (on_side one x y) z one) (other-at (64 * n) before (on_side one x y) (image (on_side one y x)) rest e s o)
@@ -82,10 +82,6 @@ first_pairs-suc k digest n = refl
 pub first_images-suc : (k : KeyName) (n : ℕ) → first_images k (suc n) ≡ first_images k n ++ image (secret_of k n 0) ++ image (secret_of k n 1)
 unfolding first_images
 first_images-suc k n = refl
-
-pub first_pairs-zero : (k : KeyName) (digest : List ℕ) → first_pairs k digest 0 ≡ []
-unfolding first_pairs
-first_pairs-zero k digest = refl
 
 given_images-zero : (k : KeyName) (pairs digest : List ℕ) → given_images pairs digest 0 ≡ first_images k 0
 unfolding given_images first_images

@@ -1,5 +1,5 @@
 //! One-time signatures, and the room that they are written into.
-ghost use Rattle.std.specs.Prelude.{◌≡◌, length};
+ghost use Rattle.std.specs.Prelude.{◌≡◌, length, IfOk};
 ghost use Rattle.std.specs.Cmp.{partial_equiv_from_equiv};
 ghost use Rattle.std.specs.Cmp.Lexicographic.{pointwise};
 ghost use Rattle.std.specs.Bool.{nat_eq};
@@ -8,36 +8,49 @@ ghost use Rattle.gen_ots.specs.Signatures.{signed_leaf_value};
 
 use crate::hashing::{chosen, image_bytes, is_one, leaf_hasher};
 use crate::sizes::{DIGEST_BITS, HASH_BYTES, OTS_BYTES, PAIR_BYTES};
+use gen_types::TreeHeight;
 use sha2::Digest;
 use std::alloc::{AllocError, Global};
 use std::marker::Model;
 
-/// Room for one signature: all the memory that making or reading one takes.
+/// Room for one signature by a key of a tree of some height: all the memory that making or reading one
+/// takes. A contract sees the height.
 #[derive(Debug, Drop)]
 pub struct SigRoom {
     pub(crate) bytes: Vec<u8>,
+    height: TreeHeight,
 }
 
 impl Model for SigRoom {
     ghost use Rattle.std.specs.Prelude.{◌≡◌, ◌≤◌, [], vec_capacity};
+    ghost use Rattle.gen_types.specs.declared.heights.TreeHeight.{TreeHeight};
     ghost use Rattle.gen_ots.specs.Sizes.{ots_length};
 
-    ghost Value = { Unit {0} };
+    ghost Value = { TreeHeight };
 
-    ghost view = { λ _. tt };
+    ghost view = { λ r. r.height };
 
-    ghost invariant = { λ a. (a.bytes.items ≡ []) × (ots_length ≤ vec_capacity a.bytes) };
+    ghost invariant = { λ r. (r.bytes.items ≡ []) × (ots_length ≤ vec_capacity r.bytes) };
 }
 
 impl SigRoom {
-    /// Returns room for a signature.
+    /// Returns room for a signature by a key of a tree of this height.
     ///
     /// # Errors
     ///
     /// `AllocError` where memory is refused.
-    pub fn new(alloc: Global) -> Result<SigRoom, AllocError> {
+    pub fn new(alloc: Global, height: TreeHeight) -> Result<SigRoom, AllocError>
+        ensures { IfOk result (λ room. room ≡ height) }
+    {
         let bytes = Vec::with_capacity(alloc, OTS_BYTES)?;
-        Ok(SigRoom { bytes })
+        Ok(SigRoom { bytes, height })
+    }
+
+    /// Returns the height of the tree whose keys' signatures the room is for.
+    pub fn height(&self) -> TreeHeight
+        ensures { result ≡ self.now }
+    {
+        self.height
     }
 }
 

@@ -1,7 +1,6 @@
 -- What the code does with bits, said of the leaves whose bits are set.
 use Rattle.std.proofs.Common.{◌≡◌, ◌≤◌, ◌<◌, nat_lt, ◌*◌, ◌/◌, ◌%◌, ◌^◌, ◌↔◌, ◌⊎◌, inl, inr, ℕ, IsTrue, [], Contains, bit_and, bit_or, refl, ap, sym, ◌∙◌, subst, arith, eqb-true, eq-eqb, w64}
 use Rattle.std.specs.Bool.{Decides, nat_eq}
-use Rattle.std.specs.Int.{bit_at}
 use Rattle.std.specs.Cmp.Lexicographic.{pointwise}
 use Rattle.std.proofs.lemmas.Bool.{cases_eq}
 use Rattle.std.proofs.lemmas.Bool.Decides.{nat_tests, same_from_decides}

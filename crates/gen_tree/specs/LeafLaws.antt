@@ -33,12 +33,14 @@ bits_in : (xs : List ℕ) (i : ℕ) → Contains xs i → bit_at (bits_of xs) i 
 unfolding bits_of
 bits_in [] i h = absurd (Contains_nil i h)
 bits_in (x ∷ xs) i h =
-    let both : bit_at (bits_of (x ∷ xs)) i ≡ max (bit_at (2 ^ x) i) (bit_at (bits_of xs) i) = bit_at_or (2 ^ x) (bits_of xs) i in
+    let both : bit_at (bits_of (x ∷ xs)) i ≡ max (bit_at (2 ^ x) i) (bit_at (bits_of xs) i)
+    = bit_at_or (2 ^ x) (bits_of xs) i in
     let few = bit_at-lt (2 ^ x) i in
     let few' = bit_at-lt (bits_of xs) i in
     elim (Contains_cases x i xs h) [
       | inl e ↦
-          let same : bit_at (2 ^ x) i ≡ 1 = subst (λ w. bit_at (2 ^ x) w ≡ 1) e (bit_at-pow_same x) in
+          let same : bit_at (2 ^ x) i ≡ 1
+          = subst (λ w. bit_at (2 ^ x) w ≡ 1) e (bit_at-pow_same x) in
           both ∙ (omega arith)
       | inr there ↦ let rest = bits_in xs i there in both ∙ (omega arith)
     ]
@@ -47,13 +49,16 @@ bits_out : (xs : List ℕ) (i : ℕ) → (Contains xs i → ⊥) → bit_at (bit
 unfolding bits_of
 bits_out [] i none = bit_at-zero i
 bits_out (x ∷ xs) i none =
-    let both : bit_at (bits_of (x ∷ xs)) i ≡ max (bit_at (2 ^ x) i) (bit_at (bits_of xs) i) = bit_at_or (2 ^ x) (bits_of xs) i in
-    let here : i ≡ x → ⊥ = λ e. none (subst (λ w. Contains (x ∷ xs) w) (sym e) (Contains_here x xs)) in
+    let both : bit_at (bits_of (x ∷ xs)) i ≡ max (bit_at (2 ^ x) i) (bit_at (bits_of xs) i)
+    = bit_at_or (2 ^ x) (bits_of xs) i in
+    let here : i ≡ x → ⊥
+    = λ e. none (subst (λ w. Contains (x ∷ xs) w) (sym e) (Contains_here x xs)) in
     let other : bit_at (2 ^ x) i ≡ 0 = bit_at-pow_other x i here in
     let rest : bit_at (bits_of xs) i ≡ 0 = bits_out xs i (λ h. none (Contains_there x i xs h)) in
     both ∙ (omega arith)
 
-bits_below : (xs : List ℕ) → ((v : ℕ) → Contains xs v → v < most_leaves) → bits_of xs < 2 ^ most_leaves
+bits_below : (xs : List ℕ) → ((v : ℕ) → Contains xs v → v < most_leaves)
+    → bits_of xs < 2 ^ most_leaves
 unfolding bits_of
 bits_below [] below = omega arith
 bits_below (x ∷ xs) below =

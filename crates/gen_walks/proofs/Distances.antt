@@ -11,7 +11,7 @@ use Rattle.gen_walks.proofs.Greedy.{turned}
 -- generals whom an edge inside the set joins are below 16
 pub ends_in : (net : Network) (rest : List ℕ) → IsNetwork net → (u v : ℕ) → AreJoined net rest u v → (u < 16) × (v < 16)
 ends_in net rest ok u v n =
-    let few : net.generals ≤ 16 = ok.few_generals in
+    let few : net.generals ≤ 16 = ok.ranges.few_generals in
     (omega (arith, n.1.0), omega (arith, n.2.0))
 
 on_by : (near : ℕ → ℕ → Type 0) (a : ℕ) (more : List ℕ) (b c : ℕ) → Leads near a more b → near b c → Leads near a (more ++ c ∷ []) c
@@ -62,7 +62,7 @@ more_of net rest a b (x ∷ more) h = (more, h.2)
 
 pub distances : (net : Network) (rest : List ℕ) (source : ℕ) (row : List ℕ) → IsNetwork net → IsInside net rest source → AreLevels (AreJoined net rest) source (level row) → IsDistanceRow net rest source row
 distances net rest source row ok inside levels =
-    let few : net.generals ≤ 16 = ok.few_generals in
+    let few : net.generals ≤ 16 = ok.ranges.few_generals in
     record {
       levels = record { inside = inside; lowest = levels.lowest; even = levels.even };
       reached = λ g l h.

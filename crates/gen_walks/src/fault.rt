@@ -5,7 +5,8 @@ use std::alloc::{AllocError, AllocFailed};
 use thiserror::Error;
 
 /// Two generals a < b of a set for whom a walk is missing.
-#[derive(Clone, Copy, Debug, PartialEq, Eq)]
+#[derive(Clone, Copy, Debug, PartialEq, Eq, Error)]
+#[error("generals {a} and {b} have no short walk")]
 pub struct BadPair {
     /// The lesser general.
     pub a: GeneralNo,

@@ -196,6 +196,9 @@ fn faults_are_shown(rt: HostRuntime) {
     let memory = WalkFault::Memory;
     let shown = format!(in alloc; "{memory}").expect(&rt, "text");
     assert!(rt; shown.as_str() == "memory");
+    let bad = pair_of(2, 14).expect(&rt, "pair");
+    let shown = format!(in alloc; "{bad}").expect(&rt, "text");
+    assert!(rt; shown.as_str() == "generals 2 and 14 have no short walk");
 }
 
 /// Where an allocation is refused the answer is Memory, and else all walks; so it passes with each

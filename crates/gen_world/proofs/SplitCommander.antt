@@ -7,7 +7,7 @@ use Rattle.gen_types.proofs.Lists.{Contains_cases, Contains_nil, Contains_here, 
 use Rattle.gen_net.specs.Network.{IsNetwork, IsLoyal, IsBefore, AreNeighbours}
 use Rattle.gen_net.specs.declared.message.Message.{Message}
 use Rattle.gen_net.specs.Run.{IsWellFormed, IsRun, Adds, Accepts, OrderArrives}
-use Rattle.gen_net.specs.Follows.{LieutenantFollows, Follows}
+use Rattle.gen_net.specs.Follows.{IsRelayed, LieutenantFollows, Follows}
 use Rattle.gen_net.specs.Signed.{IsSignedRun}
 use Rattle.gen_net.specs.Walks.{HasDiameter}
 use Rattle.gen_world.specs.Theorem.{Premises, IsLoyalLieutenant}
@@ -45,17 +45,20 @@ edge_ends a b h = All-contains Ascends three.edges (a, b) (all_more Ascends (0, 
 
 pub three_is_network : IsNetwork three
 three_is_network = record {
-  some_generals = omega arith;
-  few_generals = omega arith;
-  edges = edge_ends;
-  ascending = AllPairs-cons IsBefore (0, 1) ((0, 2) ∷ (1, 2) ∷ []) (all_more (IsBefore (0, 1)) (0, 2) ((1, 2) ∷ []) (inr (refl, omega arith)) (all_one (IsBefore (0, 1)) (1, 2) (inl (omega arith)))) (two_paired IsBefore (0, 2) (1, 2) (inl (omega arith)));
-  few_traitors = omega arith;
-  some_diameter = omega arith;
-  few_diameter = omega arith;
-  few_rounds = omega arith;
-  some_orders = omega arith;
-  few_orders = omega arith;
-}
+  ranges = record {
+    some_generals = omega arith;
+    few_generals = omega arith;
+    few_traitors = omega arith;
+    some_diameter = omega arith;
+    few_diameter = omega arith;
+    few_rounds = omega arith;
+    some_orders = omega arith;
+    few_orders = omega arith;
+  };
+  edges = record { inside = edge_ends; ascending = ascending };
+} where
+  ascending : AllPairs IsBefore three.edges
+  ascending = AllPairs-cons IsBefore (0, 1) ((0, 2) ∷ (1, 2) ∷ []) (all_more (IsBefore (0, 1)) (0, 2) ((1, 2) ∷ []) (inr (refl, omega arith)) (all_one (IsBefore (0, 1)) (1, 2) (inl (omega arith)))) (two_paired IsBefore (0, 2) (1, 2) (inl (omega arith)))
 
 neighbour_below : (a b : ℕ) → AreNeighbours three a b → b < 3
 neighbour_below a b near = elim near [
@@ -192,28 +195,30 @@ module _ (g other v : ℕ) (in_first : IsIn (record { from = 0; to = g; order = 
   first : Message
   first = record { from = 0; to = g; order = v; path = 0 ∷ [] }
 
-  told : (l : ℕ) (t : Message) → 0 < l → l < 2 → t.from ≡ g → IsIn t → length t.path ≡ l + 1 → Adds two_orders g l t.order × (t.path ≡ taken g t.order ++ g ∷ []) × AreNeighbours three g t.to × (Contains t.path t.to → ⊥)
+  told : (l : ℕ) (t : Message) → 0 < l → l < 2 → t.from ≡ g → IsIn t → length t.path ≡ l + 1 → IsRelayed three two_orders g l (taken g) t
   unfolding first
   told l t some low e h long =
       let same = only_second t h e in
       let one : 1 ≡ l = omega arith in
       let m = well_formed t h in
       let order : v ≡ t.order = ap (λ (x : Message). x.order) same in
-      let path : 0 ∷ g ∷ [] ≡ t.path = ap (λ (x : Message). x.path) same in (
-        subst (λ j. Adds two_orders g j t.order) one (subst (λ w. Adds two_orders g 1 w) order (adds_first first in_first refl)),
-        sym path ∙ sym (ap (λ w. taken g w ++ g ∷ []) (sym order) ∙ ap (λ p. p ++ g ∷ []) direct),
-        subst (λ x. AreNeighbours three x t.to) e m.on_edge,
-        m.outside,
-      )
+      let path : 0 ∷ g ∷ [] ≡ t.path = ap (λ (x : Message). x.path) same in
+      record {
+        added = subst (λ j. Adds two_orders g j t.order) one (subst (λ w. Adds two_orders g 1 w) order (adds_first first in_first refl));
+        longer = sym path ∙ sym (ap (λ w. taken g w ++ g ∷ []) (sym order) ∙ ap (λ p. p ++ g ∷ []) direct);
+        neighbour = subst (λ x. AreNeighbours three x t.to) e m.on_edge;
+        outside = m.outside;
+      }
 
-  is_told : (l : ℕ) (t : Message) → 0 < l → l < 2 → t.from ≡ g → Adds two_orders g l t.order → t.path ≡ taken g t.order ++ g ∷ [] → AreNeighbours three g t.to → (Contains t.path t.to → ⊥) → IsIn t × (length t.path ≡ l + 1)
-  is_told l t some low e adds path near outside =
+  is_told : (l : ℕ) (t : Message) → 0 < l → l < 2 → t.from ≡ g → IsRelayed three two_orders g l (taken g) t → IsIn t × (length t.path ≡ l + 1)
+  is_told l t some low e relayed =
       let one : l ≡ 1 = omega arith in
+      let adds = relayed.added in
       let u = adds.arrives.0 in
       let order : t.order ≡ v = sym adds.arrives.2 ∙ only_first u adds.arrives.1.0.0 (adds.arrives.1.0.1 ∙ one) adds.arrives.1.1 in
-      let whole : t.path ≡ 0 ∷ g ∷ [] = path ∙ ap (λ w. taken g w ++ g ∷ []) order ∙ ap (λ p. p ++ g ∷ []) direct in
-      let away : (x : ℕ) → Contains (0 ∷ g ∷ []) x → t.to ≢ x = λ x k same. outside (subst (λ p. Contains p t.to) (sym whole) (subst (λ y. Contains (0 ∷ g ∷ []) y) (sym same) k)) in
-      let to : t.to ≡ other = other_is t.to (neighbour_below g t.to near) (away 0 (0, omega arith, refl)) (away g (1, omega arith, refl)) in
+      let whole : t.path ≡ 0 ∷ g ∷ [] = relayed.longer ∙ ap (λ w. taken g w ++ g ∷ []) order ∙ ap (λ p. p ++ g ∷ []) direct in
+      let away : (x : ℕ) → Contains (0 ∷ g ∷ []) x → t.to ≢ x = λ x k same. relayed.outside (subst (λ p. Contains p t.to) (sym whole) (subst (λ y. Contains (0 ∷ g ∷ []) y) (sym same) k)) in
+      let to : t.to ≡ other = other_is t.to (neighbour_below g t.to relayed.neighbour) (away 0 (0, omega arith, refl)) (away g (1, omega arith, refl)) in
       let same : record { from = g; to = other; order = v; path = 0 ∷ g ∷ [] } ≡ t = (λ i. record { from = sym e i; to = sym to i; order = sym order i; path = sym whole i }) in
       let two : length t.path ≡ 2 = ap length whole in
       (subst IsIn same in_second, omega (arith, two, one))
@@ -229,7 +234,7 @@ module _ (g other v : ℕ) (in_first : IsIn (record { from = 0; to = g; order = 
         absurd (omega (arith, two, sent.1));
     sends = λ l t some low e. (
       (λ sent. told l t some low e sent.0 sent.1),
-      (λ h. is_told l t some low e h.0 h.1 h.2 h.3),
+      (λ h. is_told l t some low e h),
     );
   }
 

@@ -106,14 +106,19 @@ relays_follow net run ok g relays = record {
     (λ h.
         let r : IsRelay net run g l t = (relays.sends l t pos low e).0 h in
         let x = (least_path net run ok g t.order).1 l r.added in
-        (r.added, r.longer ∙ ap (λ p. p ++ g ∷ []) (one_least net run ok g l t.order r.picked (least_path net run ok g t.order).0 r.least x.from_least), r.neighbour, r.outside)),
+        record {
+          added = r.added;
+          longer = r.longer ∙ ap (λ p. p ++ g ∷ []) (one_least net run ok g l t.order r.picked (least_path net run ok g t.order).0 r.least x.from_least);
+          neighbour = r.neighbour;
+          outside = r.outside;
+        }),
     (λ h. (relays.sends l t pos low e).1 (record {
       picked = (least_path net run ok g t.order).0;
-      added = h.0;
-      least = ((least_path net run ok g t.order).1 l h.0).from_least;
-      longer = h.1;
-      neighbour = h.2;
-      outside = h.3;
+      added = h.added;
+      least = ((least_path net run ok g t.order).1 l h.added).from_least;
+      longer = h.longer;
+      neighbour = h.neighbour;
+      outside = h.outside;
     })),
   );
 }

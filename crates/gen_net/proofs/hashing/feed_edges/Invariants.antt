@@ -1,7 +1,7 @@
 use Rattle.std.proofs.Common.{◌++◌, List, ℕ, take}
 use Rattle.std.specs.List.{flat_map}
 use Rattle.sha2.specs.Hashers.{Holds256}
-use Rattle.gen_net.specs.Header.{edge_bytes}
+use Rattle.gen_net.specs.NetworkSpelling.{edge_bytes}
 use Rattle.gen_net.proofs.hashing.feed_edges.Given as goal
 
 abbrev pub invariant-edges : goal.invariant-edges

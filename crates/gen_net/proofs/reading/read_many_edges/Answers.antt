@@ -1,6 +1,6 @@
 use Rattle.std.proofs.lemmas.Result.{err_from_is_err_and}
 use Rattle.gen_types.proofs.ManyFields.{goes_on, ends, is_done}
-use Rattle.gen_net.specs.HeaderReading.{edge_at}
+use Rattle.gen_net.specs.NetworkReading.{edge_at}
 use Rattle.gen_net.proofs.reading.read_many_edges.Goals as goal
 
 pub returns-in_err-edge : goal.returns-in_err-edge

@@ -1,7 +1,7 @@
 use Rattle.std.proofs.Common.{◌≡◌, ◌-◌}
 use Rattle.gen_types.specs.Bytes.{many_at}
 use Rattle.gen_types.proofs.ManyFields.{with_front}
-use Rattle.gen_net.specs.HeaderReading.{edge_at}
+use Rattle.gen_net.specs.NetworkReading.{edge_at}
 use Rattle.gen_net.proofs.reading.read_many_edges.Given as goal
 
 abbrev pub invariant-loop : goal.invariant-loop

@@ -1,6 +1,6 @@
 use Rattle.std.proofs.Common.{◌≡◌, ◌++◌, take}
 use Rattle.std.specs.List.{flat_map}
-use Rattle.gen_net.specs.Header.{edge_bytes}
+use Rattle.gen_net.specs.NetworkSpelling.{edge_bytes}
 use Rattle.gen_net.proofs.writing.put_edges.Given as goal
 
 abbrev pub invariant-edges : goal.invariant-edges

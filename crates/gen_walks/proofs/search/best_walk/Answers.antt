@@ -8,7 +8,7 @@ use Rattle.gen_walks.proofs.search.best_walk.Goals as goal
 
 pub loop-left-init : goal.loop-left-init
 loop-left-init c =
-    let few : c.args.net.now.generals ≤ 16 = c.requires.network.few_generals in
+    let few : c.args.net.now.generals ≤ 16 = c.requires.network.ranges.few_generals in
     let reached : level c.args.row.now c.args.a < 255 = reaches_back c.args.net.now c.args.rest.now c.args.a c.args.b c.args.row.now c.requires.joined.0 c.requires.network c.requires.levels c.requires.joined.1 in
     record {
       height = sym c.level-left.ensures;

@@ -3,7 +3,7 @@ use Rattle.std.proofs.lemmas.Slice.{pushed}
 use Rattle.rand_chacha.specs.ChaCha.{key_of}
 use Rattle.gen_ots.specs.OneTime.{on_side, bit_of, image}
 use Rattle.gen_ots.specs.Signatures.{first_pairs, signature_of}
-use Rattle.gen_ots.specs.Secrets.{secret_of, secret_place}
+use Rattle.gen_ots.specs.Secrets.{secret_of, secret_place, secret_stream}
 use Rattle.gen_ots.proofs.Pairs.{first_pairs-suc, length-first_pairs, length-image, whole-signature, signed_leaf_value-signature_of}
 use Rattle.gen_ots.proofs.Words.{read-at, moved-to}
 use Rattle.gen_ots.proofs.keys.OneTimeKey.sign.Goals as goal
@@ -17,10 +17,10 @@ bits-preserved c =
     let k = c.args.self.name in
     let n = c.bits.bit in
     let w0 = c.bits.invariant.0 in
-    let low = read-at c.bits.words (key_of k.seed) (secret_place k.leaf n 0) c.next_secret-low.result w0 c.next_secret-low.ensures.secret in
-    let w1 = moved-to c.bits.words c.next_secret-low.new.words (key_of k.seed) (secret_place k.leaf n 0) (secret_place k.leaf n 1) w0 c.next_secret-low.ensures.moved (omega arith) in
-    let high = read-at c.next_secret-low.new.words (key_of k.seed) (secret_place k.leaf n 1) c.next_secret-high.result w1 c.next_secret-high.ensures.secret in
-    let w2 = moved-to c.next_secret-low.new.words c.next_secret-high.new.words (key_of k.seed) (secret_place k.leaf n 1) (secret_place k.leaf (n + 1) 0) w1 c.next_secret-high.ensures.moved (omega arith) in
+    let low = read-at c.bits.words (key_of k.seed) (secret_stream k.height) (secret_place k.leaf n 0) c.next_secret-low.result w0 c.next_secret-low.ensures.secret in
+    let w1 = moved-to c.bits.words c.next_secret-low.new.words (key_of k.seed) (secret_stream k.height) (secret_place k.leaf n 0) (secret_place k.leaf n 1) w0 c.next_secret-low.ensures.moved (omega arith) in
+    let high = read-at c.next_secret-low.new.words (key_of k.seed) (secret_stream k.height) (secret_place k.leaf n 1) c.next_secret-high.result w1 c.next_secret-high.ensures.secret in
+    let w2 = moved-to c.next_secret-low.new.words c.next_secret-high.new.words (key_of k.seed) (secret_stream k.height) (secret_place k.leaf n 1) (secret_place k.leaf (n + 1) 0) w1 c.next_secret-high.ensures.moved (omega arith) in
     let shown = on_side (bit_of c.args.digest.now n) (secret_of k n 0) (secret_of k n 1) in
     let hidden = on_side (bit_of c.args.digest.now n) (secret_of k n 1) (secret_of k n 0) in
     let s : c.chosen-in-bits.result.now ≡ shown = rw (c.is_one-one.ensures, low, high) at c.chosen-in-bits.ensures.value in

@@ -4,10 +4,10 @@ use Rattle.gen_tree.proofs.signatures.SignaturePartialEq.eq.Goals as goal
 
 pub returns-then-eq : goal.returns-then-eq
 returns-then-eq c =
-    rw (← c.self.view_is, ← c.other.view_is)
-    (c.eq-then-eq.ensures ∙ front_same c.self.inside.pairs c.self.inside.siblings c.other.inside.pairs c.other.inside.siblings (sym c.eq.ensures ∙ c.if-eq.true))
+    rw (← c.parts.ensures.whole, ← c.parts-2.ensures.whole)
+    (c.eq-then-eq.ensures ∙ front_same c.parts.result.0.now c.parts.result.1.now c.parts-2.result.0.now c.parts-2.result.1.now (sym c.eq.ensures ∙ c.if-eq.true))
 
 pub returns-else-eq : goal.returns-else-eq
 returns-else-eq c =
-    rw (← c.self.view_is, ← c.other.view_is)
-    (c.eq.ensures ∙ front_other c.self.inside.pairs c.self.inside.siblings c.other.inside.pairs c.other.inside.siblings (c.self.invariant ∙ sym c.other.invariant) (sym c.eq.ensures ∙ c.if-eq.false))
+    rw (← c.parts.ensures.whole, ← c.parts-2.ensures.whole)
+    (c.eq.ensures ∙ front_other c.parts.result.0.now c.parts.result.1.now c.parts-2.result.0.now c.parts-2.result.1.now (c.parts.ensures.one_time ∙ sym c.parts-2.ensures.one_time) (sym c.eq.ensures ∙ c.if-eq.false))
