@@ -1,4 +1,4 @@
-mod LaneFacts
+pub mod LaneFacts
 mod BlockBytes
 mod Scheduled
 mod Taken
