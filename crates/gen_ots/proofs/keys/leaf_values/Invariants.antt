@@ -1,7 +1,6 @@
 use Rattle.std.proofs.Common.{◌≡◌, ℕ, ◌<◌, ◌+◌, ◌∷◌}
 use Rattle.sha_lanes.specs.Hashers.{HoldsLane}
 use Rattle.gen_ots.specs.OneTime.{first_images}
-use Rattle.gen_ots.specs.Secrets.{KeyName}
 use Rattle.gen_ots.proofs.Words.{secrets_at}
 use Rattle.gen_ots.proofs.keys.leaf_values.Given as goal
 
