@@ -2,3 +2,4 @@ pub mod LaneFacts
 mod BlockBytes
 mod Scheduled
 mod Taken
+mod TurnedBits
