@@ -60,7 +60,9 @@ impl KeyRing {
         })
     }
 
-    /// Returns the ring of a tree, with no leaf taken. It is that of `from_seed`, and nothing is hashed.
+    /// Returns the ring of a tree, with no leaf taken: that of `from_seed`, but nothing is hashed.
+    ///
+    /// A second ring of the same tree gives each leaf again.
     ///
     /// # Errors
     ///

@@ -2,10 +2,9 @@
 use Rattle.std.proofs.Common.{◌≡◌, ℕ, zero, suc, ◌<◌, ◌-◌, ◌*◌, ◌/◌, ◌%◌, ◌^◌, List, [], ◌∷◌, length, slice_index, slice_index_or, bit_or, w32, arith, refl, ap, ◌∙◌, replicate}
 use Rattle.std.proofs.lemmas.List.{length-map, get_or-map}
 use Rattle.std.proofs.Math.ListN.{get_or-map as get_or-map-default}
-use Rattle.std.proofs.lemmas.Simd.{zip2_splat, zip2_of_maps, Each1-get_or}
-use Rattle.std.specs.Simd.Lanes.{zip2, Each1}
+use Rattle.std.proofs.lemmas.Simd.{zip2_splat, zip2_of_maps}
+use Rattle.std.specs.Simd.Lanes.{zip2}
 use Rattle.std.specs.Int.{rotate_right}
-use mir.Val.{Fits}
 use Rattle.sha_lanes.specs.Lanes.{lane, lane_at}
 
 -- what holds of lanes 0 to 3 holds of each lane
@@ -49,10 +48,6 @@ lane_of_shifts k low high x j four below =
     ap (λ (v : List ℕ). slice_index v j) each
     ∙ get_or-map (both_shifts k) x j 0 0 (omega arith)
     ∙ rw (right, left) refl
-
--- each lane is a word
-pub lane-lt : (x : List ℕ) (j : ℕ) → length x ≡ 4 → Each1 (Fits w32) x → j < 4 → slice_index x j < 2 ^ 32
-lane-lt x j four fit below = (Each1-get_or (Fits w32) x j 0 (omega arith) fit).fits
 
 -- word k of a lane
 pub lane-word : (w : List (List ℕ)) (k j : ℕ) → slice_index (lane j w) k ≡ lane_at w k j

@@ -2,4 +2,3 @@ pub mod LaneFacts
 mod BlockBytes
 mod Scheduled
 mod Taken
-mod TurnedBits

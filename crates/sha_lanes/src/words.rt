@@ -71,42 +71,46 @@ pub fn maj(x: u32x4, y: u32x4, z: u32x4) -> u32x4
     xor(xor(and(x, y), and(x, z)), and(y, z))
 }
 
-// The four functions below rotate what an earlier rotation gave, so that they need no copies of x.
-
-/// Returns the upper case Σ 0: x rotated by 2, by 13 and by 22, under xor.
+/// Returns the upper case Σ 0.
 #[inline(always)]
 pub fn big_sigma0(x: u32x4) -> u32x4
     ensures { (j : ℕ) → j < 4 → slice_index result j ≡ big_sigma0 (slice_index x j) }
 {
-    let last = xor(x, rotate_right(x, 22 - 13));
-    let both = xor(x, rotate_right(last, 13 - 2));
-    rotate_right(both, 2)
+    xor(
+        xor(rotate_right(x, 2), rotate_right(x, 13)),
+        rotate_right(x, 22),
+    )
 }
 
-/// Returns the upper case Σ 1: x rotated by 6, by 11 and by 25, under xor.
+/// Returns the upper case Σ 1.
 #[inline(always)]
 pub fn big_sigma1(x: u32x4) -> u32x4
     ensures { (j : ℕ) → j < 4 → slice_index result j ≡ big_sigma1 (slice_index x j) }
 {
-    let last = xor(x, rotate_right(x, 25 - 11));
-    let both = xor(x, rotate_right(last, 11 - 6));
-    rotate_right(both, 6)
+    xor(
+        xor(rotate_right(x, 6), rotate_right(x, 11)),
+        rotate_right(x, 25),
+    )
 }
 
-/// Returns the lower case σ 0: x rotated by 7 and by 18, and shifted by 3, under xor.
+/// Returns the lower case σ 0.
 #[inline(always)]
 pub fn small_sigma0(x: u32x4) -> u32x4
     ensures { (j : ℕ) → j < 4 → slice_index result j ≡ small_sigma0 (slice_index x j) }
 {
-    let last = xor(x, rotate_right(x, 18 - 7));
-    xor(rotate_right(last, 7), shift_right(x, 3))
+    xor(
+        xor(rotate_right(x, 7), rotate_right(x, 18)),
+        shift_right(x, 3),
+    )
 }
 
-/// Returns the lower case σ 1: x rotated by 17 and by 19, and shifted by 10, under xor.
+/// Returns the lower case σ 1.
 #[inline(always)]
 pub fn small_sigma1(x: u32x4) -> u32x4
     ensures { (j : ℕ) → j < 4 → slice_index result j ≡ small_sigma1 (slice_index x j) }
 {
-    let last = xor(x, rotate_right(x, 19 - 17));
-    xor(rotate_right(last, 17), shift_right(x, 10))
+    xor(
+        xor(rotate_right(x, 17), rotate_right(x, 19)),
+        shift_right(x, 10),
+    )
 }
