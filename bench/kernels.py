@@ -1,33 +1,74 @@
 #!/usr/bin/env python3
-"""Times keys, rings, chains and walks as ratios, in one run.
+"""Times rings, signatures, chains and walks as ratios, in one run.
 
-The program that is timed is bench/kernels.txt. It is proved and built in a scratch copy of the
-repository, since it is no crate of it.
+With the word `keys` or `chains`, only those. The programs that are timed are bench/keys.txt and
+bench/kernels.txt. They are proved and built in a scratch copy of the repository, since they are no
+crates of it.
 """
 import os
-import re
 import shutil
 import subprocess
+import sys
 import tempfile
 
 TOP = os.path.dirname(os.path.dirname(os.path.abspath(__file__)))
-CRATES = ["gen_types", "gen_net", "gen_walks", "gen_ots", "gen_tree", "gen_chain"]
-STANDS_ON = "gen_walks gen_chain gen_tree gen_ots gen_net gen_types sha2 anyhow"
+KEY_CRATES = ["gen_types", "sha_lanes", "gen_ots", "gen_tree"]
+CHAIN_CRATES = KEY_CRATES + ["gen_net", "gen_walks", "gen_chain"]
+KEYS_ON = "gen_tree gen_ots gen_types sha2 anyhow"
+CHAINS_ON = "gen_walks gen_chain gen_tree gen_ots gen_net gen_types sha2 anyhow"
+
+# OpenSSL's SHA-256, a message after another: nanoseconds a message of 33 bytes, and a block of long input.
+BESIDE = r"""
+#define OPENSSL_SUPPRESS_DEPRECATED
+#include <openssl/sha.h>
+#include <stdio.h>
+#include <time.h>
+static unsigned char input[12334 * 64], digest[32];
+static double now(void) {
+    struct timespec t;
+    clock_gettime(CLOCK_MONOTONIC, &t);
+    return t.tv_sec * 1e9 + t.tv_nsec;
+}
+static void hash(size_t length) {
+    SHA256_CTX c;
+    SHA256_Init(&c);
+    SHA256_Update(&c, input, length);
+    SHA256_Final(digest, &c);
+    input[0] = digest[0];
+}
+int main(void) {
+    double message = 1e18, block = 1e18;
+    for (int run = 0; run < 40; run++) {
+        double start = now();
+        for (int i = 0; i < 8192; i++) hash(33);
+        double middle = now();
+        hash(sizeof input);
+        double end = now();
+        if ((middle - start) / 8192 < message) message = (middle - start) / 8192;
+        if ((end - middle) / 12334 < block) block = (end - middle) / 12334;
+    }
+    printf("%f %f\n", message, block);
+}
+"""
+
+# What keeps OpenSSL from using a processor's instructions for SHA, which nothing here uses.
+WITHOUT_SHA = {"OPENSSL_ia32cap": ":~0x20000000"}
+
 RUNS = 10
 
 
-def built(scratch):
+def built(scratch, source, crates, stands_on):
     """The path of the program, built in a scratch repository."""
     with open(os.path.join(TOP, "crates.txt")) as listed:
-        lines = [line for line in listed if line.split(":")[0] in CRATES]
-    for name in CRATES:
+        lines = [line for line in listed if line.split(":")[0] in crates]
+    for name in crates:
         shutil.copytree(os.path.join(TOP, "crates", name), os.path.join(scratch, "crates", name))
     speed = os.path.join(scratch, "crates", "speed")
     os.makedirs(os.path.join(speed, "src"))
-    shutil.copy(os.path.join(TOP, "bench", "kernels.txt"), os.path.join(speed, "src", "main.rt"))
+    shutil.copy(os.path.join(TOP, "bench", source), os.path.join(speed, "src", "main.rt"))
     shutil.copy(os.path.join(TOP, "HANDLES"), scratch)
     with open(os.path.join(scratch, "crates.txt"), "w") as listed:
-        listed.write("".join(lines) + f"speed: {STANDS_ON}\n")
+        listed.write("".join(lines) + f"speed: {stands_on}\n")
     subprocess.run(["rt", "run"], cwd=speed, check=True, capture_output=True)
     return os.path.join(speed, "out", "speed")
 
@@ -42,23 +83,53 @@ def least(program):
     return times
 
 
-def openssl(size):
-    """How long OpenSSL takes for hashing this many bytes, in nanoseconds, where it is there."""
-    if shutil.which("openssl") is None:
+def openssl(scratch):
+    """OpenSSL's times with what the processor has and without instructions for SHA; None without it."""
+    source, program = os.path.join(scratch, "beside.c"), os.path.join(scratch, "beside")
+    with open(source, "w") as written:
+        written.write(BESIDE)
+    try:
+        made = subprocess.run(["cc", "-O2", source, "-o", program, "-lcrypto"], capture_output=True)
+    except FileNotFoundError:
         return None
-    words = ["openssl", "speed", "-elapsed", "-seconds", "2", "-bytes", str(size), "-evp", "sha256"]
-    printed = subprocess.run(words, capture_output=True, text=True).stdout
-    found = re.search(r"(?mi)^sha256\s+([0-9.]+)k", printed)
-    return size / (float(found.group(1)) * 1000) * 1e9 if found else None
+    if made.returncode != 0:
+        return None
+    found = []
+    for setting in (WITHOUT_SHA, {}):
+        runs = [
+            subprocess.run([program], check=True, capture_output=True, text=True, env={**os.environ, **setting})
+            for _ in range(RUNS)
+        ]
+        found.append([min(column) for column in zip(*(map(float, run.stdout.split()) for run in runs))])
+    return found
 
 
-def main():
+def keys():
+    """Rings and signatures, to the same number of compressions."""
     with tempfile.TemporaryDirectory() as scratch:
-        times = least(built(scratch))
+        times = least(built(scratch, "keys.txt", KEY_CRATES, KEYS_ON))
+        beside = openssl(scratch)
+    # Messages of 33 bytes, and other blocks.
     rows = [
-        ("a ring, to 12,334 compressions", "ring", "ring_hashing", 1.25),
-        ("verifying, to 521 compressions", "verify", "verify_hashing", 1.25),
-        ("taking and signing, to 256 compressions", "sign", "sign_hashing", 1.5),
+        ("a ring", "ring", 16 * 512, 16 * 257 + 30, 0.65),
+        ("verifying", "verify", 256, 257 + 8, 0.85),
+        ("taking and signing", "sign", 256, 0, 1.05),
+    ]
+    print(f"{'kernel':22} {'us':>9} {'to sha2':>9} {'to OpenSSL':>11} {'goal':>6} {'with SHA instructions':>22}")
+    for name, kernel, messages, blocks, goal in rows:
+        own = times["sha2_blocks"] / 12334 * (messages + blocks)
+        line = f"{name:22} {times[kernel] / 1000:9.1f} {times[kernel] / own:9.2f}"
+        if beside:
+            plain, best = (times[kernel] / (messages * m + blocks * b) for m, b in beside)
+            line += f" {plain:11.2f} {goal:6.2f} {best:22.2f}"
+        print(line)
+
+
+def chains():
+    """Chains, to their signatures and bytes, and walks."""
+    with tempfile.TemporaryDirectory() as scratch:
+        times = least(built(scratch, "kernels.txt", CHAIN_CRATES, CHAINS_ON))
+    rows = [
         ("verifying a chain of 16, to 16 signatures", "chain_verifies", "chain_each", 1.1),
         ("reading a chain of 16, to a copy", "chain_read", "chain_copied", 3.0),
         ("writing a chain of 16, to a copy", "chain_written", "chain_copied", 3.0),
@@ -68,11 +139,10 @@ def main():
         print(f"{name:42} {times[kernel] / times[beside]:7.2f} {goal:6.2f} {times[kernel] / 1000:10.1f}")
     for name, kernel in [("walks of 16 in a line", "walks_line"), ("walks of 16, all edges", "walks_complete")]:
         print(f"{name:42} {'':7} {'':6} {times[kernel] / 1000:10.1f}")
-    size = 12334 * 64
-    beside = openssl(size)
-    if beside:
-        print(f"{'hashing long input, to OpenSSL':42} {times['ring_hashing'] / beside:7.2f}")
 
 
 if __name__ == "__main__":
-    main()
+    if sys.argv[1:] != ["chains"]:
+        keys()
+    if sys.argv[1:] != ["keys"]:
+        chains()

@@ -1,10 +1,10 @@
 -- The lengths of secrets and images, and the images that a signature gives back.
-use Rattle.std.proofs.Common.{◌≡◌, ℕ, zero, suc, ◌+◌, ◌*◌, Bool, true, false, List, [], ◌∷◌, ◌++◌, length, take, drop, refl, sym, ap, ◌∙◌, append_assoc, length-append, arith}
+use Rattle.std.proofs.Common.{◌≡◌, ℕ, zero, suc, ◌+◌, ◌*◌, Bool, true, false, List, [], ◌∷◌, ◌++◌, length, take, drop, refl, sym, ap, ◌∙◌, add-one, append_assoc, length-append, arith}
 use Rattle.std.proofs.lemmas.List.{take_at, drop_at, append-nil}
 use Rattle.rand_chacha.specs.ChaCha.{key_of}
 use Rattle.sha2.proofs.Facts256.{length-sha256}
 use Rattle.gen_ots.specs.OneTime.{image, leaf_over, bit_of, first_images, key_leaf_value, on_side}
-use Rattle.gen_ots.specs.Signatures.{signed_pair, first_pairs, signature_of, both_images, given_images, signed_leaf_value}
+use Rattle.gen_ots.specs.Signatures.{signed_pair, first_pairs, signature_of, both_images, given_images, other_at, shown_at, signed_leaf_value}
 use Rattle.gen_ots.specs.Secrets.{KeyName, eight_words, secret_at, secret_of, secret_place, secret_stream}
 
 pub length-secret_at : (key : List ℕ) (stream place : ℕ) → length (secret_at key stream place) ≡ 32
@@ -116,3 +116,18 @@ length-signature_of k digest = length-first_pairs k digest 256
 pub whole-signature : (k : KeyName) (digest xs : List ℕ) → xs ≡ first_pairs k digest 256 → xs ≡ signature_of k digest
 unfolding signature_of
 whole-signature k digest xs e = e
+
+-- the same, where the next number is given by an equation
+pub given_images-next : (pairs digest : List ℕ) (n m : ℕ) → m ≡ suc n → given_images pairs digest m
+    ≡ given_images pairs digest n ++ both_images (shown_at pairs n) (other_at pairs n) (bit_of digest n)
+given_images-next pairs digest n m e = rw e (given_images-suc pairs digest n)
+
+pub first_pairs-next : (k : KeyName) (digest : List ℕ) (n m : ℕ) → m ≡ suc n
+    → first_pairs k digest m ≡ first_pairs k digest n ++ signed_pair k n (bit_of digest n)
+first_pairs-next k digest n m e = rw e (first_pairs-suc k digest n)
+
+-- the two images of a bit together
+pub first_images-both : (k : KeyName) (n : ℕ)
+    → first_images k (n + 1) ≡ first_images k n ++ (image (secret_of k n 0) ++ image (secret_of k n 1))
+first_images-both k n =
+    rw (add-one, first_images-suc k n) (append_assoc (first_images k n) (image (secret_of k n 0)) (image (secret_of k n 1)))

@@ -1,25 +1,23 @@
 //! What is hashed, and what the bits of a digest choose.
-ghost use Rattle.std.specs.Prelude.{◌≡◌, ◌<◌, ◌∷◌, [], length};
+ghost use Rattle.std.specs.Prelude.{◌≡◌, ℕ, ◌<◌, List, [], ◌∷◌, ◌++◌, length, map};
 ghost use Rattle.sha2.specs.Hashers.{Holds256};
 ghost use Rattle.gen_ots.specs.OneTime.{image, leaf_prefix, bit_of, on_side};
 
 use crate::sizes::{DIGEST_BITS, HASH_BYTES};
+use sha_lanes::images;
 use sha2::{Digest, Sha256};
 
 /// The byte before a secret, where its image is hashed.
 const IMAGE_PREFIX: u8 = 0x00;
 
 /// The byte before the images of a key, where its leaf value is hashed.
-const LEAF_PREFIX: u8 = 0x01;
+pub const LEAF_PREFIX: u8 = 0x01;
 
-/// Returns the image of a secret.
-pub fn image_bytes(secret: &[u8]) -> [u8; 32]
-    ensures { result ≡ image secret.now }
+/// Returns the images of four secrets, which are hashed side by side.
+pub fn four_images(secrets: &[[u8; 32]; 4]) -> [[u8; 32]; 4]
+    ensures { result ≡ map image secrets.now }
 {
-    let mut hasher = Sha256::new();
-    hasher.update([IMAGE_PREFIX]);
-    hasher.update(secret);
-    hasher.finalize()
+    images(IMAGE_PREFIX, secrets)
 }
 
 /// Returns a hasher of a leaf value, which is still to be fed with the images.
@@ -29,6 +27,17 @@ pub fn leaf_hasher() -> Sha256
     let mut hasher = Sha256::new();
     hasher.update([LEAF_PREFIX]);
     hasher
+}
+
+/// Feeds a leaf value's hasher with the two images of a bit, each on its side.
+pub fn absorb(hasher: &mut Sha256, one: bool, shown: &[u8], other: &[u8])
+    requires shown { length shown.now ≡ HASH_BYTES }
+    requires other { length other.now ≡ HASH_BYTES }
+    ensures { (m : List ℕ) → Holds256 hasher.old m → Holds256 hasher.new
+        (m ++ (on_side one shown.now other.now ++ on_side one other.now shown.now)) }
+{
+    hasher.update(chosen(one, shown, other));
+    hasher.update(chosen(one, other, shown));
 }
 
 /// Returns whether a bit of a digest is 1, counted from the most significant bit of byte 0.

@@ -1,14 +1,15 @@
 //! One-time keys.
-ghost use Rattle.std.specs.Prelude.{◌≡◌, ◌<◌, length, true, false};
+ghost use Rattle.std.specs.Prelude.{◌≡◌, ℕ, ◌<◌, ◌≤◌, ◌+◌, [], length, slice_index_or, true, false};
 ghost use Rattle.gen_types.specs.Heights.{leaves_of};
 ghost use Rattle.gen_ots.specs.OneTime.{key_leaf_value};
 ghost use Rattle.gen_ots.specs.Signatures.{signature_of, signed_leaf_value};
 
-use crate::hashing::{chosen, image_bytes, is_one, leaf_hasher};
-use crate::secrets::{next_secret, secrets_of};
-use crate::signatures::{OtsSig, SigRoom};
+use crate::hashing::{LEAF_PREFIX, four_images, is_one, leaf_hasher};
+use crate::secrets::{next_pair, next_secret, secrets_of};
+use crate::signatures::{OtsSig, SigRoom, push_pair};
 use crate::sizes::{DIGEST_BITS, OTS_BYTES};
 use gen_types::TreeHeight;
+use sha_lanes::FourHashers;
 use sha2::Digest;
 use std::marker::Model;
 
@@ -84,11 +85,17 @@ impl OneTimeKey {
     {
         let mut words = secrets_of(&self.seed, self.height, self.leaf);
         let mut hasher = leaf_hasher();
-        'bits: for _bit in 0..DIGEST_BITS {
+        // Two bits a turn, so that four secrets are hashed side by side.
+        'turns: for _turn in 0..DIGEST_BITS / 2 {
             let low = next_secret(&mut words);
             let high = next_secret(&mut words);
-            hasher.update(image_bytes(&low));
-            hasher.update(image_bytes(&high));
+            let next_low = next_secret(&mut words);
+            let next_high = next_secret(&mut words);
+            let images = four_images(&[low, high, next_low, next_high]);
+            hasher.update(images[0]);
+            hasher.update(images[1]);
+            hasher.update(images[2]);
+            hasher.update(images[3]);
         }
         hasher.finalize()
     }
@@ -105,13 +112,18 @@ impl OneTimeKey {
         this.live = false;
         let mut words = secrets_of(&this.seed, this.height, this.leaf);
         let mut bytes = room.bytes;
-        'bits: for bit in 0..DIGEST_BITS {
-            let low = next_secret(&mut words);
-            let high = next_secret(&mut words);
-            let one = is_one(digest, bit);
-            let other = image_bytes(chosen(one, &high, &low));
-            bytes.extend_from_slice(chosen(one, &low, &high)).unwrap();
-            bytes.extend_from_slice(&other).unwrap();
+        // Four bits a turn, so that four secrets are hashed side by side.
+        'turns: for turn in 0..DIGEST_BITS / 4 {
+            let bit = 4 * turn;
+            let (shown0, hidden0) = next_pair(&mut words, is_one(digest, bit));
+            let (shown1, hidden1) = next_pair(&mut words, is_one(digest, bit + 1));
+            let (shown2, hidden2) = next_pair(&mut words, is_one(digest, bit + 2));
+            let (shown3, hidden3) = next_pair(&mut words, is_one(digest, bit + 3));
+            let images = four_images(&[hidden0, hidden1, hidden2, hidden3]);
+            push_pair(&mut bytes, &shown0, &images[0]);
+            push_pair(&mut bytes, &shown1, &images[1]);
+            push_pair(&mut bytes, &shown2, &images[2]);
+            push_pair(&mut bytes, &shown3, &images[3]);
         }
         OtsSig { bytes }
     }
@@ -124,4 +136,32 @@ impl OneTimeKey {
         this.live = false;
         this.leaf
     }
+}
+
+/// Returns the leaf values of four keys of a seed, those of leaf `first` and of the three after it, which
+/// are hashed side by side. All four are leaves of a tree of this height.
+pub fn leaf_values(seed: &[u8; 32], height: TreeHeight, first: u8) -> [[u8; 32]; 4]
+    requires { first + 4 ≤ leaves_of height }
+    ensures { (j : ℕ) → j < 4 → slice_index_or result j [] ≡ key_leaf_value
+        (record { seed = seed.now; height = height; leaf = first + j }) }
+{
+    let mut words0 = secrets_of(seed, height, first);
+    let mut words1 = secrets_of(seed, height, first + 1);
+    let mut words2 = secrets_of(seed, height, first + 2);
+    let mut words3 = secrets_of(seed, height, first + 3);
+    let mut hashers = FourHashers::new(LEAF_PREFIX);
+    'bits: for _bit in 0..DIGEST_BITS {
+        let low0 = next_secret(&mut words0);
+        let high0 = next_secret(&mut words0);
+        let low1 = next_secret(&mut words1);
+        let high1 = next_secret(&mut words1);
+        let low2 = next_secret(&mut words2);
+        let high2 = next_secret(&mut words2);
+        let low3 = next_secret(&mut words3);
+        let high3 = next_secret(&mut words3);
+        let low = four_images(&[low0, low1, low2, low3]);
+        let high = four_images(&[high0, high1, high2, high3]);
+        hashers.update(&low, &high);
+    }
+    hashers.finalize()
 }

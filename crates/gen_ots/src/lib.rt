@@ -21,7 +21,7 @@ mod secrets;
 mod signatures;
 pub mod sizes;
 
-pub use keys::OneTimeKey;
+pub use keys::{OneTimeKey, leaf_values};
 pub use signatures::{OtsSig, SigRoom, image_of};
 
 #[cfg(test)]

@@ -1,6 +1,7 @@
 //! The secrets of a key, read one after another from its stream of ChaCha20.
-ghost use Rattle.std.specs.Prelude.{◌≡◌, ◌<◌, ◌+◌, ◌^◌};
+ghost use Rattle.std.specs.Prelude.{◌≡◌, ◌<◌, ◌+◌, ◌*◌, ◌^◌};
 ghost use Rattle.rand_chacha.specs.ChaCha.{key_of};
+ghost use Rattle.gen_ots.specs.OneTime.{on_side};
 ghost use Rattle.gen_ots.specs.Secrets.{secret_at, eight_words, secret_place, secret_stream};
 
 use crate::sizes::{DIGEST_BITS, HASH_BYTES};
@@ -76,4 +77,22 @@ pub fn next_secret(words: &mut ChaCha20Rng) -> [u8; 32]
     let mut secret = [0; HASH_BYTES];
     LittleEndian::write_u32_into(&eight, &mut secret);
     secret
+}
+
+/// Returns the secret that a bit of this value shows and the one that it hides, of the next two.
+#[tactic(auto, unfolding(crate::specs::OneTime::on_side))]
+pub fn next_pair(words: &mut ChaCha20Rng, one: bool) -> ([u8; 32], [u8; 32])
+    requires room { words.old.word_pos + 2 * WORDS_PER_SECRET < 2 ^ 68 }
+    ensures shown { result.0 ≡ on_side one
+        (secret_at words.old.key words.old.stream words.old.word_pos)
+        (secret_at words.old.key words.old.stream (words.old.word_pos + WORDS_PER_SECRET)) }
+    ensures hidden { result.1 ≡ on_side one
+        (secret_at words.old.key words.old.stream (words.old.word_pos + WORDS_PER_SECRET))
+        (secret_at words.old.key words.old.stream words.old.word_pos) }
+    ensures moved { words.new
+        ≡ record words.old { word_pos = words.old.word_pos + 2 * WORDS_PER_SECRET } }
+{
+    let low = next_secret(words);
+    let high = next_secret(words);
+    if one { (high, low) } else { (low, high) }
 }

@@ -1,12 +1,12 @@
 //! One-time signatures, and the room that they are written into.
-ghost use Rattle.std.specs.Prelude.{◌≡◌, length, IfOk};
+ghost use Rattle.std.specs.Prelude.{◌≡◌, ◌<◌, ◌≤◌, ◌+◌, ◌++◌, length, vec_len, vec_capacity, IfOk};
 ghost use Rattle.std.specs.Cmp.{partial_equiv_from_equiv};
 ghost use Rattle.std.specs.Cmp.Lexicographic.{pointwise};
 ghost use Rattle.std.specs.Bool.{nat_eq};
 ghost use Rattle.std.proofs.lemmas.Cmp.{nat_list_eq_equiv};
-ghost use Rattle.gen_ots.specs.Signatures.{signed_leaf_value};
+ghost use Rattle.gen_ots.specs.Signatures.{other_at, shown_at, signed_leaf_value};
 
-use crate::hashing::{chosen, image_bytes, is_one, leaf_hasher};
+use crate::hashing::{absorb, four_images, is_one, leaf_hasher};
 use crate::sizes::{DIGEST_BITS, HASH_BYTES, OTS_BYTES, PAIR_BYTES};
 use gen_types::TreeHeight;
 use sha2::Digest;
@@ -122,13 +122,73 @@ pub fn image_of(signature: &OtsSig, digest: &[u8; 32]) -> [u8; 32]
 {
     let pairs = signature.bytes.as_slice();
     let mut hasher = leaf_hasher();
-    'bits: for bit in 0..DIGEST_BITS {
-        let at = PAIR_BYTES * bit;
-        let shown = image_bytes(&pairs[at..at + HASH_BYTES]);
-        let other = &pairs[at + HASH_BYTES..at + PAIR_BYTES];
-        let one = is_one(digest, bit);
-        hasher.update(chosen(one, &shown, other));
-        hasher.update(chosen(one, other, &shown));
+    // Four bits a turn, so that four secrets are hashed side by side.
+    'turns: for turn in 0..DIGEST_BITS / 4 {
+        let bit = 4 * turn;
+        let images = four_images(&[
+            shown_at(pairs, bit),
+            shown_at(pairs, bit + 1),
+            shown_at(pairs, bit + 2),
+            shown_at(pairs, bit + 3),
+        ]);
+        absorb(
+            &mut hasher,
+            is_one(digest, bit),
+            &images[0],
+            other_at(pairs, bit),
+        );
+        absorb(
+            &mut hasher,
+            is_one(digest, bit + 1),
+            &images[1],
+            other_at(pairs, bit + 1),
+        );
+        absorb(
+            &mut hasher,
+            is_one(digest, bit + 2),
+            &images[2],
+            other_at(pairs, bit + 2),
+        );
+        absorb(
+            &mut hasher,
+            is_one(digest, bit + 3),
+            &images[3],
+            other_at(pairs, bit + 3),
+        );
     }
     hasher.finalize()
+}
+
+// The secret that the pairs show for a bit.
+fn shown_at(pairs: &[u8], bit: usize) -> [u8; 32]
+    requires length { length pairs.now ≡ OTS_BYTES }
+    requires bit { bit < DIGEST_BITS }
+    ensures { result ≡ shown_at pairs.now bit }
+{
+    let at = PAIR_BYTES * bit;
+    let mut secret = [0; HASH_BYTES];
+    secret.copy_from_slice(&pairs[at..at + HASH_BYTES]);
+    secret
+}
+
+// The image that the pairs give for a bit.
+fn other_at(pairs: &[u8], bit: usize) -> &[u8]
+    requires length { length pairs.now ≡ OTS_BYTES }
+    requires bit { bit < DIGEST_BITS }
+    ensures value { result.now ≡ other_at pairs.now bit }
+    ensures width { length result.now ≡ HASH_BYTES }
+{
+    let at = PAIR_BYTES * bit + HASH_BYTES;
+    &pairs[at..at + HASH_BYTES]
+}
+
+// Appends a secret that is shown, and an image.
+pub(crate) fn push_pair(bytes: &mut Vec<u8>, shown: &[u8; 32], image: &[u8; 32])
+    requires { vec_len bytes.old + PAIR_BYTES ≤ vec_capacity bytes.old }
+    ensures items { bytes.new.items ≡ bytes.old.items ++ (shown.now ++ image.now) }
+    ensures len { vec_len bytes.new ≡ vec_len bytes.old + PAIR_BYTES }
+    ensures capacity { vec_capacity bytes.old ≤ vec_capacity bytes.new }
+{
+    bytes.extend_from_slice(shown).unwrap();
+    bytes.extend_from_slice(image).unwrap();
 }

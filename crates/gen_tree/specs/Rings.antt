@@ -7,6 +7,11 @@ use Rattle.gen_ots.specs.Secrets.{KeyName}
 use Rattle.gen_ots.specs.OneTime.{key_leaf_value}
 use Rattle.gen_tree.specs.Tree.{node_over, first_siblings}
 
+-- what the tree of a seed is: the seed and its height
+pub record SeedTree : Type 0 where
+  pub seed : List ℕ
+  pub height : TreeHeight
+
 -- what a ring is: its seed, the height of its tree, and the ascending list of the leaves that were
 -- taken
 pub record Ring : Type 0 where

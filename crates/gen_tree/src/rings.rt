@@ -5,10 +5,9 @@ ghost use Rattle.gen_types.specs.Ascending.{IsListOf};
 ghost use Rattle.gen_types.specs.Heights.{leaves_of};
 ghost use Rattle.gen_tree.specs.Rings.{ring_root};
 
+use crate::key_trees::KeyTree;
 use crate::keys::LeafKey;
 use crate::leaf_set::LeafSet;
-use crate::nodes::{node_at, siblings_of};
-use gen_ots::OneTimeKey;
 use gen_types::TreeHeight;
 use std::alloc::{AllocError, Global};
 use std::marker::Model;
@@ -18,23 +17,24 @@ use std::marker::Model;
 /// It has no `Clone` and no `Drop`, so it can't be copied and has to be ended by `close`. Its seed isn't
 /// wiped from memory.
 pub struct KeyRing {
-    seed: [u8; 32],
-    height: TreeHeight,
-    leaves: Vec<[u8; 32]>,
+    tree: KeyTree,
     taken: LeafSet,
 }
 
 impl Model for KeyRing {
-    ghost use Rattle.std.specs.Prelude.{ℕ, ◌≡◌, ◌<◌, Contains};
+    ghost use Rattle.std.specs.Prelude.{ℕ, ◌<◌, Contains};
     ghost use Rattle.gen_types.specs.Heights.{leaves_of};
-    ghost use Rattle.gen_tree.specs.Rings.{Ring, ring_leaves};
+    ghost use Rattle.gen_tree.specs.Rings.{Ring};
 
     ghost Value = { Ring };
 
-    ghost view = { λ r. record { seed = r.seed; height = r.height; taken = r.taken } };
+    ghost view = { λ r. record {
+      seed = r.tree.seed;
+      height = r.tree.height;
+      taken = r.taken;
+    } };
 
-    ghost invariant = { λ r. (r.leaves.items ≡ ring_leaves r.seed r.height)
-        × ((v : ℕ) → Contains r.taken v → v < leaves_of r.height) };
+    ghost invariant = { λ r. (v : ℕ) → Contains r.taken v → v < leaves_of r.tree.height };
 }
 
 impl KeyRing {
@@ -54,33 +54,40 @@ impl KeyRing {
         ensures { IfOk result (λ ring. ring
             ≡ record { seed = seed.now; height = height; taken = [] }) }
     {
-        let mut leaves = Vec::with_capacity(alloc, usize::from(height.leaves()))?;
-        'leaves: for leaf in 0..height.leaves() {
-            let key = OneTimeKey::new(seed, height, leaf);
-            let value = key.leaf_value();
-            let _leaf = key.retire();
-            leaves.push(value)?;
-        }
         Ok(KeyRing {
-            seed: *seed,
-            height,
-            leaves,
+            tree: KeyTree::from_seed(alloc, seed, height)?,
             taken: LeafSet::new(),
         })
+    }
+
+    /// Returns the ring of a tree, with no leaf taken: that of `from_seed`, but nothing is hashed.
+    ///
+    /// A second ring of the same tree gives each leaf again.
+    ///
+    /// # Errors
+    ///
+    /// `AllocError` where memory is refused.
+    pub fn open(tree: &KeyTree) -> Result<KeyRing, AllocError>
+        ensures { IfOk result (λ ring. ring
+            ≡ record { seed = tree.now.seed; height = tree.now.height; taken = [] }) }
+    {
+        let tree = tree.clone()?;
+        let taken = LeafSet::new();
+        Ok(KeyRing { tree, taken })
     }
 
     /// Returns the height of the ring's tree.
     pub fn height(&self) -> TreeHeight
         ensures { result ≡ self.now.height }
     {
-        self.height
+        self.tree.height()
     }
 
     /// Returns the root of the ring's tree, which is its public key.
     pub fn root(&self) -> [u8; 32]
         ensures { result ≡ ring_root self.now.seed self.now.height }
     {
-        node_at(self.leaves.as_slice(), self.height.levels(), 0)
+        self.tree.root()
     }
 
     /// Takes a leaf, and returns its key; None exactly where the leaf was taken before, or the number is
@@ -99,14 +106,11 @@ impl KeyRing {
         ensures taken { OnSome result
             (IsListOf self.new.taken (λ v. Contains self.old.taken v ⊎ (v ≡ leaf))) }
     {
-        if leaf >= self.height.leaves() || self.taken.contains(leaf) {
+        if leaf >= self.tree.height().leaves() || self.taken.contains(leaf) {
             return None;
         }
         self.taken.insert(leaf);
-        Some(LeafKey {
-            key: OneTimeKey::new(&self.seed, self.height, leaf),
-            siblings: siblings_of(self.leaves.as_slice(), self.height, leaf),
-        })
+        Some(self.tree.leaf_key(leaf))
     }
 
     /// Ends the ring, and returns the leaves that were taken.
@@ -114,12 +118,7 @@ impl KeyRing {
         ensures taken { result ≡ self.taken }
         ensures below { (v : ℕ) → Contains result v → v < leaves_of self.height }
     {
-        let KeyRing {
-            seed: _,
-            height: _,
-            leaves: _,
-            taken,
-        } = self;
+        let KeyRing { tree: _, taken } = self;
         taken
     }
 }

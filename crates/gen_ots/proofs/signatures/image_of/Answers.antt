@@ -1,29 +1,35 @@
-use Rattle.std.proofs.Common.{◌≡◌, ◌+◌, ◌-◌, ◌*◌, ◌∷◌, take, drop, arith, add-one, append_assoc}
+use Rattle.std.proofs.Common.{◌≡◌, ◌+◌, ◌*◌, [], ◌∷◌, arith}
 use Rattle.gen_ots.specs.OneTime.{image}
-use Rattle.gen_ots.specs.Signatures.{given_images, signed_leaf_value}
-use Rattle.gen_ots.proofs.Pairs.{given_images-suc}
+use Rattle.gen_ots.specs.Signatures.{given_images, shown_at, signed_leaf_value}
+use Rattle.gen_ots.proofs.Pairs.{given_images-next}
 use Rattle.gen_ots.proofs.signatures.image_of.Goals as goal
 
-pub bits-init : goal.bits-init
+pub turns-init : goal.turns-init
 unfolding given_images
-bits-init c = c.leaf_hasher-hasher.ensures
+turns-init c = c.leaf_hasher-hasher.ensures
 
-pub bits-preserved : goal.bits-preserved
-bits-preserved c =
+pub turns-preserved : goal.turns-preserved
+turns-preserved c =
     let pairs = c.as_slice-pairs.result.now in
-    let n = c.bits.bit in
-    let one = c.update.ensures (1 ∷ given_images pairs c.args.digest.now n) c.bits.invariant in
-    let two = c.update-in-bits.ensures _ one in
-    let w0 : 64 * n + 32 - 64 * n ≡ 32 = omega arith in
-    let w1 : 64 * n + 64 - (64 * n + 32) ≡ 32 = omega arith in
-    let i : c.image_bytes-shown.result ≡ image (take 32 (drop (64 * n) pairs)) = rw w0 at c.image_bytes-shown.ensures in
-    let a = rw (w1, c.is_one-one.ensures, i) at c.chosen.ensures.value in
-    let b = rw (w1, c.is_one-one.ensures, i) at c.chosen-in-bits.ensures.value in
-    rw (add-one, given_images-suc, ← append_assoc, ← a, ← b) two
+    let digest = c.args.digest.now in
+    let n = 4 * c.turns.turn in
+    let images : c.four_images-images.result ≡ image (shown_at pairs n) ∷ image (shown_at pairs (n + 1))
+    ∷ image (shown_at pairs (n + 2)) ∷ image (shown_at pairs (n + 3)) ∷ []
+    = rw (c.shown_at.ensures, c.shown_at-in-turns.ensures, c.shown_at-in-turns-2.ensures, c.shown_at-in-turns-3.ensures) at c.four_images-images.ensures in
+    let one = rw (images, c.is_one.ensures, c.other_at.ensures.value) at (c.absorb.ensures (1 ∷ given_images pairs digest n) c.turns.invariant) in
+    let two = rw (images, c.is_one-in-turns.ensures, c.other_at-in-turns.ensures.value) at (c.absorb-in-turns.ensures _ one) in
+    let three = rw (images, c.is_one-in-turns-2.ensures, c.other_at-in-turns-2.ensures.value) at (c.absorb-in-turns-2.ensures _ two) in
+    let four = rw (images, c.is_one-in-turns-3.ensures, c.other_at-in-turns-3.ensures.value) at (c.absorb-in-turns-3.ensures _ three) in
+    rw (
+      given_images-next pairs digest (n + 3) (4 * (c.turns.turn + 1)) (omega arith),
+      given_images-next pairs digest (n + 2) (n + 3) (omega arith),
+      given_images-next pairs digest (n + 1) (n + 2) (omega arith),
+      given_images-next pairs digest n (n + 1) (omega arith),
+    ) four
 
 pub returns : goal.returns
 unfolding signed_leaf_value
 returns c =
-    let n : c.bits.bit ≡ 256 = omega arith in
-    let m = c.finalize.ensures (1 ∷ given_images c.as_slice-pairs.result.now c.args.digest.now 256) (rw n at c.bits.invariant) in
+    let all : 4 * c.turns.turn ≡ 256 = omega arith in
+    let m = c.finalize.ensures (1 ∷ given_images c.as_slice-pairs.result.now c.args.digest.now 256) (rw all at c.turns.invariant) in
     rw (← c.signature.view_is, ← c.as_slice-pairs.ensures.value) m

@@ -1,7 +1,7 @@
-use Rattle.std.proofs.Common.{◌∷◌}
+use Rattle.std.proofs.Common.{◌*◌, ◌∷◌}
 use Rattle.sha2.specs.Hashers.{Holds256}
 use Rattle.gen_ots.specs.Signatures.{given_images}
 use Rattle.gen_ots.proofs.signatures.image_of.Given as goal
 
-abbrev pub invariant-bits : goal.invariant-bits
-invariant-bits l = Holds256 l.hasher (1 ∷ given_images l.pairs l.digest l.bit)
+abbrev pub invariant-turns : goal.invariant-turns
+invariant-turns l = Holds256 l.hasher (1 ∷ given_images l.pairs l.digest (4 * l.turn))

@@ -1,4 +1,4 @@
 use Rattle.gen_tree.proofs.rings.KeyRing.close.Goals as goal
 
 pub returns-clause-below : goal.returns-clause-below
-returns-clause-below c = rw (← c.self.view_is) c.self.invariant.1
+returns-clause-below c = rw (← c.self.view_is) c.self.invariant

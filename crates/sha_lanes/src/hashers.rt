@@ -1,0 +1,111 @@
+//! Four messages that are hashed side by side, 64 bytes a turn.
+ghost use Rattle.std.specs.Prelude.{◌≡◌, ℕ, ◌<◌, List, [], ◌∷◌, ◌++◌, length, replicate, slice_index, slice_index_or};
+ghost use Rattle.std.specs.Int.{w64, to_be_bytes};
+ghost use Rattle.sha2.specs.Sha256.{compress, sha256};
+ghost use Rattle.sha_lanes.specs.Lanes.{block, state};
+ghost use Rattle.sha_lanes.specs.Hashers.{HoldsLane, state_of};
+
+use crate::blocks::{blocks, last_bytes};
+use crate::digests::digests;
+use crate::rounds::{compress, initial_states};
+use std::simd::u32x4;
+
+/// The bytes of two halves of a block.
+const BLOCK_BYTES: u64 = 64;
+
+/// What pads a message that ends one byte into a block, as far as the half that has its length.
+#[rattlefmt::skip]
+const PADDING_START: [u8; 32] = [
+    0x80, 0, 0, 0, 0, 0, 0, 0, 0, 0, 0, 0, 0, 0, 0, 0,
+    0, 0, 0, 0, 0, 0, 0, 0, 0, 0, 0, 0, 0, 0, 0, 0,
+];
+
+/// Hashers of four messages, each one byte longer than whole blocks of 64 bytes.
+#[derive(Drop)]
+pub struct FourHashers {
+    // The hash values.
+    a: u32x4,
+    b: u32x4,
+    c: u32x4,
+    d: u32x4,
+    e: u32x4,
+    f: u32x4,
+    g: u32x4,
+    h: u32x4,
+    // The last byte of each message, which is in no whole block yet.
+    carry: [u8; 4],
+    // The length of each message so far, in bytes modulo 2^64.
+    total: u64,
+}
+
+impl FourHashers {
+    /// Returns the hashers of four messages of the one byte `byte`.
+    pub fn new(byte: u8) -> FourHashers
+        ensures { (j : ℕ) → j < 4 → HoldsLane j result (byte ∷ []) }
+    {
+        let [a, b, c, d, e, f, g, h] = initial_states();
+        FourHashers {
+            a,
+            b,
+            c,
+            d,
+            e,
+            f,
+            g,
+            h,
+            carry: [byte; 4],
+            total: 1,
+        }
+    }
+
+    // The hash values, once 64 bytes more are taken in.
+    #[inline(always)]
+    fn hashed(&self, first: &[[u8; 32]; 4], second: &[[u8; 32]; 4]) -> [u32x4; 8]
+        ensures width { (j : ℕ) → j < 4 → length (slice_index_or first.now j []) ≡ 32 }
+        ensures value { (j : ℕ) → j < 4 → state j result
+            ≡ compress (state_of j self.now) (block (slice_index self.now.carry j)
+            (slice_index_or first.now j []) (slice_index_or second.now j [])) }
+    {
+        let start = [
+            self.a, self.b, self.c, self.d, self.e, self.f, self.g, self.h,
+        ];
+        compress(start, &blocks(&self.carry, first, second))
+    }
+
+    /// Adds 64 bytes to each message, in two halves.
+    pub fn update(&mut self, first: &[[u8; 32]; 4], second: &[[u8; 32]; 4])
+        ensures { (j : ℕ) → j < 4 → (m : List ℕ) → HoldsLane j self.old m → HoldsLane j self.new
+            (m ++ (slice_index_or first.now j [] ++ slice_index_or second.now j [])) }
+    {
+        let [a, b, c, d, e, f, g, h] = self.hashed(first, second);
+        self.a = a;
+        self.b = b;
+        self.c = c;
+        self.d = d;
+        self.e = e;
+        self.f = f;
+        self.g = g;
+        self.h = h;
+        self.carry = last_bytes(second);
+        self.total = self.total.wrapping_add(BLOCK_BYTES);
+    }
+
+    /// Returns the digests of the four messages.
+    pub fn finalize(self) -> [[u8; 32]; 4]
+        ensures { (j : ℕ) → j < 4 → (m : List ℕ) → HoldsLane j self m
+            → slice_index_or result j [] ≡ sha256 m }
+    {
+        let bits = self.total.wrapping_mul(8);
+        digests(&self.hashed(&[PADDING_START; 4], &[length_half(bits); 4]))
+    }
+}
+
+// The half of a block that ends, but for a byte that is carried on, with the length of the message in
+// bits.
+fn length_half(bits: u64) -> [u8; 32]
+    ensures { result ≡ replicate 23 0 ++ to_be_bytes w64 bits ++ 0 ∷ [] }
+{
+    let mut half = [0; 32];
+    half[23..31].copy_from_slice(&bits.to_be_bytes());
+    half
+}

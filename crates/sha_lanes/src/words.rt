@@ -1,0 +1,116 @@
+//! Operations on four words side by side, and the functions of FIPS 180-4, section 4.1.2, made of them.
+ghost use Rattle.std.specs.Prelude.{◌≡◌, ℕ, ◌<◌, ◌/◌, ◌^◌, bit_and, bit_xor, slice_index};
+ghost use Rattle.std.specs.Int.{w32, bit_not, rotate_right};
+ghost use Rattle.sha2.specs.Sha256.{add32, big_sigma0, big_sigma1, ch, maj, small_sigma0, small_sigma1};
+
+use std::simd::u32x4;
+
+/// Returns the sums, each with the carry out of its word dropped.
+#[inline(always)]
+pub fn add(x: u32x4, y: u32x4) -> u32x4
+    ensures { (j : ℕ) → j < 4 → slice_index result j ≡ add32 (slice_index x j) (slice_index y j) }
+{
+    x + y
+}
+
+#[inline(always)]
+fn xor(x: u32x4, y: u32x4) -> u32x4
+    ensures { (j : ℕ) → j < 4 → slice_index result j ≡ bit_xor (slice_index x j) (slice_index y j) }
+{
+    x ^ y
+}
+
+#[inline(always)]
+fn and(x: u32x4, y: u32x4) -> u32x4
+    ensures { (j : ℕ) → j < 4 → slice_index result j ≡ bit_and (slice_index x j) (slice_index y j) }
+{
+    x & y
+}
+
+#[inline(always)]
+fn not(x: u32x4) -> u32x4
+    ensures { (j : ℕ) → j < 4 → slice_index result j ≡ bit_not w32 (slice_index x j) }
+{
+    !x
+}
+
+// Each word, shifted towards its low end by `count` bits.
+#[inline(always)]
+fn shift_right(x: u32x4, count: u32) -> u32x4
+    requires { count < 32 }
+    ensures { (j : ℕ) → j < 4 → slice_index result j ≡ slice_index x j / 2 ^ count }
+{
+    x >> u32x4::splat(count)
+}
+
+// Each word, with the `count` bits that leave it at the low end put in at the high end.
+#[inline(always)]
+fn rotate_right(x: u32x4, count: u32) -> u32x4
+    requires some { 0 < count }
+    requires fits { count < 32 }
+    ensures { (j : ℕ) → j < 4 → slice_index result j ≡ rotate_right w32 (slice_index x j) count }
+{
+    (x >> u32x4::splat(count)) | (x << u32x4::splat(32 - count))
+}
+
+/// Returns Ch: of each bit of `x`, the bit of `y` where it is 1, and of `z` where it is 0.
+#[inline(always)]
+pub fn ch(x: u32x4, y: u32x4, z: u32x4) -> u32x4
+    ensures { (j : ℕ) → j < 4
+        → slice_index result j ≡ ch (slice_index x j) (slice_index y j) (slice_index z j) }
+{
+    xor(and(x, y), and(not(x), z))
+}
+
+/// Returns Maj: the bits that two of the three words have.
+#[inline(always)]
+pub fn maj(x: u32x4, y: u32x4, z: u32x4) -> u32x4
+    ensures { (j : ℕ) → j < 4
+        → slice_index result j ≡ maj (slice_index x j) (slice_index y j) (slice_index z j) }
+{
+    xor(xor(and(x, y), and(x, z)), and(y, z))
+}
+
+/// Returns the upper case Σ 0.
+#[inline(always)]
+pub fn big_sigma0(x: u32x4) -> u32x4
+    ensures { (j : ℕ) → j < 4 → slice_index result j ≡ big_sigma0 (slice_index x j) }
+{
+    xor(
+        xor(rotate_right(x, 2), rotate_right(x, 13)),
+        rotate_right(x, 22),
+    )
+}
+
+/// Returns the upper case Σ 1.
+#[inline(always)]
+pub fn big_sigma1(x: u32x4) -> u32x4
+    ensures { (j : ℕ) → j < 4 → slice_index result j ≡ big_sigma1 (slice_index x j) }
+{
+    xor(
+        xor(rotate_right(x, 6), rotate_right(x, 11)),
+        rotate_right(x, 25),
+    )
+}
+
+/// Returns the lower case σ 0.
+#[inline(always)]
+pub fn small_sigma0(x: u32x4) -> u32x4
+    ensures { (j : ℕ) → j < 4 → slice_index result j ≡ small_sigma0 (slice_index x j) }
+{
+    xor(
+        xor(rotate_right(x, 7), rotate_right(x, 18)),
+        shift_right(x, 3),
+    )
+}
+
+/// Returns the lower case σ 1.
+#[inline(always)]
+pub fn small_sigma1(x: u32x4) -> u32x4
+    ensures { (j : ℕ) → j < 4 → slice_index result j ≡ small_sigma1 (slice_index x j) }
+{
+    xor(
+        xor(rotate_right(x, 17), rotate_right(x, 19)),
+        shift_right(x, 10),
+    )
+}
