@@ -15,7 +15,7 @@ TOP = os.path.dirname(os.path.dirname(os.path.abspath(__file__)))
 KEY_CRATES = ["gen_types", "sha_lanes", "gen_ots", "gen_tree"]
 CHAIN_CRATES = KEY_CRATES + ["gen_net", "gen_walks", "gen_chain"]
 KEYS_ON = "gen_tree gen_ots gen_types sha2 anyhow"
-CHAINS_ON = "gen_walks gen_chain gen_tree gen_ots gen_net gen_types sha2 anyhow"
+CHAINS_ON = "gen_walks gen_chain gen_tree gen_ots gen_net gen_types anyhow"
 
 # OpenSSL's SHA-256, a message after another: nanoseconds a message of 33 bytes, and a block of long input.
 BESIDE = r"""
@@ -104,25 +104,31 @@ def openssl(scratch):
     return found
 
 
+def shown(goal):
+    """A goal, or blanks where there is none."""
+    return f"{goal:5.2f}" if goal else " " * 5
+
+
 def keys():
     """Rings and signatures, to the same number of compressions."""
     with tempfile.TemporaryDirectory() as scratch:
         times = least(built(scratch, "keys.txt", KEY_CRATES, KEYS_ON))
         beside = openssl(scratch)
-    # Messages of 33 bytes, and other blocks.
+    # Messages of 33 bytes, other blocks, and the goals to sha2 and to OpenSSL.
     rows = [
-        ("a ring", "ring", 16 * 512, 16 * 257 + 30, 0.65),
-        ("verifying", "verify", 256, 257 + 8, 0.85),
-        ("taking and signing", "sign", 256, 0, 1.05),
+        ("a ring of 16", "ring", 16 * 512, 16 * 257 + 30, None, 0.65),
+        ("a ring of 64", "ring_of_64", 64 * 512, 64 * 257 + 126, 1.25, None),
+        ("verifying", "verify", 256, 257 + 8, None, 0.85),
+        ("taking and signing", "sign", 256, 0, None, 1.05),
     ]
-    print(f"{'kernel':22} {'us':>9} {'to sha2':>9} {'to OpenSSL':>11} {'goal':>6} {'with SHA instructions':>22}")
-    for name, kernel, messages, blocks, goal in rows:
+    print(f"{'kernel':20} {'us':>9} {'to sha2':>8} {'goal':>5} {'to OpenSSL':>11} {'goal':>5} {'with SHA instructions':>22}")
+    for name, kernel, messages, blocks, to_own, to_plain in rows:
         own = times["sha2_blocks"] / 12334 * (messages + blocks)
-        line = f"{name:22} {times[kernel] / 1000:9.1f} {times[kernel] / own:9.2f}"
+        line = f"{name:20} {times[kernel] / 1000:9.1f} {times[kernel] / own:8.2f} {shown(to_own)}"
         if beside:
             plain, best = (times[kernel] / (messages * m + blocks * b) for m, b in beside)
-            line += f" {plain:11.2f} {goal:6.2f} {best:22.2f}"
-        print(line)
+            line += f" {plain:11.2f} {shown(to_plain)} {best:22.2f}"
+        print(line.rstrip())
 
 
 def chains():
