@@ -126,6 +126,7 @@ pub fn begin_chain(
     requires leaf { IsLeafOf header.now order key }
     requires signature { signature ≡ height_of header.now }
     ensures chain { result ≡ begun header.now order key }
+    ensures height { IsSignedChain (height_of header.now) result }
     ensures verifies { IsKeyOf header.now 0 key → order < header.now.network.orders
         → ChainVerifies header.now result }
 {
@@ -169,6 +170,7 @@ pub fn extend_chain(
     requires signature { signature ≡ height_of header.now }
     requires height { IsSignedChain (height_of header.now) chain.now }
     ensures chain { result ≡ extended header.now chain.now me key }
+    ensures height { IsSignedChain (height_of header.now) result }
     ensures verifies { IsKeyOf header.now me key → ChainVerifies header.now chain.now
         → ChainVerifies header.now result }
 {

@@ -22,7 +22,9 @@ pub record IsKept (gone all : ℕ) : Type 0 where
 
 -- the list is what arrives at g in round l
 abbrev pub AreArrivals : Run → ℕ → ℕ → List Seen → Type 0
-AreArrivals run g l seen = (s : Seen) → Contains seen s ↔ Arrives run g l (record { from = s.from; to = g; order = s.order; path = s.path })
+AreArrivals run g l seen =
+    (s : Seen) → Contains seen s
+    ↔ Arrives run g l (record { from = s.from; to = g; order = s.order; path = s.path })
 
 -- he has seen the rounds of the run that have gone, and knows exactly the orders that arrived in them
 pub record HasSeen (net : Network) (run : Run) (state : State) : Type 0 where

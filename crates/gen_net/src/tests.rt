@@ -145,7 +145,11 @@ fn all_are_neighbours(rt: HostRuntime) -> Result<(), Fail> {
     }
     let net = Net::new(rt.alloc(), 16, &edges, 8, 8, 15, 1).expect(&rt, "all edges");
     let copy = net.clone()?;
-    assert!(rt; copy.edges().len() == 120 && copy.rounds() == 16 && copy.orders() == 15);
+    assert!(rt;
+        copy.edges().len() == gen_types::limits::MOST_EDGES
+            && copy.rounds() == 16
+            && copy.orders() == 15
+    );
     for number in 0..16 {
         assert_eq!(rt; copy.neighbours(GeneralNo::at(number)).len(), 15);
     }

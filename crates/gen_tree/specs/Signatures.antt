@@ -19,8 +19,8 @@ root_over value height leaf siblings = folded value leaf siblings (levels_of hei
 
 -- the root that a signature of a digest by a leaf stands for: its first bytes are a one-time
 -- signature, and the others are the siblings
-abbrev pub root_of : TreeHeight → ℕ → List ℕ → List ℕ → List ℕ
-root_of height leaf digest signature =
+abbrev pub implied_root : TreeHeight → ℕ → List ℕ → List ℕ → List ℕ
+implied_root height leaf digest signature =
     root_over (signed_leaf_value (take ots_length signature) digest) height leaf
     (drop ots_length signature)
 
@@ -30,4 +30,4 @@ pub record Verifies (root : List ℕ) (height : TreeHeight) (leaf : ℕ)
     (digest signature : List ℕ) : Type 0 where
   pub siblings : length signature ≡ signature_length height
   pub below : leaf < leaves_of height
-  pub leads : root_of height leaf digest signature ≡ root
+  pub leads : implied_root height leaf digest signature ≡ root

@@ -23,7 +23,9 @@ pub record IsReadFrom {A : Type 0} (Fits : A → Type 0) (spell : A → List ℕ
 -- Each value has one spelling, and no spelling begins another: where two lists begin with spellings and are equal, the values
 -- are equal, and so is what follows.
 abbrev pub HasOneSpelling : {A : Type 0} → (A → Type 0) → (A → List ℕ) → Type 0
-HasOneSpelling {A} Fits spell = (x y : A) (rest more : List ℕ) → Fits x → Fits y → spell x ++ rest ≡ spell y ++ more → (x ≡ y) × (rest ≡ more)
+HasOneSpelling {A} Fits spell =
+    (x y : A) (rest more : List ℕ) → Fits x → Fits y → spell x ++ rest ≡ spell y ++ more
+    → (x ≡ y) × (rest ≡ more)
 
 -- a value in front of the bytes with the number of its bytes, by a reader that gives the value and the bytes after it
 abbrev pub counted : {A F : Type 0} → (List ℕ → Result (A × List ℕ) F) → List ℕ → Result (A × ℕ) F

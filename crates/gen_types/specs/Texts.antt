@@ -13,6 +13,10 @@ is_digit b = nat_le 48 b && nat_le b 57
 abbrev pub number_of : List ℕ → Option ℕ
 number_of [] = None
 number_of (a ∷ []) = if is_digit a then Some (a - 48) else None
-number_of (a ∷ b ∷ []) = if is_digit a && nat_lt 48 a && is_digit b then Some (10 * (a - 48) + (b - 48)) else None
-number_of (a ∷ b ∷ c ∷ []) = if is_digit a && nat_lt 48 a && is_digit b && is_digit c && nat_le (100 * (a - 48) + 10 * (b - 48) + (c - 48)) 255 then Some (100 * (a - 48) + 10 * (b - 48) + (c - 48)) else None
+number_of (a ∷ b ∷ []) =
+    if is_digit a && nat_lt 48 a && is_digit b then Some (10 * (a - 48) + (b - 48)) else None
+number_of (a ∷ b ∷ c ∷ []) =
+    if is_digit a && nat_lt 48 a && is_digit b && is_digit c
+    && nat_le (100 * (a - 48) + 10 * (b - 48) + (c - 48)) 255
+    then Some (100 * (a - 48) + 10 * (b - 48) + (c - 48)) else None
 number_of (a ∷ b ∷ c ∷ d ∷ more) = None

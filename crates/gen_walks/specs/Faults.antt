@@ -9,11 +9,19 @@ use Rattle.gen_walks.specs.declared.fault.WalkFault.TheVariants.{Memory, NoWalk,
 -- The pair is (a, b), and the levels are the distances from a: no walk leads to b, or the shortest has this many edges, more than d.
 abbrev pub Explains : Network → List ℕ → ℕ → ℕ → WalkFault → Type 0
 Explains net rest a b Memory = Unit {0}
-Explains net rest a b (NoWalk pair row) = (pair.a ≡ a) × (pair.b ≡ b) × IsDistanceRow net rest a row × (level row b ≡ 255) × HasNoWalk net rest a b
-Explains net rest a b (TooLong pair row edges) = (pair.a ≡ a) × (pair.b ≡ b) × IsDistanceRow net rest a row × (level row b ≡ edges) × IsDistance net rest a b edges × (net.diameter < edges)
+Explains net rest a b (NoWalk pair row) =
+    (pair.a ≡ a) × (pair.b ≡ b)
+    × IsDistanceRow net rest a row × (level row b ≡ 255) × HasNoWalk net rest a b
+Explains net rest a b (TooLong pair row edges) =
+    (pair.a ≡ a) × (pair.b ≡ b) × IsDistanceRow net rest a row
+    × (level row b ≡ edges) × IsDistance net rest a b edges × (net.diameter < edges)
 
 -- The fault explains the least pair that has no short walk, or memory was refused.
 abbrev pub IsWalkFault : Network → List ℕ → WalkFault → Type 0
 IsWalkFault net rest Memory = Unit {0}
-IsWalkFault net rest (NoWalk pair row) = IsLeastBadPair net rest (HasShortWalk net rest) pair.a pair.b × Explains net rest pair.a pair.b (NoWalk pair row)
-IsWalkFault net rest (TooLong pair row edges) = IsLeastBadPair net rest (HasShortWalk net rest) pair.a pair.b × Explains net rest pair.a pair.b (TooLong pair row edges)
+IsWalkFault net rest (NoWalk pair row) =
+    IsLeastBadPair net rest (HasShortWalk net rest) pair.a pair.b
+    × Explains net rest pair.a pair.b (NoWalk pair row)
+IsWalkFault net rest (TooLong pair row edges) =
+    IsLeastBadPair net rest (HasShortWalk net rest) pair.a pair.b
+    × Explains net rest pair.a pair.b (TooLong pair row edges)

@@ -15,7 +15,8 @@ pub record IsLevelRow (net : Network) (rest : List ℕ) (source : ℕ) (row : Li
 
 -- no walk inside the set from the source to a general has fewer edges than his level
 abbrev pub NoWalkIsShorter : Network → List ℕ → ℕ → List ℕ → Type 0
-NoWalkIsShorter net rest source row = (g : ℕ) (walk : List ℕ) → IsWalkInside net rest source g walk → level row g + 1 ≤ length walk
+NoWalkIsShorter net rest source row =
+    (g : ℕ) (walk : List ℕ) → IsWalkInside net rest source g walk → level row g + 1 ≤ length walk
 
 -- so many edges has the shortest walk inside the set from a to b
 pub record IsDistance (net : Network) (rest : List ℕ) (a b edges : ℕ) : Type 0 where

@@ -8,7 +8,7 @@ use Rattle.std.proofs.Math.Bool.{and-eq-true_iff}
 use Rattle.gen_types.proofs.Lists.{bool_cases, not_nil}
 use Rattle.gen_types.specs.declared.heights.TreeHeight.{TreeHeight}
 use Rattle.gen_types.specs.Heights.{leaves_of}
-use Rattle.gen_tree.specs.Signatures.{root_of, Verifies}
+use Rattle.gen_tree.specs.Signatures.{implied_root, Verifies}
 use Rattle.gen_tree.specs.Sizes.{signature_length}
 use Rattle.gen_net.specs.Header as headers
 use Rattle.gen_net.specs.Header.{RunHeader, height_of}
@@ -35,15 +35,15 @@ same_list xs = elim (bool_cases (pointwise nat_eq xs xs)) [
 under_has : (root : List ℕ) (height : TreeHeight) (leaf : ℕ) (digest signature : List ℕ) → is_under root height leaf digest signature ≡ true → Verifies root height leaf digest signature
 unfolding is_under
 under_has root height leaf digest signature e =
-    let p = both (eqb (length signature) (signature_length height) && nat_lt leaf (leaves_of height)) (pointwise nat_eq (root_of height leaf digest signature) root) e in
+    let p = both (eqb (length signature) (signature_length height) && nat_lt leaf (leaves_of height)) (pointwise nat_eq (implied_root height leaf digest signature) root) e in
     let q = both (eqb (length signature) (signature_length height)) (nat_lt leaf (leaves_of height)) p.0 in
-    record { siblings = eqb-true _ _ q.0; below = ltb-true _ _ q.1; leads = same_text (root_of height leaf digest signature) root (sym p.1) }
+    record { siblings = eqb-true _ _ q.0; below = ltb-true _ _ q.1; leads = same_text (implied_root height leaf digest signature) root (sym p.1) }
 
 under_gives : (root : List ℕ) (height : TreeHeight) (leaf : ℕ) (digest signature : List ℕ) → Verifies root height leaf digest signature → is_under root height leaf digest signature ≡ true
 unfolding is_under
 under_gives root height leaf digest signature v =
-    let same : pointwise nat_eq (root_of height leaf digest signature) root ≡ true = subst (λ (r : List ℕ). pointwise nat_eq (root_of height leaf digest signature) r ≡ true) v.leads (same_list (root_of height leaf digest signature)) in
-    and_so (eqb (length signature) (signature_length height) && nat_lt leaf (leaves_of height)) (pointwise nat_eq (root_of height leaf digest signature) root) (and_so (eqb (length signature) (signature_length height)) (nat_lt leaf (leaves_of height)) (eq-eqb _ _ v.siblings) (lt-ltb _ _ v.below)) same
+    let same : pointwise nat_eq (implied_root height leaf digest signature) root ≡ true = subst (λ (r : List ℕ). pointwise nat_eq (implied_root height leaf digest signature) r ≡ true) v.leads (same_list (implied_root height leaf digest signature)) in
+    and_so (eqb (length signature) (signature_length height) && nat_lt leaf (leaves_of height)) (pointwise nat_eq (implied_root height leaf digest signature) root) (and_so (eqb (length signature) (signature_length height)) (nat_lt leaf (leaves_of height)) (eq-eqb _ _ v.siblings) (lt-ltb _ _ v.below)) same
 
 signed_has : (h : RunHeader) (g : ℕ) (t : Statement) (signature : List ℕ) → has_signed h g t signature ≡ true → HasSigned h g t signature
 unfolding has_signed

@@ -1,7 +1,7 @@
 -- The theorem for any choice of an order from a set of orders (choice of section 3 of the paper of 1982).
 use Rattle.std.specs.Prelude.{ℕ, ◌≡◌, List, [], ◌∷◌}
 use Rattle.gen_net.specs.Network.{Network, choose}
-use Rattle.gen_world.specs.Theorem.{Case, IsLoyalLieutenant, HasLoyalCommander, IsSetOf}
+use Rattle.gen_world.specs.Theorem.{Case, IsLoyalLieutenant, HasLoyalCommander, AreAccepted}
 
 -- the two laws of a choice: of one order it is this order, of none it is RETREAT
 pub record IsChoice (choice : List ℕ → ℕ) : Type 0 where
@@ -15,9 +15,9 @@ EachIsChoice = (net : Network) → IsChoice (choose net)
 -- with this choice lieutenants of the rest choose alike from their sets, and choose the order of a commander of the rest
 pub record ChosenAlike (here : Case) (choice : List ℕ → ℕ) : Type 0 where
   pub alike : (g h : ℕ) (orders others : List ℕ) → IsLoyalLieutenant here g → IsLoyalLieutenant here h
-      → IsSetOf here g orders → IsSetOf here h others → choice orders ≡ choice others
+      → AreAccepted here g orders → AreAccepted here h others → choice orders ≡ choice others
   pub obeyed : (own g : ℕ) (orders : List ℕ) → HasLoyalCommander here own → IsLoyalLieutenant here g
-      → IsSetOf here g orders → choice orders ≡ own
+      → AreAccepted here g orders → choice orders ≡ own
 
 -- and so with every choice that has the two laws
 abbrev pub AnyChoice : Case → Type 0

@@ -35,8 +35,8 @@ abbrev pub AcceptsHere : Case → ℕ → ℕ → Type 0
 AcceptsHere here g v = Accepts here.net here.run g v
 
 -- these are all orders that g accepts
-abbrev pub IsSetOf : Case → ℕ → List ℕ → Type 0
-IsSetOf here g orders = IsListOf orders (AcceptsHere here g)
+abbrev pub AreAccepted : Case → ℕ → List ℕ → Type 0
+AreAccepted here g orders = IsListOf orders (AcceptsHere here g)
 
 -- g decides the order
 abbrev pub DecidesHere : Case → ℕ → ℕ → Type 0

@@ -4,7 +4,7 @@ use Rattle.std.specs.Bool.{nat_eq}
 use Rattle.std.specs.Cmp.Lexicographic.{pointwise}
 use Rattle.gen_types.specs.declared.heights.TreeHeight.{TreeHeight}
 use Rattle.gen_types.specs.Heights.{leaves_of}
-use Rattle.gen_tree.specs.Signatures.{root_of}
+use Rattle.gen_tree.specs.Signatures.{implied_root}
 use Rattle.gen_tree.specs.Sizes.{signature_length}
 use Rattle.gen_net.specs.Header as headers
 use Rattle.gen_net.specs.Header.{RunHeader, height_of}
@@ -19,7 +19,7 @@ use Rattle.gen_chain.specs.Verifying.{ChainVerifies}
 unfoldable pub is_under : List ℕ → TreeHeight → ℕ → List ℕ → List ℕ → Bool
 is_under root height leaf digest signature =
     (length signature == signature_length height && nat_lt leaf (leaves_of height))
-    && pointwise nat_eq (root_of height leaf digest signature) root
+    && pointwise nat_eq (implied_root height leaf digest signature) root
 
 -- the general is one of the network, and has signed the statement
 unfoldable pub has_signed : RunHeader → ℕ → Statement → List ℕ → Bool

@@ -5,13 +5,16 @@ ghost use Rattle.sm_tool.specs.Ends.{IsWritten};
 use crate::ends::{JobEnd, JobFault};
 use std::alloc::Global;
 use std::io::{ErrorKind, Read, Write};
+use thiserror::Error;
 
 /// Why the input was not read whole.
-#[derive(Clone, Copy, Debug, PartialEq, Eq)]
+#[derive(Clone, Copy, Debug, PartialEq, Eq, Error)]
 pub enum InputFault {
     /// Memory was refused.
+    #[error("memory was refused")]
     Memory,
     /// A read failed, or the input is past one of its limits.
+    #[error("the input could not be read")]
     Failed,
 }
 

@@ -15,7 +15,9 @@ OrderIn seen v = (s : Seen) × Contains seen s × (s.order ≡ v)
 -- the order is known or none of the chains has it; or it isn't known, and the chain is that from the least sender
 abbrev pub IsBest : List ℕ → List Seen → ℕ → Option Seen → Type 0
 IsBest known seen v None = OrderIn seen v → Contains known v
-IsBest known seen v (Some s) = Contains seen s × (s.order ≡ v) × (Contains known v → ⊥) × ((t : Seen) → Contains seen t → t.order ≡ v → s.from ≤ t.from)
+IsBest known seen v (Some s) =
+    Contains seen s × (s.order ≡ v) × (Contains known v → ⊥)
+    × ((t : Seen) → Contains seen t → t.order ≡ v → s.from ≤ t.from)
 
 -- for each order the chain from the least sender, where the order isn't known and has one
 pub record AreBest (known : List ℕ) (seen : List Seen) (picked : List (Option Seen)) : Type 0 where

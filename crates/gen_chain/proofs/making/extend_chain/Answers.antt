@@ -33,3 +33,12 @@ returns-clause-verifies c = λ of_key before.
     let signed = rw path at c.sign_behind.ensures.signed in
     let all = rw (← c.chain.view_is) at before in
     (all.0, rw items (signed-push c.args.header.now c.chain.inside.order old s all.1 (signed of_key)))
+
+pub returns-clause-height : goal.returns-clause-height
+returns-clause-height c =
+    let old = c.chain.inside.signers.items in
+    let s : Signer = signed_by c.args.key c.args.header.now (record { order = c.chain.inside.order; path = c.push_new.new.self }) c.args.me in
+    let items : c.sign_behind.new.signers.items ≡ old ++ s ∷ [] = rw (c.copy_signers.ensures.items, c.room.invariant.empty, c.deref.ensures.value) at c.sign_behind.ensures.items in
+    let new = rw (← c.chain.view_is) at c.requires.new in
+    let was = rw (← c.chain.view_is) at c.requires.height in
+    rw items (chain-push (height_of c.args.header.now) c.chain.inside.order old s was (omega (arith, c.get-below_16.ensures.value, c.get-below_16.ensures.below)) new c.sign_behind.ensures.width)
