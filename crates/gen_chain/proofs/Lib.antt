@@ -4,3 +4,4 @@ mod LongerChains
 pub mod Parts
 mod Room
 mod SignedSoFar
+pub mod TestedChains

@@ -4,4 +4,5 @@ pub mod Leaves
 pub mod Making
 pub mod Prefixes
 pub mod Texts
+pub mod Verified
 pub mod Verifying

@@ -9,6 +9,7 @@ ghost use Rattle.gen_chain.specs.ChainReading.{chain_at};
 ghost use Rattle.gen_chain.specs.declared.statements.Statement.{Statement};
 ghost use Rattle.gen_chain.specs.declared.statements.HeadText.{HeadText};
 ghost use Rattle.gen_chain.specs.Texts.{statement_text, head_text};
+ghost use Rattle.gen_chain.specs.Verified.{TestsVerifying};
 
 /// Each chain has one spelling, and no spelling of a chain is the beginning of another of one
 /// height: where two strings of bytes begin with spellings of chains and are equal, the chains are
@@ -31,4 +32,9 @@ pub fn chains_are_spelled()
 pub fn no_statement_is_a_head()
     ensures { (h k : RunHeader) (statement : Statement) (head : HeadText)
         → statement_text h statement ≢ head_text k head }
+{}
+
+/// Whether a chain verifies can be tested: the test of the definitions says exactly whether it does.
+pub fn verifying_is_tested()
+    ensures { TestsVerifying }
 {}

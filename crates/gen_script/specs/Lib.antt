@@ -4,3 +4,4 @@ pub mod Line
 pub mod LineReading
 pub mod NamedPath
 pub mod PathReading
+pub mod Script

@@ -11,10 +11,12 @@ mod line_fields;
 mod lines;
 mod path_fields;
 mod reading;
+mod scripts;
 
 pub use fault::ScriptFault;
 pub use lines::{Parcel, ScriptLine};
 pub use reading::{one_script_line, read_script_bytes, read_script_line};
+pub use scripts::Script;
 
 #[cfg(test)]
 mod tests;

@@ -20,8 +20,8 @@ use Rattle.gen_world.specs.declared.counting.Delivery.{Delivery}
 use Rattle.gen_world.specs.Counting.{MayCount, Carries, Counts, AreCounted}
 use Rattle.gen_world.specs.Counted.{is_last, may_count, if_whole, carried_by, firsts, counted_of, CountsThese}
 use Rattle.gen_world.specs.Loops.Listing.{AreListed}
-use Rattle.gen_world.specs.Verified.{is_verified}
-use Rattle.gen_world.proofs.Verifying.{both, and_so, tests_verifying}
+use Rattle.gen_chain.specs.Verified.{is_verified}
+use Rattle.gen_chain.proofs.TestedChains.{both, and_so, tests_verifying}
 
 -- ---- tests
 

@@ -7,5 +7,4 @@ pub mod Obeying
 pub mod Rounding
 pub mod Same
 pub mod SplitCommander
-pub mod Verifying
 pub mod WorldFollowers

@@ -8,7 +8,7 @@ use Rattle.gen_chain.specs.Chain.{Chain, signed_path}
 use Rattle.gen_chain.specs.ChainReading.{chain_at}
 use Rattle.gen_world.specs.declared.counting.Delivery.{Delivery}
 use Rattle.gen_world.specs.Counting.{AreCounted}
-use Rattle.gen_world.specs.Verified.{is_verified}
+use Rattle.gen_chain.specs.Verified.{is_verified}
 
 -- the general is the last of the path
 abbrev pub is_last : List ℕ → ℕ → Bool

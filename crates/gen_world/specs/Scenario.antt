@@ -1,8 +1,65 @@
--- A scenario without signatures.
-use Rattle.std.specs.Prelude.{ℕ}
-use Rattle.gen_net.specs.Network.{Network}
+-- Scenarios: a network and the commander's order, and where generals sign the master seed of all keys and the scripts of the
+-- traitors.
+use Rattle.std.specs.Prelude.{ℕ, ◌≡◌, ◌≤◌, ◌<◌, Bool, List, [], ◌∷◌, map, Contains, AllPairs, Option, Some, None, if◌then◌else◌, ◌==◌}
+use Rattle.std.specs.List.{range_with_len}
+use Rattle.gen_types.specs.Ends.{is_among}
+use Rattle.gen_tree.specs.Rings.{ring_root, seed_of}
+use Rattle.gen_net.specs.declared.version.Version.{Version}
+use Rattle.gen_net.specs.Version.{height_in, slot_in, greatest_slot}
+use Rattle.gen_net.specs.Network.{Network, IsNetwork}
+use Rattle.gen_net.specs.Header.{RunHeader}
+use Rattle.gen_script.specs.declared.lines.ScriptLine.{ScriptLine}
+use Rattle.gen_script.specs.Line.{IsScriptLine}
+use Rattle.gen_script.specs.NamedPath.{named_path}
+use Rattle.gen_script.specs.Script.{Script}
 
--- a network, and the order that the commander has
+-- without signatures: a network, and the order that the commander has
 pub record Plain : Type 0 where
   pub net : Network
   pub order : ℕ
+
+-- with signatures: also the version, the seed from which the keys of all generals come, and the scripts
+pub record Scenario : Type 0 where
+  pub version : Version
+  pub net : Network
+  pub master : List ℕ
+  pub order : ℕ
+  pub scripts : List Script
+
+-- the header of the run: the root of each general is that of the ring of his seed
+abbrev pub header_of : Scenario → RunHeader
+header_of s = record {
+  version = s.version;
+  network = s.net;
+  roots = map (λ g. ring_root (seed_of s.master g) (height_in s.version)) (range_with_len 0 s.net.generals);
+}
+
+-- the generals who have scripts
+abbrev pub scripted : List Script → List ℕ
+scripted scripts = map (λ script. script.general) scripts
+
+abbrev pub has_script : Scenario → ℕ → Bool
+has_script s g = is_among (scripted s.scripts) g
+
+-- the lines of a general's script, if he has one
+unfoldable pub script_of : List Script → ℕ → Option (List ScriptLine)
+script_of [] g = None
+script_of (script ∷ others) g = if script.general == g then Some script.lines else script_of others g
+
+-- the generals of the line's path, if it names one, have scripts
+abbrev pub SignsForTraitors : List Script → ScriptLine → Type 0
+SignsForTraitors scripts line =
+    (path : List ℕ) → named_path line ≡ Some path → (g : ℕ) → Contains path g → Contains (scripted scripts) g
+
+-- What each scenario keeps: its network does what networks do, its slot is known, the order is one of its orders, and each of
+-- its scripts is one of a general's, who has no other, with lawful lines by which traitors alone sign.
+pub record IsScenario (s : Scenario) : Type 0 where
+  pub network : IsNetwork s.net
+  pub slot : slot_in s.version ≤ greatest_slot
+  pub order_known : s.order < s.net.orders
+  pub known : (script : Script) → Contains s.scripts script → script.general < s.net.generals
+  pub ascending : AllPairs (λ script other. script.general < other.general) s.scripts
+  pub lawful : (script : Script) (line : ScriptLine) → Contains s.scripts script → Contains script.lines line
+      → IsScriptLine s.net script.general line
+  pub signers : (script : Script) (line : ScriptLine) → Contains s.scripts script → Contains script.lines line
+      → SignsForTraitors s.scripts line

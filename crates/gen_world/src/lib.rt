@@ -2,11 +2,13 @@
 #![tactic(auto)]
 
 mod counting;
+mod hearing;
 pub mod laws;
 mod running;
 mod scenario;
 
 pub use counting::{Delivery, count_frame};
+pub use hearing::Heard;
 pub use running::run_plain;
 pub use scenario::{Decision, PlainRun, PlainScenario};
 

@@ -18,7 +18,7 @@ use Rattle.gen_chain.specs.Chain.{signed_path}
 use Rattle.gen_chain.specs.Leaves.{leaf_of_order}
 use Rattle.gen_chain.specs.Texts.{statement_digest}
 use Rattle.gen_chain.specs.Verifying.{HasSigned}
-use Rattle.gen_world.specs.Verified.{is_under, has_signed, are_signed, is_verified, TestsVerifying}
+use Rattle.gen_chain.specs.Verified.{is_under, has_signed, are_signed, is_verified, TestsVerifying}
 
 pub both : (a b : Bool) → (a && b) ≡ true → (a ≡ true) × (b ≡ true)
 both a b e = (and-eq-true_iff a b).0 e
