@@ -59,13 +59,13 @@ all_kept : (p : ℕ → Bool) (xs : List ℕ) → ((x : ℕ) → p x ≡ true) �
 all_kept p [] all = refl
 all_kept p (x ∷ xs) all = rw (all x) (ap (λ ys. x ∷ ys) (all_kept p xs all))
 
-first_is : (s : Scenario) (g : ℕ) → (decision_of s g).general ≡ g
-first_is s zero = refl
-first_is s (suc g) = refl
+pub decision_general : (s : Scenario) (g : ℕ) → (decision_of s g).general ≡ g
+decision_general s zero = refl
+decision_general s (suc g) = refl
 
 firsts_are : (s : Scenario) (xs : List ℕ) → map (λ (d : Decision). d.general) (map (decision_of s) xs) ≡ xs
 firsts_are s [] = refl
-firsts_are s (x ∷ xs) = (λ i. first_is s x i ∷ firsts_are s xs i)
+firsts_are s (x ∷ xs) = (λ i. decision_general s x i ∷ firsts_are s xs i)
 
 nobody : (s : Scenario) → s.scripts ≡ [] → (g : ℕ) → not (has_script s g) ≡ true
 nobody s none g = subst (λ (scripts : List Script). not (list_any (λ h. eqb h g) (scripted scripts)) ≡ true) (sym none) refl

@@ -1,5 +1,6 @@
 pub mod Agree
 pub mod Arriving
+pub mod BoundedScenarios
 pub mod Conducts
 pub mod CountedChains
 pub mod DecisionsMade
@@ -18,4 +19,5 @@ pub mod Same
 pub mod ScriptsOf
 pub mod SplitCommander
 pub mod Stepping
+pub mod TraitorFrames
 pub mod WorldFollowers

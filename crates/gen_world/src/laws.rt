@@ -4,6 +4,7 @@ ghost use Rattle.gen_world.specs.AnyChoice.{AnyChoice, EachIsChoice};
 ghost use Rattle.gen_world.specs.Counted.{CountsThese};
 ghost use Rattle.gen_world.specs.Deciding.{DecisionsHold, PlainDecisions, OneOutcome};
 ghost use Rattle.gen_world.specs.Derivables.{ProlongedByFaulty, SignedByFaulty};
+ghost use Rattle.gen_world.specs.SignedLaw.{NoRawIsSigned, TheoremHoldsOfScenarios};
 ghost use Rattle.gen_world.specs.Steps.{MessagesCount, OneRoundMore, FrameAfter, OneSignerMore, BegunByCommander};
 ghost use Rattle.gen_world.specs.Theorem.{Agreement, Case, DecideAlike, EachDecides, ObeyCommander, Premises, Validity};
 ghost use Rattle.gen_world.specs.TwoOrders.{BothAccepted, three, two_orders_case};
@@ -96,4 +97,17 @@ pub fn steps_are_known()
     ensures frame { FrameAfter }
     ensures signer { OneSignerMore }
     ensures begin { BegunByCommander }
+{}
+
+/// Where no script has a raw line, the messages of a scenario are a run for the generals who have scripts: no signature of the
+/// rest is forged, whatever is known of SHA-256.
+pub fn no_signature_is_forged()
+    ensures { NoRawIsSigned }
+{}
+
+/// Theorem 4 of the paper of 1982 (section 5) of scenarios: with at most m scripts, none of which has a raw line, and any two of
+/// the rest joined inside the rest by at most d edges, the rest decide one order, the scenario's where its commander has no
+/// script.
+pub fn theorem_holds_of_scenarios()
+    ensures { TheoremHoldsOfScenarios }
 {}
