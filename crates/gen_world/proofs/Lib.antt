@@ -13,6 +13,8 @@ pub mod GoodChains
 pub mod Growing
 pub mod Having
 pub mod HeardBy
+pub mod HeardKnown
+pub mod KeptRounds
 pub mod Obeying
 pub mod Rounding
 pub mod Same

@@ -5,8 +5,10 @@ pub mod Deciding
 pub mod Derivables
 pub mod Frames
 pub mod Heard
+pub mod HeardLaws
 pub mod Loops
 pub mod RoundEntries
+pub mod RoundsKept
 pub mod Scenario
 pub mod SignedLaw
 pub mod SignedWorld

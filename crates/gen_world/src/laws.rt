@@ -4,6 +4,8 @@ ghost use Rattle.gen_world.specs.AnyChoice.{AnyChoice, EachIsChoice};
 ghost use Rattle.gen_world.specs.Counted.{CountsThese};
 ghost use Rattle.gen_world.specs.Deciding.{DecisionsHold, PlainDecisions, OneOutcome};
 ghost use Rattle.gen_world.specs.Derivables.{ProlongedByFaulty, SignedByFaulty};
+ghost use Rattle.gen_world.specs.HeardLaws.{CountedAreChains, HeardInRound, HeardIsKnown};
+ghost use Rattle.gen_world.specs.RoundsKept.{FrameKept, SendEntriesKept, SignEntriesKept, SignsKept};
 ghost use Rattle.gen_world.specs.SignedLaw.{NoRawIsSigned, TheoremHoldsOfScenarios};
 ghost use Rattle.gen_world.specs.Steps.{MessagesCount, OneRoundMore, FrameAfter, OneSignerMore, BegunByCommander};
 ghost use Rattle.gen_world.specs.Theorem.{Agreement, Case, DecideAlike, EachDecides, ObeyCommander, Premises, Validity};
@@ -110,4 +112,22 @@ pub fn no_signature_is_forged()
 /// script.
 pub fn theorem_holds_of_scenarios()
     ensures { TheoremHoldsOfScenarios }
+{}
+
+/// What is known of what counts, and so of what a general heard: it is a chain by trees of the run's height, which may count
+/// (`counted`); in a scenario it came from a neighbour who signed it last, and the hearer didn't sign it (`known`); and what
+/// was heard in a round has as many signers as its number (`rounds`).
+pub fn heard_is_known()
+    ensures counted { CountedAreChains }
+    ensures known { HeardIsKnown }
+    ensures rounds { HeardInRound }
+{}
+
+/// What comes in a round changes nothing of what is signed in it (`signs`), of its frames (`frame`), and of the SIGNs and
+/// SENDs that are written of it (`written`, `sent`): so a general may hear and send in whatever order within a round.
+pub fn rounds_are_kept()
+    ensures signs { SignsKept }
+    ensures frame { FrameKept }
+    ensures written { SignEntriesKept }
+    ensures sent { SendEntriesKept }
 {}
