@@ -105,7 +105,7 @@ flat_few : (f : ℕ → List Chain) → ((v : ℕ) → length (f v) ≤ 1) → (
 flat_few f one [] = omega arith
 flat_few f one (x ∷ xs) = rw flat_map-cons (omega (arith, length-append (f x) (flat_map f xs), one x, flat_few f one xs))
 
-length-range : (n : ℕ) → length (range_with_len 0 n) ≡ n
+pub length-range : (n : ℕ) → length (range_with_len 0 n) ≡ n
 length-range n = rw length-range_with_len refl
 
 relays_few : (s : Scenario) (g l : ℕ) → length (relays_in (keys_of s) g (heard_by s l g) (suc l)) ≤ s.net.orders

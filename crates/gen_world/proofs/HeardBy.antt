@@ -137,7 +137,7 @@ round_is s m said = ap length (sym said.path_is) ∙ (counted_facts s said.befor
 
 -- ---- they are a run
 
-signers_below : (h : RunHeader) (order : ℕ) (signers : List Signer) → AreSigned h order signers → (g : ℕ) → Contains (signed_path signers) g → g < h.network.generals
+pub signers_below : (h : RunHeader) (order : ℕ) (signers : List Signer) → AreSigned h order signers → (g : ℕ) → Contains (signed_path signers) g → g < h.network.generals
 signers_below h order signers all g k =
     let r = Contains_mapped (λ (t : Signer). t.general) signers g k in
     let p = split signers r.0 r.1 in

@@ -15,11 +15,17 @@ pub mod Having
 pub mod HeardBy
 pub mod HeardKnown
 pub mod KeptRounds
+pub mod LogEntries
+pub mod LogOrder
+pub mod LogParts
 pub mod Obeying
 pub mod Rounding
+pub mod SaidChains
 pub mod Same
 pub mod ScriptsOf
+pub mod Sorting
 pub mod SplitCommander
 pub mod Stepping
 pub mod TraitorFrames
+pub mod VerifiedLogs
 pub mod WorldFollowers

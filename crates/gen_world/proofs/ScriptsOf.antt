@@ -73,6 +73,9 @@ line_in scripts g line (Some lines) e h =
 pub line_of : (scripts : List Script) (g : ℕ) (line : ScriptLine) → Contains (lines_of scripts g) line → IsLineOf scripts g line
 line_of scripts g line h = line_in scripts g line (script_of scripts g) refl h
 
+pub has_line : (scripts : List Script) (g : ℕ) (lines : List ScriptLine) → script_of scripts g ≡ Some lines → (line : ScriptLine) → Contains lines line → Contains (lines_of scripts g) line
+has_line scripts g lines e line h = rw e h
+
 -- his lines are lawful, and traitors alone sign by them
 pub lawful_line : (s : Scenario) → IsScenario s → (g : ℕ) (line : ScriptLine) → Contains (lines_of s.scripts g) line → IsScriptLine s.net g line
 lawful_line s ok g line h =

@@ -13,6 +13,7 @@ use Rattle.gen_world.specs.SignedWorld.{counted_at, frame_at, heard_by, heard_in
 use Rattle.gen_world.specs.Frames.{frame_of}
 use Rattle.gen_world.specs.Signing.{lengthened, signer_behind, signers_along, Keys}
 use Rattle.gen_world.proofs.GoodChains.{lengthened_path}
+use Rattle.gen_world.proofs.LogParts.{counted_is}
 
 one_round : (s : Scenario) (k g : ℕ) → heard_by s (suc k) g ≡ heard_by s k g ++ heard_in s (heard_by s k) (suc k) g
 unfolding heard_by
@@ -26,10 +27,7 @@ unfolding frame_at
 frame_after s k from to = let back : k + 1 - 1 ≡ k = omega arith in ap (λ j. frame_of (part_of s from) (heard_by s j from) (k + 1) to) back
 
 counted_after : (s : Scenario) (j from to : ℕ) (c : Chain) → Contains (counted_at s (suc j) from to) c ↔ CountsAfter s j from to c
-unfolding counted_at frame_at
-counted_after s j from to c =
-    let back : suc j - 1 ≡ j = omega arith in
-    rw back (λ h. h, λ h. h)
+counted_after s j from to c = (subst (λ (cs : List Chain). Contains cs c) (counted_is s j from to), subst (λ (cs : List Chain). Contains cs c) (sym (counted_is s j from to)))
 
 said_counted : (s : Scenario) (m : Message) → Said s m → IsCounted s m
 said_counted s m said =

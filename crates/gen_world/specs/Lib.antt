@@ -6,6 +6,7 @@ pub mod Derivables
 pub mod Frames
 pub mod Heard
 pub mod HeardLaws
+pub mod LogsVerify
 pub mod Loops
 pub mod RoundEntries
 pub mod RoundsKept

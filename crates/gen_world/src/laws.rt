@@ -5,6 +5,7 @@ ghost use Rattle.gen_world.specs.Counted.{CountsThese};
 ghost use Rattle.gen_world.specs.Deciding.{DecisionsHold, PlainDecisions, OneOutcome};
 ghost use Rattle.gen_world.specs.Derivables.{ProlongedByFaulty, SignedByFaulty};
 ghost use Rattle.gen_world.specs.HeardLaws.{CountedAreChains, HeardInRound, HeardIsKnown};
+ghost use Rattle.gen_world.specs.LogsVerify.{AllVerify};
 ghost use Rattle.gen_world.specs.RoundsKept.{FrameKept, SendEntriesKept, SignEntriesKept, SignsKept};
 ghost use Rattle.gen_world.specs.SignedLaw.{NoRawIsSigned, TheoremHoldsOfScenarios};
 ghost use Rattle.gen_world.specs.Steps.{MessagesCount, OneRoundMore, FrameAfter, OneSignerMore, BegunByCommander};
@@ -12,6 +13,7 @@ ghost use Rattle.gen_world.specs.Theorem.{Agreement, Case, DecideAlike, EachDeci
 ghost use Rattle.gen_world.specs.TwoOrders.{BothAccepted, three, two_orders_case};
 ghost use Rattle.gen_world.specs.World.{OneWorld};
 ghost use Rattle.gen_world.specs.WorldFollows.{LieutenantsFollow, WorldIsSigned, WorldMeetsPremises};
+ghost use Rattle.gen_world.specs.WorldLogs.{FollowersKeep};
 ghost use Rattle.gen_world.specs.WorldLaws.{CommanderObeys, EachFollows, LieutenantsRelay, MessagesAreRun, PlainWorld};
 
 /// A plain scenario has one run: two runs of it have the same messages.
@@ -130,4 +132,14 @@ pub fn rounds_are_kept()
     ensures frame { FrameKept }
     ensures written { SignEntriesKept }
     ensures sent { SendEntriesKept }
+{}
+
+/// Whoever has no script has one log, whose entries are exactly those that a follower keeps of the run.
+pub fn followers_logs()
+    ensures { FollowersKeep }
+{}
+
+/// Each log of each general, a traitor's and his second one too, is a log of this run whose signatures and head verify.
+pub fn logs_verify()
+    ensures { AllVerify }
 {}

@@ -114,5 +114,7 @@ fn the_laws_are_there_to_be_called(_rt: HostRuntime) -> Result<(), Fail> {
     laws::theorem_holds_of_scenarios();
     laws::heard_is_known();
     laws::rounds_are_kept();
+    laws::followers_logs();
+    laws::logs_verify();
     Ok(())
 }
