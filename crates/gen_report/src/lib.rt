@@ -25,4 +25,6 @@ pub use scenario_text::ScenarioText;
 pub use signed_text::{ScenarioParts, SignedText};
 
 #[cfg(test)]
+mod signed_tests;
+#[cfg(test)]
 mod tests;
