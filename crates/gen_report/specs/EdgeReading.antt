@@ -4,7 +4,9 @@ use Rattle.std.specs.Str.{bytes_eq}
 use Rattle.gen_types.specs.Reading.{◌>>=◌}
 use Rattle.gen_report.specs.declared.fault.LineFault.TheVariants.{Unfinished}
 use Rattle.gen_report.specs.declared.fault.ScenarioFault.{ScenarioFault}
-use Rattle.gen_report.specs.LineReading.{fault_at, number_in, fields_at}
+use Rattle.gen_report.specs.Place.{Cursor, Line}
+use Rattle.gen_report.specs.LineReading.{fault_at, number_in}
+use Rattle.gen_report.specs.Cursor.{next_line}
 
 -- the edge of the line k, where it is a line of an edge
 unfoldable pub edge_in : ℕ → List (List ℕ) → Result (Option (ℕ × ℕ)) ScenarioFault
@@ -14,12 +16,11 @@ edge_in k (w ∷ x ∷ y ∷ []) = if bytes_eq w (codes "edge") then (do
   Ok (Some (a, b))) else Ok None
 edge_in k _ = Ok None
 
--- the edges of some lines, the fields and the number of the first line that has none, and the parts after it
+-- the edges of some lines, the first line that has none, and the place after it
 pub record EdgeLines : Type 0 where
   pub found : List (ℕ × ℕ)
-  pub next : List (List ℕ)
-  pub line : ℕ
-  pub after : List (List ℕ)
+  pub next : Line
+  pub after : Cursor
 
 -- one edge more, in front of others
 abbrev pub with_edge : Result EdgeLines ScenarioFault → ℕ × ℕ → Result EdgeLines ScenarioFault
@@ -27,16 +28,15 @@ with_edge others e = do
   o ← others
   Ok (record o { found = e ∷ o.found })
 
--- what the line k with these fields, and what the lines after it give, make
-abbrev pub after_edge : Option (ℕ × ℕ) → ℕ → List (List ℕ) → List (List ℕ) → Result EdgeLines ScenarioFault
-    → Result EdgeLines ScenarioFault
-after_edge None k next after others = Ok (record { found = []; next = next; line = k; after = after })
-after_edge (Some e) k next after others = with_edge others e
+-- what this line and what the lines after it give make
+abbrev pub after_edge : Option (ℕ × ℕ) → Line × Cursor → Result EdgeLines ScenarioFault → Result EdgeLines ScenarioFault
+after_edge None l others = Ok (record { found = []; next = l.0; after = l.1 })
+after_edge (Some e) l others = with_edge others e
 
 -- the edges of the lines from k on
 unfoldable pub edge_lines_at : ℕ → List (List ℕ) → Result EdgeLines ScenarioFault
 edge_lines_at k [] = Err (fault_at Unfinished k)
 edge_lines_at k (line ∷ more) = do
-  l ← fields_at k (line ∷ more)
-  edge ← edge_in k l.0
-  after_edge edge k l.0 l.1 (edge_lines_at (k + 1) more)
+  l ← next_line (record { line = k; parts = line ∷ more })
+  edge ← edge_in l.0.number l.0.fields
+  after_edge edge l (edge_lines_at (k + 1) more)

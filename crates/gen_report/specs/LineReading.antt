@@ -2,12 +2,11 @@
 use Rattle.std.specs.Prelude.{ℕ, List, [], ◌∷◌, length, Some, None, Result, Ok, Err, nat_lt, ◌==◌, if◌then◌else◌}
 use Rattle.std.specs.List.{list_any}
 use Rattle.std.specs.Str.{bytes_eq}
-use Rattle.gen_types.specs.Reading.{◌>>=◌}
-use Rattle.gen_types.specs.Texts.{fields, number_of}
+use Rattle.gen_types.specs.Texts.{number_of}
 use Rattle.gen_report.specs.declared.fault.LineFault.{LineFault}
 use Rattle.gen_report.specs.declared.fault.LineFault.TheVariants.{Unfinished, Shape, Number, TooLong, Foreign}
 use Rattle.gen_report.specs.declared.fault.ScenarioFault.{ScenarioFault}
-use Rattle.gen_report.specs.Text.{is_foreign}
+use Rattle.gen_report.specs.Text.{is_foreign, longest_line}
 
 -- the fault of this kind in the line k
 abbrev pub fault_at : LineFault → ℕ → ScenarioFault
@@ -18,7 +17,7 @@ abbrev pub line_at : ℕ → List (List ℕ) → Result (List ℕ × List (List 
 line_at k [] = Err (fault_at Unfinished k)
 line_at k (line ∷ more) =
     if list_any is_foreign line then Err (fault_at Foreign k)
-    else (if nat_lt 600000 (length line) then Err (fault_at TooLong k)
+    else (if nat_lt longest_line (length line) then Err (fault_at TooLong k)
     else (if length more == 0 then Err (fault_at Unfinished k)
     else Ok (line, more)))
 
@@ -32,22 +31,3 @@ number_behind k word [] = Err (fault_at Shape k)
 number_behind k word (w ∷ []) = Err (fault_at Shape k)
 number_behind k word (w ∷ x ∷ []) = if bytes_eq w word then number_in k x else Err (fault_at Shape k)
 number_behind k word (w ∷ x ∷ y ∷ more) = Err (fault_at Shape k)
-
--- the fields of the line k, and the parts after it
-abbrev pub fields_at : ℕ → List (List ℕ) → Result (List (List ℕ) × List (List ℕ)) ScenarioFault
-fields_at k ps = do
-  l ← line_at k ps
-  Ok (fields l.0, l.1)
-
--- the number behind a word in the line k, and the parts after it
-unfoldable pub numbered : List ℕ → ℕ → List (List ℕ) → Result (ℕ × List (List ℕ)) ScenarioFault
-numbered word k ps = do
-  l ← fields_at k ps
-  n ← number_behind k word l.0
-  Ok (n, l.1)
-
--- the parts after the line k, where that line is this word alone
-unfoldable pub word_alone : List ℕ → ℕ → List (List ℕ) → Result (List (List ℕ)) ScenarioFault
-word_alone word k ps = do
-  l ← fields_at k ps
-  elim l.0 [ [] ↦ Err (fault_at Shape k) | w ∷ more ↦ (elim more [ [] ↦ (if bytes_eq w word then Ok l.1 else Err (fault_at Shape k)) | x ∷ xs ↦ Err (fault_at Shape k) ]) ]

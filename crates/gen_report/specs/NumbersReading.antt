@@ -1,46 +1,67 @@
--- The numbers and the edges of a network, line by line, with their first fault.
-use Rattle.std.specs.Prelude.{ℕ, ◌+◌, List, codes, Result, Ok}
-use Rattle.gen_types.specs.Reading.{◌>>=◌}
+-- The numbers and the edges of a network and the commander's order, line by line, with their first fault.
+use Rattle.std.specs.Prelude.{ℕ, List, codes, Result, Ok, nat_lt}
+use Rattle.gen_types.specs.Reading.{◌>>=◌, check, map_fault}
+use Rattle.gen_net.specs.declared.fault.HeaderFault.{HeaderFault}
 use Rattle.gen_net.specs.declared.numbers.NetNumbers.{NetNumbers}
+use Rattle.gen_net.specs.Network.{Network}
+use Rattle.gen_net.specs.NetworkOf.{network_of}
+use Rattle.gen_world.specs.Scenario.{Plain}
+use Rattle.gen_report.specs.declared.fault.LineFault.TheVariants as faults
 use Rattle.gen_report.specs.declared.fault.ScenarioFault.{ScenarioFault}
-use Rattle.gen_report.specs.LineReading.{numbered, number_behind}
+use Rattle.gen_report.specs.Place.{Cursor}
+use Rattle.gen_report.specs.LineReading.{fault_at, number_behind}
+use Rattle.gen_report.specs.Cursor.{numbered}
 use Rattle.gen_report.specs.EdgeReading.{edge_lines_at}
 
--- what the lines up to that of the traitors say, the number of that line, and the parts after it
+-- what the lines up to that of the traitors say, and the place after them
 pub record Opening : Type 0 where
   pub generals : ℕ
   pub edges : List (ℕ × ℕ)
   pub traitors : ℕ
-  pub line : ℕ
-  pub after : List (List ℕ)
+  pub after : Cursor
 
-unfoldable pub opening_at : List (List ℕ) → Result Opening ScenarioFault
-opening_at ps = do
-  n ← numbered (codes "generals") 1 ps
-  edges ← edge_lines_at 2 n.1
-  m ← number_behind edges.line (codes "traitors") edges.next
-  Ok (record { generals = n.0; edges = edges.found; traitors = m; line = edges.line; after = edges.after })
+unfoldable pub opening_at : Cursor → Result Opening ScenarioFault
+opening_at c = do
+  n ← numbered (codes "generals") c
+  edges ← edge_lines_at n.1.line n.1.parts
+  m ← number_behind edges.next.number (codes "traitors") edges.next.fields
+  Ok (record { generals = n.0.value; edges = edges.found; traitors = m; after = edges.after })
 
--- what the three lines after the line k say, and the parts after them
+-- what the three lines after that of the traitors say, the number of the last of them, and the place after them
 pub record Settings : Type 0 where
   pub diameter : ℕ
   pub orders : ℕ
   pub choice : ℕ
-  pub after : List (List ℕ)
+  pub line : ℕ
+  pub after : Cursor
 
-unfoldable pub settings_at : ℕ → List (List ℕ) → Result Settings ScenarioFault
-settings_at k ps = do
-  d ← numbered (codes "diameter") (k + 1) ps
-  q ← numbered (codes "orders") (k + 2) d.1
-  c ← numbered (codes "choice") (k + 3) q.1
-  Ok (record { diameter = d.0; orders = q.0; choice = c.0; after = c.1 })
+unfoldable pub settings_at : Cursor → Result Settings ScenarioFault
+settings_at start = do
+  d ← numbered (codes "diameter") start
+  q ← numbered (codes "orders") d.1
+  c ← numbered (codes "choice") q.1
+  Ok (record { diameter = d.0.value; orders = q.0.value; choice = c.0.value; line = c.0.line; after = c.1 })
 
 -- the numbers of the network that they say
 abbrev pub numbers_said : Opening → Settings → NetNumbers
-numbers_said o s = record {
-  generals = o.generals;
-  traitors = o.traitors;
-  diameter = s.diameter;
-  orders = s.orders;
-  choice = s.choice;
-}
+numbers_said o s =
+    record { generals = o.generals; traitors = o.traitors; diameter = s.diameter; orders = s.orders; choice = s.choice }
+
+-- A fault of the network is one of the line k.
+abbrev pub network_at : ℕ → Result Network HeaderFault → Result Network ScenarioFault
+network_at k made = map_fault (λ f. fault_at (faults.Network f) k) made
+
+-- the order, which must be one of the network's
+unfoldable pub order_at : Network → Cursor → Result (Plain × Cursor) ScenarioFault
+order_at net c = do
+  v ← numbered (codes "order") c
+  known ← check (nat_lt v.0.value net.orders) (fault_at faults.UnknownOrder v.0.line)
+  Ok (record { net = net; order = v.0.value }, v.1)
+
+-- the network and the order of a text, and the place after their lines
+unfoldable pub plain_at : Cursor → Result (Plain × Cursor) ScenarioFault
+plain_at c = do
+  o ← opening_at c
+  s ← settings_at o.after
+  net ← network_at s.line (network_of (numbers_said o s) o.edges)
+  order_at net s.after

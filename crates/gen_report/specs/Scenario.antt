@@ -1,36 +1,30 @@
 -- Which texts spell a scenario, apart from how they are read.
-use Rattle.std.specs.Prelude.{◌≡◌, ℕ, ◌<◌, List, [], ◌∷◌, ◌++◌, map, codes, Ok}
-use Rattle.std.specs.List.{flat_map, join_with_byte, AllByRecursion}
-use Rattle.std.specs.Fmt.{decimal}
+use Rattle.std.specs.Prelude.{◌≡◌, ℕ, ◌<◌, List, [], ◌∷◌, ◌++◌, length, map, codes, Ok}
+use Rattle.std.specs.List.{AllByRecursion}
 use Rattle.gen_net.specs.declared.numbers.NetNumbers.{NetNumbers}
+use Rattle.gen_net.specs.declared.version.Version.{Version}
+use Rattle.gen_net.specs.declared.version.Version.TheVariants.{One, Two}
 use Rattle.gen_net.specs.NetworkOf.{network_of}
-use Rattle.gen_world.specs.Scenario.{Plain}
+use Rattle.gen_script.specs.Digits.{SpellsBytes}
+use Rattle.gen_world.specs.Scenario.{Scenario, IsScenario}
+use Rattle.gen_report.specs.declared.scenario_text.ScenarioText.{ScenarioText}
+use Rattle.gen_report.specs.declared.scenario_text.ScenarioText.TheVariants as texts
+use Rattle.gen_report.specs.Fields.{line_of, said, edge_line, text_of}
+use Rattle.gen_report.specs.Scripts.{SpellsScripts}
+use Rattle.gen_report.specs.Told.{net_of, order_of}
 
--- what a text gives: a network's numbers, its edges in their order and direction, and the commander's order
+-- what a text gives first: a network's numbers, its edges in their order and direction, and the commander's order
 pub record Given : Type 0 where
   pub numbers : NetNumbers
   pub edges : List (ℕ × ℕ)
   pub order : ℕ
 
--- the fields of a line: a word and a number
-abbrev pub said : List ℕ → ℕ → List (List ℕ)
-said word n = word ∷ decimal n ∷ []
-
--- the fields of the line of an edge
-abbrev pub edge_line : ℕ × ℕ → List (List ℕ)
-edge_line e = codes "edge" ∷ decimal e.0 ∷ decimal e.1 ∷ []
-
--- the lines of a text, each by its fields
-abbrev pub lines_of : Given → List (List (List ℕ))
-lines_of g =
-    said (codes "generals") g.numbers.generals ∷ (map edge_line g.edges ++
-    (said (codes "traitors") g.numbers.traitors ∷ said (codes "diameter") g.numbers.diameter
-    ∷ said (codes "orders") g.numbers.orders ∷ said (codes "choice") g.numbers.choice
-    ∷ said (codes "order") g.order ∷ (codes "end" ∷ []) ∷ []))
-
--- Fields are parted by one space, and each line ends with a line feed.
-abbrev pub text_of : List (List (List ℕ)) → List ℕ
-text_of lines = flat_map (λ fs. join_with_byte 32 fs ++ 10 ∷ []) lines
+-- the lines of these, each by its fields
+abbrev pub given_lines : Given → List (List (List ℕ))
+given_lines g =
+    said (codes "generals") g.numbers.generals ∷ (map edge_line g.edges
+    ++ (said (codes "traitors") g.numbers.traitors ∷ said (codes "diameter") g.numbers.diameter
+    ∷ said (codes "orders") g.numbers.orders ∷ said (codes "choice") g.numbers.choice ∷ said (codes "order") g.order ∷ []))
 
 -- Each number is at most 255.
 pub record AreBytes (g : Given) : Type 0 where
@@ -42,16 +36,38 @@ pub record AreBytes (g : Given) : Type 0 where
   pub choice : g.numbers.choice < 256
   pub order : g.order < 256
 
--- The text spells the scenario: it gives numbers that make its network, and its order is one of the network's.
-pub record SpellsScenario (text : List ℕ) (said : Plain) : Type 0 where
+-- a slot has a line
+abbrev pub slot_lines : Version → List (List ℕ)
+slot_lines One = []
+slot_lines (Two slot) = line_of (said (codes "slot") slot) ∷ []
+
+-- The lines spell the seed, of 64 digits, the slot and the scripts of a lawful scenario.
+pub record SpellsSigned (lines : List (List ℕ)) (s : Scenario) : Type 0 where
+  pub digits : List ℕ
+  pub blocks : List (List ℕ)
+  pub lines_are : lines ≡ line_of (codes "seed" ∷ digits ∷ []) ∷ (slot_lines s.version ++ blocks)
+  pub width : length digits ≡ 64
+  pub seed : SpellsBytes digits s.master
+  pub scripts : SpellsScripts s.net blocks s.scripts
+  pub lawful : IsScenario s
+
+-- A plain scenario has no lines behind that of the order.
+abbrev pub SpellsKeys : List (List ℕ) → ScenarioText → Type 0
+SpellsKeys lines (texts.Plain plain) = lines ≡ []
+SpellsKeys lines (texts.Signed s) = SpellsSigned lines s
+
+-- The text spells this: it gives numbers that make its network, its order is one of the network's, and `end` is its last line.
+pub record SpellsScenario (text : List ℕ) (told : ScenarioText) : Type 0 where
   pub given : Given
-  pub text_is : text ≡ text_of (lines_of given)
+  pub keys : List (List ℕ)
+  pub text_is : text ≡ text_of (map line_of (given_lines given) ++ (keys ++ codes "end" ∷ []))
   pub bytes : AreBytes given
-  pub network : network_of given.numbers given.edges ≡ Ok said.net
-  pub order : given.order ≡ said.order
-  pub known : said.order < said.net.orders
+  pub network : network_of given.numbers given.edges ≡ Ok (net_of told)
+  pub order : given.order ≡ order_of told
+  pub known : order_of told < (net_of told).orders
+  pub keys_are : SpellsKeys keys told
 
 -- a text spells at most one scenario
 abbrev pub OneScenario : Type 0
 OneScenario =
-    (text : List ℕ) (said other : Plain) → SpellsScenario text said → SpellsScenario text other → said ≡ other
+    (text : List ℕ) (told other : ScenarioText) → SpellsScenario text told → SpellsScenario text other → told ≡ other

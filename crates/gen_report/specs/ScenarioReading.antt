@@ -1,35 +1,63 @@
 -- Which scenario a text is, line by line, or which fault is its first and in which line.
-use Rattle.std.specs.Prelude.{ℕ, ◌+◌, List, length, codes, Result, Ok, nat_lt, ◌==◌}
-use Rattle.std.specs.List.{join_with_byte}
-use Rattle.gen_types.specs.Reading.{◌>>=◌, check, map_fault}
-use Rattle.gen_net.specs.declared.fault.HeaderFault.{HeaderFault}
-use Rattle.gen_net.specs.Network.{Network}
-use Rattle.gen_net.specs.NetworkOf.{network_of}
-use Rattle.gen_world.specs.Scenario.{Plain}
-use Rattle.gen_report.specs.declared.fault.LineFault.TheVariants.{UnknownOrder, Extra}
-use Rattle.gen_report.specs.declared.fault.LineFault.TheVariants as faults
+use Rattle.std.specs.Prelude.{ℕ, List, [], ◌∷◌, codes, Option, Some, None, Result, Ok, Err, if◌then◌else◌}
+use Rattle.std.specs.Str.{bytes_eq}
+use Rattle.gen_types.specs.Reading.{◌>>=◌, check}
+use Rattle.gen_world.specs.Scenario.{Plain, Scenario, scripted}
+use Rattle.gen_report.specs.declared.fault.LineFault.TheVariants.{Shape, Unseeded, Extra}
 use Rattle.gen_report.specs.declared.fault.ScenarioFault.{ScenarioFault}
-use Rattle.gen_report.specs.Text.{parts}
-use Rattle.gen_report.specs.LineReading.{fault_at, numbered, word_alone}
-use Rattle.gen_report.specs.NumbersReading.{opening_at, settings_at, numbers_said}
+use Rattle.gen_report.specs.declared.scenario_text.ScenarioText.{ScenarioText}
+use Rattle.gen_report.specs.declared.scenario_text.ScenarioText.TheVariants as texts
+use Rattle.gen_report.specs.Place.{Cursor, start_of}
+use Rattle.gen_report.specs.LineReading.{fault_at}
+use Rattle.gen_report.specs.Cursor.{next_line, is_over}
+use Rattle.gen_report.specs.NumbersReading.{plain_at}
+use Rattle.gen_report.specs.KeysReading.{seed_at, slot_at, version_with}
+use Rattle.gen_report.specs.BlocksReading.{blocks_at, all_scripted}
 
--- A fault of the network is one of the line k.
-abbrev pub network_at : ℕ → Result Network HeaderFault → Result Network ScenarioFault
-network_at k made = map_fault (λ f. fault_at (faults.Network f) k) made
+-- Without a seed the line k must be `end`, and is no block of a script.
+unfoldable pub end_in : ℕ → List (List ℕ) → Result (Unit {0}) ScenarioFault
+end_in k (w ∷ []) = check (bytes_eq w (codes "end")) (fault_at Shape k)
+end_in k (w ∷ x ∷ []) = if bytes_eq w (codes "script") then Err (fault_at Unseeded k) else Err (fault_at Shape k)
+end_in k _ = Err (fault_at Shape k)
 
--- The line k is the last, and nothing follows it.
-unfoldable pub closing_at : ℕ → List (List ℕ) → Result (Unit {0}) ScenarioFault
-closing_at k ps = do
-  rest ← word_alone (codes "end") k ps
-  check (length (join_with_byte 10 rest) == 0) (fault_at Extra (k + 1))
+-- the place behind `end`
+unfoldable pub end_at : Cursor → Result Cursor ScenarioFault
+end_at c = do
+  l ← next_line c
+  ended ← end_in l.0.number l.0.fields
+  Ok l.1
+
+-- the scenario with this seed, and the place behind its scripts
+unfoldable pub signed_at : Plain → List ℕ → Cursor → Result (Scenario × Cursor) ScenarioFault
+signed_at plain master c = do
+  slot ← slot_at c
+  b ← blocks_at plain.net None slot.1.line slot.1.parts
+  signed ← all_scripted (scripted b.scripts) b.paths
+  Ok (
+    record {
+      version = version_with slot.0;
+      net = plain.net;
+      master = master;
+      order = plain.order;
+      scripts = b.scripts;
+    },
+    b.after,
+  )
+
+-- what the text says, whose seed is this or none, and the place behind it
+unfoldable pub told_at : Plain → Option (List ℕ) → Cursor → Result (ScenarioText × Cursor) ScenarioFault
+told_at plain None c = do
+  after ← end_at c
+  Ok (texts.Plain plain, after)
+told_at plain (Some master) c = do
+  s ← signed_at plain master c
+  Ok (texts.Signed s.0, s.1)
 
 -- the scenario of a text, or its first fault
-unfoldable pub scenario_of : List ℕ → Result Plain ScenarioFault
+unfoldable pub scenario_of : List ℕ → Result ScenarioText ScenarioFault
 scenario_of text = do
-  o ← opening_at (parts text)
-  s ← settings_at o.line o.after
-  net ← network_at (o.line + 3) (network_of (numbers_said o s) o.edges)
-  v ← numbered (codes "order") (o.line + 4) s.after
-  below ← check (nat_lt v.0 net.orders) (fault_at UnknownOrder (o.line + 4))
-  ended ← closing_at (o.line + 5) v.1
-  Ok (record { net = net; order = v.0 })
+  plain ← plain_at (start_of text)
+  seed ← seed_at plain.1
+  told ← told_at plain.0 seed.0 seed.1
+  over ← check (is_over told.1) (fault_at Extra told.1.line)
+  Ok told.0

@@ -9,3 +9,7 @@ parts text = slice_split (λ b. b == 10) text
 -- a byte that may not stand in a line
 abbrev pub is_foreign : ℕ → Bool
 is_foreign b = nat_lt b 32 || nat_lt 126 b
+
+-- the most bytes of a line, its line feed not counted
+abbrev pub longest_line : ℕ
+longest_line = 600000

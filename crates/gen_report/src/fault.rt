@@ -4,6 +4,7 @@ ghost use Rattle.gen_types.specs.declared.reading.ReadError.TheVariants.{Fault};
 ghost use Rattle.gen_report.specs.LineReading.{fault_at};
 
 use gen_net::HeaderFault;
+use gen_script::ScriptFault;
 use gen_types::ReadError;
 use thiserror::Error;
 
@@ -26,6 +27,19 @@ pub enum LineFault {
     /// The commander's order isn't below the number of orders.
     #[error("P5")]
     UnknownOrder,
+    /// The seed isn't 64 hexadecimal digits, of either case.
+    #[error("P6")]
+    BadSeed,
+    /// A script begins in a text without a seed.
+    #[error("P7")]
+    Unseeded,
+    /// The general of a script is none of the network's, or doesn't come after that of the script before.
+    #[error("P8")]
+    BadTraitor,
+    /// The line is none of the script in which it stands, for this reason. That a path has a general without
+    /// a script is told once the whole text was read.
+    #[error("P9 {0}")]
+    Script(ScriptFault),
     /// Bytes follow the last line.
     #[error("P10")]
     Extra,
@@ -35,6 +49,9 @@ pub enum LineFault {
     /// A byte of the line isn't printable ASCII, 32..126.
     #[error("P12")]
     Foreign,
+    /// The slot is above 3.
+    #[error("P13")]
+    SlotRange,
 }
 
 /// The first fault of a scenario text, and the number of its line, counted from 1.

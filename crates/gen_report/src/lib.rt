@@ -1,18 +1,30 @@
 //! Scenarios as texts that are read, and decisions as text that is printed.
 //!
 //! A scenario text has one line for each number of a network and for each of its edges, and a line for
-//! the commander's order. `read_scenario` says exactly which texts are scenarios, and of each other text
-//! which fault comes first and in which line.
+//! the commander's order. Where generals sign, it has the seed of their keys too, perhaps the slot of the
+//! run, and the scripts of the traitors. `read_scenario` says exactly which texts are scenarios, and of each
+//! other text which fault comes first and in which line.
 #![tactic(auto)]
 
+mod blocks;
+mod cursor;
 mod decisions;
 mod fault;
+mod items;
+mod keys;
 mod lines;
+mod numbers;
 mod scenario;
+mod scenario_text;
+mod signed_text;
 
 pub use decisions::print_decisions;
 pub use fault::{LineFault, ScenarioFault};
-pub use scenario::{ScenarioText, one_scenario, read_scenario};
+pub use scenario::{one_scenario, read_scenario};
+pub use scenario_text::ScenarioText;
+pub use signed_text::{ScenarioParts, SignedText};
 
+#[cfg(test)]
+mod signed_tests;
 #[cfg(test)]
 mod tests;

@@ -1,15 +1,14 @@
 //! Lines of a text, and what one line says.
-ghost use Rattle.std.specs.Prelude.{◌≡◌, ◌==◌, ◌<◌, ◌+◌, [], ◌∷◌, length, map, IfOk, MatchOption};
+ghost use Rattle.std.specs.Prelude.{◌≡◌, ◌==◌, ◌+◌, [], ◌∷◌, length, map, IfOk, MatchOption};
 ghost use Rattle.std.specs.List.{list_any, position};
 ghost use Rattle.gen_types.specs.Reading.{Gives};
 ghost use Rattle.gen_types.specs.Spelled.{IsRead};
 ghost use Rattle.gen_report.specs.Text.{parts, is_foreign};
-ghost use Rattle.gen_report.specs.LineReading.{line_at, number_in, number_behind, fields_at, numbered, word_alone};
+ghost use Rattle.gen_report.specs.LineReading.{line_at, number_in, number_behind};
 ghost use Rattle.gen_report.specs.EdgeReading.{edge_in};
 
 use crate::fault::{LineFault, ScenarioFault};
-use gen_types::{ReadError, decimal_number, split_fields};
-use std::alloc::Global;
+use gen_types::{ReadError, decimal_number};
 
 /// The most bytes of a line, its line feed not counted.
 const LONGEST_LINE: usize = 600_000;
@@ -44,7 +43,7 @@ fn has_foreign(line: &[u8]) -> bool
 }
 
 /// Returns the line at the front, and the text after it. A long line is refused before it is cut into fields.
-fn line_at(text: &[u8], line: usize) -> Result<(&[u8], &[u8]), ReadError<ScenarioFault>>
+pub fn line_at(text: &[u8], line: usize) -> Result<(&[u8], &[u8]), ReadError<ScenarioFault>>
     ensures exact { Gives (λ x. (x.0.now, parts x.1.now)) result (line_at line (parts text.now)) }
     ensures shorter { IfOk result (λ x. length text.now ≡ length x.0.now + (length x.1.now + 1)) }
 {
@@ -62,7 +61,7 @@ fn line_at(text: &[u8], line: usize) -> Result<(&[u8], &[u8]), ReadError<Scenari
 }
 
 /// Returns the number that the digits in the line spell.
-fn number_in(digits: &[u8], line: usize) -> Result<u8, ReadError<ScenarioFault>>
+pub fn number_in(digits: &[u8], line: usize) -> Result<u8, ReadError<ScenarioFault>>
     ensures { IsRead result (number_in line digits.now) }
 {
     match decimal_number(digits) {
@@ -92,42 +91,6 @@ pub fn number_behind(
     }
 }
 
-/// Returns the fields of the line at the front, and the text after it.
-pub fn fields_at<'a>(
-    alloc: Global,
-    text: &'a [u8],
-    line: usize,
-) -> Result<(Vec<&'a [u8]>, &'a [u8]), ReadError<ScenarioFault>>
-    ensures exact { Gives (λ x. (map (λ f. f.now) x.0.items, parts x.1.now)) result
-        (fields_at line (parts text.now)) }
-    ensures shorter { IfOk result (λ x. length x.1.now < length text.now) }
-{
-    let (bytes, rest) = line_at(text, line)?;
-    let fields = split_fields(alloc, bytes)?;
-    Ok((fields, rest))
-}
-
-/// Returns the number behind a word in the line at the front, and the text after it.
-#[tactic(auto, unfolding(crate::specs::LineReading::numbered))]
-pub fn numbered<'a>(
-    alloc: Global,
-    text: &'a [u8],
-    word: &[u8],
-    line: usize,
-) -> Result<(u8, &'a [u8]), ReadError<ScenarioFault>>
-    ensures exact { Gives (λ x. (x.0, parts x.1.now)) result
-        (numbered word.now line (parts text.now)) }
-    ensures shorter { IfOk result (λ x. length x.1.now + 1 < length text.now) }
-{
-    let (bytes, rest) = line_at(text, line)?;
-    if bytes.is_empty() {
-        return Err(LineFault::Shape.refused(line));
-    }
-    let fields = split_fields(alloc, bytes)?;
-    let number = number_behind(&fields, word, line)?;
-    Ok((number, rest))
-}
-
 /// Returns the edge that a line has, where it is a line of an edge.
 #[tactic(auto, unfolding(crate::specs::EdgeReading::edge_in))]
 pub fn edge_in(fields: &[&[u8]], line: usize) -> Result<Option<(u8, u8)>, ReadError<ScenarioFault>>
@@ -140,23 +103,5 @@ pub fn edge_in(fields: &[&[u8]], line: usize) -> Result<Option<(u8, u8)>, ReadEr
             Ok(Some((a, b)))
         }
         _ => Ok(None),
-    }
-}
-
-/// Returns the text after the line at the front, where that line is this word alone.
-#[tactic(auto, unfolding(crate::specs::LineReading::word_alone))]
-pub fn only_word<'a>(
-    alloc: Global,
-    text: &'a [u8],
-    word: &[u8],
-    line: usize,
-) -> Result<&'a [u8], ReadError<ScenarioFault>>
-    ensures exact { Gives (λ x. parts x.now) result (word_alone word.now line (parts text.now)) }
-    ensures shorter { IfOk result (λ x. length x.now < length text.now) }
-{
-    let (fields, rest) = fields_at(alloc, text, line)?;
-    match fields.as_slice() {
-        [first] if *first == word => Ok(rest),
-        _ => Err(LineFault::Shape.refused(line)),
     }
 }

@@ -1,223 +1,125 @@
 //! Scenarios as texts.
-ghost use Rattle.std.specs.Prelude.{◌≡◌, ◌<◌, ◌+◌, ◌^◌, length, map, IfOk, Ok};
-ghost use Rattle.gen_types.specs.Reading.{Gives};
+ghost use Rattle.std.specs.Prelude.{◌≡◌, ◌<◌, map, IfOk, Ok};
 ghost use Rattle.gen_types.specs.Spelled.{IsRead};
-ghost use Rattle.gen_net.specs.NetworkOf.{network_of};
-ghost use Rattle.gen_world.specs.Scenario.{Plain};
-ghost use Rattle.gen_report.specs.Text.{parts};
-ghost use Rattle.gen_report.specs.EdgeReading.{edge_lines_at};
-ghost use Rattle.gen_report.specs.NumbersReading.{opening_at, settings_at};
-ghost use Rattle.gen_report.specs.ScenarioReading.{network_at, closing_at, scenario_of};
+ghost use Rattle.gen_net.specs.Network.{IsNetwork};
+ghost use Rattle.gen_report.specs.Told.{net_of};
+ghost use Rattle.gen_report.specs.ScenarioReading.{end_in, end_at, signed_at, told_at, scenario_of};
 ghost use Rattle.gen_report.specs.Scenario.{OneScenario, SpellsScenario};
+ghost use Rattle.gen_report.specs.declared.scenario_text.ScenarioText.{ScenarioText as Told};
 
+use crate::blocks::{read_blocks, test_paths};
+use crate::cursor::Cursor;
 use crate::fault::{LineFault, ScenarioFault};
-use crate::lines::{edge_in, fields_at, number_behind, numbered, only_word};
-use gen_net::{Net, NetNumbers};
-use gen_types::{OrderNo, ReadError};
+use crate::keys::{read_seed, read_slot, version_with};
+use crate::numbers::read_plain;
+use crate::scenario_text::ScenarioText;
+use crate::signed_text::{ScenarioParts, SignedText};
+use gen_types::ReadError;
 use gen_world::PlainScenario;
 use std::alloc::Global;
 
-/// What a scenario text says.
-#[derive(Debug, Drop)]
-pub struct ScenarioText {
-    /// The network and the commander's order.
-    pub plain: PlainScenario,
-}
-
-/// The edges of some lines, the fields and the number of the first line that has none, and the text after it.
-#[derive(Drop)]
-struct EdgeLines<'a> {
-    found: Vec<(u8, u8)>,
-    next: Vec<&'a [u8]>,
-    line: usize,
-    after: &'a [u8],
-}
-
-/// Returns the edges of the lines from `first` on, up to the first line that is none of an edge, and the fields
-/// and the number of that line.
-fn edge_lines<'a>(
-    alloc: Global,
-    text: &'a [u8],
-    first: usize,
-) -> Result<EdgeLines<'a>, ReadError<ScenarioFault>>
-    requires { first + length text.now < 2 ^ 64 }
-    ensures exact { Gives (λ e. record {
-      found = e.found.items;
-      next = map (λ f. f.now) e.next.items;
-      line = e.line;
-      after = parts e.after.now;
-    }) result (edge_lines_at first (parts text.now)) }
-    ensures room { IfOk result (λ e. e.line + 1 + length e.after.now < 2 ^ 64) }
+/// Passes where the line is the last of a text without a seed.
+#[tactic(auto, unfolding(crate::specs::ScenarioReading::end_in))]
+fn end_in(fields: &[&[u8]], line: usize) -> Result<(), ReadError<ScenarioFault>>
+    ensures { IsRead result (end_in line (map (λ f. f.now) fields.now)) }
 {
-    let mut found = Vec::new(alloc);
-    let mut line = first;
-    let mut rest = text;
-    'lines: loop {
-        let (fields, after) = fields_at(alloc, rest, line)?;
-        match edge_in(&fields, line)? {
-            None => {
-                return Ok(EdgeLines {
-                    found,
-                    next: fields,
-                    line,
-                    after,
-                });
-            }
-            Some(edge) => found.push(edge)?,
+    match fields {
+        [word] if *word == b"end".as_slice() => Ok(()),
+        [word, _] if *word == b"script".as_slice() => Err(LineFault::Unseeded.refused(line)),
+        _ => Err(LineFault::Shape.refused(line)),
+    }
+}
+
+/// Returns the place behind the last line of a text without a seed, which begins here.
+#[tactic(auto, unfolding(crate::specs::ScenarioReading::end_at))]
+fn read_end<'a>(alloc: Global, start: &Cursor<'a>) -> Result<Cursor<'a>, ReadError<ScenarioFault>>
+    ensures { IsRead result (end_at start.now) }
+{
+    let (line, after) = start.next_line(alloc)?;
+    end_in(&line.fields, line.number)?;
+    Ok(after)
+}
+
+/// Returns the scenario with this seed, and the place behind its scripts.
+#[tactic(auto, unfolding(crate::specs::ScenarioReading::signed_at))]
+fn read_signed<'a>(
+    alloc: Global,
+    plain: PlainScenario,
+    master: [u8; 32],
+    start: Cursor<'a>,
+) -> Result<(SignedText, Cursor<'a>), ReadError<ScenarioFault>>
+    ensures { IsRead result (signed_at plain master start.entry) }
+{
+    let (slot, rest) = read_slot(alloc, start)?;
+    let blocks = read_blocks(alloc, plain.net(), rest)?;
+    test_paths(&blocks.scripts, &blocks.paths)?;
+    // That the scenario is lawful needs what each network keeps, which a read of it tells.
+    let _generals = plain.net().generals();
+    let (net, order) = plain.into_parts();
+    let signed = SignedText::new(ScenarioParts {
+        version: version_with(slot),
+        net,
+        master,
+        order,
+        scripts: blocks.scripts,
+    });
+    Ok((signed, blocks.after))
+}
+
+/// Returns what the text says, whose seed is this or none, and the place behind it.
+#[tactic(auto, unfolding(crate::specs::ScenarioReading::told_at))]
+fn read_told<'a>(
+    alloc: Global,
+    plain: PlainScenario,
+    seed: Option<[u8; 32]>,
+    start: Cursor<'a>,
+) -> Result<(ScenarioText, Cursor<'a>), ReadError<ScenarioFault>>
+    ensures { IsRead result (told_at plain seed start.entry) }
+{
+    match seed {
+        None => {
+            let after = read_end(alloc, &start)?;
+            Ok((ScenarioText::Plain(plain), after))
         }
-        line += 1;
-        rest = after;
+        Some(master) => {
+            let (signed, after) = read_signed(alloc, plain, master, start)?;
+            Ok((ScenarioText::Signed(signed), after))
+        }
     }
-}
-
-/// What the lines up to that of the traitors say, the number of that line, and the text after it.
-#[derive(Drop)]
-struct Opening<'a> {
-    generals: u8,
-    edges: Vec<(u8, u8)>,
-    traitors: u8,
-    line: usize,
-    after: &'a [u8],
-}
-
-/// Reads the lines up to that of the traitors.
-#[tactic(auto, unfolding(crate::specs::NumbersReading::opening_at))]
-fn read_opening<'a>(alloc: Global, text: &'a [u8]) -> Result<Opening<'a>, ReadError<ScenarioFault>>
-    ensures exact { Gives (λ o. record {
-      generals = o.generals;
-      edges = o.edges.items;
-      traitors = o.traitors;
-      line = o.line;
-      after = parts o.after.now;
-    }) result (opening_at (parts text.now)) }
-    ensures room { IfOk result (λ o. o.line + 1 + length o.after.now < 2 ^ 64) }
-{
-    let (generals, rest) = numbered(alloc, text, b"generals", 1)?;
-    let edges = edge_lines(alloc, rest, 2)?;
-    let traitors = number_behind(&edges.next, b"traitors", edges.line)?;
-    Ok(Opening {
-        generals,
-        edges: edges.found,
-        traitors,
-        line: edges.line,
-        after: edges.after,
-    })
-}
-
-/// What the three lines after that of the traitors say, and the text after them.
-#[derive(Clone, Copy)]
-struct Settings<'a> {
-    diameter: u8,
-    orders: u8,
-    choice: u8,
-    after: &'a [u8],
-}
-
-/// Reads the three lines after that of the traitors, whose number is `line`.
-#[tactic(auto, unfolding(crate::specs::NumbersReading::settings_at))]
-fn read_settings<'a>(
-    alloc: Global,
-    text: &'a [u8],
-    line: usize,
-) -> Result<Settings<'a>, ReadError<ScenarioFault>>
-    requires { line + 1 + length text.now < 2 ^ 64 }
-    ensures exact { Gives (λ s. record {
-      diameter = s.diameter;
-      orders = s.orders;
-      choice = s.choice;
-      after = parts s.after.now;
-    }) result (settings_at line (parts text.now)) }
-    ensures room { IfOk result (λ s. line + 4 + length s.after.now < 2 ^ 64) }
-{
-    let (diameter, rest) = numbered(alloc, text, b"diameter", line + 1)?;
-    let (orders, rest) = numbered(alloc, rest, b"orders", line + 2)?;
-    let (choice, after) = numbered(alloc, rest, b"choice", line + 3)?;
-    Ok(Settings {
-        diameter,
-        orders,
-        choice,
-        after,
-    })
-}
-
-/// Returns the network of these numbers and edges; a fault of theirs is one of this line.
-fn make_network(
-    alloc: Global,
-    numbers: NetNumbers,
-    edges: &[(u8, u8)],
-    line: usize,
-) -> Result<Net, ReadError<ScenarioFault>>
-    ensures { IsRead result (network_at line (network_of numbers edges.now)) }
-{
-    let made = Net::new(
-        alloc,
-        numbers.generals,
-        edges,
-        numbers.traitors,
-        numbers.diameter,
-        numbers.orders,
-        numbers.choice,
-    );
-    match made {
-        Ok(net) => Ok(net),
-        Err(ReadError::Memory) => Err(ReadError::Memory),
-        Err(ReadError::Fault(fault)) => Err(LineFault::Network(fault).refused(line)),
-    }
-}
-
-/// Passes where the line is `end` and nothing follows it.
-#[tactic(auto, using(crate::proofs::Cuts::joined), unfolding(crate::specs::ScenarioReading::closing_at))]
-fn closing(alloc: Global, text: &[u8], line: usize) -> Result<(), ReadError<ScenarioFault>>
-    requires { line + length text.now < 2 ^ 64 }
-    ensures { IsRead result (closing_at line (parts text.now)) }
-{
-    let rest = only_word(alloc, text, b"end", line)?;
-    if !rest.is_empty() {
-        return Err(LineFault::Extra.refused(line + 1));
-    }
-    Ok(())
 }
 
 /// Reads the text line by line.
 #[tactic(auto, unfolding(crate::specs::ScenarioReading::scenario_of))]
 fn whole(alloc: Global, text: &[u8]) -> Result<ScenarioText, ReadError<ScenarioFault>>
-    ensures { Gives (λ s. s.plain) result (scenario_of text.now) }
+    ensures exact { IsRead result (scenario_of text.now) }
+    ensures network { IfOk result (λ told. IsNetwork (net_of told)) }
 {
-    let opening = read_opening(alloc, text)?;
-    let line = opening.line;
-    let settings = read_settings(alloc, opening.after, line)?;
-    let numbers = NetNumbers {
-        generals: opening.generals,
-        traitors: opening.traitors,
-        diameter: settings.diameter,
-        orders: settings.orders,
-        choice: settings.choice,
-    };
-    let net = make_network(alloc, numbers, &opening.edges, line + 3)?;
-    let (order, rest) = numbered(alloc, settings.after, b"order", line + 4)?;
-    if order >= net.orders() {
-        return Err(LineFault::UnknownOrder.refused(line + 4));
+    let (plain, rest) = read_plain(alloc, text)?;
+    let (seed, rest) = read_seed(alloc, rest)?;
+    let (told, rest) = read_told(alloc, plain, seed, rest)?;
+    if !rest.is_over() {
+        return Err(LineFault::Extra.refused(rest.line()));
     }
-    closing(alloc, rest, line + 5)?;
-    let plain = PlainScenario::new(net, OrderNo::at(order));
-    Ok(ScenarioText { plain })
+    // The laws of spellings need what each network keeps, which a read of it tells.
+    let _generals = told.net().generals();
+    Ok(told)
 }
 
 /// Returns the scenario that a text spells.
 ///
 /// # Errors
 ///
-/// The text's first fault and its line. Of one line the fault is the first of: a foreign byte, more than 600,000 bytes, no line feed before the
-/// text ends, another shape, then the others from left to right. Memory where memory was refused before
-/// a fault was met. Lines of seeds and scripts are not read, and are lines of another shape.
+/// The text's first fault and its line. Of one line the fault is the first of: a foreign byte, more than
+/// 600,000 bytes, no line feed before the text ends, another shape, a script without a seed, then the others
+/// from left to right. That a path names a general without a script is told after the line `end` was read,
+/// of the first such line. Memory where memory was refused before a fault was met.
 pub fn read_scenario(alloc: Global, text: &[u8]) -> Result<ScenarioText, ReadError<ScenarioFault>>
     // What is read is spelled so.
-    ensures found { IfOk result (λ s. SpellsScenario text.now s.plain) }
+    ensures found { IfOk result (SpellsScenario text.now) }
     // What is spelled so is read, unless memory runs out.
-    ensures only { (said : Plain) → SpellsScenario text.now said
-        → Gives (λ s. s.plain) result (Ok said) }
+    ensures only { (told : Told) → SpellsScenario text.now told → IsRead result (Ok told) }
     // Which fault is the first, and of which line.
-    ensures exact { Gives (λ s. s.plain) result (scenario_of text.now) }
+    ensures exact { IsRead result (scenario_of text.now) }
 {
     whole(alloc, text)
 }

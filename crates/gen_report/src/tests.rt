@@ -1,5 +1,6 @@
 use super::*;
 use gen_net::HeaderFault;
+use gen_script::ScriptFault;
 use gen_types::{GeneralNo, OrderNo, OrderSet, ReadError};
 use gen_world::Decision;
 use std::alloc::{AllocError, Global};
@@ -20,9 +21,9 @@ fn reads_a_whole_text(rt: HostRuntime) {
     one_scenario();
     let read = read_scenario(rt.alloc(), WHOLE);
     assert!(rt;
-        matches!(&read, Ok(said) if said.plain.net().generals() == 3
-            && said.plain.net().edges().len() == 2
-            && said.plain.order().get() == 2)
+        matches!(&read, Ok(ScenarioText::Plain(plain)) if plain.net().generals() == 3
+            && plain.net().edges().len() == 2
+            && plain.order().get() == 2)
     );
 }
 
@@ -53,7 +54,7 @@ fn names_the_first_fault(rt: HostRuntime) {
             6,
         ),
         (
-            b"generals 2\ntraitors 0\ndiameter 1\norders 2\nchoice 0\norder 1\nscript 0\n",
+            b"generals 2\ntraitors 0\ndiameter 1\norders 2\nchoice 0\norder 1\nslot 0\n",
             LineFault::Shape,
             7,
         ),
@@ -135,9 +136,9 @@ fn reads_the_largest(rt: HostRuntime) -> Result<(), Fail> {
     let text = largest(rt.alloc())?;
     let read = read_scenario(rt.alloc(), text.as_bytes());
     assert!(rt;
-        matches!(&read, Ok(said) if said.plain.net().edges().len() == 120
-            && said.plain.net().rounds() == 16
-            && said.plain.order().get() == 14)
+        matches!(&read, Ok(told) if told.net().edges().len() == 120
+            && told.net().rounds() == 16
+            && told.order().get() == 14)
     );
     Ok(())
 }
@@ -196,9 +197,17 @@ fn shows_faults(rt: HostRuntime) -> Result<(), Fail> {
             "fault P4 H5 line 7",
         ),
         (LineFault::UnknownOrder, "fault P5 line 7"),
+        (LineFault::BadSeed, "fault P6 line 7"),
+        (LineFault::Unseeded, "fault P7 line 7"),
+        (LineFault::BadTraitor, "fault P8 line 7"),
+        (
+            LineFault::Script(ScriptFault::BadRound),
+            "fault P9 S3 line 7",
+        ),
         (LineFault::Extra, "fault P10 line 7"),
         (LineFault::TooLong, "fault P11 line 7"),
         (LineFault::Foreign, "fault P12 line 7"),
+        (LineFault::SlotRange, "fault P13 line 7"),
     ];
     for (kind, want) in cases {
         let shown = ScenarioFault { kind, line: 7 }.to_string(rt.alloc())?;

@@ -1,7 +1,7 @@
 use Rattle.std.proofs.Common.{sym, ◌∙◌}
 use Rattle.gen_types.proofs.Steps.{ok_is}
 use Rattle.gen_report.specs.declared.fault.ScenarioFault.{ScenarioFault}
-use Rattle.gen_report.proofs.Again.{scenario_again}
+use Rattle.gen_report.proofs.AgainScenario.{scenario_again}
 use Rattle.gen_report.proofs.scenario.one_scenario.Goals as goal
 
 pub returns : goal.returns

@@ -5,7 +5,7 @@ use Rattle.gen_types.specs.Reading.{Fails}
 use Rattle.gen_net.specs.declared.fault.HeaderFault.{HeaderFault}
 use Rattle.gen_net.specs.Network.{Network}
 use Rattle.gen_net.specs.NetworkOf.{network_of}
-use Rattle.gen_report.proofs.scenario.make_network.Goals as goal
+use Rattle.gen_report.proofs.numbers.make_network.Goals as goal
 
 told : (e : ReadError HeaderFault) (f : HeaderFault) (made : Result Network HeaderFault) → e ≡ errors.Fault f → Fails e made → made ≡ Err f
 told errors.Memory f made p h = absurd cc

@@ -1,0 +1,133 @@
+//! Places in a text: what is still to be read, and the number of its first line.
+ghost use Rattle.std.specs.Prelude.{◌≡◌, ◌<◌, length, map, IfOk};
+ghost use Rattle.gen_types.specs.Reading.{Gives};
+ghost use Rattle.gen_types.specs.Spelled.{IsRead};
+ghost use Rattle.gen_report.specs.Place.{start_of};
+ghost use Rattle.gen_report.specs.Cursor.{next_line, numbered, is_over};
+
+use crate::fault::ScenarioFault;
+use crate::lines::{line_at, number_behind};
+use gen_types::{ReadError, split_fields};
+use std::alloc::Global;
+use std::marker::Model;
+
+/// A line of a text.
+#[derive(Drop)]
+pub struct Line<'a> {
+    /// Its number, from 1.
+    pub number: usize,
+    /// Its bytes, without the line feed.
+    pub bytes: &'a [u8],
+    /// Its fields.
+    pub fields: Vec<&'a [u8]>,
+}
+
+/// A number in a line, and the line's number, from 1.
+#[derive(Clone, Copy, Debug)]
+pub struct Numbered {
+    /// The line's number.
+    pub line: usize,
+    /// The number in it.
+    pub value: u8,
+}
+
+/// A place behind the first line of a text. A contract sees the number of the line that begins there, and
+/// what stands between the line feeds from there on. That number always fits, since each line before has a
+/// line feed and the first line has more.
+#[derive(Drop)]
+pub struct Cursor<'a> {
+    rest: &'a [u8],
+    line: usize,
+}
+
+impl<'a> Model for Cursor<'a> {
+    ghost use Rattle.std.specs.Prelude.{◌<◌, ◌+◌, ◌^◌, length};
+    ghost use Rattle.gen_report.specs.Text.{parts};
+    ghost use Rattle.gen_report.specs.Place.{Cursor};
+
+    ghost Value = { Cursor };
+
+    ghost view = { λ c. record { line = c.line; parts = parts c.rest.now } };
+
+    ghost invariant = { λ c. c.line + length c.rest.now < 2 ^ 64 };
+}
+
+impl<'a> Cursor<'a> {
+    /// Returns the number behind a word in the first line of a text, and the place after it.
+    #[tactic(auto, unfolding(crate::specs::Cursor::numbered, crate::specs::Cursor::next_line))]
+    pub fn behind_first(
+        alloc: Global,
+        text: &'a [u8],
+        word: &[u8],
+    ) -> Result<(Numbered, Cursor<'a>), ReadError<ScenarioFault>>
+        ensures { IsRead result (numbered word.now (start_of text.now)) }
+    {
+        let (bytes, rest) = line_at(text, 1)?;
+        let fields = split_fields(alloc, bytes)?;
+        let value = number_behind(&fields, word, 1)?;
+        Ok((Numbered { line: 1, value }, Cursor { rest, line: 2 }))
+    }
+
+    /// Returns the line that begins here, and the place after it.
+    #[tactic(auto, unfolding(crate::specs::Cursor::next_line))]
+    pub fn next_line(
+        &self,
+        alloc: Global,
+    ) -> Result<(Line<'a>, Cursor<'a>), ReadError<ScenarioFault>>
+        ensures exact { Gives (λ x. (
+          record {
+            number = x.0.number;
+            bytes = x.0.bytes.now;
+            fields = map (λ f. f.now) x.0.fields.items;
+          },
+          x.1,
+        )) result (next_line self.now) }
+        ensures shorter { IfOk result (λ x. length x.1.parts < length self.now.parts) }
+    {
+        let (bytes, rest) = line_at(self.rest, self.line)?;
+        let fields = split_fields(alloc, bytes)?;
+        let line = Line {
+            number: self.line,
+            bytes,
+            fields,
+        };
+        let after = Cursor {
+            rest,
+            line: self.line + 1,
+        };
+        Ok((line, after))
+    }
+
+    /// Returns the number behind a word in the line that begins here, and the place after it.
+    #[tactic(auto, unfolding(crate::specs::Cursor::numbered))]
+    pub fn numbered(
+        &self,
+        alloc: Global,
+        word: &[u8],
+    ) -> Result<(Numbered, Cursor<'a>), ReadError<ScenarioFault>>
+        ensures { IsRead result (numbered word.now self.now) }
+    {
+        let (line, after) = self.next_line(alloc)?;
+        let value = number_behind(&line.fields, word, line.number)?;
+        let numbered = Numbered {
+            line: line.number,
+            value,
+        };
+        Ok((numbered, after))
+    }
+
+    /// Returns the number of the line that begins here.
+    pub fn line(&self) -> usize
+        ensures { result ≡ self.now.line }
+    {
+        self.line
+    }
+
+    /// Returns whether nothing is left to be read.
+    #[tactic(auto, using(crate::proofs::Cuts::joined))]
+    pub fn is_over(&self) -> bool
+        ensures { result ≡ is_over self.now }
+    {
+        self.rest.is_empty()
+    }
+}

@@ -1,0 +1,86 @@
+//! The lines behind that of the order that may be absent: the seed of all keys, and the slot of the run.
+ghost use Rattle.std.specs.Prelude.{◌≡◌, map, IfOk};
+ghost use Rattle.gen_types.specs.Reading.{Gives};
+ghost use Rattle.gen_types.specs.Spelled.{IsRead};
+ghost use Rattle.gen_report.specs.KeysReading.{seed_in, slot_in, seed_at, slot_at, version_with};
+
+use crate::cursor::Cursor;
+use crate::fault::{LineFault, ScenarioFault};
+use crate::lines::number_in;
+use gen_net::{GREATEST_SLOT, Version};
+use gen_types::ReadError;
+use hex::FromHex;
+use std::alloc::Global;
+
+/// Returns the seed of the line, where it is a line of a seed.
+#[tactic(auto, unfolding(crate::specs::KeysReading::seed_in))]
+fn seed_in(fields: &[&[u8]], line: usize) -> Result<Option<[u8; 32]>, ReadError<ScenarioFault>>
+    ensures { IsRead result (seed_in line (map (λ f. f.now) fields.now)) }
+{
+    match fields {
+        [word, digits] if *word == b"seed".as_slice() => {
+            match <[u8; 32] as FromHex>::from_hex(*digits) {
+                Ok(seed) => Ok(Some(seed)),
+                Err(_) => Err(LineFault::BadSeed.refused(line)),
+            }
+        }
+        _ => Ok(None),
+    }
+}
+
+/// Returns the slot of the line, where it is a line of a slot.
+#[tactic(auto, unfolding(crate::specs::KeysReading::slot_in))]
+fn slot_in(fields: &[&[u8]], line: usize) -> Result<Option<u8>, ReadError<ScenarioFault>>
+    ensures { IsRead result (slot_in line (map (λ f. f.now) fields.now)) }
+{
+    match fields {
+        [word, digits] if *word == b"slot".as_slice() => {
+            let slot = number_in(digits, line)?;
+            if slot > GREATEST_SLOT {
+                return Err(LineFault::SlotRange.refused(line));
+            }
+            Ok(Some(slot))
+        }
+        _ => Ok(None),
+    }
+}
+
+/// Returns the seed, if its line begins here, and the place behind it.
+#[tactic(auto, unfolding(crate::specs::KeysReading::seed_at))]
+pub fn read_seed<'a>(
+    alloc: Global,
+    start: Cursor<'a>,
+) -> Result<(Option<[u8; 32]>, Cursor<'a>), ReadError<ScenarioFault>>
+    ensures { IsRead result (seed_at start.entry) }
+{
+    let (line, after) = start.next_line(alloc)?;
+    match seed_in(&line.fields, line.number)? {
+        None => Ok((None, start)),
+        Some(seed) => Ok((Some(seed), after)),
+    }
+}
+
+/// Returns the slot, if its line begins here, and the place behind it.
+#[tactic(auto, unfolding(crate::specs::KeysReading::slot_at))]
+pub fn read_slot<'a>(
+    alloc: Global,
+    start: Cursor<'a>,
+) -> Result<(Option<u8>, Cursor<'a>), ReadError<ScenarioFault>>
+    ensures { IsRead result (slot_at start.entry) }
+{
+    let (line, after) = start.next_line(alloc)?;
+    match slot_in(&line.fields, line.number)? {
+        None => Ok((None, start)),
+        Some(slot) => Ok((Some(slot), after)),
+    }
+}
+
+/// Returns the version of a text with this slot or none.
+pub fn version_with(slot: Option<u8>) -> Version
+    ensures { result ≡ version_with slot }
+{
+    match slot {
+        None => Version::One,
+        Some(slot) => Version::Two { slot },
+    }
+}

@@ -1,0 +1,187 @@
+//! The first lines of a text: the numbers and edges of a network, and the commander's order.
+ghost use Rattle.std.specs.Prelude.{◌≡◌, ◌<◌, length, map, IfOk};
+ghost use Rattle.gen_types.specs.Reading.{Gives};
+ghost use Rattle.gen_types.specs.Spelled.{IsRead};
+ghost use Rattle.gen_net.specs.NetworkOf.{network_of};
+ghost use Rattle.gen_report.specs.Place.{start_of};
+ghost use Rattle.gen_report.specs.EdgeReading.{edge_lines_at};
+ghost use Rattle.gen_report.specs.NumbersReading.{opening_at, settings_at, network_at, order_at, plain_at};
+
+use crate::cursor::{Cursor, Line};
+use crate::fault::{LineFault, ScenarioFault};
+use crate::lines::{edge_in, number_behind};
+use gen_net::{Net, NetNumbers};
+use gen_types::{OrderNo, ReadError};
+use gen_world::PlainScenario;
+use std::alloc::Global;
+
+/// The edges of some lines, the first line that has none, and the place after it.
+#[derive(Drop)]
+struct EdgeLines<'a> {
+    found: Vec<(u8, u8)>,
+    next: Line<'a>,
+    after: Cursor<'a>,
+}
+
+/// Returns the edges of the lines from here on, up to the first line that is none of an edge, and that line.
+fn edge_lines<'a>(
+    alloc: Global,
+    start: Cursor<'a>,
+) -> Result<EdgeLines<'a>, ReadError<ScenarioFault>>
+    ensures { Gives (λ e. record {
+      found = e.found.items;
+      next = record {
+        number = e.next.number;
+        bytes = e.next.bytes.now;
+        fields = map (λ f. f.now) e.next.fields.items;
+      };
+      after = e.after;
+    }) result (edge_lines_at start.entry.line start.entry.parts) }
+{
+    let mut found = Vec::new(alloc);
+    let mut place = start;
+    'lines: loop {
+        let (line, after) = place.next_line(alloc)?;
+        match edge_in(&line.fields, line.number)? {
+            None => {
+                return Ok(EdgeLines {
+                    found,
+                    next: line,
+                    after,
+                });
+            }
+            Some(edge) => found.push(edge)?,
+        }
+        place = after;
+    }
+}
+
+/// What the lines up to that of the traitors say, and the place after them.
+#[derive(Drop)]
+struct Opening<'a> {
+    generals: u8,
+    edges: Vec<(u8, u8)>,
+    traitors: u8,
+    after: Cursor<'a>,
+}
+
+/// Reads the lines up to that of the traitors.
+#[tactic(auto, unfolding(crate::specs::NumbersReading::opening_at))]
+fn read_opening(alloc: Global, text: &[u8]) -> Result<Opening<'_>, ReadError<ScenarioFault>>
+    ensures { Gives (λ o. record {
+      generals = o.generals;
+      edges = o.edges.items;
+      traitors = o.traitors;
+      after = o.after;
+    }) result (opening_at (start_of text.now)) }
+{
+    let (generals, rest) = Cursor::behind_first(alloc, text, b"generals")?;
+    let edges = edge_lines(alloc, rest)?;
+    let next = &edges.next;
+    let traitors = number_behind(&next.fields, b"traitors", next.number)?;
+    Ok(Opening {
+        generals: generals.value,
+        edges: edges.found,
+        traitors,
+        after: edges.after,
+    })
+}
+
+/// What the three lines after that of the traitors say, the number of the last of them, and the place
+/// after them.
+#[derive(Drop)]
+struct Settings<'a> {
+    diameter: u8,
+    orders: u8,
+    choice: u8,
+    line: usize,
+    after: Cursor<'a>,
+}
+
+/// Reads the three lines after that of the traitors.
+#[tactic(auto, unfolding(crate::specs::NumbersReading::settings_at))]
+fn read_settings<'a>(
+    alloc: Global,
+    start: &Cursor<'a>,
+) -> Result<Settings<'a>, ReadError<ScenarioFault>>
+    ensures { Gives (λ s. record {
+      diameter = s.diameter;
+      orders = s.orders;
+      choice = s.choice;
+      line = s.line;
+      after = s.after;
+    }) result (settings_at start.now) }
+{
+    let (diameter, rest) = start.numbered(alloc, b"diameter")?;
+    let (orders, rest) = rest.numbered(alloc, b"orders")?;
+    let (choice, after) = rest.numbered(alloc, b"choice")?;
+    Ok(Settings {
+        diameter: diameter.value,
+        orders: orders.value,
+        choice: choice.value,
+        line: choice.line,
+        after,
+    })
+}
+
+/// Returns the network of these numbers and edges; a fault of theirs is one of this line.
+fn make_network(
+    alloc: Global,
+    numbers: NetNumbers,
+    edges: &[(u8, u8)],
+    line: usize,
+) -> Result<Net, ReadError<ScenarioFault>>
+    ensures { IsRead result (network_at line (network_of numbers edges.now)) }
+{
+    let made = Net::new(
+        alloc,
+        numbers.generals,
+        edges,
+        numbers.traitors,
+        numbers.diameter,
+        numbers.orders,
+        numbers.choice,
+    );
+    match made {
+        Ok(net) => Ok(net),
+        Err(ReadError::Memory) => Err(ReadError::Memory),
+        Err(ReadError::Fault(fault)) => Err(LineFault::Network(fault).refused(line)),
+    }
+}
+
+/// Returns the scenario on this network with the order of the line that begins here, and the place after it.
+#[tactic(auto, unfolding(crate::specs::NumbersReading::order_at))]
+fn read_order<'a>(
+    alloc: Global,
+    net: Net,
+    start: &Cursor<'a>,
+) -> Result<(PlainScenario, Cursor<'a>), ReadError<ScenarioFault>>
+    ensures { IsRead result (order_at net start.now) }
+{
+    let (order, after) = start.numbered(alloc, b"order")?;
+    if order.value >= net.orders() {
+        return Err(LineFault::UnknownOrder.refused(order.line));
+    }
+    Ok((PlainScenario::new(net, OrderNo::at(order.value)), after))
+}
+
+/// Returns the network and the order of a text, and the place after their lines.
+#[tactic(auto, unfolding(crate::specs::NumbersReading::plain_at))]
+pub fn read_plain(
+    alloc: Global,
+    text: &[u8],
+) -> Result<(PlainScenario, Cursor<'_>), ReadError<ScenarioFault>>
+    ensures { IsRead result (plain_at (start_of text.now)) }
+{
+    let opening = read_opening(alloc, text)?;
+    let settings = read_settings(alloc, &opening.after)?;
+    let numbers = NetNumbers {
+        generals: opening.generals,
+        traitors: opening.traitors,
+        diameter: settings.diameter,
+        orders: settings.orders,
+        choice: settings.choice,
+    };
+    let net = make_network(alloc, numbers, &opening.edges, settings.line)?;
+    read_order(alloc, net, &settings.after)
+}

@@ -1,0 +1,146 @@
+//! Scenarios with signatures, as texts say them.
+ghost use Rattle.std.specs.Prelude.{◌≡◌};
+ghost use Rattle.gen_world.specs.Scenario.{IsScenario};
+
+use gen_net::{Net, Version};
+use gen_script::Script;
+use gen_types::OrderNo;
+use std::marker::Model;
+
+/// A scenario in which generals sign: a network, the commander's order, the version with the slot of the
+/// run, the master seed from which all keys come, and the scripts of the traitors. It is lawful: a scenario
+/// can be made of it without a fault. No keys are made yet.
+///
+/// A contract sees the scenario that it says.
+#[derive(Debug, Drop)]
+pub struct SignedText {
+    version: Version,
+    net: Net,
+    master: [u8; 32],
+    order: OrderNo,
+    scripts: Vec<Script>,
+}
+
+/// The parts of a scenario in which generals sign.
+#[derive(Debug, Drop)]
+pub struct ScenarioParts {
+    /// The version, with the slot of the run where it has one.
+    pub version: Version,
+    /// The network.
+    pub net: Net,
+    /// The master seed from which all keys come.
+    pub master: [u8; 32],
+    /// The commander's order.
+    pub order: OrderNo,
+    /// The scripts of the traitors, ascending.
+    pub scripts: Vec<Script>,
+}
+
+impl Model for SignedText {
+    ghost use Rattle.gen_world.specs.Scenario.{Scenario, IsScenario};
+
+    ghost Value = { Scenario };
+
+    ghost view = { λ s. record {
+      version = s.version;
+      net = s.net;
+      master = s.master;
+      order = s.order;
+      scripts = s.scripts.items;
+    } };
+
+    ghost invariant = { λ s. IsScenario (record {
+      version = s.version;
+      net = s.net;
+      master = s.master;
+      order = s.order;
+      scripts = s.scripts.items;
+    }) };
+}
+
+impl SignedText {
+    /// Returns the scenario of these parts, which must be lawful.
+    pub(crate) fn new(parts: ScenarioParts) -> SignedText
+        requires { IsScenario (record {
+          version = parts.version;
+          net = parts.net;
+          master = parts.master;
+          order = parts.order;
+          scripts = parts.scripts.items;
+        }) }
+        ensures { result ≡ record {
+          version = parts.version;
+          net = parts.net;
+          master = parts.master;
+          order = parts.order;
+          scripts = parts.scripts.items;
+        } }
+    {
+        let master = parts.master;
+        SignedText {
+            version: parts.version,
+            net: parts.net,
+            master,
+            order: parts.order,
+            scripts: parts.scripts,
+        }
+    }
+
+    /// Returns the network.
+    pub fn net(&self) -> &Net
+        ensures { result.now ≡ self.now.net }
+    {
+        &self.net
+    }
+
+    /// Returns the commander's order.
+    pub fn order(&self) -> OrderNo
+        ensures { result ≡ self.now.order }
+    {
+        self.order
+    }
+
+    /// Returns the version, with the slot of the run where it has one: version 2 exactly where the text has
+    /// a slot.
+    pub fn version(&self) -> Version
+        ensures { result ≡ self.now.version }
+    {
+        self.version
+    }
+
+    /// Returns the master seed from which all keys come.
+    pub fn master(&self) -> &[u8; 32]
+        ensures { result.now ≡ self.now.master }
+    {
+        &self.master
+    }
+
+    /// Returns the scripts of the traitors, ascending.
+    pub fn scripts(&self) -> &[Script]
+        ensures value { result.now ≡ self.now.scripts }
+        ensures lawful { IsScenario self.now }
+    {
+        self.scripts.as_slice()
+    }
+
+    /// Returns the parts, of which a scenario can be made without a fault.
+    pub fn into_parts(self) -> ScenarioParts
+        ensures parts { record {
+          version = result.version;
+          net = result.net;
+          master = result.master;
+          order = result.order;
+          scripts = result.scripts.items;
+        } ≡ self }
+        ensures lawful { IsScenario self }
+    {
+        let master = self.master;
+        ScenarioParts {
+            version: self.version,
+            net: self.net,
+            master,
+            order: self.order,
+            scripts: self.scripts,
+        }
+    }
+}
