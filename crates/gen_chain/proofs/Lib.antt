@@ -4,4 +4,11 @@ pub mod LongerChains
 pub mod Parts
 mod Room
 pub mod SignedSoFar
+pub mod KeptAnswers
+mod LongerChains
+pub mod Parts
+mod Room
+mod SignedSoFar
+mod StoredSoFar
+pub mod Storing
 pub mod TestedChains
