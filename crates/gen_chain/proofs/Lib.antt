@@ -1,14 +1,10 @@
 pub mod ChainLaws
 pub mod DistinctPaths
+pub mod KeptAnswers
 pub mod LongerChains
 pub mod Parts
 mod Room
 pub mod SignedSoFar
-pub mod KeptAnswers
-mod LongerChains
-pub mod Parts
-mod Room
-mod SignedSoFar
 mod StoredSoFar
 pub mod Storing
 pub mod TestedChains
