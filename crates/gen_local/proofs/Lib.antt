@@ -1,0 +1,13 @@
+pub mod Begun
+pub mod Commanding
+pub mod FirstRefusal
+pub mod KeyOrder
+pub mod Neighbouring
+pub mod Next
+pub mod OrderTables
+pub mod ReceivedBefore
+pub mod Starters
+pub mod StateJudges
+pub mod StateMore
+pub mod Steps
+pub mod Whole

@@ -1,0 +1,6 @@
+pub mod Erased
+pub mod Following
+pub mod FollowingLaws
+pub mod Keys
+pub mod Recvs
+pub mod Walking
