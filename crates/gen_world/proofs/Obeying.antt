@@ -1,9 +1,8 @@
 -- Where nobody is faulty and no two generals are too far apart, all decide the commander's order.
-use Rattle.std.proofs.Common.{◌≡◌, ℕ, ◌<◌, inl, inr, List, [], ◌∷◌, map, Contains, refl, sym, subst, arith}
+use Rattle.std.proofs.Common.{◌≡◌, ℕ, ◌<◌, inl, inr, List, [], Contains, subst, arith}
 use Rattle.std.proofs.lemmas.Bool.{cases_eq}
 use Rattle.std.proofs.lemmas.List.Elements.{All-contains}
-use Rattle.std.specs.List.{range_with_len}
-use Rattle.gen_types.proofs.Lists.{Contains_nil, Contains_cases, Contains_here, Contains_there, Contains_range, All_of}
+use Rattle.gen_types.proofs.Lists.{Contains_nil, Contains_range, All_of}
 use Rattle.gen_net.specs.Network.{Network}
 use Rattle.gen_net.specs.Walks.{HasDiameter}
 use Rattle.gen_world.specs.declared.scenario.Decision.{Decision}
@@ -12,19 +11,12 @@ use Rattle.gen_world.specs.World.{IsDecision, IsOutcome}
 use Rattle.gen_world.specs.WorldFollows.{WorldMeetsPremises, AllDecide, nobody_faulty}
 use Rattle.gen_world.proofs.Agree.{obey_commander}
 use Rattle.gen_world.proofs.WorldFollowers.{world_is_signed}
+use Rattle.gen_world.proofs.Having.{in_mapped}
 
 pub world_meets_premises : WorldMeetsPremises
 world_meets_premises net order run w near =
     let s = world_is_signed net order run w in
     (s.0, record { signed = s.1; few = omega arith; diameter = near }, s.2)
-
--- what is made of a member is a member of what is made of all
-Contains_map : {X Y : Type 0} (f : X → Y) (xs : List X) (x : X) → Contains xs x → Contains (map f xs) (f x)
-Contains_map f [] x h = absurd (Contains_nil x h)
-Contains_map f (y ∷ xs) x h = elim (Contains_cases y x xs h) [
-  | inl e ↦ subst (λ z. Contains (f y ∷ map f xs) (f z)) e (Contains_here (f y) (map f xs))
-  | inr k ↦ Contains_there (f y) (f x) (map f xs) (Contains_map f xs x k)
-]
 
 pub all_obey : (net : Network) (order : ℕ) (decisions : List Decision) → IsOutcome net order decisions → HasDiameter net [] → AllDecide order decisions
 all_obey net order decisions o near =
@@ -35,7 +27,7 @@ all_obey net order decisions o near =
     elim (cases_eq d.general 0) [
       | inl commander ↦ (decision.commander commander).1
       | inr lieutenant ↦
-          let range = Contains_range 0 net.generals d.general (subst (λ gs. Contains gs d.general) o.generals (Contains_map (λ (x : Decision). x.general) decisions d h)) in
+          let range = Contains_range 0 net.generals d.general (subst (λ gs. Contains gs d.general) o.generals (in_mapped (λ (x : Decision). x.general) decisions d h)) in
           let known : d.general < net.generals = omega (arith, range.1) in
           let loyal : (g : ℕ) → Contains [] g → ⊥ = λ g k. Contains_nil g k in
           let some : 0 < net.generals = omega arith in

@@ -5,8 +5,11 @@ pub mod Deciding
 pub mod Derivables
 pub mod Frames
 pub mod Heard
+pub mod HeardLaws
+pub mod LogsVerify
 pub mod Loops
 pub mod RoundEntries
+pub mod RoundsKept
 pub mod Scenario
 pub mod SignedLaw
 pub mod SignedWorld
