@@ -49,12 +49,6 @@ any_gives p (y ∷ xs) x h e = elim (Contains_cases y x xs h) [
   | inr t ↦ rw (any_gives p xs x t e) (or_true (p y))
 ]
 
-pub any_none : {X : Type 0} (p : X → Bool) (xs : List X) → ((x : X) → Contains xs x → p x ≡ true → ⊥) → list_any p xs ≡ false
-any_none p xs none = elim (bool_cases (list_any p xs)) [
-  | inl some ↦ let r = any_has p xs some in absurd (none r.0 r.1 r.2)
-  | inr e ↦ e
-]
-
 pub not_true : (b : Bool) → not b ≡ true → b ≡ false
 not_true true e = absurd cc
 not_true false e = refl

@@ -121,10 +121,6 @@ pub heard_said : (s : Scenario) (g : ℕ) (x : Heard) → g < s.net.generals →
 unfolding messages_of
 heard_said s g x low h = in_flat (λ g. map (message_to g) (heard_by s (rounds s.net) g)) (range_with_len 0 s.net.generals) g (message_to g x) (Contains_in_range 0 s.net.generals g (omega arith) (omega arith)) (in_mapped (message_to g) (heard_by s (rounds s.net) g) x h)
 
--- the chain of a message, as he heard it
-pub heard_as : (s : Scenario) (m : Message) → Said s m → Heard
-heard_as s m said = record { from = m.from; chain = said.chain }
-
 pub of_said : (s : Scenario) (m : Message) → Said s m → Contains (messages_of s) m
 of_said s m said =
     let x : Heard = record { from = m.from; chain = said.chain } in

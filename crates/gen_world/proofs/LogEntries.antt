@@ -13,7 +13,7 @@ use Rattle.gen_net.specs.Run.{Arrives, Adds, Accepts}
 use Rattle.gen_net.proofs.Neighbours.{joined_below}
 use Rattle.gen_core.proofs.Decisions.{arrived_accepted}
 use Rattle.gen_log.specs.declared.entries.Entry.{Entry}
-use Rattle.gen_log.specs.declared.entries.Entry.TheVariants.{Start, Sign, Send, Recv, Decide}
+use Rattle.gen_log.specs.declared.entries.Entry.TheVariants.{Start, Recv}
 use Rattle.gen_chain.specs.Chain.{Chain, signed_path}
 use Rattle.gen_world.proofs.HeardBy.{CountsAfter, Said, counted_facts, is_run, near_gives, near_has, of_said, said_of, turned}
 use Rattle.gen_world.specs.WorldLogs.{FollowersKeep, entries_over, received, receives, decide_entry, log_with, logs_of, middle_of}
@@ -164,13 +164,6 @@ recv_gives s g loyal j x near counts =
     Contains-append_right (signs_after s g j) (sends_after s g j ++ all) (recv_of x) (Contains-append_right (sends_after s g j) all (recv_of x) recvs)
 
 -- ---- decisions
-
-receives_has : (v : ℕ) (e : Entry) → receives v e ≡ true → (from : ℕ) × (chain : Chain) × (e ≡ Recv from chain) × (chain.order ≡ v)
-receives_has v (Start general own) t = absurd cc
-receives_has v (Sign order path signature) t = absurd cc
-receives_has v (Send to order path) t = absurd cc
-receives_has v (Recv from chain) t = (from, chain, refl, eqb-true _ _ t)
-receives_has v (Decide orders order) t = absurd cc
 
 -- a RECV of the log is a message that arrived
 recv_arrived : (s : Scenario) (g : ℕ) → IsLoyal s.net (scripted s.scripts) g → (v : ℕ) (e : Entry) → Contains (middle_in s g) e → receives v e ≡ true → Accepts s.net (messages_of s) g v
