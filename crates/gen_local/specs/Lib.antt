@@ -3,4 +3,5 @@ pub mod Following
 pub mod FollowingLaws
 pub mod Keys
 pub mod Recvs
+pub mod Shown
 pub mod Walking

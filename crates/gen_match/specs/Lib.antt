@@ -1,0 +1,3 @@
+pub mod Findings
+pub mod Matching
+pub mod Sources
