@@ -1,11 +1,16 @@
 pub mod Begun
 pub mod Commanding
 pub mod FirstRefusal
+pub mod GatheredTexts
+pub mod GoodLogs
 pub mod KeyOrder
 pub mod Neighbouring
 pub mod Next
+pub mod OneReport
 pub mod OrderTables
 pub mod ReceivedBefore
+pub mod Reported
+pub mod SignedTests
 pub mod Starters
 pub mod StateJudges
 pub mod StateMore

@@ -1,5 +1,7 @@
 -- The general whom START names is of the network, and a log ends with DECIDE.
-use Rattle.std.proofs.Common.{◌≡◌, ℕ, ◌<◌, ◌↔◌, List, [], ◌∷◌, map, sym, ap, ◌∙◌, subst}
+use Rattle.std.proofs.Common.{◌≡◌, ℕ, ◌<◌, ◌↔◌, IsTrue, Bool, List, [], ◌∷◌, Option, Some, None, map, sym, ap, ◌∙◌, subst}
+use Rattle.std.specs.Bool.{nat_eq}
+use Rattle.std.proofs.lemmas.Bool.{eqb-true, eq-eqb}
 use Rattle.std.specs.List.{AllByRecursion}
 use Rattle.std.proofs.lemmas.List.{map-append}
 use Rattle.gen_net.specs.Header.{RunHeader}
@@ -28,3 +30,13 @@ pub begins_whole : (h : RunHeader) (log : RunLog) (general : ℕ) → IsNetwork 
 begins_whole h log general ok is_log s =
     let w = whole_logs h.network general ok (start_known h log general is_log s) (erased log.entries) in
     ((λ b. w.1 (b, ends_decided h log is_log)), (λ f. (w.0 f).0))
+
+-- whether START names a general, told by whom it names
+pub told_start : (first general : ℕ) (told : Bool) (entries : List Entry) → told ≡ nat_eq first general → BeginsWithStartOf first entries → IsTrue told ↔ BeginsWithStartOf general entries
+told_start first general told entries e mine = (
+  λ t. subst (λ (g : ℕ). BeginsWithStartOf g entries) (eqb-true first general (sym e ∙ t)) mine,
+  λ s. e ∙ eq-eqb first general (one_start entries first general mine s),
+)
+
+pub no_start : (general : ℕ) (r : Option ℕ) (entries : List Entry) → r ≡ None → ((g : ℕ) → (r ≡ Some g) ↔ BeginsWithStartOf g entries) → BeginsWithStartOf general entries → ⊥
+no_start general r entries none told s = let q : r ≡ Some general = (told general).1 s in cc

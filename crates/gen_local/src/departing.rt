@@ -10,7 +10,7 @@ use gen_net::Header;
 use gen_types::GeneralNo;
 
 /// The general whom START names.
-fn starter(entries: &[Entry]) -> Option<GeneralNo>
+pub fn starter(entries: &[Entry]) -> Option<GeneralNo>
     ensures { (general : ℕ) → (result ≡ Some general) ↔ BeginsWithStartOf general entries.now }
 {
     match entries.first() {

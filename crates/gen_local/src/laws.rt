@@ -1,6 +1,7 @@
-//! Laws of where logs depart. Each is a function with an empty body whose contract is the law: a caller
-//! that calls it knows the law.
+//! Laws of logs and reports. Each is a function with an empty body whose contract is the law: a caller that
+//! calls it knows the law.
 ghost use Rattle.gen_local.specs.FollowingLaws.{BegunByStep, BegunByNone, BegunByOneMore, DepartsAtFirst, WholeLogs};
+ghost use Rattle.gen_local.specs.ReportLaws.{OneReport, FindsNothingInGoodLogs};
 ghost use Rattle.gen_local.specs.Walking.Laws.{JudgedExactly, BroughtOn};
 
 /// Entries are judged one by one: they begin a log of a general exactly where each may follow those before
@@ -26,4 +27,15 @@ pub fn whole_logs()
 pub fn judged_by_state()
     ensures exactly { JudgedExactly }
     ensures on { BroughtOn }
+{}
+
+/// An exhibit has one report under a header.
+pub fn one_report()
+    ensures { OneReport }
+{}
+
+/// Nothing is found against an exhibit exactly where it is a log that verifies for its general and that
+/// he could keep.
+pub fn nothing_found()
+    ensures { FindsNothingInGoodLogs }
 {}

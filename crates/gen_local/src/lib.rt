@@ -13,16 +13,28 @@
 mod bringing;
 mod deciding;
 mod departing;
+mod exhibits;
+mod gathering;
 mod judging;
 pub mod laws;
+mod own_log;
 mod places;
 mod progress;
+mod reading;
 mod receiving;
+mod reporting;
+mod reports;
 mod sending;
 mod signing;
+mod texts;
 mod walking;
 
 pub use departing::departs;
+pub use exhibits::Exhibit;
+pub use own_log::OwnLog;
+pub use reading::Reading;
+pub use reports::{LocalReport, local_report, local_report_with};
+pub use texts::{SignedText, Text};
 pub use walking::departs_from;
 
 #[cfg(test)]

@@ -1,13 +1,9 @@
-use Rattle.std.proofs.Common.{ℕ, ◌≡◌, ◌↔◌, List, refl, sym, subst, Option, Some, None}
+use Rattle.std.proofs.Common.{ℕ, ◌≡◌, ◌↔◌, refl, sym, subst, Some, None}
 use Rattle.gen_net.specs.Departs.{DepartsAt, IsFollowersLog}
-use Rattle.gen_log.specs.declared.entries.Entry.{Entry}
 use Rattle.gen_log.specs.Log.{BeginsWithStartOf}
 use Rattle.gen_local.specs.Erased.{erased}
-use Rattle.gen_local.proofs.Starters.{one_start}
+use Rattle.gen_local.proofs.Starters.{one_start, no_start}
 use Rattle.gen_local.proofs.departing.departs.Goals as goal
-
-no_start : (general : ℕ) (r : Option ℕ) (es : List Entry) → r ≡ None → ((g : ℕ) → (r ≡ Some g) ↔ BeginsWithStartOf g es) → BeginsWithStartOf general es → ⊥
-no_start general r es none told s = let q : r ≡ Some general = (told general).1 s in cc
 
 pub departs_as-requires-clause-starts : goal.departs_as-requires-clause-starts
 departs_as-requires-clause-starts c = subst (BeginsWithStartOf c.in-Some.general) c.entries.ensures ((c.in-Some.ensures c.in-Some.general).0 refl)
