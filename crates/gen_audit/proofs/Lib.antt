@@ -1,0 +1,11 @@
+pub mod Agreeing
+pub mod Answering
+pub mod Claims
+pub mod Deciders
+pub mod Deciding
+pub mod Fit
+pub mod Following
+pub mod Keeping
+pub mod Supporting
+pub mod Verifying
+pub mod Walking
