@@ -7,5 +7,6 @@ pub mod Fit
 pub mod Following
 pub mod Keeping
 pub mod Supporting
+pub mod Telling
 pub mod Verifying
 pub mod Walking

@@ -64,12 +64,12 @@ same_text_is xs = elim (bool_cases (pointwise nat_eq xs xs)) [
   | inr e ↦ absurd (other_text xs xs (sym e) refl)
 ]
 
-own_of : (h : RunHeader) (g : ℕ) (log : RunLog) → says_it_is_of h g log ≡ true → SaysItIsOf h g log
+pub own_of : (h : RunHeader) (g : ℕ) (log : RunLog) → says_it_is_of h g log ≡ true → SaysItIsOf h g log
 own_of h g log e =
     let p = two (pointwise nat_eq log.run_id (run_id_of h)) (starts_as g log.entries) e in
     record { of_run = same_text log.run_id (run_id_of h) (sym p.0); starts = start_of g log.entries p.1 }
 
-own_is : (h : RunHeader) (g : ℕ) (log : RunLog) → SaysItIsOf h g log → says_it_is_of h g log ≡ true
+pub own_is : (h : RunHeader) (g : ℕ) (log : RunLog) → SaysItIsOf h g log → says_it_is_of h g log ≡ true
 own_is h g log own = rw (own.of_run, same_text_is (run_id_of h), start_is g log.entries own.starts) refl
 
 decide_own : (h : RunHeader) (g : ℕ) (log : RunLog) → Dec (SaysItIsOf h g log)

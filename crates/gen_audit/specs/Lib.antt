@@ -4,4 +4,5 @@ pub mod Explained
 pub mod Findings
 pub mod Headline
 pub mod Supported
+pub mod Telling
 pub mod Verdict

@@ -4,6 +4,7 @@ ghost use Rattle.gen_audit.specs.Agreement.{FewFaultyAgree};
 ghost use Rattle.gen_audit.specs.Explained.{ExplainedFindsNothing, NothingFoundExplains, RunsHaveLogs};
 ghost use Rattle.gen_audit.specs.Headline.{HeadlineHolds};
 ghost use Rattle.gen_audit.specs.Supported.{CleanAgrees, CleanIsSupported};
+ghost use Rattle.gen_audit.specs.Telling.{ReportsTellLogs};
 ghost use Rattle.gen_audit.specs.Verdict.{EachDecidedOnce, OneVerdict, VerdictExists};
 
 /// Logs of the rest, each alone one that its general could keep, and no two of which contradict each other, nor what the
@@ -50,4 +51,9 @@ pub fn one_verdict()
 /// In a supported bundle each of the rest decided once.
 pub fn each_decided_once()
     ensures { EachDecidedOnce }
+{}
+
+/// The reports of a bundle's exhibits tell its logs.
+pub fn reports_tell_logs()
+    ensures { ReportsTellLogs }
 {}

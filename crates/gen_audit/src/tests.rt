@@ -12,5 +12,6 @@ fn the_laws_are_there_to_be_called(_rt: HostRuntime) -> Result<(), Fail> {
     laws::headline();
     laws::one_verdict();
     laws::each_decided_once();
+    laws::reports_tell_logs();
     Ok(())
 }
