@@ -32,26 +32,26 @@ same_list xs = elim (bool_cases (pointwise nat_eq xs xs)) [
   | inr e ↦ absurd (other_text xs xs (sym e) refl)
 ]
 
-under_has : (root : List ℕ) (height : TreeHeight) (leaf : ℕ) (digest signature : List ℕ) → is_under root height leaf digest signature ≡ true → Verifies root height leaf digest signature
+pub under_has : (root : List ℕ) (height : TreeHeight) (leaf : ℕ) (digest signature : List ℕ) → is_under root height leaf digest signature ≡ true → Verifies root height leaf digest signature
 unfolding is_under
 under_has root height leaf digest signature e =
     let p = both (eqb (length signature) (signature_length height) && nat_lt leaf (leaves_of height)) (pointwise nat_eq (implied_root height leaf digest signature) root) e in
     let q = both (eqb (length signature) (signature_length height)) (nat_lt leaf (leaves_of height)) p.0 in
     record { siblings = eqb-true _ _ q.0; below = ltb-true _ _ q.1; leads = same_text (implied_root height leaf digest signature) root (sym p.1) }
 
-under_gives : (root : List ℕ) (height : TreeHeight) (leaf : ℕ) (digest signature : List ℕ) → Verifies root height leaf digest signature → is_under root height leaf digest signature ≡ true
+pub under_gives : (root : List ℕ) (height : TreeHeight) (leaf : ℕ) (digest signature : List ℕ) → Verifies root height leaf digest signature → is_under root height leaf digest signature ≡ true
 unfolding is_under
 under_gives root height leaf digest signature v =
     let same : pointwise nat_eq (implied_root height leaf digest signature) root ≡ true = subst (λ (r : List ℕ). pointwise nat_eq (implied_root height leaf digest signature) r ≡ true) v.leads (same_list (implied_root height leaf digest signature)) in
     and_so (eqb (length signature) (signature_length height) && nat_lt leaf (leaves_of height)) (pointwise nat_eq (implied_root height leaf digest signature) root) (and_so (eqb (length signature) (signature_length height)) (nat_lt leaf (leaves_of height)) (eq-eqb _ _ v.siblings) (lt-ltb _ _ v.below)) same
 
-signed_has : (h : RunHeader) (g : ℕ) (t : Statement) (signature : List ℕ) → has_signed h g t signature ≡ true → HasSigned h g t signature
+pub signed_has : (h : RunHeader) (g : ℕ) (t : Statement) (signature : List ℕ) → has_signed h g t signature ≡ true → HasSigned h g t signature
 unfolding has_signed
 signed_has h g t signature e =
     let p = both (nat_lt g h.network.generals) (is_under (headers.root_of h g) (height_of h) (leaf_of_order h t.order) (statement_digest h t) signature) e in
     (ltb-true _ _ p.0, under_has (headers.root_of h g) (height_of h) (leaf_of_order h t.order) (statement_digest h t) signature p.1)
 
-signed_gives : (h : RunHeader) (g : ℕ) (t : Statement) (signature : List ℕ) → HasSigned h g t signature → has_signed h g t signature ≡ true
+pub signed_gives : (h : RunHeader) (g : ℕ) (t : Statement) (signature : List ℕ) → HasSigned h g t signature → has_signed h g t signature ≡ true
 unfolding has_signed
 signed_gives h g t signature v = and_so (nat_lt g h.network.generals) (is_under (headers.root_of h g) (height_of h) (leaf_of_order h t.order) (statement_digest h t) signature) (lt-ltb _ _ v.0) (under_gives (headers.root_of h g) (height_of h) (leaf_of_order h t.order) (statement_digest h t) signature v.1)
 

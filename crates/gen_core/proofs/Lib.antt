@@ -3,6 +3,8 @@ pub mod Best
 pub mod Commands
 pub mod Decisions
 pub mod Due
+pub mod KeptLogs
+pub mod OrderedLists
 pub mod OwnRun
 pub mod PickedPaths
 pub mod Rounds

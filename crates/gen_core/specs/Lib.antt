@@ -1,3 +1,4 @@
+pub mod Keeping
 pub mod Loops
 pub mod Paths
 pub mod Seeing

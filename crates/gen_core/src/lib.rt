@@ -8,6 +8,7 @@
 
 mod arrivals;
 mod commanding;
+pub mod laws;
 mod lieutenants;
 mod picks;
 mod sending;

@@ -1,0 +1,12 @@
+pub mod Agreeing
+pub mod Answering
+pub mod Claims
+pub mod Deciders
+pub mod Deciding
+pub mod Fit
+pub mod Following
+pub mod Keeping
+pub mod Supporting
+pub mod Telling
+pub mod Verifying
+pub mod Walking

@@ -1,0 +1,59 @@
+//! Laws of audits. Each is a function with an empty body whose contract is the law: a caller that calls it knows
+//! the law.
+ghost use Rattle.gen_audit.specs.Agreement.{FewFaultyAgree};
+ghost use Rattle.gen_audit.specs.Explained.{ExplainedFindsNothing, NothingFoundExplains, RunsHaveLogs};
+ghost use Rattle.gen_audit.specs.Headline.{HeadlineHolds};
+ghost use Rattle.gen_audit.specs.Supported.{CleanAgrees, CleanIsSupported};
+ghost use Rattle.gen_audit.specs.Telling.{ReportsTellLogs};
+ghost use Rattle.gen_audit.specs.Verdict.{EachDecidedOnce, OneVerdict, VerdictExists};
+
+/// Logs of the rest, each alone one that its general could keep, and no two of which contradict each other, nor what the
+/// rest sent, come from one run (`explained`); and in the logs that the rest keep of a run nothing is found (`found`).
+pub fn logs_are_explained()
+    ensures explained { NothingFoundExplains }
+    ensures found { ExplainedFindsNothing }
+{}
+
+/// With at most m faulty generals and walks that bound the diameter of the rest, the logs that a run explains agree on
+/// an order, the commander's if he is of the rest.
+pub fn few_faulty_agree()
+    ensures { FewFaultyAgree }
+{}
+
+/// The rest of every run for the faulty generals keep logs, which it explains.
+pub fn runs_have_logs()
+    ensures { RunsHaveLogs }
+{}
+
+/// Nothing is found in a bundle exactly where it supports a yes: somebody is of the rest, each of the rest has one log
+/// and it verifies, the walks bound the diameter of the rest, and one run explains the logs.
+pub fn clean_is_supported()
+    ensures { CleanIsSupported }
+{}
+
+/// With at most m faulty generals the logs of a bundle in which nothing is found agree on an order.
+pub fn clean_agrees()
+    ensures { CleanAgrees }
+{}
+
+/// The headline: a verdict is a yes exactly where the bundle supports it, and with at most m faulty generals it is then
+/// the order on which the rest agree.
+pub fn headline()
+    ensures { HeadlineHolds }
+{}
+
+/// A bundle has one verdict (`one`), and whoever has all that is found has a verdict (`exists`).
+pub fn one_verdict()
+    ensures one { OneVerdict }
+    ensures exists { VerdictExists }
+{}
+
+/// In a supported bundle each of the rest decided once.
+pub fn each_decided_once()
+    ensures { EachDecidedOnce }
+{}
+
+/// The reports of a bundle's exhibits tell its logs.
+pub fn reports_tell_logs()
+    ensures { ReportsTellLogs }
+{}

@@ -1,0 +1,18 @@
+-- Laws of the logs that generals keep of a run.
+use Rattle.std.specs.Prelude.{ℕ, ◌≡◌, List}
+use Rattle.gen_net.specs.Network.{Network}
+use Rattle.gen_net.specs.Run.{Run, IsRun}
+use Rattle.gen_net.specs.Follows.{Conduct}
+use Rattle.gen_net.specs.Log.{LogEntry, Keeps}
+
+-- in each run there is a log of a general with this conduct
+abbrev pub HasLog : Type 0
+HasLog =
+    (net : Network) (run : Run) (g : ℕ) (conduct : Conduct) → IsRun net run
+    → (log : List LogEntry) × Keeps net run g conduct log
+
+-- and no other
+abbrev pub OneLog : Type 0
+OneLog =
+    (net : Network) (run : Run) (g : ℕ) (conduct : Conduct) (log other : List LogEntry)
+    → Keeps net run g conduct log → Keeps net run g conduct other → log ≡ other

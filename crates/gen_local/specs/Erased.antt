@@ -1,0 +1,8 @@
+-- What entries say without their signatures, which is all that the algorithm is judged by.
+use Rattle.std.specs.Prelude.{List, map}
+use Rattle.gen_net.specs.Log.{LogEntry}
+use Rattle.gen_log.specs.declared.entries.Entry.{Entry}
+use Rattle.gen_log.specs.Entry.{erase}
+
+abbrev pub erased : List Entry → List LogEntry
+erased entries = map erase entries

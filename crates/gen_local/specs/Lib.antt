@@ -1,0 +1,11 @@
+pub mod Erased
+pub mod Following
+pub mod FollowingLaws
+pub mod FoundLog
+pub mod Keys
+pub mod Recvs
+pub mod Report
+pub mod ReportLaws
+pub mod Shown
+pub mod SignedTexts
+pub mod Walking

@@ -1,0 +1,30 @@
+-- What the report of an exhibit is. An exhibit is a general, and bytes that are said to be his log of a run.
+use Rattle.std.specs.Prelude.{ℕ, ◌≡◌, List, Result, Ok, Err}
+use Rattle.gen_net.specs.Header.{RunHeader}
+use Rattle.gen_log.specs.declared.fault.LogFault.{LogFault}
+use Rattle.gen_log.specs.Log.{RunLog}
+use Rattle.gen_log.specs.LogReading.{log_of}
+use Rattle.gen_log.specs.Verifying.{SaysItIsOf}
+use Rattle.gen_local.specs.declared.reading.Reading.{Reading}
+use Rattle.gen_local.specs.declared.reading.Reading.TheVariants.{Unreadable, Foreign, Own}
+use Rattle.gen_local.specs.Shown.{ShownLog}
+use Rattle.gen_local.specs.FoundLog.{FoundLog, IsFound}
+
+-- The bytes don't read, with their fault; or they are a log of another run, or one whose START names another general; or
+-- they are a log of this run and general, with what is found of it.
+abbrev pub IsReading : RunHeader → ℕ → Result RunLog LogFault → Reading → Type 0
+IsReading h general (Err fault) reading = reading ≡ Unreadable fault
+IsReading h general (Ok log) (Unreadable fault) = ⊥
+IsReading h general (Ok log) Foreign = SaysItIsOf h general log → ⊥
+IsReading h general (Ok log) (Own found) = (found.log ≡ log) × IsFound h general found
+
+-- the header of the run, the exhibit, and its reading
+pub record Report : Type 0 where
+  pub header : RunHeader
+  pub exhibit : ShownLog
+  pub reading : Reading
+
+-- the report is that of the exhibit that it names, under the header that it names
+abbrev pub IsReport : Report → Type 0
+IsReport r =
+    IsReading r.header r.exhibit.general (log_of r.header r.exhibit.bytes) r.reading

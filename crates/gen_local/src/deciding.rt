@@ -1,0 +1,41 @@
+//! What a general can decide.
+ghost use Rattle.std.specs.Prelude.{IsTrue, ℕ, List, ◌≡◌, ◌<◌, ◌↔◌, slice_index_or};
+ghost use Rattle.gen_types.specs.Ascending.{IsListOf};
+ghost use Rattle.gen_net.specs.Network.{choose};
+ghost use Rattle.gen_local.specs.declared.progress.Progress.TheVariants.{Unlearnt};
+ghost use Rattle.gen_local.specs.Walking.Judged.{IsKnown};
+
+use crate::progress::Progress;
+use gen_net::Net;
+use gen_types::{Choice, OrderNo, OrderSet};
+
+/// Whether an order was learnt.
+fn is_known(progress: &Progress) -> bool
+    ensures { IsTrue result ↔ IsKnown progress.now }
+{
+    match progress {
+        Progress::Unlearnt => false,
+        Progress::Learnt { round: _ } => true,
+        Progress::Relayed { path: _, next: _ } => true,
+    }
+}
+
+/// The orders that were learnt.
+fn known_orders(orders: &[Progress; 16]) -> OrderSet
+    ensures { IsListOf result (λ v. (v < 16) × IsKnown (slice_index_or orders.now v Unlearnt)) }
+{
+    let mut set = OrderSet::new();
+    for number in 0..16u8 {
+        if is_known(&orders[usize::from(number)]) {
+            set.insert(OrderNo::at(number));
+        }
+    }
+    set
+}
+
+/// Whether a general who has come so far with each order can decide this.
+pub fn can_decide(net: &Net, orders: &[Progress; 16], set: &OrderSet, order: OrderNo) -> bool
+    ensures { IsTrue result ↔ (IsListOf set.now (λ v. (v < 16) × IsKnown (slice_index_or orders.now v Unlearnt)) × (order ≡ choose net.now set.now)) }
+{
+    *set == known_orders(orders) && order == net.choice().choose(*set)
+}

@@ -1,0 +1,198 @@
+//! Gathering the texts of a log whose signatures verify.
+ghost use Rattle.std.specs.Prelude.{◌≡◌, ◌≢◌, ◌≤◌, ◌++◌, ◌∷◌, [], Some, None, IfOk, OnOk, AllPairs, length, filter, cond};
+ghost use Rattle.std.specs.List.{list_all, flat_map};
+ghost use Rattle.std.specs.Option.{option_or};
+ghost use Rattle.gen_chain.specs.Chain.{signed_path};
+ghost use Rattle.gen_chain.specs.Verified as tests;
+ghost use Rattle.gen_chain.specs.Store.{Serves, KeepsAll};
+ghost use Rattle.gen_local.specs.FoundLog.{is_signed, first_unsigned};
+ghost use Rattle.gen_local.specs.SignedTexts.{stated, texts_behind, texts_in, text_verifies, verified};
+
+use crate::texts::{SignedText, Text};
+use gen_chain::{Signer, Statement, VerifyStore};
+use gen_log::Entry;
+use gen_net::Header;
+use gen_ots::SigRoom;
+use gen_tree::Signature;
+use gen_types::{GeneralNo, OrderNo, Path};
+use std::alloc::{AllocError, Global};
+
+/// Whether a general signed a statement.
+fn is_signed_by(
+    store: &mut VerifyStore,
+    header: &Header,
+    signer: GeneralNo,
+    statement: &Statement,
+    signature: &Signature,
+) -> Result<bool, AllocError>
+    requires { Serves header.now store.old }
+    ensures told { IfOk result (λ told.
+        told ≡ tests.has_signed header.now signer statement.now signature.now) }
+    ensures grows { KeepsAll store.old store.new }
+    ensures serves { Serves header.now store.new }
+{
+    store.check(header, signer, statement, signature)
+}
+
+/// Puts a text behind the others, where its signature verifies.
+pub fn put_if(
+    alloc: Global,
+    texts: &mut Vec<SignedText>,
+    verifies: bool,
+    signer: GeneralNo,
+    text: Text,
+    signature: &Signature,
+) -> Result<(), AllocError>
+    ensures { OnOk result (texts.new.items ≡ texts.old.items ++ filter (λ t. verifies)
+        ((record { signer = signer; text = text; signature = signature.now }) ∷ [])) }
+{
+    if verifies {
+        let room = SigRoom::new(alloc, signature.height())?;
+        texts.push(SignedText {
+            signer,
+            text,
+            signature: signature.copy(room),
+        })?;
+    }
+    Ok(())
+}
+
+/// Gathers a statement, where its signature verifies, and returns whether it does.
+fn gather_statement(
+    alloc: Global,
+    header: &Header,
+    signer: GeneralNo,
+    statement: Statement,
+    signature: &Signature,
+    store: &mut VerifyStore,
+    texts: &mut Vec<SignedText>,
+) -> Result<bool, AllocError>
+    requires { Serves header.now store.old }
+    ensures told { IfOk result (λ told. told ≡ text_verifies header.now
+        (stated statement.order statement.path signer signature.now)) }
+    ensures texts { OnOk result (texts.new.items ≡ texts.old.items ++ verified header.now
+        (stated statement.order statement.path signer signature.now ∷ [])) }
+    ensures grows { KeepsAll store.old store.new }
+    ensures serves { Serves header.now store.new }
+{
+    let verifies = is_signed_by(store, header, signer, &statement, signature)?;
+    let text = Text::OfStatement(statement);
+    put_if(alloc, texts, verifies, signer, text, signature)?;
+    Ok(verifies)
+}
+
+/// Gathers what the signers of a chain signed, and returns whether all of their signatures verify.
+fn gather_signers(
+    alloc: Global,
+    header: &Header,
+    order: OrderNo,
+    signers: &[Signer],
+    store: &mut VerifyStore,
+    texts: &mut Vec<SignedText>,
+) -> Result<bool, AllocError>
+    requires few { length signers.now ≤ 16 }
+    requires distinct { AllPairs (λ g h. g ≢ h) (signed_path signers.now) }
+    requires serves { Serves header.now store.old }
+    ensures told { IfOk result (λ all. all
+        ≡ list_all (text_verifies header.now) (texts_behind order [] signers.now)) }
+    ensures texts { OnOk result (texts.new.items
+        ≡ texts.old.items ++ verified header.now (texts_behind order [] signers.now)) }
+    ensures grows { KeepsAll store.old store.new }
+    ensures serves { Serves header.now store.new }
+{
+    let mut path = Path::new();
+    let mut rest = signers;
+    let mut all = true;
+    while let Some((signer, others)) = rest.split_first() {
+        path.push_new(signer.general);
+        let statement = Statement { order, path };
+        let verifies = gather_statement(
+            alloc,
+            header,
+            signer.general,
+            statement,
+            &signer.signature,
+            store,
+            texts,
+        )?;
+        all &= verifies;
+        rest = others;
+    }
+    Ok(all)
+}
+
+/// Gathers the texts of an entry whose signatures verify, and returns whether all of them do.
+fn gather_entry(
+    alloc: Global,
+    header: &Header,
+    entry: &Entry,
+    store: &mut VerifyStore,
+    texts: &mut Vec<SignedText>,
+) -> Result<bool, AllocError>
+    requires { Serves header.now store.old }
+    ensures told { IfOk result (λ all. all ≡ is_signed header.now entry.now) }
+    ensures texts { OnOk result (texts.new.items
+        ≡ texts.old.items ++ verified header.now (texts_in entry.now)) }
+    ensures grows { KeepsAll store.old store.new }
+    ensures serves { Serves header.now store.new }
+{
+    match entry {
+        Entry::Sign {
+            order,
+            path,
+            signature,
+        } => match path.last() {
+            None => Ok(true),
+            Some(last) => {
+                let statement = Statement {
+                    order: *order,
+                    path: *path,
+                };
+                gather_statement(alloc, header, last, statement, signature, store, texts)
+            }
+        },
+        Entry::Recv { from: _, chain } => {
+            // The height makes known what each chain keeps of its signers.
+            let _height = chain.height();
+            gather_signers(alloc, header, chain.order(), chain.signers(), store, texts)
+        }
+        _ => Ok(true),
+    }
+}
+
+/// The first of two numbers, where there is one.
+fn first_of(number: Option<usize>, fails: bool, place: usize) -> Option<usize>
+    ensures { result ≡ option_or number (cond fails (Some place) None) }
+{
+    match number {
+        Some(_) => number,
+        None => { if fails { Some(place) } else { None } }
+    }
+}
+
+/// Gathers the texts of entries whose signatures verify, and returns the first entry of which not all do.
+pub fn gather_entries(
+    alloc: Global,
+    header: &Header,
+    entries: &[Entry],
+    store: &mut VerifyStore,
+    texts: &mut Vec<SignedText>,
+) -> Result<Option<usize>, AllocError>
+    requires { Serves header.now store.old }
+    ensures first { IfOk result (λ first. first ≡ first_unsigned header.now 0 entries.now) }
+    ensures texts { OnOk result (texts.new.items
+        ≡ texts.old.items ++ verified header.now (flat_map texts_in entries.now)) }
+    ensures grows { KeepsAll store.old store.new }
+    ensures serves { Serves header.now store.new }
+{
+    let mut unsigned = None;
+    let mut rest = entries;
+    let mut place = 0usize;
+    while let Some((entry, others)) = rest.split_first() {
+        let signed = gather_entry(alloc, header, entry, store, texts)?;
+        unsigned = first_of(unsigned, !signed, place);
+        place += 1;
+        rest = others;
+    }
+    Ok(unsigned)
+}

@@ -1,0 +1,127 @@
+//! Whether an entry may follow those before it.
+ghost use Rattle.std.specs.Prelude.{IsTrue, ◌≡◌, ◌≤◌, ◌<◌, ◌↔◌, ◌⊎◌};
+ghost use Rattle.gen_log.specs.Entry.{erase};
+ghost use Rattle.gen_net.specs.Network.{IsNetwork};
+ghost use Rattle.gen_local.specs.Following.{IsOwn, MayFollow};
+ghost use Rattle.gen_local.specs.Keys.{IsSmall};
+ghost use Rattle.gen_local.specs.Erased.{erased};
+ghost use Rattle.gen_local.specs.Walking.Judged.{Stops, AnyStops, CanSend, IsAllowed, HasStarted, IsJudged};
+ghost use Rattle.gen_local.specs.Walking.State.{IsAfter};
+
+use crate::deciding::can_decide;
+use crate::places::{key_of, send_key, sign_key};
+use crate::progress::Progress;
+use crate::receiving::can_arrive;
+use crate::signing::can_sign;
+use gen_log::Entry;
+use gen_net::Net;
+use gen_types::{GeneralNo, OrderNo, Path};
+
+/// Whether an order is due to be signed or sent before this place.
+fn stops(net: &Net, order: OrderNo, progress: &Progress, at: u32) -> bool
+    ensures { IsTrue result ↔ Stops net.now order progress.now at }
+{
+    match progress {
+        Progress::Unlearnt => false,
+        Progress::Learnt { round } => {
+            *round < net.rounds() && sign_key(usize::from(*round) + 1, order.get()) < at
+        }
+        Progress::Relayed { path, next } => {
+            *next < net.generals() && send_key(path.len(), *next, order.get()) < at
+        }
+    }
+}
+
+/// Whether some order is due to be signed or sent before this place.
+fn any_stops(net: &Net, orders: &[Progress; 16], at: u32) -> bool
+    ensures { IsTrue result ↔ AnyStops net.now orders.now at }
+{
+    for number in 0..16u8 {
+        if stops(net, OrderNo::at(number), &orders[usize::from(number)], at) {
+            return true;
+        }
+    }
+    false
+}
+
+/// Whether the path is next due to the general.
+fn can_send(net: &Net, progress: &Progress, to: GeneralNo, path: &Path) -> bool
+    ensures { IsTrue result ↔ CanSend net.now progress.now to path.now }
+{
+    match progress {
+        Progress::Unlearnt => false,
+        Progress::Learnt { round: _ } => false,
+        Progress::Relayed { path: other, next } => {
+            to.get() < net.generals() && *next == to.get() && *other == *path
+        }
+    }
+}
+
+/// Whether the general may have this order, if any, of his own.
+fn is_own(net: &Net, general: GeneralNo, own: Option<OrderNo>) -> bool
+    ensures { IsTrue result ↔ IsOwn net.now general own }
+{
+    match own {
+        None => general.get() != 0,
+        Some(order) => general.get() == 0 && order.get() < net.orders(),
+    }
+}
+
+/// Whether the general, who has come so far with each order, can write the entry.
+fn is_allowed(
+    net: &Net,
+    general: GeneralNo,
+    before: &[Entry],
+    orders: &[Progress; 16],
+    entry: &Entry,
+) -> bool
+    ensures { IsTrue result ↔ IsAllowed net.now general (erased before.now) orders.now (erase entry.now) }
+{
+    match entry {
+        Entry::Start {
+            general: other,
+            own,
+        } => *other == general && is_own(net, general, *own),
+        Entry::Sign {
+            order,
+            path,
+            signature: _,
+        } => {
+            let progress = &orders[usize::from(order.get())];
+            can_sign(net, general, before, *order, progress, path)
+        }
+        Entry::Send { to, order, path } => {
+            can_send(net, &orders[usize::from(order.get())], *to, path)
+        }
+        Entry::Recv { from, chain } => {
+            can_arrive(net, general, *from, chain.order(), &chain.path())
+        }
+        Entry::Decide { orders: set, order } => can_decide(net, orders, set, *order),
+    }
+}
+
+/// Whether the entry is START, or something stands before it.
+fn has_started(least: u32, entry: &Entry) -> bool
+    ensures { IsTrue result ↔ HasStarted least (erase entry.now) }
+{
+    matches!(entry, Entry::Start { .. }) || least > 0
+}
+
+/// Whether the entry may follow, where the places so far are below this number and each order has come so
+/// far.
+pub fn is_judged(
+    net: &Net,
+    general: GeneralNo,
+    before: &[Entry],
+    least: u32,
+    orders: &[Progress; 16],
+    entry: &Entry,
+) -> bool
+    ensures { IsTrue result ↔ IsJudged net.now general (erased before.now) least orders.now (erase entry.now) }
+{
+    let at = key_of(net, entry);
+    least <= at
+        && has_started(least, entry)
+        && !any_stops(net, orders, at)
+        && is_allowed(net, general, before, orders, entry)
+}

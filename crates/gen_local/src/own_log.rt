@@ -1,0 +1,77 @@
+//! What is found of a log.
+ghost use Rattle.std.specs.Prelude.{◌≡◌};
+ghost use Rattle.gen_log.specs.Log.{EndsWithDecide};
+
+use crate::texts::SignedText;
+use gen_log::Log;
+use std::marker::Model;
+
+/// A log that says it is its general's of the run of a header, and what is found of it: which of its
+/// signatures verify, and where it departs from the algorithm.
+#[derive(Debug, Drop)]
+pub struct OwnLog {
+    pub(crate) log: Log,
+    pub(crate) unsigned: Option<usize>,
+    pub(crate) sealed: bool,
+    pub(crate) departure: Option<usize>,
+    pub(crate) texts: Vec<SignedText>,
+}
+
+impl Model for OwnLog {
+    ghost use Rattle.gen_log.specs.Log.{EndsWithDecide};
+    ghost use Rattle.gen_local.specs.FoundLog.{FoundLog};
+
+    ghost Value = { FoundLog };
+
+    ghost view = { λ f. record {
+      log = f.log;
+      unsigned = f.unsigned;
+      sealed = f.sealed;
+      departure = f.departure;
+      texts = f.texts.items;
+    } };
+
+    ghost invariant = { λ f. EndsWithDecide f.log.entries };
+}
+
+impl OwnLog {
+    /// Returns the log.
+    pub fn log(&self) -> &Log
+        ensures value { result.now ≡ self.now.log }
+        ensures last { EndsWithDecide self.now.log.entries }
+    {
+        &self.log
+    }
+
+    /// Returns the first entry, counted from 0, with a signature that doesn't verify, and None where the
+    /// signatures of all entries verify.
+    pub fn unsigned(&self) -> Option<usize>
+        ensures { result ≡ self.now.unsigned }
+    {
+        self.unsigned
+    }
+
+    /// Returns whether the signature of the head verifies.
+    pub fn is_sealed(&self) -> bool
+        ensures { result ≡ self.now.sealed }
+    {
+        self.sealed
+    }
+
+    /// Returns the entry, counted from 0, at which the log departs from the algorithm, as `departs` says
+    /// it, and None where it is one that its general could keep.
+    pub fn departure(&self) -> Option<usize>
+        ensures { result ≡ self.now.departure }
+    {
+        self.departure
+    }
+
+    /// Returns the texts whose signatures verify, in their order: of each entry, from the first to the
+    /// last, that of a SIGN under the last general of its path and those of a RECV from the first signer
+    /// to the last; then the head.
+    pub fn texts(&self) -> &[SignedText]
+        ensures { result.now ≡ self.now.texts }
+    {
+        self.texts.as_slice()
+    }
+}

@@ -1,0 +1,83 @@
+//! Places of entries as numbers, which ascend as the places do.
+ghost use Rattle.std.specs.Prelude.{◌≡◌, ◌+◌, ◌*◌, ◌≤◌, length};
+ghost use Rattle.gen_log.specs.Entry.{erase};
+ghost use Rattle.gen_local.specs.Keys.{IsSmall, key_of as key_at, sign_key as key_of_sign, send_key as key_of_send};
+
+use gen_chain::SignedChain;
+use gen_log::Entry;
+use gen_net::Net;
+
+/// The number of the place of a SIGN.
+pub fn sign_key(length: usize, order: u8) -> u32
+    requires { length ≤ 17 }
+    ensures { result ≡ key_of_sign length order }
+{
+    length as u32 * 1024 + 256 + u32::from(order) * 16
+}
+
+/// The number of the place of a SEND.
+pub fn send_key(length: usize, to: u8, order: u8) -> u32
+    requires { length ≤ 17 }
+    ensures { result ≡ key_of_send length to order }
+{
+    length as u32 * 1024 + 512 + u32::from(to) * 16 + u32::from(order)
+}
+
+/// The round in which a chain arrives, which is the number of those who signed it.
+pub fn round_of(chain: &SignedChain) -> u8
+    ensures value { result ≡ length chain.now.signers }
+    ensures few { result ≤ 16 }
+{
+    // The height makes known what each chain keeps, that it has at most 16 signers.
+    let _height = chain.height();
+    chain.signers().len() as u8
+}
+
+/// The number of the place of an entry.
+pub fn key_of(net: &Net, entry: &Entry) -> u32
+    ensures value { result ≡ key_at net.now entry.now }
+    ensures few { result ≤ 18432 }
+{
+    match entry {
+        Entry::Start { general: _, own: _ } => 0,
+        Entry::Sign {
+            order,
+            path,
+            signature: _,
+        } => sign_key(path.len(), order.get()),
+        Entry::Send { to, order, path } => send_key(path.len(), to.get(), order.get()),
+        Entry::Recv { from, chain } => {
+            u32::from(round_of(chain)) * 1024
+                + 768
+                + u32::from(from.get()) * 16
+                + u32::from(chain.order().get())
+        }
+        Entry::Decide {
+            orders: _,
+            order: _,
+        } => (u32::from(net.rounds()) + 1) * 1024,
+    }
+}
+
+/// Makes known that the numbers of an entry are small.
+pub fn know_small(entry: &Entry)
+    ensures { IsSmall (erase entry.now) }
+{
+    match entry {
+        Entry::Start { general: _, own } => {
+            if let Some(order) = own {
+                let _number = order.get();
+            }
+        }
+        Entry::Sign { order, .. } => {
+            let _number = order.get();
+        }
+        Entry::Send { to, order, path: _ } => {
+            let _numbers = (to.get(), order.get());
+        }
+        Entry::Recv { from, chain } => {
+            let _numbers = (from.get(), chain.order());
+        }
+        Entry::Decide { .. } => {}
+    }
+}

@@ -1,0 +1,60 @@
+//! Which chains a general can receive.
+ghost use Rattle.std.specs.Prelude.{IsTrue, ◌≡◌, ◌↔◌, ◌∷◌, [], ◌<◌, All};
+ghost use Rattle.gen_types.specs.Ends.{BeginsWith, EndsWith};
+ghost use Rattle.gen_net.specs.Chain.{IsChain};
+ghost use Rattle.gen_net.specs.Run.{IsWellFormed};
+
+use gen_net::Net;
+use gen_types::{GeneralNo, OrderNo, Path};
+
+/// Whether the first of the path is the commander.
+fn begins_with_commander(path: &Path) -> bool
+    ensures { IsTrue result ↔ BeginsWith path.now (0 ∷ []) }
+{
+    match path.generals() {
+        [] => false,
+        [first, ..] => first.get() == 0,
+    }
+}
+
+/// Whether the general is the last of the path.
+fn ends_with(path: &Path, general: GeneralNo) -> bool
+    ensures { IsTrue result ↔ EndsWith path.now general }
+{
+    match path.generals() {
+        [] => false,
+        [.., last] => *last == general,
+    }
+}
+
+/// Whether the generals of the path are of the network.
+fn are_known(net: &Net, path: &Path) -> bool
+    ensures { IsTrue result ↔ All (λ g. g < net.now.generals) path.now }
+{
+    path.generals().iter().all(|g| g.get() < net.generals())
+}
+
+/// Whether the order and the path are a chain of the network.
+fn is_chain(net: &Net, order: OrderNo, path: &Path) -> bool
+    ensures { IsTrue result ↔ IsChain net.now order path.now }
+{
+    let _length = path.len();
+    order.get() < net.orders() && are_known(net, path) && begins_with_commander(path)
+}
+
+/// Whether a general can receive a chain of this order and path from a sender.
+pub fn can_arrive(
+    net: &Net,
+    general: GeneralNo,
+    from: GeneralNo,
+    order: OrderNo,
+    path: &Path,
+) -> bool
+    ensures { IsTrue result ↔ IsWellFormed net.now (record { from = from; to = general; order = order; path = path.now }) }
+{
+    net.has_edge(from, general)
+        && is_chain(net, order, path)
+        && path.len() <= usize::from(net.rounds())
+        && ends_with(path, from)
+        && !path.contains(general)
+}

@@ -1,0 +1,110 @@
+//! Reports of exhibits.
+ghost use Rattle.std.specs.Prelude.{◌≡◌, IfOk};
+ghost use Rattle.gen_chain.specs.Store.{Serves, KeepsAll};
+ghost use Rattle.gen_local.specs.Report.{IsReport};
+
+use crate::exhibits::Exhibit;
+use crate::reading::Reading;
+use crate::reporting::reading_of;
+use gen_chain::VerifyStore;
+use gen_net::Header;
+use gen_types::GeneralNo;
+use std::alloc::{AllocError, Global};
+use std::marker::Model;
+
+/// The report of an exhibit under a header. It names both, and it always says exactly what the definition
+/// says of them, so that two reports of one exhibit under one header are equal.
+#[derive(Debug, Drop)]
+pub struct LocalReport {
+    header: Header,
+    exhibit: Exhibit,
+    reading: Reading,
+}
+
+impl Model for LocalReport {
+    ghost use Rattle.gen_local.specs.Report.{Report, IsReport};
+
+    ghost Value = { Report };
+
+    ghost view = { λ r. record { header = r.header; exhibit = r.exhibit; reading = r.reading } };
+
+    ghost invariant = { λ r. IsReport
+        (record { header = r.header; exhibit = r.exhibit; reading = r.reading }) };
+}
+
+impl LocalReport {
+    /// Returns the header that the report names.
+    pub fn header(&self) -> &Header
+        ensures { result.now ≡ self.now.header }
+    {
+        &self.header
+    }
+
+    /// Returns the exhibit that the report names.
+    pub fn exhibit(&self) -> &Exhibit
+        ensures { result.now ≡ self.now.exhibit }
+    {
+        &self.exhibit
+    }
+
+    /// Returns what the exhibit is under the header.
+    pub fn reading(&self) -> &Reading
+        ensures value { result.now ≡ self.now.reading }
+        ensures report { IsReport self.now }
+    {
+        &self.reading
+    }
+}
+
+/// Returns the report of an exhibit, a general and bytes that are said to be his log, under a header. No
+/// signature is verified twice.
+///
+/// # Errors
+///
+/// `AllocError` where memory is refused.
+pub fn local_report(
+    alloc: Global,
+    header: &Header,
+    general: GeneralNo,
+    log: &[u8],
+) -> Result<LocalReport, AllocError>
+    ensures header { IfOk result (λ report. report.header ≡ header.now) }
+    ensures exhibit { IfOk result (λ report.
+        report.exhibit ≡ record { general = general; bytes = log.now }) }
+    ensures report { IfOk result IsReport }
+{
+    let mut store = VerifyStore::new(alloc)?;
+    local_report_with(alloc, header, general, log, &mut store)
+}
+
+/// Returns the report of an exhibit, a general and bytes that are said to be his log, under a header.
+/// Signatures are verified through the store, so that none is verified twice; the store must serve the
+/// header, and serves it afterwards too.
+///
+/// # Errors
+///
+/// `AllocError` where memory is refused. Then the store keeps what was verified before.
+pub fn local_report_with(
+    alloc: Global,
+    header: &Header,
+    general: GeneralNo,
+    log: &[u8],
+    store: &mut VerifyStore,
+) -> Result<LocalReport, AllocError>
+    requires { Serves header.now store.old }
+    ensures header { IfOk result (λ report. report.header ≡ header.now) }
+    ensures exhibit { IfOk result (λ report.
+        report.exhibit ≡ record { general = general; bytes = log.now }) }
+    ensures report { IfOk result IsReport }
+    ensures grows { KeepsAll store.old store.new }
+    ensures serves { Serves header.now store.new }
+{
+    let reading = reading_of(alloc, header, general, log, store)?;
+    let header = header.clone()?;
+    let exhibit = Exhibit::new(general, Vec::from_slice(alloc, log)?);
+    Ok(LocalReport {
+        header,
+        exhibit,
+        reading,
+    })
+}

@@ -1,0 +1,81 @@
+//! Which paths a general can sign an order with.
+ghost use Rattle.std.specs.Prelude.{IsTrue, ◌≡◌, ◌↔◌};
+ghost use Rattle.std.specs.List.{list_any};
+ghost use Rattle.gen_local.specs.Recvs.{HasRecv, is_recv_of as is_received};
+ghost use Rattle.gen_local.specs.Erased.{erased};
+ghost use Rattle.gen_local.specs.Walking.Judged.{Lengthens, CanSign};
+
+use crate::progress::Progress;
+use gen_log::Entry;
+use gen_net::Net;
+use gen_types::{GeneralNo, OrderNo, Path};
+
+/// Whether an entry is a RECV of this order and path.
+fn is_recv_of(entry: &Entry, order: OrderNo, generals: &[GeneralNo]) -> bool
+    ensures { result ≡ is_received order generals.now entry.now }
+{
+    match entry {
+        Entry::Recv { from: _, chain } => {
+            chain.order() == order
+                && chain.signers().len() == generals.len()
+                && chain.path().generals() == generals
+        }
+        _ => false,
+    }
+}
+
+/// Whether one of the entries is a RECV of this order and path.
+fn any_is_recv_of(before: &[Entry], order: OrderNo, generals: &[GeneralNo]) -> bool
+    ensures { result ≡ list_any (is_received order generals.now) before.now }
+{
+    before
+        .iter()
+        .any(|entry| is_recv_of(entry, order, generals))
+}
+
+/// Whether a chain of this order and path was received.
+fn was_received(before: &[Entry], order: OrderNo, generals: &[GeneralNo]) -> bool
+    ensures { IsTrue result ↔ HasRecv (erased before.now) order generals.now }
+{
+    any_is_recv_of(before, order, generals)
+}
+
+/// Whether the path is one by which the general learnt the order in this round, lengthened by himself.
+fn lengthens(
+    general: GeneralNo,
+    before: &[Entry],
+    order: OrderNo,
+    round: u8,
+    path: &[GeneralNo],
+) -> bool
+    ensures { IsTrue result ↔ Lengthens general (erased before.now) order round path.now }
+{
+    match path {
+        [] => false,
+        [picked @ .., last] => {
+            *last == general
+                && picked.len() == usize::from(round)
+                && (picked.is_empty() || was_received(before, order, picked))
+        }
+    }
+}
+
+/// Whether the general, who has come so far with the order, can sign it with this path.
+pub fn can_sign(
+    net: &Net,
+    general: GeneralNo,
+    before: &[Entry],
+    order: OrderNo,
+    progress: &Progress,
+    path: &Path,
+) -> bool
+    ensures { IsTrue result ↔ CanSign net.now general (erased before.now) order progress.now path.now }
+{
+    match progress {
+        Progress::Unlearnt => false,
+        Progress::Learnt { round } => {
+            *round < net.rounds() && lengthens(general, before, order, *round, path.generals())
+        }
+        Progress::Relayed { path: _, next: _ } => false,
+    }
+}

@@ -1,0 +1,58 @@
+//! Where entries depart.
+ghost use Rattle.std.specs.Prelude.{IsTrue, IsSome, IfSome, ℕ, ◌≡◌, ◌<◌, ◌≤◌, ◌+◌, ◌↔◌, Some, None};
+ghost use Rattle.gen_log.specs.Entry.{erase};
+ghost use Rattle.gen_net.specs.Departs.{Begins, DepartsAt};
+ghost use Rattle.gen_local.specs.Following.{MayFollow};
+ghost use Rattle.gen_local.specs.Keys.{IsSmall, key_of as key_at};
+ghost use Rattle.gen_local.specs.Erased.{erased};
+ghost use Rattle.gen_local.specs.Walking.State.{IsAfter};
+ghost use Rattle.gen_local.specs.Walking.Brought.{SendsInside};
+
+use crate::bringing::bring;
+use crate::judging::is_judged;
+use crate::places::{key_of, know_small};
+use crate::progress::Progress;
+use gen_log::Entry;
+use gen_net::Net;
+use gen_types::GeneralNo;
+
+/// Whether the entry may follow those before it, after which each order has come so far.
+fn may_follow(
+    net: &Net,
+    general: GeneralNo,
+    before: &[Entry],
+    least: u32,
+    orders: &[Progress; 16],
+    entry: &Entry,
+) -> bool
+    requires { IsAfter net.now general (erased before.now) least orders.now }
+    ensures { IsTrue result ↔ MayFollow net.now general (erased before.now) (erase entry.now) }
+{
+    know_small(entry);
+    let _orders = net.orders();
+    is_judged(net, general, before, least, orders, entry)
+}
+
+/// Returns the first entry, counted from 0, with which the entries no longer begin a log that the general
+/// could keep of any run in which he follows, and None exactly where they begin one. The entries may be
+/// any, in any order; the general is below n. It takes no memory.
+pub fn departs_from(net: &Net, general: GeneralNo, entries: &[Entry]) -> Option<usize>
+    requires { general < net.now.generals }
+    ensures departs { (p : ℕ) → (result ≡ Some p) ↔ DepartsAt net.now general (erased entries.now) p }
+    ensures begins { (result ≡ None) ↔ Begins net.now general (erased entries.now) }
+{
+    let _orders = net.orders();
+    let mut least = 0u32;
+    let mut orders = [Progress::Unlearnt; 16];
+    for place in 0..entries.len() {
+        let before = &entries[..place];
+        let entry = &entries[place];
+        if !may_follow(net, general, before, least, &orders, entry) {
+            return Some(place);
+        }
+        know_small(entry);
+        bring(net, general, &mut orders, entry);
+        least = key_of(net, entry) + 1;
+    }
+    None
+}

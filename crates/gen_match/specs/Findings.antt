@@ -1,0 +1,44 @@
+-- The one order of findings.
+use Rattle.std.specs.Prelude.{ℕ, ◌↔◌, List, [], ◌∷◌, Contains, AllPairs}
+use Rattle.gen_net.specs.Log.{Precedes}
+use Rattle.gen_chain.specs.declared.fault.ChainFault.{ChainFault}
+use Rattle.gen_chain.specs.declared.fault.ChainFault.TheVariants as chain_faults
+use Rattle.gen_log.specs.declared.fault.LogFault.{LogFault}
+use Rattle.gen_log.specs.declared.fault.LogFault.TheVariants as log_faults
+use Rattle.gen_match.specs.declared.finding.Finding.{Finding}
+use Rattle.gen_match.specs.declared.finding.Finding.TheVariants.{Missing, Several, Unreadable, Foreign, Unsigned, Unsealed, Departs, Unmatched, Underivable, Unjoined, Nobody}
+
+-- the number of a chain's fault, and the numbers of a log's
+abbrev pub chain_fault_number : ChainFault → ℕ
+chain_fault_number chain_faults.Truncated = 1
+chain_fault_number chain_faults.OrderRange = 2
+chain_fault_number chain_faults.SignerCount = 3
+chain_fault_number chain_faults.BadSigner = 4
+chain_fault_number chain_faults.NotFromCommander = 5
+
+abbrev pub log_fault_numbers : LogFault → List ℕ
+log_fault_numbers log_faults.Truncated = 1 ∷ []
+log_fault_numbers log_faults.UnknownKind = 2 ∷ []
+log_fault_numbers log_faults.OutOfRange = 3 ∷ []
+log_fault_numbers log_faults.OutOfPlace = 4 ∷ []
+log_fault_numbers (log_faults.Chain fault) = 5 ∷ chain_fault_number fault ∷ []
+log_fault_numbers log_faults.LeftOver = 6 ∷ []
+
+-- where a finding stands: its number, its generals, its entry, round or fault, and its order
+abbrev pub finding_place : Finding → List ℕ
+finding_place (Missing general) = 1 ∷ general ∷ []
+finding_place (Several general) = 2 ∷ general ∷ []
+finding_place (Unreadable general fault) = 3 ∷ general ∷ log_fault_numbers fault
+finding_place (Foreign general) = 4 ∷ general ∷ []
+finding_place (Unsigned general entry) = 5 ∷ general ∷ entry ∷ []
+finding_place (Unsealed general) = 6 ∷ general ∷ []
+finding_place (Departs general entry) = 7 ∷ general ∷ entry ∷ []
+finding_place (Unmatched from to round order) = 8 ∷ from ∷ to ∷ round ∷ order ∷ []
+finding_place (Underivable from to round order) = 9 ∷ from ∷ to ∷ round ∷ order ∷ []
+finding_place (Unjoined first second) = 10 ∷ first ∷ second ∷ []
+finding_place Nobody = 11 ∷ []
+
+-- the findings are exactly those with this property, in their one order, and none stands twice
+pub record AreFindings (P : Finding → Type 0) (findings : List Finding) : Type 0 where
+  pub in_order : AllPairs (λ x y. Precedes (finding_place x) (finding_place y)) findings
+  pub members : (finding : Finding) → Contains findings finding ↔ P finding

@@ -1,0 +1,4 @@
+pub mod Findings
+pub mod Matching
+pub mod Reports
+pub mod Sources

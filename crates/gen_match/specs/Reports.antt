@@ -1,0 +1,27 @@
+-- The logs that reports of exhibits tell.
+use Rattle.std.specs.Prelude.{ℕ, ◌==◌, List, [], ◌∷◌, filter, Option, Some, None}
+use Rattle.gen_net.specs.Log.{LogEntry}
+use Rattle.gen_local.specs.declared.reading.Reading.{Reading}
+use Rattle.gen_local.specs.declared.reading.Reading.TheVariants.{Unreadable, Foreign, Own}
+use Rattle.gen_local.specs.Erased.{erased}
+use Rattle.gen_local.specs.Report.{Report}
+use Rattle.gen_match.specs.Matching.{Logs}
+
+-- the entries of an exhibit that is a log of its general and this run
+abbrev pub entries_told : Reading → Option (List LogEntry)
+entries_told (Unreadable fault) = None
+entries_told Foreign = None
+entries_told (Own found) = Some (erased found.log.entries)
+
+-- those of a general's one report
+abbrev pub sole_told : List Report → Option (List LogEntry)
+sole_told (r ∷ []) = entries_told r.reading
+sole_told _ = None
+
+-- the reports that name a general
+abbrev pub reports_of : List Report → ℕ → List Report
+reports_of reports g = filter (λ r. r.exhibit.general == g) reports
+
+-- the logs that reports tell
+abbrev pub told_logs : List Report → Logs
+told_logs reports g = sole_told (reports_of reports g)
