@@ -3,6 +3,7 @@ pub mod Arriving
 pub mod Deriving
 pub mod FirstChains
 pub mod Growing
+pub mod HearSteps
 pub mod Obeying
 pub mod Rounding
 pub mod Same
