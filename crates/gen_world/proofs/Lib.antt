@@ -5,6 +5,7 @@ pub mod FirstChains
 pub mod Growing
 pub mod HearSteps
 pub mod Obeying
+pub mod Relaying
 pub mod Rounding
 pub mod Same
 pub mod SplitCommander

@@ -3,6 +3,7 @@ pub mod Counted
 pub mod Counting
 pub mod Deciding
 pub mod Derivables
+pub mod Following
 pub mod Frames
 pub mod Heard
 pub mod Loops

@@ -1,3 +1,4 @@
 -- Definitions that only loops and the functions inside them speak of.
 pub mod Listing
+pub mod Relays
 pub mod Rounds

@@ -2,6 +2,7 @@
 #![tactic(auto)]
 
 mod counting;
+mod following;
 mod hearing;
 pub mod laws;
 mod running;
