@@ -7,5 +7,7 @@ pub mod HearSteps
 pub mod Obeying
 pub mod Rounding
 pub mod Same
+pub mod ScriptSets
 pub mod SplitCommander
+pub mod TreeRows
 pub mod WorldFollowers
