@@ -1,7 +1,7 @@
 pub mod ChainLaws
 pub mod DistinctPaths
-mod LongerChains
+pub mod LongerChains
 pub mod Parts
 mod Room
-mod SignedSoFar
+pub mod SignedSoFar
 pub mod TestedChains

@@ -14,6 +14,7 @@ pub mod SignedWorld
 pub mod Signing
 pub mod Steps
 pub mod Theorem
+pub mod Trees
 pub mod TwoOrders
 pub mod World
 pub mod WorldFollows

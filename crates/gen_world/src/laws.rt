@@ -2,11 +2,14 @@
 ghost use Rattle.gen_net.specs.Network.{IsNetwork};
 ghost use Rattle.gen_world.specs.AnyChoice.{AnyChoice, EachIsChoice};
 ghost use Rattle.gen_world.specs.Counted.{CountsThese};
+ghost use Rattle.gen_world.specs.Deciding.{DecisionsHold, PlainDecisions, OneOutcome};
 ghost use Rattle.gen_world.specs.Derivables.{ProlongedByFaulty, SignedByFaulty};
+ghost use Rattle.gen_world.specs.Steps.{MessagesCount, OneRoundMore, FrameAfter, OneSignerMore, BegunByCommander};
 ghost use Rattle.gen_world.specs.Theorem.{Agreement, Case, DecideAlike, EachDecides, ObeyCommander, Premises, Validity};
 ghost use Rattle.gen_world.specs.TwoOrders.{BothAccepted, three, two_orders_case};
 ghost use Rattle.gen_world.specs.World.{OneWorld};
 ghost use Rattle.gen_world.specs.WorldFollows.{LieutenantsFollow, WorldIsSigned, WorldMeetsPremises};
+ghost use Rattle.gen_world.specs.WorldLaws.{CommanderObeys, EachFollows, LieutenantsRelay, MessagesAreRun, PlainWorld};
 
 /// A plain scenario has one run: two runs of it have the same messages.
 pub fn one_world()
@@ -62,4 +65,35 @@ pub fn two_orders()
 /// Counting as a function: the list of the chains of a frame that count has exactly those that count, of each order one.
 pub fn counting()
     ensures { CountsThese }
+{}
+
+/// The messages of a scenario with signatures are a run of its network (`run`); a commander without a script follows, with the
+/// scenario's order (`commander`); each lieutenant without a script relays what he adds with the least sender's path
+/// (`lieutenants`), so each general without a script follows (`follows`); without scripts it is the run of the plain scenario
+/// (`plain`).
+pub fn world_is_run()
+    ensures run { MessagesAreRun }
+    ensures commander { CommanderObeys }
+    ensures lieutenants { LieutenantsRelay }
+    ensures follows { EachFollows }
+    ensures plain { PlainWorld }
+{}
+
+/// What the generals without scripts decide is a decision in the run of the scenario (`hold`); without scripts they are the
+/// decisions of the plain scenario (`plain`), which has one list of them (`one`).
+pub fn decisions_are_known()
+    ensures hold { DecisionsHold }
+    ensures plain { PlainDecisions }
+    ensures one { OneOutcome }
+{}
+
+/// How loops go along the definitions: the messages of the run are those that count in the frames of their rounds (`count`);
+/// one round more of what is heard (`round`), and its frames (`frame`); one signer more (`signer`), and how chains begin
+/// (`begin`).
+pub fn steps_are_known()
+    ensures count { MessagesCount }
+    ensures round { OneRoundMore }
+    ensures frame { FrameAfter }
+    ensures signer { OneSignerMore }
+    ensures begin { BegunByCommander }
 {}

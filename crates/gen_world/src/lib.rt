@@ -7,11 +7,13 @@ mod hearing;
 pub mod laws;
 mod running;
 mod scenario;
+mod signed;
 
 pub use counting::{Delivery, count_frame};
 pub use hearing::Heard;
 pub use running::run_plain;
 pub use scenario::{Decision, PlainRun, PlainScenario};
+pub use signed::Scenario;
 
 #[cfg(test)]
 mod counting_tests;

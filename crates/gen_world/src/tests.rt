@@ -107,5 +107,8 @@ fn the_laws_are_there_to_be_called(_rt: HostRuntime) -> Result<(), Fail> {
     laws::derivables();
     laws::two_orders();
     laws::counting();
+    laws::world_is_run();
+    laws::decisions_are_known();
+    laws::steps_are_known();
     Ok(())
 }
