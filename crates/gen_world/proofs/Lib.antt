@@ -13,6 +13,7 @@ pub mod Growing
 pub mod Having
 pub mod HearSteps
 pub mod HeardBy
+pub mod HeardOrders
 pub mod Obeying
 pub mod Relaying
 pub mod Rounding

@@ -1,6 +1,6 @@
 -- Signing one order after another.
 use Rattle.std.proofs.Common.{◌≡◌, ℕ, zero, suc, ◌-◌, Bool, true, false, List, [], ◌∷◌, ◌++◌, refl, sym, ap, subst, ◌∙◌, eqb, Some, None, Option, Contains, inl, inr, ◌⊎◌, ◌↔◌, All, ◌≤◌, ◌<◌, ◌+◌, ◌*◌, arith, length, map, zero-add, add-one}
-use Rattle.std.specs.Prelude.{option_map, IsSome, IsNone}
+use Rattle.std.specs.Prelude.{option_map, IsSome, IsNone, Result, Ok, Err, IfOk, OnOk}
 use Rattle.std.specs.List.{range_with_len, flat_map}
 use Rattle.std.proofs.lemmas.Bool.{eqb-true, eq-eqb}
 use Rattle.std.proofs.lemmas.Grind.{flat_map-append}
@@ -273,3 +273,22 @@ own_chain k own round first = rw first refl
 
 pub no_own_chain : (k : Keys) (own round : ℕ) → (round ≡ 1 → ⊥) → signed_in k 0 (Some own) [] round ≡ []
 no_own_chain k own round other = elim (bool_cases (eqb round 1)) [ inl t ↦ absurd (other (eqb-true round 1 t)) | inr f ↦ rw f refl ]
+
+pub if_ok : {A E : Type 0} (P Q : A → Type 0) (r : Result A E) → ((x : A) → P x → Q x) → IfOk r P → IfOk r Q
+if_ok P Q (Ok x) f h = f x h
+if_ok P Q (Err e) f h = h
+
+pub on_ok : {A E : Type 0} (P Q : Type 0) (r : Result A E) → (P → Q) → OnOk r P → OnOk r Q
+on_ok P Q (Ok x) f h = f h
+on_ok P Q (Err e) f h = h
+
+-- what the commander signs does not depend on what he heard
+pub own_with : (h : RunHeader) (own : ℕ) (a b : List Heard) (round leaf : ℕ) → IsSignedWith h (Some own) a round leaf → IsSignedWith h (Some own) b round leaf
+own_with h own a b round leaf s = record { order = s.order; known = s.known; leaf_is = s.leaf_is; signed = s.signed }
+
+pub own_taken_with : (h : RunHeader) (own : ℕ) (a b : List Heard) (round : ℕ) (old new : List ℕ) → ((leaf : ℕ) → Contains new leaf ↔ (Contains old leaf ⊎ IsSignedWith h (Some own) a round leaf))
+    → (leaf : ℕ) → Contains new leaf ↔ (Contains old leaf ⊎ IsSignedWith h (Some own) b round leaf)
+own_taken_with h own a b round old new taken leaf = (
+  λ k. elim ((taken leaf).0 k) [ inl o ↦ inl o | inr s ↦ inr (own_with h own a b round leaf s) ],
+  λ k. elim k [ inl o ↦ (taken leaf).1 (inl o) | inr s ↦ (taken leaf).1 (inr (own_with h own b a round leaf s)) ],
+)

@@ -1,4 +1,5 @@
 -- Definitions that only loops and the functions inside them speak of.
+pub mod Deciding
 pub mod Listing
 pub mod Relays
 pub mod Rounds

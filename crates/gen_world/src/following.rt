@@ -1,5 +1,5 @@
 //! What a general without a script signs, and the parcels of it.
-ghost use Rattle.std.specs.Prelude.{◌≡◌, ◌≤◌, ◌<◌, ◌+◌, ◌↔◌, ◌⊎◌, ◌++◌, ◌∷◌, [], ℕ, map, Some, None, All, Contains, IfOk, OnOk, OnErr, length, option_map, vec_len, vec_capacity};
+ghost use Rattle.std.specs.Prelude.{◌≡◌, ◌≤◌, ◌<◌, ◌+◌, ◌↔◌, ◌⊎◌, ◌++◌, ◌∷◌, [], ℕ, map, Some, None, All, Contains, IfSome, IfOk, OnOk, OnErr, length, option_map, vec_len, vec_capacity};
 ghost use Rattle.gen_net.specs.Header.{height_of};
 ghost use Rattle.gen_chain.specs.Chain.{IsSignedChain, signed_path, chain_spelling};
 ghost use Rattle.gen_chain.specs.Leaves as leaves;
@@ -160,7 +160,7 @@ fn relay_order(
 
 /// Signs what a lieutenant first heard in the round before, in ascending order of orders. Where memory is
 /// refused the ring is as before.
-pub(crate) fn sign_relays(
+fn sign_relays(
     alloc: Global,
     header: &Header,
     ring: &mut KeyRing,
@@ -200,7 +200,7 @@ pub(crate) fn sign_relays(
 }
 
 /// Signs the commander's order in round 1. Where memory is refused the ring is as before.
-pub(crate) fn sign_own(
+fn sign_own(
     alloc: Global,
     header: &Header,
     ring: &mut KeyRing,
@@ -230,6 +230,37 @@ pub(crate) fn sign_own(
     let chain = begin_chain(header, own, room, signature, key);
     signed.push(chain).unwrap();
     Ok(signed)
+}
+
+/// Signs what a general without a script signs in a round, the commander's order or what a lieutenant first
+/// heard in the round before. Where memory is refused the ring is as before.
+pub(crate) fn sign_round(
+    alloc: Global,
+    header: &Header,
+    ring: &mut KeyRing,
+    me: GeneralNo,
+    own: Option<OrderNo>,
+    round: u8,
+    heard: &[Heard],
+) -> Result<Vec<SignedChain>, AllocError>
+    requires me { me < header.now.network.generals }
+    requires own { IfSome own (λ order. order < header.now.network.orders) }
+    requires others { AreOthers header.now me heard.now }
+    requires ring { ring.old.height ≡ height_of header.now }
+    requires leaf { (leaf : ℕ) → IsSignedWith header.now own heard.now round leaf
+        → Contains ring.old.taken leaf → ⊥ }
+    ensures chains { IfOk result (λ chains. chains.items
+        ≡ signed_in (own_keys header.now ring.old.seed) me own heard.now round) }
+    ensures err { OnErr result (ring.new ≡ ring.old) }
+    ensures seed { ring.new.seed ≡ ring.old.seed }
+    ensures height { ring.new.height ≡ ring.old.height }
+    ensures taken { OnOk result ((leaf : ℕ) → Contains ring.new.taken leaf
+        ↔ (Contains ring.old.taken leaf ⊎ IsSignedWith header.now own heard.now round leaf)) }
+{
+    match own {
+        Some(order) => sign_own(alloc, header, ring, order, round),
+        None => sign_relays(alloc, header, ring, me, round, heard),
+    }
 }
 
 /// Puts the parcel of a chain into a frame, unless the receiver is one of its signers.

@@ -2,6 +2,7 @@
 #![tactic(auto)]
 
 mod counting;
+mod deciding;
 mod following;
 mod hearing;
 pub mod laws;
