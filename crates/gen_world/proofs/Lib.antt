@@ -20,6 +20,7 @@ pub mod Rounding
 pub mod Same
 pub mod ScriptSets
 pub mod ScriptsOf
+pub mod Seats
 pub mod SplitCommander
 pub mod Stepping
 pub mod TreeRows

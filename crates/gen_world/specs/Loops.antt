@@ -2,4 +2,6 @@
 pub mod Deciding
 pub mod Listing
 pub mod Relays
+pub mod Roles
 pub mod Rounds
+pub mod Seats

@@ -3,15 +3,21 @@
 
 mod counting;
 mod deciding;
+mod followers;
 mod following;
 mod hearing;
 pub mod laws;
+mod participants;
+mod parts;
+mod roles;
 mod running;
 mod scenario;
 mod signed;
 
 pub use counting::{Delivery, count_frame};
 pub use hearing::Heard;
+pub use participants::Participant;
+pub use parts::{Part, SignerTree};
 pub use running::run_plain;
 pub use scenario::{Decision, PlainRun, PlainScenario};
 pub use signed::Scenario;

@@ -1,0 +1,31 @@
+-- What a general has beside what he knows and heard, by whether he has a script.
+use Rattle.std.specs.Prelude.{ℕ, ◌≡◌, ◌≤◌, List, [], Option, Some, None, Contains, length, take}
+use Rattle.gen_tree.specs.Rings.{Ring}
+use Rattle.gen_world.specs.declared.hearing.Heard.{Heard}
+use Rattle.gen_world.specs.declared.roles.Role.{Role}
+use Rattle.gen_world.specs.declared.roles.Role.TheVariants.{Loyal}
+use Rattle.gen_world.specs.Following.{AreOthers}
+use Rattle.gen_world.specs.Known.{Known, IsKnown}
+use Rattle.gen_world.specs.Loops.Seats.{Hand, IsHand, IsFree, HasSignedIt}
+
+-- his ring, if he has one
+abbrev pub ring_of : Role → Option Ring
+ring_of (Loyal hand) = Some hand.ring
+
+-- what he keeps
+abbrev pub IsRole : Known → List Heard → List Heard → ℕ → Role → Type 0
+IsRole k heard before round (Loyal hand) = IsHand k heard before round hand
+
+-- he may begin a round
+abbrev pub MayBegin : Known → List Heard → ℕ → Role → Type 0
+MayBegin k heard round (Loyal hand) = IsFree k heard round hand
+
+-- he has begun it
+abbrev pub RoleBegan : Known → List Heard → ℕ → Role → Role → Type 0
+RoleBegan k heard round (Loyal old) (Loyal new) = HasSignedIt k heard round old new
+
+-- what each general keeps
+pub record IsSeat (k : Known) (role : Role) (heard : List Heard) (count round : ℕ) : Type 0 where
+  pub begun : count ≤ length heard
+  pub others : AreOthers k.header k.me heard
+  pub acts : IsRole k heard (take count heard) round role
