@@ -6,18 +6,18 @@ use Rattle.std.proofs.lemmas.Bool as bools
 use Rattle.std.proofs.lemmas.List.Elements.{All-contains}
 use Rattle.gen_types.specs.Ascending.{IsListOf}
 use Rattle.gen_types.specs.Members.{filter_range_has, filter_range_gives, filter_range_ascending}
-use Rattle.gen_types.proofs.Lists.{Contains_here, Contains_there, Contains_mapped, All_of, ascending_one}
-use Rattle.gen_net.specs.Network.{Network, rounds, choose}
+use Rattle.gen_types.proofs.Lists.{Contains_here, Contains_there, Contains_mapped, All_of, ascending_one, Contains_nil}
+use Rattle.gen_net.specs.Network.{Network, rounds, choose, IsNetwork}
 use Rattle.gen_net.specs.declared.message.Message.{Message}
 use Rattle.gen_net.specs.Run.{Run, Accepts}
 use Rattle.gen_net.specs.Follows.{LieutenantDecides}
 use Rattle.gen_core.proofs.Decisions.{arrived_accepted}
 use Rattle.gen_world.proofs.Same.{one_world_shown}
 use Rattle.gen_world.specs.declared.scenario.Decision.{Decision}
-use Rattle.gen_world.specs.Deciding.{DecisionsHold, OneOutcome, PlainDecisions, decision_of, decisions_of, followers_of}
+use Rattle.gen_world.specs.Deciding.{DecisionsHold, OneOutcome, PlainDecisions, decision_of, decisions_of, followers_of, with_keys, AreSignedDecisions}
 use Rattle.gen_world.specs.declared.hearing.Heard.{Heard}
-use Rattle.gen_world.specs.World.{IsDecision}
-use Rattle.gen_world.specs.Scenario.{Scenario, has_script, scripted}
+use Rattle.gen_world.specs.World.{IsDecision, IsOutcome}
+use Rattle.gen_world.specs.Scenario.{Scenario, has_script, scripted, Plain, IsScenario}
 use Rattle.gen_script.specs.Script.{Script}
 use Rattle.gen_world.proofs.Having.{any_gives, any_has}
 use Rattle.gen_world.proofs.FollowerRelays.{arrived_heard}
@@ -59,13 +59,13 @@ all_kept : (p : ℕ → Bool) (xs : List ℕ) → ((x : ℕ) → p x ≡ true) �
 all_kept p [] all = refl
 all_kept p (x ∷ xs) all = rw (all x) (ap (λ ys. x ∷ ys) (all_kept p xs all))
 
-first_is : (s : Scenario) (g : ℕ) → (decision_of s g).general ≡ g
-first_is s zero = refl
-first_is s (suc g) = refl
+pub decision_general : (s : Scenario) (g : ℕ) → (decision_of s g).general ≡ g
+decision_general s zero = refl
+decision_general s (suc g) = refl
 
 firsts_are : (s : Scenario) (xs : List ℕ) → map (λ (d : Decision). d.general) (map (decision_of s) xs) ≡ xs
 firsts_are s [] = refl
-firsts_are s (x ∷ xs) = (λ i. first_is s x i ∷ firsts_are s xs i)
+firsts_are s (x ∷ xs) = (λ i. decision_general s x i ∷ firsts_are s xs i)
 
 nobody : (s : Scenario) → s.scripts ≡ [] → (g : ℕ) → not (has_script s g) ≡ true
 nobody s none g = subst (λ (scripts : List Script). not (list_any (λ h. eqb h g) (scripted scripts)) ≡ true) (sym none) refl
@@ -123,3 +123,19 @@ pub one_outcome : OneOutcome
 one_outcome net order decisions others one two =
     same_decisions net order one.run two.run (one_world_shown net order one.run two.run one.world two.world) decisions others (one.generals ∙ sym two.generals)
     (λ d h. All-contains (IsDecision net order one.run) decisions d one.each h) (λ d h. All-contains (IsDecision net order two.run) others d two.each h)
+
+-- the decisions of a plain scenario are also those with signatures
+with_keys_is : (plain : Plain) (master : List ℕ) → IsNetwork plain.net → plain.order < plain.net.orders → IsScenario (with_keys plain master)
+with_keys_is plain master network low = record {
+  network = network;
+  slot = omega arith;
+  order_known = low;
+  known = λ script h. absurd (Contains_nil script h);
+  ascending = λ i j d l m. absurd (omega arith);
+  lawful = λ script line h k. absurd (Contains_nil script h);
+  signers = λ script line h k. absurd (Contains_nil script h);
+}
+
+pub signed_decisions : (plain : Plain) (decisions : List Decision) → IsNetwork plain.net → plain.order < plain.net.orders → IsOutcome plain.net plain.order decisions → AreSignedDecisions plain decisions
+signed_decisions plain decisions network low outcome master =
+    one_outcome plain.net plain.order decisions (decisions_of (with_keys plain master)) outcome (plain_decisions (with_keys plain master) (with_keys_is plain master network low) refl)

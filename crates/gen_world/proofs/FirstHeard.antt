@@ -100,3 +100,15 @@ has_first order (a ∷ xs) y h o = elim (bool_cases (eqb a.chain.order order)) [
     | inr k ↦ let r = has_first order xs y k o in (r.0, rw out r.1)
   ]
 ]
+
+-- and it stands there
+pub first_in : (order : ℕ) (xs : List Heard) (x : Heard) → first_of order xs ≡ Some x → Contains xs x
+unfolding first_of
+first_in order [] x e = absurd cc
+first_in order (y ∷ xs) x e = elim (bool_cases (eqb y.chain.order order)) [
+  | inl here ↦
+      let found : Some y ≡ Some x = rw here at e in
+      let same : y ≡ x = cc in
+      subst (λ z. Contains (y ∷ xs) z) same (Contains_here y xs)
+  | inr later ↦ let there : first_of order xs ≡ Some x = rw later at e in Contains_there y x xs (first_in order xs x there)
+]

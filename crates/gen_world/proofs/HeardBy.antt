@@ -49,7 +49,7 @@ pub record HeardAfter (s : Scenario) (j g : ℕ) (x : Heard) : Type 0 where
   pub near : Contains (neighbours_of s.net g) x.from
   pub counts : CountsAfter s j x.from g x.chain
 
-in_has : (s : Scenario) (j g : ℕ) (x : Heard) → Contains (heard_in s (heard_by s j) (suc j) g) x → HeardAfter s j g x
+pub in_has : (s : Scenario) (j g : ℕ) (x : Heard) → Contains (heard_in s (heard_by s j) (suc j) g) x → HeardAfter s j g x
 unfolding heard_in
 in_has s j g x k =
     let r = Contains_flat_mapped (heard_of s (heard_by s j) (suc j) g) (neighbours_of s.net g) x k in

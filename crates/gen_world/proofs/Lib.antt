@@ -1,5 +1,6 @@
 pub mod Agree
 pub mod Arriving
+pub mod BoundedScenarios
 pub mod Conducts
 pub mod CountedChains
 pub mod DecisionsMade
@@ -13,7 +14,12 @@ pub mod Growing
 pub mod Having
 pub mod HearSteps
 pub mod HeardBy
+<<<<<<< HEAD
 pub mod HeardOrders
+=======
+pub mod HeardKnown
+pub mod KeptRounds
+>>>>>>> laws
 pub mod Obeying
 pub mod Relaying
 pub mod Rounding
@@ -23,5 +29,9 @@ pub mod ScriptsOf
 pub mod Seats
 pub mod SplitCommander
 pub mod Stepping
+<<<<<<< HEAD
 pub mod TreeRows
+=======
+pub mod TraitorFrames
+>>>>>>> laws
 pub mod WorldFollowers

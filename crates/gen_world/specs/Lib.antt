@@ -6,9 +6,11 @@ pub mod Derivables
 pub mod Following
 pub mod Frames
 pub mod Heard
+pub mod HeardLaws
 pub mod Known
 pub mod Loops
 pub mod RoundEntries
+pub mod RoundsKept
 pub mod Scenario
 pub mod Seat
 pub mod SignedLaw

@@ -4,6 +4,9 @@ ghost use Rattle.gen_world.specs.AnyChoice.{AnyChoice, EachIsChoice};
 ghost use Rattle.gen_world.specs.Counted.{CountsThese};
 ghost use Rattle.gen_world.specs.Deciding.{DecisionsHold, PlainDecisions, OneOutcome};
 ghost use Rattle.gen_world.specs.Derivables.{ProlongedByFaulty, SignedByFaulty};
+ghost use Rattle.gen_world.specs.HeardLaws.{CountedAreChains, HeardInRound, HeardIsKnown};
+ghost use Rattle.gen_world.specs.RoundsKept.{FrameKept, SendEntriesKept, SignEntriesKept, SignsKept};
+ghost use Rattle.gen_world.specs.SignedLaw.{NoRawIsSigned, TheoremHoldsOfScenarios};
 ghost use Rattle.gen_world.specs.Steps.{MessagesCount, OneRoundMore, FrameAfter, OneSignerMore, BegunByCommander};
 ghost use Rattle.gen_world.specs.Theorem.{Agreement, Case, DecideAlike, EachDecides, ObeyCommander, Premises, Validity};
 ghost use Rattle.gen_world.specs.TwoOrders.{BothAccepted, three, two_orders_case};
@@ -96,4 +99,35 @@ pub fn steps_are_known()
     ensures frame { FrameAfter }
     ensures signer { OneSignerMore }
     ensures begin { BegunByCommander }
+{}
+
+/// Where no script has a raw line, the messages of a scenario are a run for the generals who have scripts: no signature of the
+/// rest is forged, whatever is known of SHA-256.
+pub fn no_signature_is_forged()
+    ensures { NoRawIsSigned }
+{}
+
+/// Theorem 4 of the paper of 1982 (section 5) of scenarios: with at most m scripts, none of which has a raw line, and any two of
+/// the rest joined inside the rest by at most d edges, the rest decide one order, the scenario's where its commander has no
+/// script.
+pub fn theorem_holds_of_scenarios()
+    ensures { TheoremHoldsOfScenarios }
+{}
+
+/// What is known of what counts, and so of what a general heard: it is a chain by trees of the run's height, which may count
+/// (`counted`); in a scenario it came from a neighbour who signed it last, and the hearer didn't sign it (`known`); and what
+/// was heard in a round has as many signers as its number (`rounds`).
+pub fn heard_is_known()
+    ensures counted { CountedAreChains }
+    ensures known { HeardIsKnown }
+    ensures rounds { HeardInRound }
+{}
+
+/// What comes in a round changes nothing of what is signed in it (`signs`), of its frames (`frame`), and of the SIGNs and
+/// SENDs that are written of it (`written`, `sent`): so a general may hear and send in whatever order within a round.
+pub fn rounds_are_kept()
+    ensures signs { SignsKept }
+    ensures frame { FrameKept }
+    ensures written { SignEntriesKept }
+    ensures sent { SendEntriesKept }
 {}
