@@ -14,12 +14,9 @@ pub mod Growing
 pub mod Having
 pub mod HearSteps
 pub mod HeardBy
-<<<<<<< HEAD
-pub mod HeardOrders
-=======
 pub mod HeardKnown
+pub mod HeardOrders
 pub mod KeptRounds
->>>>>>> laws
 pub mod Obeying
 pub mod Relaying
 pub mod Rounding
@@ -29,9 +26,6 @@ pub mod ScriptsOf
 pub mod Seats
 pub mod SplitCommander
 pub mod Stepping
-<<<<<<< HEAD
-pub mod TreeRows
-=======
 pub mod TraitorFrames
->>>>>>> laws
+pub mod TreeRows
 pub mod WorldFollowers

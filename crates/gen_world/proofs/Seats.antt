@@ -1,5 +1,5 @@
 -- What each general keeps, call by call.
-use Rattle.std.proofs.Common.{◌≡◌, ℕ, List, [], ◌∷◌, ◌++◌, refl, sym, ap, subst, ◌∙◌, Some, None, Option, Contains, inl, inr, ◌⊎◌, ◌↔◌, ◌≤◌, ◌<◌, ◌+◌, ◌*◌, arith, length, take}
+use Rattle.std.proofs.Common.{◌≡◌, ℕ, List, [], ◌∷◌, ◌++◌, refl, sym, ap, subst, ◌∙◌, Some, None, Option, Contains, inl, inr, ◌⊎◌, ◌↔◌, ◌≤◌, ◌<◌, ◌+◌, ◌*◌, arith, length, map, take}
 use Rattle.gen_tree.specs.Rings.{Ring}
 use Rattle.gen_net.specs.Header.{RunHeader, height_of}
 use Rattle.gen_net.specs.Network.{IsNetwork}
@@ -9,12 +9,20 @@ use Rattle.gen_world.specs.declared.hearing.Heard.{Heard}
 use Rattle.gen_world.specs.declared.roles.Role.{Role}
 use Rattle.gen_world.specs.declared.roles.Role.TheVariants.{Loyal}
 use Rattle.gen_world.specs.Heard.{round_of, first_of}
-use Rattle.gen_world.specs.Frames.{signed_in}
-use Rattle.gen_world.specs.Following.{own_keys, round_signed, IsSignedWith, AreOthers}
+use Rattle.gen_world.specs.Frames.{signed_in, frame_of, followers_frame}
+use Rattle.gen_world.specs.Following.{own_keys, round_signed, IsSignedWith, IsOthers, AreOthers}
 use Rattle.gen_world.specs.Known.{Known}
-use Rattle.gen_world.specs.Seat.{IsSpentOn, RingAfter, HasBegun, Seat}
+use Rattle.gen_world.specs.Seat.{IsSpentOn, RingAfter, HasBegun, Seat, keys_at}
 use Rattle.gen_world.specs.Loops.Seats.{Hand, IsHand, IsSpent, IsFree, HasSignedIt}
-use Rattle.gen_world.specs.Loops.Roles.{ring_of, IsRole, MayBegin, RoleBegan, IsSeat}
+use Rattle.gen_world.specs.Loops.Roles.{ring_of, role_frame, IsRole, MayBegin, RoleBegan, IsSeat}
+use Rattle.std.specs.Prelude.{option_map}
+use Rattle.std.proofs.lemmas.List.{take-append-le, length-append}
+use Rattle.std.proofs.lemmas.List.Elements.{Contains-append_cases}
+use Rattle.gen_types.proofs.Lists.{Contains_mapped}
+use Rattle.gen_world.specs.declared.counting.Delivery.{Delivery}
+use Rattle.gen_world.specs.Counted.{counted_of}
+use Rattle.gen_world.specs.SignedWorld.{delivery}
+use Rattle.gen_world.proofs.HeardKnown.{counted_are_chains}
 use Rattle.gen_world.proofs.Relaying.{first_front}
 
 same_round : (r : Option ℕ) (a b : ℕ) → r ≡ Some a → r ≡ Some b → a ≡ b
@@ -49,3 +57,59 @@ hand_began k heard before round old new ok has = record {
 
 pub role_began : (k : Known) (heard before : List Heard) (round : ℕ) (old new : Role) → IsRole k heard before round old → RoleBegan k heard (round + 1) old new → IsRole k heard heard (round + 1) new
 role_began k heard before round (Loyal old) (Loyal new) ok has = hand_began k heard before round old new ok has
+
+-- ---- more is heard
+
+-- the round in which an order is signed stays the same
+signed_first : (f : Option Heard) (order : ℕ) (heard more : List Heard) (at : ℕ) → first_of order heard ≡ f → option_map (λ x. round_of x + 1) (first_of order heard) ≡ Some at
+    → option_map (λ x. round_of x + 1) (first_of order (heard ++ more)) ≡ Some at
+signed_first None order heard more at e s = let none : option_map (λ x. round_of x + 1) (first_of order heard) ≡ None = rw e refl in absurd cc
+signed_first (Some x) order heard more at e s = rw (first_front order heard more x e) (rw e at s)
+
+signed_more : (own : Option ℕ) (heard more : List Heard) (order at : ℕ) → round_signed own heard order ≡ Some at → round_signed own (heard ++ more) order ≡ Some at
+signed_more (Some o) heard more order at e = e
+signed_more None heard more order at e = signed_first (first_of order heard) order heard more at refl e
+
+hand_hears : (k : Known) (heard more before : List Heard) (round : ℕ) (hand : Hand) → IsHand k heard before round hand → IsHand k (heard ++ more) before round hand
+hand_hears k heard more before round hand ok = record {
+  unscripted = ok.unscripted;
+  height = ok.height;
+  signed = ok.signed;
+  spent = λ n few h. let s = ok.spent n few h in record { at = s.at; signed = signed_more k.own heard more n s.at s.signed; past = s.past };
+}
+
+role_hears : (k : Known) (heard more before : List Heard) (round : ℕ) (role : Role) → IsRole k heard before round role → IsRole k (heard ++ more) before round role
+role_hears k heard more before round (Loyal hand) ok = hand_hears k heard more before round hand ok
+
+others_both : (h : RunHeader) (me : ℕ) (xs ys : List Heard) → AreOthers h me xs → AreOthers h me ys → AreOthers h me (xs ++ ys)
+others_both h me xs ys one two x k = elim (Contains-append_cases xs ys x k) [ inl a ↦ one x a | inr b ↦ two x b ]
+
+-- what counts was signed by others
+counted_others : (h : RunHeader) (d : Delivery) (from : ℕ) (frame : List (List ℕ)) → AreOthers h d.to (map (λ c. record { from = from; chain = c }) (counted_of h d frame))
+counted_others h d from frame x k =
+    let c = Contains_mapped (λ (c : Chain). record { from = from; chain = c }) (counted_of h d frame) x k in
+    let facts = counted_are_chains h d frame c.0 c.1 in
+    let there : IsOthers h d.to (record { from = from; chain = c.0 }) = record { chain = facts.0; outside = facts.1.outside } in
+    subst (IsOthers h d.to) c.2 there
+
+-- what was heard before the round is the same
+pub before_same : (heard more : List Heard) (count : ℕ) → count ≤ length heard → take count (heard ++ more) ≡ take count heard
+before_same heard more count le = take-append-le count heard more le
+
+pub seat_hears : (k : Known) (role : Role) (heard : List Heard) (count round from : ℕ) (frame : List (List ℕ)) → IsSeat k role heard count round
+    → IsSeat k role (heard ++ map (λ c. record { from = from; chain = c }) (counted_of k.header (delivery round from k.me) frame)) count round
+seat_hears k role heard count round from frame ok =
+    let more = map (λ c. record { from = from; chain = c }) (counted_of k.header (delivery round from k.me) frame) in
+    let longer = length-append heard more in
+    record {
+      begun = omega (arith, ok.begun, longer);
+      others = others_both k.header k.me heard more ok.others (counted_others k.header (delivery round from k.me) from frame);
+      acts = subst (λ before. IsRole k (heard ++ more) before round role) (sym (before_same heard more count ok.begun)) (role_hears k heard more (take count heard) round role ok.acts);
+    }
+
+-- ---- frames
+
+pub role_frames : (k : Known) (heard before : List Heard) (round to : ℕ) (role : Role) → IsRole k heard before round role
+    → role_frame role to ≡ frame_of (record { keys = keys_at k (ring_of role); me = k.me; own = k.own; script = k.script }) before round to
+unfolding frame_of followers_frame
+role_frames k heard before round to (Loyal hand) ok = rw (ok.unscripted, ok.signed) refl

@@ -2,7 +2,7 @@
 use Rattle.std.specs.Prelude.{ℕ, ◌≤◌, ◌<◌, List, Option, IfSome}
 use Rattle.gen_net.specs.Header.{RunHeader}
 use Rattle.gen_script.specs.declared.lines.ScriptLine.{ScriptLine}
-use Rattle.gen_world.specs.declared.parts.SignerTree.{SignerTree}
+use Rattle.gen_world.specs.declared.signer_trees.SignerTree.{SignerTree}
 
 -- the header, his number, his order if he is the commander, the lines of his script if he has one, and the trees of the keys with
 -- which these lines sign

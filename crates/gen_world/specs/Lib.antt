@@ -15,6 +15,7 @@ pub mod Scenario
 pub mod Seat
 pub mod SignedLaw
 pub mod SignedWorld
+pub mod SignerTrees
 pub mod Signing
 pub mod Steps
 pub mod Theorem

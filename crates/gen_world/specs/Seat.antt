@@ -1,12 +1,15 @@
 -- A general as he stands in a run.
-use Rattle.std.specs.Prelude.{ℕ, ◌≡◌, ◌≤◌, ◌<◌, ◌+◌, ◌↔◌, ◌⊎◌, List, [], ◌++◌, length, Option, Some, None, Contains}
+use Rattle.std.specs.Prelude.{ℕ, ◌≡◌, ◌≤◌, ◌<◌, ◌+◌, ◌↔◌, ◌⊎◌, List, [], ◌++◌, map, Option, Some, None, Contains}
 use Rattle.gen_tree.specs.Rings.{Ring}
 use Rattle.gen_net.specs.Header.{RunHeader, height_of}
 use Rattle.gen_chain.specs.Leaves.{leaves_per_run, leaf_of_order}
 use Rattle.gen_world.specs.declared.hearing.Heard.{Heard}
 use Rattle.gen_world.specs.Signing.{Keys}
-use Rattle.gen_world.specs.Following.{own_keys, round_signed, IsSignedWith, AreOthers}
-use Rattle.gen_world.specs.Frames.{Part}
+use Rattle.gen_world.specs.Following.{own_keys, IsSignedWith}
+use Rattle.gen_world.specs.Frames.{Part, frame_of}
+use Rattle.gen_world.specs.Counted.{counted_of}
+use Rattle.gen_world.specs.SignedWorld.{delivery}
+use Rattle.gen_world.specs.SignerTrees.{keys_with}
 use Rattle.gen_world.specs.Known.{Known}
 
 -- what he knows of his own, his ring if he has no script, what he heard so far, what of it he had heard when the round began
@@ -22,9 +25,32 @@ pub record Seat : Type 0 where
 abbrev pub at_start : Known → Option Ring → Seat
 at_start known ring = record { known = known; ring = ring; heard = []; before = []; round = 0 }
 
--- with more heard
-abbrev pub heard_more : Seat → List Heard → Seat
-heard_more p more = record { known = p.known; ring = p.ring; heard = p.heard ++ more; before = p.before; round = p.round }
+-- what he signs with: the key of his own seed, or those whose trees he has
+abbrev pub keys_at : Known → Option Ring → Keys
+keys_at k None = keys_with k.header k.trees
+keys_at k (Some ring) = own_keys k.header ring.seed
+
+abbrev pub part_at : Seat → Part
+part_at p = record { keys = keys_at p.known p.ring; me = p.known.me; own = p.known.own; script = p.known.script }
+
+-- the frame of this round to a neighbour
+abbrev pub frame_at : Seat → ℕ → List (List ℕ)
+frame_at p to = frame_of (part_at p) p.before p.round to
+
+-- what he hears of a frame of this round
+abbrev pub hears : Seat → ℕ → List (List ℕ) → List Heard
+hears p from frame =
+    map (λ c. record { from = from; chain = c }) (counted_of p.known.header (delivery p.round from p.known.me) frame)
+
+-- when he has heard it
+abbrev pub with_frame : Seat → ℕ → List (List ℕ) → Seat
+with_frame p from frame = record {
+  known = p.known;
+  ring = p.ring;
+  heard = p.heard ++ hears p from frame;
+  before = p.before;
+  round = p.round;
+}
 
 -- no leaf of the run was taken from the ring, which is of the run's height
 pub record IsUnused (h : RunHeader) (ring : Ring) : Type 0 where

@@ -13,11 +13,13 @@ mod roles;
 mod running;
 mod scenario;
 mod signed;
+mod signer_trees;
 
 pub use counting::{Delivery, count_frame};
 pub use hearing::Heard;
 pub use participants::Participant;
-pub use parts::{Part, SignerTree};
+pub use parts::Part;
+pub use signer_trees::SignerTree;
 pub use running::run_plain;
 pub use scenario::{Decision, PlainRun, PlainScenario};
 pub use signed::Scenario;

@@ -2,20 +2,11 @@
 ghost use Rattle.std.specs.Prelude.{◌≡◌, option_map};
 ghost use Rattle.gen_world.specs.Known.{IsKnown};
 
+use crate::signer_trees::SignerTree;
 use gen_net::Header;
 use gen_script::ScriptLine;
-use gen_tree::KeyTree;
 use gen_types::{GeneralNo, OrderNo};
 use std::marker::Model;
-
-/// The tree of a general's keys.
-#[derive(Drop)]
-pub struct SignerTree {
-    /// The general.
-    pub general: GeneralNo,
-    /// The tree of his keys.
-    pub tree: KeyTree,
-}
 
 /// What one general alone knows of a run: the header, his number, his order if he is the commander, and,
 /// where he has a script, its lines and the trees of the keys with which they sign.

@@ -1,7 +1,7 @@
 //! What a general does in a round, by whether he has a script.
 ghost use Rattle.std.specs.Prelude.{◌≡◌, Some, IfOk, OnOk, OnErr};
 ghost use Rattle.gen_world.specs.Following.{AreOthers};
-ghost use Rattle.gen_world.specs.Loops.Roles.{ring_of, MayBegin, RoleBegan};
+ghost use Rattle.gen_world.specs.Loops.Roles.{ring_of, role_frame, MayBegin, RoleBegan};
 
 use crate::followers::Follower;
 use crate::hearing::Heard;
@@ -33,6 +33,28 @@ impl Role {
     {
         match self {
             Role::Loyal(follower) => follower.begin(alloc, part, round, heard),
+        }
+    }
+
+    /// Returns the frame of this round to a neighbour.
+    pub(crate) fn frame_for(
+        &self,
+        alloc: Global,
+        to: GeneralNo,
+    ) -> Result<Vec<Parcel>, AllocError>
+        ensures { IfOk result (λ frame. frame.items ≡ role_frame self.now to) }
+    {
+        match self {
+            Role::Loyal(follower) => follower.frame_for(alloc, to),
+        }
+    }
+
+    /// Ends the general, and returns his ring, if he has one.
+    pub(crate) fn into_ring(self) -> Option<KeyRing>
+        ensures { result ≡ ring_of self }
+    {
+        match self {
+            Role::Loyal(follower) => Some(follower.into_ring()),
         }
     }
 }

@@ -1,9 +1,11 @@
 -- What a general has beside what he knows and heard, by whether he has a script.
-use Rattle.std.specs.Prelude.{ℕ, ◌≡◌, ◌≤◌, List, [], Option, Some, None, Contains, length, take}
+use Rattle.std.specs.Prelude.{ℕ, ◌≡◌, ◌≤◌, List, [], Option, Some, None, Contains, length, map, take}
 use Rattle.gen_tree.specs.Rings.{Ring}
 use Rattle.gen_world.specs.declared.hearing.Heard.{Heard}
 use Rattle.gen_world.specs.declared.roles.Role.{Role}
 use Rattle.gen_world.specs.declared.roles.Role.TheVariants.{Loyal}
+use Rattle.gen_chain.specs.Chain.{chain_spelling}
+use Rattle.gen_world.specs.Frames.{outside_of}
 use Rattle.gen_world.specs.Following.{AreOthers}
 use Rattle.gen_world.specs.Known.{Known, IsKnown}
 use Rattle.gen_world.specs.Loops.Seats.{Hand, IsHand, IsFree, HasSignedIt}
@@ -15,6 +17,10 @@ ring_of (Loyal hand) = Some hand.ring
 -- what he keeps
 abbrev pub IsRole : Known → List Heard → List Heard → ℕ → Role → Type 0
 IsRole k heard before round (Loyal hand) = IsHand k heard before round hand
+
+-- his frame to a neighbour
+abbrev pub role_frame : Role → ℕ → List (List ℕ)
+role_frame (Loyal hand) to = map chain_spelling (outside_of to hand.signed)
 
 -- he may begin a round
 abbrev pub MayBegin : Known → List Heard → ℕ → Role → Type 0
