@@ -1,5 +1,6 @@
 pub mod Agree
 pub mod Arriving
+pub mod Bending
 pub mod Conducts
 pub mod CountedChains
 pub mod DecisionsMade
@@ -13,11 +14,14 @@ pub mod Growing
 pub mod Having
 pub mod HearSteps
 pub mod HeardBy
+pub mod IfOks
 pub mod Obeying
+pub mod Plans
 pub mod Rounding
 pub mod Same
 pub mod ScriptSets
 pub mod ScriptsOf
+pub mod SignerSteps
 pub mod SplitCommander
 pub mod Stepping
 pub mod TreeRows

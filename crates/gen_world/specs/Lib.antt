@@ -6,10 +6,12 @@ pub mod Derivables
 pub mod Frames
 pub mod Heard
 pub mod Loops
+pub mod Planned
 pub mod RoundEntries
 pub mod Scenario
 pub mod SignedLaw
 pub mod SignedWorld
+pub mod SignerTrees
 pub mod Signing
 pub mod Steps
 pub mod Theorem

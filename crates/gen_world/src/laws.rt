@@ -5,6 +5,7 @@ ghost use Rattle.gen_world.specs.Counted.{CountsThese};
 ghost use Rattle.gen_world.specs.Deciding.{DecisionsHold, PlainDecisions, OneOutcome};
 ghost use Rattle.gen_world.specs.Derivables.{ProlongedByFaulty, SignedByFaulty};
 ghost use Rattle.gen_world.specs.Steps.{MessagesCount, OneRoundMore, FrameAfter, OneSignerMore, BegunByCommander};
+ghost use Rattle.gen_world.specs.Planned.{PlansFrames, PlansSends, PlansSigns};
 ghost use Rattle.gen_world.specs.Theorem.{Agreement, Case, DecideAlike, EachDecides, ObeyCommander, Premises, Validity};
 ghost use Rattle.gen_world.specs.TwoOrders.{BothAccepted, three, two_orders_case};
 ghost use Rattle.gen_world.specs.World.{OneWorld};
@@ -96,4 +97,12 @@ pub fn steps_are_known()
     ensures frame { FrameAfter }
     ensures signer { OneSignerMore }
     ensures begin { BegunByCommander }
+{}
+
+/// What a script has its general send in a round, as `Planned` has it: `frames`, its bytes make the frame to a neighbour;
+/// `signs`, its chains are what he signs; `sends`, those for a neighbour are what he sends him.
+pub fn plans_are_frames()
+    ensures frames { PlansFrames }
+    ensures signs { PlansSigns }
+    ensures sends { PlansSends }
 {}

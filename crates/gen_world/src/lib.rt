@@ -6,13 +6,18 @@ mod hearing;
 pub mod laws;
 mod running;
 mod scenario;
+mod scripted;
 mod signed;
+mod signer_trees;
+mod signing;
 
 pub use counting::{Delivery, count_frame};
 pub use hearing::Heard;
 pub use running::run_plain;
 pub use scenario::{Decision, PlainRun, PlainScenario};
+pub use scripted::Planned;
 pub use signed::Scenario;
+pub use signer_trees::SignerTree;
 
 #[cfg(test)]
 mod counting_tests;
