@@ -1,5 +1,6 @@
 -- Looking through what was heard, one chain after another.
-use Rattle.std.proofs.Common.{◌≡◌, ◌&&◌, ℕ, Bool, true, false, List, [], ◌∷◌, refl, eqb, Some, None, length}
+use Rattle.std.proofs.Common.{◌≡◌, ◌&&◌, ℕ, Bool, true, false, List, [], ◌∷◌, refl, sym, subst, ◌∙◌, eqb, Some, None, inl, inr, length, Contains}
+use Rattle.gen_types.proofs.Lists.{Contains_here, Contains_there, bool_cases}
 use Rattle.gen_chain.specs.Chain.{signed_path}
 use Rattle.gen_world.specs.declared.hearing.Heard.{Heard}
 use Rattle.gen_world.specs.Heard.{first_of, heard_from}
@@ -31,3 +32,17 @@ found_later round from order xs others x e other = rw (e, other) refl
 pub found_nowhere : (round from order : ℕ) (xs : List Heard) → xs ≡ [] → heard_from round from order xs ≡ None
 unfolding heard_from
 found_nowhere round from order xs e = rw e refl
+
+-- what is found stands there
+pub found_stands : (round from order : ℕ) (xs : List Heard) (x : Heard) → heard_from round from order xs ≡ Some x → Contains xs x
+unfolding heard_from
+found_stands round from order [] x e = absurd cc
+found_stands round from order (y ∷ xs) x e = elim (bool_cases (has_come round from order y)) [
+  | inl here ↦
+      let some : Some y ≡ Some x = sym (rw here refl) ∙ e in
+      let same : y ≡ x = cc in
+      subst (λ z. Contains (y ∷ xs) z) same (Contains_here y xs)
+  | inr later ↦
+      let there : heard_from round from order xs ≡ Some x = rw later at e in
+      Contains_there y x xs (found_stands round from order xs x there)
+]

@@ -1,5 +1,6 @@
 pub mod Agree
 pub mod Arriving
+pub mod Bending
 pub mod BoundedScenarios
 pub mod Conducts
 pub mod CountedChains
@@ -16,14 +17,17 @@ pub mod HearSteps
 pub mod HeardBy
 pub mod HeardKnown
 pub mod HeardOrders
+pub mod IfOks
 pub mod KeptRounds
 pub mod Obeying
+pub mod Plans
 pub mod Relaying
 pub mod Rounding
 pub mod Same
 pub mod ScriptSets
 pub mod ScriptsOf
 pub mod Seats
+pub mod SignerSteps
 pub mod SplitCommander
 pub mod Stepping
 pub mod TraitorFrames

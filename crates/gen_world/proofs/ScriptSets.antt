@@ -1,12 +1,12 @@
 -- The generals who have scripts, as a set and as a test.
-use Rattle.std.proofs.Common.{◌≡◌, ◌<◌, ◌+◌, ◌⊎◌, inl, inr, ℕ, Bool, List, [], ◌∷◌, ◌++◌, refl, sym, ap, subst, ◌∙◌, eqb, ◌||◌, map, take, length, get_or, Contains, AllPairs, All, arith}
+use Rattle.std.proofs.Common.{◌≡◌, ◌<◌, ◌+◌, ◌⊎◌, inl, inr, ℕ, List, [], ◌∷◌, ◌++◌, refl, sym, ap, subst, ◌∙◌, eqb, ◌||◌, map, take, length, get_or, Contains, AllPairs, arith}
 use Rattle.std.specs.List.{list_any}
 use Rattle.std.proofs.lemmas.List.{take_more, map-append}
 use Rattle.std.proofs.lemmas.List.Elements.{All-map, Contains-append_left, Contains-push, Contains-push_cases}
 use Rattle.std.proofs.lemmas.List.Kept.{AllPairs-cons}
 use Rattle.gen_types.specs.Ascending.{IsListOf}
 use Rattle.gen_types.specs.Ends.{is_among}
-use Rattle.gen_types.proofs.Lists.{Contains_nil, AllPairs_head, AllPairs_tail, ascending_one}
+use Rattle.gen_types.proofs.Lists.{AllPairs_head, AllPairs_tail, ascending_one}
 use Rattle.gen_script.specs.Script.{Script}
 use Rattle.gen_world.specs.Scenario.{scripted}
 

@@ -9,6 +9,7 @@ pub mod Heard
 pub mod HeardLaws
 pub mod Known
 pub mod Loops
+pub mod Planned
 pub mod RoundEntries
 pub mod RoundsKept
 pub mod Scenario

@@ -8,6 +8,7 @@ ghost use Rattle.gen_world.specs.HeardLaws.{CountedAreChains, HeardInRound, Hear
 ghost use Rattle.gen_world.specs.RoundsKept.{FrameKept, SendEntriesKept, SignEntriesKept, SignsKept};
 ghost use Rattle.gen_world.specs.SignedLaw.{NoRawIsSigned, TheoremHoldsOfScenarios};
 ghost use Rattle.gen_world.specs.Steps.{MessagesCount, OneRoundMore, FrameAfter, OneSignerMore, BegunByCommander};
+ghost use Rattle.gen_world.specs.Planned.{PlansFrames, PlansSends, PlansSigns};
 ghost use Rattle.gen_world.specs.Theorem.{Agreement, Case, DecideAlike, EachDecides, ObeyCommander, Premises, Validity};
 ghost use Rattle.gen_world.specs.TwoOrders.{BothAccepted, three, two_orders_case};
 ghost use Rattle.gen_world.specs.World.{OneWorld};
@@ -130,4 +131,12 @@ pub fn rounds_are_kept()
     ensures frame { FrameKept }
     ensures written { SignEntriesKept }
     ensures sent { SendEntriesKept }
+{}
+
+/// What a script has its general send in a round, as `Planned` has it: `frames`, its bytes make the frame to a neighbour;
+/// `signs`, its chains are what he signs; `sends`, those for a neighbour are what he sends him.
+pub fn plans_are_frames()
+    ensures frames { PlansFrames }
+    ensures signs { PlansSigns }
+    ensures sends { PlansSends }
 {}

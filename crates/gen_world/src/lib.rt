@@ -12,8 +12,10 @@ mod parts;
 mod roles;
 mod running;
 mod scenario;
+mod scripted;
 mod signed;
 mod signer_trees;
+mod signing;
 
 pub use counting::{Delivery, count_frame};
 pub use hearing::Heard;
@@ -22,7 +24,9 @@ pub use parts::Part;
 pub use signer_trees::SignerTree;
 pub use running::run_plain;
 pub use scenario::{Decision, PlainRun, PlainScenario};
+pub use scripted::Planned;
 pub use signed::Scenario;
+pub use signer_trees::SignerTree;
 
 #[cfg(test)]
 mod counting_tests;

@@ -1,4 +1,4 @@
-use Rattle.std.proofs.Common.{◌≡◌, sym, ◌∙◌}
+use Rattle.std.proofs.Common.{sym, ◌∙◌}
 use Rattle.std.proofs.lemmas.List.{nil_from_length}
 use Rattle.gen_world.proofs.HearSteps.{found_here, found_later, found_nowhere}
 use Rattle.gen_world.proofs.hearing.find_heard.Goals as goal

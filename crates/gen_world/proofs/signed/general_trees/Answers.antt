@@ -1,4 +1,3 @@
-use Rattle.std.proofs.Common.{◌≡◌, ◌∙◌, ap}
 use Rattle.gen_world.specs.Trees.{general_tree}
 use Rattle.gen_world.proofs.TreeRows.{trees_more}
 use Rattle.gen_world.proofs.signed.general_trees.Goals as goal

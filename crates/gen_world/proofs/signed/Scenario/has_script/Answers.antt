@@ -1,4 +1,4 @@
-use Rattle.std.proofs.Common.{◌≡◌, ◌∙◌, sym, List, ap, eqb}
+use Rattle.std.proofs.Common.{◌≡◌, ◌∙◌, List, ap, eqb}
 use Rattle.std.specs.List.{list_any}
 use Rattle.gen_script.specs.Script.{Script}
 use Rattle.gen_world.specs.Scenario.{Scenario}

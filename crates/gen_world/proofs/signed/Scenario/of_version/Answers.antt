@@ -1,7 +1,6 @@
-use Rattle.std.proofs.Common.{◌≡◌, ◌∙◌, ap, map}
-use Rattle.std.specs.List.{range_with_len}
+use Rattle.std.proofs.Common.{◌∙◌, ap, map}
 use Rattle.gen_net.specs.Version.{height_in}
-use Rattle.gen_world.specs.Trees.{general_tree, root_over}
+use Rattle.gen_world.specs.Trees.{root_over}
 use Rattle.gen_world.proofs.TreeRows.{roots_are, roots_count}
 use Rattle.gen_world.proofs.signed.Scenario.of_version.Goals as goal
 

@@ -1,7 +1,7 @@
-use Rattle.std.proofs.Common.{◌≡◌, ◌<◌, ◌≤◌, ◌∙◌, List, sym, ap, subst, take, length, get_or, AllPairs}
+use Rattle.std.proofs.Common.{◌≡◌, ◌<◌, ◌≤◌, ◌∙◌, List, ap, subst, length, get_or}
 use Rattle.std.proofs.lemmas.List.{take_all}
 use Rattle.gen_script.specs.Script.{Script}
-use Rattle.gen_world.specs.Scenario.{Scenario, IsScenario}
+use Rattle.gen_world.specs.Scenario.{IsScenario}
 use Rattle.gen_world.proofs.ScriptSets.{set_of_more, set_of_all}
 use Rattle.gen_world.proofs.signed.Scenario.scripted.Goals as goal
 
