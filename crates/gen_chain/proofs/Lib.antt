@@ -1,7 +1,8 @@
 pub mod ChainLaws
 pub mod DistinctPaths
+pub mod KeptAnswers
 pub mod LongerChains
 pub mod Parts
-mod Room
 pub mod SignedSoFar
+pub mod Storing
 pub mod TestedChains

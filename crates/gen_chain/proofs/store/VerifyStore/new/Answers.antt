@@ -1,0 +1,7 @@
+use Rattle.std.proofs.Common.{refl}
+use Rattle.gen_chain.specs.Store.{answer_of}
+use Rattle.gen_chain.proofs.store.VerifyStore.new.Goals as goal
+
+pub returns-clause-empty : goal.returns-clause-empty
+unfolding answer_of
+returns-clause-empty c = λ triple. rw c.new.ensures.empty refl
