@@ -1,15 +1,15 @@
 -- Signers one by one, as a store checks them: what it keeps of those who were looked at.
-use Rattle.std.proofs.Common.{◌≡◌, ℕ, Bool, inl, inr, List, [], ◌∷◌, ◌++◌, Option, Some, None, refl, sym, ap, subst, ◌∙◌, append_assoc}
-use Rattle.std.specs.Prelude.{◌⊎◌, IsSome, is_some}
+use Rattle.std.proofs.Common.{arith, ◌≡◌, ℕ, Bool, inl, inr, List, [], ◌∷◌, ◌++◌, Option, Some, None, refl, sym, ap, subst, ◌∙◌, append_assoc}
+use Rattle.std.specs.Prelude.{◌⊎◌, ◌≤◌, ◌+◌, length, IsSome, is_some}
 use Rattle.std.proofs.lemmas.List.{append-nil, map-append}
 use Rattle.gen_types.proofs.Lists.{not_nil, split_longer}
 use Rattle.gen_net.specs.Header.{RunHeader}
 use Rattle.gen_chain.specs.declared.chains.Signer.{Signer}
 use Rattle.gen_chain.specs.Chain.{signed_path}
 use Rattle.gen_chain.specs.Verifying.{HasSigned, AreSigned}
-use Rattle.gen_chain.specs.Store.{Store, Triple, answer_of, triple_behind, IsAfter, Serves, KeepsAll}
-use Rattle.gen_chain.specs.Keeping.{KeepsSigners}
-use Rattle.gen_chain.proofs.Storing.{kept_after}
+use Rattle.gen_chain.specs.Store.{Store, Triple, answer_of, IsAfter, Serves, KeepsAll}
+use Rattle.gen_chain.specs.StoredChain.{KeepsSigners, triple_behind}
+use Rattle.gen_chain.proofs.Storing.{runs_after}
 use Rattle.gen_chain.proofs.SignedSoFar.{SignedSoFar, none_signed, signed-push}
 
 -- the store keeps the signature of each signer of the front
@@ -27,6 +27,7 @@ pub record StoredSoFar (h : RunHeader) (order : ℕ) (signers rest : List Signer
   pub serves : Serves h store
   pub grows : KeepsAll old store
   pub known : KeepsSigners h old order signers → store ≡ old
+  pub runs : store.runs + length rest ≤ old.runs + length signers
 
 pub stored_first : (h : RunHeader) (order : ℕ) (signers : List Signer) (store : Store) → Serves h store → StoredSoFar h order signers signers [] store store
 stored_first h order signers store serves = record {
@@ -38,6 +39,7 @@ stored_first h order signers store serves = record {
   serves = serves;
   grows = λ t answer e. e;
   known = λ all. refl;
+  runs = omega arith;
 }
 
 some_stays : (old new : Store) (t : Triple) → KeepsAll old new → IsSome (answer_of old t) → IsSome (answer_of new t)
@@ -77,6 +79,7 @@ module _ (h : RunHeader) (order : ℕ) (longer : List ℕ) (store : Store) (s : 
     pub grows : KeepsAll store new
     pub serves : Serves h new
     pub known : IsSome (answer_of store next_triple) → new ≡ store
+    pub runs : new.runs ≤ store.runs + 1
 
   module _ (signers rest others : List Signer) (path : List ℕ) (old : Store) (so_far : StoredSoFar h order signers rest path old store) (e : rest ≡ s ∷ others) (pushed : longer ≡ path ++ s.general ∷ []) where
     parts_next : signers ≡ so_far.front ++ s ∷ others
@@ -106,6 +109,9 @@ module _ (h : RunHeader) (order : ℕ) (longer : List ℕ) (store : Store) (s : 
       pub known_next : KeepsSigners h old order signers → new ≡ old
       known_next all = checks.known (next_known all) ∙ so_far.known all
 
+      pub runs_next : new.runs + length others ≤ old.runs + length signers
+      runs_next = omega (arith, so_far.runs, checks.runs, ap length e)
+
       pub stored_on : HasSigned h s.general (record { order = order; path = longer }) s.signature → StoredSoFar h order signers others longer old new
       stored_on signed = record {
         front = so_far.front ++ s ∷ [];
@@ -116,6 +122,7 @@ module _ (h : RunHeader) (order : ℕ) (longer : List ℕ) (store : Store) (s : 
         serves = checks.serves;
         grows = grown_next;
         known = known_next;
+        runs = runs_next;
       }
 
       module _ (unsigned : HasSigned h s.general (record { order = order; path = longer }) s.signature → ⊥) where
@@ -149,8 +156,9 @@ pub checks_of : (h : RunHeader) (order : ℕ) (longer : List ℕ) (store : Store
     → ((b : Bool) → answer_of store (next_triple h order longer store s) ≡ Some b → R b × (new ≡ store))
     → Checks h order longer store s new
 checks_of h order longer store s new answer R after grows serves known = record {
-  is = ap is_some (kept_after store new (next_triple h order longer store s) answer after);
+  is = ap is_some after.here;
   grows = grows;
   serves = serves;
   known = with_some (answer_of store (next_triple h order longer store s)) (new ≡ store) (λ b e. (known b e).1);
+  runs = runs_after store new (next_triple h order longer store s) answer after;
 }

@@ -5,6 +5,7 @@ pub mod Leaves
 pub mod Making
 pub mod Prefixes
 pub mod Store
+pub mod StoredChain
 pub mod Texts
 pub mod Verified
 pub mod Verifying

@@ -1,11 +1,13 @@
 //! Verifications that are kept, so that none is made twice.
-ghost use Rattle.std.specs.Prelude.{IsTrue, Bool, ℕ, List, ◌≡◌, ◌≢◌, ◌≤◌, ◌↔◌, ◌++◌, ◌∷◌, [], AllPairs, length, false, Ok, None, Some, IfOk, IsOk, OnOk, OnErr, map};
+ghost use Rattle.std.specs.Prelude.{IsTrue, Bool, ℕ, List, ◌≡◌, ◌≢◌, ◌≤◌, ◌+◌, ◌↔◌, ◌++◌, ◌∷◌, [], AllPairs, length, false, Ok, None, Some, IfOk, IsOk, OnOk, OnErr, map};
+ghost use Rattle.gen_net.specs.Header.{RunHeader};
 ghost use Rattle.gen_chain.specs.Chain.{signed_path};
 ghost use Rattle.gen_chain.specs.Verifying.{HasSigned, AreSigned, ChainVerifies};
 ghost use Rattle.gen_chain.specs.declared.kept.Claim.{Claim};
 ghost use Rattle.gen_chain.specs.declared.kept.Kept.{Kept};
-ghost use Rattle.gen_chain.specs.Store.{Triple, answer_in, answer_of, is_claim, kept_at, one_more, IsAfter, KeepsAll, KeepsChain, Serves};
-ghost use Rattle.gen_chain.specs.Keeping.{items_of, KeepsSigners};
+ghost use Rattle.gen_chain.specs.Keeping.{items_of};
+ghost use Rattle.gen_chain.specs.Store.{Triple, answer_in, answer_of, is_claim, kept_at, IsAfter, KeepsAll, Serves};
+ghost use Rattle.gen_chain.specs.StoredChain.{KeepsSigners, KeepsChain};
 
 use crate::chains::{SignedChain, Signer};
 use crate::kept::{Claim, Kept};
@@ -73,14 +75,16 @@ impl Model for VerifyStore {
 }
 
 impl VerifyStore {
-    /// Returns a store that keeps nothing.
+    /// Returns a store that keeps nothing, and so serves every header.
     ///
     /// # Errors
     ///
-    /// Only where memory was refused.
+    /// Only where memory was refused. It takes none before the first check, so it does not fail.
     pub fn new(alloc: Global) -> Result<VerifyStore, AllocError>
+        ensures ok { IsOk result }
         ensures empty { IfOk result (λ store. (triple : Triple) → answer_of store triple ≡ None) }
         ensures runs { IfOk result (λ store. store.runs ≡ 0) }
+        ensures serves { IfOk result (λ store. (h : RunHeader) → Serves h store) }
     {
         Ok(VerifyStore {
             alloc,
@@ -171,6 +175,7 @@ impl VerifyStore {
         ensures kept { OnOk result (KeepsSigners header.now self.new order signers.now) }
         ensures known { KeepsSigners header.now self.old order signers.now
             → IsOk result × (self.new ≡ self.old) }
+        ensures runs { self.new.runs ≤ self.old.runs + length signers.now }
         ensures grows { KeepsAll self.old self.new }
         ensures serves { Serves header.now self.new }
     {
@@ -205,6 +210,7 @@ impl VerifyStore {
         ensures kept { OnOk result (KeepsChain header.now self.new chain.now) }
         // What was kept is not verified again.
         ensures known { KeepsChain header.now self.old chain.now → IsOk result × (self.new ≡ self.old) }
+        ensures runs { self.new.runs ≤ self.old.runs + length chain.now.signers }
         ensures grows { KeepsAll self.old self.new }
         ensures serves { Serves header.now self.new }
     {

@@ -1,5 +1,5 @@
 use Rattle.std.proofs.Common.{◌≡◌, refl, Ok}
-use Rattle.gen_chain.specs.Keeping.{KeepsSigners}
+use Rattle.gen_chain.specs.StoredChain.{KeepsSigners}
 use Rattle.gen_chain.specs.Verifying.{AreSigned}
 use Rattle.gen_chain.proofs.DistinctPaths.{next_fits, next_is_new}
 use Rattle.gen_chain.proofs.SignedSoFar.{joined}
