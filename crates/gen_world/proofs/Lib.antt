@@ -33,3 +33,4 @@ pub mod Stepping
 pub mod TraitorFrames
 pub mod TreeRows
 pub mod WorldFollowers
+pub mod Worlds

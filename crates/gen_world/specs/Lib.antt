@@ -12,6 +12,7 @@ pub mod Loops
 pub mod Planned
 pub mod RoundEntries
 pub mod RoundsKept
+pub mod Rows
 pub mod Scenario
 pub mod Seat
 pub mod SignedLaw

@@ -5,3 +5,4 @@ pub mod Relays
 pub mod Roles
 pub mod Rounds
 pub mod Seats
+pub mod Worlds

@@ -33,9 +33,9 @@ keys_at k (Some ring) = own_keys k.header ring.seed
 abbrev pub part_at : Seat → Part
 part_at p = record { keys = keys_at p.known p.ring; me = p.known.me; own = p.known.own; script = p.known.script }
 
--- the frame of this round to a neighbour
-abbrev pub frame_at : Seat → ℕ → List (List ℕ)
-frame_at p to = frame_of (part_at p) p.before p.round to
+-- the frame of this round that he sends a neighbour
+abbrev pub sends : Seat → ℕ → List (List ℕ)
+sends p to = frame_of (part_at p) p.before p.round to
 
 -- what he hears of a frame of this round
 abbrev pub hears : Seat → ℕ → List (List ℕ) → List Heard

@@ -58,6 +58,24 @@ impl Part {
         self.me
     }
 
+    /// Returns the lines of his script, if he has one.
+    pub fn script(&self) -> Option<&[ScriptLine]>
+        ensures value { option_map (λ lines. lines.now) result ≡ self.now.script }
+        ensures known { IsKnown self.now }
+    {
+        match &self.script {
+            Some(lines) => Some(lines.as_slice()),
+            None => None,
+        }
+    }
+
+    /// Returns the trees of the keys with which his script signs.
+    pub fn trees(&self) -> &[SignerTree]
+        ensures { result.now ≡ self.now.trees }
+    {
+        self.trees.as_slice()
+    }
+
     /// Returns the commander's order, where he is the commander.
     pub fn own(&self) -> Option<OrderNo>
         ensures { result ≡ self.now.own }

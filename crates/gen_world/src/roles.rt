@@ -1,11 +1,12 @@
 //! What a general does in a round, by whether he has a script.
 ghost use Rattle.std.specs.Prelude.{◌≡◌, Some, IfOk, OnOk, OnErr};
 ghost use Rattle.gen_world.specs.Following.{AreOthers};
-ghost use Rattle.gen_world.specs.Loops.Roles.{ring_of, role_frame, MayBegin, RoleBegan};
+ghost use Rattle.gen_world.specs.Loops.Roles.{ring_of, role_frame, IsStart, MayBegin, RoleBegan};
 
 use crate::followers::Follower;
 use crate::hearing::Heard;
 use crate::parts::Part;
+use crate::traitors::Traitor;
 use gen_script::Parcel;
 use gen_tree::KeyRing;
 use gen_types::GeneralNo;
@@ -15,9 +16,22 @@ use std::alloc::{AllocError, Global};
 pub(crate) enum Role {
     /// He has no script, and follows the algorithm.
     Loyal(Follower),
+    /// He has a script, and does what it says.
+    Scripted(Traitor),
 }
 
 impl Role {
+    /// Returns the role of a general before the first round: with a ring he has no script.
+    pub(crate) fn new(alloc: Global, ring: Option<KeyRing>) -> Role
+        ensures ring { ring_of result ≡ ring }
+        ensures start { IsStart result }
+    {
+        match ring {
+            Some(ring) => Role::Loyal(Follower::new(alloc, ring)),
+            None => Role::Scripted(Traitor::new(alloc)),
+        }
+    }
+
     /// Begins a round, where this was heard before. Where memory is refused nothing has changed.
     pub(crate) fn begin(
         &mut self,
@@ -33,6 +47,7 @@ impl Role {
     {
         match self {
             Role::Loyal(follower) => follower.begin(alloc, part, round, heard),
+            Role::Scripted(traitor) => traitor.begin(alloc, part, round, heard),
         }
     }
 
@@ -46,6 +61,7 @@ impl Role {
     {
         match self {
             Role::Loyal(follower) => follower.frame_for(alloc, to),
+            Role::Scripted(traitor) => traitor.frame_for(alloc, to),
         }
     }
 
@@ -55,6 +71,7 @@ impl Role {
     {
         match self {
             Role::Loyal(follower) => Some(follower.into_ring()),
+            Role::Scripted(_) => None,
         }
     }
 }

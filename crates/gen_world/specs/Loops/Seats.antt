@@ -5,7 +5,11 @@ use Rattle.gen_net.specs.Header.{height_of}
 use Rattle.gen_chain.specs.Chain.{Chain}
 use Rattle.gen_chain.specs.Leaves.{leaves_per_run, leaf_of_order}
 use Rattle.gen_world.specs.declared.hearing.Heard.{Heard}
+use Rattle.gen_script.specs.declared.lines.ScriptLine.{ScriptLine}
+use Rattle.gen_world.specs.declared.scripted.Planned.{Planned}
 use Rattle.gen_world.specs.Frames.{signed_in}
+use Rattle.gen_world.specs.Planned.{planned_in}
+use Rattle.gen_world.specs.SignerTrees.{keys_with}
 use Rattle.gen_world.specs.Following.{own_keys, round_signed, IsSignedWith}
 use Rattle.gen_world.specs.Known.{Known}
 use Rattle.gen_world.specs.Seat.{IsSpentOn}
@@ -37,3 +41,13 @@ pub record IsFree (k : Known) (heard : List Heard) (round : ℕ) (hand : Hand) :
 pub record HasSignedIt (k : Known) (heard : List Heard) (round : ℕ) (old new : Hand) : Type 0 where
   pub signed : new.signed ≡ signed_in (own_keys k.header old.ring.seed) k.me k.own heard round
   pub ring : IsSpentOn k.header k.own heard round old.ring new.ring
+
+-- he has a script
+abbrev pub HasScript : Known → Type 0
+HasScript k = (lines : List ScriptLine) × (k.script ≡ Some lines)
+
+-- this is what it has him send in a round
+abbrev pub HasPlanned : Known → List Heard → ℕ → List Planned → Type 0
+HasPlanned k heard round planned =
+    (lines : List ScriptLine) → k.script ≡ Some lines
+    → planned ≡ planned_in (keys_with k.header k.trees) k.me lines heard round
