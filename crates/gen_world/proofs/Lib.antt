@@ -15,6 +15,8 @@ pub mod Having
 pub mod HearSteps
 pub mod HeardBy
 pub mod IfOks
+pub mod KeysEnough
+pub mod KnownParts
 pub mod Obeying
 pub mod Plans
 pub mod Rounding

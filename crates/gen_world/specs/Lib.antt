@@ -5,6 +5,8 @@ pub mod Deciding
 pub mod Derivables
 pub mod Frames
 pub mod Heard
+pub mod Known
+pub mod KnownLaws
 pub mod Loops
 pub mod Planned
 pub mod RoundEntries

@@ -5,6 +5,7 @@ ghost use Rattle.gen_world.specs.Counted.{CountsThese};
 ghost use Rattle.gen_world.specs.Deciding.{DecisionsHold, PlainDecisions, OneOutcome};
 ghost use Rattle.gen_world.specs.Derivables.{ProlongedByFaulty, SignedByFaulty};
 ghost use Rattle.gen_world.specs.Steps.{MessagesCount, OneRoundMore, FrameAfter, OneSignerMore, BegunByCommander};
+ghost use Rattle.gen_world.specs.KnownLaws.{KeysAreEnough, KnownTreesAreEnough, OwnSeedIsEnough};
 ghost use Rattle.gen_world.specs.Planned.{PlansFrames, PlansSends, PlansSigns};
 ghost use Rattle.gen_world.specs.Theorem.{Agreement, Case, DecideAlike, EachDecides, ObeyCommander, Premises, Validity};
 ghost use Rattle.gen_world.specs.TwoOrders.{BothAccepted, three, two_orders_case};
@@ -105,4 +106,13 @@ pub fn plans_are_frames()
     ensures frames { PlansFrames }
     ensures signs { PlansSigns }
     ensures sends { PlansSends }
+{}
+
+/// What a general knows of his own is enough: with keys that give his own signatures, and if he has a script those of all who
+/// have one, he acts as the scenario says, whatever he heard (`enough`); who has no script has such keys by his own seed
+/// (`follower`), and who has one by the trees that he knows (`traitor`).
+pub fn known_is_enough()
+    ensures enough { KeysAreEnough }
+    ensures follower { OwnSeedIsEnough }
+    ensures traitor { KnownTreesAreEnough }
 {}

@@ -4,6 +4,7 @@
 mod counting;
 mod hearing;
 pub mod laws;
+mod parts;
 mod running;
 mod scenario;
 mod scripted;
@@ -13,6 +14,7 @@ mod signing;
 
 pub use counting::{Delivery, count_frame};
 pub use hearing::Heard;
+pub use parts::Part;
 pub use running::run_plain;
 pub use scenario::{Decision, PlainRun, PlainScenario};
 pub use scripted::Planned;
