@@ -19,6 +19,8 @@ pub mod HeardKnown
 pub mod HeardOrders
 pub mod IfOks
 pub mod KeptRounds
+pub mod KeysEnough
+pub mod KnownParts
 pub mod Obeying
 pub mod Plans
 pub mod Relaying

@@ -17,7 +17,8 @@ use Rattle.gen_world.specs.declared.hearing.Heard.{Heard}
 use Rattle.gen_world.specs.Heard.{round_of, first_of}
 use Rattle.gen_world.specs.Signing.{Keys, signers_along, made, lengthened}
 use Rattle.gen_world.specs.Frames.{relayed, relays_in, signed_in}
-use Rattle.gen_world.specs.Following.{own_keys, round_signed, IsSignedWith}
+use Rattle.gen_world.specs.Following.{round_signed, IsSignedWith}
+use Rattle.gen_world.specs.Known.{own_keys}
 use Rattle.gen_world.specs.Loops.Relays.{due_of, due_count, one_or_none, relayed_to, IsTakenTo}
 
 -- ---- one signature

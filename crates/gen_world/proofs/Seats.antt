@@ -9,8 +9,8 @@ use Rattle.gen_world.specs.declared.roles.Role.{Role}
 use Rattle.gen_world.specs.declared.roles.Role.TheVariants.{Loyal, Scripted}
 use Rattle.gen_world.specs.Heard.{round_of, first_of}
 use Rattle.gen_world.specs.Frames.{signed_in, relayed, relays_in, frame_of, followers_frame}
-use Rattle.gen_world.specs.Following.{own_keys, round_signed, IsSignedWith, IsOthers, AreOthers}
-use Rattle.gen_world.specs.Known.{Known, IsKnown}
+use Rattle.gen_world.specs.Following.{round_signed, IsSignedWith, IsOthers, AreOthers}
+use Rattle.gen_world.specs.Known.{Known, IsKnown, own_keys}
 use Rattle.gen_world.specs.Seat.{IsSpentOn, RingAfter, MayStart, keys_at}
 use Rattle.gen_world.specs.Loops.Seats.{Hand, IsHand, IsSpent, IsFree, HasSignedIt, HasScript, HasPlanned}
 use Rattle.gen_world.specs.Loops.Roles.{ring_of, role_frame, IsStart, IsRole, MayBegin, RoleBegan, IsSeat}
@@ -28,6 +28,7 @@ use Rattle.gen_world.specs.Signing.{Keys}
 use Rattle.gen_world.proofs.Plans.{plans_frames}
 use Rattle.std.proofs.lemmas.List.{take-append-le, length-append}
 use Rattle.std.proofs.lemmas.List.Elements.{Contains-append_cases}
+use Rattle.std.proofs.lemmas.Option.{MatchOption-at_some}
 use Rattle.gen_types.proofs.Lists.{Contains_mapped, Contains_here, Contains_there, Contains_nil, bool_cases}
 use Rattle.gen_world.specs.declared.counting.Delivery.{Delivery}
 use Rattle.gen_world.specs.Counted.{counted_of}
@@ -173,7 +174,7 @@ script_some k (Some lines) e some = (lines, e)
 script_start : (k : Known) (planned : List Planned) → IsKnown k → (k.script ≡ None → ⊥) → planned ≡ [] → HasScript k × HasPlanned k [] 0 planned
 script_start k planned known some start = (
   script_some k k.script refl some,
-  λ lines is. start ∙ sym (plans_nothing (keys_with k.header k.trees) k.header.network k.me lines (known.lines lines is).lawful),
+  λ lines is. start ∙ sym (plans_nothing (keys_with k.header k.trees) k.header.network k.me lines (MatchOption-at_some _ _ lines is known.script).lawful),
 )
 
 start_role : (k : Known) (role : Role) → IsKnown k → MayStart k (ring_of role) → IsStart role → IsRole k [] [] 0 role

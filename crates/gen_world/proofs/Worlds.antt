@@ -20,8 +20,8 @@ use Rattle.gen_world.specs.Signing.{Keys}
 use Rattle.gen_world.specs.Frames.{frame_of}
 use Rattle.gen_world.specs.SignedWorld.{part_of, own_order, heard_by, heard_in, heard_of, neighbours_of}
 use Rattle.gen_world.specs.Deciding.{decided_by, decision_of, decisions_of}
-use Rattle.gen_world.specs.Following.{own_keys}
-use Rattle.gen_world.specs.Known.{Known}
+use Rattle.gen_world.specs.Known, own_keys.{Known, own_keys}
+use Rattle.gen_world.specs.KnownLaws.{ActAlike}
 use Rattle.gen_world.specs.Rows.{Row, row_at, rows_to, rows_in, rows_of}
 use Rattle.gen_world.specs.Seat.{Seat, RingAfter, HasBegun, keys_at, part_at, sends, with_frame}
 use Rattle.gen_world.specs.Loops.Worlds.{IsPartOf, StandsAfter, IsIn, AllAre, near_of, hears_of, rows_from, rows_first, rows_until, decided_of}
@@ -82,7 +82,7 @@ begun_one s k g p q at begun = (
       header = ap (λ (x : Known). x.header) begun.known ∙ at.part.header;
       me = ap (λ (x : Known). x.me) begun.known ∙ at.part.me;
       own = ap (λ (x : Known). x.own) begun.known ∙ at.part.own;
-      frames = λ heard round to. ap (λ part. frame_of part heard round to) (part_same p q begun) ∙ at.part.frames heard round to;
+      alike = subst (λ part. ActAlike part (part_of s g)) (sym (part_same p q begun)) at.part.alike;
     };
     before = begun.before ∙ at.heard;
     round = begun.round ∙ ap (λ n. n + 1) at.round;
@@ -105,7 +105,7 @@ near_known net b to from both = elim (bool_cases (list_any (joins to from) net.e
 frame_made : (s : Scenario) (k from to : ℕ) (p : Seat) (frame : List (List ℕ)) → IsIn s k from p → frame ≡ sends p to → frame ≡ frame_of (part_of s from) (heard_by s k from) (k + 1) to
 frame_made s k from to p frame is e =
     let now = rw (is.before, is.round) at e in
-    now ∙ is.part.frames (heard_by s k from) (k + 1) to
+    now ∙ is.part.alike.frames (heard_by s k from) (k + 1) to
 
 pub hear_far : (s : Scenario) (k from to : ℕ) (xs : List Heard) → list_any (joins to from) s.net.edges ≡ false → xs ≡ xs ++ hears_of s k to (near_of s.net to (from ∷ []))
 hear_far s k from to xs far = rw far (sym (append-nil xs))
@@ -130,7 +130,7 @@ rows_near s k from to pf frame old new near by made e =
 pub hears_in : (s : Scenario) (k g from : ℕ) (p q : Seat) (frame : List (List ℕ)) → IsIn s k g p → q ≡ with_frame p from frame → IsIn s k g q
 hears_in s k g from p q frame is e =
     let there : IsIn s k g (with_frame p from frame) = record {
-      part = record { header = is.part.header; me = is.part.me; own = is.part.own; frames = is.part.frames };
+      part = record { header = is.part.header; me = is.part.me; own = is.part.own; alike = is.part.alike };
       before = is.before;
       round = is.round;
     } in

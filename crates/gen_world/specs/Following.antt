@@ -1,15 +1,10 @@
--- A general without a script: what he knows of keys, when he signs an order, and under which leaves of his ring.
+-- A general without a script: when he signs an order, and with which leaves of his ring.
 use Rattle.std.specs.Prelude.{ℕ, ◌≡◌, ◌<◌, ◌+◌, ◌==◌, if◌then◌else◌, List, Option, Some, None, option_map, Contains}
 use Rattle.gen_net.specs.Header.{RunHeader, height_of}
 use Rattle.gen_chain.specs.Chain.{IsSignedChain, signed_path}
 use Rattle.gen_chain.specs.Leaves.{leaf_of_order}
 use Rattle.gen_world.specs.declared.hearing.Heard.{Heard}
 use Rattle.gen_world.specs.Heard.{round_of, first_of}
-use Rattle.gen_world.specs.Signing.{Keys}
-
--- the keys of one seed alone
-abbrev pub own_keys : RunHeader → List ℕ → Keys
-own_keys h seed = record { header = h; seeds = λ g. seed }
 
 -- The round in which he signs an order, if he does: the commander his own in round 1, a lieutenant what he heard in the round
 -- after the one in which he first heard it.

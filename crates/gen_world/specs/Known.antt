@@ -1,13 +1,16 @@
--- What one general alone knows of a run.
-use Rattle.std.specs.Prelude.{ℕ, ◌≡◌, ◌≤◌, ◌<◌, List, Option, Some, IfSome, Contains}
-use Rattle.gen_net.specs.Header.{RunHeader}
+-- What one general of a scenario knows of the run before it begins.
+use Rattle.std.specs.Prelude.{ℕ, ◌≡◌, ◌<◌, ◌↔◌, List, [], map, Option, Some, None, IsSome, IfSome}
+use Rattle.gen_net.specs.Version.{height_in}
+use Rattle.gen_net.specs.Header.{RunHeader, IsHeader}
 use Rattle.gen_script.specs.declared.lines.ScriptLine.{ScriptLine}
-use Rattle.gen_script.specs.Line.{IsScriptLine}
 use Rattle.gen_world.specs.declared.signer_trees.SignerTree.{SignerTree}
-use Rattle.gen_world.specs.SignerTrees.{CanSign, CanSignLine}
+use Rattle.gen_world.specs.Scenario.{Scenario, header_of, scripted, script_of}
+use Rattle.gen_world.specs.Signing.{Keys}
+use Rattle.gen_world.specs.SignedWorld.{own_order}
+use Rattle.gen_world.specs.SignerTrees.{ArePlayable}
+use Rattle.gen_world.specs.Trees.{general_tree}
 
--- the header, his number, his order if he is the commander, the lines of his script if he has one, and the trees of the keys with
--- which these lines sign
+-- the header, his number, his order if he is the commander, and if he has a script its lines and the trees of all who have one
 pub record Known : Type 0 where
   pub header : RunHeader
   pub me : ℕ
@@ -15,14 +18,34 @@ pub record Known : Type 0 where
   pub script : Option (List ScriptLine)
   pub trees : List SignerTree
 
--- the lines are lawful, and can be signed with the trees
-pub record AreLines (k : Known) (lines : List ScriptLine) : Type 0 where
-  pub me : CanSign k.header k.trees k.me
-  pub lawful : (line : ScriptLine) → Contains lines line → IsScriptLine k.header.network k.me line
-  pub signers : (line : ScriptLine) → Contains lines line → CanSignLine k.header k.trees line
+-- the tree of a general of the scenario
+abbrev pub signer_tree : Scenario → ℕ → SignerTree
+signer_tree s g = record { general = g; tree = general_tree s.master (height_in s.version) g }
 
+-- the trees that he knows, by whether he has a script
+abbrev pub trees_known : Scenario → Option (List ScriptLine) → List SignerTree
+trees_known s None = []
+trees_known s (Some lines) = map (signer_tree s) (scripted s.scripts)
+
+-- what a general of the scenario knows
+abbrev pub known_of : Scenario → ℕ → Known
+known_of s g = record {
+  header = header_of s;
+  me = g;
+  own = own_order s g;
+  script = script_of s.scripts g;
+  trees = trees_known s (script_of s.scripts g);
+}
+
+-- What holds of it: the header is one, he is a general of its network, the commander alone has an order, which is one of the
+-- network's, and what the lines of his script ask for can be made.
 pub record IsKnown (k : Known) : Type 0 where
-  pub few : k.header.network.orders ≤ 15
+  pub header : IsHeader k.header
   pub me : k.me < k.header.network.generals
   pub own : IfSome k.own (λ order. order < k.header.network.orders)
-  pub lines : (lines : List ScriptLine) → k.script ≡ Some lines → AreLines k lines
+  pub commander : IsSome k.own ↔ (k.me ≡ 0)
+  pub script : IfSome k.script (ArePlayable k.header k.trees k.me)
+
+-- with what a general signs who has his own seed alone
+abbrev pub own_keys : RunHeader → List ℕ → Keys
+own_keys h seed = record { header = h; seeds = λ g. seed }

@@ -5,12 +5,12 @@ use Rattle.gen_net.specs.Header.{RunHeader, height_of}
 use Rattle.gen_chain.specs.Leaves.{leaves_per_run, leaf_of_order}
 use Rattle.gen_world.specs.declared.hearing.Heard.{Heard}
 use Rattle.gen_world.specs.Signing.{Keys}
-use Rattle.gen_world.specs.Following.{own_keys, IsSignedWith}
+use Rattle.gen_world.specs.Following.{IsSignedWith}
 use Rattle.gen_world.specs.Frames.{Part, frame_of}
 use Rattle.gen_world.specs.Counted.{counted_of}
 use Rattle.gen_world.specs.SignedWorld.{delivery}
 use Rattle.gen_world.specs.SignerTrees.{keys_with}
-use Rattle.gen_world.specs.Known.{Known}
+use Rattle.gen_world.specs.Known, own_keys.{Known, own_keys}
 
 -- what he knows of his own, his ring if he has no script, what he heard so far, what of it he had heard when the round began
 -- that he is in, and that round, 0 before the first

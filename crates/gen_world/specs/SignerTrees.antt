@@ -3,6 +3,7 @@ use Rattle.std.specs.Prelude.{ℕ, ◌≡◌, ◌<◌, ◌==◌, if◌then◌els
 use Rattle.gen_tree.specs.Rings.{SeedTree}
 use Rattle.gen_net.specs.Header.{RunHeader, height_of}
 use Rattle.gen_script.specs.declared.lines.ScriptLine.{ScriptLine}
+use Rattle.gen_script.specs.Line.{IsScriptLine}
 use Rattle.gen_script.specs.NamedPath.{named_path}
 use Rattle.gen_world.specs.declared.signer_trees.SignerTree.{SignerTree}
 use Rattle.gen_world.specs.Signing.{Keys}
@@ -38,3 +39,9 @@ CanSignAll h trees path = (g : ℕ) → Contains path g → CanSign h trees g
 -- and those that a line of a script asks for
 abbrev pub CanSignLine : RunHeader → List SignerTree → ScriptLine → Type 0
 CanSignLine h trees line = (path : List ℕ) → named_path line ≡ Some path → CanSignAll h trees path
+
+-- a general can do what the lines of his script say: they are lawful, and each signature that they ask for can be made
+pub record ArePlayable (h : RunHeader) (trees : List SignerTree) (me : ℕ) (lines : List ScriptLine) : Type 0 where
+  pub own : CanSign h trees me
+  pub lawful : (line : ScriptLine) → Contains lines line → IsScriptLine h.network me line
+  pub signers : (line : ScriptLine) → Contains lines line → CanSignLine h trees line

@@ -6,7 +6,8 @@ ghost use Rattle.gen_chain.specs.Leaves as leaves;
 ghost use Rattle.gen_world.specs.Heard.{first_of};
 ghost use Rattle.gen_world.specs.Signing.{lengthened};
 ghost use Rattle.gen_world.specs.Frames.{relayed, signed_in, outside_of};
-ghost use Rattle.gen_world.specs.Following.{own_keys, round_signed, IsSignedWith, AreOthers};
+ghost use Rattle.gen_world.specs.Following.{round_signed, IsSignedWith, AreOthers};
+ghost use Rattle.gen_world.specs.Known.{own_keys};
 ghost use Rattle.gen_world.specs.Loops.Relays.{IsRoom, due_of, due_count, one_or_none};
 
 use crate::hearing::{Heard, first_heard};

@@ -8,6 +8,7 @@ ghost use Rattle.gen_world.specs.HeardLaws.{CountedAreChains, HeardInRound, Hear
 ghost use Rattle.gen_world.specs.RoundsKept.{FrameKept, SendEntriesKept, SignEntriesKept, SignsKept};
 ghost use Rattle.gen_world.specs.SignedLaw.{NoRawIsSigned, TheoremHoldsOfScenarios};
 ghost use Rattle.gen_world.specs.Steps.{MessagesCount, OneRoundMore, FrameAfter, OneSignerMore, BegunByCommander};
+ghost use Rattle.gen_world.specs.KnownLaws.{KeysAreEnough, KnownTreesAreEnough, OwnSeedIsEnough};
 ghost use Rattle.gen_world.specs.Planned.{PlansFrames, PlansSends, PlansSigns};
 ghost use Rattle.gen_world.specs.Theorem.{Agreement, Case, DecideAlike, EachDecides, ObeyCommander, Premises, Validity};
 ghost use Rattle.gen_world.specs.TwoOrders.{BothAccepted, three, two_orders_case};
@@ -139,4 +140,13 @@ pub fn plans_are_frames()
     ensures frames { PlansFrames }
     ensures signs { PlansSigns }
     ensures sends { PlansSends }
+{}
+
+/// What a general knows of his own is enough: with keys that give his own signatures, and if he has a script those of all who
+/// have one, he acts as the scenario says, whatever he heard (`enough`); who has no script has such keys by his own seed
+/// (`follower`), and who has one by the trees that he knows (`traitor`).
+pub fn known_is_enough()
+    ensures enough { KeysAreEnough }
+    ensures follower { OwnSeedIsEnough }
+    ensures traitor { KnownTreesAreEnough }
 {}

@@ -5,14 +5,13 @@ ghost use Rattle.gen_types.specs.Ends.{is_among};
 ghost use Rattle.gen_net.specs.Header.{height_of};
 ghost use Rattle.gen_chain.specs.Chain.{IsSignedChain, chain_spelling, signed_path};
 ghost use Rattle.gen_script.specs.Line.{IsScriptLine};
-ghost use Rattle.gen_script.specs.declared.lines.ScriptLine.{ScriptLine as Line};
 ghost use Rattle.gen_world.specs.declared.hearing.Heard.{Heard as Came};
 ghost use Rattle.gen_world.specs.declared.scripted.Planned.TheVariants.{Chain as Signed, Bytes};
 ghost use Rattle.gen_world.specs.Signing.{bent, flipped};
 ghost use Rattle.gen_world.specs.Frames.{passed};
 ghost use Rattle.gen_world.specs.Planned as plans;
 ghost use Rattle.gen_world.specs.Planned.{bytes_of, planned_in, planned_of, planned_to, receiver_of};
-ghost use Rattle.gen_world.specs.SignerTrees.{CanSign, CanSignAll, CanSignLine, keys_with};
+ghost use Rattle.gen_world.specs.SignerTrees.{ArePlayable, CanSign, CanSignAll, CanSignLine, keys_with};
 
 use crate::hearing::{Heard, find_heard};
 use crate::signer_trees::SignerTree;
@@ -257,11 +256,7 @@ pub(crate) fn plan_round(
     heard: &[Heard],
     round: u8,
 ) -> Result<Vec<Planned>, AllocError>
-    requires me { CanSign header.now trees.now me }
-    requires lawful { (line : Line) → Contains lines.now line
-        → IsScriptLine header.now.network me line }
-    requires signers { (line : Line) → Contains lines.now line
-        → CanSignLine header.now trees.now line }
+    requires script { ArePlayable header.now trees.now me lines.now }
     requires heard { (x : Came) → Contains heard.now x
         → IsSignedChain (height_of header.now) x.chain }
     ensures { IfOk result (λ planned. planned.items

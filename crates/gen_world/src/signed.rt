@@ -1,18 +1,19 @@
 //! Scenarios with signatures.
-ghost use Rattle.std.specs.Prelude.{ℕ, ◌≡◌, ◌≤◌, ◌<◌, ◌↔◌, ◌==◌, Ok, Err, length, map, IfOk};
+ghost use Rattle.std.specs.Prelude.{ℕ, ◌≡◌, ◌≤◌, ◌<◌, ◌↔◌, ◌==◌, [], Ok, Err, length, map, IfOk};
 ghost use Rattle.std.specs.List.{list_any, range_with_len};
+ghost use Rattle.gen_tree.specs.Rings.{seed_of};
 ghost use Rattle.gen_types.specs.declared.reading.ReadError.TheVariants.{Fault};
 ghost use Rattle.gen_net.specs.declared.fault.HeaderFault.{HeaderFault as Broken};
 ghost use Rattle.gen_net.specs.declared.fault.HeaderFault.TheVariants.{SlotRange};
 ghost use Rattle.gen_net.specs.declared.version.Version.TheVariants.{One, Two};
-ghost use Rattle.gen_net.specs.Version.{slot_in, greatest_slot};
+ghost use Rattle.gen_net.specs.Version.{greatest_slot, height_in, slot_in};
 ghost use Rattle.gen_world.specs.Scenario as scenarios;
 ghost use Rattle.gen_world.specs.Scenario.{IsScenario, header_of};
 ghost use Rattle.gen_world.specs.Trees.{general_tree, root_over};
 
 use gen_net::{GREATEST_SLOT, Header, HeaderFault, Net, Version};
 use gen_script::Script;
-use gen_tree::{KeyTree, general_seed};
+use gen_tree::{KeyRing, KeyTree, general_seed};
 use gen_types::{GeneralNo, GeneralSet, OrderNo, ReadError, TreeHeight};
 use std::alloc::{AllocError, Global};
 use std::marker::Model;
@@ -274,5 +275,31 @@ impl Scenario {
         ensures { result ≡ scenarios.has_script self.now general }
     {
         is_scripted(self.scripts.as_slice(), general)
+    }
+
+    /// Returns the tree of a general's keys. He must be one of the network's.
+    pub(crate) fn tree(&self, general: GeneralNo) -> &KeyTree
+        requires { general < self.now.net.generals }
+        ensures { result.now ≡ general_tree self.now.master (height_in self.now.version) general }
+    {
+        &self.trees[usize::from(general.get())]
+    }
+
+    /// Returns the ring of a general's keys, with no leaf taken. He must be one of the network's.
+    ///
+    /// A second ring of the same general gives each leaf again.
+    ///
+    /// # Errors
+    ///
+    /// `AllocError` where memory is refused.
+    pub fn ring(&self, general: GeneralNo) -> Result<KeyRing, AllocError>
+        requires { general < self.now.net.generals }
+        ensures { IfOk result (λ ring. ring ≡ record {
+          seed = seed_of self.now.master general;
+          height = height_in self.now.version;
+          taken = [];
+        }) }
+    {
+        KeyRing::open(self.tree(general))
     }
 }

@@ -51,7 +51,7 @@ impl Traitor {
         ensures ok { OnOk result (HasPlanned part.now heard.now round self.new) }
         ensures err { OnErr result (self.new ≡ self.old) }
     {
-        let lines = part.script().unwrap();
+        let lines = part.lines().unwrap();
         let planned = plan_round(
             alloc,
             part.header(),

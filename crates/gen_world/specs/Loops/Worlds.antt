@@ -6,20 +6,18 @@ use Rattle.gen_net.specs.Edges.{joins}
 use Rattle.gen_world.specs.declared.hearing.Heard.{Heard}
 use Rattle.gen_world.specs.declared.scenario.Decision.{Decision}
 use Rattle.gen_world.specs.Scenario.{Scenario, header_of, has_script}
-use Rattle.gen_world.specs.Frames.{frame_of}
+use Rattle.gen_world.specs.KnownLaws.{ActAlike}
 use Rattle.gen_world.specs.SignedWorld.{part_of, own_order, heard_of, heard_by}
 use Rattle.gen_world.specs.Deciding.{decision_of}
 use Rattle.gen_world.specs.Rows.{Row, row_at, rows_to, rows_in}
 use Rattle.gen_world.specs.Seat.{Seat, part_at}
 
--- He is this general of the scenario: he knows its header, his number and his order, and what he sends, whatever he heard, is what
--- the scenario has him send.
+-- he is this general of the scenario: he knows its header, his number and his order, and acts as it says
 pub record IsPartOf (s : Scenario) (g : ℕ) (p : Seat) : Type 0 where
   pub header : p.known.header ≡ header_of s
   pub me : p.known.me ≡ g
   pub own : p.known.own ≡ own_order s g
-  pub frames : (heard : List Heard) (round to : ℕ)
-      → frame_of (part_at p) heard round to ≡ frame_of (part_of s g) heard round to
+  pub alike : ActAlike (part_at p) (part_of s g)
 
 -- he is, after the first k rounds
 pub record StandsAfter (s : Scenario) (k g : ℕ) (p : Seat) : Type 0 where

@@ -4,7 +4,8 @@ use Rattle.gen_types.specs.Heights.{leaves_of}
 use Rattle.gen_net.specs.Header.{height_of}
 use Rattle.gen_chain.specs.Chain.{Chain}
 use Rattle.gen_chain.specs.Leaves.{leaf_of_order}
-use Rattle.gen_world.specs.Following.{own_keys, IsSignedWith}
+use Rattle.gen_world.specs.Following.{IsSignedWith}
+use Rattle.gen_world.specs.Known.{own_keys}
 use Rattle.gen_world.proofs.Relaying.{some_result, begun_alone, own_leaf, own_taken, own_chain}
 use Rattle.gen_world.proofs.following.sign_own.Goals as goal
 

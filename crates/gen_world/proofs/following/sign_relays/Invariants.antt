@@ -1,5 +1,5 @@
 use Rattle.std.proofs.Common.{◌≡◌, ◌≤◌, ◌+◌, ◌↔◌, ℕ, All, Contains, vec_len, vec_capacity}
-use Rattle.gen_world.specs.Following.{own_keys}
+use Rattle.gen_world.specs.Known.{own_keys}
 use Rattle.gen_world.specs.Loops.Relays.{IsRoom, due_count, relayed_to}
 use Rattle.gen_world.proofs.Relaying.{HasTaken}
 use Rattle.gen_world.proofs.following.sign_relays.Given as goal
