@@ -31,6 +31,7 @@ pub mod ScriptsOf
 pub mod Seats
 pub mod SignerSteps
 pub mod SplitCommander
+pub mod Starting
 pub mod Stepping
 pub mod TraitorFrames
 pub mod TreeRows

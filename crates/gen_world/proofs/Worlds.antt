@@ -20,7 +20,7 @@ use Rattle.gen_world.specs.Signing.{Keys}
 use Rattle.gen_world.specs.Frames.{frame_of}
 use Rattle.gen_world.specs.SignedWorld.{part_of, own_order, heard_by, heard_in, heard_of, neighbours_of}
 use Rattle.gen_world.specs.Deciding.{decided_by, decision_of, decisions_of}
-use Rattle.gen_world.specs.Known, own_keys.{Known, own_keys}
+use Rattle.gen_world.specs.Known.{Known, own_keys}
 use Rattle.gen_world.specs.KnownLaws.{ActAlike}
 use Rattle.gen_world.specs.Rows.{Row, row_at, rows_to, rows_in, rows_of}
 use Rattle.gen_world.specs.Seat.{Seat, RingAfter, HasBegun, keys_at, part_at, sends, with_frame}

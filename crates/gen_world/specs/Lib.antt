@@ -8,7 +8,6 @@ pub mod Frames
 pub mod Heard
 pub mod HeardLaws
 pub mod Known
-pub mod Known
 pub mod KnownLaws
 pub mod Loops
 pub mod Planned

@@ -10,7 +10,7 @@ use Rattle.gen_world.specs.Frames.{Part, frame_of}
 use Rattle.gen_world.specs.Counted.{counted_of}
 use Rattle.gen_world.specs.SignedWorld.{delivery}
 use Rattle.gen_world.specs.SignerTrees.{keys_with}
-use Rattle.gen_world.specs.Known, own_keys.{Known, own_keys}
+use Rattle.gen_world.specs.Known.{Known, own_keys}
 
 -- what he knows of his own, his ring if he has no script, what he heard so far, what of it he had heard when the round began
 -- that he is in, and that round, 0 before the first

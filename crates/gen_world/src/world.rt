@@ -6,7 +6,7 @@ ghost use Rattle.gen_world.specs.Deciding.{decisions_of};
 ghost use Rattle.gen_world.specs.Rows.{rows_of, rows_in, rows_to};
 ghost use Rattle.gen_world.specs.Seat.{Seat};
 ghost use Rattle.gen_world.specs.SignedLaw.{IsBounded, AreAlike};
-ghost use Rattle.gen_world.specs.Loops.Worlds.{StandsAfter, IsIn, AllAre, AllStand, AllBegun, near_of, hears_of, rows_from, rows_first, rows_until, decided_of};
+ghost use Rattle.gen_world.specs.Loops.Worlds.{StandsAfter, IsIn, AllAre, AllStand, AllBegun, ring_at, near_of, hears_of, rows_from, rows_first, rows_until, decided_of};
 
 use crate::laws::theorem_holds_of_scenarios;
 use crate::participants::Participant;
@@ -32,6 +32,18 @@ fn close_all(mut parts: Vec<Participant>) {
     parts.destroy_empty();
 }
 
+/// Opens a general's ring, if he has no script.
+fn ring_for(scenario: &Scenario, general: GeneralNo) -> Result<Option<KeyRing>, AllocError>
+    requires { general < scenario.now.net.generals }
+    ensures { IfOk result (λ ring. ring ≡ ring_at scenario.now general) }
+{
+    if scenario.has_script(general) {
+        return Ok(None);
+    }
+    let ring = scenario.ring(general)?;
+    Ok(Some(ring))
+}
+
 /// Makes a general of the scenario, as he is before the first round.
 fn participant_of(
     alloc: Global,
@@ -41,7 +53,16 @@ fn participant_of(
     requires { general < scenario.now.net.generals }
     ensures { IfOk result (λ part. StandsAfter scenario.now 0 general part) }
 {
-    Err(AllocError)
+    let _lawful = scenario.header();
+    let part = scenario.part(alloc, general)?;
+    let ring = ring_for(scenario, general)?;
+    match Participant::new(alloc, part, ring) {
+        Ok(participant) => Ok(participant),
+        Err(ring) => {
+            close_ring(ring);
+            Err(AllocError)
+        }
+    }
 }
 
 /// Makes all generals as they are before the first round.

@@ -11,7 +11,7 @@ use Rattle.gen_world.specs.Frames.{signed_in}
 use Rattle.gen_world.specs.Planned.{planned_in}
 use Rattle.gen_world.specs.SignerTrees.{keys_with}
 use Rattle.gen_world.specs.Following.{round_signed, IsSignedWith}
-use Rattle.gen_world.specs.Known, own_keys.{Known, own_keys}
+use Rattle.gen_world.specs.Known.{Known, own_keys}
 use Rattle.gen_world.specs.Seat.{IsSpentOn}
 
 -- the ring of one without a script, and what he signed in this round

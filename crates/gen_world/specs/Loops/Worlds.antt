@@ -1,11 +1,14 @@
 -- The generals of a scenario, all together, while they go from round to round.
-use Rattle.std.specs.Prelude.{ℕ, ◌≡◌, ◌<◌, ◌+◌, Bool, not, List, map, filter, length, slice_index_or}
+use Rattle.std.specs.Prelude.{ℕ, ◌≡◌, ◌<◌, ◌+◌, Bool, not, List, [], Option, Some, None, map, filter, length, slice_index_or}
 use Rattle.std.specs.List.{range_with_len, list_any, flat_map}
+use Rattle.gen_tree.specs.Rings.{Ring, seed_of}
+use Rattle.gen_net.specs.Version.{height_in}
 use Rattle.gen_net.specs.Network.{Network}
 use Rattle.gen_net.specs.Edges.{joins}
+use Rattle.gen_script.specs.declared.lines.ScriptLine.{ScriptLine}
 use Rattle.gen_world.specs.declared.hearing.Heard.{Heard}
 use Rattle.gen_world.specs.declared.scenario.Decision.{Decision}
-use Rattle.gen_world.specs.Scenario.{Scenario, header_of, has_script}
+use Rattle.gen_world.specs.Scenario.{Scenario, header_of, has_script, script_of}
 use Rattle.gen_world.specs.KnownLaws.{ActAlike}
 use Rattle.gen_world.specs.SignedWorld.{part_of, own_order, heard_of, heard_by}
 use Rattle.gen_world.specs.Deciding.{decision_of}
@@ -30,6 +33,14 @@ pub record IsIn (s : Scenario) (k g : ℕ) (p : Seat) : Type 0 where
   pub part : IsPartOf s g p
   pub before : p.before ≡ heard_by s k g
   pub round : p.round ≡ k + 1
+
+-- with the ring of his seed, if he has no script
+abbrev pub ring_under : Scenario → ℕ → Option (List ScriptLine) → Option Ring
+ring_under s g None = Some (record { seed = seed_of s.master g; height = height_in s.version; taken = [] })
+ring_under s g (Some lines) = None
+
+abbrev pub ring_at : Scenario → ℕ → Option Ring
+ring_at s g = ring_under s g (script_of s.scripts g)
 
 -- one stands at each place, and this holds of each
 pub record AllAre (P : ℕ → Seat → Type 0) (n : ℕ) (ps : List Seat) : Type 0 where

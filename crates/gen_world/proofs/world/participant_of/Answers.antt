@@ -1,0 +1,7 @@
+use Rattle.std.proofs.Common.{◌≡◌, ◌∙◌, sym, ap, subst}
+use Rattle.gen_world.specs.Seat.{MayStart, at_start}
+use Rattle.gen_world.proofs.Starting.{may_start, stands}
+use Rattle.gen_world.proofs.world.participant_of.Goals as goal
+
+pub new-requires : goal.new-requires
+new-requires c = rw (c.in_ok-part.ensures, c.in_ok-ring.ensures) (may_start c.args.scenario.now c.args.general)
