@@ -5,9 +5,11 @@
 //! who signed it one after another. Each signed the order together with the path up to himself, under
 //! the leaf of the order in his own tree of keys. A general also signs the head of his log.
 //!
+//! A store keeps the verifications that were made, so that none of them is made twice.
+//!
 //! What is promised: the texts that are signed and the bytes of a chain are exactly the
 //! definitions, each chain has one spelling, `chain_verifies` is true exactly where every signature
-//! of the chain verifies, a chain that is made with the signers' own keys verifies, and no
+//! of the chain verifies, and so with a store, a chain that is made with the signers' own keys verifies, and no
 //! statement is the head of a log. What is not: that nobody else can make a signature that
 //! verifies.
 #![tactic(auto)]
@@ -38,5 +40,7 @@ pub use store::VerifyStore;
 pub use verifying::{chain_verifies, has_signed};
 pub use writing::write_chain;
 
+#[cfg(test)]
+mod store_tests;
 #[cfg(test)]
 mod tests;
