@@ -109,10 +109,10 @@ counted_others h d from frame x k =
     subst (IsOthers h d.to) c.2 there
 
 -- what was heard before the round is the same
-pub before_same : (heard more : List Heard) (count : ℕ) → count ≤ length heard → take count (heard ++ more) ≡ take count heard
+before_same : (heard more : List Heard) (count : ℕ) → count ≤ length heard → take count (heard ++ more) ≡ take count heard
 before_same heard more count le = take-append-le count heard more le
 
-pub seat_hears : (k : Known) (role : Role) (heard : List Heard) (count round from : ℕ) (frame : List (List ℕ)) → IsSeat k role heard count round
+seat_hears : (k : Known) (role : Role) (heard : List Heard) (count round from : ℕ) (frame : List (List ℕ)) → IsSeat k role heard count round
     → IsSeat k role (heard ++ map (λ c. record { from = from; chain = c }) (counted_of k.header (delivery round from k.me) frame)) count round
 seat_hears k role heard count round from frame ok =
     let more = map (λ c. record { from = from; chain = c }) (counted_of k.header (delivery round from k.me) frame) in
@@ -122,6 +122,11 @@ seat_hears k role heard count round from frame ok =
       others = others_both k.header k.me heard more ok.others (counted_others k.header (delivery round from k.me) from frame);
       acts = subst (λ before. IsRole k (heard ++ more) before round role) (sym (before_same heard more count ok.begun)) (role_hears k heard more (take count heard) round role ok.acts);
     }
+
+pub seat_heard : (k : Known) (role : Role) (heard items : List Heard) (count round from : ℕ) (frame : List (List ℕ))
+    → items ≡ heard ++ map (λ c. record { from = from; chain = c }) (counted_of k.header (delivery round from k.me) frame)
+    → IsSeat k role heard count round → IsSeat k role items count round
+seat_heard k role heard items count round from frame e ok = subst (λ xs. IsSeat k role xs count round) (sym e) (seat_hears k role heard count round from frame ok)
 
 -- ---- frames
 

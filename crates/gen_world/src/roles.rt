@@ -52,11 +52,7 @@ impl Role {
     }
 
     /// Returns the frame of this round to a neighbour.
-    pub(crate) fn frame_for(
-        &self,
-        alloc: Global,
-        to: GeneralNo,
-    ) -> Result<Vec<Parcel>, AllocError>
+    pub(crate) fn frame_for(&self, alloc: Global, to: GeneralNo) -> Result<Vec<Parcel>, AllocError>
         ensures { IfOk result (λ frame. frame.items ≡ role_frame self.now to) }
     {
         match self {

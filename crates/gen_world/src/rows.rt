@@ -30,12 +30,7 @@ impl Model for FrameRow {
 
 impl FrameRow {
     /// Returns the frame of this round, from this general to this one, with these parcels.
-    pub(crate) fn new(
-        round: u8,
-        from: GeneralNo,
-        to: GeneralNo,
-        parcels: Vec<Parcel>,
-    ) -> FrameRow
+    pub(crate) fn new(round: u8, from: GeneralNo, to: GeneralNo, parcels: Vec<Parcel>) -> FrameRow
         ensures { result ≡ record {
           round = round;
           from = from;

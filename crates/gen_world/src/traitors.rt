@@ -66,11 +66,7 @@ impl Traitor {
     }
 
     /// Returns the frame of this round to a neighbour.
-    pub(crate) fn frame_for(
-        &self,
-        alloc: Global,
-        to: GeneralNo,
-    ) -> Result<Vec<Parcel>, AllocError>
+    pub(crate) fn frame_for(&self, alloc: Global, to: GeneralNo) -> Result<Vec<Parcel>, AllocError>
         ensures { IfOk result (λ frame. frame.items ≡ map bytes_of (planned_to to self.now)) }
     {
         planned_frame(alloc, self.planned.as_slice(), to)

@@ -38,7 +38,7 @@ returns-clause-heard c =
     let one = hear_near s c.args.gone c.args.from c.args.to c.index_mut.result.now c.index.result.now c.hear.new.self _ near is by c.in_ok-parcels.ensures hd in
     let within : c.from-2.result < length ps = omega (arith, i, c.requires.to, c.requires.all.count) in
     λ d. ap (λ (x : Seat). x.heard) (at_same ps c.from-2.result c.args.to c.hear.new.self d within (sym i)) ∙ one
-        ∙ ap (λ (x : Seat). x.heard ++ hears_of s c.args.gone c.args.to (near_of s.net c.args.to (c.args.from ∷ []))) (p ∙ get_or_default ps c.args.to c.index_mut.result.now d (omega (arith, c.requires.to, c.requires.all.count)))
+    ∙ ap (λ (x : Seat). x.heard ++ hears_of s c.args.gone c.args.to (near_of s.net c.args.to (c.args.from ∷ []))) (p ∙ get_or_default ps c.args.to c.index_mut.result.now d (omega (arith, c.requires.to, c.requires.all.count)))
 
 pub returns-clause-frames : goal.returns-clause-frames
 returns-clause-frames c =
