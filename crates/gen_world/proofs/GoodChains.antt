@@ -139,7 +139,7 @@ bent_length : (signature : List ℕ) → length (bent_signature signature) ≡ l
 bent_length [] = refl
 bent_length (b ∷ others) = refl
 
-bent_count : (signers : List Signer) → length (bent_signers signers) ≡ length signers
+pub bent_count : (signers : List Signer) → length (bent_signers signers) ≡ length signers
 bent_count [] = refl
 bent_count (t ∷ []) = refl
 bent_count (t ∷ u ∷ signers) = ap suc (bent_count (u ∷ signers))

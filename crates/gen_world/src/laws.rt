@@ -9,6 +9,8 @@ ghost use Rattle.gen_world.specs.LogsVerify.{AllVerify};
 ghost use Rattle.gen_world.specs.RoundsKept.{FrameKept, SendEntriesKept, SignEntriesKept, SignsKept};
 ghost use Rattle.gen_world.specs.SignedLaw.{NoRawIsSigned, TheoremHoldsOfScenarios};
 ghost use Rattle.gen_world.specs.Steps.{MessagesCount, OneRoundMore, FrameAfter, OneSignerMore, BegunByCommander};
+ghost use Rattle.gen_world.specs.KnownLaws.{KeysAreEnough, KnownTreesAreEnough, OwnSeedIsEnough};
+ghost use Rattle.gen_world.specs.Planned.{PlansFrames, PlansSends, PlansSigns};
 ghost use Rattle.gen_world.specs.Theorem.{Agreement, Case, DecideAlike, EachDecides, ObeyCommander, Premises, Validity};
 ghost use Rattle.gen_world.specs.TwoOrders.{BothAccepted, three, two_orders_case};
 ghost use Rattle.gen_world.specs.World.{OneWorld};
@@ -142,4 +144,21 @@ pub fn followers_logs()
 /// Each log of each general, a traitor's and his second one too, is a log of this run whose signatures and head verify.
 pub fn logs_verify()
     ensures { AllVerify }
+{}
+
+/// What a script has its general send in a round, as `Planned` has it: `frames`, its bytes make the frame to a neighbour;
+/// `signs`, its chains are what he signs; `sends`, those for a neighbour are what he sends him.
+pub fn plans_are_frames()
+    ensures frames { PlansFrames }
+    ensures signs { PlansSigns }
+    ensures sends { PlansSends }
+{}
+
+/// What a general knows of his own is enough: with keys that give his own signatures, and if he has a script those of all who
+/// have one, he acts as the scenario says, whatever he heard (`enough`); who has no script has such keys by his own seed
+/// (`follower`), and who has one by the trees that he knows (`traitor`).
+pub fn known_is_enough()
+    ensures enough { KeysAreEnough }
+    ensures follower { OwnSeedIsEnough }
+    ensures traitor { KnownTreesAreEnough }
 {}

@@ -1,0 +1,22 @@
+use Rattle.std.proofs.Common.{◌≡◌, ◌∙◌, ap, arith}
+use Rattle.gen_net.specs.Network.{rounds}
+use Rattle.gen_world.proofs.Worlds.{rows_none, rows_round, rows_all}
+use Rattle.gen_world.proofs.world.run_rounds.Goals as goal
+
+pub rounds-init : goal.rounds-init
+rounds-init c = record {
+  all = c.in_ok-make_all.ensures;
+  frames = rows_none c.args.scenario.now c.new-frames.result.items c.new-frames.ensures.items;
+}
+
+pub rounds-preserved : goal.rounds-preserved
+rounds-preserved c = record {
+  all = c.in_ok-hear_all.ensures.all;
+  frames = rows_round c.args.scenario.now c.rounds.gone c.rounds.frames.items c.hear_all.new.frames.items c.rounds.invariant.frames c.in_ok-hear_all.ensures.frames;
+}
+
+pub returns-clause-frames : goal.returns-clause-frames
+returns-clause-frames c =
+    let s = c.args.scenario.now in
+    let stop : c.rounds.gone ≡ rounds s.net = omega (arith, c.rounds-test.false, c.rounds.auto.gone-end, c.rounds-gone-end.ensures.value, ap rounds (c.net.ensures.value ∙ ap (λ h. h.network) c.header.ensures.value)) in
+    ap (λ world. world.frames) c.new.ensures ∙ rows_all s c.rounds.gone c.rounds.frames.items stop c.rounds.invariant.frames
