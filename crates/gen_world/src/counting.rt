@@ -1,12 +1,14 @@
 //! Which chains of a frame count at its receiver.
-ghost use Rattle.std.specs.Prelude.{IsTrue, ℕ, List, ◌≡◌, ◌↔◌, ◌∷◌, [], ◌++◌, map, Contains, Ok, Some, None, IfOk, OnOk};
+ghost use Rattle.std.specs.Prelude.{IsTrue, ℕ, List, ◌≡◌, ◌↔◌, ◌∷◌, [], ◌++◌, Contains, Ok, Some, None, IfOk, OnOk};
 ghost use Rattle.gen_chain.specs.Chain.{Chain};
+ghost use Rattle.gen_chain.specs.Store.{Serves};
 ghost use Rattle.gen_world.specs.Counting.{MayCount, Carries, AreCounted};
 ghost use Rattle.gen_world.specs.Counted.{counted_of};
 ghost use Rattle.gen_world.specs.Loops.Listing.{AreListed};
 
-use gen_chain::{SignedChain, chain_verifies, read_chain};
+use gen_chain::{SignedChain, VerifyStore, read_chain};
 use gen_net::Header;
+use gen_script::Parcel;
 use gen_types::{GeneralNo, OrderNo, ReadError};
 use std::alloc::{AllocError, Global};
 
@@ -21,30 +23,40 @@ pub struct Delivery {
     pub round: u8,
 }
 
-/// Whether a chain of this frame may count.
-fn may_count(header: &Header, delivery: &Delivery, chain: &SignedChain) -> bool
-    ensures { IsTrue result ↔ MayCount header.now delivery.now chain.now }
+/// Whether a chain of this frame may count. The signatures come last.
+fn may_count(
+    header: &Header,
+    store: &mut VerifyStore,
+    delivery: &Delivery,
+    chain: &SignedChain,
+) -> Result<bool, AllocError>
+    requires serves { Serves header.now store.old }
+    ensures value { IfOk result (λ may. IsTrue may ↔ MayCount header.now delivery.now chain.now) }
+    ensures serves { Serves header.now store.new }
 {
     let path = chain.path();
     if path.len() != usize::from(delivery.round) {
-        return false;
+        return Ok(false);
     }
     if !path.ends_with(delivery.from) {
-        return false;
+        return Ok(false);
     }
     if path.contains(delivery.to) {
-        return false;
+        return Ok(false);
     }
-    chain_verifies(header, chain)
+    store.chain_verifies(header, chain)
 }
 
 /// The chain that a parcel is, where it is exactly one and may count.
 fn carried(
     alloc: Global,
     header: &Header,
+    store: &mut VerifyStore,
     delivery: &Delivery,
     parcel: &[u8],
 ) -> Result<Option<SignedChain>, AllocError>
+    requires serves { Serves header.now store.old }
+    ensures serves { Serves header.now store.new }
     ensures some { (c : Chain) → result ≡ Ok (Some c)
         → Carries header.now delivery.now parcel.now c }
     ensures none { result ≡ Ok None
@@ -57,7 +69,7 @@ fn carried(
             if taken != parcel.len() {
                 return Ok(None);
             }
-            if !may_count(header, delivery, &chain) {
+            if !may_count(header, store, delivery, &chain)? {
                 return Ok(None);
             }
             Ok(Some(chain))
@@ -76,15 +88,18 @@ fn has_order(chains: &[SignedChain], order: OrderNo) -> bool
 fn count_parcel(
     alloc: Global,
     header: &Header,
+    store: &mut VerifyStore,
     delivery: &Delivery,
     parcel: &[u8],
     counted: &mut Vec<SignedChain>,
 ) -> Result<(), AllocError>
-    ensures { OnOk result ((parcels : List (List ℕ))
+    requires serves { Serves header.now store.old }
+    ensures serves { Serves header.now store.new }
+    ensures listed { OnOk result ((parcels : List (List ℕ))
         → AreListed header.now delivery.now parcels counted.old.items
         → AreListed header.now delivery.now (parcels ++ parcel.now ∷ []) counted.new.items) }
 {
-    if let Some(chain) = carried(alloc, header, delivery, parcel)? {
+    if let Some(chain) = carried(alloc, header, store, delivery, parcel)? {
         if !has_order(counted.as_slice(), chain.order()) {
             counted.push(chain)?;
         }
@@ -97,28 +112,33 @@ fn count_parcel(
 /// as many signers as the round's number, of whom the sender is the last and the receiver none, and is the
 /// first such of its order. All other parcels are ignored.
 ///
+/// The signatures are checked through the store, so what it keeps is not verified again.
+///
 /// # Errors
 ///
-/// Only where memory was refused.
+/// Only where memory was refused: then the store keeps the checks that were made before.
 pub fn count_frame(
     alloc: Global,
     header: &Header,
+    store: &mut VerifyStore,
     delivery: &Delivery,
-    frame: &[Vec<u8>],
+    frame: &[Parcel],
 ) -> Result<Vec<SignedChain>, AllocError>
+    requires serves { Serves header.now store.old }
     // Which chains they are.
     ensures counted { IfOk result (λ chains.
-        AreCounted header.now delivery.now (map (λ p. p.items) frame.now) chains.items) }
+        AreCounted header.now delivery.now frame.now chains.items) }
     // And in which order.
     ensures exact { IfOk result (λ chains.
-        chains.items ≡ counted_of header.now delivery.now (map (λ p. p.items) frame.now)) }
+        chains.items ≡ counted_of header.now delivery.now frame.now) }
+    ensures serves { Serves header.now store.new }
 {
     let mut counted = Vec::new(alloc);
     if frame.len() > usize::from(header.net().orders()) {
         return Ok(counted);
     }
     'parcels: for parcel in frame {
-        count_parcel(alloc, header, delivery, parcel.as_slice(), &mut counted)?;
+        count_parcel(alloc, header, store, delivery, parcel.bytes(), &mut counted)?;
     }
     Ok(counted)
 }

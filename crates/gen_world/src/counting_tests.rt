@@ -1,10 +1,14 @@
 //! Frames, parcel by parcel: which chains count.
 ghost use Rattle.std.specs.Prelude.{◌≡◌, IfOk};
+ghost use Rattle.gen_chain.specs.Store.{Serves};
 
 use super::*;
-use gen_chain::{ChainRoom, SignedChain, begin_chain, extend_chain, leaf_of_order, write_chain};
+use gen_chain::{
+    ChainRoom, SignedChain, VerifyStore, begin_chain, extend_chain, leaf_of_order, write_chain,
+};
 use gen_net::{Header, Net};
 use gen_ots::SigRoom;
+use gen_script::Parcel;
 use gen_tree::{KeyRing, general_seed};
 use gen_types::{GeneralNo, OrderNo, TreeHeight};
 use std::alloc::Global;
@@ -82,8 +86,8 @@ fn longer(
     Ok(chain.ok_or("the leaf is taken")?)
 }
 
-/// The parcel of the chain of an order that the commander and then these have signed.
-fn parcel(alloc: Global, header: &Header, order: u8, others: &[u8]) -> Result<Vec<u8>, Fail> {
+/// The bytes of the chain of an order that the commander and then these have signed.
+fn bytes_of(alloc: Global, header: &Header, order: u8, others: &[u8]) -> Result<Vec<u8>, Fail> {
     let order = OrderNo::new(order).ok_or("no order")?;
     let mut chain = begun(alloc, header, order)?;
     for number in others {
@@ -93,18 +97,24 @@ fn parcel(alloc: Global, header: &Header, order: u8, others: &[u8]) -> Result<Ve
     Ok(write_chain(alloc, &chain)?)
 }
 
+/// The parcel of that chain.
+fn parcel(alloc: Global, header: &Header, order: u8, others: &[u8]) -> Result<Parcel, Fail> {
+    Ok(Parcel::new(bytes_of(alloc, header, order, others)?))
+}
+
 /// The order and the number of signers of each chain of the frame that counts.
 fn counted(
     alloc: Global,
     header: &Header,
     (from, to, round): (u8, u8, u8),
-    frame: &[Vec<u8>],
+    frame: &[Parcel],
 ) -> Result<Vec<(u8, usize)>, Fail> {
     let from = GeneralNo::new(from).ok_or("no general")?;
     let to = GeneralNo::new(to).ok_or("no general")?;
     let delivery = Delivery { from, to, round };
+    let mut store = VerifyStore::new(alloc)?;
     let mut counted = Vec::new(alloc);
-    for chain in &count_frame(alloc, header, &delivery, frame)? {
+    for chain in &count_frame(alloc, header, &mut store, &delivery, frame)? {
         counted.push((chain.order().get(), chain.signers().len()))?;
     }
     Ok(counted)
@@ -143,7 +153,8 @@ fn first_of_an_order_counts(rt: HostRuntime) -> Result<(), Fail> {
     frame.push(by_2)?;
     let (from, to) = (GeneralNo::at(1), GeneralNo::at(2));
     let delivery = Delivery { from, to, round: 3 };
-    let chains = count_frame(alloc, &header, &delivery, frame.as_slice())?;
+    let mut store = VerifyStore::new(alloc)?;
+    let chains = count_frame(alloc, &header, &mut store, &delivery, frame.as_slice())?;
     assert_eq!(rt; chains.len(), 1);
     assert!(rt;
         chains
@@ -178,25 +189,60 @@ fn other_parcels_are_ignored(rt: HostRuntime) -> Result<(), Fail> {
     let alloc = rt.alloc();
     let header = header_of_four(alloc)?;
     let good = parcel(alloc, &header, 1, &[1])?;
-    let mut bent = parcel(alloc, &header, 1, &[1])?;
+    let mut bent = bytes_of(alloc, &header, 1, &[1])?;
     match bent.last_mut() {
         Some(last) => *last ^= 1,
         None => return Err("no bytes".into()),
     }
-    let mut followed = parcel(alloc, &header, 1, &[1])?;
+    let mut followed = bytes_of(alloc, &header, 1, &[1])?;
     followed.push(0)?;
-    let mut cut = parcel(alloc, &header, 1, &[1])?;
+    let mut cut = bytes_of(alloc, &header, 1, &[1])?;
     let _last = cut.pop();
     for bad in [bent, followed, cut, Vec::new(alloc)] {
         let mut frame = Vec::new(alloc);
-        frame.push(bad)?;
+        frame.push(Parcel::new(bad))?;
         let none = counted(alloc, &header, (1, 2, 2), frame.as_slice())?;
         assert!(rt; none.is_empty());
-        let mut copy = Vec::new(alloc);
-        copy.extend_from_slice(&good)?;
-        frame.push(copy)?;
+        frame.push(good.clone()?)?;
         let one = counted(alloc, &header, (1, 2, 2), frame.as_slice())?;
         assert_eq!(rt; one.as_slice(), [(1, 2)].as_slice());
     }
+    Ok(())
+}
+
+/// How many chains count that general 1 sends general 2 in round 2, and how many verifications the store has
+/// made then.
+fn counted_by(
+    alloc: Global,
+    header: &Header,
+    store: &mut VerifyStore,
+    frame: &[Parcel],
+) -> Result<(usize, u64), Fail>
+    requires { Serves header.now store.old }
+    ensures { Serves header.now store.new }
+{
+    let (from, to) = (GeneralNo::at(1), GeneralNo::at(2));
+    let delivery = Delivery { from, to, round: 2 };
+    let counted = count_frame(alloc, header, store, &delivery, frame)?;
+    Ok((counted.len(), store.runs()))
+}
+
+#[test]
+fn what_was_verified_is_kept(rt: HostRuntime) -> Result<(), Fail> {
+    let alloc = rt.alloc();
+    let header = header_of_four(alloc)?;
+    let chain = parcel(alloc, &header, 1, &[1])?;
+    // A chain that 3 signed last does not count, and none of its signatures is verified.
+    let others = parcel(alloc, &header, 0, &[3])?;
+    let frame = Vec::from_array(alloc, [others, chain])?;
+    let mut store = VerifyStore::new(alloc)?;
+    assert_eq!(rt;
+        counted_by(alloc, &header, &mut store, frame.as_slice())?,
+        (1, 2)
+    );
+    assert_eq!(rt;
+        counted_by(alloc, &header, &mut store, frame.as_slice())?,
+        (1, 2)
+    );
     Ok(())
 }

@@ -1,4 +1,4 @@
-use Rattle.std.proofs.Common.{◌≡◌, [], sym, ap, ◌∙◌, length}
+use Rattle.std.proofs.Common.{[], sym, ap, ◌∙◌, length}
 use Rattle.std.proofs.lemmas.List.{append-nil}
 use Rattle.gen_types.proofs.Steps.{ok_is}
 use Rattle.gen_world.proofs.counting.carried.Goals as goal
