@@ -14,7 +14,7 @@ use Rattle.gen_audit.specs.Headline.{Headline, HeadlineHolds}
 use Rattle.gen_audit.proofs.Supporting.{clean_is_supported}
 
 -- where something is found, not nothing is
-unclean : (b : LogBundle) (findings : List Finding) → findings ≢ [] → AreFindings (IsFinding b) findings → IsClean b → ⊥
+pub unclean : (b : LogBundle) (findings : List Finding) → findings ≢ [] → AreFindings (IsFinding b) findings → IsClean b → ⊥
 unclean b [] some are clean = some refl
 unclean b (f ∷ more) some are clean = clean f ((are.members f).0 (Contains_here f more))
 

@@ -10,3 +10,4 @@ pub mod Supporting
 pub mod Telling
 pub mod Verifying
 pub mod Walking
+pub mod Worlds

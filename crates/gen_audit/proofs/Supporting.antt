@@ -31,7 +31,7 @@ use Rattle.gen_match.specs.declared.finding.Finding.{Finding}
 use Rattle.gen_match.specs.declared.finding.Finding.TheVariants.{Missing, Several, Unreadable, Foreign, Unsigned, Unsealed, Departs, Unmatched, Underivable, Unjoined, Nobody}
 use Rattle.gen_audit.specs.Bundle.{LogBundle, IsBundle, exhibits_of, starts_as, says_it_is_of, counted, sole_log, logs_of}
 use Rattle.gen_audit.specs.Findings.{Shows, ShowsOwn, IsFinding}
-use Rattle.gen_audit.specs.Supported.{HasSoleLog, IsSupported, IsClean, CleanIsSupported, CleanAgrees, AgreeOn}
+use Rattle.gen_audit.specs.Supported.{HasSoleLog, IsSupported, IsClean, CleanIsSupported, SupportedIsClean, CleanAgrees, AgreeOn}
 use Rattle.gen_audit.proofs.Claims.{nothing_found_explains, explained_finds_nothing}
 use Rattle.gen_audit.proofs.Agreeing.{few_faulty_agree}
 use Rattle.gen_audit.proofs.Deciding.{Dec}
@@ -79,7 +79,7 @@ decide_own h g log = elim (bool_cases (says_it_is_of h g log)) [
 ]
 
 -- ---- the log that counts
-counts : (b : LogBundle) (g : ℕ) (x : ShownLog) (log : RunLog) → exhibits_of b.exhibits g ≡ x ∷ [] → log_of b.header x.bytes ≡ Ok log → SaysItIsOf b.header g log → logs_of b g ≡ Some (map erase log.entries)
+pub counts : (b : LogBundle) (g : ℕ) (x : ShownLog) (log : RunLog) → exhibits_of b.exhibits g ≡ x ∷ [] → log_of b.header x.bytes ≡ Ok log → SaysItIsOf b.header g log → logs_of b g ≡ Some (map erase log.entries)
 counts b g x log sole reads own = ap (sole_log b.header g) sole ∙ (ap (counted b.header g) reads ∙ ap (λ t. if t then Some (map erase log.entries) else None) (own_is b.header g log own))
 
 -- ---- a follower's log departs nowhere
@@ -106,7 +106,7 @@ same_result b x log other e f = one_result log other (sym e ∙ f)
 not_fault : (r : Result RunLog LogFault) (log : RunLog) (fault : LogFault) → r ≡ Ok log → r ≡ Err fault → ⊥
 not_fault r log fault e f = absurd cc
 
-module _ (b : LogBundle) (bundle : IsBundle b) where
+module _ (b : LogBundle) where
   abbrev net : Network
   net = b.header.network
 
@@ -115,7 +115,7 @@ module _ (b : LogBundle) (bundle : IsBundle b) where
       let r = list_below (IsLoyal net b.faulty) (decide_loyal net b.faulty) net.generals in
       (r.0, record { ascending = r.1.ascending; members = λ v. ((λ h. ((r.1.members v).0 h).1), (λ h. (r.1.members v).1 (h.0, h))) })
 
-  module _ (clean : IsClean b) where
+  module _ (bundle : IsBundle b) (clean : IsClean b) where
     somebody : (g : ℕ) × IsLoyal net b.faulty g
     somebody = elim (below_or_least (IsLoyal net b.faulty) (decide_loyal net b.faulty) net.generals) [
       | inl none ↦ absurd (clean Nobody (λ g l. none g l.0 l))
@@ -233,8 +233,11 @@ module _ (b : LogBundle) (bundle : IsBundle b) where
       somebody = s.somebody;
     }) s.explained
 
+pub supported_is_clean : SupportedIsClean
+supported_is_clean b s = none_of b s
+
 pub clean_is_supported : CleanIsSupported
-clean_is_supported b bundle = ((λ clean. supported b bundle clean), (λ s. none_of b bundle s))
+clean_is_supported b bundle = ((λ clean. supported b bundle clean), (λ s. none_of b s))
 
 pub clean_agrees : CleanAgrees
-clean_agrees b bundle clean few = agrees b bundle (supported b bundle clean) few
+clean_agrees b bundle clean few = agrees b (supported b bundle clean) few

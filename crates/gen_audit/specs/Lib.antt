@@ -6,3 +6,4 @@ pub mod Headline
 pub mod Supported
 pub mod Telling
 pub mod Verdict
+pub mod WorldBundle

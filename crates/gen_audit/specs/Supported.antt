@@ -38,6 +38,10 @@ IsClean b = (finding : Finding) → IsFinding b finding → ⊥
 abbrev pub CleanIsSupported : Type 0
 CleanIsSupported = (b : LogBundle) → IsBundle b → IsClean b ↔ IsSupported b
 
+-- the one direction asks nothing of the bundle
+abbrev pub SupportedIsClean : Type 0
+SupportedIsClean = (b : LogBundle) → IsSupported b → IsClean b
+
 -- the logs of a bundle agree on an order
 abbrev pub AgreeOn : LogBundle → ℕ → Type 0
 AgreeOn b order = AgreesOn b.header.network b.faulty (logs_of b) order

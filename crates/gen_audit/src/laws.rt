@@ -3,9 +3,10 @@
 ghost use Rattle.gen_audit.specs.Agreement.{FewFaultyAgree};
 ghost use Rattle.gen_audit.specs.Explained.{ExplainedFindsNothing, NothingFoundExplains, RunsHaveLogs};
 ghost use Rattle.gen_audit.specs.Headline.{HeadlineHolds};
-ghost use Rattle.gen_audit.specs.Supported.{CleanAgrees, CleanIsSupported};
+ghost use Rattle.gen_audit.specs.Supported.{CleanAgrees, CleanIsSupported, SupportedIsClean};
 ghost use Rattle.gen_audit.specs.Telling.{ReportsTellLogs};
 ghost use Rattle.gen_audit.specs.Verdict.{EachDecidedOnce, OneVerdict, VerdictExists};
+ghost use Rattle.gen_audit.specs.WorldBundle.{ShownAreLogs, WorldIsAccepted, WorldIsSupported};
 
 /// Logs of the rest, each alone one that its general could keep, and no two of which contradict each other, nor what the
 /// rest sent, come from one run (`explained`); and in the logs that the rest keep of a run nothing is found (`found`).
@@ -26,9 +27,11 @@ pub fn runs_have_logs()
 {}
 
 /// Nothing is found in a bundle exactly where it supports a yes: somebody is of the rest, each of the rest has one log
-/// and it verifies, the walks bound the diameter of the rest, and one run explains the logs.
+/// and it verifies, the walks bound the diameter of the rest, and one run explains the logs (`exactly`). The one
+/// direction asks nothing of the bundle (`clean`).
 pub fn clean_is_supported()
-    ensures { CleanIsSupported }
+    ensures exactly { CleanIsSupported }
+    ensures clean { SupportedIsClean }
 {}
 
 /// With at most m faulty generals the logs of a bundle in which nothing is found agree on an order.
@@ -56,4 +59,13 @@ pub fn each_decided_once()
 /// The reports of a bundle's exhibits tell its logs.
 pub fn reports_tell_logs()
     ensures { ReportsTellLogs }
+{}
+
+/// The bundle of a scenario's own run, in which the generals who have scripts are held for faulty, supports a yes
+/// (`supported`), and its verdict is one (`accepted`): where no script has a raw line, somebody has no script, and the
+/// walks bound the diameter of those who have none. What it shows are the bytes of all logs (`shown`).
+pub fn own_runs_are_accepted()
+    ensures supported { WorldIsSupported }
+    ensures accepted { WorldIsAccepted }
+    ensures shown { ShownAreLogs }
 {}

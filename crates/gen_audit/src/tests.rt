@@ -13,5 +13,6 @@ fn the_laws_are_there_to_be_called(_rt: HostRuntime) -> Result<(), Fail> {
     laws::one_verdict();
     laws::each_decided_once();
     laws::reports_tell_logs();
+    laws::own_runs_are_accepted();
     Ok(())
 }

@@ -1,5 +1,8 @@
-use Rattle.gen_audit.proofs.Supporting.{clean_is_supported}
+use Rattle.gen_audit.proofs.Supporting.{clean_is_supported, supported_is_clean}
 use Rattle.gen_audit.proofs.laws.clean_is_supported.Goals as goal
 
-pub returns : goal.returns
-returns c = clean_is_supported
+pub returns-clause-exactly : goal.returns-clause-exactly
+returns-clause-exactly c = clean_is_supported
+
+pub returns-clause-clean : goal.returns-clause-clean
+returns-clause-clean c = supported_is_clean
