@@ -26,7 +26,7 @@ use Rattle.gen_report.specs.declared.items.PathLine.{PathLine}
 use Rattle.gen_report.specs.Text.{longest_line}
 use Rattle.gen_report.specs.Fields.{line_of, said}
 use Rattle.gen_report.specs.Scripts.{SpellsLines, SpellsScripts}
-use Rattle.gen_report.specs.ScriptsReading.{begins_with, ascends, general_in, item_in}
+use Rattle.gen_report.specs.ItemReading.{begins_with, ascends, general_in, item_in}
 use Rattle.gen_report.specs.BlocksReading.{Blocks, path_at, closed, blocks_at, all_scripted}
 use Rattle.gen_report.proofs.AgainLines.{IsPlain, is_plain, word, decimal_field, digits_plain, IsLine, plain_line, AreFields, fields_line, said_line, IsGoing, going_behind, line_again, fields_again, behind_again}
 

@@ -13,7 +13,7 @@ use Rattle.gen_script.specs.Digits.{IsHexDigit, SpellsBytes}
 use Rattle.gen_report.specs.Text.{parts, is_foreign, longest_line}
 use Rattle.gen_report.specs.Fields.{line_of, said, text_of}
 use Rattle.gen_report.specs.LineReading.{number_in, number_behind}
-use Rattle.gen_report.specs.Cursor.{next_line, numbered}
+use Rattle.gen_report.specs.CursorReading.{next_line, numbered}
 use Rattle.gen_report.proofs.Cuts.{line_at_is}
 
 -- a byte that may stand in a field

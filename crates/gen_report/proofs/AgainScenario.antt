@@ -12,7 +12,7 @@ use Rattle.gen_report.specs.declared.scenario_text.ScenarioText.{ScenarioText}
 use Rattle.gen_report.specs.declared.scenario_text.ScenarioText.TheVariants as texts
 use Rattle.gen_report.specs.Text.{parts}
 use Rattle.gen_report.specs.Fields.{line_of, said}
-use Rattle.gen_report.specs.Place.{Cursor}
+use Rattle.gen_report.specs.Cursor.{Cursor}
 use Rattle.gen_report.specs.KeysReading.{slot_in as slot_line_of, seed_in, seed_at, slot_at, version_with}
 use Rattle.gen_report.specs.BlocksReading.{Blocks, blocks_at, all_scripted}
 use Rattle.gen_report.specs.ScenarioReading.{end_in, end_at, signed_at, told_at, scenario_of}

@@ -12,9 +12,9 @@ use Rattle.gen_report.specs.declared.fault.ScenarioFault.{ScenarioFault}
 use Rattle.gen_report.specs.declared.items.Item.{Item}
 use Rattle.gen_report.specs.declared.items.Item.TheVariants.{Begin, Say, End}
 use Rattle.gen_report.specs.declared.items.PathLine.{PathLine}
-use Rattle.gen_report.specs.Place.{Cursor, Line}
-use Rattle.gen_report.specs.Cursor.{next_line}
-use Rattle.gen_report.specs.ScriptsReading.{begins_with, general_in, item_in}
+use Rattle.gen_report.specs.Cursor.{Cursor, Line}
+use Rattle.gen_report.specs.CursorReading.{next_line}
+use Rattle.gen_report.specs.ItemReading.{begins_with, general_in, item_in}
 use Rattle.gen_report.specs.BlocksReading.{Blocks, path_at, closed, with_item, block_after, blocks_at}
 use Rattle.gen_report.proofs.Stepping.{stepped}
 

@@ -5,8 +5,8 @@ use Rattle.gen_types.specs.declared.reading.ReadError.{ReadError}
 use Rattle.gen_types.specs.declared.reading.ReadError.TheVariants as errors
 use Rattle.gen_types.specs.Reading.{◌>>=◌, Fails}
 use Rattle.gen_report.specs.declared.fault.ScenarioFault.{ScenarioFault}
-use Rattle.gen_report.specs.Place.{Cursor, Line}
-use Rattle.gen_report.specs.Cursor.{next_line}
+use Rattle.gen_report.specs.Cursor.{Cursor, Line}
+use Rattle.gen_report.specs.CursorReading.{next_line}
 use Rattle.gen_report.specs.EdgeReading.{EdgeLines, with_edge, after_edge, edge_lines_at, edge_in}
 use Rattle.gen_report.proofs.Stepping.{stepped}
 

@@ -29,11 +29,11 @@ use Rattle.gen_report.specs.declared.items.Item.{Item}
 use Rattle.gen_report.specs.declared.items.Item.TheVariants.{Begin, Say, End}
 use Rattle.gen_report.specs.declared.items.PathLine.{PathLine}
 use Rattle.gen_report.specs.Fields.{line_of, said}
-use Rattle.gen_report.specs.Place.{Cursor, Line}
+use Rattle.gen_report.specs.Cursor.{Cursor, Line}
 use Rattle.gen_report.specs.LineReading.{fault_at, number_behind}
-use Rattle.gen_report.specs.Cursor.{next_line}
+use Rattle.gen_report.specs.CursorReading.{next_line}
 use Rattle.gen_report.specs.Scripts.{SpellsLines, SpellsScripts}
-use Rattle.gen_report.specs.ScriptsReading.{begins_with, ascends, general_in, said_in, item_in}
+use Rattle.gen_report.specs.ItemReading.{begins_with, ascends, general_in, said_in, item_in}
 use Rattle.gen_report.specs.BlocksReading.{Blocks, path_at, closed, with_item, block_after, blocks_at, all_scripted}
 use Rattle.gen_report.proofs.Stepping.{done}
 use Rattle.gen_report.proofs.FoundLines.{LineOf, line_found, first_is, behind_found}

@@ -15,9 +15,9 @@ use Rattle.gen_script.proofs.Hexes.{decoded_found}
 use Rattle.gen_report.specs.declared.fault.LineFault.TheVariants.{SlotRange}
 use Rattle.gen_report.specs.declared.fault.ScenarioFault.{ScenarioFault}
 use Rattle.gen_report.specs.Fields.{line_of, said}
-use Rattle.gen_report.specs.Place.{Cursor, Line}
+use Rattle.gen_report.specs.Cursor.{Cursor, Line}
 use Rattle.gen_report.specs.LineReading.{fault_at, number_in}
-use Rattle.gen_report.specs.Cursor.{next_line}
+use Rattle.gen_report.specs.CursorReading.{next_line}
 use Rattle.gen_report.specs.KeysReading.{known_seed, seed_in, slot_in as slot_line, behind, seed_at, slot_at, version_with}
 use Rattle.gen_report.proofs.Stepping.{done}
 use Rattle.gen_report.proofs.FoundLines.{LineOf, line_found, first_is, digits_found}

@@ -16,9 +16,9 @@ use Rattle.gen_report.specs.declared.fault.LineFault.TheVariants.{Unfinished, Sh
 use Rattle.gen_report.specs.declared.fault.ScenarioFault.{ScenarioFault}
 use Rattle.gen_report.specs.Text.{is_foreign, longest_line}
 use Rattle.gen_report.specs.Fields.{line_of, said}
-use Rattle.gen_report.specs.Place.{Cursor, Line}
+use Rattle.gen_report.specs.Cursor.{Cursor, Line}
 use Rattle.gen_report.specs.LineReading.{fault_at, number_in, number_behind, line_at}
-use Rattle.gen_report.specs.Cursor.{next_line, numbered}
+use Rattle.gen_report.specs.CursorReading.{next_line, numbered}
 use Rattle.gen_report.proofs.Stepping.{done}
 
 -- an if that fails where its test doesn't hold

@@ -17,9 +17,9 @@ use Rattle.gen_report.specs.declared.fault.LineFault.TheVariants.{UnknownOrder}
 use Rattle.gen_report.specs.declared.fault.LineFault.TheVariants as faults
 use Rattle.gen_report.specs.declared.fault.ScenarioFault.{ScenarioFault}
 use Rattle.gen_report.specs.Fields.{line_of, said, edge_line}
-use Rattle.gen_report.specs.Place.{Cursor, Line}
+use Rattle.gen_report.specs.Cursor.{Cursor, Line}
 use Rattle.gen_report.specs.LineReading.{fault_at, number_in, number_behind}
-use Rattle.gen_report.specs.Cursor.{next_line, numbered}
+use Rattle.gen_report.specs.CursorReading.{next_line, numbered}
 use Rattle.gen_report.specs.EdgeReading.{EdgeLines, after_edge, edge_in, edge_lines_at}
 use Rattle.gen_report.specs.NumbersReading.{Opening, Settings, opening_at, settings_at, numbers_said, network_at, order_at, plain_at}
 use Rattle.gen_report.specs.Scenario.{Given, given_lines, AreBytes}

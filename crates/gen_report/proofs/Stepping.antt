@@ -7,9 +7,9 @@ use Rattle.gen_types.proofs.Steps.{after, after_guard, at_end}
 use Rattle.gen_report.specs.declared.fault.LineFault.TheVariants.{Unfinished, TooLong, Foreign}
 use Rattle.gen_report.specs.declared.fault.ScenarioFault.{ScenarioFault}
 use Rattle.gen_report.specs.Text.{is_foreign, longest_line}
-use Rattle.gen_report.specs.Place.{Cursor, Line}
+use Rattle.gen_report.specs.Cursor.{Cursor, Line}
 use Rattle.gen_report.specs.LineReading.{fault_at, line_at}
-use Rattle.gen_report.specs.Cursor.{next_line}
+use Rattle.gen_report.specs.CursorReading.{next_line}
 
 abbrev pub done : {A : Type 0} → A → Result A ScenarioFault
 done x = Ok x

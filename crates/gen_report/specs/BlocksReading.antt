@@ -13,10 +13,10 @@ use Rattle.gen_report.specs.declared.fault.ScenarioFault.{ScenarioFault}
 use Rattle.gen_report.specs.declared.items.Item.{Item}
 use Rattle.gen_report.specs.declared.items.Item.TheVariants.{Begin, Say, End}
 use Rattle.gen_report.specs.declared.items.PathLine.{PathLine}
-use Rattle.gen_report.specs.Place.{Cursor, Line}
+use Rattle.gen_report.specs.Cursor.{Cursor, Line}
 use Rattle.gen_report.specs.LineReading.{fault_at}
-use Rattle.gen_report.specs.Cursor.{next_line}
-use Rattle.gen_report.specs.ScriptsReading.{item_in}
+use Rattle.gen_report.specs.CursorReading.{next_line}
+use Rattle.gen_report.specs.ItemReading.{item_in}
 
 -- what lines say from one in a block on: the rest of the lines of that block, the scripts of the blocks after it, the paths
 -- that all these lines name, and the place behind the last line

@@ -4,9 +4,9 @@ use Rattle.std.specs.Str.{bytes_eq}
 use Rattle.gen_types.specs.Reading.{◌>>=◌}
 use Rattle.gen_report.specs.declared.fault.LineFault.TheVariants.{Unfinished}
 use Rattle.gen_report.specs.declared.fault.ScenarioFault.{ScenarioFault}
-use Rattle.gen_report.specs.Place.{Cursor, Line}
+use Rattle.gen_report.specs.Cursor.{Cursor, Line}
 use Rattle.gen_report.specs.LineReading.{fault_at, number_in}
-use Rattle.gen_report.specs.Cursor.{next_line}
+use Rattle.gen_report.specs.CursorReading.{next_line}
 
 -- the edge of the line k, where it is a line of an edge
 unfoldable pub edge_in : ℕ → List (List ℕ) → Result (Option (ℕ × ℕ)) ScenarioFault

@@ -9,9 +9,9 @@ use Rattle.gen_net.specs.declared.version.Version.TheVariants.{One, Two}
 use Rattle.gen_net.specs.Version.{greatest_slot}
 use Rattle.gen_report.specs.declared.fault.LineFault.TheVariants.{BadSeed, SlotRange}
 use Rattle.gen_report.specs.declared.fault.ScenarioFault.{ScenarioFault}
-use Rattle.gen_report.specs.Place.{Cursor}
+use Rattle.gen_report.specs.Cursor.{Cursor}
 use Rattle.gen_report.specs.LineReading.{fault_at, number_in}
-use Rattle.gen_report.specs.Cursor.{next_line}
+use Rattle.gen_report.specs.CursorReading.{next_line}
 
 -- the 32 bytes of a seed in the line k
 abbrev pub known_seed : ℕ → Result (List ℕ) FromHexError → Result (List ℕ) ScenarioFault

@@ -1,15 +1,15 @@
 pub mod BlocksReading
 pub mod Cursor
+pub mod CursorReading
 pub mod Decisions
 pub mod EdgeReading
 pub mod Fields
+pub mod ItemReading
 pub mod KeysReading
 pub mod LineReading
 pub mod NumbersReading
-pub mod Place
 pub mod Scenario
 pub mod ScenarioReading
 pub mod Scripts
-pub mod ScriptsReading
 pub mod Text
 pub mod Told

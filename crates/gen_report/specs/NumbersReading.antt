@@ -8,9 +8,9 @@ use Rattle.gen_net.specs.NetworkOf.{network_of}
 use Rattle.gen_world.specs.Scenario.{Plain}
 use Rattle.gen_report.specs.declared.fault.LineFault.TheVariants as faults
 use Rattle.gen_report.specs.declared.fault.ScenarioFault.{ScenarioFault}
-use Rattle.gen_report.specs.Place.{Cursor}
+use Rattle.gen_report.specs.Cursor.{Cursor}
 use Rattle.gen_report.specs.LineReading.{fault_at, number_behind}
-use Rattle.gen_report.specs.Cursor.{numbered}
+use Rattle.gen_report.specs.CursorReading.{numbered}
 use Rattle.gen_report.specs.EdgeReading.{edge_lines_at}
 
 -- what the lines up to that of the traitors say, and the place after them

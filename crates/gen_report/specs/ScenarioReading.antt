@@ -7,9 +7,9 @@ use Rattle.gen_report.specs.declared.fault.LineFault.TheVariants.{Shape, Unseede
 use Rattle.gen_report.specs.declared.fault.ScenarioFault.{ScenarioFault}
 use Rattle.gen_report.specs.declared.scenario_text.ScenarioText.{ScenarioText}
 use Rattle.gen_report.specs.declared.scenario_text.ScenarioText.TheVariants as texts
-use Rattle.gen_report.specs.Place.{Cursor, start_of}
+use Rattle.gen_report.specs.Cursor.{Cursor, start_of}
 use Rattle.gen_report.specs.LineReading.{fault_at}
-use Rattle.gen_report.specs.Cursor.{next_line, is_over}
+use Rattle.gen_report.specs.CursorReading.{next_line, is_over}
 use Rattle.gen_report.specs.NumbersReading.{plain_at}
 use Rattle.gen_report.specs.KeysReading.{seed_at, slot_at, version_with}
 use Rattle.gen_report.specs.BlocksReading.{blocks_at, all_scripted}

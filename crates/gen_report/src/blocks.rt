@@ -83,8 +83,8 @@ pub fn read_blocks<'a>(
     let mut place = start;
     'lines: loop {
         let (line, after) = place.next_line(alloc)?;
-        let last = block;
-        match item_in(alloc, net, last, &line)? {
+        let current = block;
+        match item_in(alloc, net, current, &line)? {
             Item::End => {
                 close(alloc, &mut scripts, block, &mut lines)?;
                 return Ok(Blocks {

@@ -2,8 +2,8 @@
 ghost use Rattle.std.specs.Prelude.{◌≡◌, ◌<◌, length, map, IfOk};
 ghost use Rattle.gen_types.specs.Reading.{Gives};
 ghost use Rattle.gen_types.specs.Spelled.{IsRead};
-ghost use Rattle.gen_report.specs.Place.{start_of};
-ghost use Rattle.gen_report.specs.Cursor.{next_line, numbered, is_over};
+ghost use Rattle.gen_report.specs.Cursor.{start_of};
+ghost use Rattle.gen_report.specs.CursorReading.{next_line, numbered, is_over};
 
 use crate::fault::ScenarioFault;
 use crate::lines::{line_at, number_behind};
@@ -43,7 +43,7 @@ pub struct Cursor<'a> {
 impl<'a> Model for Cursor<'a> {
     ghost use Rattle.std.specs.Prelude.{◌<◌, ◌+◌, ◌^◌, length};
     ghost use Rattle.gen_report.specs.Text.{parts};
-    ghost use Rattle.gen_report.specs.Place.{Cursor};
+    ghost use Rattle.gen_report.specs.Cursor.{Cursor};
 
     ghost Value = { Cursor };
 
@@ -54,7 +54,7 @@ impl<'a> Model for Cursor<'a> {
 
 impl<'a> Cursor<'a> {
     /// Returns the number behind a word in the first line of a text, and the place after it.
-    #[tactic(auto, unfolding(crate::specs::Cursor::numbered, crate::specs::Cursor::next_line))]
+    #[tactic(auto, unfolding(crate::specs::CursorReading::numbered, crate::specs::CursorReading::next_line))]
     pub fn behind_first(
         alloc: Global,
         text: &'a [u8],
@@ -69,7 +69,7 @@ impl<'a> Cursor<'a> {
     }
 
     /// Returns the line that begins here, and the place after it.
-    #[tactic(auto, unfolding(crate::specs::Cursor::next_line))]
+    #[tactic(auto, unfolding(crate::specs::CursorReading::next_line))]
     pub fn next_line(
         &self,
         alloc: Global,
@@ -99,7 +99,7 @@ impl<'a> Cursor<'a> {
     }
 
     /// Returns the number behind a word in the line that begins here, and the place after it.
-    #[tactic(auto, unfolding(crate::specs::Cursor::numbered))]
+    #[tactic(auto, unfolding(crate::specs::CursorReading::numbered))]
     pub fn numbered(
         &self,
         alloc: Global,

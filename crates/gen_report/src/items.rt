@@ -1,7 +1,7 @@
 //! What a line behind those of the keys is.
 ghost use Rattle.std.specs.Prelude.{◌≡◌, ◌<◌, map, IfOk, IfSome};
 ghost use Rattle.gen_types.specs.Spelled.{IsRead};
-ghost use Rattle.gen_report.specs.ScriptsReading.{begins_with, ascends, general_in, said_in, item_in};
+ghost use Rattle.gen_report.specs.ItemReading.{begins_with, ascends, general_in, said_in, item_in};
 ghost use Rattle.gen_report.specs.BlocksReading.{block_after};
 
 use crate::cursor::Line;
@@ -53,7 +53,7 @@ fn ascends(last: Option<GeneralNo>, number: u8) -> bool
 }
 
 /// Returns the general of whose script the line is the first, behind the block of `last`.
-#[tactic(auto, unfolding(crate::specs::ScriptsReading::general_in))]
+#[tactic(auto, unfolding(crate::specs::ItemReading::general_in))]
 fn general_in(
     net: &Net,
     last: Option<GeneralNo>,
@@ -95,7 +95,7 @@ fn said_in(
 }
 
 /// Returns what the line is, in the block of `block` or before the first one.
-#[tactic(auto, unfolding(crate::specs::ScriptsReading::item_in))]
+#[tactic(auto, unfolding(crate::specs::ItemReading::item_in))]
 pub fn item_in(
     alloc: Global,
     net: &Net,

@@ -3,7 +3,7 @@ ghost use Rattle.std.specs.Prelude.{◌≡◌, ◌<◌, length, map, IfOk};
 ghost use Rattle.gen_types.specs.Reading.{Gives};
 ghost use Rattle.gen_types.specs.Spelled.{IsRead};
 ghost use Rattle.gen_net.specs.NetworkOf.{network_of};
-ghost use Rattle.gen_report.specs.Place.{start_of};
+ghost use Rattle.gen_report.specs.Cursor.{start_of};
 ghost use Rattle.gen_report.specs.EdgeReading.{edge_lines_at};
 ghost use Rattle.gen_report.specs.NumbersReading.{opening_at, settings_at, network_at, order_at, plain_at};
 

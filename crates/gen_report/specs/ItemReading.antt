@@ -9,7 +9,7 @@ use Rattle.gen_report.specs.declared.fault.LineFault.TheVariants as faults
 use Rattle.gen_report.specs.declared.fault.ScenarioFault.{ScenarioFault}
 use Rattle.gen_report.specs.declared.items.Item.{Item}
 use Rattle.gen_report.specs.declared.items.Item.TheVariants.{Begin, Say, End}
-use Rattle.gen_report.specs.Place.{Line}
+use Rattle.gen_report.specs.Cursor.{Line}
 use Rattle.gen_report.specs.LineReading.{fault_at, number_behind}
 
 -- the first field is this word
