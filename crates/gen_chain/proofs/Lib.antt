@@ -1,7 +1,10 @@
 pub mod ChainLaws
 pub mod DistinctPaths
-mod LongerChains
+pub mod KeptAnswers
+pub mod LongerChains
 pub mod Parts
 mod Room
-mod SignedSoFar
+pub mod SignedSoFar
+mod StoredSoFar
+pub mod Storing
 pub mod TestedChains

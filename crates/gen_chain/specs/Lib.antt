@@ -1,8 +1,11 @@
 pub mod Chain
 pub mod ChainReading
+pub mod Keeping
 pub mod Leaves
 pub mod Making
 pub mod Prefixes
+pub mod Store
+pub mod StoredChain
 pub mod Texts
 pub mod Verified
 pub mod Verifying

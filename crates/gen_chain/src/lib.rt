@@ -14,6 +14,7 @@
 
 mod chains;
 mod fault;
+mod kept;
 pub mod laws;
 mod leaves;
 mod making;
@@ -21,6 +22,7 @@ mod prefixes;
 mod reading;
 pub mod sizes;
 mod statements;
+mod store;
 mod verifying;
 mod writing;
 
@@ -32,6 +34,7 @@ pub use reading::read_chain;
 pub use statements::{
     HeadText, Statement, head_digest, head_text, statement_digest, statement_text,
 };
+pub use store::VerifyStore;
 pub use verifying::{chain_verifies, has_signed};
 pub use writing::write_chain;
 

@@ -3,6 +3,7 @@ ghost use Rattle.std.specs.Prelude.{◌≡◌, option_map};
 ghost use Rattle.gen_script.specs.NamedPath.{named_path};
 
 use gen_types::{GeneralNo, OrderNo, Path};
+use std::alloc::AllocError;
 use std::marker::Model;
 
 /// The bytes of a parcel, as a general puts them on an edge. A contract sees the list of them.
@@ -32,6 +33,17 @@ impl Parcel {
         ensures { result.now ≡ self.now }
     {
         &self.bytes
+    }
+}
+
+/// A copy is equal to its original. It fails only where memory was refused.
+impl Clone for Parcel {
+    ghost is_clone = { λ parcel copy. copy ≡ parcel };
+
+    fn clone(&self) -> Result<Parcel, AllocError> {
+        Ok(Parcel {
+            bytes: self.bytes.clone()?,
+        })
     }
 }
 
@@ -98,6 +110,62 @@ pub enum ScriptLine {
     },
     /// He keeps a second sealed log, without the last order that the first says he received.
     TwoHeads,
+}
+
+/// A copy is equal to its original. It fails only where memory was refused.
+impl Clone for ScriptLine {
+    ghost is_clone = { λ line copy. copy ≡ line };
+
+    fn clone(&self) -> Result<ScriptLine, AllocError> {
+        match self {
+            ScriptLine::Make {
+                round,
+                to,
+                order,
+                path,
+            } => Ok(ScriptLine::Make {
+                round: *round,
+                to: *to,
+                order: *order,
+                path: *path,
+            }),
+            ScriptLine::Pass {
+                round,
+                to,
+                from,
+                order,
+                path,
+            } => Ok(ScriptLine::Pass {
+                round: *round,
+                to: *to,
+                from: *from,
+                order: *order,
+                path: *path,
+            }),
+            ScriptLine::Bend {
+                round,
+                to,
+                from,
+                order,
+            } => Ok(ScriptLine::Bend {
+                round: *round,
+                to: *to,
+                from: *from,
+                order: *order,
+            }),
+            ScriptLine::Raw { round, to, parcel } => Ok(ScriptLine::Raw {
+                round: *round,
+                to: *to,
+                parcel: parcel.clone()?,
+            }),
+            ScriptLine::Hide { round, from, order } => Ok(ScriptLine::Hide {
+                round: *round,
+                from: *from,
+                order: *order,
+            }),
+            ScriptLine::TwoHeads => Ok(ScriptLine::TwoHeads),
+        }
+    }
 }
 
 impl ScriptLine {

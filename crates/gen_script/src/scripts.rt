@@ -3,6 +3,7 @@ ghost use Rattle.std.specs.Prelude.{◌≡◌};
 
 use crate::lines::ScriptLine;
 use gen_types::GeneralNo;
+use std::alloc::AllocError;
 use std::marker::Model;
 
 /// The finite conduct of one traitor: the lines of his script, in their order. A contract sees who he is
@@ -42,5 +43,17 @@ impl Script {
         ensures { result.now ≡ self.now.lines }
     {
         self.lines.as_slice()
+    }
+}
+
+/// A copy is equal to its original. It fails only where memory was refused.
+impl Clone for Script {
+    ghost is_clone = { λ script copy. copy ≡ script };
+
+    fn clone(&self) -> Result<Script, AllocError> {
+        Ok(Script {
+            general: self.general,
+            lines: self.lines.clone()?,
+        })
     }
 }

@@ -308,6 +308,29 @@ fn lines_are_made_by_hand(rt: HostRuntime) -> Result<(), Fail> {
 }
 
 #[test]
+fn copies_are_equal(rt: HostRuntime) -> Result<(), Fail> {
+    let alloc = rt.alloc();
+    let mut bytes = Vec::new(alloc);
+    bytes.extend_from_slice(&[7, 0, 255])?;
+    let (round, to) = (2, GeneralNo::at(2));
+    let mut lines = Vec::new(alloc);
+    lines.push(ScriptLine::TwoHeads)?;
+    lines.push(ScriptLine::Raw {
+        round,
+        to,
+        parcel: Parcel::new(bytes),
+    })?;
+    let copy = Script::new(GeneralNo::at(3), lines).clone()?;
+    assert_eq!(rt; copy.general(), GeneralNo::at(3));
+    assert!(rt;
+        matches!(copy.lines(),
+        [ScriptLine::TwoHeads, ScriptLine::Raw { round: 2, to, parcel }]
+            if *to == GeneralNo::at(2) && parcel.bytes() == [7, 0, 255].as_slice())
+    );
+    Ok(())
+}
+
+#[test]
 fn shows_faults(rt: HostRuntime) -> Result<(), Fail> {
     let rows = [
         (ScriptFault::Shape, "S1"),

@@ -22,25 +22,9 @@ use Rattle.gen_world.specs.Counted.{is_last, may_count, if_whole, carried_by, fi
 use Rattle.gen_world.specs.Loops.Listing.{AreListed}
 use Rattle.gen_chain.specs.Verified.{is_verified}
 use Rattle.gen_chain.proofs.TestedChains.{both, and_so, tests_verifying}
+use Rattle.gen_world.proofs.Having.{in_filtered, not_true, true_false}
 
 -- ---- tests
-
-in_filtered : {X : Type 0} (p : X → Bool) (xs : List X) (x : X) → Contains xs x → p x ≡ true → Contains (filter p xs) x
-in_filtered p [] x h e = absurd (Contains_nil x h)
-in_filtered p (y ∷ xs) x h e = elim (Contains_cases y x xs h) [
-  | inl same ↦ let here : p y ≡ true = subst (λ w. p w ≡ true) (sym same) e in rw here (subst (λ w. Contains (y ∷ filter p xs) w) same (Contains_here y (filter p xs)))
-  | inr t ↦ elim (bool_cases (p y)) [
-    | inl here ↦ rw here (Contains_there y x (filter p xs) (in_filtered p xs x t e))
-    | inr out ↦ rw out (in_filtered p xs x t e)
-  ]
-]
-
-not_true : (b : Bool) → not b ≡ true → b ≡ false
-not_true true e = absurd cc
-not_true false e = refl
-
-true_false : (b : Bool) → b ≡ true → b ≡ false → ⊥
-true_false b p q = cc
 
 not_false : (b : Bool) → b ≡ false → not b ≡ true
 not_false b e = rw e refl
@@ -97,18 +81,18 @@ whole_has h d parcel (Ok read) e c k = elim (bool_cases (eqb (length read.1) 0 &
       elim (Contains_cases read.0 c [] one) [ inl same ↦ subst (λ x. Carries h d parcel x) same made | inr none ↦ absurd (Contains_nil c none) ]
 ]
 
-carried_has : (h : RunHeader) (d : Delivery) (parcel : List ℕ) (c : Chain) → Contains (carried_by h d parcel) c → Carries h d parcel c
+pub carried_has : (h : RunHeader) (d : Delivery) (parcel : List ℕ) (c : Chain) → Contains (carried_by h d parcel) c → Carries h d parcel c
 unfolding carried_by
 carried_has h d parcel c k = whole_has h d parcel (chain_at (height_of h) parcel) refl c k
 
-carried_gives : (h : RunHeader) (d : Delivery) (parcel : List ℕ) (c : Chain) → Carries h d parcel c → carried_by h d parcel ≡ c ∷ []
+pub carried_gives : (h : RunHeader) (d : Delivery) (parcel : List ℕ) (c : Chain) → Carries h d parcel c → carried_by h d parcel ≡ c ∷ []
 unfolding carried_by
 carried_gives h d parcel c k =
     let read : chain_at (height_of h) parcel ≡ Ok (c, []) = ap (chain_at (height_of h)) (k.spelled ∙ sym (append-nil (chain_spelling c))) ∙ (chains_read (height_of h)).again c [] k.is_chain in
     rw (read, may_gives h d c k.may_count) refl
 
 -- a parcel carries one chain
-carries_one : (h : RunHeader) (d : Delivery) (parcel : List ℕ) (c k : Chain) → Carries h d parcel c → Carries h d parcel k → c ≡ k
+pub carries_one : (h : RunHeader) (d : Delivery) (parcel : List ℕ) (c k : Chain) → Carries h d parcel c → Carries h d parcel k → c ≡ k
 carries_one h d parcel c k one two = let e : c ∷ [] ≡ k ∷ [] = sym (carried_gives h d parcel c one) ∙ carried_gives h d parcel k two in cc
 
 one_or_none : (h : RunHeader) (d : Delivery) (r : Result (Chain × List ℕ) ChainFault) → (if_whole h d r ≡ []) ⊎ ((k : Chain) × (if_whole h d r ≡ k ∷ []))
@@ -138,7 +122,7 @@ firsts_cons : (c : Chain) (cs : List Chain) → firsts (c ∷ cs) ≡ c ∷ othe
 unfolding firsts
 firsts_cons c cs = refl
 
-firsts_from : (cs : List Chain) (c : Chain) → Contains (firsts cs) c → Contains cs c
+pub firsts_from : (cs : List Chain) (c : Chain) → Contains (firsts cs) c → Contains cs c
 unfolding firsts
 firsts_from [] c h = absurd (Contains_nil c h)
 firsts_from (x ∷ cs) c h = elim (Contains_cases x c (filter (λ k. not (eqb k.order x.order)) (firsts cs)) h) [
@@ -146,10 +130,10 @@ firsts_from (x ∷ cs) c h = elim (Contains_cases x c (filter (λ k. not (eqb k.
   | inr t ↦ Contains_there x c cs (firsts_from cs c (Contains_filtered (λ k. not (eqb k.order x.order)) (firsts cs) c t).0)
 ]
 
-abbrev OtherOrder : Chain → Chain → Type 0
+abbrev pub OtherOrder : Chain → Chain → Type 0
 OtherOrder a b = a.order ≢ b.order
 
-firsts_apart : (cs : List Chain) → AllPairs OtherOrder (firsts cs)
+pub firsts_apart : (cs : List Chain) → AllPairs OtherOrder (firsts cs)
 unfolding firsts
 firsts_apart [] = λ i j d l m. absurd (omega arith)
 firsts_apart (c ∷ cs) = AllPairs-cons OtherOrder c (filter (λ k. not (eqb k.order c.order)) (firsts cs))
@@ -259,7 +243,7 @@ counts_gives h d frame c k =
     let test : nat_le (length frame) h.network.orders ≡ true = le-leb _ _ k.few in
     rw test (subst (λ (ps : List (List ℕ)). Contains (firsts (flat_map (carried_by h d) ps)) c) (sym k.stands) (place_first h d k.before k.parcel k.after c k.carried k.first))
 
-counted_apart : (h : RunHeader) (d : Delivery) (frame : List (List ℕ)) → AllPairs OtherOrder (counted_of h d frame)
+pub counted_apart : (h : RunHeader) (d : Delivery) (frame : List (List ℕ)) → AllPairs OtherOrder (counted_of h d frame)
 unfolding counted_of
 counted_apart h d frame = elim (bool_cases (nat_le (length frame) h.network.orders)) [
   | inl few ↦ rw few (firsts_apart (flat_map (carried_by h d) frame))

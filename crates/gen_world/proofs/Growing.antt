@@ -31,7 +31,7 @@ abbrev pub AreNext : Network → Run → ℕ → List Message → Type 0
 AreNext net run n new = (t : Message) → Contains new t ↔ IsNextRelay net run n t
 
 -- the ends of an edge are two generals
-edge_facts : (net : Network) → IsNetwork net → (a b : ℕ) → AreNeighbours net a b → (a < net.generals) × (b < net.generals) × (a ≢ b)
+pub edge_facts : (net : Network) → IsNetwork net → (a b : ℕ) → AreNeighbours net a b → (a < net.generals) × (b < net.generals) × (a ≢ b)
 edge_facts net ok a b joined = elim joined [
   | inl h ↦ let r = ok.edges.inside a b h in (omega (arith, r.0, r.1), r.1, λ e. absurd (omega (arith, r.0, e)))
   | inr h ↦ let r = ok.edges.inside b a h in (r.1, omega (arith, r.0, r.1), λ e. absurd (omega (arith, r.0, e)))

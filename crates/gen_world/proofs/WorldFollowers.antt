@@ -88,7 +88,7 @@ least_path net run ok g v = elim (added_before run g v (rounds net + 1)) [
 ]
 
 -- two paths from the least sender in one round are one
-one_least : (net : Network) (run : Run) → IsRun net run → (g l v : ℕ) (p q : List ℕ) → IsFromLeast run g l v p → IsFromLeast run g l v q → p ≡ q
+pub one_least : (net : Network) (run : Run) → IsRun net run → (g l v : ℕ) (p q : List ℕ) → IsFromLeast run g l v p → IsFromLeast run g l v q → p ≡ q
 one_least net run ok g l v p q a b =
     let first : Message = record { from = a.from; to = g; order = v; path = p } in
     let second : Message = record { from = b.from; to = g; order = v; path = q } in

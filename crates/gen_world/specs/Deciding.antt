@@ -2,9 +2,10 @@
 use Rattle.std.specs.Prelude.{ℕ, ◌≡◌, not, List, [], ◌∷◌, map, filter, All, Option, Some, None}
 use Rattle.std.specs.List.{range_with_len}
 use Rattle.gen_net.specs.Network.{Network, rounds, choose}
+use Rattle.gen_net.specs.declared.version.Version.TheVariants.{One}
 use Rattle.gen_world.specs.declared.scenario.Decision.{Decision}
 use Rattle.gen_world.specs.declared.hearing.Heard.{Heard}
-use Rattle.gen_world.specs.Scenario.{Scenario, IsScenario, has_script}
+use Rattle.gen_world.specs.Scenario.{Plain, Scenario, IsScenario, has_script}
 use Rattle.gen_world.specs.Heard.{orders_heard}
 use Rattle.gen_world.specs.SignedWorld.{own_order, heard_by, messages_of}
 use Rattle.gen_world.specs.World.{IsDecision, IsOutcome}
@@ -43,3 +44,12 @@ abbrev pub OneOutcome : Type 0
 OneOutcome =
     (net : Network) (order : ℕ) (decisions others : List Decision) → IsOutcome net order decisions → IsOutcome net order others
     → decisions ≡ others
+
+-- the plain scenario with signatures: of version 1, by the keys of a master seed, and nobody has a script
+abbrev pub with_keys : Plain → List ℕ → Scenario
+with_keys plain master =
+    record { version = One; net = plain.net; master = master; order = plain.order; scripts = [] }
+
+-- these are also its decisions with signatures, whatever the master seed
+abbrev pub AreSignedDecisions : Plain → List Decision → Type 0
+AreSignedDecisions plain decisions = (master : List ℕ) → decisions ≡ decisions_of (with_keys plain master)

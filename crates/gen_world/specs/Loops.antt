@@ -1,3 +1,8 @@
 -- Definitions that only loops and the functions inside them speak of.
+pub mod Deciding
 pub mod Listing
+pub mod Relays
+pub mod Roles
 pub mod Rounds
+pub mod Seats
+pub mod Worlds

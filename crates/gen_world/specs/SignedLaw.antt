@@ -1,6 +1,6 @@
 -- Without raw parcels no loyal signature is forged in the run of a scenario, whatever is known of the hash. So Theorem 4 holds of
 -- such runs, traitors and all.
-use Rattle.std.specs.Prelude.{ℕ, ◌≡◌, ◌≤◌, List, length, Contains, All}
+use Rattle.std.specs.Prelude.{◌≡◌, ◌≤◌, List, length, Contains}
 use Rattle.gen_net.specs.Network.{IsLoyal}
 use Rattle.gen_net.specs.Walks.{HasDiameter}
 use Rattle.gen_net.specs.Signed.{IsSignedRun}
@@ -8,6 +8,7 @@ use Rattle.gen_script.specs.declared.lines.ScriptLine.{ScriptLine}
 use Rattle.gen_script.specs.declared.lines.ScriptLine.TheVariants.{Raw}
 use Rattle.gen_script.specs.Script.{Script}
 use Rattle.gen_world.specs.declared.scenario.Decision.{Decision}
+use Rattle.gen_world.specs.Deciding.{decisions_of}
 use Rattle.gen_world.specs.Scenario.{Scenario, IsScenario, scripted}
 use Rattle.gen_world.specs.SignedWorld.{messages_of}
 use Rattle.gen_world.specs.WorldFollows.{AllDecide}
@@ -40,3 +41,7 @@ pub record IsBounded (s : Scenario) : Type 0 where
 pub record AreAlike (s : Scenario) (decisions : List Decision) : Type 0 where
   pub alike : (a b : Decision) → Contains decisions a → Contains decisions b → a.order ≡ b.order
   pub obeyed : IsLoyal s.net (scripted s.scripts) 0 → AllDecide s.order decisions
+
+-- so decide those of the rest in every such scenario (Theorem 4 of section 5 of the paper of 1982)
+abbrev pub TheoremHoldsOfScenarios : Type 0
+TheoremHoldsOfScenarios = (s : Scenario) → IsScenario s → IsBounded s → AreAlike s (decisions_of s)

@@ -2,11 +2,19 @@
 ghost use Rattle.gen_net.specs.Network.{IsNetwork};
 ghost use Rattle.gen_world.specs.AnyChoice.{AnyChoice, EachIsChoice};
 ghost use Rattle.gen_world.specs.Counted.{CountsThese};
+ghost use Rattle.gen_world.specs.Deciding.{DecisionsHold, PlainDecisions, OneOutcome};
 ghost use Rattle.gen_world.specs.Derivables.{ProlongedByFaulty, SignedByFaulty};
+ghost use Rattle.gen_world.specs.HeardLaws.{CountedAreChains, HeardInRound, HeardIsKnown};
+ghost use Rattle.gen_world.specs.RoundsKept.{FrameKept, SendEntriesKept, SignEntriesKept, SignsKept};
+ghost use Rattle.gen_world.specs.SignedLaw.{NoRawIsSigned, TheoremHoldsOfScenarios};
+ghost use Rattle.gen_world.specs.Steps.{MessagesCount, OneRoundMore, FrameAfter, OneSignerMore, BegunByCommander};
+ghost use Rattle.gen_world.specs.KnownLaws.{KeysAreEnough, KnownTreesAreEnough, OwnSeedIsEnough};
+ghost use Rattle.gen_world.specs.Planned.{PlansFrames, PlansSends, PlansSigns};
 ghost use Rattle.gen_world.specs.Theorem.{Agreement, Case, DecideAlike, EachDecides, ObeyCommander, Premises, Validity};
 ghost use Rattle.gen_world.specs.TwoOrders.{BothAccepted, three, two_orders_case};
 ghost use Rattle.gen_world.specs.World.{OneWorld};
 ghost use Rattle.gen_world.specs.WorldFollows.{LieutenantsFollow, WorldIsSigned, WorldMeetsPremises};
+ghost use Rattle.gen_world.specs.WorldLaws.{CommanderObeys, EachFollows, LieutenantsRelay, MessagesAreRun, PlainWorld};
 
 /// A plain scenario has one run: two runs of it have the same messages.
 pub fn one_world()
@@ -62,4 +70,83 @@ pub fn two_orders()
 /// Counting as a function: the list of the chains of a frame that count has exactly those that count, of each order one.
 pub fn counting()
     ensures { CountsThese }
+{}
+
+/// The messages of a scenario with signatures are a run of its network (`run`); a commander without a script follows, with the
+/// scenario's order (`commander`); each lieutenant without a script relays what he adds with the least sender's path
+/// (`lieutenants`), so each general without a script follows (`follows`); without scripts it is the run of the plain scenario
+/// (`plain`).
+pub fn world_is_run()
+    ensures run { MessagesAreRun }
+    ensures commander { CommanderObeys }
+    ensures lieutenants { LieutenantsRelay }
+    ensures follows { EachFollows }
+    ensures plain { PlainWorld }
+{}
+
+/// What the generals without scripts decide is a decision in the run of the scenario (`hold`); without scripts they are the
+/// decisions of the plain scenario (`plain`), which has one list of them (`one`).
+pub fn decisions_are_known()
+    ensures hold { DecisionsHold }
+    ensures plain { PlainDecisions }
+    ensures one { OneOutcome }
+{}
+
+/// How loops go along the definitions: the messages of the run are those that count in the frames of their rounds (`count`);
+/// one round more of what is heard (`round`), and its frames (`frame`); one signer more (`signer`), and how chains begin
+/// (`begin`).
+pub fn steps_are_known()
+    ensures count { MessagesCount }
+    ensures round { OneRoundMore }
+    ensures frame { FrameAfter }
+    ensures signer { OneSignerMore }
+    ensures begin { BegunByCommander }
+{}
+
+/// Where no script has a raw line, the messages of a scenario are a run for the generals who have scripts: no signature of the
+/// rest is forged, whatever is known of SHA-256.
+pub fn no_signature_is_forged()
+    ensures { NoRawIsSigned }
+{}
+
+/// Theorem 4 of the paper of 1982 (section 5) of scenarios: with at most m scripts, none of which has a raw line, and any two of
+/// the rest joined inside the rest by at most d edges, the rest decide one order, the scenario's where its commander has no
+/// script.
+pub fn theorem_holds_of_scenarios()
+    ensures { TheoremHoldsOfScenarios }
+{}
+
+/// What is known of what counts, and so of what a general heard: it is a chain by trees of the run's height, which may count
+/// (`counted`); in a scenario it came from a neighbour who signed it last, and the hearer didn't sign it (`known`); and what
+/// was heard in a round has as many signers as its number (`rounds`).
+pub fn heard_is_known()
+    ensures counted { CountedAreChains }
+    ensures known { HeardIsKnown }
+    ensures rounds { HeardInRound }
+{}
+
+/// What comes in a round changes nothing of what is signed in it (`signs`), of its frames (`frame`), and of the SIGNs and
+/// SENDs that are written of it (`written`, `sent`): so a general may hear and send in whatever order within a round.
+pub fn rounds_are_kept()
+    ensures signs { SignsKept }
+    ensures frame { FrameKept }
+    ensures written { SignEntriesKept }
+    ensures sent { SendEntriesKept }
+{}
+
+/// What a script has its general send in a round, as `Planned` has it: `frames`, its bytes make the frame to a neighbour;
+/// `signs`, its chains are what he signs; `sends`, those for a neighbour are what he sends him.
+pub fn plans_are_frames()
+    ensures frames { PlansFrames }
+    ensures signs { PlansSigns }
+    ensures sends { PlansSends }
+{}
+
+/// What a general knows of his own is enough: with keys that give his own signatures, and if he has a script those of all who
+/// have one, he acts as the scenario says, whatever he heard (`enough`); who has no script has such keys by his own seed
+/// (`follower`), and who has one by the trees that he knows (`traitor`).
+pub fn known_is_enough()
+    ensures enough { KeysAreEnough }
+    ensures follower { OwnSeedIsEnough }
+    ensures traitor { KnownTreesAreEnough }
 {}

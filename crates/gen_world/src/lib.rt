@@ -2,15 +2,35 @@
 #![tactic(auto)]
 
 mod counting;
+mod deciding;
+mod followers;
+mod following;
 mod hearing;
 pub mod laws;
+mod participants;
+mod parts;
+mod roles;
+mod rows;
 mod running;
 mod scenario;
+mod scripted;
+mod signed;
+mod signer_trees;
+mod signing;
+mod traitors;
+mod world;
 
 pub use counting::{Delivery, count_frame};
 pub use hearing::Heard;
+pub use participants::Participant;
+pub use parts::Part;
+pub use rows::{FrameRow, WorldRun};
 pub use running::run_plain;
 pub use scenario::{Decision, PlainRun, PlainScenario};
+pub use scripted::Planned;
+pub use signed::Scenario;
+pub use signer_trees::SignerTree;
+pub use world::run_world;
 
 #[cfg(test)]
 mod counting_tests;

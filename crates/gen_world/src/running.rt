@@ -7,6 +7,7 @@ ghost use Rattle.gen_net.specs.Walks.{HasDiameter};
 ghost use Rattle.gen_net.specs.declared.message.Message.{Message as Sent};
 ghost use Rattle.gen_core.specs.Seeing.{HasSeen, AreArrivals};
 ghost use Rattle.gen_core.specs.Sending.{Appends};
+ghost use Rattle.gen_world.specs.Deciding.{AreSignedDecisions};
 ghost use Rattle.gen_world.specs.World.{IsDecision, IsOutcome};
 ghost use Rattle.gen_world.specs.WorldFollows.{AllDecide};
 ghost use Rattle.gen_world.specs.Loops.Rounds.{IsAmong, RelayedBy, IsReady, AreRelays, numbers_of};
@@ -179,6 +180,8 @@ pub fn run_plain(alloc: Global, scenario: &PlainScenario) -> Result<PlainRun, Al
     // Where no two generals are more than d edges apart, all decide the commander's order.
     ensures obeyed { HasDiameter scenario.now.net []
         → IfOk result (λ run. AllDecide scenario.now.order run) }
+    // They are those of the run with signatures, in which nobody has a script.
+    ensures same { IfOk result (λ run. AreSignedDecisions scenario.now run) }
 {
     let net = scenario.net();
     let commander = Commander::new(scenario.order());

@@ -107,5 +107,12 @@ fn the_laws_are_there_to_be_called(_rt: HostRuntime) -> Result<(), Fail> {
     laws::derivables();
     laws::two_orders();
     laws::counting();
+    laws::world_is_run();
+    laws::decisions_are_known();
+    laws::steps_are_known();
+    laws::no_signature_is_forged();
+    laws::theorem_holds_of_scenarios();
+    laws::heard_is_known();
+    laws::rounds_are_kept();
     Ok(())
 }

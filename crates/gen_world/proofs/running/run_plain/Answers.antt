@@ -10,6 +10,8 @@ use Rattle.gen_world.proofs.Growing.{AreNext, first_round, world_more, world_of}
 use Rattle.gen_world.proofs.Obeying.{all_obey}
 use Rattle.gen_world.proofs.Rounding.{written_back, next_of_relays, ready_longer}
 use Rattle.gen_world.proofs.running.run_plain.Goals as goal
+use Rattle.gen_world.specs.Deciding.{AreSignedDecisions}
+use Rattle.gen_world.proofs.DecisionsMade.{signed_decisions}
 
 pub loop-gone-init : goal.loop-gone-init
 loop-gone-init c =
@@ -54,7 +56,11 @@ returns c =
       generals = c.in_ok-decisions.ensures.generals ∙ (ap (λ ss. 0 ∷ numbers_of ss) c.deref-2.ensures.value ∙ c.loop-gone.invariant.numbers);
       each = c.in_ok-decisions.ensures.each net run saw;
     } in
+    let low : order < net.orders = rw (c.new-commander.ensures, c.net-net.ensures) c.order.ensures.known in
+    let same : AreSignedDecisions (record { net = net; order = order }) c.in_ok-decisions.decisions.items =
+    signed_decisions (record { net = net; order = order }) c.in_ok-decisions.decisions.items c.rounds-gone-end.ensures.network low outcome in
     rw (← c.net-net.ensures, ← c.order.ensures.value, ← c.new-commander.ensures, c.new.ensures) (record {
       outcome = outcome;
       obeyed = λ near. all_obey net order c.in_ok-decisions.decisions.items outcome near;
+      same = same;
     })

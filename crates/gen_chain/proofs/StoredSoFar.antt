@@ -1,0 +1,164 @@
+-- Signers one by one, as a store checks them: what it keeps of those who were looked at.
+use Rattle.std.proofs.Common.{arith, ◌≡◌, ℕ, Bool, inl, inr, List, [], ◌∷◌, ◌++◌, Option, Some, None, refl, sym, ap, subst, ◌∙◌, append_assoc}
+use Rattle.std.specs.Prelude.{◌⊎◌, ◌≤◌, ◌+◌, length, IsSome, is_some}
+use Rattle.std.proofs.lemmas.List.{append-nil, map-append}
+use Rattle.gen_types.proofs.Lists.{not_nil, split_longer}
+use Rattle.gen_net.specs.Header.{RunHeader}
+use Rattle.gen_chain.specs.declared.chains.Signer.{Signer}
+use Rattle.gen_chain.specs.Chain.{signed_path}
+use Rattle.gen_chain.specs.Verifying.{HasSigned, AreSigned}
+use Rattle.gen_chain.specs.Store.{Store, Triple, answer_of, IsAfter, Serves, KeepsAll}
+use Rattle.gen_chain.specs.StoredChain.{KeepsSigners, triple_behind}
+use Rattle.gen_chain.proofs.Storing.{runs_after}
+use Rattle.gen_chain.proofs.SignedSoFar.{SignedSoFar, none_signed, signed-push}
+
+-- the store keeps the signature of each signer of the front
+abbrev pub KeepsFront : Store → ℕ → List Signer → Type 0
+KeepsFront store order front = (a b : List Signer) (s : Signer) → front ≡ a ++ s ∷ b → IsSome (answer_of store (triple_behind order a s))
+
+-- How far a store has come: those in front of the rest have signed, it keeps their signatures, beside what it kept before, and is
+-- as it was where it kept all that.
+pub record StoredSoFar (h : RunHeader) (order : ℕ) (signers rest : List Signer) (path : List ℕ) (old store : Store) : Type 0 where
+  pub front : List Signer
+  pub parts : signers ≡ front ++ rest
+  pub path_is : path ≡ signed_path front
+  pub signed : AreSigned h order front
+  pub kept : KeepsFront store order front
+  pub serves : Serves h store
+  pub grows : KeepsAll old store
+  pub known : KeepsSigners h old order signers → store ≡ old
+  pub runs : store.runs + length rest ≤ old.runs + length signers
+
+pub stored_first : (h : RunHeader) (order : ℕ) (signers : List Signer) (store : Store) → Serves h store → StoredSoFar h order signers signers [] store store
+stored_first h order signers store serves = record {
+  front = [];
+  parts = refl;
+  path_is = refl;
+  signed = none_signed h order;
+  kept = λ a b s e. absurd (not_nil a s b (sym e));
+  serves = serves;
+  grows = λ t answer e. e;
+  known = λ all. refl;
+  runs = omega arith;
+}
+
+some_stays : (old new : Store) (t : Triple) → KeepsAll old new → IsSome (answer_of old t) → IsSome (answer_of new t)
+some_stays old new t grows is = by (answer_of old t) refl is
+  where
+    by : (o : Option Bool) → answer_of old t ≡ o → IsSome o → IsSome (answer_of new t)
+    by None e none = absurd cc
+    by (Some answer) e some = ap is_some (grows t answer e)
+
+-- the store has the next signature too
+front_push : (store : Store) (order : ℕ) (front : List Signer) (s : Signer) → KeepsFront store order front → IsSome (answer_of store (triple_behind order front s)) → KeepsFront store order (front ++ s ∷ [])
+front_push store order front s kept is a b t e = elim (split_longer a b front t s (sym e)) [
+  | inl both ↦ subst (λ (y : Signer). IsSome (answer_of store (triple_behind order a y))) (sym both.0) (subst (λ (f : List Signer). IsSome (answer_of store (triple_behind order f s))) (sym both.1) is)
+  | inr inside ↦ kept a inside.0 t inside.1
+]
+
+-- Where a list ends in the rest, one of its members is in front of the rest or in it.
+split_rest : {X : Type 0} (front rest a b : List X) (t : X) → a ++ t ∷ b ≡ front ++ rest → ((c : List X) × (front ≡ a ++ t ∷ c)) ⊎ ((d : List X) × (a ≡ front ++ d) × (rest ≡ d ++ t ∷ b))
+split_rest [] rest a b t e = inr (a, refl, sym e)
+split_rest (x ∷ front) rest [] b t e = let same : x ≡ t = cc in inl (front, ap (λ y. y ∷ front) same)
+split_rest (x ∷ front) rest (y ∷ a) b t e =
+    let same : x ≡ y = cc in
+    let tail : a ++ t ∷ b ≡ front ++ rest = cc in
+    elim (split_rest front rest a b t tail) [
+      | inl i ↦ inl (i.0, λ j. same j ∷ i.1 j)
+      | inr i ↦ inr (i.0, (λ j. sym same j ∷ i.1 j), i.2)
+    ]
+
+module _ (h : RunHeader) (order : ℕ) (longer : List ℕ) (store : Store) (s : Signer) where
+  -- what is checked next
+  abbrev pub next_triple : Triple
+  next_triple = record { signer = s.general; statement = record { order = order; path = longer }; signature = s.signature }
+
+  -- how a check changes the store: the triple is kept, and where it was kept the store stays
+  pub record Checks (new : Store) : Type 0 where
+    pub is : IsSome (answer_of new next_triple)
+    pub grows : KeepsAll store new
+    pub serves : Serves h new
+    pub known : IsSome (answer_of store next_triple) → new ≡ store
+    pub runs : new.runs ≤ store.runs + 1
+
+  module _ (signers rest others : List Signer) (path : List ℕ) (old : Store) (so_far : StoredSoFar h order signers rest path old store) (e : rest ≡ s ∷ others) (pushed : longer ≡ path ++ s.general ∷ []) where
+    parts_next : signers ≡ so_far.front ++ s ∷ others
+    parts_next = so_far.parts ∙ ap (λ (r : List Signer). so_far.front ++ r) e
+
+    path_next : longer ≡ signed_path so_far.front ++ s.general ∷ []
+    path_next = pushed ∙ ap (λ (p : List ℕ). p ++ s.general ∷ []) so_far.path_is
+
+    same_triple : triple_behind order so_far.front s ≡ next_triple
+    same_triple = λ i. record { signer = s.general; statement = record { order = order; path = sym path_next i }; signature = s.signature }
+
+    -- a store that kept everything has the next signature
+    pub next_known : KeepsSigners h old order signers → IsSome (answer_of store next_triple)
+    next_known all =
+        let was = all so_far.front others s parts_next so_far.signed in
+        subst (λ (t : Triple). IsSome (answer_of store t)) same_triple (some_stays old store (triple_behind order so_far.front s) so_far.grows was)
+
+    module _ (new : Store) (checks : Checks new) where
+      kept_next : KeepsFront new order (so_far.front ++ s ∷ [])
+      kept_next =
+          front_push new order so_far.front s (λ a b t p. some_stays store new (triple_behind order a t) checks.grows (so_far.kept a b t p))
+          (subst (λ (t : Triple). IsSome (answer_of new t)) (sym same_triple) checks.is)
+
+      pub grown_next : KeepsAll old new
+      grown_next t answer is = checks.grows t answer (so_far.grows t answer is)
+
+      pub known_next : KeepsSigners h old order signers → new ≡ old
+      known_next all = checks.known (next_known all) ∙ so_far.known all
+
+      pub runs_next : new.runs + length others ≤ old.runs + length signers
+      runs_next = omega (arith, so_far.runs, checks.runs, ap length e)
+
+      pub stored_on : HasSigned h s.general (record { order = order; path = longer }) s.signature → StoredSoFar h order signers others longer old new
+      stored_on signed = record {
+        front = so_far.front ++ s ∷ [];
+        parts = parts_next ∙ sym (append_assoc so_far.front (s ∷ []) others);
+        path_is = path_next ∙ sym (map-append (λ (t : Signer). t.general) so_far.front (s ∷ []));
+        signed = signed-push h order so_far.front s so_far.signed (subst (λ (p : List ℕ). HasSigned h s.general (record { order = order; path = p }) s.signature) path_next signed);
+        kept = kept_next;
+        serves = checks.serves;
+        grows = grown_next;
+        known = known_next;
+        runs = runs_next;
+      }
+
+      module _ (unsigned : HasSigned h s.general (record { order = order; path = longer }) s.signature → ⊥) where
+        fails_behind : (a d : List Signer) → a ≡ so_far.front ++ s ∷ d → AreSigned h order a → ⊥
+        fails_behind a d is all = unsigned (subst (λ (p : List ℕ). HasSigned h s.general (record { order = order; path = p }) s.signature) (sym path_next) (all so_far.front d s is))
+
+        pub stored_stop : (AreSigned h order signers → ⊥) × KeepsSigners h new order signers
+        stored_stop = (fails_behind signers others parts_next, keeps)
+          where
+            keeps : KeepsSigners h new order signers
+            keeps a b t split signed = elim (split_rest (so_far.front ++ s ∷ []) others a b t (sym split ∙ (parts_next ∙ sym (append_assoc so_far.front (s ∷ []) others)))) [
+              | inl i ↦ kept_next a i.0 t i.1
+              | inr j ↦ absurd (fails_behind a j.0 (j.1 ∙ append_assoc so_far.front (s ∷ []) j.0) signed)
+            ]
+
+pub stored_last : (h : RunHeader) (order : ℕ) (signers rest : List Signer) (path : List ℕ) (old store : Store) → rest ≡ [] → StoredSoFar h order signers rest path old store → AreSigned h order signers × KeepsSigners h store order signers
+stored_last h order signers rest path old store e so_far =
+    let whole : signers ≡ so_far.front = so_far.parts ∙ ap (λ (r : List Signer). so_far.front ++ r) e ∙ append-nil so_far.front in
+    (subst (AreSigned h order) (sym whole) so_far.signed, λ a b s split signed. so_far.kept a b s (sym whole ∙ split))
+
+pub signed_so_far : (h : RunHeader) (order : ℕ) (signers rest : List Signer) (path : List ℕ) (old store : Store) → StoredSoFar h order signers rest path old store → SignedSoFar h order signers rest path
+signed_so_far h order signers rest path old store so_far = record { front = so_far.front; parts = so_far.parts; path_is = so_far.path_is; signed = so_far.signed }
+
+pub with_some : {X : Type 0} (o : Option X) (P : Type 0) → ((x : X) → o ≡ Some x → P) → IsSome o → P
+with_some None P f is = absurd cc
+with_some (Some x) P f is = f x refl
+
+-- what a check says of the store
+pub checks_of : (h : RunHeader) (order : ℕ) (longer : List ℕ) (store : Store) (s : Signer) (new : Store) (answer : Bool) (R : Bool → Type 0)
+    → IsAfter store (next_triple h order longer store s) answer new → KeepsAll store new → Serves h new
+    → ((b : Bool) → answer_of store (next_triple h order longer store s) ≡ Some b → R b × (new ≡ store))
+    → Checks h order longer store s new
+checks_of h order longer store s new answer R after grows serves known = record {
+  is = ap is_some after.here;
+  grows = grows;
+  serves = serves;
+  known = with_some (answer_of store (next_triple h order longer store s)) (new ≡ store) (λ b e. (known b e).1);
+  runs = runs_after store new (next_triple h order longer store s) answer after;
+}

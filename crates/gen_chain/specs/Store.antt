@@ -1,0 +1,63 @@
+-- Verifications that are kept, so that none is made twice.
+use Rattle.std.specs.Prelude.{ℕ, ◌≡◌, ◌≢◌, ◌↔◌, ◌+◌, ◌-◌, ◌^◌, min, ◌==◌, ◌&&◌, if◌then◌else◌, Bool, true, List, [], Option, Some, is_some}
+use Rattle.std.specs.Bool.{nat_eq}
+use Rattle.std.specs.Cmp.Lexicographic.{pointwise}
+use Rattle.std.specs.List.{find}
+use Rattle.std.specs.Map.{lookup}
+use Rattle.std.specs.Option.{option_map, unwrap_or}
+use Rattle.gen_net.specs.Header.{RunHeader}
+use Rattle.gen_chain.specs.declared.kept.Claim.{Claim}
+use Rattle.gen_chain.specs.declared.kept.Kept.{Kept}
+use Rattle.gen_chain.specs.declared.statements.Statement.{Statement}
+use Rattle.gen_chain.specs.Verifying.{HasSigned}
+
+-- Of each claim, that a general has signed a statement, the signatures that were verified for it, each with what came out; and
+-- how many verifications were made.
+pub record Store : Type 0 where
+  pub kept : List (Claim × List Kept)
+  pub runs : ℕ
+
+-- what is verified: that a general has signed a statement with this signature
+pub record Triple : Type 0 where
+  pub signer : ℕ
+  pub statement : Statement
+  pub signature : List ℕ
+
+-- the two are the same
+abbrev pub is_statement : Statement → Statement → Bool
+is_statement a b = a.order == b.order && pointwise nat_eq a.path b.path
+
+abbrev pub is_claim : Claim → Claim → Bool
+is_claim a b = a.signer == b.signer && is_statement a.statement b.statement
+
+-- what is kept for a claim, and the answer that is kept for a signature
+abbrev pub kept_at : List (Claim × List Kept) → Claim → List Kept
+kept_at kept claim = unwrap_or (lookup (is_claim claim) kept) []
+
+abbrev pub answer_in : List Kept → List ℕ → Option Bool
+answer_in kept signature = option_map (λ k. k.answer) (find (λ k. pointwise nat_eq k.signature signature) kept)
+
+-- the answer that is kept for a triple, if it is kept
+unfoldable pub answer_of : Store → Triple → Option Bool
+answer_of store t = answer_in (kept_at store.kept (record { signer = t.signer; statement = t.statement })) t.signature
+
+-- one verification more, unless the count is at its last value
+abbrev pub one_more : ℕ → ℕ
+one_more runs = min (runs + 1) (2 ^ 64 - 1)
+
+-- The store after a check: the triple is kept with the answer, all others are as they were, and one verification more was made
+-- exactly where the triple was not kept before.
+pub record IsAfter (old : Store) (t : Triple) (answer : Bool) (new : Store) : Type 0 where
+  pub here : answer_of new t ≡ Some answer
+  pub others : (u : Triple) → u ≢ t → answer_of new u ≡ answer_of old u
+  pub runs : new.runs ≡ (if is_some (answer_of old t) then old.runs else one_more old.runs)
+
+-- whatever the one keeps, the other keeps with the same answer
+abbrev pub KeepsAll : Store → Store → Type 0
+KeepsAll old new = (t : Triple) (answer : Bool) → answer_of old t ≡ Some answer → answer_of new t ≡ Some answer
+
+-- the store serves a header: each answer that it keeps is right under it
+abbrev pub Serves : RunHeader → Store → Type 0
+Serves h store =
+    (t : Triple) (answer : Bool) → answer_of store t ≡ Some answer
+    → (answer ≡ true) ↔ HasSigned h t.signer t.statement t.signature

@@ -1,0 +1,222 @@
+//! Verifications that are kept, so that none is made twice.
+ghost use Rattle.std.specs.Prelude.{IsTrue, Bool, ℕ, List, ◌≡◌, ◌≢◌, ◌≤◌, ◌+◌, ◌↔◌, ◌++◌, ◌∷◌, [], AllPairs, length, false, Ok, None, Some, IfOk, IsOk, OnOk, OnErr, map};
+ghost use Rattle.gen_net.specs.Header.{RunHeader};
+ghost use Rattle.gen_chain.specs.Chain.{signed_path};
+ghost use Rattle.gen_chain.specs.Verifying.{HasSigned, AreSigned, ChainVerifies};
+ghost use Rattle.gen_chain.specs.declared.kept.Claim.{Claim};
+ghost use Rattle.gen_chain.specs.declared.kept.Kept.{Kept};
+ghost use Rattle.gen_chain.specs.Keeping.{items_of};
+ghost use Rattle.gen_chain.specs.Store.{Triple, answer_in, answer_of, is_claim, kept_at, IsAfter, KeepsAll, Serves};
+ghost use Rattle.gen_chain.specs.StoredChain.{KeepsSigners, KeepsChain};
+
+use crate::chains::{SignedChain, Signer};
+use crate::kept::{Claim, Kept};
+use crate::sizes::MOST_SIGNERS;
+use crate::statements::Statement;
+use crate::verifying::has_signed;
+use gen_net::Header;
+use gen_ots::SigRoom;
+use gen_tree::Signature;
+use gen_types::{GeneralNo, OrderNo, Path};
+use std::alloc::{AllocError, Global};
+use std::collections::BTreeMap;
+use std::marker::Model;
+
+/// The answer that is kept for a signature.
+fn answer_in(kept: &[Kept], signature: &Signature) -> Option<bool>
+    ensures { result ≡ answer_in kept.now signature.now }
+{
+    let found = kept.iter().find(|kept| kept.signature == *signature)?;
+    Some(found.answer)
+}
+
+/// Keeps a signature for a claim, after those that are kept for it.
+fn keep(
+    alloc: Global,
+    kept: &mut BTreeMap<Claim, Vec<Kept>>,
+    claim: Claim,
+    last: Kept,
+) -> Result<(), AllocError>
+    ensures here { OnOk result (kept_at (items_of kept.new.entries) claim
+        ≡ kept_at (items_of kept.old.entries) claim ++ last ∷ []) }
+    ensures others { OnOk result ((other : Claim) → is_claim claim other ≡ false
+        → kept_at (items_of kept.new.entries) other ≡ kept_at (items_of kept.old.entries) other) }
+    ensures err { OnErr result (items_of kept.new.entries ≡ items_of kept.old.entries) }
+{
+    if let Some(signatures) = kept.get_mut(&claim) {
+        signatures.push(last)?;
+        return Ok(());
+    }
+    let mut signatures = Vec::new(alloc);
+    signatures.push(last)?;
+    kept.insert(claim, signatures)?;
+    Ok(())
+}
+
+/// The verifications that were made, each kept with its answer, so that none of them is made again.
+///
+/// A verification is of a triple: a signer, a statement and a signature. A contract sees what is kept
+/// and how many verifications were made. A store serves a header where each kept answer is right under
+/// it; an empty store serves every header.
+#[derive(Debug, Drop)]
+pub struct VerifyStore {
+    alloc: Global,
+    kept: BTreeMap<Claim, Vec<Kept>>,
+    runs: u64,
+}
+
+impl Model for VerifyStore {
+    ghost use Rattle.gen_chain.specs.Store.{Store};
+    ghost use Rattle.gen_chain.specs.Keeping.{items_of};
+
+    ghost Value = { Store };
+
+    ghost view = { λ s. record { kept = items_of s.kept.entries; runs = s.runs } };
+}
+
+impl VerifyStore {
+    /// Returns a store that keeps nothing, and so serves every header.
+    ///
+    /// # Errors
+    ///
+    /// Only where memory was refused. It takes none before the first check, so it does not fail.
+    pub fn new(alloc: Global) -> Result<VerifyStore, AllocError>
+        ensures ok { IsOk result }
+        ensures empty { IfOk result (λ store. (triple : Triple) → answer_of store triple ≡ None) }
+        ensures runs { IfOk result (λ store. store.runs ≡ 0) }
+        ensures serves { IfOk result (λ store. (h : RunHeader) → Serves h store) }
+    {
+        Ok(VerifyStore {
+            alloc,
+            kept: BTreeMap::new(alloc),
+            runs: 0,
+        })
+    }
+
+    /// Returns how many verifications were made. The count stays at its last value,
+    /// 18,446,744,073,709,551,615.
+    pub fn runs(&self) -> u64
+        ensures { result ≡ self.now.runs }
+    {
+        self.runs
+    }
+
+    /// The answer that is kept for the claim and the signature.
+    fn answer_of(&self, claim: &Claim, signature: &Signature) -> Option<bool>
+        ensures { result ≡ answer_of self.now (record {
+          signer = claim.now.signer;
+          statement = claim.now.statement;
+          signature = signature.now;
+        }) }
+    {
+        match self.kept.get(claim) {
+            Some(kept) => answer_in(kept.as_slice(), signature),
+            None => None,
+        }
+    }
+
+    /// Returns whether a general signed a statement in the run of this header, as `has_signed` does.
+    /// The answer is kept: what is kept is not verified again, and takes no memory.
+    ///
+    /// # Errors
+    ///
+    /// Only where memory was refused: then the store is unchanged.
+    pub fn check(
+        &mut self,
+        header: &Header,
+        signer: GeneralNo,
+        statement: &Statement,
+        signature: &Signature,
+    ) -> Result<bool, AllocError>
+        requires serves { Serves header.now self.old }
+        ensures answer { IfOk result (λ answer.
+            IsTrue answer ↔ HasSigned header.now signer statement.now signature.now) }
+        // What is kept then, and how many verifications were made.
+        ensures kept { IfOk result (λ answer. IsAfter self.old
+            (record { signer = signer; statement = statement.now; signature = signature.now })
+            answer self.new) }
+        // What was kept is not verified again.
+        ensures known { (answer : Bool) → answer_of self.old
+            (record { signer = signer; statement = statement.now; signature = signature.now })
+            ≡ Some answer → (result ≡ Ok answer) × (self.new ≡ self.old) }
+        ensures err { OnErr result (self.new ≡ self.old) }
+        ensures grows { KeepsAll self.old self.new }
+        ensures serves { Serves header.now self.new }
+    {
+        let claim = Claim {
+            signer,
+            statement: *statement,
+        };
+        if let Some(answer) = self.answer_of(&claim, signature) {
+            return Ok(answer);
+        }
+        let answer = has_signed(header, signer, statement, signature);
+        let room = SigRoom::new(self.alloc, signature.height())?;
+        let last = Kept {
+            signature: signature.copy(room),
+            answer,
+        };
+        keep(self.alloc, &mut self.kept, claim, last)?;
+        self.runs = self.runs.saturating_add(1);
+        Ok(answer)
+    }
+
+    /// Whether each signer signed the order together with the path up to himself.
+    fn are_signed(
+        &mut self,
+        header: &Header,
+        order: OrderNo,
+        signers: &[Signer],
+    ) -> Result<bool, AllocError>
+        requires few { length signers.now ≤ MOST_SIGNERS }
+        requires distinct { AllPairs (λ g h. g ≢ h) (signed_path signers.now) }
+        requires serves { Serves header.now self.old }
+        ensures value { IfOk result (λ answer. IsTrue answer ↔ AreSigned header.now order signers.now) }
+        ensures kept { OnOk result (KeepsSigners header.now self.new order signers.now) }
+        ensures known { KeepsSigners header.now self.old order signers.now
+            → IsOk result × (self.new ≡ self.old) }
+        ensures runs { self.new.runs ≤ self.old.runs + length signers.now }
+        ensures grows { KeepsAll self.old self.new }
+        ensures serves { Serves header.now self.new }
+    {
+        let mut path = Path::new();
+        let mut rest = signers;
+        while let Some((signer, others)) = rest.split_first() {
+            path.push_new(signer.general);
+            let statement = Statement { order, path };
+            let signed = self.check(header, signer.general, &statement, &signer.signature)?;
+            if !signed {
+                return Ok(false);
+            }
+            rest = others;
+        }
+        Ok(true)
+    }
+
+    /// Returns whether a chain verifies in the run of this header, as `gen_chain::chain_verifies` does.
+    /// Its signatures are checked from the first signer's on, up to the first that fails, and their
+    /// answers are kept: a chain of which all those are kept takes no memory, and adds no verification.
+    ///
+    /// # Errors
+    ///
+    /// Only where memory was refused: then the store keeps the checks that were made before.
+    pub fn chain_verifies(
+        &mut self,
+        header: &Header,
+        chain: &SignedChain,
+    ) -> Result<bool, AllocError>
+        requires serves { Serves header.now self.old }
+        ensures answer { IfOk result (λ answer. IsTrue answer ↔ ChainVerifies header.now chain.now) }
+        ensures kept { OnOk result (KeepsChain header.now self.new chain.now) }
+        // What was kept is not verified again.
+        ensures known { KeepsChain header.now self.old chain.now → IsOk result × (self.new ≡ self.old) }
+        ensures runs { self.new.runs ≤ self.old.runs + length chain.now.signers }
+        ensures grows { KeepsAll self.old self.new }
+        ensures serves { Serves header.now self.new }
+    {
+        if chain.order.get() >= header.net().orders() {
+            return Ok(false);
+        }
+        self.are_signed(header, chain.order, &chain.signers)
+    }
+}

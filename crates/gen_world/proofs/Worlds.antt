@@ -1,0 +1,255 @@
+-- All generals together, step by step.
+use Rattle.std.proofs.Common.{◌≡◌, ◌≢◌, ◌↔◌, ℕ, Bool, true, false, not, List, [], ◌∷◌, ◌++◌, map, filter, refl, sym, ap, subst, ◌∙◌, eqb, Contains, Option, Some, None, inl, inr, ◌≤◌, ◌<◌, ◌+◌, arith, length, slice_index_or, slice_set, append_assoc, zero-add}
+use Rattle.std.specs.Prelude.{IsTrue}
+use Rattle.std.specs.List.{range_with_len, flat_map, list_any}
+use Rattle.std.proofs.lemmas.Bool.{eqb-true, eq-eqb}
+use Rattle.std.proofs.lemmas.Grind.{flat_map-append}
+use Rattle.std.proofs.lemmas.List.{append-nil, map-append, get_or-set_same, get_or-set_other, get_or_push, get_or_append_left, length-append}
+use Rattle.std.proofs.lemmas.List.Elements.{filter-append}
+use Rattle.gen_types.specs.Members.{range_more}
+use Rattle.gen_types.proofs.Lists.{bool_cases}
+use Rattle.gen_tree.specs.Rings.{Ring}
+use Rattle.gen_net.specs.Header.{RunHeader}
+use Rattle.gen_net.specs.Network.{Network, AreNeighbours, rounds}
+use Rattle.gen_net.specs.Edges.{joins}
+use Rattle.gen_script.proofs.Joining.{joined_found, joined_again}
+use Rattle.gen_world.specs.declared.hearing.Heard.{Heard}
+use Rattle.gen_world.specs.declared.scenario.Decision.{Decision}
+use Rattle.gen_world.specs.Scenario.{Scenario, header_of, has_script}
+use Rattle.gen_world.specs.Signing.{Keys}
+use Rattle.gen_world.specs.Frames.{frame_of}
+use Rattle.gen_world.specs.SignedWorld.{part_of, own_order, heard_by, heard_in, heard_of, neighbours_of}
+use Rattle.gen_world.specs.Deciding.{decided_by, decision_of, decisions_of}
+use Rattle.gen_world.specs.Known, own_keys.{Known, own_keys}
+use Rattle.gen_world.specs.KnownLaws.{ActAlike}
+use Rattle.gen_world.specs.Rows.{Row, row_at, rows_to, rows_in, rows_of}
+use Rattle.gen_world.specs.Seat.{Seat, RingAfter, HasBegun, keys_at, part_at, sends, with_frame}
+use Rattle.gen_world.specs.Loops.Worlds.{IsPartOf, StandsAfter, IsIn, AllAre, near_of, hears_of, rows_from, rows_first, rows_until, decided_of}
+use Rattle.gen_world.proofs.Having.{true_false}
+use Rattle.gen_world.proofs.Stepping.{one_round_more, frame_after}
+
+-- ---- places
+
+pub at_same : (ps : List Seat) (i g : ℕ) (q d : Seat) → i < length ps → g ≡ i → slice_index_or (slice_set ps i q) g d ≡ q
+at_same ps i g q d within same = ap (λ j. slice_index_or (slice_set ps i q) j d) same ∙ get_or-set_same ps i q d within
+
+at_other : (ps : List Seat) (i g : ℕ) (q d : Seat) → g ≢ i → slice_index_or (slice_set ps i q) g d ≡ slice_index_or ps g d
+at_other ps i g q d other = get_or-set_other ps i g q d other
+
+eqb_not : (a b : ℕ) → eqb a b ≡ false → a ≢ b
+eqb_not a b e same = true_false (eqb a b) (eq-eqb a b same) e
+
+pub set_done : (P : ℕ → Seat → Type 0) (ps : List Seat) (i : ℕ) (q : Seat) → i < length ps → ((g : ℕ) (d : Seat) → g < i → P g (slice_index_or ps g d)) → P i q
+    → (g : ℕ) (d : Seat) → g < i + 1 → P g (slice_index_or (slice_set ps i q) g d)
+set_done P ps i q within done one g d below = elim (bool_cases (eqb g i)) [
+  | inl e ↦ let same = eqb-true g i e in subst (λ p. P g p) (sym (at_same ps i g q d within same)) (subst (λ j. P j q) (sym same) one)
+  | inr ne ↦ let other = eqb_not g i ne in subst (λ p. P g p) (sym (at_other ps i g q d other)) (done g d (omega (arith, below, other)))
+]
+
+pub set_rest : (P : ℕ → Seat → Type 0) (ps : List Seat) (i n : ℕ) (q : Seat) → ((g : ℕ) (d : Seat) → i ≤ g → g < n → P g (slice_index_or ps g d))
+    → (g : ℕ) (d : Seat) → i + 1 ≤ g → g < n → P g (slice_index_or (slice_set ps i q) g d)
+set_rest P ps i n q rest g d above below =
+    let other : g ≢ i = λ same. absurd (omega (arith, above, same)) in
+    subst (λ p. P g p) (sym (at_other ps i g q d other)) (rest g d (omega (arith, above)) below)
+
+-- one place is changed, and it holds there again
+pub set_all : (P : ℕ → Seat → Type 0) (ps : List Seat) (i n : ℕ) (q : Seat) → i < length ps → P i q → ((g : ℕ) (d : Seat) → g < n → P g (slice_index_or ps g d))
+    → (g : ℕ) (d : Seat) → g < n → P g (slice_index_or (slice_set ps i q) g d)
+set_all P ps i n q within one each g d below = elim (bool_cases (eqb g i)) [
+  | inl e ↦ let same = eqb-true g i e in subst (λ p. P g p) (sym (at_same ps i g q d within same)) (subst (λ j. P j q) (sym same) one)
+  | inr ne ↦ let other = eqb_not g i ne in subst (λ p. P g p) (sym (at_other ps i g q d other)) (each g d below)
+]
+
+-- ---- beginning
+
+-- with what he signs stays the same
+keys_same : (p : Seat) (k : Known) (a b : Option Ring) → RingAfter p a b → keys_at k b ≡ keys_at k a
+keys_same p k None None after = refl
+keys_same p k None (Some b) after = absurd after
+keys_same p k (Some a) None after = absurd after
+keys_same p k (Some a) (Some b) after = ap (λ seed. own_keys k.header seed) after.seed
+
+part_same : (p q : Seat) → HasBegun p q → part_at q ≡ part_at p
+part_same p q begun =
+    let keys : keys_at q.known q.ring ≡ keys_at p.known p.ring = ap (λ k. keys_at k q.ring) begun.known ∙ keys_same p p.known p.ring q.ring begun.ring in
+    ap (λ (k : Known). record { keys = keys_at q.known q.ring; me = k.me; own = k.own; script = k.script }) begun.known
+    ∙ ap (λ (keys : Keys). record { keys = keys; me = p.known.me; own = p.known.own; script = p.known.script }) keys
+
+pub begun_one : (s : Scenario) (k g : ℕ) (p q : Seat) → StandsAfter s k g p → HasBegun p q → IsIn s k g q × (q.heard ≡ heard_by s k g)
+begun_one s k g p q at begun = (
+  record {
+    part = record {
+      header = ap (λ (x : Known). x.header) begun.known ∙ at.part.header;
+      me = ap (λ (x : Known). x.me) begun.known ∙ at.part.me;
+      own = ap (λ (x : Known). x.own) begun.known ∙ at.part.own;
+      alike = subst (λ part. ActAlike part (part_of s g)) (sym (part_same p q begun)) at.part.alike;
+    };
+    before = begun.before ∙ at.heard;
+    round = begun.round ∙ ap (λ n. n + 1) at.round;
+  },
+  begun.heard ∙ at.heard,
+)
+
+-- ---- one frame
+
+pub near_known : (net : Network) (b : Bool) (to from : ℕ) → (IsTrue b ↔ AreNeighbours net to from) → list_any (joins to from) net.edges ≡ b
+near_known net b to from both = elim (bool_cases (list_any (joins to from) net.edges)) [
+  | inl t ↦ t ∙ sym (both.1 (joined_found to from net.edges t))
+  | inr f ↦ elim (bool_cases b) [
+    | inl bt ↦ absurd (true_false (list_any (joins to from) net.edges) (joined_again to from net.edges (both.0 bt)) f)
+    | inr bf ↦ f ∙ sym bf
+  ]
+]
+
+-- the frame is that of the scenario
+frame_made : (s : Scenario) (k from to : ℕ) (p : Seat) (frame : List (List ℕ)) → IsIn s k from p → frame ≡ sends p to → frame ≡ frame_of (part_of s from) (heard_by s k from) (k + 1) to
+frame_made s k from to p frame is e =
+    let now = rw (is.before, is.round) at e in
+    now ∙ is.part.alike.frames (heard_by s k from) (k + 1) to
+
+pub hear_far : (s : Scenario) (k from to : ℕ) (xs : List Heard) → list_any (joins to from) s.net.edges ≡ false → xs ≡ xs ++ hears_of s k to (near_of s.net to (from ∷ []))
+hear_far s k from to xs far = rw far (sym (append-nil xs))
+
+pub rows_far : (s : Scenario) (k from to : ℕ) (xs : List Row) → list_any (joins to from) s.net.edges ≡ false → xs ≡ xs ++ rows_from s k to (near_of s.net to (from ∷ []))
+rows_far s k from to xs far = rw far (sym (append-nil xs))
+
+pub hear_near : (s : Scenario) (k from to : ℕ) (p pf q : Seat) (frame : List (List ℕ)) → list_any (joins to from) s.net.edges ≡ true → IsIn s k to p → IsIn s k from pf
+    → frame ≡ sends pf to → q ≡ with_frame p from frame → q.heard ≡ p.heard ++ hears_of s k to (near_of s.net to (from ∷ []))
+hear_near s k from to p pf q frame near is by made hd =
+    let all = ap (λ (x : Seat). x.heard) hd in
+    let now = rw (is.part.header, is.part.me, is.round, frame_made s k from to pf frame by made) at all in
+    rw near (now ∙ ap (λ (xs : List Heard). p.heard ++ xs) (sym (append-nil (heard_of s (heard_by s k) (k + 1) to from))))
+
+pub rows_near : (s : Scenario) (k from to : ℕ) (pf : Seat) (frame : List (List ℕ)) (old new : List Row) → list_any (joins to from) s.net.edges ≡ true → IsIn s k from pf
+    → frame ≡ sends pf to → new ≡ old ++ record { round = k + 1; from = from; to = to; parcels = frame } ∷ [] → new ≡ old ++ rows_from s k to (near_of s.net to (from ∷ []))
+rows_near s k from to pf frame old new near by made e =
+    let is = frame_made s k from to pf frame by made ∙ sym (frame_after s k from to) in
+    rw near (e ∙ ap (λ (parcels : List (List ℕ)). old ++ record { round = k + 1; from = from; to = to; parcels = parcels } ∷ []) is)
+
+-- he is still in the round
+pub hears_in : (s : Scenario) (k g from : ℕ) (p q : Seat) (frame : List (List ℕ)) → IsIn s k g p → q ≡ with_frame p from frame → IsIn s k g q
+hears_in s k g from p q frame is e =
+    let there : IsIn s k g (with_frame p from frame) = record {
+      part = record { header = is.part.header; me = is.part.me; own = is.part.own; alike = is.part.alike };
+      before = is.before;
+      round = is.round;
+    } in
+    subst (λ x. IsIn s k g x) (sym e) there
+
+-- ---- all frames
+
+pub grows : {X : Type 0} (now mid start a b c : List X) → now ≡ mid ++ b → mid ≡ start ++ a → a ++ b ≡ c → now ≡ start ++ c
+grows now mid start a b c one two three = one ∙ ap (λ xs. xs ++ b) two ∙ append_assoc start a b ∙ ap (λ xs. start ++ xs) three
+
+one_more : (n : ℕ) → range_with_len 0 (n + 1) ≡ range_with_len 0 n ++ n ∷ []
+one_more n = range_more 0 n ∙ ap (λ k. range_with_len 0 n ++ k ∷ []) (zero-add n)
+
+near_more : (net : Network) (to n : ℕ) → near_of net to (range_with_len 0 n) ++ near_of net to (n ∷ []) ≡ near_of net to (range_with_len 0 (n + 1))
+near_more net to n = sym (ap (near_of net to) (one_more n) ∙ filter-append (λ from. list_any (joins to from) net.edges) (range_with_len 0 n) (n ∷ []))
+
+pub hears_more : (s : Scenario) (k to n : ℕ)
+    → hears_of s k to (near_of s.net to (range_with_len 0 n)) ++ hears_of s k to (near_of s.net to (n ∷ [])) ≡ hears_of s k to (near_of s.net to (range_with_len 0 (n + 1)))
+hears_more s k to n = sym (flat_map-append (heard_of s (heard_by s k) (k + 1) to) (near_of s.net to (range_with_len 0 n)) (near_of s.net to (n ∷ []))) ∙ ap (hears_of s k to) (near_more s.net to n)
+
+pub rows_more : (s : Scenario) (k to n : ℕ)
+    → rows_from s k to (near_of s.net to (range_with_len 0 n)) ++ rows_from s k to (near_of s.net to (n ∷ [])) ≡ rows_from s k to (near_of s.net to (range_with_len 0 (n + 1)))
+rows_more s k to n = sym (map-append (row_at s (k + 1) to) (near_of s.net to (range_with_len 0 n)) (near_of s.net to (n ∷ []))) ∙ ap (rows_from s k to) (near_more s.net to n)
+
+-- ---- all receivers
+
+pub receiver_rows : (s : Scenario) (k n : ℕ) → rows_first s k n ++ rows_to s (k + 1) n ≡ rows_first s k (n + 1)
+unfolding rows_first
+receiver_rows s k n =
+    let f : ℕ → List Row = rows_to s (k + 1) in
+    sym (ap (flat_map f) (one_more n) ∙ flat_map-append f (range_with_len 0 n) (n ∷ []) ∙ ap (λ (xs : List Row). flat_map f (range_with_len 0 n) ++ xs) (append-nil (f n)))
+
+pub receivers_none : (s : Scenario) (k : ℕ) (xs : List Row) → xs ≡ xs ++ rows_first s k 0
+unfolding rows_first
+receivers_none s k xs = sym (append-nil xs)
+
+pub receivers_all : (s : Scenario) (k : ℕ) → rows_first s k s.net.generals ≡ rows_in s (k + 1)
+unfolding rows_first rows_in
+receivers_all s k = refl
+
+heard_now : (s : Scenario) (k g : ℕ) (xs old : List Heard) → xs ≡ old ++ hears_of s k g (near_of s.net g (range_with_len 0 s.net.generals)) → old ≡ heard_by s k g → xs ≡ heard_by s (k + 1) g
+unfolding heard_in
+heard_now s k g xs old e before = e ∙ ap (λ (hs : List Heard). hs ++ hears_of s k g (near_of s.net g (range_with_len 0 s.net.generals))) before ∙ sym (one_round_more s k g)
+
+pub receivers_done : (s : Scenario) (k n : ℕ) (old new : List Seat) → n < s.net.generals
+    → ((g : ℕ) (d : Seat) → g < n → (slice_index_or old g d).heard ≡ heard_by s (k + 1) g)
+    → ((g : ℕ) (d : Seat) → n ≤ g → g < s.net.generals → (slice_index_or old g d).heard ≡ heard_by s k g)
+    → ((d : Seat) → (slice_index_or new n d).heard ≡ (slice_index_or old n d).heard ++ hears_of s k n (near_of s.net n (range_with_len 0 s.net.generals)))
+    → ((g : ℕ) (d : Seat) → g ≢ n → slice_index_or new g d ≡ slice_index_or old g d)
+    → (g : ℕ) (d : Seat) → g < n + 1 → (slice_index_or new g d).heard ≡ heard_by s (k + 1) g
+receivers_done s k n old new known done rest now others g d below = elim (bool_cases (eqb g n)) [
+  | inl e ↦
+      let same = eqb-true g n e in
+      subst (λ j. (slice_index_or new j d).heard ≡ heard_by s (k + 1) j) (sym same) (heard_now s k n (slice_index_or new n d).heard (slice_index_or old n d).heard (now d) (rest n d (omega arith) known))
+  | inr ne ↦ let other = eqb_not g n ne in ap (λ (p : Seat). p.heard) (others g d other) ∙ done g d (omega (arith, below, other))
+]
+
+pub receivers_rest : (s : Scenario) (k n : ℕ) (old new : List Seat)
+    → ((g : ℕ) (d : Seat) → n ≤ g → g < s.net.generals → (slice_index_or old g d).heard ≡ heard_by s k g)
+    → ((g : ℕ) (d : Seat) → g ≢ n → slice_index_or new g d ≡ slice_index_or old g d)
+    → (g : ℕ) (d : Seat) → n + 1 ≤ g → g < s.net.generals → (slice_index_or new g d).heard ≡ heard_by s k g
+receivers_rest s k n old new rest others g d above below =
+    let other : g ≢ n = λ same. absurd (omega (arith, above, same)) in
+    ap (λ (p : Seat). p.heard) (others g d other) ∙ rest g d (omega (arith, above)) below
+
+pub all_stand : (s : Scenario) (k : ℕ) (ps : List Seat) → AllAre (IsIn s k) s.net.generals ps → ((g : ℕ) (d : Seat) → g < s.net.generals → (slice_index_or ps g d).heard ≡ heard_by s (k + 1) g)
+    → AllAre (StandsAfter s (k + 1)) s.net.generals ps
+all_stand s k ps all heard = record {
+  count = all.count;
+  each = λ g d below. let is = all.each g d below in record { part = is.part; heard = heard g d below; round = is.round };
+}
+
+-- ---- the start
+
+pub pushed_each : (P : ℕ → Seat → Type 0) (old new : List Seat) (n : ℕ) (q : Seat) → length old ≡ n → new ≡ old ++ q ∷ []
+    → ((g : ℕ) (d : Seat) → g < n → P g (slice_index_or old g d)) → P n q → (g : ℕ) (d : Seat) → g < n + 1 → P g (slice_index_or new g d)
+pushed_each P old new n q long e each one g d below = elim (bool_cases (eqb g n)) [
+  | inl t ↦
+      let same = eqb-true g n t in
+      let read : slice_index_or new g d ≡ q = ap (λ (xs : List Seat). slice_index_or xs g d) e ∙ get_or_push old q d g (long ∙ sym same) in
+      subst (λ p. P g p) (sym read) (subst (λ j. P j q) (sym same) one)
+  | inr f ↦
+      let other = eqb_not g n f in
+      let read : slice_index_or new g d ≡ slice_index_or old g d = ap (λ (xs : List Seat). slice_index_or xs g d) e ∙ get_or_append_left old (q ∷ []) d g (omega (arith, below, other, long)) in
+      subst (λ p. P g p) (sym read) (each g d (omega (arith, below, other)))
+]
+
+pub length_pushed : (old new : List Seat) (n : ℕ) (q : Seat) → length old ≡ n → new ≡ old ++ q ∷ [] → length new ≡ n + 1
+length_pushed old new n q long e = ap length e ∙ length-append old (q ∷ []) ∙ ap (λ k. k + 1) long
+
+-- ---- the rounds
+
+pub rows_none : (s : Scenario) (xs : List Row) → xs ≡ [] → xs ≡ rows_until s 0
+unfolding rows_until
+rows_none s xs e = e
+
+pub rows_round : (s : Scenario) (k : ℕ) (old new : List Row) → old ≡ rows_until s k → new ≡ old ++ rows_in s (k + 1) → new ≡ rows_until s (k + 1)
+unfolding rows_until
+rows_round s k old new before e =
+    let next : 1 + k ≡ k + 1 = omega arith in
+    let grown : range_with_len 1 (k + 1) ≡ range_with_len 1 k ++ (k + 1) ∷ [] = range_more 1 k ∙ ap (λ j. range_with_len 1 k ++ j ∷ []) next in
+    e ∙ ap (λ (xs : List Row). xs ++ rows_in s (k + 1)) before
+    ∙ sym (ap (flat_map (rows_in s)) grown ∙ flat_map-append (rows_in s) (range_with_len 1 k) ((k + 1) ∷ []) ∙ ap (λ (xs : List Row). flat_map (rows_in s) (range_with_len 1 k) ++ xs) (append-nil (rows_in s (k + 1))))
+
+pub rows_all : (s : Scenario) (n : ℕ) (xs : List Row) → n ≡ rounds s.net → xs ≡ rows_until s n → xs ≡ rows_of s
+unfolding rows_until rows_of
+rows_all s n xs stop e = e ∙ ap (λ k. flat_map (rows_in s) (range_with_len 1 k)) stop
+
+-- ---- the decisions
+
+pub decided_at : (s : Scenario) (p : Seat) (d : Decision) → StandsAfter s (rounds s.net) p.known.me p → d ≡ decided_by p.known.header.network p.known.me p.known.own p.heard
+    → d ≡ decision_of s p.known.me
+decided_at s p d at e = rw (at.part.header, at.part.own, at.heard) at e
+
+pub decided_more : (s : Scenario) (n : ℕ) (old new : List Decision) → old ≡ decided_of s (range_with_len 0 n) → new ≡ old ++ decided_of s (n ∷ []) → new ≡ decided_of s (range_with_len 0 (n + 1))
+decided_more s n old new before e =
+    let follows : ℕ → Bool = λ g. not (has_script s g) in
+    e ∙ ap (λ (xs : List Decision). xs ++ decided_of s (n ∷ [])) before
+    ∙ sym (ap (decided_of s) (one_more n) ∙ ap (map (decision_of s)) (filter-append follows (range_with_len 0 n) (n ∷ [])) ∙ map-append (decision_of s) (filter follows (range_with_len 0 n)) (filter follows (n ∷ [])))
+
+pub decided_all : (s : Scenario) (n : ℕ) (out : List Decision) → n ≡ s.net.generals → out ≡ decided_of s (range_with_len 0 n) → out ≡ decisions_of s
+decided_all s n out same e = e ∙ ap (λ k. decided_of s (range_with_len 0 k)) same

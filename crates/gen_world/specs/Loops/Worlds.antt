@@ -1,0 +1,67 @@
+-- The generals of a scenario, all together, while they go from round to round.
+use Rattle.std.specs.Prelude.{ℕ, ◌≡◌, ◌<◌, ◌+◌, Bool, not, List, map, filter, length, slice_index_or}
+use Rattle.std.specs.List.{range_with_len, list_any, flat_map}
+use Rattle.gen_net.specs.Network.{Network}
+use Rattle.gen_net.specs.Edges.{joins}
+use Rattle.gen_world.specs.declared.hearing.Heard.{Heard}
+use Rattle.gen_world.specs.declared.scenario.Decision.{Decision}
+use Rattle.gen_world.specs.Scenario.{Scenario, header_of, has_script}
+use Rattle.gen_world.specs.KnownLaws.{ActAlike}
+use Rattle.gen_world.specs.SignedWorld.{part_of, own_order, heard_of, heard_by}
+use Rattle.gen_world.specs.Deciding.{decision_of}
+use Rattle.gen_world.specs.Rows.{Row, row_at, rows_to, rows_in}
+use Rattle.gen_world.specs.Seat.{Seat, part_at}
+
+-- he is this general of the scenario: he knows its header, his number and his order, and acts as it says
+pub record IsPartOf (s : Scenario) (g : ℕ) (p : Seat) : Type 0 where
+  pub header : p.known.header ≡ header_of s
+  pub me : p.known.me ≡ g
+  pub own : p.known.own ≡ own_order s g
+  pub alike : ActAlike (part_at p) (part_of s g)
+
+-- he is, after the first k rounds
+pub record StandsAfter (s : Scenario) (k g : ℕ) (p : Seat) : Type 0 where
+  pub part : IsPartOf s g p
+  pub heard : p.heard ≡ heard_by s k g
+  pub round : p.round ≡ k
+
+-- in the round after the first k
+pub record IsIn (s : Scenario) (k g : ℕ) (p : Seat) : Type 0 where
+  pub part : IsPartOf s g p
+  pub before : p.before ≡ heard_by s k g
+  pub round : p.round ≡ k + 1
+
+-- one stands at each place, and this holds of each
+pub record AllAre (P : ℕ → Seat → Type 0) (n : ℕ) (ps : List Seat) : Type 0 where
+  pub count : length ps ≡ n
+  pub each : (g : ℕ) (d : Seat) → g < n → P g (slice_index_or ps g d)
+
+abbrev pub AllStand : Scenario → ℕ → List Seat → Type 0
+AllStand s k = AllAre (StandsAfter s k) s.net.generals
+
+-- before anybody hears
+abbrev pub AllBegun : Scenario → ℕ → List Seat → Type 0
+AllBegun s k = AllAre (λ g p. IsIn s k g p × (p.heard ≡ heard_by s k g)) s.net.generals
+
+-- those of the generals who are neighbours
+abbrev pub near_of : Network → ℕ → List ℕ → List ℕ
+near_of net to = filter (λ from. list_any (joins to from) net.edges)
+
+-- what a general hears of these in the round after the first k
+abbrev pub hears_of : Scenario → ℕ → ℕ → List ℕ → List Heard
+hears_of s k to froms = flat_map (heard_of s (heard_by s k) (k + 1) to) froms
+
+-- the frames of these to him
+abbrev pub rows_from : Scenario → ℕ → ℕ → List ℕ → List Row
+rows_from s k to froms = map (row_at s (k + 1) to) froms
+
+-- the frames to the first generals, and those of the first rounds
+unfoldable pub rows_first : Scenario → ℕ → ℕ → List Row
+rows_first s k n = flat_map (rows_to s (k + 1)) (range_with_len 0 n)
+
+unfoldable pub rows_until : Scenario → ℕ → List Row
+rows_until s k = flat_map (rows_in s) (range_with_len 1 k)
+
+-- what those of these generals decide who have no script
+abbrev pub decided_of : Scenario → List ℕ → List Decision
+decided_of s gs = map (decision_of s) (filter (λ g. not (has_script s g)) gs)

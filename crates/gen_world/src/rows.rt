@@ -1,0 +1,120 @@
+//! What the run of a scenario gives.
+ghost use Rattle.std.specs.Prelude.{◌≡◌};
+
+use crate::scenario::Decision;
+use gen_script::Parcel;
+use gen_types::GeneralNo;
+use std::marker::Model;
+
+/// A frame, and which it is.
+#[derive(Debug, Drop)]
+pub struct FrameRow {
+    round: u8,
+    from: GeneralNo,
+    to: GeneralNo,
+    parcels: Vec<Parcel>,
+}
+
+impl Model for FrameRow {
+    ghost use Rattle.gen_world.specs.Rows.{Row};
+
+    ghost Value = { Row };
+
+    ghost view = { λ r. record {
+      round = r.round;
+      from = r.from;
+      to = r.to;
+      parcels = r.parcels.items;
+    } };
+}
+
+impl FrameRow {
+    /// Returns the frame of this round, from this general to this one, with these parcels.
+    pub(crate) fn new(
+        round: u8,
+        from: GeneralNo,
+        to: GeneralNo,
+        parcels: Vec<Parcel>,
+    ) -> FrameRow
+        ensures { result ≡ record {
+          round = round;
+          from = from;
+          to = to;
+          parcels = parcels.items;
+        } }
+    {
+        FrameRow {
+            round,
+            from,
+            to,
+            parcels,
+        }
+    }
+
+    /// Returns the round, from 1 on, in which it is sent.
+    pub fn round(&self) -> u8
+        ensures { result ≡ self.now.round }
+    {
+        self.round
+    }
+
+    /// Returns the general who sends it.
+    pub fn from(&self) -> GeneralNo
+        ensures { result ≡ self.now.from }
+    {
+        self.from
+    }
+
+    /// Returns the general who gets it.
+    pub fn to(&self) -> GeneralNo
+        ensures { result ≡ self.now.to }
+    {
+        self.to
+    }
+
+    /// Returns the parcels, in their order.
+    pub fn parcels(&self) -> &[Parcel]
+        ensures { result.now ≡ self.now.parcels }
+    {
+        self.parcels.as_slice()
+    }
+}
+
+/// The run of a scenario. A contract sees the frames and the decisions.
+#[derive(Debug, Drop)]
+pub struct WorldRun {
+    frames: Vec<FrameRow>,
+    decisions: Vec<Decision>,
+}
+
+impl Model for WorldRun {
+    ghost use Rattle.gen_world.specs.Rows.{World};
+
+    ghost Value = { World };
+
+    ghost view = { λ r. record { frames = r.frames.items; decisions = r.decisions.items } };
+}
+
+impl WorldRun {
+    /// Returns the run with these frames and decisions.
+    pub(crate) fn new(frames: Vec<FrameRow>, decisions: Vec<Decision>) -> WorldRun
+        ensures { result ≡ record { frames = frames.items; decisions = decisions.items } }
+    {
+        WorldRun { frames, decisions }
+    }
+
+    /// Returns the frames: round by round, those of a round by ascending receivers, and those to one
+    /// receiver by ascending senders.
+    pub fn frames(&self) -> &[FrameRow]
+        ensures { result.now ≡ self.now.frames }
+    {
+        self.frames.as_slice()
+    }
+
+    /// Returns the decisions of the generals who have no scripts, in ascending order of generals.
+    pub fn decisions(&self) -> &[Decision]
+        ensures { result.now ≡ self.now.decisions }
+    {
+        self.decisions.as_slice()
+    }
+}
