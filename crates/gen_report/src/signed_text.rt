@@ -1,10 +1,12 @@
 //! Scenarios with signatures, as texts say them.
-ghost use Rattle.std.specs.Prelude.{◌≡◌};
+ghost use Rattle.std.specs.Prelude.{◌≡◌, IfOk};
 ghost use Rattle.gen_world.specs.Scenario.{IsScenario};
 
 use gen_net::{Net, Version};
 use gen_script::Script;
 use gen_types::OrderNo;
+use gen_world::Scenario;
+use std::alloc::{AllocError, Global};
 use std::marker::Model;
 
 /// A scenario in which generals sign: a network, the commander's order, the version with the slot of the
@@ -142,5 +144,24 @@ impl SignedText {
             order: self.order,
             scripts: self.scripts,
         }
+    }
+
+    /// Makes the scenario that the text says, with the keys of all generals.
+    ///
+    /// # Errors
+    ///
+    /// `AllocError` where memory is refused.
+    pub fn into_scenario(self, alloc: Global) -> Result<Scenario, AllocError>
+        ensures { IfOk result (λ scenario. scenario ≡ self) }
+    {
+        let parts = self.into_parts();
+        Scenario::of_version(
+            alloc,
+            parts.version,
+            parts.net,
+            parts.order,
+            &parts.master,
+            parts.scripts,
+        )
     }
 }

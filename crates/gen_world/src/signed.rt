@@ -200,8 +200,12 @@ impl Scenario {
         Ok(scenario)
     }
 
-    /// Returns the scenario of a version whose slot is known.
-    fn of_version(
+    /// Returns the scenario of this version, whose slot must be known: that of `new`, or of `new_in_slot`.
+    ///
+    /// # Errors
+    ///
+    /// `AllocError` where memory is refused.
+    pub fn of_version(
         alloc: Global,
         version: Version,
         net: Net,

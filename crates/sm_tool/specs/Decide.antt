@@ -1,9 +1,10 @@
 -- What the job decide makes of its input.
-use Rattle.std.specs.Prelude.{◌≡◌, ℕ, List, Option, Err}
+use Rattle.std.specs.Prelude.{◌≡◌, ℕ, List, replicate, Option, Err}
 use Rattle.std.specs.Io.KnownBytes.{Appends}
-use Rattle.gen_world.specs.Scenario.{Plain}
-use Rattle.gen_world.specs.declared.scenario.Decision.{Decision}
-use Rattle.gen_world.specs.World.{IsOutcome}
+use Rattle.gen_world.specs.Scenario.{Scenario}
+use Rattle.gen_world.specs.Deciding.{decisions_of, with_keys}
+use Rattle.gen_report.specs.declared.scenario_text.ScenarioText.{ScenarioText}
+use Rattle.gen_report.specs.declared.scenario_text.ScenarioText.TheVariants as texts
 use Rattle.gen_report.specs.Scenario.{SpellsScenario}
 use Rattle.gen_report.specs.ScenarioReading.{scenario_of}
 use Rattle.gen_report.specs.Decisions.{decisions_text}
@@ -11,13 +12,16 @@ use Rattle.sm_tool.specs.declared.ends.JobEnd.{JobEnd}
 use Rattle.sm_tool.specs.declared.ends.JobEnd.TheVariants.{Done, Failed}
 use Rattle.sm_tool.specs.declared.ends.JobFault.TheVariants as faults
 
--- The text is that of the decisions in the run of the scenario that the input spells.
+-- The scenario whose run decides: of a text without a seed, that of a seed of zero bytes. Any other seed gives the same decisions.
+abbrev pub scenario_told : ScenarioText → Scenario
+scenario_told (texts.Plain plain) = with_keys plain (replicate 32 0)
+scenario_told (texts.Signed scenario) = scenario
+
+-- The text is that of what the generals without scripts decide in the run of the scenario that the input spells.
 pub record IsAnswer (input text : List ℕ) : Type 0 where
-  pub scenario : Plain
-  pub spelled : SpellsScenario input scenario
-  pub decisions : List Decision
-  pub outcome : IsOutcome scenario.net scenario.order decisions
-  pub text_is : text ≡ decisions_text decisions
+  pub told : ScenarioText
+  pub spelled : SpellsScenario input told
+  pub text_is : text ≡ decisions_text (decisions_of (scenario_told told))
 
 -- Where the job is done, an answer stands behind what the writer held. A fault of the input is its first. A write is tried with
 -- an answer alone, and no thread is started.

@@ -18,7 +18,7 @@ const DECISIONS: &[u8] =
 
 /// What the call of one number does in place of its work.
 #[derive(Clone, Copy, PartialEq, Eq)]
-enum Slip {
+pub enum Slip {
     Fails,
     Interrupts,
     TakesNothing,
@@ -26,7 +26,7 @@ enum Slip {
 
 /// Counts calls, and slips at one of them.
 #[derive(Clone, Copy)]
-struct Turns {
+pub struct Turns {
     left: u32,
     slip: Slip,
 }
@@ -49,7 +49,7 @@ impl Turns {
 
 /// Gives its bytes, a few at each call.
 #[derive(Drop)]
-struct Source<'a> {
+pub struct Source<'a> {
     rest: &'a [u8],
     step: usize,
     turns: Turns,
@@ -71,8 +71,8 @@ impl<'a> Read for Source<'a> {
 
 /// Keeps what is written, a few bytes of each call.
 #[derive(Drop)]
-struct Sink {
-    taken: Vec<u8>,
+pub struct Sink {
+    pub taken: Vec<u8>,
     step: usize,
     turns: Turns,
 }
@@ -97,7 +97,7 @@ impl Write for Sink {
     }
 }
 
-fn source_of(rest: &[u8], step: usize, left: u32, slip: Slip) -> Source<'_> {
+pub fn source_of(rest: &[u8], step: usize, left: u32, slip: Slip) -> Source<'_> {
     Source {
         rest,
         step,
@@ -105,7 +105,7 @@ fn source_of(rest: &[u8], step: usize, left: u32, slip: Slip) -> Source<'_> {
     }
 }
 
-fn sink_for(alloc: Global, step: usize, left: u32, slip: Slip) -> Sink {
+pub fn sink_for(alloc: Global, step: usize, left: u32, slip: Slip) -> Sink {
     Sink {
         taken: Vec::new(alloc),
         step,
