@@ -154,14 +154,13 @@ impl SignedText {
     pub fn into_scenario(self, alloc: Global) -> Result<Scenario, AllocError>
         ensures { IfOk result (λ scenario. scenario ≡ self) }
     {
-        let parts = self.into_parts();
-        Scenario::of_version(
-            alloc,
-            parts.version,
-            parts.net,
-            parts.order,
-            &parts.master,
-            parts.scripts,
-        )
+        let ScenarioParts {
+            version,
+            net,
+            master,
+            order,
+            scripts,
+        } = self.into_parts();
+        Scenario::of_version(alloc, version, net, order, &master, scripts)
     }
 }
