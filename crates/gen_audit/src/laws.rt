@@ -3,6 +3,7 @@
 ghost use Rattle.gen_audit.specs.Agreement.{FewFaultyAgree};
 ghost use Rattle.gen_audit.specs.Explained.{ExplainedFindsNothing, NothingFoundExplains, RunsHaveLogs};
 ghost use Rattle.gen_audit.specs.Headline.{HeadlineHolds};
+ghost use Rattle.gen_audit.specs.LocalFindings.{ReportsFindLocal};
 ghost use Rattle.gen_audit.specs.Supported.{CleanAgrees, CleanIsSupported, SupportedIsClean};
 ghost use Rattle.gen_audit.specs.Telling.{ReportsTellLogs};
 ghost use Rattle.gen_audit.specs.Verdict.{EachDecidedOnce, OneVerdict, VerdictExists};
@@ -68,4 +69,9 @@ pub fn own_runs_are_accepted()
     ensures supported { WorldIsSupported }
     ensures accepted { WorldIsAccepted }
     ensures shown { ShownAreLogs }
+{}
+
+/// What is found against single logs of a bundle is exactly what the reports of the rest's exhibits find.
+pub fn reports_find_local()
+    ensures { ReportsFindLocal }
 {}
