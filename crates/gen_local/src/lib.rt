@@ -38,4 +38,6 @@ pub use texts::{SignedText, Text};
 pub use walking::departs_from;
 
 #[cfg(test)]
+mod report_tests;
+#[cfg(test)]
 mod tests;

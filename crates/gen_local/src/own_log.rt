@@ -1,9 +1,12 @@
 //! What is found of a log.
-ghost use Rattle.std.specs.Prelude.{◌≡◌};
+ghost use Rattle.std.specs.Prelude.{◌≡◌, ◌++◌, ◌∷◌, [], List};
+ghost use Rattle.gen_log.specs.declared.entries.Entry.{Entry};
+ghost use Rattle.gen_log.specs.declared.entries.Entry.TheVariants.{Decide};
 ghost use Rattle.gen_log.specs.Log.{EndsWithDecide};
 
 use crate::texts::SignedText;
-use gen_log::Log;
+use gen_log::{Entry, Log};
+use gen_types::{OrderNo, OrderSet};
 use std::marker::Model;
 
 /// A log that says it is its general's of the run of a header, and what is found of it: which of its
@@ -41,6 +44,17 @@ impl OwnLog {
         ensures last { EndsWithDecide self.now.log.entries }
     {
         &self.log
+    }
+
+    /// Returns what its general decided: the set and the order of DECIDE, which is the last entry.
+    pub fn decision(&self) -> (OrderSet, OrderNo)
+        ensures { (before : List Entry)
+            × (self.now.log.entries ≡ before ++ Decide result.0 result.1 ∷ []) }
+    {
+        match self.log.entries().last() {
+            Some(Entry::Decide { orders, order }) => (*orders, *order),
+            _ => unreachable!(),
+        }
     }
 
     /// Returns the first entry, counted from 0, with a signature that doesn't verify, and None where the
