@@ -1,9 +1,8 @@
 -- What is found against single logs is what the reports of the exhibits say.
-use Rattle.std.proofs.Common.{◌≡◌, ℕ, ◌+◌, Bool, true, false, ◌⊎◌, inl, inr, List, [], ◌∷◌, ◌++◌, map, Contains, Option, Some, None, Result, Ok, Err, refl, sym, ap, ◌∙◌, subst, arith}
+use Rattle.std.proofs.Common.{◌≡◌, ℕ, Bool, true, false, inl, inr, List, [], ◌∷◌, ◌++◌, Contains, Option, Some, None, Result, Ok, Err, refl, sym, ap, ◌∙◌, subst, arith}
 use Rattle.std.specs.Bool.{nat_eq}
 use Rattle.std.proofs.lemmas.Bool.{eqb-true, eq-eqb}
 use Rattle.std.proofs.lemmas.List.Elements.{Contains-append_left, Contains-append_right, Contains-append_cases}
-use Rattle.gen_types.specs.Members.{bool_cases}
 use Rattle.gen_types.proofs.Lists.{Contains_here, Contains_cases, Contains_nil, Contains_filtered, Contains_mapped}
 use Rattle.gen_net.specs.Header.{RunHeader}
 use Rattle.gen_net.specs.Departs.{DepartsAt}

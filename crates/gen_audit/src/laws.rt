@@ -9,8 +9,9 @@ ghost use Rattle.gen_audit.specs.Telling.{ReportsTellLogs};
 ghost use Rattle.gen_audit.specs.Verdict.{EachDecidedOnce, OneVerdict, VerdictExists};
 ghost use Rattle.gen_audit.specs.WorldBundle.{ShownAreLogs, WorldIsAccepted, WorldIsSupported};
 
-/// Logs of the rest, each alone one that its general could keep, and no two of which contradict each other, nor what the
-/// rest sent, come from one run (`explained`); and in the logs that the rest keep of a run nothing is found (`found`).
+/// Logs of the rest, each alone one that its general could keep, and no two of which contradict each other,
+/// nor what the rest sent, come from one run (`explained`); and in the logs that the rest keep of a run nothing
+/// is found (`found`).
 pub fn logs_are_explained()
     ensures explained { NothingFoundExplains }
     ensures found { ExplainedFindsNothing }
