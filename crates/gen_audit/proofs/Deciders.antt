@@ -2,7 +2,7 @@
 use Rattle.std.proofs.Common.{◌≡◌, ◌↔◌, ℕ, ◌<◌, inl, inr, List, [], ◌∷◌, length, Contains, AllPairs, refl, sym, ap, ◌∙◌, subst, arith}
 use Rattle.std.proofs.lemmas.Bool.{cases_lt}
 use Rattle.gen_types.proofs.Lists.{Contains_here, Contains_there, Contains_cases, Contains_nil, ascending_one}
-use Rattle.gen_net.specs.Network.{Network, choose, IsLoyal}
+use Rattle.gen_net.specs.Network.{Network, choose}
 use Rattle.gen_net.specs.Run.{Run}
 use Rattle.gen_net.specs.Follows.{Conduct, Commands, Relays}
 use Rattle.gen_net.specs.Log.{Decided, IsEntry}
@@ -12,7 +12,7 @@ use Rattle.gen_match.specs.Matching.{Logged}
 use Rattle.gen_audit.specs.Bundle.{LogBundle, logs_of}
 use Rattle.gen_audit.specs.Findings.{IsOfRest}
 use Rattle.gen_audit.specs.Supported.{IsClean, IsSupported}
-use Rattle.gen_audit.specs.Verdict.{IsDecision, AreDecisions, Agreed, Explained, No, DecidesOnce, EachDecidedOnce, VerdictExists}
+use Rattle.gen_audit.specs.Verdict.{IsDecision, AreDecisions, Agreed, Explained, No, EachDecidedOnce, VerdictExists}
 use Rattle.gen_audit.proofs.Agreeing.{has_decide, same_log}
 use Rattle.gen_audit.proofs.Supporting.{clean_is_supported, clean_agrees}
 

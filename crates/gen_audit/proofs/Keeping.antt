@@ -1,9 +1,5 @@
 -- The rest of every run keep logs.
-use Rattle.std.proofs.Common.{ℕ, List, Some, refl}
-use Rattle.gen_net.specs.Network.{Network}
-use Rattle.gen_net.specs.Run.{Run, IsRun}
-use Rattle.gen_net.specs.Follows.{Conduct, Commands, Relays}
-use Rattle.gen_net.specs.Log.{LogEntry, Keeps}
+use Rattle.std.proofs.Common.{Some, refl}
 use Rattle.gen_core.proofs.KeptLogs.{has_log}
 use Rattle.gen_audit.specs.Explained.{RunsHaveLogs}
 

@@ -3,9 +3,11 @@ pub mod Answering
 pub mod Claims
 pub mod Deciders
 pub mod Deciding
+pub mod FirstUnsigned
 pub mod Fit
 pub mod Following
 pub mod Keeping
+pub mod LocalFinds
 pub mod Supporting
 pub mod Telling
 pub mod Verifying

@@ -25,7 +25,6 @@ use Rattle.gen_log.proofs.LogLaws.{log_found}
 use Rattle.gen_log.proofs.NextEntries.{are_bytes}
 use Rattle.gen_log.specs.Verifying.{SaysItIsOf, EntryVerifies, LogVerifies}
 use Rattle.gen_audit.specs.Explained.{NothingFound}
-use Rattle.gen_local.specs.Erased.{erased}
 use Rattle.gen_local.specs.Shown.{ShownLog}
 use Rattle.gen_match.specs.declared.finding.Finding.{Finding}
 use Rattle.gen_match.specs.declared.finding.Finding.TheVariants.{Missing, Several, Unreadable, Foreign, Unsigned, Unsealed, Departs, Unmatched, Underivable, Unjoined, Nobody}

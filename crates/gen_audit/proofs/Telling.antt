@@ -1,11 +1,10 @@
 -- The reports of a bundle's exhibits tell its logs.
-use Rattle.std.proofs.Common.{◌≡◌, ℕ, true, false, inl, inr, List, [], ◌∷◌, map, filter, Contains, Option, Some, None, Result, Ok, Err, if◌then◌else◌, refl, sym, ap, ◌∙◌, subst}
+use Rattle.std.proofs.Common.{◌≡◌, ℕ, inl, inr, List, [], ◌∷◌, map, Contains, Some, None, Result, Ok, Err, if◌then◌else◌, refl, sym, ap, ◌∙◌, subst}
 use Rattle.std.specs.Bool.{nat_eq}
 use Rattle.std.proofs.lemmas.Bool.{eqb-true}
 use Rattle.gen_types.specs.Members.{bool_cases}
-use Rattle.gen_types.proofs.Lists.{Contains_here, Contains_there, Contains_filtered}
+use Rattle.gen_types.proofs.Lists.{Contains_here, Contains_filtered}
 use Rattle.gen_net.specs.Header.{RunHeader}
-use Rattle.gen_net.specs.Log.{LogEntry}
 use Rattle.gen_log.specs.declared.fault.LogFault.{LogFault}
 use Rattle.gen_log.specs.Log.{RunLog}
 use Rattle.gen_log.specs.LogReading.{log_of}
@@ -13,11 +12,10 @@ use Rattle.gen_log.specs.Verifying.{SaysItIsOf}
 use Rattle.gen_local.specs.declared.reading.Reading.{Reading}
 use Rattle.gen_local.specs.declared.reading.Reading.TheVariants.{Unreadable, Foreign, Own}
 use Rattle.gen_local.specs.Erased.{erased}
-use Rattle.gen_local.specs.Report.{Report, IsReport, IsReading}
-use Rattle.gen_local.specs.Shown.{ShownLog}
+use Rattle.gen_local.specs.Report.{Report, IsReading}
 use Rattle.gen_match.specs.Reports.{entries_told, sole_told, reports_of}
-use Rattle.gen_audit.specs.Bundle.{LogBundle, exhibits_of, says_it_is_of, counted, sole_log}
-use Rattle.gen_audit.specs.Telling.{AreReports, ReportsTellLogs}
+use Rattle.gen_audit.specs.Bundle.{exhibits_of, says_it_is_of, counted, sole_log}
+use Rattle.gen_audit.specs.Telling.{ReportsTellLogs}
 use Rattle.gen_audit.proofs.Supporting.{own_of, own_is}
 
 -- what a reading tells is what counts

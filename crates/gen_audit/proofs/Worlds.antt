@@ -1,5 +1,5 @@
 -- The bundle of a scenario's own run supports a yes.
-use Rattle.std.proofs.Common.{◌≡◌, ℕ, zero, suc, ◌+◌, ◌<◌, ◌≤◌, true, false, inl, inr, List, [], ◌∷◌, ◌++◌, map, filter, length, Contains, Some, Ok, refl, sym, ap, ◌∙◌, subst, arith}
+use Rattle.std.proofs.Common.{◌≡◌, ℕ, zero, suc, ◌+◌, ◌<◌, ◌≤◌, inl, inr, List, [], ◌∷◌, ◌++◌, map, filter, Contains, Some, refl, sym, ap, ◌∙◌, subst, arith}
 use Rattle.std.specs.Bool.{nat_eq}
 use Rattle.std.specs.List.{range_with_len, flat_map}
 use Rattle.std.proofs.lemmas.Bool.{cases_eq, eqb-true, eq-eqb}
@@ -11,12 +11,11 @@ use Rattle.gen_types.specs.Spelled.{Spells}
 use Rattle.gen_types.proofs.Lists.{Contains_here}
 use Rattle.gen_net.specs.Network.{IsLoyal}
 use Rattle.gen_log.specs.Log.{RunLog, IsLog, log_spelling}
-use Rattle.gen_log.specs.LogReading.{log_of}
 use Rattle.gen_log.specs.Verifying.{LogVerifies}
 use Rattle.gen_log.proofs.LogLaws.{log_only}
 use Rattle.gen_local.specs.Erased.{erased}
 use Rattle.gen_local.specs.Shown.{ShownLog}
-use Rattle.gen_world.specs.Scenario.{Scenario, IsScenario, header_of, scripted}
+use Rattle.gen_world.specs.Scenario.{Scenario, header_of, scripted}
 use Rattle.gen_world.specs.SignedWorld.{messages_of}
 use Rattle.gen_world.specs.WorldLaws.{conduct_of}
 use Rattle.gen_world.specs.WorldLogs as worlds
@@ -27,7 +26,7 @@ use Rattle.gen_audit.specs.Bundle.{exhibits_of, logs_of}
 use Rattle.gen_audit.specs.Supported.{HasSoleLog, IsSupported}
 use Rattle.gen_audit.specs.Verdict.{Verdict, Agreed, Explained, No, IsVerdict}
 use Rattle.gen_audit.specs.Headline.{IsYes}
-use Rattle.gen_audit.specs.WorldBundle.{shown_by, all_shown, bundle_of, IsAcceptable, WorldIsSupported, WorldIsAccepted, ShownAreLogs}
+use Rattle.gen_audit.specs.WorldBundle.{shown_by, bundle_of, IsAcceptable, WorldIsSupported, WorldIsAccepted, ShownAreLogs}
 use Rattle.gen_audit.proofs.Supporting.{counts, supported_is_clean}
 use Rattle.gen_audit.proofs.Answering.{unclean}
 

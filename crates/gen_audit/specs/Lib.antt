@@ -3,6 +3,7 @@ pub mod Bundle
 pub mod Explained
 pub mod Findings
 pub mod Headline
+pub mod LocalFindings
 pub mod Supported
 pub mod Telling
 pub mod Verdict

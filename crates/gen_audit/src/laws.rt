@@ -3,13 +3,15 @@
 ghost use Rattle.gen_audit.specs.Agreement.{FewFaultyAgree};
 ghost use Rattle.gen_audit.specs.Explained.{ExplainedFindsNothing, NothingFoundExplains, RunsHaveLogs};
 ghost use Rattle.gen_audit.specs.Headline.{HeadlineHolds};
+ghost use Rattle.gen_audit.specs.LocalFindings.{ReportsFindLocal};
 ghost use Rattle.gen_audit.specs.Supported.{CleanAgrees, CleanIsSupported, SupportedIsClean};
 ghost use Rattle.gen_audit.specs.Telling.{ReportsTellLogs};
 ghost use Rattle.gen_audit.specs.Verdict.{EachDecidedOnce, OneVerdict, VerdictExists};
 ghost use Rattle.gen_audit.specs.WorldBundle.{ShownAreLogs, WorldIsAccepted, WorldIsSupported};
 
-/// Logs of the rest, each alone one that its general could keep, and no two of which contradict each other, nor what the
-/// rest sent, come from one run (`explained`); and in the logs that the rest keep of a run nothing is found (`found`).
+/// Logs of the rest, each alone one that its general could keep, and no two of which contradict each other,
+/// nor what the rest sent, come from one run (`explained`); and in the logs that the rest keep of a run nothing
+/// is found (`found`).
 pub fn logs_are_explained()
     ensures explained { NothingFoundExplains }
     ensures found { ExplainedFindsNothing }
@@ -68,4 +70,9 @@ pub fn own_runs_are_accepted()
     ensures supported { WorldIsSupported }
     ensures accepted { WorldIsAccepted }
     ensures shown { ShownAreLogs }
+{}
+
+/// What is found against single logs of a bundle is exactly what the reports of the rest's exhibits find.
+pub fn reports_find_local()
+    ensures { ReportsFindLocal }
 {}

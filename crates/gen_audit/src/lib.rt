@@ -6,8 +6,9 @@
 //!
 //! What is promised of a yes: each log of the rest verifies, the walks bound the diameter of the rest, and there is a
 //! run of SM(m) (L. Lamport, R. Shostak and M. Pease, "The Byzantine Generals Problem", ACM TOPLAS 4, 1982, sections
-//! 4 and 5) in which all of the rest follow the algorithm and keep exactly these logs. With at most m faulty generals
-//! the rest then decided alike. What is not: that the generals who are held for faulty are the traitors, or all of them.
+//! 4 and 5) in which all of the rest follow the algorithm and keep exactly these logs. With at most m faulty
+//! generals the rest then decided alike. What is not: that the generals who are held for faulty are the traitors, or
+//! all of them.
 #![tactic(auto)]
 
 pub mod laws;

@@ -14,5 +14,6 @@ fn the_laws_are_there_to_be_called(_rt: HostRuntime) -> Result<(), Fail> {
     laws::each_decided_once();
     laws::reports_tell_logs();
     laws::own_runs_are_accepted();
+    laws::reports_find_local();
     Ok(())
 }

@@ -67,7 +67,7 @@ sign_signed h order path signature v =
     let told : has_signed h v.0 (record { order = order; path = path }) signature ≡ true = signed_gives h v.0 (record { order = order; path = path }) signature v.2 in
     rw last ((and-eq-true_iff _ _).1 (told, refl))
 
-entry_verifies : (h : RunHeader) (e : Entry) → IsEntryOf h e → is_signed h e ≡ true → EntryVerifies h e
+pub entry_verifies : (h : RunHeader) (e : Entry) → IsEntryOf h e → is_signed h e ≡ true → EntryVerifies h e
 unfolding is_verified
 entry_verifies h (Start general own) ok t = tt
 entry_verifies h (Sign order path signature) ok t = sign_verifies h order path signature ok.1.some t
@@ -76,7 +76,7 @@ entry_verifies h (Recv from chain) ok t =
     (tests_verifying h chain).0 ((and-eq-true_iff (nat_lt chain.order h.network.orders) (are_signed h chain.order [] chain.signers)).1 (lt-ltb _ _ ok.1.order, sym (behind_is h chain.order [] chain.signers) ∙ t))
 entry_verifies h (Decide orders order) ok t = tt
 
-entry_signed : (h : RunHeader) (e : Entry) → EntryVerifies h e → is_signed h e ≡ true
+pub entry_signed : (h : RunHeader) (e : Entry) → EntryVerifies h e → is_signed h e ≡ true
 unfolding is_verified
 entry_signed h (Start general own) v = refl
 entry_signed h (Sign order path signature) v = sign_signed h order path signature v

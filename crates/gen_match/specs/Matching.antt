@@ -34,8 +34,8 @@ pub record IsUnmatched (net : Network) (faulty : List ℕ) (logs : Logs) (a b l 
   pub round : length path ≡ l
   pub one_sided : IsOneSided logs a b v path
 
--- The path, up to its last general of the rest, begins the path of a shorter SEND of this order by anybody of the rest to anybody
--- faulty.
+-- The path, up to its last general of the rest, begins the path of a shorter SEND of this order by anybody of the rest
+-- to anybody faulty.
 pub record DerivesFromLogs (net : Network) (faulty : List ℕ) (logs : Logs) (v : ℕ) (path : List ℕ) : Type 0 where
   pub front : List ℕ
   pub last : ℕ
