@@ -102,6 +102,17 @@ fn parcel(alloc: Global, header: &Header, order: u8, others: &[u8]) -> Result<Pa
     Ok(Parcel::new(bytes_of(alloc, header, order, others)?))
 }
 
+/// The chains of the frame that count, where nothing was verified before.
+fn chains_of(
+    alloc: Global,
+    header: &Header,
+    delivery: &Delivery,
+    frame: &[Parcel],
+) -> Result<Vec<SignedChain>, Fail> {
+    let mut store = VerifyStore::new(alloc)?;
+    Ok(count_frame(alloc, header, &mut store, delivery, frame)?)
+}
+
 /// The order and the number of signers of each chain of the frame that counts.
 fn counted(
     alloc: Global,
@@ -112,9 +123,8 @@ fn counted(
     let from = GeneralNo::new(from).ok_or("no general")?;
     let to = GeneralNo::new(to).ok_or("no general")?;
     let delivery = Delivery { from, to, round };
-    let mut store = VerifyStore::new(alloc)?;
     let mut counted = Vec::new(alloc);
-    for chain in &count_frame(alloc, header, &mut store, &delivery, frame)? {
+    for chain in &chains_of(alloc, header, &delivery, frame)? {
         counted.push((chain.order().get(), chain.signers().len()))?;
     }
     Ok(counted)
@@ -153,8 +163,7 @@ fn first_of_an_order_counts(rt: HostRuntime) -> Result<(), Fail> {
     frame.push(by_2)?;
     let (from, to) = (GeneralNo::at(1), GeneralNo::at(2));
     let delivery = Delivery { from, to, round: 3 };
-    let mut store = VerifyStore::new(alloc)?;
-    let chains = count_frame(alloc, &header, &mut store, &delivery, frame.as_slice())?;
+    let chains = chains_of(alloc, &header, &delivery, frame.as_slice())?;
     assert_eq!(rt; chains.len(), 1);
     assert!(rt;
         chains
