@@ -1,4 +1,5 @@
-//! What one log says of its general: where it departs from the algorithm.
+//! What one exhibit says, a log and the general whose it is said to be: how it reads, which of its
+//! signatures verify, and where it departs from the algorithm.
 //!
 //! A follower of the signed message algorithm (section 4 of L. Lamport, R. Shostak and M. Pease, "The
 //! Byzantine Generals Problem", ACM TOPLAS 4, 1982, with messages to neighbours only, as in section 5)
@@ -6,8 +7,9 @@
 //! he lengthens is up to him; all else in his log follows from what stands before it.
 //!
 //! What is promised: `departs` names exactly the first entry at which a list of entries is no longer the
-//! beginning of any log that a follower could keep in any run. What is not: that a log which
-//! departs nowhere tells the truth.
+//! beginning of any log that a follower could keep in any run; the report of an exhibit is exactly the
+//! definition's, so that there is one; and nothing is found against an exhibit exactly where it is a log
+//! that verifies for its general and that he could keep. What is not: that such a log tells the truth.
 #![tactic(auto)]
 
 mod bringing;

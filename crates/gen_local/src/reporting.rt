@@ -85,11 +85,11 @@ fn own_log(
     let mut texts = Vec::new(alloc);
     let unsigned = gather_entries(alloc, header, log.entries(), store, &mut texts)?;
     let head = head_of(header, general, &log);
-    let sealed = is_sealed(header, general, &head, log.head());
+    let verifies = is_sealed(header, general, &head, log.head());
     put_if(
         alloc,
         &mut texts,
-        sealed,
+        verifies,
         general,
         Text::OfHead(head),
         log.head(),
@@ -98,7 +98,7 @@ fn own_log(
     Ok(OwnLog {
         log,
         unsigned,
-        sealed,
+        sealed: verifies,
         departure,
         texts,
     })
