@@ -21,6 +21,7 @@ pub mod Obeying
 pub mod Plans
 pub mod Rounding
 pub mod Same
+pub mod ScriptPairs
 pub mod ScriptSets
 pub mod ScriptsOf
 pub mod SignerSteps

@@ -24,4 +24,6 @@ pub use signer_trees::SignerTree;
 #[cfg(test)]
 mod counting_tests;
 #[cfg(test)]
+mod scripted_tests;
+#[cfg(test)]
 mod tests;

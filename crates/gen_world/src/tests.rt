@@ -110,5 +110,7 @@ fn the_laws_are_there_to_be_called(_rt: HostRuntime) -> Result<(), Fail> {
     laws::world_is_run();
     laws::decisions_are_known();
     laws::steps_are_known();
+    laws::plans_are_frames();
+    laws::known_is_enough();
     Ok(())
 }
