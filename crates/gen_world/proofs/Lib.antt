@@ -30,6 +30,7 @@ pub mod Relaying
 pub mod Rounding
 pub mod SaidChains
 pub mod Same
+pub mod ScriptPairs
 pub mod ScriptSets
 pub mod ScriptsOf
 pub mod Sorting

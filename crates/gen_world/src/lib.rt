@@ -35,4 +35,6 @@ pub use world::run_world;
 #[cfg(test)]
 mod counting_tests;
 #[cfg(test)]
+mod scripted_tests;
+#[cfg(test)]
 mod tests;

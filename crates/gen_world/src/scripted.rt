@@ -36,7 +36,7 @@ pub enum Planned {
         /// The chain.
         chain: SignedChain,
     },
-    /// A parcel of bytes, which counts as no signature of his in his log.
+    /// A parcel of bytes, of which his log says nothing.
     Bytes {
         /// The neighbour who gets it.
         to: GeneralNo,
@@ -84,7 +84,7 @@ fn is_sent_in(line: &ScriptLine, at: u8) -> bool
 }
 
 /// Whether the general stands in the path.
-fn stands_in(path: &Path, general: GeneralNo) -> bool
+pub(crate) fn stands_in(path: &Path, general: GeneralNo) -> bool
     ensures { result ≡ is_among path.now general }
 {
     path.contains(general)

@@ -116,5 +116,7 @@ fn the_laws_are_there_to_be_called(_rt: HostRuntime) -> Result<(), Fail> {
     laws::rounds_are_kept();
     laws::followers_logs();
     laws::logs_verify();
+    laws::plans_are_frames();
+    laws::known_is_enough();
     Ok(())
 }
