@@ -23,8 +23,9 @@ use Rattle.gen_world.specs.Deciding.{decided_by, decision_of, decisions_of}
 use Rattle.gen_world.specs.Known.{Known, own_keys}
 use Rattle.gen_world.specs.KnownLaws.{ActAlike}
 use Rattle.gen_world.specs.Rows.{Row, row_at, rows_to, rows_in, rows_of}
-use Rattle.gen_world.specs.Seat.{Seat, RingAfter, HasBegun, keys_at, part_at, sends, with_frame}
-use Rattle.gen_world.specs.Loops.Worlds.{IsPartOf, StandsAfter, IsIn, AllAre, near_of, hears_of, rows_from, rows_first, rows_until, decided_of}
+use Rattle.gen_world.specs.Seat.{Seat, RingAfter, HasBegun, keys_at, part_at, sends, hears, with_frame}
+use Rattle.gen_world.specs.SeatLaws.{IsPartOf, IsIn, BeginsAsHe, HearsAsHe, SendsFrames, HearsFrames, DecidesAsHe}
+use Rattle.gen_world.specs.Loops.Worlds.{StandsAfter, AllAre, near_of, hears_of, rows_from, rows_first, rows_until, decided_of}
 use Rattle.gen_world.proofs.Having.{true_false}
 use Rattle.gen_world.proofs.Stepping.{one_round_more, frame_after}
 
@@ -75,15 +76,18 @@ part_same p q begun =
     ap (λ (k : Known). record { keys = keys_at q.known q.ring; me = k.me; own = k.own; script = k.script }) begun.known
     ∙ ap (λ (keys : Keys). record { keys = keys; me = p.known.me; own = p.known.own; script = p.known.script }) keys
 
+pub begins_as_he : BeginsAsHe
+begins_as_he s g p q is begun = record {
+  header = ap (λ (x : Known). x.header) begun.known ∙ is.header;
+  me = ap (λ (x : Known). x.me) begun.known ∙ is.me;
+  own = ap (λ (x : Known). x.own) begun.known ∙ is.own;
+  alike = subst (λ part. ActAlike part (part_of s g)) (sym (part_same p q begun)) is.alike;
+}
+
 pub begun_one : (s : Scenario) (k g : ℕ) (p q : Seat) → StandsAfter s k g p → HasBegun p q → IsIn s k g q × (q.heard ≡ heard_by s k g)
 begun_one s k g p q at begun = (
   record {
-    part = record {
-      header = ap (λ (x : Known). x.header) begun.known ∙ at.part.header;
-      me = ap (λ (x : Known). x.me) begun.known ∙ at.part.me;
-      own = ap (λ (x : Known). x.own) begun.known ∙ at.part.own;
-      alike = subst (λ part. ActAlike part (part_of s g)) (sym (part_same p q begun)) at.part.alike;
-    };
+    part = begins_as_he s g p q at.part begun;
     before = begun.before ∙ at.heard;
     round = begun.round ∙ ap (λ n. n + 1) at.round;
   },
@@ -101,11 +105,15 @@ near_known net b to from both = elim (bool_cases (list_any (joins to from) net.e
   ]
 ]
 
+pub sends_frames : SendsFrames
+sends_frames s k g to p is = ap (λ (heard : List Heard). frame_of (part_at p) heard p.round to) is.before ∙ ap (λ round. frame_of (part_at p) (heard_by s k g) round to) is.round ∙ is.part.alike.frames (heard_by s k g) (k + 1) to
+
+pub hears_frames : HearsFrames
+hears_frames s k g from p is = rw (is.part.header, is.part.me, is.round) refl
+
 -- the frame is that of the scenario
 frame_made : (s : Scenario) (k from to : ℕ) (p : Seat) (frame : List (List ℕ)) → IsIn s k from p → frame ≡ sends p to → frame ≡ frame_of (part_of s from) (heard_by s k from) (k + 1) to
-frame_made s k from to p frame is e =
-    let now = rw (is.before, is.round) at e in
-    now ∙ is.part.alike.frames (heard_by s k from) (k + 1) to
+frame_made s k from to p frame is e = e ∙ sends_frames s k from to p is
 
 pub hear_far : (s : Scenario) (k from to : ℕ) (xs : List Heard) → list_any (joins to from) s.net.edges ≡ false → xs ≡ xs ++ hears_of s k to (near_of s.net to (from ∷ []))
 hear_far s k from to xs far = rw far (sym (append-nil xs))
@@ -116,8 +124,7 @@ rows_far s k from to xs far = rw far (sym (append-nil xs))
 pub hear_near : (s : Scenario) (k from to : ℕ) (p pf q : Seat) (frame : List (List ℕ)) → list_any (joins to from) s.net.edges ≡ true → IsIn s k to p → IsIn s k from pf
     → frame ≡ sends pf to → q ≡ with_frame p from frame → q.heard ≡ p.heard ++ hears_of s k to (near_of s.net to (from ∷ []))
 hear_near s k from to p pf q frame near is by made hd =
-    let all = ap (λ (x : Seat). x.heard) hd in
-    let now = rw (is.part.header, is.part.me, is.round, frame_made s k from to pf frame by made) at all in
+    let now = ap (λ (x : Seat). x.heard) hd ∙ ap (λ xs. p.heard ++ hears p from xs) (frame_made s k from to pf frame by made) ∙ ap (λ (xs : List Heard). p.heard ++ xs) (hears_frames s k to from p is) in
     rw near (now ∙ ap (λ (xs : List Heard). p.heard ++ xs) (sym (append-nil (heard_of s (heard_by s k) (k + 1) to from))))
 
 pub rows_near : (s : Scenario) (k from to : ℕ) (pf : Seat) (frame : List (List ℕ)) (old new : List Row) → list_any (joins to from) s.net.edges ≡ true → IsIn s k from pf
@@ -127,13 +134,12 @@ rows_near s k from to pf frame old new near by made e =
     rw near (e ∙ ap (λ (parcels : List (List ℕ)). old ++ record { round = k + 1; from = from; to = to; parcels = parcels } ∷ []) is)
 
 -- he is still in the round
+pub hears_as_he : HearsAsHe
+hears_as_he s g from p frame is = record { header = is.header; me = is.me; own = is.own; alike = is.alike }
+
 pub hears_in : (s : Scenario) (k g from : ℕ) (p q : Seat) (frame : List (List ℕ)) → IsIn s k g p → q ≡ with_frame p from frame → IsIn s k g q
 hears_in s k g from p q frame is e =
-    let there : IsIn s k g (with_frame p from frame) = record {
-      part = record { header = is.part.header; me = is.part.me; own = is.part.own; alike = is.part.alike };
-      before = is.before;
-      round = is.round;
-    } in
+    let there : IsIn s k g (with_frame p from frame) = record { part = hears_as_he s g from p frame is.part; before = is.before; round = is.round } in
     subst (λ x. IsIn s k g x) (sym e) there
 
 -- ---- all frames
@@ -241,9 +247,12 @@ rows_all s n xs stop e = e ∙ ap (λ k. flat_map (rows_in s) (range_with_len 1 
 
 -- ---- the decisions
 
+pub decides_as_he : DecidesAsHe
+decides_as_he s g p is heard = rw (is.header, is.me, is.own, heard) refl
+
 pub decided_at : (s : Scenario) (p : Seat) (d : Decision) → StandsAfter s (rounds s.net) p.known.me p → d ≡ decided_by p.known.header.network p.known.me p.known.own p.heard
     → d ≡ decision_of s p.known.me
-decided_at s p d at e = rw (at.part.header, at.part.own, at.heard) at e
+decided_at s p d at e = e ∙ decides_as_he s p.known.me p at.part at.heard
 
 pub decided_more : (s : Scenario) (n : ℕ) (old new : List Decision) → old ≡ decided_of s (range_with_len 0 n) → new ≡ old ++ decided_of s (n ∷ []) → new ≡ decided_of s (range_with_len 0 (n + 1))
 decided_more s n old new before e =

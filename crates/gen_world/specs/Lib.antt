@@ -17,6 +17,7 @@ pub mod RoundsKept
 pub mod Rows
 pub mod Scenario
 pub mod Seat
+pub mod SeatLaws
 pub mod SignedLaw
 pub mod SignedWorld
 pub mod SignerTrees

@@ -7,6 +7,7 @@ ghost use Rattle.gen_world.specs.Derivables.{ProlongedByFaulty, SignedByFaulty};
 ghost use Rattle.gen_world.specs.HeardLaws.{CountedAreChains, HeardInRound, HeardIsKnown};
 ghost use Rattle.gen_world.specs.LogsVerify.{AllVerify};
 ghost use Rattle.gen_world.specs.RoundsKept.{FrameKept, SendEntriesKept, SignEntriesKept, SignsKept};
+ghost use Rattle.gen_world.specs.SeatLaws.{StartsAsHe, BeginsAsHe, HearsAsHe, SendsFrames, HearsFrames, DecidesAsHe};
 ghost use Rattle.gen_world.specs.SignedLaw.{NoRawIsSigned, TheoremHoldsOfScenarios};
 ghost use Rattle.gen_world.specs.Steps.{MessagesCount, OneRoundMore, FrameAfter, OneSignerMore, BegunByCommander};
 ghost use Rattle.gen_world.specs.KnownLaws.{KeysAreEnough, KnownTreesAreEnough, OwnSeedIsEnough};
@@ -161,4 +162,17 @@ pub fn known_is_enough()
     ensures enough { KeysAreEnough }
     ensures follower { OwnSeedIsEnough }
     ensures traitor { KnownTreesAreEnough }
+{}
+
+/// Who is driven as a scenario says stands in its run, whoever drives him: with what he knows of the scenario and his own ring he
+/// is its general (`start`), and stays it when a round begins (`begin`) and when he hears (`hear`); in a round before which he
+/// heard what the scenario has him hear, he sends the frames of the run (`frames`) and hears of them what the scenario has him
+/// hear (`heard`); and after the last round he decides what it has him decide (`decide`).
+pub fn participants_are_generals()
+    ensures start { StartsAsHe }
+    ensures begin { BeginsAsHe }
+    ensures hear { HearsAsHe }
+    ensures frames { SendsFrames }
+    ensures heard { HearsFrames }
+    ensures decide { DecidesAsHe }
 {}

@@ -6,7 +6,8 @@ ghost use Rattle.gen_world.specs.Deciding.{decisions_of};
 ghost use Rattle.gen_world.specs.Rows.{rows_of, rows_in, rows_to};
 ghost use Rattle.gen_world.specs.Seat.{Seat};
 ghost use Rattle.gen_world.specs.SignedLaw.{IsBounded, AreAlike};
-ghost use Rattle.gen_world.specs.Loops.Worlds.{StandsAfter, IsIn, AllAre, AllStand, AllBegun, ring_at, near_of, hears_of, rows_from, rows_first, rows_until, decided_of};
+ghost use Rattle.gen_world.specs.SeatLaws.{IsIn};
+ghost use Rattle.gen_world.specs.Loops.Worlds.{StandsAfter, AllAre, AllStand, AllBegun, ring_at, near_of, hears_of, rows_from, rows_first, rows_until, decided_of};
 
 use crate::laws::theorem_holds_of_scenarios;
 use crate::participants::Participant;

@@ -8,31 +8,18 @@ use Rattle.gen_net.specs.Edges.{joins}
 use Rattle.gen_script.specs.declared.lines.ScriptLine.{ScriptLine}
 use Rattle.gen_world.specs.declared.hearing.Heard.{Heard}
 use Rattle.gen_world.specs.declared.scenario.Decision.{Decision}
-use Rattle.gen_world.specs.Scenario.{Scenario, header_of, has_script, script_of}
-use Rattle.gen_world.specs.KnownLaws.{ActAlike}
-use Rattle.gen_world.specs.SignedWorld.{part_of, own_order, heard_of, heard_by}
+use Rattle.gen_world.specs.Scenario.{Scenario, has_script, script_of}
+use Rattle.gen_world.specs.SignedWorld.{heard_of, heard_by}
 use Rattle.gen_world.specs.Deciding.{decision_of}
 use Rattle.gen_world.specs.Rows.{Row, row_at, rows_to, rows_in}
-use Rattle.gen_world.specs.Seat.{Seat, part_at}
+use Rattle.gen_world.specs.Seat.{Seat}
+use Rattle.gen_world.specs.SeatLaws.{IsPartOf, IsIn}
 
--- he is this general of the scenario: he knows its header, his number and his order, and acts as it says
-pub record IsPartOf (s : Scenario) (g : ℕ) (p : Seat) : Type 0 where
-  pub header : p.known.header ≡ header_of s
-  pub me : p.known.me ≡ g
-  pub own : p.known.own ≡ own_order s g
-  pub alike : ActAlike (part_at p) (part_of s g)
-
--- he is, after the first k rounds
+-- he stands as this general of the scenario after the first k rounds
 pub record StandsAfter (s : Scenario) (k g : ℕ) (p : Seat) : Type 0 where
   pub part : IsPartOf s g p
   pub heard : p.heard ≡ heard_by s k g
   pub round : p.round ≡ k
-
--- in the round after the first k
-pub record IsIn (s : Scenario) (k g : ℕ) (p : Seat) : Type 0 where
-  pub part : IsPartOf s g p
-  pub before : p.before ≡ heard_by s k g
-  pub round : p.round ≡ k + 1
 
 -- with the ring of his seed, if he has no script
 abbrev pub ring_under : Scenario → ℕ → Option (List ScriptLine) → Option Ring

@@ -1,7 +1,8 @@
 use Rattle.std.proofs.Common.{◌≡◌, ◌≤◌, ◌<◌, ℕ, length, slice_index_or}
 use Rattle.gen_world.specs.SignedWorld.{heard_by}
 use Rattle.gen_world.specs.Seat.{Seat}
-use Rattle.gen_world.specs.Loops.Worlds.{StandsAfter, IsIn}
+use Rattle.gen_world.specs.SeatLaws.{IsIn}
+use Rattle.gen_world.specs.Loops.Worlds.{StandsAfter}
 use Rattle.gen_world.proofs.world.begin_all.Given as goal
 
 abbrev pub invariant-parts : goal.invariant-parts

@@ -1,7 +1,8 @@
 use Rattle.std.proofs.Common.{◌≡◌, ◌+◌, ◌≤◌, ◌<◌, ◌++◌, ℕ, slice_index_or}
 use Rattle.gen_world.specs.SignedWorld.{heard_by}
 use Rattle.gen_world.specs.Seat.{Seat}
-use Rattle.gen_world.specs.Loops.Worlds.{IsIn, AllAre, rows_first}
+use Rattle.gen_world.specs.SeatLaws.{IsIn}
+use Rattle.gen_world.specs.Loops.Worlds.{AllAre, rows_first}
 use Rattle.gen_world.proofs.world.hear_all.Given as goal
 
 abbrev pub invariant-receivers : goal.invariant-receivers

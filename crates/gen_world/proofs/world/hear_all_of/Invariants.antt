@@ -1,7 +1,8 @@
 use Rattle.std.proofs.Common.{◌≡◌, ◌≢◌, ◌++◌, ℕ, slice_index_or}
 use Rattle.std.specs.List.{range_with_len}
 use Rattle.gen_world.specs.Seat.{Seat}
-use Rattle.gen_world.specs.Loops.Worlds.{IsIn, AllAre, near_of, hears_of, rows_from}
+use Rattle.gen_world.specs.SeatLaws.{IsIn}
+use Rattle.gen_world.specs.Loops.Worlds.{AllAre, near_of, hears_of, rows_from}
 use Rattle.gen_world.proofs.world.hear_all_of.Given as goal
 
 abbrev pub invariant-senders : goal.invariant-senders

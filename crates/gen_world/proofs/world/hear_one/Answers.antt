@@ -4,7 +4,8 @@ use Rattle.std.proofs.lemmas.List.{get_or_default}
 use Rattle.gen_types.proofs.Lists.{bool_cases}
 use Rattle.gen_net.specs.Edges.{joins}
 use Rattle.gen_world.specs.Seat.{Seat}
-use Rattle.gen_world.specs.Loops.Worlds.{IsIn, hears_of, near_of}
+use Rattle.gen_world.specs.SeatLaws.{IsIn}
+use Rattle.gen_world.specs.Loops.Worlds.{hears_of, near_of}
 use Rattle.gen_world.proofs.Worlds.{near_known, hear_far, rows_far, hear_near, rows_near, at_same}
 use Rattle.gen_world.proofs.world.hear_one.Goals as goal
 
