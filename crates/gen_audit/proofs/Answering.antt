@@ -9,7 +9,9 @@ use Rattle.gen_world.specs.declared.scenario.Decision.{Decision}
 use Rattle.gen_audit.specs.Bundle.{LogBundle, IsBundle}
 use Rattle.gen_audit.specs.Findings.{IsFinding}
 use Rattle.gen_audit.specs.Supported.{IsClean, IsSupported, AgreeOn}
-use Rattle.gen_audit.specs.Verdict.{AreDecisions, Verdict, Agreed, Explained, No, IsVerdict, OneVerdict}
+use Rattle.gen_audit.specs.declared.verdicts.Verdict.{Verdict}
+use Rattle.gen_audit.specs.declared.verdicts.Verdict.TheVariants.{Agreed, Explained, No}
+use Rattle.gen_audit.specs.Verdict.{AreDecisions, IsVerdict, OneVerdict}
 use Rattle.gen_audit.specs.Headline.{Headline, HeadlineHolds}
 use Rattle.gen_audit.proofs.Supporting.{clean_is_supported}
 

@@ -12,7 +12,8 @@ use Rattle.gen_match.specs.Matching.{Logged}
 use Rattle.gen_audit.specs.Bundle.{LogBundle, logs_of}
 use Rattle.gen_audit.specs.Findings.{IsOfRest}
 use Rattle.gen_audit.specs.Supported.{IsClean, IsSupported}
-use Rattle.gen_audit.specs.Verdict.{IsDecision, AreDecisions, Agreed, Explained, No, EachDecidedOnce, VerdictExists}
+use Rattle.gen_audit.specs.declared.verdicts.Verdict.TheVariants.{Agreed, Explained, No}
+use Rattle.gen_audit.specs.Verdict.{IsDecision, AreDecisions, EachDecidedOnce, VerdictExists}
 use Rattle.gen_audit.proofs.Agreeing.{has_decide, same_log}
 use Rattle.gen_audit.proofs.Supporting.{clean_is_supported, clean_agrees}
 

@@ -24,7 +24,9 @@ use Rattle.gen_world.proofs.TraitorFrames.{no_raw_is_signed}
 use Rattle.gen_world.proofs.VerifiedLogs.{all_verify}
 use Rattle.gen_audit.specs.Bundle.{exhibits_of, logs_of}
 use Rattle.gen_audit.specs.Supported.{HasSoleLog, IsSupported}
-use Rattle.gen_audit.specs.Verdict.{Verdict, Agreed, Explained, No, IsVerdict}
+use Rattle.gen_audit.specs.declared.verdicts.Verdict.{Verdict}
+use Rattle.gen_audit.specs.declared.verdicts.Verdict.TheVariants.{Agreed, Explained, No}
+use Rattle.gen_audit.specs.Verdict.{IsVerdict}
 use Rattle.gen_audit.specs.Headline.{IsYes}
 use Rattle.gen_audit.specs.WorldBundle.{shown_by, bundle_of, IsAcceptable, WorldIsSupported, WorldIsAccepted, ShownAreLogs}
 use Rattle.gen_audit.proofs.Supporting.{counts, supported_is_clean}

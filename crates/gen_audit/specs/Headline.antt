@@ -2,7 +2,9 @@
 use Rattle.std.specs.Prelude.{ℕ, ◌≡◌, ◌↔◌}
 use Rattle.gen_audit.specs.Bundle.{LogBundle, IsBundle}
 use Rattle.gen_audit.specs.Supported.{IsSupported, HasFew, AgreeOn}
-use Rattle.gen_audit.specs.Verdict.{Verdict, Agreed, Explained, No, IsVerdict}
+use Rattle.gen_audit.specs.declared.verdicts.Verdict.{Verdict}
+use Rattle.gen_audit.specs.declared.verdicts.Verdict.TheVariants.{Agreed, Explained, No}
+use Rattle.gen_audit.specs.Verdict.{IsVerdict}
 
 -- the verdict is a yes
 abbrev pub IsYes : Verdict → Type 0

@@ -5,6 +5,8 @@ use Rattle.gen_world.specs.declared.scenario.Decision.{Decision}
 use Rattle.gen_match.specs.declared.finding.Finding.{Finding}
 use Rattle.gen_match.specs.Findings.{AreFindings}
 use Rattle.gen_match.specs.Matching.{Logged}
+use Rattle.gen_audit.specs.declared.verdicts.Verdict.{Verdict}
+use Rattle.gen_audit.specs.declared.verdicts.Verdict.TheVariants.{Agreed, Explained, No}
 use Rattle.gen_audit.specs.Bundle.{LogBundle, IsBundle, logs_of}
 use Rattle.gen_audit.specs.Findings.{IsOfRest, IsFinding}
 use Rattle.gen_audit.specs.Supported.{IsClean, IsSupported, HasFew, AgreeOn}
@@ -17,12 +19,6 @@ IsDecision b d = IsOfRest b d.general × Logged (logs_of b) d.general (Decided d
 pub record AreDecisions (b : LogBundle) (decisions : List Decision) : Type 0 where
   pub in_order : AllPairs (λ x y. x.general < y.general) decisions
   pub members : (d : Decision) → Contains decisions d ↔ IsDecision b d
-
--- yes, all agreed on this order; yes, and they decided so; no, and this is found
-pub data Verdict : Type 0 where
-  Agreed : (order : ℕ) → Verdict
-  Explained : (decisions : List Decision) → Verdict
-  No : (findings : List Finding) → Verdict
 
 -- The verdict is the bundle's: no with all that is found, if anything is; else, with at most m held for faulty, the order on
 -- which the rest agree; else what each of them decided.

@@ -11,7 +11,8 @@ use Rattle.gen_world.specs.WorldLogs as worlds
 use Rattle.gen_local.specs.Shown.{ShownLog}
 use Rattle.gen_audit.specs.Bundle.{LogBundle}
 use Rattle.gen_audit.specs.Supported.{IsSupported}
-use Rattle.gen_audit.specs.Verdict.{Verdict, IsVerdict}
+use Rattle.gen_audit.specs.declared.verdicts.Verdict.{Verdict}
+use Rattle.gen_audit.specs.Verdict.{IsVerdict}
 use Rattle.gen_audit.specs.Headline.{IsYes}
 
 -- the logs of a general, shown as his

@@ -11,6 +11,12 @@
 //! all of them.
 #![tactic(auto)]
 
+mod bundles;
 pub mod laws;
+mod verdicts;
+
+pub use bundles::Bundle;
+pub use verdicts::{Decisions, Findings, Verdict};
+
 #[cfg(test)]
 mod tests;

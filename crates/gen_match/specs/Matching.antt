@@ -4,6 +4,8 @@ use Rattle.std.specs.Prelude.{ℕ, ◌≡◌, ◌<◌, ◌⊎◌, List, [], ◌�
 use Rattle.gen_net.specs.Network.{Network, IsLoyal}
 use Rattle.gen_types.specs.Ends.{BeginsWith}
 use Rattle.gen_net.specs.Log.{LogEntry, Sent, Received}
+use Rattle.gen_match.specs.declared.finding.Finding.{Finding}
+use Rattle.gen_match.specs.declared.finding.Finding.TheVariants.{Unmatched, Underivable}
 
 -- The logs that are matched: for each general the entries of his log, if he has one that counts.
 abbrev pub Logs : Type 0
@@ -65,3 +67,13 @@ pub record IsUnderivable (net : Network) (faulty : List ℕ) (logs : Logs) (a b 
   pub round : length path ≡ l
   pub received : Logged logs b (Received a v path)
   pub forged : IsDerivableFromLogs net faulty logs v path → ⊥
+
+-- the finding is that a message stands in one log alone
+abbrev pub FindsUnmatched : Network → List ℕ → Logs → Finding → Type 0
+FindsUnmatched net faulty logs (Unmatched a b l v) = IsUnmatched net faulty logs a b l v
+FindsUnmatched net faulty logs _ = ⊥
+
+-- the finding is that a received chain derives from nothing that the rest sent
+abbrev pub FindsUnderivable : Network → List ℕ → Logs → Finding → Type 0
+FindsUnderivable net faulty logs (Underivable a b l v) = IsUnderivable net faulty logs a b l v
+FindsUnderivable net faulty logs _ = ⊥

@@ -1,5 +1,6 @@
 -- The logs that reports of exhibits tell.
-use Rattle.std.specs.Prelude.{ℕ, ◌==◌, List, [], ◌∷◌, filter, Option, Some, None}
+use Rattle.std.specs.Prelude.{ℕ, ◌≡◌, ◌==◌, List, [], ◌∷◌, filter, Contains, Option, Some, None}
+use Rattle.gen_net.specs.Header.{RunHeader}
 use Rattle.gen_net.specs.Log.{LogEntry}
 use Rattle.gen_local.specs.declared.reading.Reading.{Reading}
 use Rattle.gen_local.specs.declared.reading.Reading.TheVariants.{Unreadable, Foreign, Own}
@@ -25,3 +26,7 @@ reports_of reports g = filter (λ r. r.exhibit.general == g) reports
 -- the logs that reports tell
 abbrev pub told_logs : List Report → Logs
 told_logs reports g = sole_told (reports_of reports g)
+
+-- each report is made under this header
+abbrev pub AreUnder : RunHeader → List Report → Type 0
+AreUnder header reports = (r : Report) → Contains reports r → r.header ≡ header

@@ -13,6 +13,7 @@ pub mod KnownLaws
 pub mod Loops
 pub mod Planned
 pub mod RoundEntries
+pub mod Recording
 pub mod RoundsKept
 pub mod Rows
 pub mod Scenario
