@@ -19,6 +19,7 @@ mod signer_trees;
 mod signing;
 mod traitors;
 mod world;
+mod world_decisions;
 
 pub use counting::{Delivery, count_frame};
 pub use hearing::Heard;
@@ -31,6 +32,7 @@ pub use scripted::Planned;
 pub use signed::Scenario;
 pub use signer_trees::SignerTree;
 pub use world::run_world;
+pub use world_decisions::decide_world;
 
 #[cfg(test)]
 mod counting_tests;

@@ -11,7 +11,7 @@ use crate::ends::{JobEnd, JobFault};
 use crate::transfer::{InputFault, read_all, write_output};
 use gen_report::{ScenarioFault, ScenarioText, print_decisions, read_scenario};
 use gen_types::ReadError;
-use gen_world::{run_plain, run_world};
+use gen_world::{decide_world, run_plain};
 use std::alloc::{AllocError, Global};
 use std::io::{Read, Write};
 
@@ -26,8 +26,8 @@ fn decisions_of(alloc: Global, told: ScenarioText) -> Result<Vec<u8>, AllocError
             print_decisions(alloc, run.decisions())
         }
         ScenarioText::Signed(signed) => {
-            let run = run_world(alloc, &signed.into_scenario(alloc)?)?;
-            print_decisions(alloc, run.decisions())
+            let decisions = decide_world(alloc, &signed.into_scenario(alloc)?)?;
+            print_decisions(alloc, decisions.as_slice())
         }
     }
 }

@@ -1,0 +1,7 @@
+use Rattle.std.proofs.Common.{◌≡◌}
+use Rattle.std.specs.List.{range_with_len}
+use Rattle.gen_world.specs.Loops.Worlds.{decided_of}
+use Rattle.gen_world.proofs.world_decisions.decide_all.Given as goal
+
+abbrev pub invariant-parts : goal.invariant-parts
+invariant-parts l = l.decisions.items ≡ decided_of l.scenario (range_with_len 0 l.index)

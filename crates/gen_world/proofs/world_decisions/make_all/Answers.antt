@@ -1,0 +1,18 @@
+use Rattle.std.proofs.Common.{arith}
+use Rattle.gen_world.specs.Loops.Worlds.{StandsAfter}
+use Rattle.gen_world.proofs.Worlds.{pushed_each, length_pushed}
+use Rattle.gen_world.proofs.world_decisions.make_all.Goals as goal
+
+pub generals-preserved : goal.generals-preserved
+generals-preserved c =
+    let s = c.args.scenario.now in
+    let n = c.generals.number in
+    let items = rw c.unwrap.ensures at c.push.ensures.items in
+    let len = rw c.unwrap.ensures at c.push.ensures.len in
+    let made = rw c.at.ensures at c.in_ok-part.ensures in
+    record {
+      count = length_pushed c.generals.parts.items c.push.new.self.items n c.in_ok-part.part c.generals.invariant.count items;
+      len = omega (arith, len, c.generals.invariant.len);
+      room = omega (arith, c.push.ensures.capacity, c.generals.invariant.room);
+      each = pushed_each (StandsAfter s 0) c.generals.parts.items c.push.new.self.items n c.in_ok-part.part c.generals.invariant.count items c.generals.invariant.each made;
+    }

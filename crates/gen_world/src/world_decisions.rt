@@ -1,0 +1,223 @@
+//! The decisions in the run of a scenario, of which nothing else is kept.
+ghost use Rattle.std.specs.Prelude.{◌≡◌, ◌≢◌, ◌<◌, ◌+◌, ◌++◌, [], ◌∷◌, ℕ, length, slice_index_or, IfOk, OnOk};
+ghost use Rattle.std.specs.List.{range_with_len};
+ghost use Rattle.gen_net.specs.Network.{rounds};
+ghost use Rattle.gen_world.specs.Deciding.{decisions_of};
+ghost use Rattle.gen_world.specs.Seat.{Seat};
+ghost use Rattle.gen_world.specs.SignedLaw.{IsBounded, AreAlike};
+ghost use Rattle.gen_world.specs.SeatLaws.{IsIn};
+ghost use Rattle.gen_world.specs.Loops.Worlds.{StandsAfter, AllAre, AllStand, AllBegun, ring_at, near_of, hears_of, decided_of};
+
+use crate::laws::theorem_holds_of_scenarios;
+use crate::participants::Participant;
+use crate::scenario::Decision;
+use crate::signed::Scenario;
+use crate::world::{close_ring, ring_for};
+use gen_types::GeneralNo;
+use std::alloc::{AllocError, Global};
+
+/// Closes the rings of all.
+fn close_all(mut parts: Vec<Participant>) {
+    while let Some(part) = parts.pop() {
+        close_ring(part.close());
+    }
+    parts.destroy_empty();
+}
+
+/// Makes a general of the scenario, as he is before the first round.
+fn participant_of(
+    alloc: Global,
+    scenario: &Scenario,
+    general: GeneralNo,
+) -> Result<Participant, AllocError>
+    requires { general < scenario.now.net.generals }
+    ensures { IfOk result (λ part. StandsAfter scenario.now 0 general part) }
+{
+    let _lawful = scenario.header();
+    let part = scenario.part(alloc, general)?;
+    let ring = ring_for(scenario, general)?;
+    match Participant::new(alloc, part, ring) {
+        Ok(participant) => Ok(participant),
+        Err(ring) => {
+            close_ring(ring);
+            Err(AllocError)
+        }
+    }
+}
+
+/// Makes all generals as they are before the first round.
+fn make_all(
+    alloc: Global,
+    scenario: &Scenario,
+    parts: &mut Vec<Participant>,
+) -> Result<(), AllocError>
+    requires { parts.old.items ≡ [] }
+    ensures { OnOk result (AllStand scenario.now 0 parts.new.items) }
+{
+    let generals = scenario.header().net().generals();
+    parts.reserve(usize::from(generals))?;
+    'generals: for number in 0..generals {
+        let part = participant_of(alloc, scenario, GeneralNo::at(number))?;
+        parts.push(part).unwrap();
+    }
+    Ok(())
+}
+
+/// Begins the round after the first ones, for each.
+fn begin_all(
+    alloc: Global,
+    scenario: &Scenario,
+    gone: u8,
+    parts: &mut Vec<Participant>,
+) -> Result<(), AllocError>
+    requires gone { gone < rounds scenario.now.net }
+    requires all { AllStand scenario.now gone parts.old.items }
+    ensures { OnOk result (AllBegun scenario.now gone parts.new.items) }
+{
+    'parts: for index in 0..parts.len() {
+        parts[index].begin_round(alloc)?;
+    }
+    Ok(())
+}
+
+/// The frame from one general to another is made and heard, where they are neighbours.
+fn hear_one(
+    alloc: Global,
+    scenario: &Scenario,
+    gone: u8,
+    parts: &mut Vec<Participant>,
+    from: GeneralNo,
+    to: GeneralNo,
+) -> Result<(), AllocError>
+    requires gone { gone < rounds scenario.now.net }
+    requires from { from < scenario.now.net.generals }
+    requires to { to < scenario.now.net.generals }
+    requires all { AllAre (IsIn scenario.now gone) scenario.now.net.generals parts.old.items }
+    ensures all { OnOk result (AllAre (IsIn scenario.now gone) scenario.now.net.generals parts.new.items) }
+    ensures heard { OnOk result ((d : Seat) → (slice_index_or parts.new.items to d).heard
+        ≡ (slice_index_or parts.old.items to d).heard
+        ++ hears_of scenario.now gone to (near_of scenario.now.net to (from ∷ []))) }
+    ensures others { OnOk result ((g : ℕ) (d : Seat) → g ≢ to
+        → slice_index_or parts.new.items g d ≡ slice_index_or parts.old.items g d) }
+{
+    let _rounds = scenario.header().net().rounds();
+    if !scenario.header().net().has_edge(to, from) {
+        return Ok(());
+    }
+    let parcels = parts[usize::from(from.get())].frame_for(alloc, to)?;
+    parts[usize::from(to.get())].hear(alloc, from, parcels.as_slice())?;
+    Ok(())
+}
+
+/// All frames of a round to one general are made and heard.
+fn hear_all_of(
+    alloc: Global,
+    scenario: &Scenario,
+    gone: u8,
+    parts: &mut Vec<Participant>,
+    to: GeneralNo,
+) -> Result<(), AllocError>
+    requires gone { gone < rounds scenario.now.net }
+    requires to { to < scenario.now.net.generals }
+    requires all { AllAre (IsIn scenario.now gone) scenario.now.net.generals parts.old.items }
+    ensures all { OnOk result (AllAre (IsIn scenario.now gone) scenario.now.net.generals parts.new.items) }
+    ensures heard { OnOk result ((d : Seat) → (slice_index_or parts.new.items to d).heard
+        ≡ (slice_index_or parts.old.items to d).heard ++ hears_of scenario.now gone to
+        (near_of scenario.now.net to (range_with_len 0 scenario.now.net.generals))) }
+    ensures others { OnOk result ((g : ℕ) (d : Seat) → g ≢ to
+        → slice_index_or parts.new.items g d ≡ slice_index_or parts.old.items g d) }
+{
+    'senders: for number in 0..scenario.header().net().generals() {
+        let from = GeneralNo::at(number);
+        hear_one(alloc, scenario, gone, parts, from, to)?;
+    }
+    Ok(())
+}
+
+/// All frames of a round are made and heard.
+fn hear_all(
+    alloc: Global,
+    scenario: &Scenario,
+    gone: u8,
+    parts: &mut Vec<Participant>,
+) -> Result<(), AllocError>
+    requires gone { gone < rounds scenario.now.net }
+    requires all { AllBegun scenario.now gone parts.old.items }
+    ensures all { OnOk result (AllStand scenario.now (gone + 1) parts.new.items) }
+{
+    'receivers: for number in 0..scenario.header().net().generals() {
+        let to = GeneralNo::at(number);
+        hear_all_of(alloc, scenario, gone, parts, to)?;
+    }
+    Ok(())
+}
+
+/// Appends what a general decides, after the last round, where he has no script.
+fn add_decision(
+    scenario: &Scenario,
+    part: &Participant,
+    decisions: &mut Vec<Decision>,
+) -> Result<(), AllocError>
+    requires { StandsAfter scenario.now (rounds scenario.now.net) part.now.known.me part.now }
+    ensures { OnOk result (decisions.new.items
+        ≡ decisions.old.items ++ decided_of scenario.now (part.now.known.me ∷ [])) }
+{
+    if !scenario.has_script(part.me()) {
+        decisions.push(part.decide())?;
+    }
+    Ok(())
+}
+
+/// What all decide after the last round who have no scripts.
+fn decide_all(
+    alloc: Global,
+    scenario: &Scenario,
+    parts: &[Participant],
+) -> Result<Vec<Decision>, AllocError>
+    requires { AllStand scenario.now (rounds scenario.now.net) parts.now }
+    ensures { IfOk result (λ decisions. decisions.items ≡ decisions_of scenario.now) }
+{
+    let mut decisions = Vec::new(alloc);
+    'parts: for index in 0..parts.len() {
+        add_decision(scenario, &parts[index], &mut decisions)?;
+    }
+    Ok(decisions)
+}
+
+/// Runs all rounds with generals who have to be closed, whatever comes.
+fn decide_rounds(
+    alloc: Global,
+    scenario: &Scenario,
+    parts: &mut Vec<Participant>,
+) -> Result<Vec<Decision>, AllocError>
+    requires { parts.old.items ≡ [] }
+    ensures { IfOk result (λ decisions. decisions.items ≡ decisions_of scenario.now) }
+{
+    make_all(alloc, scenario, parts)?;
+    'rounds: for gone in 0..scenario.header().net().rounds() {
+        begin_all(alloc, scenario, gone, parts)?;
+        hear_all(alloc, scenario, gone, parts)?;
+    }
+    decide_all(alloc, scenario, parts.as_slice())
+}
+
+/// Returns what all decide in the run of a scenario who have no scripts, in ascending order of generals. No log
+/// is kept, and each frame is let go once it was heard. All rings are closed, also where memory is refused.
+///
+/// # Errors
+///
+/// `AllocError` where memory is refused.
+pub fn decide_world(alloc: Global, scenario: &Scenario) -> Result<Vec<Decision>, AllocError>
+    ensures decisions { IfOk result (λ decisions. decisions.items ≡ decisions_of scenario.now) }
+    // Theorem 4 of the paper of 1982: with at most m traitors, none of whom sends bytes of his own, and
+    // any two of the rest joined inside the rest by at most d edges, the rest decide alike.
+    ensures alike { IsBounded scenario.now
+        → IfOk result (λ decisions. AreAlike scenario.now decisions.items) }
+{
+    theorem_holds_of_scenarios();
+    let _lawful = scenario.header();
+    let mut parts = Vec::new(alloc);
+    let decisions = decide_rounds(alloc, scenario, &mut parts);
+    close_all(parts);
+    decisions
+}
