@@ -220,9 +220,9 @@ count_law net capacity acts ok all =
       counted = omega (arith, counted net capacity acts (at_start net) all (machine_at_start net capacity), sum_start net.generals);
       at_most = omega (arith, sum_below (λ g. length (acts_of net g)) places 0 (λ i l. rw zero-add (m.within i)), bounds (length places) long);
       in_all = λ done.
-        let low = sum_below (λ g. length (acts_of net g)) places 0 (λ i l. rw zero-add (m.within i)) in
-        let high = sum_above (λ g. length (acts_of net g)) places 0 (λ i l. rw zero-add (stands_at_end net ok places i (done i (omega (arith, long, l)))).all) in
-        omega (arith, low, high, bounds (length places) long);
+          let low = sum_below (λ g. length (acts_of net g)) places 0 (λ i l. rw zero-add (m.within i)) in
+          let high = sum_above (λ g. length (acts_of net g)) places 0 (λ i l. rw zero-add (stands_at_end net ok places i (done i (omega (arith, long, l)))).all) in
+          omega (arith, low, high, bounds (length places) long);
     }
 
 degree_small : (net : Network) → IsNetwork net → (g : ℕ) → degree (range_with_len 0 net.generals) net.edges g ≤ 16

@@ -38,15 +38,12 @@ joined_any a b (x ∷ xs) e j h = elim (Contains_cases x e xs h) [
 ]
 
 pub neighbours_ascend : (net : Network) (g : ℕ) → AllPairs (λ a b. a < b) (neighbours_of net g)
-
 neighbours_ascend net g = filter_range_ascending (λ h. list_any (joins g h) net.edges) 0 net.generals
 
 pub neighbour_joined : (net : Network) (g h : ℕ) → Contains (neighbours_of net g) h → AreNeighbours net g h
-
 neighbour_joined net g h k = any_joins g h net.edges ((filter_range_has (λ x. list_any (joins g x) net.edges) 0 net.generals h k).2)
 
 pub joined_neighbour : (net : Network) → IsNetwork net → (g h : ℕ) → AreNeighbours net g h → Contains (neighbours_of net g) h
-
 joined_neighbour net ok g h joined =
     let holds : list_any (joins g h) net.edges ≡ true = elim joined [ inl k ↦ joined_any g h net.edges (g, h) (joins_one g h) k | inr k ↦ joined_any g h net.edges (h, g) (joins_other g h) k ] in
     filter_range_gives (λ x. list_any (joins g x) net.edges) 0 net.generals h (omega arith) (omega (arith, joined_below net ok g h joined)) holds

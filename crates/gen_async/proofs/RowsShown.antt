@@ -1,7 +1,6 @@
 -- The rows, by computing.
 use Rattle.std.proofs.Common.{refl}
 use Rattle.gen_async.specs.Acts.{acts_of}
-use Rattle.gen_world.specs.SignedWorld.{neighbours_of}
 use Rattle.gen_async.specs.Machine.{moved_acts, next_act, put, taken, answer, step, mover}
 use Rattle.gen_async.specs.Rows.{PairRow, PairEnds, TriangleRow, TriangleTwo}
 

@@ -178,9 +178,9 @@ module _ {F : Type 0} (net : Network) (says : ℕ → List (Arrival F) → ℕ �
       let at_put = stands_at_put net ok s.places g l h next in
       let frame : says g (s.taken g) l h ≡ world l g h = ap (λ z. says g z l h) (w.taken_same g ∙ heard_before_put net world s.places g l h ok next) ∙ sym (made g l h at_put.first at_put.last at_put.joined) in
       let longer : s.queues g h ++ says g (s.taken g) l h ∷ [] ≡ queue net world (one_on s.places g) g h =
-          ap (λ z. z ++ says g (s.taken g) l h ∷ []) (w.queues_same g h)
-          ∙ ap (λ z. queue net world s.places g h ++ z ∷ []) frame
-          ∙ sym (queue_longer net world s.places (one_on s.places g) g h l (m.not_below g h) at_put.here (put_here net s.places g inside l h next) (taken_after_put net s.places g inside l h next g h)) in
+      ap (λ z. z ++ says g (s.taken g) l h ∷ []) (w.queues_same g h)
+      ∙ ap (λ z. queue net world s.places g h ++ z ∷ []) frame
+      ∙ sym (queue_longer net world s.places (one_on s.places g) g h l (m.not_below g h) at_put.here (put_here net s.places g inside l h next) (taken_after_put net s.places g inside l h next g h)) in
       record {
         queues_same = λ a b. elim (cases_Bool (a == g && b == h)) [
           | inl e ↦
@@ -256,11 +256,11 @@ module _ {F : Type 0} (net : Network) (says : ℕ → List (Arrival F) → ℕ �
         | inl e ↦
             let free : length (s.queues g h) < capacity = ltb-true (length (s.queues g h)) capacity e in
             subst (λ z. StepsAsWorld net world (step net capacity s.places g) z) (sym (cond-true (ltb (length (s.queues g h)) capacity) grown s e))
-              (record { places_same = sym (put_steps net capacity s.places g l h next (omega arith)); world_holds = put_runs s g l h below m w next })
+            (record { places_same = sym (put_steps net capacity s.places g l h next (omega arith)); world_holds = put_runs s g l h below m w next })
         | inr e ↦
             let is_full : capacity ≤ length (s.queues g h) = ltb-false (length (s.queues g h)) capacity e in
             subst (λ z. StepsAsWorld net world (step net capacity s.places g) z) (sym (cond-false (ltb (length (s.queues g h)) capacity) grown s e))
-              (record { places_same = sym (put_stays net capacity s.places g l h next (omega arith)); world_holds = w })
+            (record { places_same = sym (put_stays net capacity s.places g l h next (omega arith)); world_holds = w })
       ]
 
   step_at : (s : Running F) (g : ℕ) → g < net.generals → IsMachine net capacity s.places → IsOfWorld net world s → StepsAsWorld net world (step net capacity s.places g) (run_step net says capacity s g)
@@ -273,16 +273,16 @@ module _ {F : Type 0} (net : Network) (says : ℕ → List (Arrival F) → ℕ �
       let below : g < net.generals = All-head (λ x. x < net.generals) g acts all in
       let here = step_at s g below (subst (λ z. IsMachine net capacity z) (sym same) m) w in
       runs_from acts (run_step net says capacity s g) (step net capacity places g) (All-tail (λ x. x < net.generals) g acts all)
-        (here.places_same ∙ ap (λ z. step net capacity z g) same)
-        (machine_step net capacity places g below m)
-        here.world_holds
+      (here.places_same ∙ ap (λ z. step net capacity z g) same)
+      (machine_step net capacity places g below m)
+      here.world_holds
 
 starts_as_world : {F : Type 0} (net : Network) (world : ℕ → ℕ → ℕ → F) → IsOfWorld net world (run_start net)
 unfolding queue took
 starts_as_world net world = record {
   queues_same = λ a b.
-    let none : queued net (at_start net) a b ≡ 0 = omega (arith, none_put net a b, none_taken net a b) in
-    sym (ap (λ k. map (λ l. world l a b) (range_with_len (taken net (at_start net) a b + 1) k)) none);
+      let none : queued net (at_start net) a b ≡ 0 = omega (arith, none_put net a b, none_taken net a b) in
+      sym (ap (λ k. map (λ l. world l a b) (range_with_len (taken net (at_start net) a b + 1) k)) none);
   taken_same = λ g. sym (ap (taken_by world g) (none_moved net g));
 }
 

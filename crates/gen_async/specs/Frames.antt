@@ -30,11 +30,15 @@ took net world places g = taken_by world g (moved_acts net places g)
 
 -- what comes to g in so many rounds from round l on: the frames from his neighbours in ascending order, round by round
 abbrev pub heard_in : {F : Type 0} → Network → (ℕ → ℕ → ℕ → F) → ℕ → ℕ → ℕ → List (Arrival F)
-heard_in net world g l count = flat_map (λ k. map (λ h. record { round = k; from = h; frame = world k h g }) (neighbours_of net g)) (range_with_len l count)
+heard_in net world g l count =
+    flat_map (λ k. map (λ h. record { round = k; from = h; frame = world k h g }) (neighbours_of net g))
+    (range_with_len l count)
 
 -- The world is what these participants make: the frame of round l from g follows from what came to g in earlier rounds.
 abbrev pub IsMadeBy : {F : Type 0} → Network → (ℕ → List (Arrival F) → ℕ → ℕ → F) → (ℕ → ℕ → ℕ → F) → Type 0
-IsMadeBy net says world = (g l h : ℕ) → 1 ≤ l → l ≤ rounds net → AreNeighbours net g h → world l g h ≡ says g (heard_in net world g 1 (l - 1)) l h
+IsMadeBy net says world =
+    (g l h : ℕ) → 1 ≤ l → l ≤ rounds net → AreNeighbours net g h
+    → world l g h ≡ says g (heard_in net world g 1 (l - 1)) l h
 
 -- The machine with its frames: places, queues, and what each took.
 pub record Running (F : Type 0) : Type 0 where
@@ -62,11 +66,14 @@ run_take s g l h (frame ∷ rest) = record {
 -- front, where there is one.
 abbrev pub run_act : {F : Type 0} → (ℕ → List (Arrival F) → ℕ → ℕ → F) → ℕ → Running F → ℕ → Option Act → Running F
 run_act says capacity s g None = s
-run_act says capacity s g (Some (Puts l h)) = if nat_lt (length (s.queues g h)) capacity then record {
-  places = slice_set s.places g (slice_index s.places g + 1);
-  queues = with_pair s.queues g h (s.queues g h ++ says g (s.taken g) l h ∷ []);
-  taken = s.taken;
-} else s
+run_act says capacity s g (Some (Puts l h)) =
+    if nat_lt (length (s.queues g h)) capacity
+    then record {
+      places = slice_set s.places g (slice_index s.places g + 1);
+      queues = with_pair s.queues g h (s.queues g h ++ says g (s.taken g) l h ∷ []);
+      taken = s.taken;
+    }
+    else s
 run_act says capacity s g (Some (Takes l h)) = run_take s g l h (s.queues h g)
 
 unfoldable pub run_step : {F : Type 0} → Network → (ℕ → List (Arrival F) → ℕ → ℕ → F) → ℕ → Running F → ℕ → Running F
@@ -82,13 +89,18 @@ pub record IsOfWorld {F : Type 0} (net : Network) (world : ℕ → ℕ → ℕ �
 
 -- Whatever the acts, in a world that the participants make they put the world's frames: the queue of an edge holds them from the
 -- number taken plus one to the number put, in order.
-pub record RunsAsWorld {F : Type 0} (net : Network) (says : ℕ → List (Arrival F) → ℕ → ℕ → F) (world : ℕ → ℕ → ℕ → F) (capacity : ℕ) (acts : List ℕ) : Type 0 where
+pub record RunsAsWorld {F : Type 0} (net : Network) (says : ℕ → List (Arrival F) → ℕ → ℕ → F)
+    (world : ℕ → ℕ → ℕ → F) (capacity : ℕ) (acts : List ℕ) : Type 0 where
   pub places : (fold (run_step net says capacity) (run_start net) acts).places ≡ after net capacity (at_start net) acts
   pub world_holds : IsOfWorld net world (fold (run_step net says capacity) (run_start net) acts)
 
 abbrev pub RunLaw : Type 0 → Type 0
-RunLaw F = (net : Network) (says : ℕ → List (Arrival F) → ℕ → ℕ → F) (world : ℕ → ℕ → ℕ → F) (capacity : ℕ) (acts : List ℕ) → IsNetwork net → IsMadeBy net says world → AreActs net acts → RunsAsWorld net says world capacity acts
+RunLaw F =
+    (net : Network) (says : ℕ → List (Arrival F) → ℕ → ℕ → F) (world : ℕ → ℕ → ℕ → F) (capacity : ℕ) (acts : List ℕ)
+    → IsNetwork net → IsMadeBy net says world → AreActs net acts → RunsAsWorld net says world capacity acts
 
 -- What a general has taken before his put of round l is what comes to him in the rounds before.
 abbrev pub HeardLaw : Type 0 → Type 0
-HeardLaw F = (net : Network) (world : ℕ → ℕ → ℕ → F) (places : List ℕ) (g l h : ℕ) → IsNetwork net → next_act net places g ≡ Some (Puts l h) → took net world places g ≡ heard_in net world g 1 (l - 1)
+HeardLaw F =
+    (net : Network) (world : ℕ → ℕ → ℕ → F) (places : List ℕ) (g l h : ℕ) → IsNetwork net
+    → next_act net places g ≡ Some (Puts l h) → took net world places g ≡ heard_in net world g 1 (l - 1)

@@ -20,7 +20,9 @@ AreActs net acts = All (λ g. g < net.generals) acts
 
 -- after every list of acts, at every capacity
 abbrev pub QueueLaw : Type 0
-QueueLaw = (net : Network) (capacity : ℕ) (acts : List ℕ) → IsNetwork net → AreActs net acts → IsMachine net capacity (after net capacity (at_start net) acts)
+QueueLaw =
+    (net : Network) (capacity : ℕ) (acts : List ℕ) → IsNetwork net → AreActs net acts
+    → IsMachine net capacity (after net capacity (at_start net) acts)
 
 -- Where g stands by his next act. Before his put of round l to h he has put l - 1 frames to h, taken all frames of the rounds before
 -- and put to each neighbour l - 1 or l frames. Before his take of round l from h he has put l frames to each neighbour, taken l - 1
@@ -64,7 +66,9 @@ pub record MoverNames (net : Network) (capacity : ℕ) (places : List ℕ) (name
   pub done : (named ≡ None) ↔ AllDone net places
 
 abbrev pub MoverLaw : Type 0
-MoverLaw = (net : Network) (capacity : ℕ) (places : List ℕ) → IsNetwork net → 1 ≤ capacity → IsMachine net capacity places → MoverNames net capacity places (mover net capacity places)
+MoverLaw =
+    (net : Network) (capacity : ℕ) (places : List ℕ) → IsNetwork net → 1 ≤ capacity → IsMachine net capacity places
+    → MoverNames net capacity places (mover net capacity places)
 
 -- as many acts have moved as the places add up to, at most four times R for each edge, and just so many once all are done
 pub record CountsMoves (net : Network) (capacity : ℕ) (acts places : List ℕ) : Type 0 where
@@ -73,4 +77,6 @@ pub record CountsMoves (net : Network) (capacity : ℕ) (acts places : List ℕ)
   pub in_all : AllDone net places → sum places ≡ 4 * length net.edges * rounds net
 
 abbrev pub CountLaw : Type 0
-CountLaw = (net : Network) (capacity : ℕ) (acts : List ℕ) → IsNetwork net → AreActs net acts → CountsMoves net capacity acts (after net capacity (at_start net) acts)
+CountLaw =
+    (net : Network) (capacity : ℕ) (acts : List ℕ) → IsNetwork net → AreActs net acts
+    → CountsMoves net capacity acts (after net capacity (at_start net) acts)

@@ -47,7 +47,8 @@ has_moved Done = false
 
 -- one attempt of g at his next act
 unfoldable pub step : Network → ℕ → List ℕ → ℕ → List ℕ
-step net capacity places g = if has_moved (answer net capacity places g) then slice_set places g (slice_index places g + 1) else places
+step net capacity places g =
+    if has_moved (answer net capacity places g) then slice_set places g (slice_index places g + 1) else places
 
 -- the attempts of these generals, one after the other
 abbrev pub after : Network → ℕ → List ℕ → List ℕ → List ℕ
@@ -56,7 +57,8 @@ after net capacity places generals = fold (step net capacity) places generals
 -- how many of these attempts move
 abbrev pub moves_in : Network → ℕ → List ℕ → List ℕ → ℕ
 moves_in net capacity places [] = 0
-moves_in net capacity places (g ∷ more) = cond (has_moved (answer net capacity places g)) 1 0 + moves_in net capacity (step net capacity places g) more
+moves_in net capacity places (g ∷ more) =
+    cond (has_moved (answer net capacity places g)) 1 0 + moves_in net capacity (step net capacity places g) more
 
 -- the first general whose next act moves
 unfoldable pub mover : Network → ℕ → List ℕ → Option ℕ

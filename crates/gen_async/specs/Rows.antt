@@ -18,13 +18,19 @@ abbrev pub triangle : Network
 triangle = record { generals = 3; edges = (0, 1) ∷ (0, 2) ∷ (1, 2) ∷ []; traitors = 1; diameter = 1; orders = 2; choice = Only }
 
 abbrev pub PairRow : Type 0
-PairRow = answers pair 1 (at_start pair) (1 ∷ 1 ∷ 0 ∷ 1 ∷ 1 ∷ 0 ∷ 0 ∷ []) ≡ Put ∷ Blocked ∷ Put ∷ Took ∷ Done ∷ Took ∷ Done ∷ []
+PairRow =
+    answers pair 1 (at_start pair) (1 ∷ 1 ∷ 0 ∷ 1 ∷ 1 ∷ 0 ∷ 0 ∷ [])
+    ≡ Put ∷ Blocked ∷ Put ∷ Took ∷ Done ∷ Took ∷ Done ∷ []
 
 abbrev pub PairEnds : Type 0
 PairEnds = mover pair 1 (after pair 1 (at_start pair) (1 ∷ 1 ∷ 0 ∷ 1 ∷ 1 ∷ 0 ∷ 0 ∷ [])) ≡ None
 
 abbrev pub TriangleRow : Type 0
-TriangleRow = answers triangle 1 (at_start triangle) (0 ∷ 0 ∷ 2 ∷ 2 ∷ 1 ∷ 1 ∷ 1 ∷ 1 ∷ 1 ∷ []) ≡ Put ∷ Put ∷ Put ∷ Put ∷ Put ∷ Put ∷ Took ∷ Took ∷ Blocked ∷ []
+TriangleRow =
+    answers triangle 1 (at_start triangle) (0 ∷ 0 ∷ 2 ∷ 2 ∷ 1 ∷ 1 ∷ 1 ∷ 1 ∷ 1 ∷ [])
+    ≡ Put ∷ Put ∷ Put ∷ Put ∷ Put ∷ Put ∷ Took ∷ Took ∷ Blocked ∷ []
 
 abbrev pub TriangleTwo : Type 0
-TriangleTwo = answers triangle 2 (at_start triangle) (0 ∷ 0 ∷ 2 ∷ 2 ∷ 1 ∷ 1 ∷ 1 ∷ 1 ∷ 1 ∷ []) ≡ Put ∷ Put ∷ Put ∷ Put ∷ Put ∷ Put ∷ Took ∷ Took ∷ Put ∷ []
+TriangleTwo =
+    answers triangle 2 (at_start triangle) (0 ∷ 0 ∷ 2 ∷ 2 ∷ 1 ∷ 1 ∷ 1 ∷ 1 ∷ 1 ∷ [])
+    ≡ Put ∷ Put ∷ Put ∷ Put ∷ Put ∷ Put ∷ Took ∷ Took ∷ Put ∷ []

@@ -2,6 +2,7 @@
 ghost use Rattle.gen_async.specs.Logs.{LogLaw, StandLaw};
 ghost use Rattle.gen_async.specs.Rows.{PairRow, PairEnds, TriangleRow, TriangleTwo};
 ghost use Rattle.gen_async.specs.Frames.{HeardLaw, RunLaw};
+ghost use Rattle.gen_async.specs.ScenarioRun.{BeginsLogs, PutsFrames, WritesLog};
 ghost use Rattle.gen_async.specs.Laws.{CountLaw, MoverLaw, PlaceLaw, QueueLaw};
 
 /// Where a general stands by his next act.
@@ -50,4 +51,13 @@ pub fn rows()
     ensures ends { PairEnds }
     ensures triangle { TriangleRow }
     ensures roomy { TriangleTwo }
+{}
+
+/// Whatever the order of acts and the capacity, the queues hold the frames of the scenario's run (`frames`). By all his
+/// steps a general writes the entries of his first log in that run (`writes`), what he has written so far begins them
+/// and is all of them once he is done (`begins`).
+pub fn scenario_runs()
+    ensures frames { PutsFrames }
+    ensures writes { WritesLog }
+    ensures begins { BeginsLogs }
 {}
