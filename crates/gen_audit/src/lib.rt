@@ -26,4 +26,6 @@ pub use bundles::Bundle;
 pub use verdicts::{Decisions, Findings, Verdict};
 
 #[cfg(test)]
+mod bundle_tests;
+#[cfg(test)]
 mod tests;
