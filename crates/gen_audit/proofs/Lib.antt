@@ -1,5 +1,9 @@
 pub mod Agreeing
 pub mod Answering
+pub mod BundleBehind
+pub mod BundleFronts
+pub mod BundleLaws
+pub mod BundleParts
 pub mod Claims
 pub mod Deciders
 pub mod Deciding

@@ -1,5 +1,11 @@
 pub mod Agreement
+pub mod Behind
 pub mod Bundle
+pub mod BundleFields
+pub mod BundleMaking
+pub mod BundleParts
+pub mod BundleReading
+pub mod BundleSpelling
 pub mod Explained
 pub mod Findings
 pub mod Headline
