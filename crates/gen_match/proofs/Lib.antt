@@ -1,1 +1,4 @@
+pub mod EdgeOrder
 pub mod Sourcing
+pub mod ToldLogs
+pub mod ToldTables

@@ -1,3 +1,4 @@
+pub mod EdgeCells
 pub mod Findings
 pub mod Matching
 pub mod Reports

@@ -6,9 +6,14 @@
 //! make: the signature of somebody who follows.
 #![tactic(auto)]
 
+mod edge_sides;
+mod edge_tables;
+mod edges;
 mod finding;
 pub mod laws;
+mod telling;
 
+pub use edges::match_edges;
 pub use finding::Finding;
 
 #[cfg(test)]
