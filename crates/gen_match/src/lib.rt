@@ -6,9 +6,14 @@
 //! make: the signature of somebody who follows.
 #![tactic(auto)]
 
+mod derived;
 mod finding;
 pub mod laws;
+mod prefixes;
+mod sources;
+mod telling;
 
+pub use derived::check_derived;
 pub use finding::Finding;
 
 #[cfg(test)]
