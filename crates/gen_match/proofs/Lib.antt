@@ -1,3 +1,4 @@
 pub mod Keys
 pub mod Rest
 pub mod Sourcing
+pub mod Strays

@@ -86,7 +86,6 @@ no_key faulty to v path xs e b is told f =
 pub key_in : (net : Network) (faulty : List ℕ) (logs : Logs) (from to v : ℕ) (source front : List ℕ) (last : ℕ) (rest : List ℕ) → IsLoyal net faulty from → Contains faulty to → Logged logs from (Sent to v source) → source ≡ (front ++ last ∷ []) ++ rest
     → Contains (rest_keys net faulty logs) (source_key (path_number (front ++ last ∷ [])) v (length source))
 key_in net faulty logs from to v source front last rest loyal bad logged parts =
-    let key : ℕ = source_key (path_number (front ++ last ∷ [])) v (length source) in
     let begun : Contains (begin_keys v (length source) 1 source) (source_key (path_number (front ++ last ∷ [])) v (length source)) = subst (λ s. Contains (begin_keys v (length source) 1 s) (source_key (path_number (front ++ last ∷ [])) v (length source))) (sym (parts ∙ append_assoc front (last ∷ []) rest)) (begin_in v (length source) 1 front last rest) in
     let at_entry : Contains (entry_keys faulty (Sent to v source)) (source_key (path_number (front ++ last ∷ [])) v (length source)) = subst (λ b. Contains (cond b (begin_keys v (length source) 1 source) []) (source_key (path_number (front ++ last ∷ [])) v (length source))) (sym (in_among faulty to bad)) begun in
     in_flat_map (λ g. flat_map (entry_keys faulty) (rest_entries net faulty logs g)) (range_with_len 0 net.generals) from (source_key (path_number (front ++ last ∷ [])) v (length source))

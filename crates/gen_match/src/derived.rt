@@ -208,7 +208,8 @@ pub fn check_derived(
     ensures { IfOk result (λ findings. AreFindings
         (FindsUnderivable header.now.network faulty.now (told_logs reports.now)) findings.items) }
 {
-    let _generals = header.net().generals();
+    // The header makes known that the network has at most 16 generals.
+    let _known = header.net();
     let sources = find_sources(alloc, header, faulty, reports)?;
     let places = find_places(alloc, sources.as_slice(), header, faulty, reports)?;
     findings_at(alloc, places.as_slice())
