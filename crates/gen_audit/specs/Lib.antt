@@ -1,9 +1,11 @@
 pub mod Agreement
 pub mod Bundle
+pub mod Collecting
 pub mod Explained
 pub mod Findings
 pub mod Headline
 pub mod LocalFindings
+pub mod Sorting
 pub mod Supported
 pub mod Telling
 pub mod Verdict

@@ -11,10 +11,16 @@
 //! all of them.
 #![tactic(auto)]
 
+mod audits;
 mod bundles;
+mod findings_collected;
 pub mod laws;
+mod sorting;
+mod sorting_places;
+mod stubs;
 mod verdicts;
 
+pub use audits::audit_plain;
 pub use bundles::Bundle;
 pub use verdicts::{Decisions, Findings, Verdict};
 
