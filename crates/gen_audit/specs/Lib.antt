@@ -6,10 +6,12 @@ pub mod BundleMaking
 pub mod BundleParts
 pub mod BundleReading
 pub mod BundleSpelling
+pub mod Collecting
 pub mod Explained
 pub mod Findings
 pub mod Headline
 pub mod LocalFindings
+pub mod Sorting
 pub mod Supported
 pub mod Telling
 pub mod Verdict

@@ -11,14 +11,19 @@
 //! all of them.
 #![tactic(auto)]
 
+mod audits;
 mod bundle_fault;
 mod bundle_reading;
 mod bundle_rules;
 mod bundle_writing;
 mod bundles;
+mod findings_collected;
 pub mod laws;
+mod sorting;
+mod sorting_places;
 mod verdicts;
 
+pub use audits::audit_plain;
 pub use bundle_fault::BundleFault;
 pub use bundle_reading::read_bundle;
 pub use bundle_writing::write_bundle;
