@@ -1,4 +1,8 @@
+pub mod Answering
+pub mod Audit
+pub mod Bundles
 pub mod Decide
 pub mod Ends
+pub mod Failing
 pub mod Refusal
 pub mod Tool

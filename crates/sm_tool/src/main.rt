@@ -4,6 +4,7 @@
 mod ends;
 mod engine;
 mod program;
+mod stubs;
 mod transfer;
 mod words;
 
