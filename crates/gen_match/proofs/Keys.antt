@@ -63,13 +63,13 @@ pub one_path : (p q : List ℕ) → All (λ g. g < 16) p → All (λ g. g < 16) 
 one_path p q dp dq e = elim (bool_cases (ltb (length p) (length q))) [
   | inl less ↦ let l : length p < length q = ltb-true (length p) (length q) less in absurd (not_longer (length q - length p) p q dp dq e (omega (arith, l)) (omega (arith, l)))
   | inr more ↦ elim (bool_cases (ltb (length q) (length p))) [
-      | inl less ↦ let l : length q < length p = ltb-true (length q) (length p) less in absurd (not_longer (length p - length q) q p dq dp (sym e) (omega (arith, l)) (omega (arith, l)))
-      | inr same ↦
-          let a : length q ≤ length p = ltb-false (length p) (length q) more in
-          let b : length p ≤ length q = ltb-false (length q) (length p) same in
-          let r = same_long 1 1 p q (omega (arith, a, b)) dp dq e in
-          r.1
-    ]
+    | inl less ↦ let l : length q < length p = ltb-true (length q) (length p) less in absurd (not_longer (length p - length q) q p dq dp (sym e) (omega (arith, l)) (omega (arith, l)))
+    | inr same ↦
+        let a : length q ≤ length p = ltb-false (length p) (length q) more in
+        let b : length p ≤ length q = ltb-false (length q) (length p) same in
+        let r = same_long 1 1 p q (omega (arith, a, b)) dp dq e in
+        r.1
+  ]
 ]
 
 -- ---- a key from one key on and below another of the same beginning and order

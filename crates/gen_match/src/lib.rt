@@ -17,4 +17,6 @@ pub use derived::check_derived;
 pub use finding::Finding;
 
 #[cfg(test)]
+mod derived_tests;
+#[cfg(test)]
 mod tests;
