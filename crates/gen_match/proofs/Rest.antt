@@ -1,5 +1,5 @@
 -- The rest, and the keys of what they sent.
-use Rattle.std.proofs.Common.{◌≡◌, ◌↔◌, ◌⊎◌, ◌<◌, ◌≤◌, ◌+◌, ℕ, Bool, true, false, ◌&&◌, not, cond, nat_lt, IsTrue, inl, inr, List, [], ◌∷◌, ◌++◌, length, Contains, Option, Some, None, refl, sym, ap, ◌∙◌, subst, arith, append_assoc}
+use Rattle.std.proofs.Common.{◌≡◌, ◌↔◌, ◌⊎◌, ◌<◌, ◌+◌, ℕ, Bool, true, false, not, cond, nat_lt, IsTrue, inl, inr, List, [], ◌∷◌, ◌++◌, length, Contains, Option, Some, None, refl, sym, ap, ◌∙◌, subst, arith, append_assoc}
 use Rattle.std.specs.List.{flat_map, range_with_len, AllByRecursion}
 use Rattle.std.specs.Option.{unwrap_or}
 use Rattle.std.proofs.lemmas.Bool.{cases_eq, ltb-true, lt-ltb}
@@ -8,7 +8,7 @@ use Rattle.std.proofs.lemmas.List.Elements.{All-from_recursion, All-contains}
 use Rattle.gen_types.specs.Ends.{is_among}
 use Rattle.gen_types.specs.Members.{range_more}
 use Rattle.gen_types.proofs.Among.{among_in, in_among, among_out, out_among}
-use Rattle.gen_types.proofs.Lists.{Contains_nil, Contains_flat_mapped, Contains_range, Contains_in_range, bool_cases}
+use Rattle.gen_types.proofs.Lists.{Contains_nil, Contains_flat_mapped, Contains_in_range, bool_cases}
 use Rattle.gen_core.proofs.OrderedLists.{in_flat_map}
 use Rattle.gen_net.specs.Network.{Network, IsLoyal}
 use Rattle.gen_net.specs.Log.{LogEntry, Started, Signed, Sent, Received, Decided}

@@ -1,5 +1,5 @@
 -- Received chains that the index of sources says nothing of, and where they are found.
-use Rattle.std.proofs.Common.{◌≡◌, ◌↔◌, ◌⊎◌, ◌<◌, ◌≤◌, ◌+◌, ◌*◌, ◌^◌, ◌/◌, ◌%◌, ℕ, Bool, true, false, ◌&&◌, not, cond, IsTrue, ltb, inl, inr, List, [], ◌∷◌, ◌++◌, length, map, Contains, All, AllPairs, Option, Some, None, Result, Ok, Err, IfOk, refl, sym, ap, ◌∙◌, subst, arith, append_assoc}
+use Rattle.std.proofs.Common.{◌≡◌, ◌↔◌, ◌⊎◌, ◌<◌, ◌≤◌, ◌+◌, ◌*◌, ◌^◌, ◌/◌, ◌%◌, ℕ, Bool, true, false, ◌&&◌, not, cond, IsTrue, ltb, inl, inr, List, [], ◌∷◌, ◌++◌, length, map, Contains, All, AllPairs, Option, Some, None, Result, Ok, Err, IfOk, refl, sym, ap, ◌∙◌, subst, arith}
 use Rattle.std.specs.List.{flat_map, range_with_len}
 use Rattle.std.specs.Option.{IfSome}
 use Rattle.std.proofs.lemmas.Bool.{ltb-true, ltb-false}
