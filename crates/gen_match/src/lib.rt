@@ -21,4 +21,6 @@ pub use edges::match_edges;
 pub use finding::Finding;
 
 #[cfg(test)]
+mod derived_tests;
+#[cfg(test)]
 mod tests;
