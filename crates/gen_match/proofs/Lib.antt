@@ -1,4 +1,5 @@
 pub mod EdgeOrder
+pub mod Showing
 pub mod Sourcing
 pub mod ToldLogs
 pub mod ToldTables

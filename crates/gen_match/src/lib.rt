@@ -17,4 +17,6 @@ pub use edges::match_edges;
 pub use finding::Finding;
 
 #[cfg(test)]
+mod edge_tests;
+#[cfg(test)]
 mod tests;
