@@ -1,5 +1,5 @@
 -- Reports under a header, and one more.
-use Rattle.std.proofs.Common.{◌≡◌, inl, inr, List, [], ◌∷◌, ◌++◌, Contains, sym, ap, ◌∙◌}
+use Rattle.std.proofs.Common.{◌≡◌, inl, inr, List, [], ◌∷◌, ◌++◌, sym, ap, ◌∙◌}
 use Rattle.std.proofs.lemmas.List.Elements.{Contains-append_cases}
 use Rattle.gen_net.specs.Header.{RunHeader}
 use Rattle.gen_types.proofs.Lists.{Contains_cases, Contains_nil}
