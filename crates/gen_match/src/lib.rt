@@ -22,5 +22,6 @@ pub use finding::Finding;
 
 #[cfg(test)]
 mod derived_tests;
+mod edge_tests;
 #[cfg(test)]
 mod tests;
