@@ -22,6 +22,7 @@ pub use finding::Finding;
 
 #[cfg(test)]
 mod derived_tests;
+#[cfg(test)]
 mod edge_tests;
 #[cfg(test)]
 mod tests;
