@@ -31,6 +31,8 @@ pub use bundles::Bundle;
 pub use verdicts::{Decisions, Findings, Verdict};
 
 #[cfg(test)]
+mod audit_tests;
+#[cfg(test)]
 mod bundle_tests;
 #[cfg(test)]
 mod tests;
