@@ -10,7 +10,10 @@ use Rattle.gen_world.specs.Known.{known_of, own_keys}
 use Rattle.gen_world.specs.KnownLaws.{AreHisKeys}
 use Rattle.gen_world.specs.Seat.{Seat, MayStart, IsUnused, keys_at, at_start}
 use Rattle.gen_world.specs.SeatLaws.{StartsAsHe, IsOwnRing}
+use Rattle.gen_world.specs.Recording.{recorded_at_start, Recorded}
+use Rattle.gen_world.specs.Loops.Records.{RecordsAfter}
 use Rattle.gen_world.specs.Loops.Worlds.{StandsAfter, ring_under, ring_at}
+use Rattle.gen_world.proofs.Recorders.{until_none}
 use Rattle.gen_world.proofs.KeysEnough.{keys_are_enough, own_seed_is_enough, known_trees_are_enough}
 
 may_start_with : (s : Scenario) (g : ℕ) (script : Option (List ScriptLine)) → script_of s.scripts g ≡ script → MayStart (known_of s g) (ring_under s g script)
@@ -38,7 +41,7 @@ own_ring : (s : Scenario) (g : ℕ) (script : Option (List ScriptLine)) → IsOw
 own_ring s g None = refl
 own_ring s g (Some lines) = record {}
 
-pub stands : (s : Scenario) (g : ℕ) (p : Seat) → IsScenario s → p ≡ at_start (known_of s g) (ring_at s g) → StandsAfter s 0 g p
+stands : (s : Scenario) (g : ℕ) (p : Seat) → IsScenario s → p ≡ at_start (known_of s g) (ring_at s g) → StandsAfter s 0 g p
 unfolding heard_by
 stands s g p ok e =
     let there : StandsAfter s 0 g (at_start (known_of s g) (ring_at s g)) = record {
@@ -47,3 +50,11 @@ stands s g p ok e =
       round = refl;
     } in
     subst (λ x. StandsAfter s 0 g x) (sym e) there
+
+pub records : (s : Scenario) (g : ℕ) (r : Recorded) → IsScenario s → r ≡ recorded_at_start (known_of s g) (ring_at s g) → RecordsAfter s 0 g r
+records s g r ok e =
+    let there : RecordsAfter s 0 g (recorded_at_start (known_of s g) (ring_at s g)) = record {
+      seat = stands s g (at_start (known_of s g) (ring_at s g)) ok refl;
+      written = until_none s g;
+    } in
+    subst (λ x. RecordsAfter s 0 g x) (sym e) there
