@@ -1,5 +1,5 @@
 //! The audit of a bundle.
-ghost use Rattle.std.specs.Prelude.{ℕ, ◌≡◌, ◌≤◌, ◌↔◌, length, IfOk, IfSome, IfNone};
+ghost use Rattle.std.specs.Prelude.{ℕ, ◌≡◌, ◌↔◌, IfOk, IfSome, IfNone};
 ghost use Rattle.gen_types.specs.Ascending.{IsListOf};
 ghost use Rattle.gen_audit.specs.declared.verdicts.Verdict.TheVariants.{Agreed};
 ghost use Rattle.gen_audit.specs.Bundle.{IsBundle};

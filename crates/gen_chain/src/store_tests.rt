@@ -26,123 +26,168 @@ fn runs_of_two(
     Ok((once, store.runs()))
 }
 
-// What a check says of this signer, and of this order with the path of the commander alone, and how many
-// verifications were made then.
-fn asked(
-    store: &mut VerifyStore,
-    header: &Header,
-    asked: (u8, u8),
-    signature: &Signature,
-) -> Result<(bool, u64), Fail>
+// A signer, an order with the path of the commander alone and a signature that a store is asked for; what it
+// answers, and how many verifications were made by then.
+type Check<'a> = (u8, u8, &'a Signature, bool, u64);
+
+// A chain that a store is asked for, what it answers, and how many verifications were made by then.
+type ChainCheck<'a> = (&'a SignedChain, bool, u64);
+
+// Whether the store answers a check as its row says.
+fn checks(store: &mut VerifyStore, header: &Header, row: &Check<'_>) -> Result<bool, Fail>
     requires { Serves header.now store.old }
     ensures { Serves header.now store.new }
 {
-    let (signer, order) = asked;
+    let (signer, order, signature, answer, runs) = *row;
     let signer = GeneralNo::new(signer).ok_or("no general")?;
     let order = OrderNo::new(order).ok_or("no order")?;
     let path = Path::commander();
-    let answer = store.check(header, signer, &Statement { order, path }, signature)?;
-    Ok((answer, store.runs()))
+    let found = store.check(header, signer, &Statement { order, path }, signature)?;
+    Ok(found == answer && store.runs() == runs)
 }
 
-// What a verification of the chain says, and how many verifications were made then.
-fn verified(
+// The first row that a new store answers otherwise.
+fn first_wrong_check(
+    alloc: Global,
+    header: &Header,
+    rows: &[Check<'_>],
+) -> Result<Option<usize>, Fail> {
+    let mut store = VerifyStore::new(alloc)?;
+    'rows: for (place, row) in rows.iter().enumerate() {
+        if !checks(&mut store, header, row)? {
+            return Ok(Some(place));
+        }
+    }
+    Ok(None)
+}
+
+// Whether the store answers a chain as its row says.
+fn verifies(
     store: &mut VerifyStore,
     header: &Header,
-    chain: &SignedChain,
-) -> Result<(bool, u64), Fail>
+    row: &ChainCheck<'_>,
+) -> Result<bool, AllocError>
     requires { Serves header.now store.old }
     ensures { Serves header.now store.new }
 {
-    let answer = store.chain_verifies(header, chain)?;
-    Ok((answer, store.runs()))
+    let (chain, answer, runs) = *row;
+    Ok(store.chain_verifies(header, chain)? == answer && store.runs() == runs)
+}
+
+// The first row of chains that a new store answers otherwise.
+fn first_wrong_chain(
+    alloc: Global,
+    header: &Header,
+    rows: &[ChainCheck<'_>],
+) -> Result<Option<usize>, AllocError> {
+    let mut store = VerifyStore::new(alloc)?;
+    'rows: for (place, row) in rows.iter().enumerate() {
+        if !verifies(&mut store, header, row)? {
+            return Ok(Some(place));
+        }
+    }
+    Ok(None)
+}
+
+// The first wrong answer where a chain and its front are verified, once or twice. The signature of the front is kept with the chain's.
+fn first_wrong_again(alloc: Global, header: &Header) -> Result<Option<usize>, Fail> {
+    let chain = chain_of_two(alloc, header)?;
+    let front = chain_of_one(alloc, header, OrderNo::at(1))?;
+    let rows = [(&chain, true, 2), (&chain, true, 2), (&front, true, 2)];
+    Ok(first_wrong_chain(alloc, header, &rows)?)
 }
 
 #[test]
 fn a_chain_twice(rt: HostRuntime) -> Result<(), Fail> {
-    let alloc = rt.alloc();
-    let header = header_of_three(alloc)?;
-    let chain = chain_of_two(alloc, &header)?;
-    let mut store = VerifyStore::new(alloc)?;
-    assert_eq!(rt; verified(&mut store, &header, &chain)?, (true, 2));
-    assert_eq!(rt; runs_of_two(&mut store, &header, &chain)?, (2, 2));
-    // The signature of its front is kept too.
-    let front = chain_of_one(alloc, &header, OrderNo::at(1))?;
-    assert_eq!(rt; verified(&mut store, &header, &front)?, (true, 2));
+    let header = header_of_three(rt.alloc())?;
+    assert_eq!(rt; first_wrong_again(rt.alloc(), &header)?, None);
     Ok(())
 }
 
-#[test]
-fn up_to_the_first_that_fails(rt: HostRuntime) -> Result<(), Fail> {
-    let alloc = rt.alloc();
+// How many verifications were made once a chain of two was verified, and once it was verified again.
+fn runs_of_a_chain(alloc: Global) -> Result<(u64, u64), Fail> {
     let header = header_of_three(alloc)?;
-    let mut bytes = write_chain(alloc, &chain_of_two(alloc, &header)?)?;
+    let chain = chain_of_two(alloc, &header)?;
+    let mut store = VerifyStore::new(alloc)?;
+    Ok(runs_of_two(&mut store, &header, &chain)?)
+}
+
+#[test]
+fn no_run_twice(rt: HostRuntime) -> Result<(), Fail> {
+    assert_eq!(rt; runs_of_a_chain(rt.alloc())?, (2, 2));
+    Ok(())
+}
+
+// A chain of two of another order than was signed.
+fn changed_chain(alloc: Global, header: &Header) -> Result<SignedChain, Fail> {
+    let mut bytes = write_chain(alloc, &chain_of_two(alloc, header)?)?;
     if let Some(order) = bytes.first_mut() {
         *order = 0;
     }
     let (changed, _) = read_chain(alloc, TreeHeight::Four, bytes.as_slice()).map_err(|_| "none")?;
-    let mut store = VerifyStore::new(alloc)?;
-    assert_eq!(rt; verified(&mut store, &header, &changed)?, (false, 1));
-    assert_eq!(rt; verified(&mut store, &header, &changed)?, (false, 1));
-    // Of an order that the network does not have nothing is verified.
-    let strange = chain_of_one(alloc, &header, OrderNo::at(2))?;
-    assert_eq!(rt; verified(&mut store, &header, &strange)?, (false, 1));
+    Ok(changed)
+}
+
+// The first wrong answer where chains don't verify. Of an order that the network does not have nothing is verified.
+fn first_wrong_refusal(alloc: Global, header: &Header) -> Result<Option<usize>, Fail> {
+    let changed = changed_chain(alloc, header)?;
+    let strange = chain_of_one(alloc, header, OrderNo::at(2))?;
+    let rows = [
+        (&changed, false, 1),
+        (&changed, false, 1),
+        (&strange, false, 1),
+    ];
+    Ok(first_wrong_chain(alloc, header, &rows)?)
+}
+
+#[test]
+fn up_to_the_first_that_fails(rt: HostRuntime) -> Result<(), Fail> {
+    let header = header_of_three(rt.alloc())?;
+    assert_eq!(rt; first_wrong_refusal(rt.alloc(), &header)?, None);
     Ok(())
+}
+
+// The first wrong answer of checks of the signatures of a chain of two.
+fn first_wrong_of_two(alloc: Global, header: &Header) -> Result<Option<usize>, Fail> {
+    let chain = chain_of_two(alloc, header)?;
+    let [first, second] = chain.signers() else {
+        return Err("other signers".into());
+    };
+    let rows = [
+        (0, 1, &first.signature, true, 1),
+        (0, 1, &second.signature, false, 2),
+        (0, 1, &first.signature, true, 2),
+        (0, 1, &second.signature, false, 2),
+    ];
+    first_wrong_check(alloc, header, &rows)
 }
 
 #[test]
 fn signatures_of_one_statement(rt: HostRuntime) -> Result<(), Fail> {
-    let alloc = rt.alloc();
-    let header = header_of_three(alloc)?;
-    let chain = chain_of_two(alloc, &header)?;
-    let [first, second] = chain.signers() else {
+    let header = header_of_three(rt.alloc())?;
+    assert_eq!(rt; first_wrong_of_two(rt.alloc(), &header)?, None);
+    Ok(())
+}
+
+// The first wrong answer of checks of the signature of a chain of one.
+fn first_wrong_of_one(alloc: Global, header: &Header) -> Result<Option<usize>, Fail> {
+    let chain = chain_of_one(alloc, header, OrderNo::at(1))?;
+    let [signer] = chain.signers() else {
         return Err("other signers".into());
     };
-    let mut store = VerifyStore::new(alloc)?;
-    assert_eq!(rt;
-        asked(&mut store, &header, (0, 1), &first.signature)?,
-        (true, 1)
-    );
-    assert_eq!(rt;
-        asked(&mut store, &header, (0, 1), &second.signature)?,
-        (false, 2)
-    );
-    assert_eq!(rt;
-        asked(&mut store, &header, (0, 1), &first.signature)?,
-        (true, 2)
-    );
-    assert_eq!(rt;
-        asked(&mut store, &header, (0, 1), &second.signature)?,
-        (false, 2)
-    );
-    Ok(())
+    let rows = [
+        (0, 1, &signer.signature, true, 1),
+        (1, 1, &signer.signature, false, 2),
+        (0, 0, &signer.signature, false, 3),
+        (0, 1, &signer.signature, true, 3),
+    ];
+    first_wrong_check(alloc, header, &rows)
 }
 
 #[test]
 fn another_signer_and_another_statement(rt: HostRuntime) -> Result<(), Fail> {
-    let alloc = rt.alloc();
-    let header = header_of_three(alloc)?;
-    let chain = chain_of_one(alloc, &header, OrderNo::at(1))?;
-    let [signer] = chain.signers() else {
-        return Err("other signers".into());
-    };
-    let mut store = VerifyStore::new(alloc)?;
-    assert_eq!(rt;
-        asked(&mut store, &header, (0, 1), &signer.signature)?,
-        (true, 1)
-    );
-    assert_eq!(rt;
-        asked(&mut store, &header, (1, 1), &signer.signature)?,
-        (false, 2)
-    );
-    assert_eq!(rt;
-        asked(&mut store, &header, (0, 0), &signer.signature)?,
-        (false, 3)
-    );
-    assert_eq!(rt;
-        asked(&mut store, &header, (0, 1), &signer.signature)?,
-        (true, 3)
-    );
+    let header = header_of_three(rt.alloc())?;
+    assert_eq!(rt; first_wrong_of_one(rt.alloc(), &header)?, None);
     Ok(())
 }
 
@@ -168,15 +213,19 @@ fn is_made_again(
     Ok(answer && before.checked_add(1) == Some(store.runs()))
 }
 
-#[test]
-fn a_refused_check_is_made_again(rt: HostRuntime) -> Result<(), Fail> {
-    let alloc = rt.alloc();
-    let header = header_of_three(alloc)?;
-    let chain = chain_of_one(alloc, &header, OrderNo::at(1))?;
+// Whether a check of the signature of a chain of one is made again.
+fn one_is_made_again(alloc: Global, header: &Header) -> Result<bool, Fail> {
+    let chain = chain_of_one(alloc, header, OrderNo::at(1))?;
     let [signer] = chain.signers() else {
         return Err("other signers".into());
     };
     let mut store = VerifyStore::new(alloc)?;
-    assert!(rt; is_made_again(&mut store, &header, &signer.signature)?);
+    is_made_again(&mut store, header, &signer.signature)
+}
+
+#[test]
+fn a_refused_check_is_made_again(rt: HostRuntime) -> Result<(), Fail> {
+    let header = header_of_three(rt.alloc())?;
+    assert!(rt; one_is_made_again(rt.alloc(), &header)?);
     Ok(())
 }

@@ -1,6 +1,6 @@
 -- Numbers of paths, keys, and the search for them.
-use Rattle.std.proofs.Common.{◌≡◌, ◌↔◌, ◌⊎◌, ◌<◌, ◌≤◌, ◌+◌, ◌-◌, ◌*◌, ◌^◌, ℕ, Bool, true, false, ◌&&◌, ◌||◌, not, nat_lt, nat_le, IsTrue, ltb, inl, inr, List, [], ◌∷◌, ◌++◌, length, take, drop, get_or, Contains, All, AllPairs, Err, MatchResult, refl, sym, ap, ◌∙◌, subst, arith, append_assoc, pow-suc}
-use Rattle.std.specs.List.{list_any, dedup}
+use Rattle.std.proofs.Common.{◌≡◌, ◌⊎◌, ◌<◌, ◌≤◌, ◌+◌, ◌-◌, ◌*◌, ◌^◌, ℕ, Bool, true, false, ◌&&◌, ◌||◌, nat_lt, nat_le, ltb, inl, inr, List, [], ◌∷◌, ◌++◌, length, take, drop, get_or, Contains, All, AllPairs, Err, refl, sym, ap, ◌∙◌, subst, arith}
+use Rattle.std.specs.List.{dedup}
 use Rattle.std.specs.List.Retain.{IsFiltered, DiffersFromLast}
 use Rattle.std.specs.List.Sorted.{IsPermutation, IsSorted, IsBinarySearchResult}
 use Rattle.std.specs.Ordering.{nat_cmp}
@@ -8,7 +8,7 @@ use Rattle.std.specs.Bool.{nat_eq}
 use Rattle.std.proofs.Math.Nat.{pow-le-pow_right}
 use Rattle.std.proofs.lemmas.Bool.{cases_eq, ltb-true, ltb-false, leb-true, lt-ltb, le-ltb, le-leb, lt-leb}
 use Rattle.std.proofs.lemmas.List.{take-append-drop, length-take-le, length-drop}
-use Rattle.std.proofs.lemmas.List.Elements.{All-head, All-tail, All-drop, All-take, All-from_get_or}
+use Rattle.std.proofs.lemmas.List.Elements.{All-head, All-tail, All-drop, All-from_get_or}
 use Rattle.std.proofs.lemmas.List.Folds.{list_any_at, list_any_none}
 use Rattle.std.proofs.lemmas.List.Filters.{dedup_is}
 use Rattle.std.proofs.lemmas.List.Kept.{AllPairs-from_increasing, Contains-dedup_nat, Contains-from_dedup}
@@ -63,13 +63,13 @@ pub one_path : (p q : List ℕ) → All (λ g. g < 16) p → All (λ g. g < 16) 
 one_path p q dp dq e = elim (bool_cases (ltb (length p) (length q))) [
   | inl less ↦ let l : length p < length q = ltb-true (length p) (length q) less in absurd (not_longer (length q - length p) p q dp dq e (omega (arith, l)) (omega (arith, l)))
   | inr more ↦ elim (bool_cases (ltb (length q) (length p))) [
-      | inl less ↦ let l : length q < length p = ltb-true (length q) (length p) less in absurd (not_longer (length p - length q) q p dq dp (sym e) (omega (arith, l)) (omega (arith, l)))
-      | inr same ↦
-          let a : length q ≤ length p = ltb-false (length p) (length q) more in
-          let b : length p ≤ length q = ltb-false (length q) (length p) same in
-          let r = same_long 1 1 p q (omega (arith, a, b)) dp dq e in
-          r.1
-    ]
+    | inl less ↦ let l : length q < length p = ltb-true (length q) (length p) less in absurd (not_longer (length p - length q) q p dq dp (sym e) (omega (arith, l)) (omega (arith, l)))
+    | inr same ↦
+        let a : length q ≤ length p = ltb-false (length p) (length q) more in
+        let b : length p ≤ length q = ltb-false (length q) (length p) same in
+        let r = same_long 1 1 p q (omega (arith, a, b)) dp dq e in
+        r.1
+  ]
 ]
 
 -- ---- a key from one key on and below another of the same beginning and order

@@ -1,6 +1,7 @@
 pub mod EdgeOrder
 pub mod Keys
 pub mod Rest
+pub mod Showing
 pub mod Sourcing
 pub mod Strays
 pub mod ToldLogs

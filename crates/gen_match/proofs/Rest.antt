@@ -1,5 +1,5 @@
 -- The rest, and the keys of what they sent.
-use Rattle.std.proofs.Common.{◌≡◌, ◌↔◌, ◌⊎◌, ◌<◌, ◌≤◌, ◌+◌, ℕ, Bool, true, false, ◌&&◌, not, cond, nat_lt, IsTrue, inl, inr, List, [], ◌∷◌, ◌++◌, length, Contains, Option, Some, None, refl, sym, ap, ◌∙◌, subst, arith, append_assoc}
+use Rattle.std.proofs.Common.{◌≡◌, ◌↔◌, ◌⊎◌, ◌<◌, ◌+◌, ℕ, Bool, true, false, not, cond, nat_lt, IsTrue, inl, inr, List, [], ◌∷◌, ◌++◌, length, Contains, Option, Some, None, refl, sym, ap, ◌∙◌, subst, arith, append_assoc}
 use Rattle.std.specs.List.{flat_map, range_with_len, AllByRecursion}
 use Rattle.std.specs.Option.{unwrap_or}
 use Rattle.std.proofs.lemmas.Bool.{cases_eq, ltb-true, lt-ltb}
@@ -8,7 +8,7 @@ use Rattle.std.proofs.lemmas.List.Elements.{All-from_recursion, All-contains}
 use Rattle.gen_types.specs.Ends.{is_among}
 use Rattle.gen_types.specs.Members.{range_more}
 use Rattle.gen_types.proofs.Among.{among_in, in_among, among_out, out_among}
-use Rattle.gen_types.proofs.Lists.{Contains_nil, Contains_flat_mapped, Contains_range, Contains_in_range, bool_cases}
+use Rattle.gen_types.proofs.Lists.{Contains_nil, Contains_flat_mapped, Contains_in_range, bool_cases}
 use Rattle.gen_core.proofs.OrderedLists.{in_flat_map}
 use Rattle.gen_net.specs.Network.{Network, IsLoyal}
 use Rattle.gen_net.specs.Log.{LogEntry, Started, Signed, Sent, Received, Decided}
@@ -89,8 +89,8 @@ key_in net faulty logs from to v source front last rest loyal bad logged parts =
     let begun : Contains (begin_keys v (length source) 1 source) (source_key (path_number (front ++ last ∷ [])) v (length source)) = subst (λ s. Contains (begin_keys v (length source) 1 s) (source_key (path_number (front ++ last ∷ [])) v (length source))) (sym (parts ∙ append_assoc front (last ∷ []) rest)) (begin_in v (length source) 1 front last rest) in
     let at_entry : Contains (entry_keys faulty (Sent to v source)) (source_key (path_number (front ++ last ∷ [])) v (length source)) = subst (λ b. Contains (cond b (begin_keys v (length source) 1 source) []) (source_key (path_number (front ++ last ∷ [])) v (length source))) (sym (in_among faulty to bad)) begun in
     in_flat_map (λ g. flat_map (entry_keys faulty) (rest_entries net faulty logs g)) (range_with_len 0 net.generals) from (source_key (path_number (front ++ last ∷ [])) v (length source))
-        (Contains_in_range 0 net.generals from (omega arith) (omega (arith, loyal.0)))
-        (in_flat_map (entry_keys faulty) (rest_entries net faulty logs from) (Sent to v source) (source_key (path_number (front ++ last ∷ [])) v (length source)) (logged_in net faulty logs from (Sent to v source) loyal logged) at_entry)
+    (Contains_in_range 0 net.generals from (omega arith) (omega (arith, loyal.0)))
+    (in_flat_map (entry_keys faulty) (rest_entries net faulty logs from) (Sent to v source) (source_key (path_number (front ++ last ∷ [])) v (length source)) (logged_in net faulty logs from (Sent to v source) loyal logged) at_entry)
 
 record IsEntryKey (faulty : List ℕ) (e : LogEntry) (k : ℕ) : Type 0 where
   pub to : ℕ

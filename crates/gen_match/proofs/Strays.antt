@@ -1,5 +1,5 @@
 -- Received chains that the index of sources says nothing of, and where they are found.
-use Rattle.std.proofs.Common.{◌≡◌, ◌↔◌, ◌⊎◌, ◌<◌, ◌≤◌, ◌+◌, ◌*◌, ◌^◌, ◌/◌, ◌%◌, ℕ, Bool, true, false, ◌&&◌, not, cond, IsTrue, ltb, inl, inr, List, [], ◌∷◌, ◌++◌, length, map, Contains, All, AllPairs, Option, Some, None, Result, Ok, Err, IfOk, refl, sym, ap, ◌∙◌, subst, arith, append_assoc}
+use Rattle.std.proofs.Common.{◌≡◌, ◌↔◌, ◌⊎◌, ◌<◌, ◌≤◌, ◌+◌, ◌*◌, ◌^◌, ◌/◌, ◌%◌, ℕ, Bool, true, false, ◌&&◌, not, cond, IsTrue, ltb, inl, inr, List, [], ◌∷◌, ◌++◌, length, map, Contains, All, AllPairs, Option, Some, None, Result, Ok, Err, IfOk, refl, sym, ap, ◌∙◌, subst, arith}
 use Rattle.std.specs.List.{flat_map, range_with_len}
 use Rattle.std.specs.Option.{IfSome}
 use Rattle.std.proofs.lemmas.Bool.{ltb-true, ltb-false}
@@ -55,18 +55,25 @@ begin_told : (net : Network) (faulty : List ℕ) (n : ℕ) (found : Option ℕ) 
 begin_told net faulty n found [] = inl (All-nil (λ g. IsLoyal net faulty g → ⊥), refl)
 begin_told net faulty n found (g ∷ path) = elim (begin_told net faulty (n * 16 + g) (cond (is_rest net faulty g) (Some (n * 16 + g)) found) path) [
   | inl none ↦ elim (bool_cases (is_rest net faulty g)) [
-      | inl t ↦ inr (n * 16 + g, none.1 ∙ ap (λ b. cond b (Some (n * 16 + g)) found) t, record {
-          front = [];
-          last = g;
-          forged = path;
-          parts = refl;
-          loyal = loyal_from net faulty g t;
-          nobody = none.0;
-          number = refl;
-        })
-      | inr f ↦ inl (All-cons (λ h. IsLoyal net faulty h → ⊥) g path (not_loyal net faulty g f) none.0, none.1 ∙ ap (λ b. cond b (Some (n * 16 + g)) found) f)
-    ]
-  | inr some ↦ inr (some.0, some.1, record {
+    | inl t ↦ inr (
+      n * 16 + g,
+      none.1 ∙ ap (λ b. cond b (Some (n * 16 + g)) found) t,
+      record {
+        front = [];
+        last = g;
+        forged = path;
+        parts = refl;
+        loyal = loyal_from net faulty g t;
+        nobody = none.0;
+        number = refl;
+      },
+    )
+    | inr f ↦ inl (All-cons (λ h. IsLoyal net faulty h → ⊥) g path (not_loyal net faulty g f) none.0, none.1 ∙ ap (λ b. cond b (Some (n * 16 + g)) found) f)
+  ]
+  | inr some ↦ inr (
+    some.0,
+    some.1,
+    record {
       front = g ∷ some.2.front;
       last = some.2.last;
       forged = some.2.forged;
@@ -74,7 +81,8 @@ begin_told net faulty n found (g ∷ path) = elim (begin_told net faulty (n * 16
       loyal = some.2.loyal;
       nobody = some.2.nobody;
       number = some.2.number;
-    })
+    },
+  )
 ]
 
 -- ---- what derives
@@ -89,7 +97,7 @@ derived_in keys net faulty logs v path are d = elim (begin_told net faulty 1 Non
       let stands : Contains keys (source_key (path_number (l.front ++ l.last ∷ [])) v (length s.source)) = (are.members (source_key (path_number (l.front ++ l.last ∷ [])) v (length s.source))).1 key in
       let earlier : length s.source < length path = s.earlier in
       let found : has_between keys (source_key (path_number (l.front ++ l.last ∷ [])) v 0) (source_key (path_number (l.front ++ l.last ∷ [])) v (length path)) ≡ true =
-          between_in keys (source_key (path_number (l.front ++ l.last ∷ [])) v 0) (source_key (path_number (l.front ++ l.last ∷ [])) v (length path)) (source_key (path_number (l.front ++ l.last ∷ [])) v (length s.source)) stands (omega arith) (omega (arith, earlier)) in
+      between_in keys (source_key (path_number (l.front ++ l.last ∷ [])) v 0) (source_key (path_number (l.front ++ l.last ∷ [])) v (length path)) (source_key (path_number (l.front ++ l.last ∷ [])) v (length s.source)) stands (omega arith) (omega (arith, earlier)) in
       ap (derives_from keys v (length path)) (some.1 ∙ ap (λ k. Some k) l.number) ∙ found
 ]
 
@@ -103,13 +111,13 @@ derived_out keys net faulty logs v path are small small_v short digits d = elim 
   | inr some ↦
       let l = some.2 in
       let found : has_between keys (source_key (path_number (l.front ++ l.last ∷ [])) v 0) (source_key (path_number (l.front ++ l.last ∷ [])) v (length path)) ≡ true =
-          sym (ap (derives_from keys v (length path)) (some.1 ∙ ap (λ k. Some k) l.number)) ∙ d in
+      sym (ap (derives_from keys v (length path)) (some.1 ∙ ap (λ k. Some k) l.number)) ∙ d in
       let between = between_out keys (source_key (path_number (l.front ++ l.last ∷ [])) v 0) (source_key (path_number (l.front ++ l.last ∷ [])) v (length path)) found in
       let key = key_out net faulty logs between.0 small ((are.members between.0).0 between.1) in
       let source_small : (key.v < 16) × (length key.source ≤ 16) × All (λ g. g < 16) key.source = key.small in
       let inside = key_inside (path_number (l.front ++ l.last ∷ [])) v (length path) (path_number key.begin) key.v (length key.source) small_v source_small.0 (omega (arith, source_small.1)) (omega (arith, short))
-          (subst (λ k. source_key (path_number (l.front ++ l.last ∷ [])) v 0 ≤ k) key.key between.2)
-          (subst (λ k. k < source_key (path_number (l.front ++ l.last ∷ [])) v (length path)) key.key between.3) in
+      (subst (λ k. source_key (path_number (l.front ++ l.last ∷ [])) v 0 ≤ k) key.key between.2)
+      (subst (λ k. k < source_key (path_number (l.front ++ l.last ∷ [])) v (length path)) key.key between.3) in
       let same : key.begin ≡ l.front ++ l.last ∷ [] = one_path key.begin (l.front ++ l.last ∷ []) (front_small key.begin key.back key.source key.parts source_small.2) (front_small (l.front ++ l.last ∷ []) l.forged path l.parts digits) inside.number in
       (derivable_at_last net faulty logs v path l.front l.last l.forged l.parts l.loyal l.nobody).1 (record {
         from = key.from;
@@ -206,8 +214,8 @@ place_in keys net faulty logs from to v path bad loyal received stray =
     let t : (is_among faulty from && not (derives keys net faulty v path)) ≡ true = rw (in_among faulty from bad, stray) refl in
     let here : Contains (found_at keys net faulty to (Received from v path)) (place_number from to (length path) v) = subst (λ b. Contains (cond b (place_number from to (length path) v ∷ []) []) (place_number from to (length path) v)) (sym t) (Contains_here (place_number from to (length path) v) []) in
     in_flat_map (λ g. flat_map (found_at keys net faulty g) (rest_entries net faulty logs g)) (range_with_len 0 net.generals) to (place_number from to (length path) v)
-        (Contains_in_range 0 net.generals to (omega arith) (omega (arith, loyal.0)))
-        (in_flat_map (found_at keys net faulty to) (rest_entries net faulty logs to) (Received from v path) (place_number from to (length path) v) (logged_in net faulty logs to (Received from v path) loyal received) here)
+    (Contains_in_range 0 net.generals to (omega arith) (omega (arith, loyal.0)))
+    (in_flat_map (found_at keys net faulty to) (rest_entries net faulty logs to) (Received from v path) (place_number from to (length path) v) (logged_in net faulty logs to (Received from v path) loyal received) here)
 
 -- ---- a place and its number
 
@@ -234,7 +242,7 @@ finding_back a b l v p =
     let l2 : ((a * 16 + b) * 32 + l) % 32 ≡ l = omega (arith, small_l) in
     let v1 : place_number a b l v % 16 ≡ v = omega (arith, small_v) in
     same_finding (place_number a b l v / 8192 % 16) a (place_number a b l v / 512 % 16) b (place_number a b l v / 16 % 32) l (place_number a b l v % 16) v
-        (ap (λ x. x % 16) a1 ∙ a2) (ap (λ x. x % 16) b1 ∙ b2) (ap (λ x. x % 32) l1 ∙ l2) v1
+    (ap (λ x. x % 16) a1 ∙ a2) (ap (λ x. x % 16) b1 ∙ b2) (ap (λ x. x % 32) l1 ∙ l2) v1
 
 digit16 : (x v y w : ℕ) → x * 16 + v < y * 16 + w → v < 16 → w < 16 → (x < y) ⊎ ((x ≡ y) × (v < w))
 digit16 x v y w h a b = elim (bool_cases (ltb x y)) [
@@ -249,21 +257,24 @@ digit32 x v y w h a b = elim (bool_cases (ltb x y)) [
 ]
 
 places_rise : (a b l v a' b' l' v' : ℕ) → IsPlace a b l v → IsPlace a' b' l' v' → place_number a b l v < place_number a' b' l' v' → Precedes (9 ∷ a ∷ b ∷ l ∷ v ∷ []) (9 ∷ a' ∷ b' ∷ l' ∷ v' ∷ [])
-places_rise a b l v a' b' l' v' p q h = inr (refl, elim (digit16 ((a * 16 + b) * 32 + l) v ((a' * 16 + b') * 32 + l') v' h p.order_small q.order_small) [
-  | inl less ↦ elim (digit32 (a * 16 + b) l (a' * 16 + b') l' less p.round_small q.round_small) [
+places_rise a b l v a' b' l' v' p q h = inr (
+  refl,
+  elim (digit16 ((a * 16 + b) * 32 + l) v ((a' * 16 + b') * 32 + l') v' h p.order_small q.order_small) [
+    | inl less ↦ elim (digit32 (a * 16 + b) l (a' * 16 + b') l' less p.round_small q.round_small) [
       | inl less ↦ elim (digit16 a b a' b' less p.to_small q.to_small) [
-          | inl less ↦ inl less
-          | inr more ↦ inr (more.0, inl more.1)
-        ]
+        | inl less ↦ inl less
+        | inr more ↦ inr (more.0, inl more.1)
+      ]
       | inr same ↦
           let s : a ≡ a' = omega (arith, same.0, p.to_small, q.to_small) in
           inr (s, inr (omega (arith, same.0, s), inl same.1))
     ]
-  | inr same ↦
-      let up : a * 16 + b ≡ a' * 16 + b' = omega (arith, same.0, p.round_small, q.round_small) in
-      let s : a ≡ a' = omega (arith, up, p.to_small, q.to_small) in
-      inr (s, inr (omega (arith, up, s), inr (omega (arith, same.0, up), inl same.1)))
-])
+    | inr same ↦
+        let up : a * 16 + b ≡ a' * 16 + b' = omega (arith, same.0, p.round_small, q.round_small) in
+        let s : a ≡ a' = omega (arith, up, p.to_small, q.to_small) in
+        inr (s, inr (omega (arith, up, s), inr (omega (arith, same.0, up), inl same.1)))
+  ],
+)
 
 -- ---- the findings
 
@@ -283,8 +294,8 @@ pairs_mapped : {Y : Type 0} (f : ℕ → Y) (P : ℕ → Type 0) (R : Y → Y �
 pairs_mapped f P R up [] are rise = λ i j d l m. absurd (omega (arith, m))
 pairs_mapped f P R up (x ∷ xs) are rise =
     AllPairs-cons R (f x) (map f xs)
-        (λ y h. let r = Contains_mapped f xs y h in subst (R (f x)) r.2 (up x r.0 (are x (Contains_here x xs)) (are r.0 (Contains_there x r.0 xs r.1)) (AllPairs-head (λ a b. a < b) x xs r.0 rise r.1)))
-        (pairs_mapped f P R up xs (λ y h. are y (Contains_there x y xs h)) (AllPairs-tail (λ a b. a < b) x xs rise))
+    (λ y h. let r = Contains_mapped f xs y h in subst (R (f x)) r.2 (up x r.0 (are x (Contains_here x xs)) (are r.0 (Contains_there x r.0 xs r.1)) (AllPairs-head (λ a b. a < b) x xs r.0 rise r.1)))
+    (pairs_mapped f P R up xs (λ y h. are y (Contains_there x y xs h)) (AllPairs-tail (λ a b. a < b) x xs rise))
 
 -- the finding at a place is one
 finds : (keys : List ℕ) (net : Network) (faulty : List ℕ) (logs : Logs) (k : ℕ) → IsListOf keys (Contains (rest_keys net faulty logs)) → net.generals ≤ 16 → IsFoundPlace keys net faulty logs k → FindsUnderivable net faulty logs (finding_at k)
@@ -334,8 +345,8 @@ found keys places net faulty logs f are small few placed h =
     ] in
     let at : Contains places (place_number w.from w.to (length u.path) w.order) = (placed.members (place_number w.from w.to (length u.path) w.order)).1 (place_in keys net faulty logs w.from w.to w.order u.path u.from_faulty u.to_rest u.received stray) in
     let back : finding_at (place_number w.from w.to (length u.path) w.order) ≡ f =
-        finding_back w.from w.to (length u.path) w.order (record { from_small = ranges.0; to_small = omega (arith, u.to_rest.0, few); round_small = omega (arith, ranges.2); order_small = ranges.1 })
-        ∙ ap (λ l. Underivable w.from w.to l w.order) u.round ∙ sym w.is in
+    finding_back w.from w.to (length u.path) w.order (record { from_small = ranges.0; to_small = omega (arith, u.to_rest.0, few); round_small = omega (arith, ranges.2); order_small = ranges.1 })
+    ∙ ap (λ l. Underivable w.from w.to l w.order) u.round ∙ sym w.is in
     subst (λ g. Contains (map finding_at places) g) back (in_mapped finding_at places (place_number w.from w.to (length u.path) w.order) at)
 
 pub strays_found : (keys places : List ℕ) (net : Network) (faulty : List ℕ) (logs : Logs) → IsListOf keys (Contains (rest_keys net faulty logs)) → AreSmall net faulty logs net.generals → net.generals ≤ 16 → IsListOf places (Contains (found_places keys net faulty logs))
@@ -343,12 +354,12 @@ pub strays_found : (keys places : List ℕ) (net : Network) (faulty : List ℕ) 
 strays_found keys places net faulty logs are small few placed = record {
   in_order = pairs_mapped finding_at (IsFoundPlace keys net faulty logs) (λ x y. Precedes (finding_place x) (finding_place y))
       (λ a b f g less.
-        let p = place_of keys net faulty logs a few f in
-        let q = place_of keys net faulty logs b few g in
-        let is_f : Underivable f.from f.to (length f.path) f.v ≡ finding_at a = sym (ap finding_at f.place ∙ finding_back f.from f.to (length f.path) f.v p) in
-        let is_g : Underivable g.from g.to (length g.path) g.v ≡ finding_at b = sym (ap finding_at g.place ∙ finding_back g.from g.to (length g.path) g.v q) in
-        let rise = places_rise f.from f.to (length f.path) f.v g.from g.to (length g.path) g.v p q (subst (λ k. place_number f.from f.to (length f.path) f.v < k) g.place (subst (λ k. k < b) f.place less)) in
-        subst (λ x. Precedes (finding_place x) (finding_place (finding_at b))) is_f (subst (λ y. Precedes (finding_place (Underivable f.from f.to (length f.path) f.v)) (finding_place y)) is_g rise))
+      let p = place_of keys net faulty logs a few f in
+      let q = place_of keys net faulty logs b few g in
+      let is_f : Underivable f.from f.to (length f.path) f.v ≡ finding_at a = sym (ap finding_at f.place ∙ finding_back f.from f.to (length f.path) f.v p) in
+      let is_g : Underivable g.from g.to (length g.path) g.v ≡ finding_at b = sym (ap finding_at g.place ∙ finding_back g.from g.to (length g.path) g.v q) in
+      let rise = places_rise f.from f.to (length f.path) f.v g.from g.to (length g.path) g.v p q (subst (λ k. place_number f.from f.to (length f.path) f.v < k) g.place (subst (λ k. k < b) f.place less)) in
+      subst (λ x. Precedes (finding_place x) (finding_place (finding_at b))) is_f (subst (λ y. Precedes (finding_place (Underivable f.from f.to (length f.path) f.v)) (finding_place y)) is_g rise))
       places (λ x h. place_out keys net faulty logs x small ((placed.members x).0 h)) placed.ascending;
   members = λ f. (
     (λ h. let r = Contains_mapped finding_at places f h in subst (FindsUnderivable net faulty logs) r.2 (finds keys net faulty logs r.0 are few (place_out keys net faulty logs r.0 small ((placed.members r.0).0 r.1)))),

@@ -28,7 +28,7 @@ entry_keys faulty _ = []
 abbrev pub rest_keys : Network → List ℕ → Logs → List ℕ
 rest_keys net faulty logs =
     flat_map (λ g. flat_map (entry_keys faulty) (rest_entries net faulty logs g))
-        (range_with_len 0 net.generals)
+    (range_with_len 0 net.generals)
 
 -- the number of the path up to its last general of the rest, or else what was found before it
 abbrev pub rest_begin : Network → List ℕ → ℕ → Option ℕ → List ℕ → Option ℕ
@@ -54,14 +54,14 @@ place_number from to round order = ((from * 16 + to) * 32 + round) * 16 + order
 abbrev pub found_at : List ℕ → Network → List ℕ → ℕ → LogEntry → List ℕ
 found_at keys net faulty to (Received from v path) =
     cond (is_among faulty from && not (derives keys net faulty v path))
-        (place_number from to (length path) v ∷ []) []
+    (place_number from to (length path) v ∷ []) []
 found_at keys net faulty to _ = []
 
 -- the places of all that don't
 abbrev pub found_places : List ℕ → Network → List ℕ → Logs → List ℕ
 found_places keys net faulty logs =
     flat_map (λ g. flat_map (found_at keys net faulty g) (rest_entries net faulty logs g))
-        (range_with_len 0 net.generals)
+    (range_with_len 0 net.generals)
 
 -- the finding at a place
 abbrev pub finding_at : ℕ → Finding

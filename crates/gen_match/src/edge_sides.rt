@@ -1,7 +1,7 @@
 //! Sides of a message.
 
 /// Whose log tells a message.
-#[derive(Clone, Copy, Debug, PartialEq, Eq)]
+#[derive(Clone, Copy)]
 pub enum Side {
     /// That of its sender, by a SEND.
     Sender,

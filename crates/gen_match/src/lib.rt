@@ -21,4 +21,8 @@ pub use edges::match_edges;
 pub use finding::Finding;
 
 #[cfg(test)]
+mod derived_tests;
+#[cfg(test)]
+mod edge_tests;
+#[cfg(test)]
 mod tests;

@@ -128,11 +128,19 @@ fn prints_an_order(rt: HostRuntime) -> Result<(), Fail> {
 
 #[test]
 fn prints_what_each_decided(rt: HostRuntime) -> Result<(), Fail> {
-    let decided = [(2, 1), (15, 0)].map(|(general, order)| Decision {
-        general: GeneralNo::at(general),
-        orders: OrderSet::new(),
-        order: OrderNo::at(order),
-    });
+    let orders = OrderSet::new();
+    let decided = [
+        Decision {
+            general: GeneralNo::at(2),
+            orders,
+            order: OrderNo::at(1),
+        },
+        Decision {
+            general: GeneralNo::at(15),
+            orders,
+            order: OrderNo::retreat(),
+        },
+    ];
     let verdict = Verdict::Explained(Decisions::new(Vec::from_array(rt.alloc(), decided)?));
     let lines = "verdict explained\ngeneral 2 decides 1\ngeneral 15 decides 0\n";
     assert!(rt; prints(rt.alloc(), &verdict, lines)?);

@@ -1,3 +1,3 @@
 pub mod Delivering
-pub mod Known
 pub mod Faults
+pub mod Known

@@ -1,4 +1,4 @@
-use Rattle.std.proofs.Common.{◌≡◌, ◌∙◌, ap, arith, sym, subst}
+use Rattle.std.proofs.Common.{◌≡◌, ◌∙◌, ap, arith, subst}
 use Rattle.std.specs.List.{flat_map}
 use Rattle.gen_net.specs.Network.{Network}
 use Rattle.gen_local.specs.Erased.{erased}

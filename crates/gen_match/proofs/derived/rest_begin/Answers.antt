@@ -1,4 +1,4 @@
-use Rattle.std.proofs.Common.{◌≡◌, ◌+◌, ◌≤◌, ◌∷◌, arith, ap, length}
+use Rattle.std.proofs.Common.{arith, ap, length}
 use Rattle.gen_match.proofs.Keys.{small_room}
 use Rattle.gen_match.proofs.Strays.{begin_step, found_small}
 use Rattle.gen_match.proofs.derived.rest_begin.Goals as goal

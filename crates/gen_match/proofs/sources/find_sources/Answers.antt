@@ -1,9 +1,8 @@
-use Rattle.std.proofs.Common.{◌≡◌, ◌++◌, ◌∙◌, ap, arith, Contains}
+use Rattle.std.proofs.Common.{◌≡◌, ◌∙◌, ap, arith}
 use Rattle.std.specs.List.{flat_map}
 use Rattle.gen_net.specs.Network.{Network}
-use Rattle.gen_types.specs.Ascending.{IsListOf}
 use Rattle.gen_match.specs.Reports.{told_logs}
-use Rattle.gen_match.specs.Underivables.{rest_entries, entry_keys, rest_keys}
+use Rattle.gen_match.specs.Underivables.{rest_entries, entry_keys}
 use Rattle.gen_match.proofs.Rest.{range_step}
 use Rattle.gen_match.proofs.sources.find_sources.Goals as goal
 
