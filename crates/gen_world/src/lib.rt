@@ -42,3 +42,5 @@ mod counting_tests;
 mod scripted_tests;
 #[cfg(test)]
 mod tests;
+#[cfg(test)]
+mod world_tests;
