@@ -37,6 +37,7 @@ pub mod Same
 pub mod ScriptPairs
 pub mod ScriptSets
 pub mod ScriptsOf
+pub mod SeatHearing
 pub mod Seats
 pub mod SignerSteps
 pub mod Sorting

@@ -41,7 +41,7 @@ own_ring : (s : Scenario) (g : ℕ) (script : Option (List ScriptLine)) → IsOw
 own_ring s g None = refl
 own_ring s g (Some lines) = record {}
 
-stands : (s : Scenario) (g : ℕ) (p : Seat) → IsScenario s → p ≡ at_start (known_of s g) (ring_at s g) → StandsAfter s 0 g p
+pub stands : (s : Scenario) (g : ℕ) (p : Seat) → IsScenario s → p ≡ at_start (known_of s g) (ring_at s g) → StandsAfter s 0 g p
 unfolding heard_by
 stands s g p ok e =
     let there : StandsAfter s 0 g (at_start (known_of s g) (ring_at s g)) = record {

@@ -33,31 +33,31 @@ use Rattle.gen_world.proofs.Stepping.{frame_after}
 
 -- ---- places
 
-pub at_same : (ps : List Recorded) (i g : ℕ) (q d : Recorded) → i < length ps → g ≡ i → slice_index_or (slice_set ps i q) g d ≡ q
+pub at_same : {X : Type 0} (ps : List X) (i g : ℕ) (q d : X) → i < length ps → g ≡ i → slice_index_or (slice_set ps i q) g d ≡ q
 at_same ps i g q d within same = ap (λ j. slice_index_or (slice_set ps i q) j d) same ∙ get_or-set_same ps i q d within
 
-pub at_other : (ps : List Recorded) (i g : ℕ) (q d : Recorded) → g ≢ i → slice_index_or (slice_set ps i q) g d ≡ slice_index_or ps g d
+pub at_other : {X : Type 0} (ps : List X) (i g : ℕ) (q d : X) → g ≢ i → slice_index_or (slice_set ps i q) g d ≡ slice_index_or ps g d
 at_other ps i g q d other = get_or-set_other ps i g q d other
 
 pub eqb_not : (a b : ℕ) → eqb a b ≡ false → a ≢ b
 eqb_not a b e same = true_false (eqb a b) (eq-eqb a b same) e
 
-pub set_done : (P : ℕ → Recorded → Type 0) (ps : List Recorded) (i : ℕ) (q : Recorded) → i < length ps → ((g : ℕ) (d : Recorded) → g < i → P g (slice_index_or ps g d)) → P i q
-    → (g : ℕ) (d : Recorded) → g < i + 1 → P g (slice_index_or (slice_set ps i q) g d)
+pub set_done : {X : Type 0} (P : ℕ → X → Type 0) (ps : List X) (i : ℕ) (q : X) → i < length ps → ((g : ℕ) (d : X) → g < i → P g (slice_index_or ps g d)) → P i q
+    → (g : ℕ) (d : X) → g < i + 1 → P g (slice_index_or (slice_set ps i q) g d)
 set_done P ps i q within done one g d below = elim (bool_cases (eqb g i)) [
   | inl e ↦ let same = eqb-true g i e in subst (λ p. P g p) (sym (at_same ps i g q d within same)) (subst (λ j. P j q) (sym same) one)
   | inr ne ↦ let other = eqb_not g i ne in subst (λ p. P g p) (sym (at_other ps i g q d other)) (done g d (omega (arith, below, other)))
 ]
 
-pub set_rest : (P : ℕ → Recorded → Type 0) (ps : List Recorded) (i n : ℕ) (q : Recorded) → ((g : ℕ) (d : Recorded) → i ≤ g → g < n → P g (slice_index_or ps g d))
-    → (g : ℕ) (d : Recorded) → i + 1 ≤ g → g < n → P g (slice_index_or (slice_set ps i q) g d)
+pub set_rest : {X : Type 0} (P : ℕ → X → Type 0) (ps : List X) (i n : ℕ) (q : X) → ((g : ℕ) (d : X) → i ≤ g → g < n → P g (slice_index_or ps g d))
+    → (g : ℕ) (d : X) → i + 1 ≤ g → g < n → P g (slice_index_or (slice_set ps i q) g d)
 set_rest P ps i n q rest g d above below =
     let other : g ≢ i = λ same. absurd (omega (arith, above, same)) in
     subst (λ p. P g p) (sym (at_other ps i g q d other)) (rest g d (omega (arith, above)) below)
 
 -- one place is changed, and it holds there again
-pub set_all : (P : ℕ → Recorded → Type 0) (ps : List Recorded) (i n : ℕ) (q : Recorded) → i < length ps → P i q → ((g : ℕ) (d : Recorded) → g < n → P g (slice_index_or ps g d))
-    → (g : ℕ) (d : Recorded) → g < n → P g (slice_index_or (slice_set ps i q) g d)
+pub set_all : {X : Type 0} (P : ℕ → X → Type 0) (ps : List X) (i n : ℕ) (q : X) → i < length ps → P i q → ((g : ℕ) (d : X) → g < n → P g (slice_index_or ps g d))
+    → (g : ℕ) (d : X) → g < n → P g (slice_index_or (slice_set ps i q) g d)
 set_all P ps i n q within one each g d below = elim (bool_cases (eqb g i)) [
   | inl e ↦ let same = eqb-true g i e in subst (λ p. P g p) (sym (at_same ps i g q d within same)) (subst (λ j. P j q) (sym same) one)
   | inr ne ↦ let other = eqb_not g i ne in subst (λ p. P g p) (sym (at_other ps i g q d other)) (each g d below)
@@ -114,7 +114,7 @@ pub hears_frames : HearsFrames
 hears_frames s k g from p is = rw (is.part.header, is.part.me, is.round) refl
 
 -- the frame is that of the scenario
-frame_made : (s : Scenario) (k from to : ℕ) (p : Seat) (frame : List (List ℕ)) → IsIn s k from p → frame ≡ sends p to → frame ≡ frame_of (part_of s from) (heard_by s k from) (k + 1) to
+pub frame_made : (s : Scenario) (k from to : ℕ) (p : Seat) (frame : List (List ℕ)) → IsIn s k from p → frame ≡ sends p to → frame ≡ frame_of (part_of s from) (heard_by s k from) (k + 1) to
 frame_made s k from to p frame is e = e ∙ sends_frames s k from to p is
 
 -- he is still in the round
@@ -178,20 +178,20 @@ rows_behind s k old new e = ap (drop (length old)) e ∙ drop-append_seam old (r
 
 -- ---- the start
 
-pub pushed_each : (P : ℕ → Recorded → Type 0) (old new : List Recorded) (n : ℕ) (q : Recorded) → length old ≡ n → new ≡ old ++ q ∷ []
-    → ((g : ℕ) (d : Recorded) → g < n → P g (slice_index_or old g d)) → P n q → (g : ℕ) (d : Recorded) → g < n + 1 → P g (slice_index_or new g d)
+pub pushed_each : {X : Type 0} (P : ℕ → X → Type 0) (old new : List X) (n : ℕ) (q : X) → length old ≡ n → new ≡ old ++ q ∷ []
+    → ((g : ℕ) (d : X) → g < n → P g (slice_index_or old g d)) → P n q → (g : ℕ) (d : X) → g < n + 1 → P g (slice_index_or new g d)
 pushed_each P old new n q long e each one g d below = elim (bool_cases (eqb g n)) [
   | inl t ↦
       let same = eqb-true g n t in
-      let read : slice_index_or new g d ≡ q = ap (λ (xs : List Recorded). slice_index_or xs g d) e ∙ get_or_push old q d g (long ∙ sym same) in
+      let read : slice_index_or new g d ≡ q = ap (λ xs. slice_index_or xs g d) e ∙ get_or_push old q d g (long ∙ sym same) in
       subst (λ p. P g p) (sym read) (subst (λ j. P j q) (sym same) one)
   | inr f ↦
       let other = eqb_not g n f in
-      let read : slice_index_or new g d ≡ slice_index_or old g d = ap (λ (xs : List Recorded). slice_index_or xs g d) e ∙ get_or_append_left old (q ∷ []) d g (omega (arith, below, other, long)) in
+      let read : slice_index_or new g d ≡ slice_index_or old g d = ap (λ xs. slice_index_or xs g d) e ∙ get_or_append_left old (q ∷ []) d g (omega (arith, below, other, long)) in
       subst (λ p. P g p) (sym read) (each g d (omega (arith, below, other)))
 ]
 
-pub length_pushed : (old new : List Recorded) (n : ℕ) (q : Recorded) → length old ≡ n → new ≡ old ++ q ∷ [] → length new ≡ n + 1
+pub length_pushed : {X : Type 0} (old new : List X) (n : ℕ) (q : X) → length old ≡ n → new ≡ old ++ q ∷ [] → length new ≡ n + 1
 length_pushed old new n q long e = ap length e ∙ length-append old (q ∷ []) ∙ ap (λ k. k + 1) long
 
 -- ---- the rounds

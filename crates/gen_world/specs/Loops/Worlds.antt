@@ -1,5 +1,5 @@
 -- The generals of a scenario, all together, while they go from round to round.
-use Rattle.std.specs.Prelude.{ℕ, ◌≡◌, ◌+◌, not, List, [], Option, Some, None, map, filter}
+use Rattle.std.specs.Prelude.{ℕ, ◌≡◌, ◌+◌, not, List, [], Option, Some, None, map, filter, ◌<◌, length, slice_index_or}
 use Rattle.std.specs.List.{range_with_len, list_any, flat_map}
 use Rattle.gen_tree.specs.Rings.{Ring, seed_of}
 use Rattle.gen_net.specs.Version.{height_in}
@@ -13,7 +13,7 @@ use Rattle.gen_world.specs.SignedWorld.{heard_of, heard_by}
 use Rattle.gen_world.specs.Deciding.{decision_of}
 use Rattle.gen_world.specs.Rows.{Row, row_at, rows_by, rows_in}
 use Rattle.gen_world.specs.Seat.{Seat}
-use Rattle.gen_world.specs.SeatLaws.{IsPartOf}
+use Rattle.gen_world.specs.SeatLaws.{IsPartOf, IsIn}
 
 -- he stands as this general of the scenario after the first k rounds
 pub record StandsAfter (s : Scenario) (k g : ℕ) (p : Seat) : Type 0 where
@@ -28,6 +28,18 @@ ring_under s g (Some lines) = None
 
 abbrev pub ring_at : Scenario → ℕ → Option Ring
 ring_at s g = ring_under s g (script_of s.scripts g)
+
+-- one stands at each place, and this holds of each
+pub record AllAre {X : Type 0} (P : ℕ → X → Type 0) (n : ℕ) (xs : List X) : Type 0 where
+  pub count : length xs ≡ n
+  pub each : (g : ℕ) (d : X) → g < n → P g (slice_index_or xs g d)
+
+abbrev pub AllStand : Scenario → ℕ → List Seat → Type 0
+AllStand s k = AllAre (StandsAfter s k) s.net.generals
+
+-- before anybody hears
+abbrev pub AllBegun : Scenario → ℕ → List Seat → Type 0
+AllBegun s k = AllAre (λ g p. IsIn s k g p × (p.heard ≡ heard_by s k g)) s.net.generals
 
 -- those of these generals who are his neighbours
 abbrev pub near_of : Network → ℕ → List ℕ → List ℕ
