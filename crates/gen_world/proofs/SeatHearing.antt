@@ -1,32 +1,18 @@
 -- What generals have heard when those of the first generals' frames were heard that are to them.
-use Rattle.std.proofs.Common.{◌≡◌, ◌≢◌, ◌↔◌, ℕ, Bool, true, false, not, List, [], ◌∷◌, ◌++◌, map, filter, refl, sym, ap, subst, ◌∙◌, eqb, Contains, Option, Some, None, inl, inr, ◌≤◌, ◌<◌, ◌+◌, arith, length, slice_index_or, slice_set, append_assoc, zero-add}
-use Rattle.std.specs.Prelude.{IsTrue}
-use Rattle.std.specs.List.{range_with_len, flat_map, list_any}
-use Rattle.std.proofs.lemmas.Bool.{eqb-true, eq-eqb}
+use Rattle.std.proofs.Common.{◌≡◌, ◌≢◌, ℕ, true, false, List, [], ◌∷◌, ◌++◌, sym, ap, subst, ◌∙◌, eqb, inl, inr, ◌≤◌, ◌<◌, ◌+◌, arith, slice_index_or}
+use Rattle.std.specs.List.{range_with_len, list_any}
+use Rattle.std.proofs.lemmas.Bool.{eqb-true}
 use Rattle.std.proofs.lemmas.Grind.{flat_map-append}
-use Rattle.std.proofs.lemmas.List.{append-nil, map-append, get_or-set_same, get_or-set_other, get_or_push, get_or_append_left, length-append}
-use Rattle.std.proofs.lemmas.List.Elements.{filter-append}
-use Rattle.gen_types.specs.Members.{range_more}
+use Rattle.std.proofs.lemmas.List.{append-nil}
 use Rattle.gen_types.proofs.Lists.{bool_cases}
-use Rattle.gen_tree.specs.Rings.{Ring}
-use Rattle.gen_net.specs.Header.{RunHeader}
-use Rattle.gen_net.specs.Network.{Network, AreNeighbours, rounds}
 use Rattle.gen_net.specs.Edges.{joins}
-use Rattle.gen_script.proofs.Joining.{joined_found, joined_again}
 use Rattle.gen_world.specs.declared.hearing.Heard.{Heard}
-use Rattle.gen_world.specs.declared.scenario.Decision.{Decision}
-use Rattle.gen_world.specs.Scenario.{Scenario, header_of, has_script}
-use Rattle.gen_world.specs.Signing.{Keys}
-use Rattle.gen_world.specs.Frames.{frame_of}
-use Rattle.gen_world.specs.SignedWorld.{part_of, own_order, heard_by, heard_in, heard_of, neighbours_of}
-use Rattle.gen_world.specs.Deciding.{decided_by, decision_of, decisions_of}
-use Rattle.gen_world.specs.Known.{Known, own_keys}
-use Rattle.gen_world.specs.KnownLaws.{ActAlike}
-use Rattle.gen_world.specs.Seat.{Seat, RingAfter, HasBegun, keys_at, part_at, sends, hears, with_frame}
-use Rattle.gen_world.specs.SeatLaws.{IsPartOf, IsIn, BeginsAsHe, HearsAsHe, SendsFrames, HearsFrames, DecidesAsHe}
+use Rattle.gen_world.specs.Scenario.{Scenario}
+use Rattle.gen_world.specs.SignedWorld.{heard_by, heard_in, heard_of}
+use Rattle.gen_world.specs.Seat.{Seat, sends, hears, with_frame}
+use Rattle.gen_world.specs.SeatLaws.{IsIn}
 use Rattle.gen_world.specs.Loops.Worlds.{near_of, hears_of}
-use Rattle.gen_world.proofs.Having.{true_false}
-use Rattle.gen_world.proofs.Stepping.{one_round_more, frame_after}
+use Rattle.gen_world.proofs.Stepping.{one_round_more}
 use Rattle.gen_world.proofs.Worlds.{eqb_not, near_more, frame_made, hears_frames}
 
 pub hear_far : (s : Scenario) (k from to : ℕ) (xs : List Heard) → list_any (joins to from) s.net.edges ≡ false → xs ≡ xs ++ hears_of s k to (near_of s.net to (from ∷ []))
