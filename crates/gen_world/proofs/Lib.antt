@@ -18,6 +18,11 @@ pub mod HeardBy
 pub mod HeardKnown
 pub mod HeardOrders
 pub mod IfOks
+pub mod JournalActs
+pub mod JournalChains
+pub mod JournalLogs
+pub mod JournalRecvs
+pub mod JournalFits
 pub mod KeptRounds
 pub mod LogEntries
 pub mod LogOrder

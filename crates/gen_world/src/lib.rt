@@ -6,6 +6,8 @@ mod deciding;
 mod followers;
 mod following;
 mod hearing;
+mod journal;
+mod journal_entries;
 pub mod laws;
 mod participants;
 mod parts;

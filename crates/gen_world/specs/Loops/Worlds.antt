@@ -1,5 +1,5 @@
 -- The generals of a scenario, all together, while they go from round to round.
-use Rattle.std.specs.Prelude.{ℕ, ◌≡◌, ◌<◌, ◌+◌, Bool, not, List, [], Option, Some, None, map, filter, length, slice_index_or}
+use Rattle.std.specs.Prelude.{ℕ, ◌≡◌, ◌<◌, ◌+◌, not, List, [], Option, Some, None, map, filter, length, slice_index_or}
 use Rattle.std.specs.List.{range_with_len, list_any, flat_map}
 use Rattle.gen_tree.specs.Rings.{Ring, seed_of}
 use Rattle.gen_net.specs.Version.{height_in}

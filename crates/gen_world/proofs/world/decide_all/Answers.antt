@@ -1,8 +1,8 @@
-use Rattle.std.proofs.Common.{◌≡◌, ◌<◌, ◌∙◌, sym, ap, subst, arith, length}
+use Rattle.std.proofs.Common.{◌<◌, sym, subst, arith}
 use Rattle.gen_net.specs.Network.{rounds}
 use Rattle.gen_world.specs.Seat.{Seat}
 use Rattle.gen_world.specs.Loops.Worlds.{StandsAfter}
-use Rattle.gen_world.proofs.Worlds.{decided_more, decided_all}
+use Rattle.gen_world.proofs.Worlds.{decided_more}
 use Rattle.gen_world.proofs.world.decide_all.Goals as goal
 
 pub parts-preserved : goal.parts-preserved

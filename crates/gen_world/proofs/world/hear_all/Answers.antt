@@ -1,4 +1,4 @@
-use Rattle.std.proofs.Common.{◌≡◌, ◌<◌, ◌++◌, ◌∙◌, ap, arith, List, slice_index_or}
+use Rattle.std.proofs.Common.{◌≡◌, ◌<◌, ◌++◌, ◌∙◌, ap, arith, List}
 use Rattle.gen_world.specs.Rows.{Row}
 use Rattle.gen_world.proofs.Worlds.{grows, receiver_rows, receivers_none, receivers_all, receivers_done, receivers_rest}
 use Rattle.gen_world.proofs.world.hear_all.Goals as goal

@@ -1,4 +1,4 @@
-use Rattle.std.proofs.Common.{◌≡◌, ◌∙◌, ap, arith, slice_index_or}
+use Rattle.std.proofs.Common.{◌∙◌}
 use Rattle.gen_world.proofs.Worlds.{grows, hears_more, rows_more}
 use Rattle.gen_world.proofs.world.hear_all_of.Goals as goal
 

@@ -1,6 +1,4 @@
-use Rattle.std.proofs.Common.{◌≡◌, ◌∙◌, sym, ap, subst}
 use Rattle.std.proofs.lemmas.Result.{IfOk-at_ok}
-use Rattle.gen_world.specs.Seat.{MayStart, at_start}
 use Rattle.gen_world.proofs.Starting.{may_start, stands}
 use Rattle.gen_world.proofs.world.participant_of.Goals as goal
 
