@@ -21,6 +21,8 @@ pub mod IfOks
 pub mod JournalActs
 pub mod JournalChains
 pub mod JournalLogs
+pub mod JournalOrder
+pub mod JournalRecords
 pub mod JournalRecvs
 pub mod JournalFits
 pub mod KeptRounds
