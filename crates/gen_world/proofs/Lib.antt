@@ -6,6 +6,7 @@ pub mod Conducts
 pub mod CountedChains
 pub mod DecisionsMade
 pub mod Deriving
+pub mod EndingLogs
 pub mod FirstChains
 pub mod FirstHeard
 pub mod FollowerFrames
