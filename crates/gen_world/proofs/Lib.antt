@@ -6,6 +6,7 @@ pub mod Conducts
 pub mod CountedChains
 pub mod DecisionsMade
 pub mod Deriving
+pub mod EndingLogs
 pub mod FirstChains
 pub mod FirstHeard
 pub mod FollowerFrames
@@ -18,6 +19,13 @@ pub mod HeardBy
 pub mod HeardKnown
 pub mod HeardOrders
 pub mod IfOks
+pub mod JournalActs
+pub mod JournalChains
+pub mod JournalFits
+pub mod JournalLogs
+pub mod JournalOrder
+pub mod JournalRecords
+pub mod JournalRecvs
 pub mod KeptRounds
 pub mod KeysEnough
 pub mod KnownParts

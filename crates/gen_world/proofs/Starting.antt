@@ -1,14 +1,13 @@
 -- The generals of a scenario before the first round.
-use Rattle.std.proofs.Common.{◌≡◌, ℕ, Bool, true, false, List, [], refl, sym, ap, subst, ◌∙◌, Option, Some, None, Contains}
+use Rattle.std.proofs.Common.{◌≡◌, ℕ, List, refl, sym, subst, ◌∙◌, Option, Some, None}
 use Rattle.gen_types.proofs.Lists.{Contains_nil}
-use Rattle.gen_tree.specs.Rings.{Ring, seed_of}
+use Rattle.gen_tree.specs.Rings.{Ring}
 use Rattle.gen_script.specs.declared.lines.ScriptLine.{ScriptLine}
-use Rattle.gen_world.specs.Scenario.{Scenario, IsScenario, header_of, has_script, script_of}
+use Rattle.gen_world.specs.Scenario.{Scenario, IsScenario, header_of, script_of}
 use Rattle.gen_world.specs.SignedWorld.{heard_by}
-use Rattle.gen_world.specs.SignerTrees.{keys_with}
 use Rattle.gen_world.specs.Known.{known_of, own_keys}
 use Rattle.gen_world.specs.KnownLaws.{AreHisKeys}
-use Rattle.gen_world.specs.Seat.{Seat, MayStart, IsUnused, keys_at, at_start}
+use Rattle.gen_world.specs.Seat.{Seat, MayStart, keys_at, at_start}
 use Rattle.gen_world.specs.SeatLaws.{StartsAsHe, IsOwnRing}
 use Rattle.gen_world.specs.Recording.{recorded_at_start, Recorded}
 use Rattle.gen_world.specs.Loops.Records.{RecordsAfter}

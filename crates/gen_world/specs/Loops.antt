@@ -1,5 +1,6 @@
 -- Definitions that only loops and the functions inside them speak of.
 pub mod Deciding
+pub mod Journals
 pub mod Listing
 pub mod Records
 pub mod Relays
