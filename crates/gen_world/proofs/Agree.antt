@@ -13,7 +13,7 @@ use Rattle.gen_net.specs.Follows.{LieutenantFollows}
 use Rattle.gen_core.proofs.Decisions.{decision}
 use Rattle.gen_core.proofs.Rounds.{added_by}
 use Rattle.gen_core.proofs.SignedRuns.{RestFollows, rest_follows, own_of, pick_of, signer_added, neighbour_adds, every_order_own}
-use Rattle.gen_world.specs.Theorem.{Case, Premises, IsLoyalLieutenant, HasLoyalCommander, AcceptsHere, Agreement, Validity, EachDecides, DecideAlike, ObeyCommander}
+use Rattle.gen_world.specs.Theorem.{Case, Premises, AcceptsHere, Agreement, Validity, EachDecides, DecideAlike, ObeyCommander}
 use Rattle.gen_world.specs.AnyChoice.{EachIsChoice, AnyChoice}
 
 -- g has the order by round i, as one that he added or as his own

@@ -30,7 +30,7 @@ pub root_is : (s : Scenario) (g : ℕ) → g < s.net.generals → root_of (heade
 root_is s g low = get_or-map-range_with_len (λ (x : ℕ). ring_root (seed_of s.master x) (height_in s.version)) 0 s.net.generals g g [] low (omega arith)
 
 -- the leaves of a run are leaves of its trees
-leaf_in : (version : Version) (n : ℕ) → slot_in version ≤ greatest_slot → n ≤ 15 → leaves_per_run * slot_in version + n < leaves_of (height_in version)
+pub leaf_in : (version : Version) (n : ℕ) → slot_in version ≤ greatest_slot → n ≤ 15 → leaves_per_run * slot_in version + n < leaves_of (height_in version)
 leaf_in One n low few = omega (arith, few)
 leaf_in (Two slot) n low few = omega (arith, low, few)
 
@@ -75,7 +75,7 @@ along_path k order before (g ∷ path) = ap (λ (p : List ℕ). g ∷ p) (along_
 pub lengthened_path : (k : Keys) (c : Chain) (path : List ℕ) → signed_path (lengthened k c path).signers ≡ signed_path c.signers ++ path
 lengthened_path k c path = map-append (λ (t : Signer). t.general) c.signers (signers_along k c.order (signed_path c.signers) path) ∙ ap (λ (p : List ℕ). signed_path c.signers ++ p) (along_path k c.order (signed_path c.signers) path)
 
-follow_tail : (n : ℕ) (before : List ℕ) (g : ℕ) (path : List ℕ) → MayFollow n before (g ∷ path) → MayFollow n (before ++ g ∷ []) path
+pub follow_tail : (n : ℕ) (before : List ℕ) (g : ℕ) (path : List ℕ) → MayFollow n before (g ∷ path) → MayFollow n (before ++ g ∷ []) path
 follow_tail n before g path may = record {
   known = λ h k. may.known h (Contains_there g h path k);
   distinct = AllPairs_tail (λ a b. a ≢ b) g path may.distinct;

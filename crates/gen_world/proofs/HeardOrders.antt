@@ -1,5 +1,5 @@
 -- The orders that were heard, one after another.
-use Rattle.std.proofs.Common.{◌≡◌, ℕ, Bool, true, List, [], ◌∷◌, eqb, Contains, inl, inr, ◌⊎◌, ◌≤◌, ◌<◌, ◌+◌, arith, filter, subst, sym}
+use Rattle.std.proofs.Common.{◌≡◌, ℕ, Bool, true, List, [], eqb, Contains, inl, inr, ◌⊎◌, ◌<◌, ◌+◌, arith, filter, subst, sym}
 use Rattle.std.specs.List.{range_with_len, list_any}
 use Rattle.std.proofs.lemmas.Bool.{eqb-true, eq-eqb}
 use Rattle.gen_types.specs.Ascending.{IsListOf}

@@ -18,6 +18,7 @@ use Rattle.gen_world.specs.Heard.{first_of, heard_from}
 use Rattle.gen_world.specs.Frames.{Part, relayed, relays_in, signed_in, outside_of, passed, signed_by_line, parcels_of, is_for, followers_frame, traitors_frame, frame_by, frame_of}
 use Rattle.gen_world.specs.SignedWorld.{own_order, part_of}
 use Rattle.gen_world.specs.RoundEntries.{sign_of, send_of, in_order, is_in, signs_by, sends_by, sign_entries, send_entries, recv_entries}
+use Rattle.gen_world.specs.WorldLogs.{logs_over}
 use Rattle.gen_world.specs.SignerTrees.{seed_under}
 use Rattle.gen_world.specs.KnownLaws.{AreHisKeys, ActAlike, part_by, KeysAreEnough, OwnSeedIsEnough, KnownTreesAreEnough}
 use Rattle.gen_world.proofs.KnownParts.{tree_found}
@@ -131,6 +132,7 @@ act_alike h f g me own script agree = record {
   signs = λ heard round. ap (λ (cs : List Chain). map sign_of (in_order h.network.orders cs)) (signs_same h f g me own script script heard round agree);
   sends = λ heard round to. ap (λ (cs : List Chain). map (send_of to) (in_order h.network.orders cs)) (sends_same h f g me own script script heard round to agree);
   recvs = λ round from counted. refl;
+  logs = λ entries. ap (λ (seed : List ℕ). logs_over (general h (λ x. seed) me own script) entries) agree.mine;
 }
 
 -- ---- the keys of a scenario's general

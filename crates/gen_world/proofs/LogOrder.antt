@@ -105,11 +105,11 @@ decision_place s (suc g) entries = refl
 -- ---- their places
 
 -- the place begins with the round and the kind
-abbrev StandsAt : Network → ℕ → ℕ → Entry → Type 0
+abbrev pub StandsAt : Network → ℕ → ℕ → Entry → Type 0
 StandsAt net round kind e = (rest : List ℕ) × (place net (erase e) ≡ round ∷ kind ∷ rest)
 
 module _ (s : Scenario) (ok : IsScenario s) (g : ℕ) (known : g < s.net.generals) where
-  sign_at : (j : ℕ) (e : Entry) → Contains (signs_after s g j) e → StandsAt s.net (suc j) 0 e
+  pub sign_at : (j : ℕ) (e : Entry) → Contains (signs_after s g j) e → StandsAt s.net (suc j) 0 e
   unfolding signs_after
   sign_at j e h =
       let k = Contains_mapped sign_of (in_order s.net.orders (signs_in s g j)) e h in

@@ -44,11 +44,11 @@ middle_in s g = flat_map (entries_in s g) (range_with_len 0 (rounds s.net))
 
 -- ---- these are they
 
-sign_part : (s : Scenario) (g j : ℕ) → sign_entries (part_of s g) (heard_by s j g) (suc j) ≡ signs_after s g j
+pub sign_part : (s : Scenario) (g j : ℕ) → sign_entries (part_of s g) (heard_by s j g) (suc j) ≡ signs_after s g j
 unfolding sign_entries signs_after signs_in
 sign_part s g j = refl
 
-send_part : (s : Scenario) (g j to : ℕ) → send_entries (part_of s g) (heard_by s j g) (suc j) to ≡ map (send_of to) (in_order s.net.orders (sends_in s g j to))
+pub send_part : (s : Scenario) (g j to : ℕ) → send_entries (part_of s g) (heard_by s j g) (suc j) to ≡ map (send_of to) (in_order s.net.orders (sends_in s g j to))
 unfolding send_entries sends_in
 send_part s g j to = refl
 
@@ -62,7 +62,7 @@ recv_counted : (s : Scenario) (g j from : ℕ) → recv_entries (part_of s g) (s
 unfolding recv_entries kept_from
 recv_counted s g j from = refl
 
-recv_part : (s : Scenario) (g j from : ℕ) → recv_entries (part_of s g) (suc j) from (counted_at s (suc j) from g) ≡ map (Recv from) (kept_from s g j from)
+pub recv_part : (s : Scenario) (g j from : ℕ) → recv_entries (part_of s g) (suc j) from (counted_at s (suc j) from g) ≡ map (Recv from) (kept_from s g j from)
 recv_part s g j from = ap (recv_entries (part_of s g) (suc j) from) (counted_is s j from g) ∙ recv_counted s g j from
 
 sends_part : (s : Scenario) (g j : ℕ) → flat_map (send_entries (part_of s g) (heard_by s j g) (suc j)) (neighbours_of s.net g) ≡ sends_after s g j
@@ -73,7 +73,7 @@ recvs_part : (s : Scenario) (g j : ℕ) → flat_map (λ from. recv_entries (par
 unfolding recvs_after
 recvs_part s g j = λ i. flat_map (λ from. recv_part s g j from i) (neighbours_of s.net g)
 
-round_parts : (s : Scenario) (g j : ℕ) → entries_after s g j ≡ entries_in s g j
+pub round_parts : (s : Scenario) (g j : ℕ) → entries_after s g j ≡ entries_in s g j
 unfolding entries_after
 round_parts s g j = λ i. sign_part s g j i ++ (sends_part s g j i ++ recvs_part s g j i)
 

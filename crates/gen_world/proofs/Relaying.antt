@@ -1,16 +1,16 @@
 -- Signing one order after another.
-use Rattle.std.proofs.Common.{◌≡◌, ℕ, zero, suc, ◌-◌, Bool, true, false, List, [], ◌∷◌, ◌++◌, refl, sym, ap, subst, ◌∙◌, eqb, Some, None, Option, Contains, inl, inr, ◌⊎◌, ◌↔◌, All, ◌≤◌, ◌<◌, ◌+◌, ◌*◌, arith, length, map, zero-add, add-one}
+use Rattle.std.proofs.Common.{◌≡◌, ℕ, zero, suc, ◌-◌, true, List, [], ◌∷◌, ◌++◌, refl, sym, ap, subst, ◌∙◌, eqb, Some, None, Option, Contains, inl, inr, ◌⊎◌, ◌↔◌, All, ◌≤◌, ◌<◌, ◌+◌, arith, zero-add, add-one}
 use Rattle.std.specs.Prelude.{option_map, IsSome, IsNone, Result, Ok, Err, IfOk, OnOk}
 use Rattle.std.specs.List.{range_with_len, flat_map}
 use Rattle.std.proofs.lemmas.Bool.{eqb-true, eq-eqb}
 use Rattle.std.proofs.lemmas.Grind.{flat_map-append}
-use Rattle.std.proofs.lemmas.List.{append-nil, length-map}
+use Rattle.std.proofs.lemmas.List.{append-nil}
 use Rattle.std.proofs.lemmas.List.Elements.{All-contains}
 use Rattle.gen_types.specs.Members.{range_more}
 use Rattle.gen_types.proofs.Lists.{Contains_here, Contains_there, Contains_nil, Contains_cases, Contains-middle, bool_cases, All_of}
 use Rattle.gen_ots.specs.Secrets.{KeyName}
 use Rattle.gen_net.specs.Header.{RunHeader, height_of}
-use Rattle.gen_chain.specs.Chain.{Chain, signed_path}
+use Rattle.gen_chain.specs.Chain.{Chain}
 use Rattle.gen_chain.specs.Leaves.{leaf_of_order}
 use Rattle.gen_chain.specs.Making.{begun, extended}
 use Rattle.gen_world.specs.declared.hearing.Heard.{Heard}

@@ -1,20 +1,20 @@
 -- What each general keeps, call by call.
-use Rattle.std.proofs.Common.{◌≡◌, ℕ, List, [], ◌∷◌, ◌++◌, refl, sym, ap, subst, ◌∙◌, Some, None, Option, Contains, inl, inr, ◌⊎◌, ◌↔◌, ◌≤◌, ◌<◌, ◌+◌, ◌*◌, arith, length, map, take}
+use Rattle.std.proofs.Common.{◌≡◌, ℕ, List, [], ◌∷◌, ◌++◌, refl, sym, ap, subst, ◌∙◌, Some, None, Option, Contains, inl, inr, ◌≤◌, ◌+◌, arith, length, map, take}
 use Rattle.gen_tree.specs.Rings.{Ring}
-use Rattle.gen_net.specs.Header.{RunHeader, height_of}
+use Rattle.gen_net.specs.Header.{RunHeader}
 use Rattle.gen_chain.specs.Chain.{Chain}
-use Rattle.gen_chain.specs.Leaves.{leaves_per_run, leaf_of_order}
+use Rattle.gen_chain.specs.Leaves.{leaf_of_order}
 use Rattle.gen_world.specs.declared.hearing.Heard.{Heard}
 use Rattle.gen_world.specs.declared.roles.Role.{Role}
 use Rattle.gen_world.specs.declared.roles.Role.TheVariants.{Loyal, Scripted}
 use Rattle.gen_world.specs.Heard.{round_of, first_of}
 use Rattle.gen_world.specs.Frames.{signed_in, relayed, relays_in, frame_of, followers_frame}
-use Rattle.gen_world.specs.Following.{round_signed, IsSignedWith, IsOthers, AreOthers}
+use Rattle.gen_world.specs.Following.{round_signed, IsOthers, AreOthers}
 use Rattle.gen_world.specs.Known.{Known, IsKnown, own_keys}
-use Rattle.gen_world.specs.Seat.{IsSpentOn, RingAfter, MayStart, keys_at}
-use Rattle.gen_world.specs.Loops.Seats.{Hand, IsHand, IsSpent, IsFree, HasSignedIt, HasScript, HasPlanned}
-use Rattle.gen_world.specs.Loops.Roles.{ring_of, role_frame, IsStart, IsRole, MayBegin, RoleBegan, IsSeat}
-use Rattle.std.specs.Prelude.{option_map, filter, Bool, true, false, eqb}
+use Rattle.gen_world.specs.Seat.{MayStart, keys_at}
+use Rattle.gen_world.specs.Loops.Seats.{Hand, IsHand, IsFree, HasSignedIt, HasScript, HasPlanned}
+use Rattle.gen_world.specs.Loops.Roles.{ring_of, role_frame, role_sends, role_signs, IsStart, IsRole, MayBegin, RoleBegan, IsSeat}
+use Rattle.std.specs.Prelude.{option_map, filter, false, eqb}
 use Rattle.std.specs.List.{range_with_len, flat_map}
 use Rattle.std.proofs.lemmas.Bool.{eqb-true}
 use Rattle.gen_net.specs.Network.{Network}
@@ -25,13 +25,14 @@ use Rattle.gen_world.specs.declared.scripted.Planned.{Planned}
 use Rattle.gen_world.specs.Planned.{is_sent_in, planned_in}
 use Rattle.gen_world.specs.SignerTrees.{keys_with}
 use Rattle.gen_world.specs.Signing.{Keys}
-use Rattle.gen_world.proofs.Plans.{plans_frames}
+use Rattle.gen_world.proofs.Plans.{plans_frames, plans_sends, plans_signs}
 use Rattle.std.proofs.lemmas.List.{take-append-le, length-append}
 use Rattle.std.proofs.lemmas.List.Elements.{Contains-append_cases}
 use Rattle.std.proofs.lemmas.Option.{MatchOption-at_some}
 use Rattle.gen_types.proofs.Lists.{Contains_mapped, Contains_here, Contains_there, Contains_nil, bool_cases}
 use Rattle.gen_world.specs.declared.counting.Delivery.{Delivery}
 use Rattle.gen_world.specs.Counted.{counted_of}
+use Rattle.gen_world.specs.RoundEntries.{sends_by, signs_by}
 use Rattle.gen_world.specs.SignedWorld.{delivery}
 use Rattle.gen_world.proofs.HeardKnown.{counted_are_chains}
 use Rattle.gen_world.proofs.Relaying.{first_front}
@@ -137,6 +138,22 @@ role_frames k heard before round to (Loyal hand) ok = rw (ok.unscripted, ok.sign
 role_frames k heard before round to (Scripted planned) ok =
     let lines = ok.0.0 in
     rw (ok.0.1, ok.1 lines ok.0.1) (plans_frames (keys_with k.header k.trees) k.me lines before round to)
+
+-- ---- chains
+
+pub role_signs_are : (k : Known) (heard before : List Heard) (round : ℕ) (role : Role) → IsRole k heard before round role
+    → role_signs role ≡ signs_by (record { keys = keys_at k (ring_of role); me = k.me; own = k.own; script = k.script }) k.script before round
+role_signs_are k heard before round (Loyal hand) ok = rw (ok.unscripted, ok.signed) refl
+role_signs_are k heard before round (Scripted planned) ok =
+    let lines = ok.0.0 in
+    rw (ok.0.1, ok.1 lines ok.0.1) (plans_signs (record { keys = keys_with k.header k.trees; me = k.me; own = k.own; script = Some lines }) lines before round)
+
+pub role_sends_are : (k : Known) (heard before : List Heard) (round to : ℕ) (role : Role) → IsRole k heard before round role
+    → role_sends role to ≡ sends_by (record { keys = keys_at k (ring_of role); me = k.me; own = k.own; script = k.script }) k.script before round to
+role_sends_are k heard before round to (Loyal hand) ok = rw (ok.unscripted, ok.signed) refl
+role_sends_are k heard before round to (Scripted planned) ok =
+    let lines = ok.0.0 in
+    rw (ok.0.1, ok.1 lines ok.0.1) (plans_sends (record { keys = keys_with k.header k.trees; me = k.me; own = k.own; script = Some lines }) lines before round to)
 
 -- ---- the start
 

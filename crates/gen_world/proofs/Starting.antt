@@ -1,16 +1,18 @@
 -- The generals of a scenario before the first round.
-use Rattle.std.proofs.Common.{◌≡◌, ℕ, Bool, true, false, List, [], refl, sym, ap, subst, ◌∙◌, Option, Some, None, Contains}
+use Rattle.std.proofs.Common.{◌≡◌, ℕ, List, refl, sym, subst, ◌∙◌, Option, Some, None}
 use Rattle.gen_types.proofs.Lists.{Contains_nil}
-use Rattle.gen_tree.specs.Rings.{Ring, seed_of}
+use Rattle.gen_tree.specs.Rings.{Ring}
 use Rattle.gen_script.specs.declared.lines.ScriptLine.{ScriptLine}
-use Rattle.gen_world.specs.Scenario.{Scenario, IsScenario, header_of, has_script, script_of}
+use Rattle.gen_world.specs.Scenario.{Scenario, IsScenario, header_of, script_of}
 use Rattle.gen_world.specs.SignedWorld.{heard_by}
-use Rattle.gen_world.specs.SignerTrees.{keys_with}
 use Rattle.gen_world.specs.Known.{known_of, own_keys}
 use Rattle.gen_world.specs.KnownLaws.{AreHisKeys}
-use Rattle.gen_world.specs.Seat.{Seat, MayStart, IsUnused, keys_at, at_start}
+use Rattle.gen_world.specs.Seat.{Seat, MayStart, keys_at, at_start}
 use Rattle.gen_world.specs.SeatLaws.{StartsAsHe, IsOwnRing}
+use Rattle.gen_world.specs.Recording.{recorded_at_start, Recorded}
+use Rattle.gen_world.specs.Loops.Records.{RecordsAfter}
 use Rattle.gen_world.specs.Loops.Worlds.{StandsAfter, ring_under, ring_at}
+use Rattle.gen_world.proofs.Recorders.{until_none}
 use Rattle.gen_world.proofs.KeysEnough.{keys_are_enough, own_seed_is_enough, known_trees_are_enough}
 
 may_start_with : (s : Scenario) (g : ℕ) (script : Option (List ScriptLine)) → script_of s.scripts g ≡ script → MayStart (known_of s g) (ring_under s g script)
@@ -47,3 +49,11 @@ stands s g p ok e =
       round = refl;
     } in
     subst (λ x. StandsAfter s 0 g x) (sym e) there
+
+pub records : (s : Scenario) (g : ℕ) (r : Recorded) → IsScenario s → r ≡ recorded_at_start (known_of s g) (ring_at s g) → RecordsAfter s 0 g r
+records s g r ok e =
+    let there : RecordsAfter s 0 g (recorded_at_start (known_of s g) (ring_at s g)) = record {
+      seat = stands s g (at_start (known_of s g) (ring_at s g)) ok refl;
+      written = until_none s g;
+    } in
+    subst (λ x. RecordsAfter s 0 g x) (sym e) there

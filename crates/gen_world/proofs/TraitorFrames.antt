@@ -70,7 +70,7 @@ passed_has s path (Some x) k h = elim (bool_cases (list_any (is_among (signed_pa
       (x, refl, elim (Contains_cases (lengthened (keys_of s) x.chain path) k [] one) [ inl same ↦ sym same | inr none ↦ absurd (Contains_nil k none) ], fits)
 ]
 
-may_follow : (n : ℕ) (before path : List ℕ) → All (λ g. g < n) path → AllPairs (λ g h. g ≢ h) path → list_any (is_among before) path ≡ false → MayFollow n before path
+pub may_follow : (n : ℕ) (before path : List ℕ) → All (λ g. g < n) path → AllPairs (λ g h. g ≢ h) path → list_any (is_among before) path ≡ false → MayFollow n before path
 may_follow n before path known distinct fits = record {
   known = λ g h. All-contains (λ x. x < n) path g known h;
   distinct = distinct;

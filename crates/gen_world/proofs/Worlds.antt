@@ -1,9 +1,10 @@
 -- All generals together, step by step.
-use Rattle.std.proofs.Common.{◌≡◌, ◌≢◌, ◌↔◌, ℕ, Bool, true, false, not, List, [], ◌∷◌, ◌++◌, map, filter, refl, sym, ap, subst, ◌∙◌, eqb, Contains, Option, Some, None, inl, inr, ◌≤◌, ◌<◌, ◌+◌, arith, length, slice_index_or, slice_set, append_assoc, zero-add}
+use Rattle.std.proofs.Common.{◌≡◌, ◌≢◌, ◌↔◌, ℕ, Bool, true, false, not, List, [], ◌∷◌, ◌++◌, map, filter, refl, sym, ap, subst, ◌∙◌, eqb, Contains, Option, Some, None, inl, inr, ◌≤◌, ◌<◌, ◌+◌, arith, length, drop, slice_index_or, slice_set, append_assoc, zero-add}
 use Rattle.std.specs.Prelude.{IsTrue}
 use Rattle.std.specs.List.{range_with_len, flat_map, list_any}
 use Rattle.std.proofs.lemmas.Bool.{eqb-true, eq-eqb}
 use Rattle.std.proofs.lemmas.Grind.{flat_map-append}
+use Rattle.std.proofs.Math.Seq.{drop-append_seam}
 use Rattle.std.proofs.lemmas.List.{append-nil, map-append, get_or-set_same, get_or-set_other, get_or_push, get_or_append_left, length-append}
 use Rattle.std.proofs.lemmas.List.Elements.{filter-append}
 use Rattle.gen_types.specs.Members.{range_more}
@@ -18,44 +19,45 @@ use Rattle.gen_world.specs.declared.scenario.Decision.{Decision}
 use Rattle.gen_world.specs.Scenario.{Scenario, header_of, has_script}
 use Rattle.gen_world.specs.Signing.{Keys}
 use Rattle.gen_world.specs.Frames.{frame_of}
-use Rattle.gen_world.specs.SignedWorld.{part_of, own_order, heard_by, heard_in, heard_of, neighbours_of}
+use Rattle.gen_world.specs.SignedWorld.{part_of, own_order, heard_by, heard_in, heard_of}
 use Rattle.gen_world.specs.Deciding.{decided_by, decision_of, decisions_of}
 use Rattle.gen_world.specs.Known.{Known, own_keys}
 use Rattle.gen_world.specs.KnownLaws.{ActAlike}
-use Rattle.gen_world.specs.Rows.{Row, row_at, rows_to, rows_in, rows_of}
+use Rattle.gen_world.specs.Rows.{Row, row_at, rows_by, rows_in, rows_of}
 use Rattle.gen_world.specs.Seat.{Seat, RingAfter, HasBegun, keys_at, part_at, sends, hears, with_frame}
 use Rattle.gen_world.specs.SeatLaws.{IsPartOf, IsIn, BeginsAsHe, HearsAsHe, SendsFrames, HearsFrames, DecidesAsHe}
-use Rattle.gen_world.specs.Loops.Worlds.{StandsAfter, AllAre, near_of, hears_of, rows_from, rows_first, rows_until, decided_of}
+use Rattle.gen_world.specs.Recording.{Recorded}
+use Rattle.gen_world.specs.Loops.Worlds.{StandsAfter, near_of, rows_for, rows_first, rows_until, decided_of}
 use Rattle.gen_world.proofs.Having.{true_false}
-use Rattle.gen_world.proofs.Stepping.{one_round_more, frame_after}
+use Rattle.gen_world.proofs.Stepping.{frame_after}
 
 -- ---- places
 
-pub at_same : (ps : List Seat) (i g : ℕ) (q d : Seat) → i < length ps → g ≡ i → slice_index_or (slice_set ps i q) g d ≡ q
+pub at_same : {X : Type 0} (ps : List X) (i g : ℕ) (q d : X) → i < length ps → g ≡ i → slice_index_or (slice_set ps i q) g d ≡ q
 at_same ps i g q d within same = ap (λ j. slice_index_or (slice_set ps i q) j d) same ∙ get_or-set_same ps i q d within
 
-at_other : (ps : List Seat) (i g : ℕ) (q d : Seat) → g ≢ i → slice_index_or (slice_set ps i q) g d ≡ slice_index_or ps g d
+pub at_other : {X : Type 0} (ps : List X) (i g : ℕ) (q d : X) → g ≢ i → slice_index_or (slice_set ps i q) g d ≡ slice_index_or ps g d
 at_other ps i g q d other = get_or-set_other ps i g q d other
 
-eqb_not : (a b : ℕ) → eqb a b ≡ false → a ≢ b
+pub eqb_not : (a b : ℕ) → eqb a b ≡ false → a ≢ b
 eqb_not a b e same = true_false (eqb a b) (eq-eqb a b same) e
 
-pub set_done : (P : ℕ → Seat → Type 0) (ps : List Seat) (i : ℕ) (q : Seat) → i < length ps → ((g : ℕ) (d : Seat) → g < i → P g (slice_index_or ps g d)) → P i q
-    → (g : ℕ) (d : Seat) → g < i + 1 → P g (slice_index_or (slice_set ps i q) g d)
+pub set_done : {X : Type 0} (P : ℕ → X → Type 0) (ps : List X) (i : ℕ) (q : X) → i < length ps → ((g : ℕ) (d : X) → g < i → P g (slice_index_or ps g d)) → P i q
+    → (g : ℕ) (d : X) → g < i + 1 → P g (slice_index_or (slice_set ps i q) g d)
 set_done P ps i q within done one g d below = elim (bool_cases (eqb g i)) [
   | inl e ↦ let same = eqb-true g i e in subst (λ p. P g p) (sym (at_same ps i g q d within same)) (subst (λ j. P j q) (sym same) one)
   | inr ne ↦ let other = eqb_not g i ne in subst (λ p. P g p) (sym (at_other ps i g q d other)) (done g d (omega (arith, below, other)))
 ]
 
-pub set_rest : (P : ℕ → Seat → Type 0) (ps : List Seat) (i n : ℕ) (q : Seat) → ((g : ℕ) (d : Seat) → i ≤ g → g < n → P g (slice_index_or ps g d))
-    → (g : ℕ) (d : Seat) → i + 1 ≤ g → g < n → P g (slice_index_or (slice_set ps i q) g d)
+pub set_rest : {X : Type 0} (P : ℕ → X → Type 0) (ps : List X) (i n : ℕ) (q : X) → ((g : ℕ) (d : X) → i ≤ g → g < n → P g (slice_index_or ps g d))
+    → (g : ℕ) (d : X) → i + 1 ≤ g → g < n → P g (slice_index_or (slice_set ps i q) g d)
 set_rest P ps i n q rest g d above below =
     let other : g ≢ i = λ same. absurd (omega (arith, above, same)) in
     subst (λ p. P g p) (sym (at_other ps i g q d other)) (rest g d (omega (arith, above)) below)
 
 -- one place is changed, and it holds there again
-pub set_all : (P : ℕ → Seat → Type 0) (ps : List Seat) (i n : ℕ) (q : Seat) → i < length ps → P i q → ((g : ℕ) (d : Seat) → g < n → P g (slice_index_or ps g d))
-    → (g : ℕ) (d : Seat) → g < n → P g (slice_index_or (slice_set ps i q) g d)
+pub set_all : {X : Type 0} (P : ℕ → X → Type 0) (ps : List X) (i n : ℕ) (q : X) → i < length ps → P i q → ((g : ℕ) (d : X) → g < n → P g (slice_index_or ps g d))
+    → (g : ℕ) (d : X) → g < n → P g (slice_index_or (slice_set ps i q) g d)
 set_all P ps i n q within one each g d below = elim (bool_cases (eqb g i)) [
   | inl e ↦ let same = eqb-true g i e in subst (λ p. P g p) (sym (at_same ps i g q d within same)) (subst (λ j. P j q) (sym same) one)
   | inr ne ↦ let other = eqb_not g i ne in subst (λ p. P g p) (sym (at_other ps i g q d other)) (each g d below)
@@ -112,26 +114,8 @@ pub hears_frames : HearsFrames
 hears_frames s k g from p is = rw (is.part.header, is.part.me, is.round) refl
 
 -- the frame is that of the scenario
-frame_made : (s : Scenario) (k from to : ℕ) (p : Seat) (frame : List (List ℕ)) → IsIn s k from p → frame ≡ sends p to → frame ≡ frame_of (part_of s from) (heard_by s k from) (k + 1) to
+pub frame_made : (s : Scenario) (k from to : ℕ) (p : Seat) (frame : List (List ℕ)) → IsIn s k from p → frame ≡ sends p to → frame ≡ frame_of (part_of s from) (heard_by s k from) (k + 1) to
 frame_made s k from to p frame is e = e ∙ sends_frames s k from to p is
-
-pub hear_far : (s : Scenario) (k from to : ℕ) (xs : List Heard) → list_any (joins to from) s.net.edges ≡ false → xs ≡ xs ++ hears_of s k to (near_of s.net to (from ∷ []))
-hear_far s k from to xs far = rw far (sym (append-nil xs))
-
-pub rows_far : (s : Scenario) (k from to : ℕ) (xs : List Row) → list_any (joins to from) s.net.edges ≡ false → xs ≡ xs ++ rows_from s k to (near_of s.net to (from ∷ []))
-rows_far s k from to xs far = rw far (sym (append-nil xs))
-
-pub hear_near : (s : Scenario) (k from to : ℕ) (p pf q : Seat) (frame : List (List ℕ)) → list_any (joins to from) s.net.edges ≡ true → IsIn s k to p → IsIn s k from pf
-    → frame ≡ sends pf to → q ≡ with_frame p from frame → q.heard ≡ p.heard ++ hears_of s k to (near_of s.net to (from ∷ []))
-hear_near s k from to p pf q frame near is by made hd =
-    let now = ap (λ (x : Seat). x.heard) hd ∙ ap (λ xs. p.heard ++ hears p from xs) (frame_made s k from to pf frame by made) ∙ ap (λ (xs : List Heard). p.heard ++ xs) (hears_frames s k to from p is) in
-    rw near (now ∙ ap (λ (xs : List Heard). p.heard ++ xs) (sym (append-nil (heard_of s (heard_by s k) (k + 1) to from))))
-
-pub rows_near : (s : Scenario) (k from to : ℕ) (pf : Seat) (frame : List (List ℕ)) (old new : List Row) → list_any (joins to from) s.net.edges ≡ true → IsIn s k from pf
-    → frame ≡ sends pf to → new ≡ old ++ record { round = k + 1; from = from; to = to; parcels = frame } ∷ [] → new ≡ old ++ rows_from s k to (near_of s.net to (from ∷ []))
-rows_near s k from to pf frame old new near by made e =
-    let is = frame_made s k from to pf frame by made ∙ sym (frame_after s k from to) in
-    rw near (e ∙ ap (λ (parcels : List (List ℕ)). old ++ record { round = k + 1; from = from; to = to; parcels = parcels } ∷ []) is)
 
 -- he is still in the round
 pub hears_as_he : HearsAsHe
@@ -147,84 +131,67 @@ hears_in s k g from p q frame is e =
 pub grows : {X : Type 0} (now mid start a b c : List X) → now ≡ mid ++ b → mid ≡ start ++ a → a ++ b ≡ c → now ≡ start ++ c
 grows now mid start a b c one two three = one ∙ ap (λ xs. xs ++ b) two ∙ append_assoc start a b ∙ ap (λ xs. start ++ xs) three
 
-one_more : (n : ℕ) → range_with_len 0 (n + 1) ≡ range_with_len 0 n ++ n ∷ []
+pub one_more : (n : ℕ) → range_with_len 0 (n + 1) ≡ range_with_len 0 n ++ n ∷ []
 one_more n = range_more 0 n ∙ ap (λ k. range_with_len 0 n ++ k ∷ []) (zero-add n)
 
-near_more : (net : Network) (to n : ℕ) → near_of net to (range_with_len 0 n) ++ near_of net to (n ∷ []) ≡ near_of net to (range_with_len 0 (n + 1))
+pub near_more : (net : Network) (to n : ℕ) → near_of net to (range_with_len 0 n) ++ near_of net to (n ∷ []) ≡ near_of net to (range_with_len 0 (n + 1))
 near_more net to n = sym (ap (near_of net to) (one_more n) ∙ filter-append (λ from. list_any (joins to from) net.edges) (range_with_len 0 n) (n ∷ []))
 
-pub hears_more : (s : Scenario) (k to n : ℕ)
-    → hears_of s k to (near_of s.net to (range_with_len 0 n)) ++ hears_of s k to (near_of s.net to (n ∷ [])) ≡ hears_of s k to (near_of s.net to (range_with_len 0 (n + 1)))
-hears_more s k to n = sym (flat_map-append (heard_of s (heard_by s k) (k + 1) to) (near_of s.net to (range_with_len 0 n)) (near_of s.net to (n ∷ []))) ∙ ap (hears_of s k to) (near_more s.net to n)
+-- ---- frames
 
-pub rows_more : (s : Scenario) (k to n : ℕ)
-    → rows_from s k to (near_of s.net to (range_with_len 0 n)) ++ rows_from s k to (near_of s.net to (n ∷ [])) ≡ rows_from s k to (near_of s.net to (range_with_len 0 (n + 1)))
-rows_more s k to n = sym (map-append (row_at s (k + 1) to) (near_of s.net to (range_with_len 0 n)) (near_of s.net to (n ∷ []))) ∙ ap (rows_from s k to) (near_more s.net to n)
+pub near_out : (net : Network) (g h : ℕ) → list_any (joins g h) net.edges ≡ false → near_of net g (h ∷ []) ≡ []
+near_out net g h far = rw far refl
 
--- ---- all receivers
+pub near_in : (net : Network) (g h : ℕ) → list_any (joins g h) net.edges ≡ true → near_of net g (h ∷ []) ≡ h ∷ []
+near_in net g h near = rw near refl
 
-pub receiver_rows : (s : Scenario) (k n : ℕ) → rows_first s k n ++ rows_to s (k + 1) n ≡ rows_first s k (n + 1)
+pub rows_far : (s : Scenario) (k from to : ℕ) (xs : List Row) → list_any (joins from to) s.net.edges ≡ false → xs ≡ xs ++ rows_for s k from (near_of s.net from (to ∷ []))
+rows_far s k from to xs far = sym (ap (λ (tos : List ℕ). xs ++ rows_for s k from tos) (near_out s.net from to far) ∙ append-nil xs)
+
+pub rows_near : (s : Scenario) (k from to : ℕ) (p : Seat) (frame : List (List ℕ)) (old new : List Row) → list_any (joins from to) s.net.edges ≡ true → IsIn s k from p
+    → frame ≡ sends p to → new ≡ old ++ record { round = k + 1; from = from; to = to; parcels = frame } ∷ [] → new ≡ old ++ rows_for s k from (near_of s.net from (to ∷ []))
+rows_near s k from to p frame old new near by made e =
+    let is = frame_made s k from to p frame by made ∙ sym (frame_after s k from to) in
+    e ∙ ap (λ (parcels : List (List ℕ)). old ++ record { round = k + 1; from = from; to = to; parcels = parcels } ∷ []) is
+    ∙ sym (ap (λ (tos : List ℕ). old ++ rows_for s k from tos) (near_in s.net from to near))
+
+pub rows_more : (s : Scenario) (k from n : ℕ)
+    → rows_for s k from (near_of s.net from (range_with_len 0 n)) ++ rows_for s k from (near_of s.net from (n ∷ [])) ≡ rows_for s k from (near_of s.net from (range_with_len 0 (n + 1)))
+rows_more s k from n = sym (map-append (row_at s (k + 1) from) (near_of s.net from (range_with_len 0 n)) (near_of s.net from (n ∷ []))) ∙ ap (rows_for s k from) (near_more s.net from n)
+
+pub sender_rows : (s : Scenario) (k n : ℕ) → rows_first s k n ++ rows_by s (k + 1) n ≡ rows_first s k (n + 1)
 unfolding rows_first
-receiver_rows s k n =
-    let f : ℕ → List Row = rows_to s (k + 1) in
+sender_rows s k n =
+    let f : ℕ → List Row = rows_by s (k + 1) in
     sym (ap (flat_map f) (one_more n) ∙ flat_map-append f (range_with_len 0 n) (n ∷ []) ∙ ap (λ (xs : List Row). flat_map f (range_with_len 0 n) ++ xs) (append-nil (f n)))
 
-pub receivers_none : (s : Scenario) (k : ℕ) (xs : List Row) → xs ≡ xs ++ rows_first s k 0
+pub senders_none : (s : Scenario) (k : ℕ) (xs : List Row) → xs ≡ xs ++ rows_first s k 0
 unfolding rows_first
-receivers_none s k xs = sym (append-nil xs)
+senders_none s k xs = sym (append-nil xs)
 
-pub receivers_all : (s : Scenario) (k : ℕ) → rows_first s k s.net.generals ≡ rows_in s (k + 1)
+pub senders_all : (s : Scenario) (k : ℕ) → rows_first s k s.net.generals ≡ rows_in s (k + 1)
 unfolding rows_first rows_in
-receivers_all s k = refl
+senders_all s k = refl
 
-heard_now : (s : Scenario) (k g : ℕ) (xs old : List Heard) → xs ≡ old ++ hears_of s k g (near_of s.net g (range_with_len 0 s.net.generals)) → old ≡ heard_by s k g → xs ≡ heard_by s (k + 1) g
-unfolding heard_in
-heard_now s k g xs old e before = e ∙ ap (λ (hs : List Heard). hs ++ hears_of s k g (near_of s.net g (range_with_len 0 s.net.generals))) before ∙ sym (one_round_more s k g)
-
-pub receivers_done : (s : Scenario) (k n : ℕ) (old new : List Seat) → n < s.net.generals
-    → ((g : ℕ) (d : Seat) → g < n → (slice_index_or old g d).heard ≡ heard_by s (k + 1) g)
-    → ((g : ℕ) (d : Seat) → n ≤ g → g < s.net.generals → (slice_index_or old g d).heard ≡ heard_by s k g)
-    → ((d : Seat) → (slice_index_or new n d).heard ≡ (slice_index_or old n d).heard ++ hears_of s k n (near_of s.net n (range_with_len 0 s.net.generals)))
-    → ((g : ℕ) (d : Seat) → g ≢ n → slice_index_or new g d ≡ slice_index_or old g d)
-    → (g : ℕ) (d : Seat) → g < n + 1 → (slice_index_or new g d).heard ≡ heard_by s (k + 1) g
-receivers_done s k n old new known done rest now others g d below = elim (bool_cases (eqb g n)) [
-  | inl e ↦
-      let same = eqb-true g n e in
-      subst (λ j. (slice_index_or new j d).heard ≡ heard_by s (k + 1) j) (sym same) (heard_now s k n (slice_index_or new n d).heard (slice_index_or old n d).heard (now d) (rest n d (omega arith) known))
-  | inr ne ↦ let other = eqb_not g n ne in ap (λ (p : Seat). p.heard) (others g d other) ∙ done g d (omega (arith, below, other))
-]
-
-pub receivers_rest : (s : Scenario) (k n : ℕ) (old new : List Seat)
-    → ((g : ℕ) (d : Seat) → n ≤ g → g < s.net.generals → (slice_index_or old g d).heard ≡ heard_by s k g)
-    → ((g : ℕ) (d : Seat) → g ≢ n → slice_index_or new g d ≡ slice_index_or old g d)
-    → (g : ℕ) (d : Seat) → n + 1 ≤ g → g < s.net.generals → (slice_index_or new g d).heard ≡ heard_by s k g
-receivers_rest s k n old new rest others g d above below =
-    let other : g ≢ n = λ same. absurd (omega (arith, above, same)) in
-    ap (λ (p : Seat). p.heard) (others g d other) ∙ rest g d (omega (arith, above)) below
-
-pub all_stand : (s : Scenario) (k : ℕ) (ps : List Seat) → AllAre (IsIn s k) s.net.generals ps → ((g : ℕ) (d : Seat) → g < s.net.generals → (slice_index_or ps g d).heard ≡ heard_by s (k + 1) g)
-    → AllAre (StandsAfter s (k + 1)) s.net.generals ps
-all_stand s k ps all heard = record {
-  count = all.count;
-  each = λ g d below. let is = all.each g d below in record { part = is.part; heard = heard g d below; round = is.round };
-}
+pub rows_behind : (s : Scenario) (k : ℕ) (old new : List Row) → new ≡ old ++ rows_in s (k + 1) → drop (length old) new ≡ rows_in s (k + 1)
+rows_behind s k old new e = ap (drop (length old)) e ∙ drop-append_seam old (rows_in s (k + 1))
 
 -- ---- the start
 
-pub pushed_each : (P : ℕ → Seat → Type 0) (old new : List Seat) (n : ℕ) (q : Seat) → length old ≡ n → new ≡ old ++ q ∷ []
-    → ((g : ℕ) (d : Seat) → g < n → P g (slice_index_or old g d)) → P n q → (g : ℕ) (d : Seat) → g < n + 1 → P g (slice_index_or new g d)
+pub pushed_each : {X : Type 0} (P : ℕ → X → Type 0) (old new : List X) (n : ℕ) (q : X) → length old ≡ n → new ≡ old ++ q ∷ []
+    → ((g : ℕ) (d : X) → g < n → P g (slice_index_or old g d)) → P n q → (g : ℕ) (d : X) → g < n + 1 → P g (slice_index_or new g d)
 pushed_each P old new n q long e each one g d below = elim (bool_cases (eqb g n)) [
   | inl t ↦
       let same = eqb-true g n t in
-      let read : slice_index_or new g d ≡ q = ap (λ (xs : List Seat). slice_index_or xs g d) e ∙ get_or_push old q d g (long ∙ sym same) in
+      let read : slice_index_or new g d ≡ q = ap (λ xs. slice_index_or xs g d) e ∙ get_or_push old q d g (long ∙ sym same) in
       subst (λ p. P g p) (sym read) (subst (λ j. P j q) (sym same) one)
   | inr f ↦
       let other = eqb_not g n f in
-      let read : slice_index_or new g d ≡ slice_index_or old g d = ap (λ (xs : List Seat). slice_index_or xs g d) e ∙ get_or_append_left old (q ∷ []) d g (omega (arith, below, other, long)) in
+      let read : slice_index_or new g d ≡ slice_index_or old g d = ap (λ xs. slice_index_or xs g d) e ∙ get_or_append_left old (q ∷ []) d g (omega (arith, below, other, long)) in
       subst (λ p. P g p) (sym read) (each g d (omega (arith, below, other)))
 ]
 
-pub length_pushed : (old new : List Seat) (n : ℕ) (q : Seat) → length old ≡ n → new ≡ old ++ q ∷ [] → length new ≡ n + 1
+pub length_pushed : {X : Type 0} (old new : List X) (n : ℕ) (q : X) → length old ≡ n → new ≡ old ++ q ∷ [] → length new ≡ n + 1
 length_pushed old new n q long e = ap length e ∙ length-append old (q ∷ []) ∙ ap (λ k. k + 1) long
 
 -- ---- the rounds

@@ -4,7 +4,7 @@ use Rattle.std.specs.List.{range_with_len, list_any, flat_map}
 use Rattle.gen_types.specs.Ends.{is_among}
 use Rattle.gen_chain.specs.Chain.{Chain, signed_path, chain_spelling}
 use Rattle.gen_script.specs.declared.lines.ScriptLine.{ScriptLine}
-use Rattle.gen_script.specs.declared.lines.ScriptLine.TheVariants.{Make, Pass, Bend, Raw, Hide, TwoHeads}
+use Rattle.gen_script.specs.declared.lines.ScriptLine.TheVariants.{Make, Pass, Bend, Raw}
 use Rattle.gen_world.specs.declared.hearing.Heard.{Heard}
 use Rattle.gen_world.specs.Heard.{round_of, first_of, heard_from}
 use Rattle.gen_world.specs.Signing.{Keys, made, lengthened, bent}

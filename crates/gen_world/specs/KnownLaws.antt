@@ -2,6 +2,7 @@
 use Rattle.std.specs.Prelude.{ℕ, ◌≡◌, List, Contains, Some, None}
 use Rattle.gen_tree.specs.Rings.{seed_of}
 use Rattle.gen_chain.specs.Chain.{Chain}
+use Rattle.gen_log.specs.declared.entries.Entry.{Entry}
 use Rattle.gen_script.specs.declared.lines.ScriptLine.{ScriptLine}
 use Rattle.gen_world.specs.declared.hearing.Heard.{Heard}
 use Rattle.gen_world.specs.Scenario.{Scenario, IsScenario, header_of, scripted, script_of}
@@ -9,6 +10,7 @@ use Rattle.gen_world.specs.Signing.{Keys}
 use Rattle.gen_world.specs.Frames.{Part, signed_in, frame_of}
 use Rattle.gen_world.specs.SignedWorld.{own_order, part_of}
 use Rattle.gen_world.specs.RoundEntries.{sign_entries, send_entries, recv_entries}
+use Rattle.gen_world.specs.WorldLogs.{logs_over}
 use Rattle.gen_world.specs.SignerTrees.{keys_with}
 use Rattle.gen_world.specs.Known.{known_of, own_keys}
 
@@ -22,7 +24,7 @@ pub record AreHisKeys (s : Scenario) (g : ℕ) (k : Keys) : Type 0 where
 abbrev pub part_by : Scenario → ℕ → Keys → Part
 part_by s g k = record { keys = k; me = g; own = own_order s g; script = script_of s.scripts g }
 
--- whatever the two heard, they sign, send and write the same
+-- whatever the two heard, they sign, send and write the same, and of the same entries they make the same logs
 pub record ActAlike (p q : Part) : Type 0 where
   pub frames : (heard : List Heard) (round to : ℕ) → frame_of p heard round to ≡ frame_of q heard round to
   pub signed : (heard : List Heard) (round : ℕ)
@@ -30,6 +32,7 @@ pub record ActAlike (p q : Part) : Type 0 where
   pub signs : (heard : List Heard) (round : ℕ) → sign_entries p heard round ≡ sign_entries q heard round
   pub sends : (heard : List Heard) (round to : ℕ) → send_entries p heard round to ≡ send_entries q heard round to
   pub recvs : (round from : ℕ) (counted : List Chain) → recv_entries p round from counted ≡ recv_entries q round from counted
+  pub logs : (entries : List Entry) → logs_over p entries ≡ logs_over q entries
 
 -- such keys are enough
 abbrev pub KeysAreEnough : Type 0

@@ -7,13 +7,13 @@ pub mod Following
 pub mod Frames
 pub mod Heard
 pub mod HeardLaws
-pub mod LogsVerify
 pub mod Known
 pub mod KnownLaws
+pub mod LogsVerify
 pub mod Loops
 pub mod Planned
-pub mod RoundEntries
 pub mod Recording
+pub mod RoundEntries
 pub mod RoundsKept
 pub mod Rows
 pub mod Scenario

@@ -1,10 +1,13 @@
--- What the run of a scenario gives: its frames in one order, and the decisions.
+-- What the run of a scenario gives: its frames in one order, the decisions, and all logs.
 use Rattle.std.specs.Prelude.{ℕ, List, map}
 use Rattle.std.specs.List.{range_with_len, flat_map}
 use Rattle.gen_net.specs.Network.{rounds}
+use Rattle.gen_log.specs.Writing.{LogBytes}
 use Rattle.gen_world.specs.declared.scenario.Decision.{Decision}
 use Rattle.gen_world.specs.Scenario.{Scenario}
 use Rattle.gen_world.specs.SignedWorld.{neighbours_of, frame_at}
+use Rattle.gen_world.specs.WorldLogs.{logs_of}
+use Rattle.gen_world.specs.Recording.{log_bytes}
 
 -- a frame, and which it is: its round, who sends it to whom, and its parcels
 pub record Row : Type 0 where
@@ -14,21 +17,26 @@ pub record Row : Type 0 where
   pub parcels : List (List ℕ)
 
 abbrev pub row_at : Scenario → ℕ → ℕ → ℕ → Row
-row_at s round to from = record { round = round; from = from; to = to; parcels = frame_at s round from to }
+row_at s round from to = record { round = round; from = from; to = to; parcels = frame_at s round from to }
 
--- the frames to a general in a round, by ascending senders
-abbrev pub rows_to : Scenario → ℕ → ℕ → List Row
-rows_to s round to = map (row_at s round to) (neighbours_of s.net to)
+-- the frames of a general in a round, by ascending receivers
+abbrev pub rows_by : Scenario → ℕ → ℕ → List Row
+rows_by s round from = map (row_at s round from) (neighbours_of s.net from)
 
--- all frames of a round, by ascending receivers
+-- all frames of a round, by ascending senders
 unfoldable pub rows_in : Scenario → ℕ → List Row
-rows_in s round = flat_map (rows_to s round) (range_with_len 0 s.net.generals)
+rows_in s round = flat_map (rows_by s round) (range_with_len 0 s.net.generals)
 
 -- all frames, round by round
 unfoldable pub rows_of : Scenario → List Row
 rows_of s = flat_map (rows_in s) (range_with_len 1 (rounds s.net))
 
--- the frames of a run, and the decisions of those who have no scripts
+-- the bytes of all logs, in the order of generals, a second log after the first
+unfoldable pub logs_of_all : Scenario → List LogBytes
+logs_of_all s = flat_map (λ g. map (log_bytes g) (logs_of s g)) (range_with_len 0 s.net.generals)
+
+-- the frames of a run, the decisions of those who have no scripts, and the logs of all
 pub record World : Type 0 where
   pub frames : List Row
   pub decisions : List Decision
+  pub logs : List LogBytes

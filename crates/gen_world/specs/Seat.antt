@@ -1,5 +1,5 @@
 -- A general as he stands in a run.
-use Rattle.std.specs.Prelude.{ℕ, ◌≡◌, ◌≤◌, ◌<◌, ◌+◌, ◌↔◌, ◌⊎◌, List, [], ◌++◌, map, Option, Some, None, Contains}
+use Rattle.std.specs.Prelude.{ℕ, ◌≡◌, ◌<◌, ◌+◌, ◌↔◌, ◌⊎◌, List, [], ◌++◌, map, Option, Some, None, Contains}
 use Rattle.gen_tree.specs.Rings.{Ring}
 use Rattle.gen_net.specs.Header.{RunHeader, height_of}
 use Rattle.gen_chain.specs.Leaves.{leaves_per_run, leaf_of_order}

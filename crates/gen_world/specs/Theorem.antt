@@ -1,8 +1,8 @@
 -- Theorem 4 of section 5 of the paper of 1982: with at most m traitors and a rest of diameter at most d, the signed messages of
 -- m + d rounds bring all of the rest to one set of orders, and so to one decision.
-use Rattle.std.specs.Prelude.{ℕ, ◌≡◌, ◌≢◌, ◌≤◌, ◌↔◌, List, [], ◌∷◌, length}
+use Rattle.std.specs.Prelude.{ℕ, ◌≡◌, ◌≢◌, ◌≤◌, ◌↔◌, List, length}
 use Rattle.gen_types.specs.Ascending.{IsListOf}
-use Rattle.gen_net.specs.Network.{Network, choose, IsLoyal}
+use Rattle.gen_net.specs.Network.{Network, IsLoyal}
 use Rattle.gen_net.specs.Walks.{HasDiameter}
 use Rattle.gen_net.specs.Run.{Run, IsRun, Accepts}
 use Rattle.gen_net.specs.Follows.{Conduct, Commands, LieutenantDecides}

@@ -5,7 +5,7 @@ use Rattle.gen_types.specs.declared.choices.ChoiceKind.TheVariants.{Only}
 use Rattle.gen_net.specs.Network.{Network}
 use Rattle.gen_net.specs.declared.message.Message.{Message}
 use Rattle.gen_net.specs.Run.{Run}
-use Rattle.gen_net.specs.Follows.{Conduct, Relays}
+use Rattle.gen_net.specs.Follows.{Relays}
 use Rattle.gen_world.specs.Theorem.{Case, IsLoyalLieutenant, AcceptsHere}
 
 -- three generals, all neighbours, with m = 1, d = 1 and two orders

@@ -1,17 +1,19 @@
 //! A general without a script: his ring, and what he signed in the round that he is in.
-ghost use Rattle.std.specs.Prelude.{◌≡◌, [], map, IfOk, OnOk, OnErr};
+ghost use Rattle.std.specs.Prelude.{◌≡◌, [], map, option_map, IfOk, OnOk, OnErr};
 ghost use Rattle.gen_chain.specs.Chain.{chain_spelling};
 ghost use Rattle.gen_world.specs.Frames.{outside_of};
 ghost use Rattle.gen_world.specs.Following.{AreOthers};
+ghost use Rattle.gen_world.specs.Loops.Journals.{chain_with};
 ghost use Rattle.gen_world.specs.Loops.Seats.{IsFree, HasSignedIt};
 
 use crate::following::{frame_of_chains, sign_round};
 use crate::hearing::Heard;
+use crate::journal_entries::{find_chain, find_outside};
 use crate::parts::Part;
 use gen_chain::SignedChain;
 use gen_script::Parcel;
 use gen_tree::KeyRing;
-use gen_types::GeneralNo;
+use gen_types::{GeneralNo, OrderNo};
 use std::alloc::{AllocError, Global};
 use std::marker::Model;
 
@@ -75,6 +77,20 @@ impl Follower {
             ≡ map chain_spelling (outside_of to self.now.signed)) }
     {
         frame_of_chains(alloc, self.signed.as_slice(), to)
+    }
+
+    /// Returns the first chain of an order among those that he signed in this round.
+    pub(crate) fn first_signed(&self, order: OrderNo) -> Option<&SignedChain>
+        ensures { option_map (λ c. c.now) result ≡ chain_with order self.now.signed }
+    {
+        find_chain(order, self.signed.as_slice())
+    }
+
+    /// Returns the first chain of an order among those that he sends a neighbour in this round.
+    pub(crate) fn first_sent(&self, to: GeneralNo, order: OrderNo) -> Option<&SignedChain>
+        ensures { option_map (λ c. c.now) result ≡ chain_with order (outside_of to self.now.signed) }
+    {
+        find_outside(to, order, self.signed.as_slice())
     }
 
     /// Ends the general, and returns his ring.

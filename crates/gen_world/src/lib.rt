@@ -6,9 +6,13 @@ mod deciding;
 mod followers;
 mod following;
 mod hearing;
+mod journal;
+mod journal_entries;
 pub mod laws;
 mod participants;
 mod parts;
+mod recording;
+mod recording_ends;
 mod roles;
 mod rows;
 mod running;
@@ -25,6 +29,7 @@ pub use counting::{Delivery, count_frame};
 pub use hearing::Heard;
 pub use participants::Participant;
 pub use parts::Part;
+pub use recording::{Finished, Recorder};
 pub use rows::{FrameRow, WorldRun};
 pub use running::run_plain;
 pub use scenario::{Decision, PlainRun, PlainScenario};
@@ -40,3 +45,5 @@ mod counting_tests;
 mod scripted_tests;
 #[cfg(test)]
 mod tests;
+#[cfg(test)]
+mod world_tests;

@@ -1,15 +1,17 @@
 //! What a general does in a round, by whether he has a script.
-ghost use Rattle.std.specs.Prelude.{◌≡◌, Some, IfOk, OnOk, OnErr};
+ghost use Rattle.std.specs.Prelude.{◌≡◌, Some, option_map, IfOk, OnOk, OnErr};
 ghost use Rattle.gen_world.specs.Following.{AreOthers};
-ghost use Rattle.gen_world.specs.Loops.Roles.{ring_of, role_frame, IsStart, MayBegin, RoleBegan};
+ghost use Rattle.gen_world.specs.Loops.Journals.{chain_with};
+ghost use Rattle.gen_world.specs.Loops.Roles.{ring_of, role_frame, role_sends, role_signs, IsStart, MayBegin, RoleBegan};
 
 use crate::followers::Follower;
 use crate::hearing::Heard;
 use crate::parts::Part;
 use crate::traitors::Traitor;
+use gen_chain::SignedChain;
 use gen_script::Parcel;
 use gen_tree::KeyRing;
-use gen_types::GeneralNo;
+use gen_types::{GeneralNo, OrderNo};
 use std::alloc::{AllocError, Global};
 
 /// How a general behaves.
@@ -58,6 +60,26 @@ impl Role {
         match self {
             Role::Loyal(follower) => follower.frame_for(alloc, to),
             Role::Scripted(traitor) => traitor.frame_for(alloc, to),
+        }
+    }
+
+    /// Returns the first chain of an order among those that he signs in this round.
+    pub(crate) fn first_signed(&self, order: OrderNo) -> Option<&SignedChain>
+        ensures { option_map (λ c. c.now) result ≡ chain_with order (role_signs self.now) }
+    {
+        match self {
+            Role::Loyal(follower) => follower.first_signed(order),
+            Role::Scripted(traitor) => traitor.first_signed(order),
+        }
+    }
+
+    /// Returns the first chain of an order among those that he sends a neighbour in this round.
+    pub(crate) fn first_sent(&self, to: GeneralNo, order: OrderNo) -> Option<&SignedChain>
+        ensures { option_map (λ c. c.now) result ≡ chain_with order (role_sends self.now to) }
+    {
+        match self {
+            Role::Loyal(follower) => follower.first_sent(to, order),
+            Role::Scripted(traitor) => traitor.first_sent(to, order),
         }
     }
 

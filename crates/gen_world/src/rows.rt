@@ -2,6 +2,7 @@
 ghost use Rattle.std.specs.Prelude.{◌≡◌};
 
 use crate::scenario::Decision;
+use gen_log::SealedLog;
 use gen_script::Parcel;
 use gen_types::GeneralNo;
 use std::marker::Model;
@@ -75,11 +76,12 @@ impl FrameRow {
     }
 }
 
-/// The run of a scenario. A contract sees the frames and the decisions.
+/// The run of a scenario. A contract sees the frames, the decisions and the logs.
 #[derive(Debug, Drop)]
 pub struct WorldRun {
     frames: Vec<FrameRow>,
     decisions: Vec<Decision>,
+    logs: Vec<SealedLog>,
 }
 
 impl Model for WorldRun {
@@ -87,19 +89,35 @@ impl Model for WorldRun {
 
     ghost Value = { World };
 
-    ghost view = { λ r. record { frames = r.frames.items; decisions = r.decisions.items } };
+    ghost view = { λ r. record {
+      frames = r.frames.items;
+      decisions = r.decisions.items;
+      logs = r.logs.items;
+    } };
 }
 
 impl WorldRun {
-    /// Returns the run with these frames and decisions.
-    pub(crate) fn new(frames: Vec<FrameRow>, decisions: Vec<Decision>) -> WorldRun
-        ensures { result ≡ record { frames = frames.items; decisions = decisions.items } }
+    /// Returns the run with these frames, decisions and logs.
+    pub(crate) fn new(
+        frames: Vec<FrameRow>,
+        decisions: Vec<Decision>,
+        logs: Vec<SealedLog>,
+    ) -> WorldRun
+        ensures { result ≡ record {
+          frames = frames.items;
+          decisions = decisions.items;
+          logs = logs.items;
+        } }
     {
-        WorldRun { frames, decisions }
+        WorldRun {
+            frames,
+            decisions,
+            logs,
+        }
     }
 
-    /// Returns the frames: round by round, those of a round by ascending receivers, and those to one
-    /// receiver by ascending senders.
+    /// Returns the frames: round by round, those of a round by ascending senders, and those of one sender
+    /// by ascending receivers.
     pub fn frames(&self) -> &[FrameRow]
         ensures { result.now ≡ self.now.frames }
     {
@@ -111,5 +129,25 @@ impl WorldRun {
         ensures { result.now ≡ self.now.decisions }
     {
         self.decisions.as_slice()
+    }
+
+    /// Returns the logs of all generals, in ascending order of generals; the second log of one who has two
+    /// stands behind his first.
+    pub fn logs(&self) -> &[SealedLog]
+        ensures { result.now ≡ self.now.logs }
+    {
+        self.logs.as_slice()
+    }
+
+    /// Gives the logs away.
+    pub fn into_logs(self) -> Vec<SealedLog>
+        ensures { result.items ≡ self.logs }
+    {
+        let WorldRun {
+            frames: _,
+            decisions: _,
+            logs,
+        } = self;
+        logs
     }
 }

@@ -1,14 +1,18 @@
 //! A general with a script: what it has him send in the round that he is in.
-ghost use Rattle.std.specs.Prelude.{◌≡◌, [], map, IfOk, OnOk, OnErr};
+ghost use Rattle.std.specs.Prelude.{◌≡◌, [], map, option_map, IfOk, OnOk, OnErr};
+ghost use Rattle.std.specs.List.{flat_map};
 ghost use Rattle.gen_world.specs.Following.{AreOthers};
-ghost use Rattle.gen_world.specs.Planned.{bytes_of, planned_to};
+ghost use Rattle.gen_world.specs.Planned.{bytes_of, chain_of, planned_to};
+ghost use Rattle.gen_world.specs.Loops.Journals.{chain_with};
 ghost use Rattle.gen_world.specs.Loops.Seats.{HasScript, HasPlanned};
 
 use crate::hearing::Heard;
+use crate::journal_entries::{find_planned, find_planned_to};
 use crate::parts::Part;
 use crate::scripted::{Planned, plan_round, planned_frame};
+use gen_chain::SignedChain;
 use gen_script::Parcel;
-use gen_types::GeneralNo;
+use gen_types::{GeneralNo, OrderNo};
 use std::alloc::{AllocError, Global};
 use std::marker::Model;
 
@@ -70,5 +74,20 @@ impl Traitor {
         ensures { IfOk result (λ frame. frame.items ≡ map bytes_of (planned_to to self.now)) }
     {
         planned_frame(alloc, self.planned.as_slice(), to)
+    }
+
+    /// Returns the first chain of an order among those that he signs in this round.
+    pub(crate) fn first_signed(&self, order: OrderNo) -> Option<&SignedChain>
+        ensures { option_map (λ c. c.now) result ≡ chain_with order (flat_map chain_of self.now) }
+    {
+        find_planned(order, self.planned.as_slice())
+    }
+
+    /// Returns the first chain of an order among those that he sends a neighbour in this round.
+    pub(crate) fn first_sent(&self, to: GeneralNo, order: OrderNo) -> Option<&SignedChain>
+        ensures { option_map (λ c. c.now) result
+            ≡ chain_with order (flat_map chain_of (planned_to to self.now)) }
+    {
+        find_planned_to(to, order, self.planned.as_slice())
     }
 }

@@ -1,19 +1,20 @@
 //! The run of a scenario, round by round.
-ghost use Rattle.std.specs.Prelude.{◌≡◌, ◌≢◌, ◌<◌, ◌+◌, ◌++◌, [], ◌∷◌, ℕ, length, slice_index_or, IfOk, OnOk};
-ghost use Rattle.std.specs.List.{range_with_len};
+ghost use Rattle.std.specs.Prelude.{◌≡◌, ◌<◌, ◌+◌, ◌++◌, [], ◌∷◌, IfOk, OnOk};
+ghost use Rattle.std.specs.List.{flat_map, range_with_len};
 ghost use Rattle.gen_net.specs.Network.{rounds};
 ghost use Rattle.gen_world.specs.Deciding.{decisions_of};
-ghost use Rattle.gen_world.specs.Rows.{rows_of, rows_in, rows_to};
-ghost use Rattle.gen_world.specs.Seat.{Seat};
+ghost use Rattle.gen_world.specs.Recording.{logs_written};
+ghost use Rattle.gen_world.specs.Rows.{rows_of, rows_in, rows_by, logs_of_all};
 ghost use Rattle.gen_world.specs.SignedLaw.{IsBounded, AreAlike};
-ghost use Rattle.gen_world.specs.SeatLaws.{IsIn};
-ghost use Rattle.gen_world.specs.Loops.Worlds.{StandsAfter, AllAre, AllStand, AllBegun, ring_at, near_of, hears_of, rows_from, rows_first, rows_until, decided_of};
+ghost use Rattle.gen_world.specs.Loops.Records.{RecordsAfter, HasSent, HasHeard, AllRecord, AllHear};
+ghost use Rattle.gen_world.specs.Loops.Worlds.{StandsAfter, ring_at, near_of, rows_for, rows_first, rows_until, decided_of};
 
 use crate::laws::theorem_holds_of_scenarios;
-use crate::participants::Participant;
+use crate::recording::Recorder;
 use crate::rows::{FrameRow, WorldRun};
 use crate::scenario::Decision;
 use crate::signed::Scenario;
+use gen_log::SealedLog;
 use gen_tree::KeyRing;
 use gen_types::GeneralNo;
 use std::alloc::{AllocError, Global};
@@ -26,7 +27,7 @@ pub(crate) fn close_ring(ring: Option<KeyRing>) {
 }
 
 /// Closes the rings of all.
-fn close_all(mut parts: Vec<Participant>) {
+fn close_all(mut parts: Vec<Recorder>) {
     while let Some(part) = parts.pop() {
         close_ring(part.close());
     }
@@ -49,19 +50,19 @@ pub(crate) fn ring_for(
 }
 
 /// Makes a general of the scenario, as he is before the first round.
-fn participant_of(
+fn recorder_of(
     alloc: Global,
     scenario: &Scenario,
     general: GeneralNo,
-) -> Result<Participant, AllocError>
+) -> Result<Recorder, AllocError>
     requires { general < scenario.now.net.generals }
-    ensures { IfOk result (λ part. StandsAfter scenario.now 0 general part) }
+    ensures { IfOk result (λ part. RecordsAfter scenario.now 0 general part) }
 {
     let _lawful = scenario.header();
     let part = scenario.part(alloc, general)?;
     let ring = ring_for(scenario, general)?;
-    match Participant::new(alloc, part, ring) {
-        Ok(participant) => Ok(participant),
+    match Recorder::new(alloc, part, ring) {
+        Ok(recorder) => Ok(recorder),
         Err(ring) => {
             close_ring(ring);
             Err(AllocError)
@@ -70,46 +71,25 @@ fn participant_of(
 }
 
 /// Makes all generals as they are before the first round.
-fn make_all(
-    alloc: Global,
-    scenario: &Scenario,
-    parts: &mut Vec<Participant>,
-) -> Result<(), AllocError>
+fn make_all(alloc: Global, scenario: &Scenario, parts: &mut Vec<Recorder>) -> Result<(), AllocError>
     requires { parts.old.items ≡ [] }
-    ensures { OnOk result (AllStand scenario.now 0 parts.new.items) }
+    ensures { OnOk result (AllRecord scenario.now 0 parts.new.items) }
 {
     let generals = scenario.header().net().generals();
     parts.reserve(usize::from(generals))?;
     'generals: for number in 0..generals {
-        let part = participant_of(alloc, scenario, GeneralNo::at(number))?;
+        let part = recorder_of(alloc, scenario, GeneralNo::at(number))?;
         parts.push(part).unwrap();
     }
     Ok(())
 }
 
-/// Begins the round after the first ones, for each.
-fn begin_all(
+/// A general sends another one his frame, where they are neighbours.
+fn send_one(
     alloc: Global,
     scenario: &Scenario,
     gone: u8,
-    parts: &mut Vec<Participant>,
-) -> Result<(), AllocError>
-    requires gone { gone < rounds scenario.now.net }
-    requires all { AllStand scenario.now gone parts.old.items }
-    ensures { OnOk result (AllBegun scenario.now gone parts.new.items) }
-{
-    'parts: for index in 0..parts.len() {
-        parts[index].begin_round(alloc)?;
-    }
-    Ok(())
-}
-
-/// The frame from one general to another is made and heard, where they are neighbours.
-fn hear_one(
-    alloc: Global,
-    scenario: &Scenario,
-    gone: u8,
-    parts: &mut Vec<Participant>,
+    part: &mut Recorder,
     from: GeneralNo,
     to: GeneralNo,
     frames: &mut Vec<FrameRow>,
@@ -117,82 +97,113 @@ fn hear_one(
     requires gone { gone < rounds scenario.now.net }
     requires from { from < scenario.now.net.generals }
     requires to { to < scenario.now.net.generals }
-    requires all { AllAre (IsIn scenario.now gone) scenario.now.net.generals parts.old.items }
-    ensures all { OnOk result (AllAre (IsIn scenario.now gone) scenario.now.net.generals parts.new.items) }
-    ensures heard { OnOk result ((d : Seat) → (slice_index_or parts.new.items to d).heard
-        ≡ (slice_index_or parts.old.items to d).heard
-        ++ hears_of scenario.now gone to (near_of scenario.now.net to (from ∷ []))) }
-    ensures others { OnOk result ((g : ℕ) (d : Seat) → g ≢ to
-        → slice_index_or parts.new.items g d ≡ slice_index_or parts.old.items g d) }
+    requires sent { HasSent scenario.now gone from
+        (near_of scenario.now.net from (range_with_len 0 to)) part.old }
+    ensures sent { OnOk result (HasSent scenario.now gone from
+        (near_of scenario.now.net from (range_with_len 0 (to + 1))) part.new) }
     ensures frames { OnOk result (frames.new.items ≡ frames.old.items
-        ++ rows_from scenario.now gone to (near_of scenario.now.net to (from ∷ []))) }
+        ++ rows_for scenario.now gone from (near_of scenario.now.net from (to ∷ []))) }
 {
     let _rounds = scenario.header().net().rounds();
-    if !scenario.header().net().has_edge(to, from) {
+    if !scenario.header().net().has_edge(from, to) {
         return Ok(());
     }
-    let parcels = parts[usize::from(from.get())].frame_for(alloc, to)?;
-    parts[usize::from(to.get())].hear(alloc, from, parcels.as_slice())?;
+    let parcels = part.send(alloc, to)?;
     frames.push(FrameRow::new(gone + 1, from, to, parcels))?;
     Ok(())
 }
 
-/// All frames of a round to one general are made and heard.
-fn hear_all_of(
+/// A general begins the round after the first ones, and sends his neighbours their frames.
+fn send_all_of(
     alloc: Global,
     scenario: &Scenario,
     gone: u8,
-    parts: &mut Vec<Participant>,
-    to: GeneralNo,
+    part: &mut Recorder,
+    from: GeneralNo,
     frames: &mut Vec<FrameRow>,
 ) -> Result<(), AllocError>
     requires gone { gone < rounds scenario.now.net }
-    requires to { to < scenario.now.net.generals }
-    requires all { AllAre (IsIn scenario.now gone) scenario.now.net.generals parts.old.items }
-    ensures all { OnOk result (AllAre (IsIn scenario.now gone) scenario.now.net.generals parts.new.items) }
-    ensures heard { OnOk result ((d : Seat) → (slice_index_or parts.new.items to d).heard
-        ≡ (slice_index_or parts.old.items to d).heard ++ hears_of scenario.now gone to
-        (near_of scenario.now.net to (range_with_len 0 scenario.now.net.generals))) }
-    ensures others { OnOk result ((g : ℕ) (d : Seat) → g ≢ to
-        → slice_index_or parts.new.items g d ≡ slice_index_or parts.old.items g d) }
-    ensures frames { OnOk result (frames.new.items ≡ frames.old.items ++ rows_to scenario.now (gone + 1) to) }
+    requires from { from < scenario.now.net.generals }
+    requires stands { RecordsAfter scenario.now gone from part.old }
+    ensures sent { OnOk result (HasHeard scenario.now gone from [] part.new) }
+    ensures frames { OnOk result (frames.new.items ≡ frames.old.items ++ rows_by scenario.now (gone + 1) from) }
 {
-    'senders: for number in 0..scenario.header().net().generals() {
-        let from = GeneralNo::at(number);
-        hear_one(alloc, scenario, gone, parts, from, to, frames)?;
+    part.begin_round(alloc)?;
+    'receivers: for number in 0..scenario.header().net().generals() {
+        let to = GeneralNo::at(number);
+        send_one(alloc, scenario, gone, part, from, to, frames)?;
     }
     Ok(())
 }
 
-/// All frames of a round are made and heard.
+/// Each general begins the round after the first ones, and sends his neighbours their frames.
+fn send_all(
+    alloc: Global,
+    scenario: &Scenario,
+    gone: u8,
+    parts: &mut Vec<Recorder>,
+    frames: &mut Vec<FrameRow>,
+) -> Result<(), AllocError>
+    requires gone { gone < rounds scenario.now.net }
+    requires all { AllRecord scenario.now gone parts.old.items }
+    ensures all { OnOk result (AllHear scenario.now gone [] parts.new.items) }
+    ensures frames { OnOk result (frames.new.items ≡ frames.old.items ++ rows_in scenario.now (gone + 1)) }
+{
+    'senders: for number in 0..scenario.header().net().generals() {
+        let part = &mut parts[usize::from(number)];
+        send_all_of(alloc, scenario, gone, part, GeneralNo::at(number), frames)?;
+    }
+    Ok(())
+}
+
+/// The frames of a round are heard, each by its receiver.
 fn hear_all(
     alloc: Global,
     scenario: &Scenario,
     gone: u8,
-    parts: &mut Vec<Participant>,
+    parts: &mut Vec<Recorder>,
+    rows: &[FrameRow],
+) -> Result<(), AllocError>
+    requires gone { gone < rounds scenario.now.net }
+    requires rows { rows.now ≡ rows_in scenario.now (gone + 1) }
+    requires all { AllHear scenario.now gone [] parts.old.items }
+    ensures { OnOk result (AllRecord scenario.now (gone + 1) parts.new.items) }
+{
+    let _lawful = scenario.header();
+    'rows: for row in rows {
+        let part = &mut parts[usize::from(row.to().get())];
+        part.hear(alloc, row.from(), row.parcels())?;
+    }
+    Ok(())
+}
+
+/// Runs the round after the first ones: all frames are made, and then each is heard.
+fn run_round(
+    alloc: Global,
+    scenario: &Scenario,
+    gone: u8,
+    parts: &mut Vec<Recorder>,
     frames: &mut Vec<FrameRow>,
 ) -> Result<(), AllocError>
     requires gone { gone < rounds scenario.now.net }
-    requires all { AllBegun scenario.now gone parts.old.items }
-    ensures all { OnOk result (AllStand scenario.now (gone + 1) parts.new.items) }
+    requires all { AllRecord scenario.now gone parts.old.items }
+    ensures all { OnOk result (AllRecord scenario.now (gone + 1) parts.new.items) }
     ensures frames { OnOk result (frames.new.items ≡ frames.old.items ++ rows_in scenario.now (gone + 1)) }
 {
-    'receivers: for number in 0..scenario.header().net().generals() {
-        let to = GeneralNo::at(number);
-        hear_all_of(alloc, scenario, gone, parts, to, frames)?;
-    }
-    Ok(())
+    let first = frames.len();
+    send_all(alloc, scenario, gone, parts, frames)?;
+    hear_all(alloc, scenario, gone, parts, &frames[first..])
 }
 
 /// Appends what a general decides, after the last round, where he has no script.
 fn add_decision(
     scenario: &Scenario,
-    part: &Participant,
+    part: &Recorder,
     decisions: &mut Vec<Decision>,
 ) -> Result<(), AllocError>
-    requires { StandsAfter scenario.now (rounds scenario.now.net) part.now.known.me part.now }
+    requires { StandsAfter scenario.now (rounds scenario.now.net) part.now.seat.known.me part.now.seat }
     ensures { OnOk result (decisions.new.items
-        ≡ decisions.old.items ++ decided_of scenario.now (part.now.known.me ∷ [])) }
+        ≡ decisions.old.items ++ decided_of scenario.now (part.now.seat.known.me ∷ [])) }
 {
     if !scenario.has_script(part.me()) {
         decisions.push(part.decide())?;
@@ -204,9 +215,9 @@ fn add_decision(
 fn decide_all(
     alloc: Global,
     scenario: &Scenario,
-    parts: &[Participant],
+    parts: &[Recorder],
 ) -> Result<Vec<Decision>, AllocError>
-    requires { AllStand scenario.now (rounds scenario.now.net) parts.now }
+    requires { AllRecord scenario.now (rounds scenario.now.net) parts.now }
     ensures { IfOk result (λ decisions. decisions.items ≡ decisions_of scenario.now) }
 {
     let mut decisions = Vec::new(alloc);
@@ -216,28 +227,59 @@ fn decide_all(
     Ok(decisions)
 }
 
+/// A general ends, and his logs are appended.
+fn finish_one(alloc: Global, part: Recorder, logs: &mut Vec<SealedLog>) -> Result<(), AllocError>
+    ensures { OnOk result (logs.new.items ≡ logs.old.items ++ logs_written part) }
+{
+    match part.finish(alloc) {
+        Ok(end) => {
+            let (mut own, ring) = end.into_parts();
+            close_ring(ring);
+            logs.append(&mut own)
+        }
+        Err(ring) => {
+            close_ring(ring);
+            Err(AllocError)
+        }
+    }
+}
+
+/// The generals end one after another, and these are their logs. Where memory is refused the others are
+/// left.
+fn finish_all(alloc: Global, parts: &mut Vec<Recorder>) -> Result<Vec<SealedLog>, AllocError>
+    ensures { IfOk result (λ logs. logs.items ≡ flat_map logs_written parts.old.items) }
+{
+    let mut logs = Vec::new(alloc);
+    parts.reverse();
+    while let Some(part) = parts.pop() {
+        finish_one(alloc, part, &mut logs)?;
+    }
+    Ok(logs)
+}
+
 /// Runs all rounds with generals who have to be closed, whatever comes.
 fn run_rounds(
     alloc: Global,
     scenario: &Scenario,
-    parts: &mut Vec<Participant>,
+    parts: &mut Vec<Recorder>,
 ) -> Result<WorldRun, AllocError>
     requires { parts.old.items ≡ [] }
     ensures frames { IfOk result (λ run. run.frames ≡ rows_of scenario.now) }
     ensures decisions { IfOk result (λ run. run.decisions ≡ decisions_of scenario.now) }
+    ensures logs { IfOk result (λ run. run.logs ≡ logs_of_all scenario.now) }
 {
     make_all(alloc, scenario, parts)?;
     let mut frames = Vec::new(alloc);
     'rounds: for gone in 0..scenario.header().net().rounds() {
-        begin_all(alloc, scenario, gone, parts)?;
-        hear_all(alloc, scenario, gone, parts, &mut frames)?;
+        run_round(alloc, scenario, gone, parts, &mut frames)?;
     }
     let decisions = decide_all(alloc, scenario, parts.as_slice())?;
-    Ok(WorldRun::new(frames, decisions))
+    let logs = finish_all(alloc, parts)?;
+    Ok(WorldRun::new(frames, decisions, logs))
 }
 
-/// Runs a scenario: every frame of every round, and the decisions of all who have no scripts. All rings are
-/// closed, also where memory is refused.
+/// Runs a scenario: every frame of every round, the decisions of all who have no scripts, and the logs of
+/// all, two of a general whose script says so. All rings are closed, also where memory is refused.
 ///
 /// # Errors
 ///
@@ -245,6 +287,8 @@ fn run_rounds(
 pub fn run_world(alloc: Global, scenario: &Scenario) -> Result<WorldRun, AllocError>
     ensures frames { IfOk result (λ run. run.frames ≡ rows_of scenario.now) }
     ensures decisions { IfOk result (λ run. run.decisions ≡ decisions_of scenario.now) }
+    // Each of them verifies: the law `logs_verify`.
+    ensures logs { IfOk result (λ run. run.logs ≡ logs_of_all scenario.now) }
     // Theorem 4 of the paper of 1982: with at most m traitors, none of whom sends bytes of his own, and
     // any two of the rest joined inside the rest by at most d edges, the rest decide alike.
     ensures alike { IsBounded scenario.now

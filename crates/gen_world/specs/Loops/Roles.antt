@@ -1,15 +1,16 @@
 -- What a general has beside what he knows and heard, by whether he has a script.
-use Rattle.std.specs.Prelude.{ℕ, ◌≡◌, ◌≤◌, List, [], Option, Some, None, Contains, length, map, take}
+use Rattle.std.specs.Prelude.{ℕ, ◌≡◌, ◌≤◌, List, [], Option, Some, None, length, map, take}
+use Rattle.std.specs.List.{flat_map}
 use Rattle.gen_tree.specs.Rings.{Ring}
 use Rattle.gen_world.specs.declared.hearing.Heard.{Heard}
 use Rattle.gen_world.specs.declared.roles.Role.{Role}
 use Rattle.gen_world.specs.declared.roles.Role.TheVariants.{Loyal, Scripted}
-use Rattle.gen_chain.specs.Chain.{chain_spelling}
+use Rattle.gen_chain.specs.Chain.{Chain, chain_spelling}
 use Rattle.gen_world.specs.Frames.{outside_of}
 use Rattle.gen_world.specs.Following.{AreOthers}
-use Rattle.gen_world.specs.Known.{Known, IsKnown}
-use Rattle.gen_world.specs.Loops.Seats.{Hand, IsHand, IsFree, HasSignedIt, HasScript, HasPlanned}
-use Rattle.gen_world.specs.Planned.{bytes_of, planned_to}
+use Rattle.gen_world.specs.Known.{Known}
+use Rattle.gen_world.specs.Loops.Seats.{IsHand, IsFree, HasSignedIt, HasScript, HasPlanned}
+use Rattle.gen_world.specs.Planned.{bytes_of, chain_of, planned_to}
 
 -- his ring, if he has one
 abbrev pub ring_of : Role → Option Ring
@@ -30,6 +31,15 @@ IsRole k heard before round (Scripted planned) = HasScript k × HasPlanned k bef
 abbrev pub role_frame : Role → ℕ → List (List ℕ)
 role_frame (Loyal hand) to = map chain_spelling (outside_of to hand.signed)
 role_frame (Scripted planned) to = map bytes_of (planned_to to planned)
+
+-- the chains that he signs in this round, and those that he sends a neighbour
+abbrev pub role_signs : Role → List Chain
+role_signs (Loyal hand) = hand.signed
+role_signs (Scripted planned) = flat_map chain_of planned
+
+abbrev pub role_sends : Role → ℕ → List Chain
+role_sends (Loyal hand) to = outside_of to hand.signed
+role_sends (Scripted planned) to = flat_map chain_of (planned_to to planned)
 
 -- he may begin a round
 abbrev pub MayBegin : Known → List Heard → ℕ → Role → Type 0

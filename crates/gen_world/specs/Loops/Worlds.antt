@@ -1,5 +1,5 @@
 -- The generals of a scenario, all together, while they go from round to round.
-use Rattle.std.specs.Prelude.{ℕ, ◌≡◌, ◌<◌, ◌+◌, Bool, not, List, [], Option, Some, None, map, filter, length, slice_index_or}
+use Rattle.std.specs.Prelude.{ℕ, ◌≡◌, ◌+◌, not, List, [], Option, Some, None, map, filter, ◌<◌, length, slice_index_or}
 use Rattle.std.specs.List.{range_with_len, list_any, flat_map}
 use Rattle.gen_tree.specs.Rings.{Ring, seed_of}
 use Rattle.gen_net.specs.Version.{height_in}
@@ -11,7 +11,7 @@ use Rattle.gen_world.specs.declared.scenario.Decision.{Decision}
 use Rattle.gen_world.specs.Scenario.{Scenario, has_script, script_of}
 use Rattle.gen_world.specs.SignedWorld.{heard_of, heard_by}
 use Rattle.gen_world.specs.Deciding.{decision_of}
-use Rattle.gen_world.specs.Rows.{Row, row_at, rows_to, rows_in}
+use Rattle.gen_world.specs.Rows.{Row, row_at, rows_by, rows_in}
 use Rattle.gen_world.specs.Seat.{Seat}
 use Rattle.gen_world.specs.SeatLaws.{IsPartOf, IsIn}
 
@@ -30,9 +30,9 @@ abbrev pub ring_at : Scenario → ℕ → Option Ring
 ring_at s g = ring_under s g (script_of s.scripts g)
 
 -- one stands at each place, and this holds of each
-pub record AllAre (P : ℕ → Seat → Type 0) (n : ℕ) (ps : List Seat) : Type 0 where
-  pub count : length ps ≡ n
-  pub each : (g : ℕ) (d : Seat) → g < n → P g (slice_index_or ps g d)
+pub record AllAre {X : Type 0} (P : ℕ → X → Type 0) (n : ℕ) (xs : List X) : Type 0 where
+  pub count : length xs ≡ n
+  pub each : (g : ℕ) (d : X) → g < n → P g (slice_index_or xs g d)
 
 abbrev pub AllStand : Scenario → ℕ → List Seat → Type 0
 AllStand s k = AllAre (StandsAfter s k) s.net.generals
@@ -41,21 +41,21 @@ AllStand s k = AllAre (StandsAfter s k) s.net.generals
 abbrev pub AllBegun : Scenario → ℕ → List Seat → Type 0
 AllBegun s k = AllAre (λ g p. IsIn s k g p × (p.heard ≡ heard_by s k g)) s.net.generals
 
--- those of the generals who are neighbours
+-- those of these generals who are his neighbours
 abbrev pub near_of : Network → ℕ → List ℕ → List ℕ
-near_of net to = filter (λ from. list_any (joins to from) net.edges)
+near_of net g = filter (λ h. list_any (joins g h) net.edges)
 
 -- what a general hears of these in the round after the first k
 abbrev pub hears_of : Scenario → ℕ → ℕ → List ℕ → List Heard
 hears_of s k to froms = flat_map (heard_of s (heard_by s k) (k + 1) to) froms
 
--- the frames of these to him
-abbrev pub rows_from : Scenario → ℕ → ℕ → List ℕ → List Row
-rows_from s k to froms = map (row_at s (k + 1) to) froms
+-- his frames to these
+abbrev pub rows_for : Scenario → ℕ → ℕ → List ℕ → List Row
+rows_for s k from tos = map (row_at s (k + 1) from) tos
 
--- the frames to the first generals, and those of the first rounds
+-- the frames of the first generals, and those of the first rounds
 unfoldable pub rows_first : Scenario → ℕ → ℕ → List Row
-rows_first s k n = flat_map (rows_to s (k + 1)) (range_with_len 0 n)
+rows_first s k n = flat_map (rows_by s (k + 1)) (range_with_len 0 n)
 
 unfoldable pub rows_until : Scenario → ℕ → List Row
 rows_until s k = flat_map (rows_in s) (range_with_len 1 k)

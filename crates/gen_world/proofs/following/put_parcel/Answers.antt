@@ -1,5 +1,4 @@
-use Rattle.std.proofs.Common.{◌≡◌, ◌∙◌, true, not, map, ◌++◌, ◌∷◌, [], List, ℕ, ap, Contains}
-use Rattle.gen_types.specs.Ends.{is_among}
+use Rattle.std.proofs.Common.{◌∙◌, ◌++◌, ◌∷◌, [], List, ℕ, ap}
 use Rattle.gen_types.proofs.Among.{out_among}
 use Rattle.gen_chain.specs.Chain.{signed_path}
 use Rattle.gen_world.proofs.following.put_parcel.Goals as goal

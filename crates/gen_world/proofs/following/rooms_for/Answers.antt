@@ -1,6 +1,4 @@
-use Rattle.std.proofs.Common.{◌≡◌, ◌≤◌, ◌∙◌, sym, ap, ◌+◌, arith, vec_len, All}
-use Rattle.gen_world.specs.Heard.{first_of}
-use Rattle.gen_world.specs.Loops.Relays.{IsRoom, due_of, one_or_none}
+use Rattle.std.proofs.Common.{◌∙◌, sym, arith}
 use Rattle.gen_world.proofs.Relaying.{count_none, count_more}
 use Rattle.gen_world.proofs.following.rooms_for.Goals as goal
 

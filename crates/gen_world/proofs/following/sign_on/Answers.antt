@@ -1,4 +1,4 @@
-use Rattle.std.proofs.Common.{◌≡◌, ◌∙◌, sym, Contains, ◌⊎◌, Some}
+use Rattle.std.proofs.Common.{◌≡◌, ◌∙◌, Some}
 use Rattle.std.proofs.lemmas.Option.{MatchOption-at_some}
 use Rattle.gen_world.proofs.Relaying.{one_behind}
 use Rattle.gen_world.proofs.following.sign_on.Goals as goal

@@ -1,9 +1,7 @@
-use Rattle.std.proofs.Common.{◌≡◌, ◌≤◌, ◌<◌, ◌∙◌, ap, refl, sym, Contains, ◌⊎◌, inl, inr, Some, arith, ◌++◌, ◌∷◌, [], List}
+use Rattle.std.proofs.Common.{◌≡◌, ◌<◌, ◌∙◌, ap, sym, inl, inr, Some, arith, ◌∷◌, []}
 use Rattle.std.proofs.lemmas.Option.{MatchOption-at_some}
 use Rattle.gen_types.specs.Heights.{leaves_of}
-use Rattle.gen_net.specs.Header.{height_of}
 use Rattle.gen_chain.specs.Chain.{Chain}
-use Rattle.gen_chain.specs.Leaves.{leaf_of_order}
 use Rattle.gen_world.specs.Following.{IsSignedWith}
 use Rattle.gen_world.specs.Known.{own_keys}
 use Rattle.gen_world.proofs.Relaying.{some_result, begun_alone, own_leaf, own_taken, own_chain}

@@ -1,5 +1,4 @@
-use Rattle.std.proofs.Common.{◌≡◌, ◌≤◌, ◌<◌, ◌+◌, ◌∙◌, sym, ap, refl, ℕ, Contains, arith}
-use Rattle.gen_chain.specs.Leaves.{leaf_of_order}
+use Rattle.std.proofs.Common.{◌≡◌, ◌<◌, ◌+◌, ◌∙◌, sym, ap, refl, arith}
 use Rattle.gen_world.specs.Known.{own_keys}
 use Rattle.gen_world.proofs.Relaying.{count_none, count_more, count_below, relays_none, relays_more, relays_all, taken_start, taken_more, taken_end, next_free}
 use Rattle.gen_world.proofs.following.sign_relays.Goals as goal

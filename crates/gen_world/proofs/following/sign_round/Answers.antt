@@ -1,5 +1,4 @@
-use Rattle.std.proofs.Common.{◌≡◌, ◌↔◌, ◌⊎◌, ℕ, Contains, Some, None, []}
-use Rattle.gen_world.specs.Following.{IsSignedWith}
+use Rattle.std.proofs.Common.{[]}
 use Rattle.gen_world.proofs.Relaying.{on_ok, own_with, own_taken_with}
 use Rattle.gen_world.proofs.following.sign_round.Goals as goal
 

@@ -1,14 +1,6 @@
-use Rattle.std.proofs.Common.{◌≡◌, ◌+◌, ◌≤◌, ◌<◌, ◌++◌, ℕ, slice_index_or}
-use Rattle.gen_world.specs.SignedWorld.{heard_by}
-use Rattle.gen_world.specs.Seat.{Seat}
-use Rattle.gen_world.specs.SeatLaws.{IsIn}
-use Rattle.gen_world.specs.Loops.Worlds.{AllAre, rows_first}
+use Rattle.std.proofs.Common.{take}
+use Rattle.gen_world.specs.Loops.Records.{AllHear}
 use Rattle.gen_world.proofs.world.hear_all.Given as goal
 
-abbrev pub invariant-receivers : goal.invariant-receivers
-invariant-receivers l = record {
-  all : AllAre (IsIn l.scenario l.gone) l.scenario.net.generals l.parts.items;
-  done : (g : ℕ) (d : Seat) → g < l.number → (slice_index_or l.parts.items g d).heard ≡ heard_by l.scenario (l.gone + 1) g;
-  rest : (g : ℕ) (d : Seat) → l.number ≤ g → g < l.scenario.net.generals → (slice_index_or l.parts.items g d).heard ≡ heard_by l.scenario l.gone g;
-  frames : l.frames.items ≡ l.initial.frames.items ++ rows_first l.scenario l.gone l.number;
-}
+abbrev pub invariant-rows : goal.invariant-rows
+invariant-rows l = AllHear l.scenario l.gone (take l.row-index l.rows) l.parts.items

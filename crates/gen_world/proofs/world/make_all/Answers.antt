@@ -1,5 +1,5 @@
 use Rattle.std.proofs.Common.{◌≡◌, ◌∙◌, ap, arith}
-use Rattle.gen_world.specs.Loops.Worlds.{StandsAfter}
+use Rattle.gen_world.specs.Loops.Records.{RecordsAfter}
 use Rattle.gen_world.proofs.Worlds.{pushed_each, length_pushed}
 use Rattle.gen_world.proofs.world.make_all.Goals as goal
 
@@ -14,5 +14,5 @@ generals-preserved c =
       count = length_pushed c.generals.parts.items c.push.new.self.items n c.in_ok-part.part c.generals.invariant.count items;
       len = omega (arith, len, c.generals.invariant.len);
       room = omega (arith, c.push.ensures.capacity, c.generals.invariant.room);
-      each = pushed_each (StandsAfter s 0) c.generals.parts.items c.push.new.self.items n c.in_ok-part.part c.generals.invariant.count items c.generals.invariant.each made;
+      each = pushed_each (RecordsAfter s 0) c.generals.parts.items c.push.new.self.items n c.in_ok-part.part c.generals.invariant.count items c.generals.invariant.each made;
     }

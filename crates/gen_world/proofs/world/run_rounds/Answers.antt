@@ -1,6 +1,8 @@
-use Rattle.std.proofs.Common.{◌≡◌, ◌∙◌, ap, arith}
+use Rattle.std.proofs.Common.{◌≡◌, ◌∙◌, ap, subst, arith}
 use Rattle.gen_net.specs.Network.{rounds}
+use Rattle.gen_world.specs.Loops.Records.{AllRecord}
 use Rattle.gen_world.proofs.Worlds.{rows_none, rows_round, rows_all}
+use Rattle.gen_world.proofs.Recorders.{all_logs}
 use Rattle.gen_world.proofs.world.run_rounds.Goals as goal
 
 pub rounds-init : goal.rounds-init
@@ -11,8 +13,8 @@ rounds-init c = record {
 
 pub rounds-preserved : goal.rounds-preserved
 rounds-preserved c = record {
-  all = c.in_ok-hear_all.ensures.all;
-  frames = rows_round c.args.scenario.now c.rounds.gone c.rounds.frames.items c.hear_all.new.frames.items c.rounds.invariant.frames c.in_ok-hear_all.ensures.frames;
+  all = c.in_ok-run_round.ensures.all;
+  frames = rows_round c.args.scenario.now c.rounds.gone c.rounds.frames.items c.run_round.new.frames.items c.rounds.invariant.frames c.in_ok-run_round.ensures.frames;
 }
 
 pub returns-clause-frames : goal.returns-clause-frames
@@ -20,3 +22,10 @@ returns-clause-frames c =
     let s = c.args.scenario.now in
     let stop : c.rounds.gone ≡ rounds s.net = omega (arith, c.rounds-test.false, c.rounds.auto.gone-end, c.rounds-gone-end.ensures.value, ap rounds (c.net.ensures.value ∙ ap (λ h. h.network) c.header.ensures.value)) in
     ap (λ world. world.frames) c.new.ensures ∙ rows_all s c.rounds.gone c.rounds.frames.items stop c.rounds.invariant.frames
+
+pub returns-clause-logs : goal.returns-clause-logs
+returns-clause-logs c =
+    let s = c.args.scenario.now in
+    let stop : c.rounds.gone ≡ rounds s.net = omega (arith, c.rounds-test.false, c.rounds.auto.gone-end, c.rounds-gone-end.ensures.value, ap rounds (c.net.ensures.value ∙ ap (λ h. h.network) c.header.ensures.value)) in
+    let all = subst (λ k. AllRecord s k c.rounds.parts.items) stop c.rounds.invariant.all in
+    ap (λ world. world.logs) c.new.ensures ∙ c.in_ok-logs.ensures ∙ all_logs s c.rounds.parts.items all

@@ -1,9 +1,10 @@
 use Rattle.std.proofs.Common.{◌≡◌}
-use Rattle.gen_world.specs.Loops.Worlds.{AllStand, rows_until}
+use Rattle.gen_world.specs.Loops.Worlds.{rows_until}
+use Rattle.gen_world.specs.Loops.Records.{AllRecord}
 use Rattle.gen_world.proofs.world.run_rounds.Given as goal
 
 abbrev pub invariant-rounds : goal.invariant-rounds
 invariant-rounds l = record {
-  all : AllStand l.scenario l.gone l.parts.items;
+  all : AllRecord l.scenario l.gone l.parts.items;
   frames : l.frames.items ≡ rows_until l.scenario l.gone;
 }

@@ -6,7 +6,8 @@ use Rattle.gen_net.specs.Edges.{joins}
 use Rattle.gen_world.specs.Seat.{Seat}
 use Rattle.gen_world.specs.SeatLaws.{IsIn}
 use Rattle.gen_world.specs.Loops.Worlds.{hears_of, near_of}
-use Rattle.gen_world.proofs.Worlds.{near_known, hear_far, hear_near, at_same}
+use Rattle.gen_world.proofs.Worlds.{near_known, at_same}
+use Rattle.gen_world.proofs.SeatHearing.{hear_far, hear_near}
 use Rattle.gen_world.proofs.world_decisions.hear_one.Goals as goal
 
 pub returns-then-not-has_edge-clause-heard : goal.returns-then-not-has_edge-clause-heard

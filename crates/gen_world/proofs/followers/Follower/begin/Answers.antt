@@ -1,4 +1,4 @@
-use Rattle.std.proofs.Common.{◌≡◌, ◌∙◌, ap}
+use Rattle.std.proofs.Common.{◌≡◌}
 use Rattle.gen_world.proofs.followers.Follower.begin.Goals as goal
 
 pub sign_round-requires-clause-others : goal.sign_round-requires-clause-others

@@ -1,8 +1,9 @@
 use Rattle.std.proofs.Common.{◌≡◌, ◌∙◌, sym, ap, subst}
 use Rattle.std.proofs.lemmas.Result.{IfOk-at_ok}
-use Rattle.gen_world.specs.Seat.{MayStart, at_start}
-use Rattle.gen_world.proofs.Starting.{may_start, stands}
-use Rattle.gen_world.proofs.world.participant_of.Goals as goal
+use Rattle.gen_world.specs.Recording.{Recorded}
+use Rattle.gen_world.specs.Loops.Records.{RecordsAfter}
+use Rattle.gen_world.proofs.Starting.{may_start, records}
+use Rattle.gen_world.proofs.world.recorder_of.Goals as goal
 
 pub new-requires : goal.new-requires
 new-requires c = rw (c.in_ok-part.ensures, c.in_ok-ring.ensures) (may_start c.args.scenario.now c.args.general)
@@ -13,4 +14,4 @@ returns-in-Ok c =
     let g = c.args.general in
     let made = IfOk-at_ok _ c.in-Ok.is c.new.ensures.ok in
     let e = rw (c.in_ok-part.ensures, c.in_ok-ring.ensures) at made in
-    stands s g c.in-Ok.participant c.header-lawful.ensures.scenario e
+    records s g c.in-Ok.recorder c.header-lawful.ensures.scenario e
