@@ -10,6 +10,8 @@ mod words;
 use std::process::ExitCode;
 
 #[cfg(test)]
+mod audit_tests;
+#[cfg(test)]
 mod signed_tests;
 #[cfg(test)]
 mod tests;

@@ -1,10 +1,10 @@
 use crate::ends::{JobEnd, JobFault, Output};
 use crate::engine::decide_engine;
 use crate::program::fault_line;
-use gen_audit::BundleFault;
 use crate::transfer::{deliver, read_all, write_output};
 use crate::words::{Job, WordsFault, read_words};
 use clap::error::ErrorKind;
+use gen_audit::BundleFault;
 use gen_net::HeaderFault;
 use gen_report::{LineFault, ScenarioFault};
 use std::alloc::Global;

@@ -1,0 +1,230 @@
+//! Audits of runs: the logs of a scenario's run in a bundle, and the verdict on it. The verdicts were given by another
+//! program, in Python.
+use crate::ends::{JobEnd, JobFault};
+use crate::engine::audit_engine;
+use crate::tests::{Slip, sink_for, source_of};
+use gen_audit::{Bundle, BundleFault, write_bundle};
+use gen_local::Exhibit;
+use gen_net::Header;
+use gen_report::{ScenarioText, read_scenario};
+use gen_types::{GeneralNo, GeneralSet};
+use gen_walks::{Walks, make_walks};
+use gen_world::{Scenario, run_world};
+use std::alloc::Global;
+use std::test::*;
+
+/// A scenario's text, and the verdict on the logs of its run behind the line of the run id.
+type Row<'a> = (&'a [u8], JobEnd, &'a [u8]);
+
+// Two generals.
+const PAIR: Row<'_> = (
+    b"generals 2\nedge 0 1\ntraitors 0\ndiameter 1\norders 2\nchoice 0\norder 1\nseed 0000000000000000000000000000000000000000000000000000000000000000\nend\n",
+    JobEnd::Done,
+    b"verdict agreed 1\nend\n",
+);
+
+// The paper's figure 5: a traitorous commander splits the lieutenants.
+const SPLIT: Row<'_> = (
+    b"generals 3\nedge 0 1\nedge 0 2\nedge 1 2\ntraitors 1\ndiameter 1\norders 2\nchoice 0\norder 1\nseed 0000000000000000000000000000000000000000000000000000000000000000\nscript 0\nmake 1 1 1 0\nmake 1 2 0 0\nend\n",
+    JobEnd::Done,
+    b"verdict agreed 0\nend\n",
+);
+
+// Four generals in a line.
+const LINE: Row<'_> = (
+    b"generals 4\nedge 0 1\nedge 1 2\nedge 2 3\ntraitors 0\ndiameter 3\norders 2\nchoice 0\norder 1\nseed 0000000000000000000000000000000000000000000000000000000000000000\nend\n",
+    JobEnd::Done,
+    b"verdict agreed 1\nend\n",
+);
+
+// Six generals in a ring, of whom one does nothing.
+const RING: Row<'_> = (
+    b"generals 6\nedge 0 1\nedge 1 2\nedge 2 3\nedge 3 4\nedge 4 5\nedge 0 5\ntraitors 1\ndiameter 4\norders 2\nchoice 0\norder 1\nseed 0000000000000000000000000000000000000000000000000000000000000000\nscript 3\nend\n",
+    JobEnd::Done,
+    b"verdict agreed 1\nend\n",
+);
+
+// Two traitors show the order to one lieutenant as late as they may.
+const LATE: Row<'_> = (
+    b"generals 4\nedge 0 1\nedge 0 2\nedge 0 3\nedge 1 2\nedge 1 3\nedge 2 3\ntraitors 2\ndiameter 1\norders 2\nchoice 0\norder 0\nseed 0000000000000000000000000000000000000000000000000000000000000000\nscript 0\nscript 1\nmake 2 2 1 0,1\nend\n",
+    JobEnd::Done,
+    b"verdict agreed 1\nend\n",
+);
+
+// The same, planned for one traitor.
+const ONE_TOO_MANY: Row<'_> = (
+    b"generals 4\nedge 0 1\nedge 0 2\nedge 0 3\nedge 1 2\nedge 1 3\nedge 2 3\ntraitors 1\ndiameter 1\norders 2\nchoice 0\norder 0\nseed 0000000000000000000000000000000000000000000000000000000000000000\nscript 0\nscript 1\nmake 2 2 1 0,1\nend\n",
+    JobEnd::Done,
+    b"verdict explained\ngeneral 2 decides 1\ngeneral 3 decides 0\nend\n",
+);
+
+// A traitor stands between the others, whom no walk joins.
+const CUT: Row<'_> = (
+    b"generals 3\nedge 0 1\nedge 1 2\ntraitors 1\ndiameter 2\norders 2\nchoice 0\norder 1\nseed 0000000000000000000000000000000000000000000000000000000000000000\nscript 1\nend\n",
+    JobEnd::Negative,
+    b"verdict no\nN10 pair 0 2\nend\n",
+);
+
+// A frame of more parcels than orders, in slot 2 of version 2.
+const FLOOD: Row<'_> = (
+    b"generals 5\nedge 0 1\nedge 0 2\nedge 0 3\nedge 0 4\nedge 1 2\nedge 1 3\nedge 1 4\nedge 2 3\nedge 2 4\nedge 3 4\ntraitors 4\ndiameter 1\norders 2\nchoice 0\norder 0\nseed 0000000000000000000000000000000000000000000000000000000000000000\nslot 2\nscript 0\nscript 1\nmake 3 2 1 0,3,1\nmake 3 2 1 0,4,1\nmake 3 2 0 0,3,1\nscript 3\nscript 4\nend\n",
+    JobEnd::Done,
+    b"verdict agreed 0\nend\n",
+);
+
+/// The scenario that a text with a seed tells.
+fn scenario_of(alloc: Global, text: &[u8]) -> Result<Scenario, Fail> {
+    match read_scenario(alloc, text) {
+        Ok(ScenarioText::Signed(signed)) => Ok(signed.into_scenario(alloc)?),
+        _ => Err("no scenario with signatures".into()),
+    }
+}
+
+/// All generals but these.
+fn rest_of(header: &Header, faulty: &GeneralSet) -> GeneralSet {
+    let mut rest = GeneralSet::new();
+    for number in 0..header.net().generals() {
+        let general = GeneralNo::at(number);
+        if !faulty.contains(general) {
+            rest.insert(general);
+        }
+    }
+    rest
+}
+
+/// The best walks between all but these, or none where two of them are too far apart.
+fn walks_of(alloc: Global, header: &Header, faulty: &GeneralSet) -> Walks {
+    match make_walks(alloc, header.net(), &rest_of(header, faulty)) {
+        Ok(walks) => walks,
+        Err(_) => Walks::new(alloc),
+    }
+}
+
+/// The logs of the scenario's run, as exhibits.
+fn exhibits_of(alloc: Global, scenario: &Scenario) -> Result<Vec<Exhibit>, Fail> {
+    let mut exhibits = Vec::new(alloc);
+    for log in run_world(alloc, scenario)?.into_logs() {
+        exhibits.push(Exhibit::new(log.general(), log.into_bytes()))?;
+    }
+    Ok(exhibits)
+}
+
+/// The bytes of the bundle of these exhibits.
+fn bundle_with(
+    alloc: Global,
+    header: Header,
+    faulty: GeneralSet,
+    exhibits: Vec<Exhibit>,
+) -> Result<Vec<u8>, Fail> {
+    let walks = walks_of(alloc, &header, &faulty);
+    match Bundle::new(header, faulty, walks, exhibits) {
+        Ok(bundle) => Ok(write_bundle(alloc, &bundle)?),
+        Err(_) => Err("no bundle".into()),
+    }
+}
+
+/// The bytes of the bundle of the run that a text tells, in which those with scripts are held for faulty.
+fn bundle_of(alloc: Global, text: &[u8]) -> Result<Vec<u8>, Fail> {
+    let scenario = scenario_of(alloc, text)?;
+    let exhibits = exhibits_of(alloc, &scenario)?;
+    let header = scenario.header().clone()?;
+    bundle_with(alloc, header, scenario.scripted(), exhibits)
+}
+
+/// Whether `audit` ends so, and writes these lines behind that of the run id.
+fn judges(alloc: Global, input: &[u8], wanted: JobEnd, lines: &[u8]) -> bool {
+    let mut reader = source_of(input, 65_536, 0, Slip::Fails);
+    let mut writer = sink_for(alloc, 65_536, 0, Slip::Fails);
+    let end = audit_engine(alloc, &mut reader, &mut writer);
+    end == wanted && writer.taken.len() >= 69 && &writer.taken[69..] == lines
+}
+
+/// Whether a row is so.
+fn is_right(alloc: Global, row: &Row<'_>) -> Result<bool, Fail> {
+    let (text, wanted, lines) = *row;
+    let bundle = bundle_of(alloc, text)?;
+    Ok(judges(alloc, &bundle, wanted, lines))
+}
+
+#[test]
+fn generals_who_follow_agree(rt: HostRuntime) -> Result<(), Fail> {
+    let alloc = rt.alloc();
+    let right = is_right(alloc, &PAIR)? && is_right(alloc, &LINE)? && is_right(alloc, &RING)?;
+    assert!(rt; right);
+    Ok(())
+}
+
+#[test]
+fn under_a_traitor_they_agree(rt: HostRuntime) -> Result<(), Fail> {
+    let alloc = rt.alloc();
+    let right = is_right(alloc, &SPLIT)? && is_right(alloc, &LATE)? && is_right(alloc, &FLOOD)?;
+    assert!(rt; right);
+    Ok(())
+}
+
+#[test]
+fn one_traitor_too_many_is_explained(rt: HostRuntime) -> Result<(), Fail> {
+    let right = is_right(rt.alloc(), &ONE_TOO_MANY)?;
+    assert!(rt; right);
+    Ok(())
+}
+
+#[test]
+fn generals_who_are_parted_are_not_supported(rt: HostRuntime) -> Result<(), Fail> {
+    let right = is_right(rt.alloc(), &CUT)?;
+    assert!(rt; right);
+    Ok(())
+}
+
+/// How `audit` ends on this input where it writes nothing.
+fn refusal_of(alloc: Global, input: &[u8]) -> Option<JobEnd> {
+    let mut reader = source_of(input, 65_536, 0, Slip::Fails);
+    let mut writer = sink_for(alloc, 65_536, 0, Slip::Fails);
+    let end = audit_engine(alloc, &mut reader, &mut writer);
+    if writer.taken.is_empty() {
+        Some(end)
+    } else {
+        None
+    }
+}
+
+/// Whether bundles cut at every so manieth byte end too early.
+fn cuts_are_short(alloc: Global, bundle: &[u8], step: usize) -> bool {
+    let short = Some(JobEnd::Failed(JobFault::Bundle(BundleFault::Truncated)));
+    let mut end = 0;
+    while end < bundle.len() {
+        if refusal_of(alloc, &bundle[..end]) != short {
+            return false;
+        }
+        end = end.saturating_add(step);
+    }
+    true
+}
+
+#[test]
+fn cut_bundles_are_refused(rt: HostRuntime) -> Result<(), Fail> {
+    let alloc = rt.alloc();
+    let mut bundle = bundle_of(alloc, PAIR.0)?;
+    assert_eq!(rt; bundle.len(), 66_250);
+    assert!(rt; cuts_are_short(alloc, &bundle, 1_009));
+    bundle.push(0)?;
+    let left_over = Some(JobEnd::Failed(JobFault::Bundle(BundleFault::LeftOver)));
+    assert!(rt; refusal_of(alloc, &bundle) == left_over);
+    Ok(())
+}
+
+/// The bundle of the smallest run with other bits of the faulty.
+fn pair_without(alloc: Global, faulty: u16) -> Result<Vec<u8>, Fail> {
+    let scenario = scenario_of(alloc, PAIR.0)?;
+    let exhibits = exhibits_of(alloc, &scenario)?;
+    let header = scenario.header().clone()?;
+    bundle_with(alloc, header, GeneralSet::from_bits(faulty), exhibits)
+}
+
+#[test]
+fn nobody_is_left_to_agree(rt: HostRuntime) -> Result<(), Fail> {
+    let alloc = rt.alloc();
+    let bundle = pair_without(alloc, 3)?;
+    assert!(rt; judges(alloc, &bundle, JobEnd::Negative, b"verdict no\nN11\nend\n"));
+    Ok(())
+}
