@@ -1,6 +1,13 @@
 pub mod Agreeing
+pub mod AllFound
 pub mod Answering
+pub mod BundleBehind
+pub mod BundleFronts
+pub mod BundleLaws
+pub mod BundleParts
 pub mod Claims
+pub mod Collecting
+pub mod Decided
 pub mod Deciders
 pub mod Deciding
 pub mod FirstUnsigned
@@ -8,6 +15,7 @@ pub mod Fit
 pub mod Following
 pub mod Keeping
 pub mod LocalFinds
+pub mod Sorted
 pub mod Supporting
 pub mod Telling
 pub mod Verifying

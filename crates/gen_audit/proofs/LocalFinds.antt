@@ -180,7 +180,7 @@ module _ (b : LogBundle) where
         let mine : IsOne b.header m.0.exhibit.general (log_of b.header m.0.exhibit.bytes) f = subst (λ n. IsOne b.header n (log_of b.header m.0.exhibit.bytes) f) whose (subst (λ (y : ShownLog). IsOne b.header g (log_of b.header y.bytes) f) (sym m.2) one) in
         (m.0, m.1, subst (IsOfRest b) whose of_rest, reported b.header m.0.exhibit.general (log_of b.header m.0.exhibit.bytes) m.0.reading (reads m.0 m.1) f mine)
 
-    back : (f : Finding) → IsReported b reports f → IsFinding b f
+    pub back : (f : Finding) → IsReported b reports f → IsFinding b f
     back f (r, h, of_rest, c) =
         let inside : Contains b.exhibits r.exhibit = subst (λ xs. Contains xs r.exhibit) are.exhibits (in_mapped (λ (s : Report). s.exhibit) reports r h) in
         let his = in_filtered (λ (y : ShownLog). nat_eq y.general r.exhibit.general) b.exhibits r.exhibit inside (eq-eqb r.exhibit.general r.exhibit.general refl) in

@@ -13,6 +13,7 @@ use Rattle.gen_log.specs.LogReading.{log_of}
 use Rattle.gen_local.specs.Erased.{erased}
 use Rattle.gen_local.specs.Shown.{ShownLog}
 use Rattle.gen_match.specs.Matching.{Logs}
+use Rattle.gen_audit.specs.BundleParts.{AreMembers, AreListedWalks, AreExhibits}
 
 -- a header, the generals who are held for faulty, walks between the others, and what is shown as logs
 pub record LogBundle : Type 0 where
@@ -21,9 +22,12 @@ pub record LogBundle : Type 0 where
   pub walks : List (List ℕ)
   pub exhibits : List ShownLog
 
--- its header is one, and what is shown are bytes
+-- what each bundle keeps: its header is one, its parts are about the header's network, and what is shown are bytes
 pub record IsBundle (b : LogBundle) : Type 0 where
   pub header : IsHeader b.header
+  pub faulty : AreMembers b.header.network.generals b.faulty
+  pub walks : AreListedWalks b.header.network.generals b.walks
+  pub exhibits : AreExhibits b.header.network.generals b.exhibits
   pub bytes : (x : ShownLog) → Contains b.exhibits x → AreBelow 256 x.bytes
 
 -- what is shown as a general's log

@@ -1,9 +1,17 @@
 pub mod Agreement
+pub mod Behind
 pub mod Bundle
+pub mod BundleFields
+pub mod BundleMaking
+pub mod BundleParts
+pub mod BundleReading
+pub mod BundleSpelling
+pub mod Collecting
 pub mod Explained
 pub mod Findings
 pub mod Headline
 pub mod LocalFindings
+pub mod Sorting
 pub mod Supported
 pub mod Telling
 pub mod Verdict

@@ -1,21 +1,30 @@
 //! Bundles of logs.
 ghost use Rattle.std.specs.Prelude.{◌≡◌};
 ghost use Rattle.gen_audit.specs.Bundle.{IsBundle};
+ghost use Rattle.gen_audit.specs.BundleMaking.{bundle_with};
 
+use crate::bundle_fault::BundleFault;
+use crate::bundle_rules::{is_set_below, test, test_exhibits, test_walks};
 use gen_local::Exhibit;
 use gen_net::Header;
 use gen_types::GeneralSet;
 use gen_walks::Walks;
 use std::marker::Model;
 
+/// The four bytes `SMB1`, which stand before a header of version 1, as a number.
+pub const MARK_ONE: u32 = 0x534d_4231;
+
+/// The four bytes `SMB2`, which stand before a header of version 2, as a number.
+pub const MARK_TWO: u32 = 0x534d_4232;
+
 /// What an audit is of: a header, the generals who are held for faulty, walks between the others, who are the
 /// rest, and what is shown as logs. A contract sees all of these as one record.
 #[derive(Drop)]
 pub struct Bundle {
-    header: Header,
-    faulty: GeneralSet,
-    walks: Walks,
-    exhibits: Vec<Exhibit>,
+    pub(crate) header: Header,
+    pub(crate) faulty: GeneralSet,
+    pub(crate) walks: Walks,
+    pub(crate) exhibits: Vec<Exhibit>,
 }
 
 impl Model for Bundle {
@@ -39,6 +48,35 @@ impl Model for Bundle {
 }
 
 impl Bundle {
+    /// Returns the bundle of a header, the generals who are held for faulty, walks, and what is shown as logs. It takes
+    /// no memory.
+    ///
+    /// # Errors
+    ///
+    /// The first rule of these that is broken, and all is dropped then: FaultyRange; for the walks WalkCount where there
+    /// are more than 120, and then for each from the first WalkCount or BadWalk; for the exhibits BadExhibit where there
+    /// are more than 64, and then for each from the first BadExhibit, OutOfOrder or LongLog.
+    #[tactic(auto, unfolding(crate::specs::BundleMaking::bundle_with))]
+    pub fn new(
+        header: Header,
+        faulty: GeneralSet,
+        walks: Walks,
+        exhibits: Vec<Exhibit>,
+    ) -> Result<Bundle, BundleFault>
+        ensures { result ≡ bundle_with header faulty walks exhibits.items }
+    {
+        let n = header.net().generals();
+        test(is_set_below(&faulty, n), BundleFault::FaultyRange)?;
+        test_walks(n, walks.as_slice())?;
+        test_exhibits(n, exhibits.as_slice())?;
+        Ok(Bundle {
+            header,
+            faulty,
+            walks,
+            exhibits,
+        })
+    }
+
     /// Returns the run's header.
     pub fn header(&self) -> &Header
         ensures value { result.now ≡ self.now.header }

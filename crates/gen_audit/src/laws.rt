@@ -1,6 +1,12 @@
 //! Laws of audits. Each is a function with an empty body whose contract is the law: a caller that calls it knows
 //! the law.
+ghost use Rattle.std.specs.Prelude.{◌≡◌, Ok};
+ghost use Rattle.gen_types.specs.Spelled.{HasOneSpelling};
 ghost use Rattle.gen_audit.specs.Agreement.{FewFaultyAgree};
+ghost use Rattle.gen_audit.specs.Bundle.{LogBundle, IsBundle};
+ghost use Rattle.gen_audit.specs.BundleMaking.{bundle_with};
+ghost use Rattle.gen_audit.specs.BundleReading.{whole_bundle};
+ghost use Rattle.gen_audit.specs.BundleSpelling.{bundle_spelling};
 ghost use Rattle.gen_audit.specs.Explained.{ExplainedFindsNothing, NothingFoundExplains, RunsHaveLogs};
 ghost use Rattle.gen_audit.specs.Headline.{HeadlineHolds};
 ghost use Rattle.gen_audit.specs.LocalFindings.{ReportsFindLocal};
@@ -75,4 +81,16 @@ pub fn own_runs_are_accepted()
 /// What is found against single logs of a bundle is exactly what the reports of the rest's exhibits find.
 pub fn reports_find_local()
     ensures { ReportsFindLocal }
+{}
+
+/// A bundle has one spelling, and no spelling of a bundle is the beginning of another (`one`); and what is written is
+/// read again (`again`).
+pub fn one_bundle_spelling()
+    ensures one { HasOneSpelling IsBundle bundle_spelling }
+    ensures again { (b : LogBundle) → IsBundle b → whole_bundle (bundle_spelling b) ≡ Ok b }
+{}
+
+/// The parts of each bundle break no rule: `Bundle::new` makes it of them.
+pub fn parts_make_bundles()
+    ensures { (b : LogBundle) → IsBundle b → bundle_with b.header b.faulty b.walks b.exhibits ≡ Ok b }
 {}

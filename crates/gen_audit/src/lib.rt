@@ -11,12 +11,26 @@
 //! all of them.
 #![tactic(auto)]
 
+mod audits;
+mod bundle_fault;
+mod bundle_reading;
+mod bundle_rules;
+mod bundle_writing;
 mod bundles;
+mod findings_collected;
 pub mod laws;
+mod sorting;
+mod sorting_places;
 mod verdicts;
 
+pub use audits::audit_plain;
+pub use bundle_fault::BundleFault;
+pub use bundle_reading::read_bundle;
+pub use bundle_writing::write_bundle;
 pub use bundles::Bundle;
 pub use verdicts::{Decisions, Findings, Verdict};
 
+#[cfg(test)]
+mod bundle_tests;
 #[cfg(test)]
 mod tests;

@@ -15,5 +15,7 @@ fn the_laws_are_there_to_be_called(_rt: HostRuntime) -> Result<(), Fail> {
     laws::reports_tell_logs();
     laws::own_runs_are_accepted();
     laws::reports_find_local();
+    laws::one_bundle_spelling();
+    laws::parts_make_bundles();
     Ok(())
 }

@@ -6,9 +6,18 @@
 //! make: the signature of somebody who follows.
 #![tactic(auto)]
 
+mod derived;
+mod edge_sides;
+mod edge_tables;
+mod edges;
 mod finding;
 pub mod laws;
+mod prefixes;
+mod sources;
+mod telling;
 
+pub use derived::check_derived;
+pub use edges::match_edges;
 pub use finding::Finding;
 
 #[cfg(test)]

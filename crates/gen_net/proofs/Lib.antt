@@ -1,5 +1,5 @@
 mod EdgeLists
-mod HeaderLaws
+pub mod HeaderLaws
 pub mod Neighbours
 mod PlacedEdges
 mod Ranges

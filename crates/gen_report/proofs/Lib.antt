@@ -11,5 +11,6 @@ pub mod FoundKeys
 pub mod FoundLines
 pub mod FoundNumbers
 pub mod FoundScenario
+pub mod Headed
 pub mod Stepping
 pub mod Traitors

@@ -4,6 +4,7 @@ pub mod CursorReading
 pub mod Decisions
 pub mod EdgeReading
 pub mod Fields
+pub mod Findings
 pub mod ItemReading
 pub mod KeysReading
 pub mod LineReading
@@ -13,3 +14,4 @@ pub mod ScenarioReading
 pub mod Scripts
 pub mod Text
 pub mod Told
+pub mod VerdictText

@@ -1,4 +1,4 @@
-//! Scenarios as texts that are read, and decisions as text that is printed.
+//! Scenarios as texts that are read, and decisions and verdicts as texts that are printed.
 //!
 //! A scenario text has one line for each number of a network and for each of its edges, and a line for
 //! the commander's order. Where generals sign, it has the seed of their keys too, perhaps the slot of the
@@ -10,6 +10,7 @@ mod blocks;
 mod cursor;
 mod decisions;
 mod fault;
+mod findings;
 mod items;
 mod keys;
 mod lines;
@@ -17,14 +18,18 @@ mod numbers;
 mod scenario;
 mod scenario_text;
 mod signed_text;
+mod verdict_text;
 
 pub use decisions::print_decisions;
 pub use fault::{LineFault, ScenarioFault};
 pub use scenario::{one_scenario, read_scenario};
 pub use scenario_text::ScenarioText;
 pub use signed_text::{ScenarioParts, SignedText};
+pub use verdict_text::print_verdict;
 
 #[cfg(test)]
 mod signed_tests;
 #[cfg(test)]
 mod tests;
+#[cfg(test)]
+mod verdict_tests;

@@ -4,7 +4,7 @@ use Rattle.std.specs.Prelude.{IfSome}
 use Rattle.std.specs.Io.KnownBytes.{Consumes, IsAtEnd, Keeps}
 use Rattle.std.proofs.lemmas.List.{append-nil}
 use Rattle.sm_tool.specs.declared.ends.JobEnd.{JobEnd}
-use Rattle.sm_tool.specs.declared.ends.JobEnd.TheVariants.{Done, Failed}
+use Rattle.sm_tool.specs.declared.ends.JobEnd.TheVariants.{Done, Negative, Failed}
 use Rattle.sm_tool.specs.declared.ends.JobFault.TheVariants as faults
 use Rattle.sm_tool.specs.Ends.{IsTaken}
 
@@ -28,11 +28,13 @@ kept (Some xs) = refl
 
 within : (input : List ℕ) (end : JobEnd) → length input ≤ 1073741824 → IsTaken input end
 within input Done le = le
+within input Negative le = le
 within input (Failed faults.Memory) le = tt
 within input (Failed faults.Read) le = tt
 within input (Failed faults.Thread) le = le
 within input (Failed faults.Write) le = le
 within input (Failed (faults.Scenario f)) le = le
+within input (Failed (faults.Bundle f)) le = le
 
 -- an input that was read whole, and whose bytes are within the limit
 pub taken : (remaining : Option (List ℕ)) (all : List ℕ) (end : JobEnd) → IfSome remaining (λ input. all ≡ input) → length all ≤ 1073741824 → IfSome remaining (λ input. IsTaken input end)

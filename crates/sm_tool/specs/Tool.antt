@@ -15,11 +15,14 @@ bare = let a = new_app (codes "sm_tool") in record a { top = record a.top { has_
 
 -- the program's command line
 abbrev pub tool : App
-tool = with_subcommand bare (new_app (codes "decide")).top
+tool = with_subcommand (with_subcommand bare (new_app (codes "decide")).top) (new_app (codes "audit")).top
 
 -- the job of a command
 abbrev pub job_named : List ℕ → Option Job
-job_named name = if bytes_eq name (codes "decide") then Some jobs.Decide else None
+job_named name =
+    if bytes_eq name (codes "decide") then Some jobs.Decide
+    else if bytes_eq name (codes "audit") then Some jobs.Audit
+    else None
 
 -- the job of a command and its arguments
 abbrev pub job_said : Option (Text × List Row) → Option Job

@@ -3,7 +3,9 @@ ghost use Rattle.std.specs.Prelude.{◌≡◌};
 ghost use Rattle.sm_tool.specs.Ends.{status_of, fault_in};
 ghost use Rattle.sm_tool.specs.declared.ends.JobFault.TheVariants.{Memory};
 
+use gen_audit::BundleFault;
 use gen_report::ScenarioFault;
+use gen_types::ReadError;
 use std::alloc::AllocError;
 use thiserror::Error;
 
@@ -13,6 +15,9 @@ pub enum JobFault {
     /// The input is no scenario.
     #[error("{0}")]
     Scenario(ScenarioFault),
+    /// The input is no bundle.
+    #[error("fault {0}")]
+    Bundle(BundleFault),
     /// Memory was refused.
     #[error("memory")]
     Memory,
@@ -35,35 +40,73 @@ impl From<AllocError> for JobFault {
     }
 }
 
+impl From<ReadError<ScenarioFault>> for JobFault {
+    ghost use Rattle.sm_tool.specs.Failing.{scenario_failure};
+
+    ghost from_gives = { λ e fault. fault ≡ scenario_failure e };
+
+    fn from(e: ReadError<ScenarioFault>) -> JobFault {
+        match e {
+            ReadError::Memory => JobFault::Memory,
+            ReadError::Fault(fault) => JobFault::Scenario(fault),
+        }
+    }
+}
+
+impl From<ReadError<BundleFault>> for JobFault {
+    ghost use Rattle.sm_tool.specs.Failing.{bundle_failure};
+
+    ghost from_gives = { λ e fault. fault ≡ bundle_failure e };
+
+    fn from(e: ReadError<BundleFault>) -> JobFault {
+        match e {
+            ReadError::Memory => JobFault::Memory,
+            ReadError::Fault(fault) => JobFault::Bundle(fault),
+        }
+    }
+}
+
+/// What a job is to write.
+#[derive(Debug, Drop)]
+pub struct Output {
+    /// The text.
+    pub text: Vec<u8>,
+    /// Whether it says no.
+    pub negative: bool,
+}
+
 /// How a job ended.
 #[derive(Clone, Copy, Debug, PartialEq, Eq)]
 pub enum JobEnd {
-    /// The output was written, and it is no refusal.
+    /// The output was written, and it doesn't say no.
     Done,
+    /// The output was written, and it says no.
+    Negative,
     /// The job failed.
     Failed(JobFault),
 }
 
 impl JobEnd {
-    /// Returns the program's exit status: 0 where the job is done, 3 for the input, 4 for memory or a thread, 5
-    /// for a read or a write.
+    /// Returns the program's exit status: 0 where the job is done, 1 where its output says no, 3 for the input, 4
+    /// for memory or a thread, 5 for a read or a write.
     pub fn status(self) -> u8
         ensures { result ≡ status_of self }
     {
         match self {
             JobEnd::Done => 0,
-            JobEnd::Failed(JobFault::Scenario(_)) => 3,
+            JobEnd::Negative => 1,
+            JobEnd::Failed(JobFault::Scenario(_) | JobFault::Bundle(_)) => 3,
             JobEnd::Failed(JobFault::Memory | JobFault::Thread) => 4,
             JobEnd::Failed(JobFault::Read | JobFault::Write) => 5,
         }
     }
 
-    /// Returns why the job failed, whose text is the one line for standard error, and None where it is done.
+    /// Returns why the job failed, whose text is the one line for standard error, and None where it didn't.
     pub fn fault(self) -> Option<JobFault>
         ensures { result ≡ fault_in self }
     {
         match self {
-            JobEnd::Done => None,
+            JobEnd::Done | JobEnd::Negative => None,
             JobEnd::Failed(fault) => Some(fault),
         }
     }

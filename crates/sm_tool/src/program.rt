@@ -5,7 +5,7 @@ ghost use Rattle.sm_tool.specs.Refusal.{IsShown, IsBlamed, PointsAtHelp, Refuses
 ghost use Rattle.sm_tool.specs.declared.ends.JobEnd.{JobEnd};
 
 use crate::ends::{JobEnd, JobFault};
-use crate::engine::decide_engine;
+use crate::engine::{audit_engine, decide_engine};
 use crate::words::{Job, WordsFault, read_words};
 use std::alloc::{AllocError, Global};
 use std::rt::Env;
@@ -32,6 +32,7 @@ fn finish<R: AllocGlobal + Input + Print + Eprint>(rt: &R, job: Job) -> u8
     let mut writer = io::writer(rt);
     let end = match job {
         Job::Decide => decide_engine(rt.alloc(), &mut reader, &mut writer),
+        Job::Audit => audit_engine(rt.alloc(), &mut reader, &mut writer),
     };
     end_with(rt, end)
 }

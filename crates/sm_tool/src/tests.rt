@@ -1,9 +1,11 @@
-use crate::ends::{JobEnd, JobFault};
+use crate::ends::{JobEnd, JobFault, Output};
 use crate::engine::decide_engine;
 use crate::program::fault_line;
-use crate::transfer::{InputFault, read_all, write_output};
+use gen_audit::BundleFault;
+use crate::transfer::{deliver, read_all, write_output};
 use crate::words::{Job, WordsFault, read_words};
 use clap::error::ErrorKind;
+use gen_net::HeaderFault;
 use gen_report::{LineFault, ScenarioFault};
 use std::alloc::Global;
 use std::io;
@@ -180,15 +182,35 @@ fn ends_where_a_write_fails(rt: HostRuntime) {
 }
 
 #[test]
-fn reads_and_writes_all(rt: HostRuntime) {
+fn reads_all(rt: HostRuntime) {
     let alloc = rt.alloc();
     let mut reader = source_of(LINE, 3, 0, Slip::Fails);
     assert!(rt; matches!(read_all(alloc, &mut reader), Ok(all) if all.as_slice() == LINE));
     let mut reader = source_of(LINE, 3, 2, Slip::Fails);
-    assert!(rt; matches!(read_all(alloc, &mut reader), Err(InputFault::Failed)));
-    let mut writer = sink_for(alloc, 3, 0, Slip::Fails);
-    assert!(rt; write_output(&mut writer, DECISIONS) == JobEnd::Done);
-    assert!(rt; writer.taken.as_slice() == DECISIONS);
+    assert!(rt; matches!(read_all(alloc, &mut reader), Err(JobFault::Read)));
+}
+
+#[test]
+fn writes_all(rt: HostRuntime) -> Result<(), Fail> {
+    let alloc = rt.alloc();
+    for (negative, want) in [(false, JobEnd::Done), (true, JobEnd::Negative)] {
+        let text = DECISIONS.to_vec(alloc)?;
+        let output = Output { text, negative };
+        let mut writer = sink_for(alloc, 3, 0, Slip::Fails);
+        assert!(rt; write_output(&mut writer, &output) == want);
+        assert!(rt; deliver(&mut writer, Ok(output)) == want);
+        assert!(rt; writer.taken.len() == 2 * DECISIONS.len());
+        assert!(rt; writer.taken.starts_with(DECISIONS) && writer.taken.ends_with(DECISIONS));
+    }
+    Ok(())
+}
+
+#[test]
+fn writes_nothing_at_a_fault(rt: HostRuntime) {
+    let mut writer = sink_for(rt.alloc(), 3, 0, Slip::Fails);
+    let fault = JobFault::Bundle(BundleFault::Truncated);
+    assert!(rt; deliver(&mut writer, Err(fault)) == JobEnd::Failed(fault));
+    assert!(rt; writer.taken.is_empty());
 }
 
 #[test]
@@ -199,6 +221,13 @@ fn shows_ends(rt: HostRuntime) -> Result<(), Fail> {
     };
     let cases = [
         (JobFault::Scenario(fault), 3, "fault P2 line 3"),
+        (JobFault::Bundle(BundleFault::Truncated), 3, "fault B1"),
+        (
+            JobFault::Bundle(BundleFault::BadHeader(HeaderFault::OrderCount)),
+            3,
+            "fault B3 H6",
+        ),
+        (JobFault::Bundle(BundleFault::OutOfOrder), 3, "fault B9"),
         (JobFault::Memory, 4, "memory"),
         (JobFault::Thread, 4, "thread"),
         (JobFault::Read, 5, "read failed"),
@@ -210,8 +239,10 @@ fn shows_ends(rt: HostRuntime) -> Result<(), Fail> {
         assert!(rt; end.fault() == Some(fault), "{line}");
         assert_eq!(rt; fault.to_string(rt.alloc())?.as_str(), line);
     }
-    assert_eq!(rt; JobEnd::Done.status(), 0);
-    assert!(rt; JobEnd::Done.fault().is_none());
+    for (end, status) in [(JobEnd::Done, 0), (JobEnd::Negative, 1)] {
+        assert_eq!(rt; end.status(), status);
+        assert!(rt; end.fault().is_none());
+    }
     Ok(())
 }
 
@@ -219,11 +250,16 @@ fn shows_ends(rt: HostRuntime) -> Result<(), Fail> {
 fn reads_words(rt: HostRuntime) -> Result<(), Fail> {
     let alloc = rt.alloc();
     assert!(rt; matches!(read_words(alloc, &["sm_tool", "decide"]), Ok(Job::Decide)));
-    let cases: [(&[&str], ErrorKind); 7] = [
+    assert!(rt; matches!(read_words(alloc, &["sm_tool", "audit"]), Ok(Job::Audit)));
+    let cases: [(&[&str], ErrorKind); 8] = [
         (&["sm_tool"], ErrorKind::MissingSubcommand),
         (&["sm_tool", "judge"], ErrorKind::InvalidSubcommand),
         (&["sm_tool", "Decide"], ErrorKind::InvalidSubcommand),
         (&["sm_tool", "decide", "4"], ErrorKind::UnknownArgument),
+        (
+            &["sm_tool", "audit", "--workers=1"],
+            ErrorKind::UnknownArgument,
+        ),
         (&["sm_tool", "--fast", "decide"], ErrorKind::UnknownArgument),
         (&["sm_tool", "--help"], ErrorKind::DisplayHelp),
         (&["sm_tool", "--version"], ErrorKind::DisplayVersion),

@@ -1,22 +1,11 @@
 //! The whole input, and the whole output.
-ghost use Rattle.std.specs.Prelude.{◌≡◌, ◌≤◌, IfOk, IfSome, length};
-ghost use Rattle.sm_tool.specs.Ends.{IsWritten};
+ghost use Rattle.std.specs.Prelude.{◌≡◌, ◌≤◌, IfErr, IfOk, IfSome, length};
+ghost use Rattle.sm_tool.specs.Answering.{Delivers};
+ghost use Rattle.sm_tool.specs.Ends.{IsReadFault, IsWritten};
 
-use crate::ends::{JobEnd, JobFault};
+use crate::ends::{JobEnd, JobFault, Output};
 use std::alloc::Global;
 use std::io::{ErrorKind, Read, Write};
-use thiserror::Error;
-
-/// Why the input was not read whole.
-#[derive(Clone, Copy, Debug, PartialEq, Eq, Error)]
-pub enum InputFault {
-    /// Memory was refused.
-    #[error("memory was refused")]
-    Memory,
-    /// A read failed, or the input is past one of its limits.
-    #[error("the input could not be read")]
-    Failed,
-}
 
 /// The most bytes of an input.
 const MOST_BYTES: usize = 1_073_741_824;
@@ -25,10 +14,15 @@ const MOST_BYTES: usize = 1_073_741_824;
 const MOST_READS: u64 = 4_294_967_296;
 
 /// Returns all that the reader gives up to its end: at most 1,073,741,824 bytes, by at most 4,294,967,296 calls
-/// of `read`. Past either limit the input has failed. An interrupted read is tried again.
-pub fn read_all<R: Read>(alloc: Global, reader: &mut R) -> Result<Vec<u8>, InputFault>
+/// of `read`. An interrupted read is tried again.
+///
+/// # Errors
+///
+/// `Read` where a read fails or the input is past either limit, and `Memory` where memory is refused.
+pub fn read_all<R: Read>(alloc: Global, reader: &mut R) -> Result<Vec<u8>, JobFault>
     ensures whole { IfOk result (λ v. IfSome (R.remaining reader.old) (λ input. v.items ≡ input)) }
     ensures short { IfOk result (λ v. length v.items ≤ 1073741824) }
+    ensures fault { IfErr result IsReadFault }
 {
     let mut all = Vec::new(alloc);
     let mut buffer = [0u8; 4096];
@@ -36,27 +30,42 @@ pub fn read_all<R: Read>(alloc: Global, reader: &mut R) -> Result<Vec<u8>, Input
         let count = match reader.read(&mut buffer) {
             Ok(count) => count,
             Err(e) if e.kind() == ErrorKind::Interrupted => continue,
-            Err(_) => return Err(InputFault::Failed),
+            Err(_) => return Err(JobFault::Read),
         };
         if count == 0 {
             return Ok(all);
         }
         if count > MOST_BYTES - all.len() {
-            return Err(InputFault::Failed);
+            return Err(JobFault::Read);
         }
         if all.extend_from_slice(&buffer[..count]).is_err() {
-            return Err(InputFault::Memory);
+            return Err(JobFault::Memory);
         }
     }
-    Err(InputFault::Failed)
+    Err(JobFault::Read)
 }
 
 /// Writes the whole output, and returns how the job ends by it.
-pub fn write_output<W: Write>(writer: &mut W, output: &[u8]) -> JobEnd
-    ensures { IsWritten output.now (W.contents writer.old) (W.contents writer.new) result }
+pub fn write_output<W: Write>(writer: &mut W, output: &Output) -> JobEnd
+    ensures { IsWritten output.now.text.items output.now.negative
+        (W.contents writer.old) (W.contents writer.new) result }
 {
-    if writer.write_all(output).is_err() || writer.flush().is_err() {
+    if writer.write_all(&output.text).is_err() || writer.flush().is_err() {
         return JobEnd::Failed(JobFault::Write);
     }
-    JobEnd::Done
+    if output.negative {
+        JobEnd::Negative
+    } else {
+        JobEnd::Done
+    }
+}
+
+/// Writes what answers the input, and returns how the job ends: so, or by the fault in its place.
+pub fn deliver<W: Write>(writer: &mut W, answer: Result<Output, JobFault>) -> JobEnd
+    ensures { Delivers answer (W.contents writer.old) (W.contents writer.new) result }
+{
+    match answer {
+        Ok(output) => write_output(writer, &output),
+        Err(fault) => JobEnd::Failed(fault),
+    }
 }

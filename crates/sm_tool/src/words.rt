@@ -15,6 +15,8 @@ use thiserror::Error;
 pub enum Job {
     /// Reads a scenario, and writes what each general decides.
     Decide,
+    /// Reads a bundle, and writes the verdict on it.
+    Audit,
 }
 
 /// Why words ask for no job.
@@ -62,6 +64,7 @@ fn job_of(name: &str) -> Option<Job>
 {
     match name {
         "decide" => Some(Job::Decide),
+        "audit" => Some(Job::Audit),
         _ => None,
     }
 }
@@ -73,11 +76,15 @@ fn tool_command<'a>(alloc: Global) -> Result<Command<'a>, AllocError>
     let decide = Command::new(alloc, "decide").about(
         "Reads a scenario from standard input and prints what each general decides",
     );
+    let audit = Command::new(alloc, "audit").about(
+        "Reads a bundle of logs from standard input and prints whether a run explains them",
+    );
     Command::new(alloc, "sm_tool")
-        .about("Runs signed Byzantine agreement")
+        .about("Runs and audits signed Byzantine agreement")
         .version("0.1.0")
         .subcommand_required(true)
-        .subcommand(decide)
+        .subcommand(decide)?
+        .subcommand(audit)
 }
 
 /// Returns the job that the words ask for; the first word is the program's name.

@@ -1,0 +1,5 @@
+use Rattle.gen_async.proofs.Standing.{log_law}
+use Rattle.gen_async.proofs.laws.logs.Goals as goal
+
+pub returns : goal.returns
+returns g c = log_law

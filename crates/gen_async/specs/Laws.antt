@@ -1,0 +1,82 @@
+-- The laws of the machine.
+use Rattle.std.specs.Prelude.{ℕ, ◌≡◌, ◌+◌, ◌*◌, ◌<◌, ◌≤◌, ◌↔◌, true, List, length, slice_index, sum, All, Option, Some, None, IfSome}
+use Rattle.gen_net.specs.Network.{Network, IsNetwork, rounds, AreNeighbours}
+use Rattle.gen_async.specs.declared.acts.Act.{Act}
+use Rattle.gen_async.specs.declared.acts.Act.TheVariants.{Puts, Takes}
+use Rattle.gen_async.specs.Acts.{acts_of}
+use Rattle.gen_async.specs.Machine.{at_start, next_act, put, taken, answer, has_moved, after, moves_in, mover}
+
+-- What holds of a machine at all times: each general has a place in the list of his acts or at its end, and no queue holds less
+-- than nothing or more than the capacity.
+pub record IsMachine (net : Network) (capacity : ℕ) (places : List ℕ) : Type 0 where
+  pub generals : length places ≡ net.generals
+  pub within : (g : ℕ) → slice_index places g ≤ length (acts_of net g)
+  pub not_below : (a b : ℕ) → taken net places a b ≤ put net places a b
+  pub fits : (a b : ℕ) → put net places a b ≤ taken net places a b + capacity
+
+-- the acts are of generals of the network
+abbrev pub AreActs : Network → List ℕ → Type 0
+AreActs net acts = All (λ g. g < net.generals) acts
+
+-- after every list of acts, at every capacity
+abbrev pub QueueLaw : Type 0
+QueueLaw =
+    (net : Network) (capacity : ℕ) (acts : List ℕ) → IsNetwork net → AreActs net acts
+    → IsMachine net capacity (after net capacity (at_start net) acts)
+
+-- Where g stands by his next act. Before his put of round l to h he has put l - 1 frames to h, taken all frames of the rounds before
+-- and put to each neighbour l - 1 or l frames. Before his take of round l from h he has put l frames to each neighbour, taken l - 1
+-- from h and l - 1 or l from each neighbour. Without a next act he has put and taken R.
+pub record IsAtPut (net : Network) (places : List ℕ) (g l h : ℕ) : Type 0 where
+  pub joined : AreNeighbours net g h
+  pub first : 1 ≤ l
+  pub last : l ≤ rounds net
+  pub here : put net places g h + 1 ≡ l
+  pub others : (x : ℕ) → AreNeighbours net g x → (l ≤ put net places g x + 1) × (put net places g x ≤ l)
+  pub took : (x : ℕ) → AreNeighbours net g x → taken net places x g + 1 ≡ l
+
+pub record IsAtTake (net : Network) (places : List ℕ) (g l h : ℕ) : Type 0 where
+  pub joined : AreNeighbours net g h
+  pub first : 1 ≤ l
+  pub last : l ≤ rounds net
+  pub here : taken net places h g + 1 ≡ l
+  pub others : (x : ℕ) → AreNeighbours net g x → (l ≤ taken net places x g + 1) × (taken net places x g ≤ l)
+  pub gave : (x : ℕ) → AreNeighbours net g x → put net places g x ≡ l
+
+pub record IsAtEnd (net : Network) (places : List ℕ) (g : ℕ) : Type 0 where
+  pub all : length (acts_of net g) ≤ slice_index places g
+  pub gave : (x : ℕ) → AreNeighbours net g x → put net places g x ≡ rounds net
+  pub took : (x : ℕ) → AreNeighbours net g x → taken net places x g ≡ rounds net
+
+abbrev pub IsAt : Network → List ℕ → ℕ → Option Act → Type 0
+IsAt net places g None = IsAtEnd net places g
+IsAt net places g (Some (Puts l h)) = IsAtPut net places g l h
+IsAt net places g (Some (Takes l h)) = IsAtTake net places g l h
+
+abbrev pub PlaceLaw : Type 0
+PlaceLaw = (net : Network) (places : List ℕ) (g : ℕ) → IsNetwork net → IsAt net places g (next_act net places g)
+
+-- nobody has an act left
+abbrev pub AllDone : Network → List ℕ → Type 0
+AllDone net places = (g : ℕ) → g < net.generals → next_act net places g ≡ None
+
+-- Whom mover names is a general whose next act moves, and it names nobody only where all are done.
+pub record MoverNames (net : Network) (capacity : ℕ) (places : List ℕ) (named : Option ℕ) : Type 0 where
+  pub moves : IfSome named (λ g. (g < net.generals) × (has_moved (answer net capacity places g) ≡ true))
+  pub done : (named ≡ None) ↔ AllDone net places
+
+abbrev pub MoverLaw : Type 0
+MoverLaw =
+    (net : Network) (capacity : ℕ) (places : List ℕ) → IsNetwork net → 1 ≤ capacity → IsMachine net capacity places
+    → MoverNames net capacity places (mover net capacity places)
+
+-- as many acts have moved as the places add up to, at most four times R for each edge, and just so many once all are done
+pub record CountsMoves (net : Network) (capacity : ℕ) (acts places : List ℕ) : Type 0 where
+  pub counted : moves_in net capacity (at_start net) acts ≡ sum places
+  pub at_most : sum places ≤ 4 * length net.edges * rounds net
+  pub in_all : AllDone net places → sum places ≡ 4 * length net.edges * rounds net
+
+abbrev pub CountLaw : Type 0
+CountLaw =
+    (net : Network) (capacity : ℕ) (acts : List ℕ) → IsNetwork net → AreActs net acts
+    → CountsMoves net capacity acts (after net capacity (at_start net) acts)

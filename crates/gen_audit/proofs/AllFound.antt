@@ -1,0 +1,191 @@
+-- The groups of findings are all that is found in a bundle.
+use Rattle.std.proofs.Common.{◌≡◌, ℕ, ◌+◌, ◌<◌, ◌↔◌, inl, inr, List, [], ◌∷◌, ◌++◌, length, take, map, get_or, Contains, refl, sym, ap, ◌∙◌, subst}
+use Rattle.std.specs.List.{flat_map}
+use Rattle.std.proofs.lemmas.List.{take_more}
+use Rattle.gen_types.specs.Ascending.{IsListOf}
+use Rattle.gen_types.proofs.Lists.{Contains_here, Contains_cases, Contains_nil, Contains_flat_mapped}
+use Rattle.gen_core.proofs.OrderedLists.{in_flat_map, one_list}
+use Rattle.gen_walks.specs.Walks.{Bridges, IsLeastBadPair}
+use Rattle.gen_local.specs.Report.{Report}
+use Rattle.gen_local.specs.Shown.{ShownLog}
+use Rattle.gen_match.specs.declared.finding.Finding.{Finding}
+use Rattle.gen_match.specs.declared.finding.Finding.TheVariants.{Missing, Several, Unreadable, Foreign, Unsigned, Unsealed, Departs, Unmatched, Underivable, Unjoined, Nobody}
+use Rattle.gen_match.specs.Matching.{Logs, FindsUnmatched, FindsUnderivable, IsUnmatched, IsUnderivable}
+use Rattle.gen_match.specs.Reports.{told_logs}
+use Rattle.gen_audit.specs.Bundle.{LogBundle, exhibits_of, logs_of}
+use Rattle.gen_audit.specs.Collecting.{Adds, amount_found, shown_found, FindsRead, FindsBetween, FindsPair, FindsEmpty}
+use Rattle.gen_audit.specs.Findings.{IsOfRest, IsFinding}
+use Rattle.gen_audit.specs.LocalFindings.{IsLocal, IsReported}
+use Rattle.gen_audit.specs.Telling.{AreReports}
+use Rattle.gen_audit.proofs.LocalFinds.{reports_find_local, back}
+use Rattle.gen_audit.proofs.Telling.{reports_tell_logs}
+
+-- ---- how much is shown
+
+amount_is : (b : LogBundle) (g : ℕ) → IsOfRest b g → (xs : List ShownLog) → exhibits_of b.exhibits g ≡ xs → (f : Finding) → Contains (amount_found g (length xs)) f → IsFinding b f
+amount_is b g of_rest [] e f h = elim (Contains_cases (Missing g) f [] h) [
+  | inl q ↦ subst (IsFinding b) q (of_rest, e)
+  | inr none ↦ absurd (Contains_nil f none)
+]
+amount_is b g of_rest (x ∷ []) e f h = absurd (Contains_nil f h)
+amount_is b g of_rest (x ∷ y ∷ more) e f h = elim (Contains_cases (Several g) f [] h) [
+  | inl q ↦ subst (IsFinding b) q (of_rest, (x, y, more, e))
+  | inr none ↦ absurd (Contains_nil f none)
+]
+
+module _ (b : LogBundle) (rest : List ℕ) (of_rest : IsListOf rest (IsOfRest b)) where
+  amounts_are : (f : Finding) → Contains (flat_map (shown_found b.exhibits) rest) f → IsFinding b f
+  amounts_are f h =
+      let k = Contains_flat_mapped (shown_found b.exhibits) rest f h in
+      amount_is b k.0 ((of_rest.members k.0).0 k.1) (exhibits_of b.exhibits k.0) refl f k.2
+
+  amount_in : (g : ℕ) → IsOfRest b g → (f : Finding) → Contains (shown_found b.exhibits g) f → Contains (flat_map (shown_found b.exhibits) rest) f
+  amount_in g is f h = in_flat_map (shown_found b.exhibits) rest g f ((of_rest.members g).1 is) h
+
+  missing_in : (g : ℕ) → IsFinding b (Missing g) → Contains (flat_map (shown_found b.exhibits) rest) (Missing g)
+  missing_in g is = amount_in g is.0 (Missing g) (subst (λ xs. Contains (amount_found g (length xs)) (Missing g)) (sym is.1) (Contains_here (Missing g) []))
+
+  several_in : (g : ℕ) → IsFinding b (Several g) → Contains (flat_map (shown_found b.exhibits) rest) (Several g)
+  several_in g is = amount_in g is.0 (Several g) (subst (λ xs. Contains (amount_found g (length xs)) (Several g)) (sym is.1.3) (Contains_here (Several g) []))
+
+  -- ---- pairs, and nobody
+
+  pair_is : (f : Finding) → FindsPair b.header.network rest b.walks f → IsFinding b f
+  pair_is (Unjoined a c) is = (rest, of_rest, is)
+  pair_is (Missing g) is = absurd is
+  pair_is (Several g) is = absurd is
+  pair_is (Unreadable g fault) is = absurd is
+  pair_is (Foreign g) is = absurd is
+  pair_is (Unsigned g p) is = absurd is
+  pair_is (Unsealed g) is = absurd is
+  pair_is (Departs g p) is = absurd is
+  pair_is (Unmatched x y l v) is = absurd is
+  pair_is (Underivable x y l v) is = absurd is
+  pair_is Nobody is = absurd is
+
+  pair_in : (a c : ℕ) → IsFinding b (Unjoined a c) → FindsPair b.header.network rest b.walks (Unjoined a c)
+  pair_in a c is =
+      subst (λ xs. IsLeastBadPair b.header.network xs (Bridges b.header.network xs b.walks) a c) (one_list (IsOfRest b) is.0 rest is.1 of_rest) is.2
+
+  nobody_is : (f : Finding) → FindsEmpty rest f → IsFinding b f
+  nobody_is Nobody is = λ g h. Contains_nil g (subst (λ xs. Contains xs g) is ((of_rest.members g).1 h))
+  nobody_is (Missing g) is = absurd is
+  nobody_is (Several g) is = absurd is
+  nobody_is (Unreadable g fault) is = absurd is
+  nobody_is (Foreign g) is = absurd is
+  nobody_is (Unsigned g p) is = absurd is
+  nobody_is (Unsealed g) is = absurd is
+  nobody_is (Departs g p) is = absurd is
+  nobody_is (Unmatched x y l v) is = absurd is
+  nobody_is (Underivable x y l v) is = absurd is
+  nobody_is (Unjoined a c) is = absurd is
+
+no_member : (xs : List ℕ) → ((g : ℕ) → Contains xs g → ⊥) → xs ≡ []
+no_member [] none = refl
+no_member (x ∷ xs) none = absurd (none x (Contains_here x xs))
+
+-- ---- between logs
+
+module _ (b : LogBundle) (logs : Logs) (same : logs ≡ logs_of b) where
+  unmatched_is : (f : Finding) → FindsUnmatched b.header.network b.faulty logs f → IsFinding b f
+  unmatched_is (Unmatched x y l v) is = subst (λ ls. IsUnmatched b.header.network b.faulty ls x y l v) same is
+  unmatched_is (Missing g) is = absurd is
+  unmatched_is (Several g) is = absurd is
+  unmatched_is (Unreadable g fault) is = absurd is
+  unmatched_is (Foreign g) is = absurd is
+  unmatched_is (Unsigned g p) is = absurd is
+  unmatched_is (Unsealed g) is = absurd is
+  unmatched_is (Departs g p) is = absurd is
+  unmatched_is (Underivable x y l v) is = absurd is
+  unmatched_is (Unjoined a c) is = absurd is
+  unmatched_is Nobody is = absurd is
+
+  underivable_is : (f : Finding) → FindsUnderivable b.header.network b.faulty logs f → IsFinding b f
+  underivable_is (Underivable x y l v) is = subst (λ ls. IsUnderivable b.header.network b.faulty ls x y l v) same is
+  underivable_is (Missing g) is = absurd is
+  underivable_is (Several g) is = absurd is
+  underivable_is (Unreadable g fault) is = absurd is
+  underivable_is (Foreign g) is = absurd is
+  underivable_is (Unsigned g p) is = absurd is
+  underivable_is (Unsealed g) is = absurd is
+  underivable_is (Departs g p) is = absurd is
+  underivable_is (Unmatched x y l v) is = absurd is
+  underivable_is (Unjoined a c) is = absurd is
+  underivable_is Nobody is = absurd is
+
+-- ---- all
+
+-- the groups, added one behind another
+pub record AddsAll (b : LogBundle) (rest : List ℕ) (reports : List Report) (amounts read between pair all : List Finding) : Type 0 where
+  pub first : amounts ≡ flat_map (shown_found b.exhibits) rest
+  pub second : Adds (FindsRead rest reports) amounts read
+  pub third : Adds (FindsBetween b.header.network b.faulty (told_logs reports)) read between
+  pub fourth : Adds (FindsPair b.header.network rest b.walks) between pair
+  pub fifth : Adds (FindsEmpty rest) pair all
+
+module _ (b : LogBundle) (rest : List ℕ) (of_rest : IsListOf rest (IsOfRest b)) (reports : List Report) (are : AreReports b reports) (amounts read between pair all : List Finding) (adds : AddsAll b rest reports amounts read between pair all) where
+  same_logs : told_logs reports ≡ logs_of b
+  same_logs = λ i g. reports_tell_logs b reports are g i
+
+  read_is : (f : Finding) → FindsRead rest reports f → IsFinding b f
+  read_is f (r, c, h) = back b reports are f (r, c, (of_rest.members r.exhibit.general).0 h.0, h.1)
+
+  read_in : (f : Finding) → IsReported b reports f → FindsRead rest reports f
+  read_in f (r, c, is, h) = (r, c, ((of_rest.members r.exhibit.general).1 is, h))
+
+  are_found : (f : Finding) → Contains all f → IsFinding b f
+  are_found f h = elim ((adds.fifth f).0 h) [
+    | inr e ↦ nobody_is b rest of_rest f e
+    | inl h4 ↦ elim ((adds.fourth f).0 h4) [
+      | inr p ↦ pair_is b rest of_rest f p
+      | inl h3 ↦ elim ((adds.third f).0 h3) [
+        | inr (inl m) ↦ unmatched_is b (told_logs reports) same_logs f m
+        | inr (inr m) ↦ underivable_is b (told_logs reports) same_logs f m
+        | inl h2 ↦ elim ((adds.second f).0 h2) [
+          | inr r ↦ read_is f r
+          | inl h1 ↦ amounts_are b rest of_rest f (subst (λ fs. Contains fs f) adds.first h1)
+        ]
+      ]
+    ]
+  ]
+
+  from_pair : (f : Finding) → Contains pair f → Contains all f
+  from_pair f h = (adds.fifth f).1 (inl h)
+
+  from_between : (f : Finding) → Contains between f → Contains all f
+  from_between f h = from_pair f ((adds.fourth f).1 (inl h))
+
+  from_read : (f : Finding) → Contains read f → Contains all f
+  from_read f h = from_between f ((adds.third f).1 (inl h))
+
+  from_amounts : (f : Finding) → Contains (flat_map (shown_found b.exhibits) rest) f → Contains all f
+  from_amounts f h = from_read f ((adds.second f).1 (inl (subst (λ fs. Contains fs f) (sym adds.first) h)))
+
+  local_in : (f : Finding) → IsLocal f → IsFinding b f → Contains all f
+  local_in f l is = from_read f ((adds.second f).1 (inr (read_in f ((reports_find_local b reports are f l).0 is))))
+
+  are_in : (f : Finding) → IsFinding b f → Contains all f
+  are_in (Missing g) is = from_amounts (Missing g) (missing_in b rest of_rest g is)
+  are_in (Several g) is = from_amounts (Several g) (several_in b rest of_rest g is)
+  are_in (Unreadable g fault) is = local_in (Unreadable g fault) tt is
+  are_in (Foreign g) is = local_in (Foreign g) tt is
+  are_in (Unsigned g p) is = local_in (Unsigned g p) tt is
+  are_in (Unsealed g) is = local_in (Unsealed g) tt is
+  are_in (Departs g p) is = local_in (Departs g p) tt is
+  are_in (Unmatched x y l v) is = from_between (Unmatched x y l v) ((adds.third (Unmatched x y l v)).1 (inr (inl (subst (λ ls. IsUnmatched b.header.network b.faulty ls x y l v) (sym same_logs) is))))
+  are_in (Underivable x y l v) is = from_between (Underivable x y l v) ((adds.third (Underivable x y l v)).1 (inr (inr (subst (λ ls. IsUnderivable b.header.network b.faulty ls x y l v) (sym same_logs) is))))
+  are_in (Unjoined a c) is = from_pair (Unjoined a c) ((adds.fourth (Unjoined a c)).1 (inr (pair_in b rest of_rest a c is)))
+  are_in Nobody is = (adds.fifth Nobody).1 (inr (no_member rest (λ g h. is g ((of_rest.members g).0 h))))
+
+  pub all_found : (f : Finding) → Contains all f ↔ IsFinding b f
+  all_found f = (are_found f, are_in f)
+
+-- ---- the reports, one by one
+
+pub exhibits_more : (reports : List Report) (r : Report) (exhibits : List ShownLog) (i : ℕ) (x : ShownLog) → i < length exhibits → map (λ (s : Report). s.exhibit) reports ≡ take i exhibits → x ≡ get_or exhibits i x → r.exhibit ≡ x → map (λ (s : Report). s.exhibit) (reports ++ r ∷ []) ≡ take (i + 1) exhibits
+exhibits_more reports r exhibits i x below so_far is mine =
+    mapped reports r ∙ ap (λ xs. xs ++ r.exhibit ∷ []) so_far ∙ ap (λ y. take i exhibits ++ y ∷ []) (mine ∙ is) ∙ sym (take_more exhibits i x below)
+  where
+    mapped : (rs : List Report) (r : Report) → map (λ (s : Report). s.exhibit) (rs ++ r ∷ []) ≡ map (λ (s : Report). s.exhibit) rs ++ r.exhibit ∷ []
+    mapped [] r = refl
+    mapped (s ∷ rs) r = ap (λ xs. s.exhibit ∷ xs) (mapped rs r)

@@ -1,0 +1,8 @@
+use Rattle.std.proofs.Common.{◌≡◌, ◌∙◌, ap, arith}
+use Rattle.gen_audit.proofs.BundleLaws.{bundle_from}
+use Rattle.gen_audit.proofs.bundle_reading.bundle_in_front.Goals as goal
+
+pub invariant_of-bundle : goal.invariant_of-bundle
+invariant_of-bundle c =
+    let n : c.generals-n.result ≡ c.in_ok-header.header.network.generals = c.generals-n.ensures.value ∙ ap (λ k. k.generals) c.net.ensures.value in
+    rw c.from_bits.ensures (bundle_from c.args.bytes.now _ _ _ _ (λ i. omega (arith, c.type_inv.bytes i)) c.in_ok-header.ensures (rw n at c.in_ok-bits.ensures) (rw n at c.in_ok-walks.ensures) (rw n at c.in_ok-exhibits.ensures))

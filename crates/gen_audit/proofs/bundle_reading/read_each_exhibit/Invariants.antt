@@ -1,0 +1,9 @@
+use Rattle.std.proofs.Common.{◌≡◌, ◌-◌}
+use Rattle.gen_types.proofs.ManyFields.{with_front}
+use Rattle.gen_audit.specs.Behind.{many_behind}
+use Rattle.gen_audit.specs.BundleMaking.{shown_general}
+use Rattle.gen_audit.specs.BundleReading.{exhibit_at}
+use Rattle.gen_audit.proofs.bundle_reading.read_each_exhibit.Given as goal
+
+abbrev pub invariant-loop : goal.invariant-loop
+invariant-loop l = with_front l.exhibits.items (many_behind (exhibit_at l.n) shown_general l.before (l.count - l.counter) l.rest) ≡ many_behind (exhibit_at l.n) shown_general 0 l.count l.bytes

@@ -1,0 +1,62 @@
+-- Findings of a bundle in groups, as they are collected.
+use Rattle.std.specs.Prelude.{ℕ, ◌≡◌, ◌↔◌, ◌⊎◌, zero, suc, List, [], ◌∷◌, ◌++◌, length, Contains}
+use Rattle.gen_net.specs.Network.{Network}
+use Rattle.gen_walks.specs.Walks.{Bridges, IsLeastBadPair}
+use Rattle.gen_log.specs.declared.entries.Entry.{Entry}
+use Rattle.gen_log.specs.declared.entries.Entry.TheVariants.{Decide}
+use Rattle.gen_local.specs.declared.reading.Reading.TheVariants.{Own}
+use Rattle.gen_local.specs.FoundLog.{FoundLog}
+use Rattle.gen_local.specs.Report.{Report}
+use Rattle.gen_local.specs.Shown.{ShownLog}
+use Rattle.gen_world.specs.declared.scenario.Decision.{Decision}
+use Rattle.gen_match.specs.declared.finding.Finding.{Finding}
+use Rattle.gen_match.specs.declared.finding.Finding.TheVariants.{Missing, Several, Unjoined, Nobody}
+use Rattle.gen_match.specs.Matching.{Logs, FindsUnmatched, FindsUnderivable}
+use Rattle.gen_audit.specs.Bundle.{exhibits_of}
+use Rattle.gen_audit.specs.LocalFindings.{finds}
+
+-- the findings have become exactly those before and those with this property
+abbrev pub Adds : (Finding → Type 0) → List Finding → List Finding → Type 0
+Adds P old new = (f : Finding) → Contains new f ↔ (Contains old f ⊎ P f)
+
+-- what is found where so many things are shown as a general's log
+abbrev pub amount_found : ℕ → ℕ → List Finding
+amount_found g zero = Missing g ∷ []
+amount_found g (suc zero) = []
+amount_found g (suc (suc more)) = Several g ∷ []
+
+-- what is found for g where these are shown
+abbrev pub shown_found : List ShownLog → ℕ → List Finding
+shown_found exhibits g = amount_found g (length (exhibits_of exhibits g))
+
+-- the reading of a report finds it, and the report's general is in the set
+abbrev pub FindsIn : List ℕ → Report → Finding → Type 0
+FindsIn rest r f = Contains rest r.exhibit.general × Contains (finds r.exhibit.general r.reading) f
+
+-- one of the reports finds it, of a general of the set
+abbrev pub FindsRead : List ℕ → List Report → Finding → Type 0
+FindsRead rest reports f = (r : Report) × Contains reports r × FindsIn rest r f
+
+-- it is found between two of the logs, or in what the faulty sent
+abbrev pub FindsBetween : Network → List ℕ → Logs → Finding → Type 0
+FindsBetween net faulty logs f = FindsUnmatched net faulty logs f ⊎ FindsUnderivable net faulty logs f
+
+-- it is the least pair of the set that no walk joins
+abbrev pub FindsPair : Network → List ℕ → List (List ℕ) → Finding → Type 0
+FindsPair net rest walks (Unjoined a c) = IsLeastBadPair net rest (Bridges net rest walks) a c
+FindsPair net rest walks _ = ⊥
+
+-- it is that the set is empty
+abbrev pub FindsEmpty : List ℕ → Finding → Type 0
+FindsEmpty rest Nobody = rest ≡ []
+FindsEmpty rest _ = ⊥
+
+-- the report is of a log that says it is g's of the run, and what that log decides
+abbrev pub IsOwnOf : Report → ℕ → Type 0
+IsOwnOf r g = (r.exhibit.general ≡ g) × ((found : FoundLog) × (r.reading ≡ Own found))
+
+abbrev pub DecidesIn : Report → ℕ → Decision → Type 0
+DecidesIn r g d =
+    (d.general ≡ g) × (r.exhibit.general ≡ g)
+    × ((found : FoundLog) × (r.reading ≡ Own found)
+    × ((before : List Entry) × (found.log.entries ≡ before ++ Decide d.orders d.order ∷ [])))

@@ -1,0 +1,170 @@
+//! The audit of a bundle.
+ghost use Rattle.std.specs.Prelude.{ℕ, ◌≡◌, ◌≤◌, ◌↔◌, length, IfOk, IfSome, IfNone};
+ghost use Rattle.gen_types.specs.Ascending.{IsListOf};
+ghost use Rattle.gen_audit.specs.declared.verdicts.Verdict.TheVariants.{Agreed};
+ghost use Rattle.gen_audit.specs.Bundle.{IsBundle};
+ghost use Rattle.gen_audit.specs.Collecting.{DecidesIn, IsOwnOf};
+ghost use Rattle.gen_audit.specs.Findings.{IsOfRest};
+ghost use Rattle.gen_audit.specs.Headline.{IsYes};
+ghost use Rattle.gen_audit.specs.Supported.{AgreeOn, HasFew, IsClean, IsSupported};
+ghost use Rattle.gen_audit.specs.Telling.{AreReports};
+ghost use Rattle.gen_audit.specs.Verdict.{AreDecisions, IsDecision, IsVerdict};
+
+use crate::bundles::Bundle;
+use crate::findings_collected::{findings_in, rest_of};
+use crate::verdicts::{Decisions, Findings, Verdict};
+use gen_chain::VerifyStore;
+use gen_local::{LocalReport, Reading, local_report_with};
+use gen_types::{GeneralNo, GeneralSet, OrderNo};
+use gen_world::Decision;
+use std::alloc::{AllocError, Global};
+
+/// Returns the reports of all exhibits of a bundle, in their order. No signature is verified twice.
+///
+/// # Errors
+///
+/// `AllocError` where memory is refused.
+pub(crate) fn reports_of_all(alloc: Global, bundle: &Bundle) -> Result<Vec<LocalReport>, AllocError>
+    ensures { IfOk result (λ reports. AreReports bundle.now reports.items) }
+{
+    let header = bundle.header();
+    let mut store = VerifyStore::new(alloc)?;
+    let mut reports = Vec::new(alloc);
+    for exhibit in bundle.exhibits() {
+        let report = local_report_with(
+            alloc,
+            header,
+            exhibit.general(),
+            exhibit.log(),
+            &mut store,
+        )?;
+        reports.push(report)?;
+    }
+    Ok(reports)
+}
+
+/// Returns what a general decided by a report, if it is of his log.
+fn decision_in(report: &LocalReport, general: GeneralNo) -> Option<Decision>
+    ensures some { IfSome result (DecidesIn report.now general) }
+    ensures none { IfNone result (IsOwnOf report.now general → ⊥) }
+{
+    if report.exhibit().general() != general {
+        return None;
+    }
+    match report.reading() {
+        Reading::Own(found) => {
+            let (orders, order) = found.decision();
+            Some(Decision {
+                general,
+                orders,
+                order,
+            })
+        }
+        _ => None,
+    }
+}
+
+/// Returns what a general of the rest decided, where nothing is found.
+fn decision_of(bundle: &Bundle, reports: &[LocalReport], general: GeneralNo) -> Decision
+    requires bundle { IsBundle bundle.now }
+    requires clean { IsClean bundle.now }
+    requires reports { AreReports bundle.now reports.now }
+    requires of_rest { IsOfRest bundle.now general }
+    ensures whose { result.general ≡ general }
+    ensures decision { IsDecision bundle.now result }
+{
+    for report in reports {
+        if let Some(decision) = decision_in(report, general) {
+            return decision;
+        }
+    }
+    unreachable!()
+}
+
+/// Returns what each of the rest decided, where nothing is found.
+fn decisions_of(
+    alloc: Global,
+    bundle: &Bundle,
+    rest: &GeneralSet,
+    reports: &[LocalReport],
+) -> Result<Vec<Decision>, AllocError>
+    requires bundle { IsBundle bundle.now }
+    requires clean { IsClean bundle.now }
+    requires rest { IsListOf rest.now (IsOfRest bundle.now) }
+    requires reports { AreReports bundle.now reports.now }
+    ensures { IfOk result (λ decisions. AreDecisions bundle.now decisions.items) }
+{
+    let mut decisions = Vec::new(alloc);
+    'generals: for general in rest.iter() {
+        decisions.push(decision_of(bundle, reports, general))?;
+    }
+    Ok(decisions)
+}
+
+/// Returns the order that the rest agree on, where nothing is found and at most m are held for faulty.
+fn agreed_order(bundle: &Bundle, rest: &GeneralSet, reports: &[LocalReport]) -> OrderNo
+    requires bundle { IsBundle bundle.now }
+    requires clean { IsClean bundle.now }
+    requires few { HasFew bundle.now }
+    requires rest { IsListOf rest.now (IsOfRest bundle.now) }
+    requires reports { AreReports bundle.now reports.now }
+    ensures { AgreeOn bundle.now result }
+{
+    match rest.get(0) {
+        Some(general) => decision_of(bundle, reports, general).order,
+        None => unreachable!(),
+    }
+}
+
+/// Returns the yes on a bundle in which nothing is found.
+fn yes_on(
+    alloc: Global,
+    bundle: &Bundle,
+    rest: &GeneralSet,
+    reports: &[LocalReport],
+) -> Result<Verdict, AllocError>
+    requires clean { IsClean bundle.now }
+    requires rest { IsListOf rest.now (IsOfRest bundle.now) }
+    requires reports { AreReports bundle.now reports.now }
+    ensures { IfOk result (IsVerdict bundle.now) }
+{
+    if bundle.faulty().len() <= usize::from(bundle.header().net().traitors()) {
+        return Ok(Verdict::Agreed(agreed_order(bundle, rest, reports)));
+    }
+    let decisions = decisions_of(alloc, bundle, rest, reports)?;
+    Ok(Verdict::Explained(Decisions::new(decisions)))
+}
+
+/// Returns the verdict on a bundle.
+fn verdict_on(alloc: Global, bundle: &Bundle) -> Result<Verdict, AllocError>
+    ensures verdict { IfOk result (IsVerdict bundle.now) }
+    ensures bundle { IsBundle bundle.now }
+{
+    let rest = rest_of(bundle.header().net(), bundle.faulty());
+    let reports = reports_of_all(alloc, bundle)?;
+    let findings = findings_in(alloc, bundle, &rest, reports.as_slice())?;
+    if !findings.is_empty() {
+        return Ok(Verdict::No(Findings::new(findings)));
+    }
+    yes_on(alloc, bundle, &rest, reports.as_slice())
+}
+
+/// Returns the verdict on a bundle.
+///
+/// # Errors
+///
+/// `AllocError` where memory is refused.
+pub fn audit_plain(alloc: Global, bundle: &Bundle) -> Result<Verdict, AllocError>
+    // The verdict is the bundle's: no with exactly what is found, if anything is; else, with at most m held for
+    // faulty, the order on which the rest agree; else what each of the rest decided.
+    ensures verdict { IfOk result (IsVerdict bundle.now) }
+    // It is a yes exactly where each log of the rest verifies, the walks bound the diameter of the rest, and a run
+    // of the algorithm exists in which all of the rest follow it and keep exactly these logs.
+    ensures exactly { IfOk result (λ verdict. IsYes verdict ↔ IsSupported bundle.now) }
+    // With at most m held for faulty, such a bundle's verdict is the one order that all of the rest decided, which
+    // is the commander's if he is of the rest.
+    ensures agreed { IfOk result (λ verdict. IsSupported bundle.now → HasFew bundle.now
+        → (order : ℕ) × (verdict ≡ Agreed order) × AgreeOn bundle.now order) }
+{
+    verdict_on(alloc, bundle)
+}

@@ -1,0 +1,305 @@
+//! Reading bundles.
+//!
+//! Numbers are read as they stand, and their types are made of them where a part is made.
+ghost use Rattle.std.specs.Prelude.{◌≡◌, ◌≤◌, ◌<◌, IfOk, Ok};
+ghost use Rattle.gen_types.specs.Reading.{Gives, map_fault};
+ghost use Rattle.gen_types.specs.Spelled.{IsRead, IsField, Spells};
+ghost use Rattle.gen_types.specs.Bits.{members_of};
+ghost use Rattle.gen_types.specs.Bytes.{many_at};
+ghost use Rattle.gen_net.specs.HeaderReading.{header_at};
+ghost use Rattle.gen_audit.specs.Behind.{many_behind};
+ghost use Rattle.gen_audit.specs.Bundle.{LogBundle, IsBundle};
+ghost use Rattle.gen_audit.specs.BundleFields as fields;
+ghost use Rattle.gen_audit.specs.BundleMaking.{no_ends, shown_general};
+ghost use Rattle.gen_audit.specs.BundleParts as parts;
+ghost use Rattle.gen_audit.specs.BundleReading.{general_at, walk_at, walks_at, owner_at, exhibit_at, exhibits_at};
+ghost use Rattle.gen_audit.specs.BundleReading.{bundle_at, whole_bundle};
+ghost use Rattle.gen_audit.specs.BundleSpelling.{bundle_spelling};
+
+use crate::bundle_fault::BundleFault;
+use crate::bundle_rules::{
+    MOST_EXHIBITS, MOST_WALKS, NO_ENDS, ends_of, is_set_below, is_walk_length, may_follow,
+};
+use crate::bundles::{Bundle, MARK_ONE, MARK_TWO};
+use gen_local::Exhibit;
+use gen_net::{Header, HeaderFault, read_header};
+use gen_types::{GeneralNo, GeneralSet, ReadError, bytes_at, check, u8_at, u16_at, u32_at};
+use gen_walks::{Walk, Walks};
+use std::alloc::Global;
+
+/// The first byte of a header of version 1.
+const VERSION_ONE: u8 = 1;
+
+/// The first byte of a header of version 2.
+const VERSION_TWO: u8 = 2;
+
+/// The number of the version that the mark says, and the bytes after the mark.
+#[tactic(auto, unfolding(crate::specs::BundleFields::mark_at))]
+fn read_mark(bytes: &[u8]) -> Result<(u8, &[u8]), ReadError<BundleFault>>
+    ensures { IsField result (fields.mark_at bytes.now) }
+{
+    let (mark, rest) = u32_at(bytes, BundleFault::Truncated)?;
+    match mark {
+        MARK_ONE => Ok((VERSION_ONE, rest)),
+        MARK_TWO => Ok((VERSION_TWO, rest)),
+        _ => Err(ReadError::Fault(BundleFault::UnknownMark)),
+    }
+}
+
+/// A header's fault as one of the bundle.
+fn header_fault(fault: HeaderFault) -> BundleFault
+    ensures { result ≡ fields.header_fault fault }
+{
+    match fault {
+        HeaderFault::Truncated => BundleFault::Truncated,
+        other => BundleFault::BadHeader(other),
+    }
+}
+
+/// The header in front of the bytes, and the bytes after it.
+fn read_header_field(alloc: Global, bytes: &[u8]) -> Result<(Header, &[u8]), ReadError<BundleFault>>
+    ensures { IsField result (map_fault fields.header_fault (header_at bytes.now)) }
+{
+    match read_header(alloc, bytes) {
+        Ok((header, taken)) => Ok((header, &bytes[taken..])),
+        Err(ReadError::Memory) => Err(ReadError::Memory),
+        Err(ReadError::Fault(fault)) => Err(ReadError::Fault(header_fault(fault))),
+    }
+}
+
+/// The header, whose first byte is the number of this version.
+#[tactic(auto, unfolding(crate::specs::BundleFields::header_behind))]
+fn read_header_of(
+    alloc: Global,
+    version: u8,
+    bytes: &[u8],
+) -> Result<(Header, &[u8]), ReadError<BundleFault>>
+    ensures { IsField result (fields.header_behind version bytes.now) }
+{
+    let (number, _) = u8_at(bytes, BundleFault::Truncated)?;
+    check(
+        number == version,
+        BundleFault::BadHeader(HeaderFault::UnknownVersion),
+    )?;
+    read_header_field(alloc, bytes)
+}
+
+/// The mark, and a header of the version that it says.
+#[tactic(auto, unfolding(crate::specs::BundleFields::front_at))]
+fn read_front(alloc: Global, bytes: &[u8]) -> Result<(Header, &[u8]), ReadError<BundleFault>>
+    ensures { IsField result (fields.front_at bytes.now) }
+{
+    let (version, rest) = read_mark(bytes)?;
+    read_header_of(alloc, version, rest)
+}
+
+/// The bits of a set of generals below n.
+#[tactic(auto, unfolding(crate::specs::BundleFields::faulty_at))]
+fn read_faulty(n: u8, bytes: &[u8]) -> Result<(u16, &[u8]), ReadError<BundleFault>>
+    ensures { Gives (λ x. (members_of x.0, x.1.now)) result (fields.faulty_at n bytes.now) }
+{
+    let (bits, rest) = u16_at(bytes, BundleFault::Truncated)?;
+    let known = is_set_below(&GeneralSet::from_bits(bits), n);
+    check(known, BundleFault::FaultyRange)?;
+    Ok((bits, rest))
+}
+
+/// The number of a general of a walk.
+#[tactic(auto, unfolding(crate::specs::BundleReading::general_at))]
+fn read_general(n: u8, bytes: &[u8]) -> Result<(u8, &[u8]), ReadError<BundleFault>>
+    requires { n ≤ 16 }
+    ensures exact { IsField result (general_at n bytes.now) }
+    ensures known { IfOk result (λ x. x.0 < 16) }
+{
+    let (number, rest) = u8_at(bytes, BundleFault::Truncated)?;
+    check(number < n, BundleFault::BadWalk)?;
+    Ok((number, rest))
+}
+
+/// This many generals of a walk.
+fn read_generals(
+    alloc: Global,
+    n: u8,
+    count: u8,
+    bytes: &[u8],
+) -> Result<(Vec<GeneralNo>, &[u8]), ReadError<BundleFault>>
+    requires { n ≤ 16 }
+    ensures { Gives (λ x. (x.0.items, x.1.now)) result (many_at (general_at n) count bytes.now) }
+{
+    let mut generals = Vec::with_capacity(alloc, usize::from(count))?;
+    let mut rest = bytes;
+    for _ in 0..count {
+        let (general, after) = read_general(n, rest)?;
+        generals.push(GeneralNo::at(general))?;
+        rest = after;
+    }
+    Ok((generals, rest))
+}
+
+/// A walk behind the ends of the one before.
+#[tactic(auto, unfolding(crate::specs::BundleReading::walk_at))]
+fn read_walk(
+    alloc: Global,
+    n: u8,
+    before: (u8, u8),
+    bytes: &[u8],
+) -> Result<(Walk, &[u8]), ReadError<BundleFault>>
+    requires { n ≤ 16 }
+    ensures { IsField result (walk_at n before bytes.now) }
+{
+    let (count, rest) = u8_at(bytes, BundleFault::Truncated)?;
+    check(is_walk_length(usize::from(count)), BundleFault::WalkCount)?;
+    let (generals, rest) = read_generals(alloc, n, count, rest)?;
+    check(may_follow(before, &generals), BundleFault::BadWalk)?;
+    Ok((Walk::new(generals), rest))
+}
+
+/// This many walks.
+fn read_each_walk(
+    alloc: Global,
+    n: u8,
+    count: u8,
+    bytes: &[u8],
+) -> Result<(Walks, &[u8]), ReadError<BundleFault>>
+    requires { n ≤ 16 }
+    ensures { IsField result (many_behind (walk_at n) parts.ends_of no_ends count bytes.now) }
+{
+    let mut walks = Walks::new(alloc);
+    let mut before = NO_ENDS;
+    let mut rest = bytes;
+    for _ in 0..count {
+        let (walk, after) = read_walk(alloc, n, before, rest)?;
+        before = ends_of(walk.generals());
+        walks.push(walk)?;
+        rest = after;
+    }
+    Ok((walks, rest))
+}
+
+/// The walks behind their number.
+#[tactic(auto, unfolding(crate::specs::BundleReading::walks_at))]
+fn read_walks(alloc: Global, n: u8, bytes: &[u8]) -> Result<(Walks, &[u8]), ReadError<BundleFault>>
+    requires { n ≤ 16 }
+    ensures { IsField result (walks_at n bytes.now) }
+{
+    let (count, rest) = u8_at(bytes, BundleFault::Truncated)?;
+    check(usize::from(count) <= MOST_WALKS, BundleFault::WalkCount)?;
+    read_each_walk(alloc, n, count, rest)
+}
+
+/// The general of an exhibit, behind that of the one before.
+#[tactic(auto, unfolding(crate::specs::BundleReading::owner_at))]
+fn read_owner(n: u8, before: u8, bytes: &[u8]) -> Result<(u8, &[u8]), ReadError<BundleFault>>
+    requires { n ≤ 16 }
+    ensures exact { IsField result (owner_at n before bytes.now) }
+    ensures known { IfOk result (λ x. x.0 < 16) }
+{
+    let (general, rest) = u8_at(bytes, BundleFault::Truncated)?;
+    check(general < n, BundleFault::BadExhibit)?;
+    check(before <= general, BundleFault::OutOfOrder)?;
+    Ok((general, rest))
+}
+
+/// An exhibit behind the general of the one before. The bytes of its log are copied.
+#[tactic(auto, unfolding(crate::specs::BundleReading::exhibit_at))]
+fn read_exhibit(
+    alloc: Global,
+    n: u8,
+    before: u8,
+    bytes: &[u8],
+) -> Result<(Exhibit, &[u8]), ReadError<BundleFault>>
+    requires { n ≤ 16 }
+    ensures { IsField result (exhibit_at n before bytes.now) }
+{
+    let (general, rest) = read_owner(n, before, bytes)?;
+    let (size, rest) = u32_at(rest, BundleFault::Truncated)?;
+    let (log, rest) = bytes_at(rest, size as usize, BundleFault::Truncated)?;
+    let log = Vec::from_slice(alloc, log)?;
+    Ok((Exhibit::new(GeneralNo::at(general), log), rest))
+}
+
+/// This many exhibits.
+fn read_each_exhibit(
+    alloc: Global,
+    n: u8,
+    count: u8,
+    bytes: &[u8],
+) -> Result<(Vec<Exhibit>, &[u8]), ReadError<BundleFault>>
+    requires { n ≤ 16 }
+    ensures { Gives (λ x. (x.0.items, x.1.now)) result
+        (many_behind (exhibit_at n) shown_general 0 count bytes.now) }
+{
+    let mut exhibits = Vec::new(alloc);
+    let mut before = 0;
+    let mut rest = bytes;
+    for _ in 0..count {
+        let (exhibit, after) = read_exhibit(alloc, n, before, rest)?;
+        before = exhibit.general().get();
+        exhibits.push(exhibit)?;
+        rest = after;
+    }
+    Ok((exhibits, rest))
+}
+
+/// The exhibits behind their number.
+#[tactic(auto, unfolding(crate::specs::BundleReading::exhibits_at))]
+fn read_exhibits(
+    alloc: Global,
+    n: u8,
+    bytes: &[u8],
+) -> Result<(Vec<Exhibit>, &[u8]), ReadError<BundleFault>>
+    requires { n ≤ 16 }
+    ensures { Gives (λ x. (x.0.items, x.1.now)) result (exhibits_at n bytes.now) }
+{
+    let (count, rest) = u8_at(bytes, BundleFault::Truncated)?;
+    check(usize::from(count) <= MOST_EXHIBITS, BundleFault::BadExhibit)?;
+    read_each_exhibit(alloc, n, count, rest)
+}
+
+/// The bundle in front of the bytes, and the bytes after it.
+#[tactic(auto, unfolding(crate::specs::BundleReading::bundle_at))]
+fn bundle_in_front(alloc: Global, bytes: &[u8]) -> Result<(Bundle, &[u8]), ReadError<BundleFault>>
+    ensures { IsField result (bundle_at bytes.now) }
+{
+    let (header, rest) = read_front(alloc, bytes)?;
+    let n = header.net().generals();
+    let (bits, rest) = read_faulty(n, rest)?;
+    let (walks, rest) = read_walks(alloc, n, rest)?;
+    let (exhibits, rest) = read_exhibits(alloc, n, rest)?;
+    let bundle = Bundle {
+        header,
+        faulty: GeneralSet::from_bits(bits),
+        walks,
+        exhibits,
+    };
+    Ok((bundle, rest))
+}
+
+/// The bundle that all the bytes are.
+#[tactic(auto, unfolding(crate::specs::BundleReading::whole_bundle))]
+fn bundle_alone(alloc: Global, bytes: &[u8]) -> Result<Bundle, ReadError<BundleFault>>
+    ensures { IsRead result (whole_bundle bytes.now) }
+{
+    let (bundle, rest) = bundle_in_front(alloc, bytes)?;
+    check(rest.len() == 0, BundleFault::LeftOver)?;
+    Ok(bundle)
+}
+
+/// Returns the bundle that all the bytes are: four bytes `SMB1` or `SMB2` and a header of version 1 or 2; the generals
+/// who are held for faulty, a number of two bytes, big-endian, in which general v has the value 2 to the power of v;
+/// the number of walks, and for each the number of its generals and these; the number of exhibits, and for each its
+/// general, the length of the log in four bytes, and the log. The bytes of a log are copied once, and not read.
+///
+/// # Errors
+///
+/// The first fault of `BundleFault` from left to right; and Memory where memory was refused before.
+pub fn read_bundle(alloc: Global, bytes: &[u8]) -> Result<Bundle, ReadError<BundleFault>>
+    // What is read is a bundle, and the bytes are its spelling.
+    ensures found { IfOk result (Spells IsBundle bundle_spelling bytes.now) }
+    // What the bytes spell is read, unless memory runs out.
+    ensures only { (b : LogBundle) → Spells IsBundle bundle_spelling bytes.now b → IsRead result (Ok b) }
+    // Which fault it is.
+    ensures exact { IsRead result (whole_bundle bytes.now) }
+{
+    bundle_alone(alloc, bytes)
+}

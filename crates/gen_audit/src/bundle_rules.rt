@@ -1,0 +1,163 @@
+//! The rules of a bundle's parts, as they are tested when a bundle is made.
+ghost use Rattle.std.specs.Prelude.{◌≡◌, ◌<◌, All, AllPairs, OnOk};
+ghost use Rattle.gen_types.specs.Reading as steps;
+ghost use Rattle.gen_net.specs.Edges.{goes_before};
+ghost use Rattle.gen_log.specs.Fields.{AreBelow};
+ghost use Rattle.gen_audit.specs.Behind.{test_behind};
+ghost use Rattle.gen_audit.specs.BundleMaking as making;
+ghost use Rattle.gen_audit.specs.BundleParts as parts;
+
+use crate::bundle_fault::BundleFault;
+use gen_local::Exhibit;
+use gen_types::{GeneralNo, GeneralSet};
+use gen_walks::Walk;
+
+/// The most walks of a bundle.
+pub const MOST_WALKS: usize = 120;
+
+/// The fewest generals of a walk.
+const FEWEST_IN_WALK: usize = 2;
+
+/// The most generals of a walk.
+const MOST_IN_WALK: usize = 16;
+
+/// The most exhibits of a bundle.
+pub const MOST_EXHIBITS: usize = 64;
+
+/// The first number that is no length of a log: 2 to the power of 32.
+const TOO_LONG: usize = 1 << 32;
+
+/// The ends before those of the first walk.
+pub const NO_ENDS: (u8, u8) = (0, 0);
+
+/// Tests one rule.
+pub fn test(holds: bool, fault: BundleFault) -> Result<(), BundleFault>
+    ensures { result ≡ steps.check holds fault }
+{
+    if holds { Ok(()) } else { Err(fault) }
+}
+
+/// Whether a walk may have this many generals.
+pub fn is_walk_length(count: usize) -> bool
+    ensures { result ≡ making.is_walk_length count }
+{
+    FEWEST_IN_WALK <= count && count <= MOST_IN_WALK
+}
+
+/// Whether all generals of a set are below n.
+pub fn is_set_below(set: &GeneralSet, n: u8) -> bool
+    ensures value { result ≡ making.are_below n set.now }
+    ensures ascending { AllPairs (λ v w. v < w) set.now }
+{
+    // A look at their number makes known that the members ascend.
+    let _count = set.len();
+    'generals: for general in set.iter() {
+        if general.get() >= n {
+            return false;
+        }
+    }
+    true
+}
+
+/// Whether all generals are below n.
+fn are_below(generals: &[GeneralNo], n: u8) -> bool
+    ensures { result ≡ making.are_below n generals.now }
+{
+    generals.iter().all(|general| general.get() < n)
+}
+
+/// The first and the last general of a walk.
+pub fn ends_of(walk: &[GeneralNo]) -> (u8, u8)
+    ensures { result ≡ parts.ends_of walk.now }
+{
+    match walk {
+        [] => (0, 0),
+        [first, ..] => (first.get(), walk[walk.len() - 1].get()),
+    }
+}
+
+/// Whether the pair e stands before the pair f.
+fn is_before(e: (u8, u8), f: (u8, u8)) -> bool
+    ensures { result ≡ goes_before e f }
+{
+    e.0 < f.0 || (e.0 == f.0 && e.1 < f.1)
+}
+
+/// Whether a walk leads up, and its ends stand behind those of the walk before.
+pub fn may_follow(before: (u8, u8), walk: &[GeneralNo]) -> bool
+    ensures { result ≡ making.may_follow before walk.now }
+{
+    let ends = ends_of(walk);
+    ends.0 < ends.1 && is_before(before, ends)
+}
+
+/// Tests one walk behind the ends of the one before.
+#[tactic(auto, unfolding(crate::specs::BundleMaking::walk_test))]
+fn test_walk(n: u8, before: (u8, u8), walk: &[GeneralNo]) -> Result<(), BundleFault>
+    ensures { result ≡ making.walk_test n before walk.now }
+{
+    test(is_walk_length(walk.len()), BundleFault::WalkCount)?;
+    test(are_below(walk, n), BundleFault::BadWalk)?;
+    test(may_follow(before, walk), BundleFault::BadWalk)
+}
+
+/// Tests walks, one behind the other.
+fn test_each_walk(n: u8, walks: &[Walk]) -> Result<(), BundleFault>
+    ensures { result ≡ test_behind (making.walk_test n) parts.ends_of making.no_ends walks.now }
+{
+    let mut before = NO_ENDS;
+    let mut rest = walks;
+    while let Some((walk, others)) = rest.split_first() {
+        test_walk(n, before, walk.generals())?;
+        before = ends_of(walk.generals());
+        rest = others;
+    }
+    Ok(())
+}
+
+/// Tests all walks.
+#[tactic(auto, unfolding(crate::specs::BundleMaking::walks_test))]
+pub fn test_walks(n: u8, walks: &[Walk]) -> Result<(), BundleFault>
+    ensures { result ≡ making.walks_test n walks.now }
+{
+    test(walks.len() <= MOST_WALKS, BundleFault::WalkCount)?;
+    test_each_walk(n, walks)
+}
+
+/// Tests one exhibit behind the general of the one before.
+#[tactic(auto, unfolding(crate::specs::BundleMaking::exhibit_test))]
+fn test_exhibit(n: u8, before: u8, exhibit: &Exhibit) -> Result<(), BundleFault>
+    ensures value { result ≡ making.exhibit_test n before exhibit.now }
+    ensures bytes { AreBelow 256 exhibit.now.bytes }
+{
+    let general = exhibit.general().get();
+    let log = exhibit.log();
+    test(general < n, BundleFault::BadExhibit)?;
+    test(before <= general, BundleFault::OutOfOrder)?;
+    test(log.len() < TOO_LONG, BundleFault::LongLog)
+}
+
+/// Tests exhibits, one behind the other.
+fn test_each_exhibit(n: u8, exhibits: &[Exhibit]) -> Result<(), BundleFault>
+    ensures value { result ≡ test_behind (making.exhibit_test n) making.shown_general 0 exhibits.now }
+    ensures bytes { OnOk result (All (λ x. AreBelow 256 x.bytes) exhibits.now) }
+{
+    let mut before = 0;
+    let mut rest = exhibits;
+    while let Some((exhibit, others)) = rest.split_first() {
+        test_exhibit(n, before, exhibit)?;
+        before = exhibit.general().get();
+        rest = others;
+    }
+    Ok(())
+}
+
+/// Tests all exhibits.
+#[tactic(auto, unfolding(crate::specs::BundleMaking::exhibits_test))]
+pub fn test_exhibits(n: u8, exhibits: &[Exhibit]) -> Result<(), BundleFault>
+    ensures value { result ≡ making.exhibits_test n exhibits.now }
+    ensures bytes { OnOk result (All (λ x. AreBelow 256 x.bytes) exhibits.now) }
+{
+    test(exhibits.len() <= MOST_EXHIBITS, BundleFault::BadExhibit)?;
+    test_each_exhibit(n, exhibits)
+}

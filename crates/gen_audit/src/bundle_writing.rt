@@ -1,0 +1,94 @@
+//! Writing bundles.
+ghost use Rattle.std.specs.Prelude.{◌≡◌, ◌<◌, ◌^◌, ◌++◌, length, All, IfOk, OnOk};
+ghost use Rattle.std.specs.List.{flat_map};
+ghost use Rattle.gen_audit.specs.BundleParts.{AreListedWalks, AreExhibits, IsListedWalk, IsExhibit};
+ghost use Rattle.gen_audit.specs.BundleSpelling.{mark_of, bundle_spelling};
+ghost use Rattle.gen_audit.specs.BundleSpelling.{walk_spelling, walks_spelling, exhibit_spelling, exhibits_spelling};
+
+use crate::bundles::{Bundle, MARK_ONE, MARK_TWO};
+use gen_local::Exhibit;
+use gen_net::{Version, header_bytes};
+use gen_types::GeneralNo;
+use gen_walks::Walk;
+use std::alloc::{AllocError, Global};
+
+/// The mark before a header of this version.
+fn mark_number(version: Version) -> u32
+    ensures { result ≡ mark_of version }
+{
+    match version {
+        Version::One => MARK_ONE,
+        Version::Two { slot: _ } => MARK_TWO,
+    }
+}
+
+/// Appends generals, a byte each.
+fn put_generals(out: &mut Vec<u8>, generals: &[GeneralNo]) -> Result<(), AllocError>
+    ensures { OnOk result (out.new.items ≡ out.old.items ++ generals.now) }
+{
+    'generals: for general in generals {
+        out.push(general.get())?;
+    }
+    Ok(())
+}
+
+/// Appends a walk.
+fn put_walk(out: &mut Vec<u8>, walk: &Walk) -> Result<(), AllocError>
+    requires { length walk.now < 256 }
+    ensures { OnOk result (out.new.items ≡ out.old.items ++ walk_spelling walk.now) }
+{
+    let generals = walk.generals();
+    out.push(generals.len() as u8)?;
+    put_generals(out, generals)
+}
+
+/// Appends walks.
+fn put_each_walk(out: &mut Vec<u8>, walks: &[Walk]) -> Result<(), AllocError>
+    requires { All (λ walk. length walk < 256) walks.now }
+    ensures { OnOk result (out.new.items ≡ out.old.items ++ flat_map walk_spelling walks.now) }
+{
+    'walks: for walk in walks {
+        put_walk(out, walk)?;
+    }
+    Ok(())
+}
+
+/// Appends an exhibit.
+fn put_exhibit(out: &mut Vec<u8>, exhibit: &Exhibit) -> Result<(), AllocError>
+    requires { length exhibit.now.bytes < 2 ^ 32 }
+    ensures { OnOk result (out.new.items ≡ out.old.items ++ exhibit_spelling exhibit.now) }
+{
+    let log = exhibit.log();
+    out.push(exhibit.general().get())?;
+    out.extend_from_slice(&(log.len() as u32).to_be_bytes())?;
+    out.extend_from_slice(log)
+}
+
+/// Appends exhibits.
+fn put_each_exhibit(out: &mut Vec<u8>, exhibits: &[Exhibit]) -> Result<(), AllocError>
+    requires { All (λ x. length x.bytes < 2 ^ 32) exhibits.now }
+    ensures { OnOk result (out.new.items ≡ out.old.items ++ flat_map exhibit_spelling exhibits.now) }
+{
+    'exhibits: for exhibit in exhibits {
+        put_exhibit(out, exhibit)?;
+    }
+    Ok(())
+}
+
+/// Returns the one spelling of a bundle, as `read_bundle` reads it. It fails only where memory was refused.
+pub fn write_bundle(alloc: Global, bundle: &Bundle) -> Result<Vec<u8>, AllocError>
+    ensures { IfOk result (λ bytes. bytes.items ≡ bundle_spelling bundle.now) }
+{
+    let header = bundle.header();
+    let walks = bundle.walks().as_slice();
+    let exhibits = bundle.exhibits();
+    let mut out = Vec::new(alloc);
+    out.extend_from_slice(&mark_number(header.version()).to_be_bytes())?;
+    out.extend_from_slice(&header_bytes(alloc, header)?)?;
+    out.extend_from_slice(&bundle.faulty().bits().to_be_bytes())?;
+    out.push(walks.len() as u8)?;
+    put_each_walk(&mut out, walks)?;
+    out.push(exhibits.len() as u8)?;
+    put_each_exhibit(&mut out, exhibits)?;
+    Ok(out)
+}

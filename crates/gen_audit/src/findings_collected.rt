@@ -1,0 +1,240 @@
+//! All that is found in a bundle.
+ghost use Rattle.std.specs.Prelude.{◌≡◌, ◌++◌, ◌↔◌, length, Contains, IfOk, OnOk};
+ghost use Rattle.std.specs.List.{flat_map};
+ghost use Rattle.gen_types.specs.Ascending.{IsListOf};
+ghost use Rattle.gen_net.specs.Network.{IsLoyal};
+ghost use Rattle.gen_match.specs.declared.finding.Finding.{Finding};
+ghost use Rattle.gen_match.specs.Findings.{AreFindings};
+ghost use Rattle.gen_match.specs.Reports.{AreUnder, told_logs};
+ghost use Rattle.gen_audit.specs.Bundle.{exhibits_of};
+ghost use Rattle.gen_audit.specs.Collecting.{Adds, amount_found, shown_found, FindsIn, FindsRead, FindsBetween, FindsPair, FindsEmpty};
+ghost use Rattle.gen_audit.specs.Findings.{IsOfRest, IsFinding};
+ghost use Rattle.gen_audit.specs.LocalFindings.{finds, unsigned_at, unless_sealed, departs_at};
+ghost use Rattle.gen_audit.specs.Telling.{AreReports};
+
+use crate::bundles::Bundle;
+use crate::sorting::in_order;
+use gen_local::{Exhibit, LocalReport, OwnLog, Reading};
+use gen_match::{Finding, check_derived, match_edges};
+use gen_net::{Header, Net};
+use gen_types::{GeneralNo, GeneralSet};
+use gen_walks::{Walks, check_walks};
+use std::alloc::{AllocError, Global};
+
+/// Returns how many things are shown as a general's log.
+fn amount_shown(exhibits: &[Exhibit], general: GeneralNo) -> usize
+    ensures { result ≡ length (exhibits_of exhibits.now general) }
+{
+    exhibits
+        .iter()
+        .filter(|exhibit| exhibit.general() == general)
+        .count()
+}
+
+/// Adds what is found where so many things are shown as a general's log.
+fn add_amount(
+    general: GeneralNo,
+    amount: usize,
+    findings: &mut Vec<Finding>,
+) -> Result<(), AllocError>
+    ensures { OnOk result (findings.new.items ≡ findings.old.items ++ amount_found general amount) }
+{
+    match amount {
+        0 => findings.push(Finding::Missing { general })?,
+        1 => {}
+        _ => findings.push(Finding::Several { general })?,
+    }
+    Ok(())
+}
+
+/// Adds which generals of the rest have no exhibit, and which have several.
+fn add_amounts(
+    exhibits: &[Exhibit],
+    rest: &GeneralSet,
+    findings: &mut Vec<Finding>,
+) -> Result<(), AllocError>
+    ensures { OnOk result (findings.new.items
+        ≡ findings.old.items ++ flat_map (shown_found exhibits.now) rest.now) }
+{
+    'generals: for general in rest.iter() {
+        add_amount(general, amount_shown(exhibits, general), findings)?;
+    }
+    Ok(())
+}
+
+/// Adds what is found against a log that says it is the general's of this run.
+fn add_own(
+    general: GeneralNo,
+    found: &OwnLog,
+    findings: &mut Vec<Finding>,
+) -> Result<(), AllocError>
+    ensures { OnOk result (findings.new.items ≡ findings.old.items
+        ++ (unsigned_at general found.now.unsigned
+        ++ (unless_sealed general found.now.sealed ++ departs_at general found.now.departure))) }
+{
+    if let Some(entry) = found.unsigned() {
+        findings.push(Finding::Unsigned { general, entry })?;
+    }
+    if !found.is_sealed() {
+        findings.push(Finding::Unsealed { general })?;
+    }
+    if let Some(entry) = found.departure() {
+        findings.push(Finding::Departs { general, entry })?;
+    }
+    Ok(())
+}
+
+/// Adds what a general's exhibit is found to be.
+fn add_reading(
+    general: GeneralNo,
+    reading: &Reading,
+    findings: &mut Vec<Finding>,
+) -> Result<(), AllocError>
+    ensures { OnOk result (findings.new.items ≡ findings.old.items ++ finds general reading.now) }
+{
+    match reading {
+        Reading::Unreadable(fault) => findings.push(Finding::Unreadable {
+            general,
+            fault: *fault,
+        })?,
+        Reading::Foreign => findings.push(Finding::Foreign { general })?,
+        Reading::Own(found) => add_own(general, found, findings)?,
+    }
+    Ok(())
+}
+
+/// Adds what a report finds, if its general is in the set.
+fn add_report(
+    rest: &GeneralSet,
+    report: &LocalReport,
+    findings: &mut Vec<Finding>,
+) -> Result<(), AllocError>
+    ensures { OnOk result (Adds (FindsIn rest.now report.now) findings.old.items findings.new.items) }
+{
+    let general = report.exhibit().general();
+    if rest.contains(general) {
+        add_reading(general, report.reading(), findings)?;
+    }
+    Ok(())
+}
+
+/// Adds what the reports of the rest's exhibits find.
+fn add_reports(
+    rest: &GeneralSet,
+    reports: &[LocalReport],
+    findings: &mut Vec<Finding>,
+) -> Result<(), AllocError>
+    ensures { OnOk result (Adds (FindsRead rest.now reports.now) findings.old.items findings.new.items) }
+{
+    for report in reports {
+        add_report(rest, report, findings)?;
+    }
+    Ok(())
+}
+
+/// Adds what is found between the logs that the reports tell.
+fn add_matched(
+    alloc: Global,
+    header: &Header,
+    faulty: &GeneralSet,
+    reports: &[LocalReport],
+    findings: &mut Vec<Finding>,
+) -> Result<(), AllocError>
+    requires { AreUnder header.now reports.now }
+    ensures { OnOk result (Adds (FindsBetween header.now.network faulty.now (told_logs reports.now))
+        findings.old.items findings.new.items) }
+{
+    let edges = match_edges(alloc, header, faulty, reports)?;
+    findings.extend_from_slice(edges.as_slice())?;
+    let derived = check_derived(alloc, header, faulty, reports)?;
+    findings.extend_from_slice(derived.as_slice())?;
+    Ok(())
+}
+
+/// Adds the least pair of the set that no walk joins, if there is one.
+fn add_unjoined(
+    net: &Net,
+    rest: &GeneralSet,
+    walks: &Walks,
+    findings: &mut Vec<Finding>,
+) -> Result<(), AllocError>
+    ensures { OnOk result (Adds (FindsPair net.now rest.now walks.now)
+        findings.old.items findings.new.items) }
+{
+    if let Err(bad) = check_walks(net, rest, walks) {
+        findings.push(Finding::Unjoined {
+            first: bad.a,
+            second: bad.b,
+        })?;
+    }
+    Ok(())
+}
+
+/// Adds that the set is empty, if it is.
+fn add_nobody(rest: &GeneralSet, findings: &mut Vec<Finding>) -> Result<(), AllocError>
+    ensures { OnOk result (Adds (FindsEmpty rest.now) findings.old.items findings.new.items) }
+{
+    if rest.is_empty() {
+        findings.push(Finding::Nobody)?;
+    }
+    Ok(())
+}
+
+/// Returns the generals who aren't held for faulty.
+pub(crate) fn rest_of(net: &Net, faulty: &GeneralSet) -> GeneralSet
+    ensures { IsListOf result (IsLoyal net.now faulty.now) }
+{
+    let mut rest = GeneralSet::new();
+    for number in 0..net.generals() {
+        let general = GeneralNo::at(number);
+        if !faulty.contains(general) {
+            rest.insert(general);
+        }
+    }
+    rest
+}
+
+/// Returns all that is found in a bundle, in any order.
+fn collected(
+    alloc: Global,
+    bundle: &Bundle,
+    rest: &GeneralSet,
+    reports: &[LocalReport],
+) -> Result<Vec<Finding>, AllocError>
+    requires rest { IsListOf rest.now (IsOfRest bundle.now) }
+    requires reports { AreReports bundle.now reports.now }
+    ensures { IfOk result (λ findings. (f : Finding) → Contains findings.items f ↔ IsFinding bundle.now f) }
+{
+    let mut findings = Vec::new(alloc);
+    add_amounts(bundle.exhibits(), rest, &mut findings)?;
+    add_reports(rest, reports, &mut findings)?;
+    add_matched(
+        alloc,
+        bundle.header(),
+        bundle.faulty(),
+        reports,
+        &mut findings,
+    )?;
+    add_unjoined(bundle.header().net(), rest, bundle.walks(), &mut findings)?;
+    add_nobody(rest, &mut findings)?;
+    Ok(findings)
+}
+
+/// Returns all that is found in a bundle, given its rest and the reports of its exhibits.
+///
+/// # Errors
+///
+/// `AllocError` where memory is refused.
+pub(crate) fn findings_in(
+    alloc: Global,
+    bundle: &Bundle,
+    rest: &GeneralSet,
+    reports: &[LocalReport],
+) -> Result<Vec<Finding>, AllocError>
+    requires rest { IsListOf rest.now (IsOfRest bundle.now) }
+    requires reports { AreReports bundle.now reports.now }
+    ensures { IfOk result (λ findings. AreFindings (IsFinding bundle.now) findings.items) }
+{
+    let findings = collected(alloc, bundle, rest, reports)?;
+    in_order(alloc, findings)
+}

@@ -1,0 +1,161 @@
+//! Findings in their one order.
+ghost use Rattle.std.specs.Prelude.{◌≡◌, ◌≢◌, ◌++◌, ◌∷◌, [], List, Contains, IfOk};
+ghost use Rattle.std.specs.Bool.{OnTrue, OnFalse};
+ghost use Rattle.std.specs.List.Sorted.{IsSortedByKey};
+ghost use Rattle.gen_match.specs.declared.finding.Finding.{Finding};
+ghost use Rattle.gen_match.specs.Findings.{AreFindings, chain_fault_number};
+ghost use Rattle.gen_audit.specs.Sorting.{sorting_place, place_cmp, fault_numbers};
+
+use crate::sorting_places::SortingPlace;
+use gen_chain::ChainFault;
+use gen_log::LogFault;
+use gen_match::Finding;
+use gen_types::GeneralNo;
+use std::alloc::{AllocError, Global};
+
+/// Returns the number of a chain's fault.
+fn number_of(fault: ChainFault) -> u8
+    ensures { result ≡ chain_fault_number fault }
+{
+    match fault {
+        ChainFault::Truncated => 1,
+        ChainFault::OrderRange => 2,
+        ChainFault::SignerCount => 3,
+        ChainFault::BadSigner => 4,
+        ChainFault::NotFromCommander => 5,
+    }
+}
+
+/// Returns the numbers of a log's fault.
+fn numbers_of(fault: LogFault) -> (u64, u8)
+    ensures { result ≡ fault_numbers fault }
+{
+    match fault {
+        LogFault::Truncated => (1, 0),
+        LogFault::UnknownKind => (2, 0),
+        LogFault::OutOfRange => (3, 0),
+        LogFault::OutOfPlace => (4, 0),
+        LogFault::Chain(inner) => (5, number_of(inner)),
+        LogFault::LeftOver => (6, 0),
+    }
+}
+
+/// Returns the place of a finding of one general.
+fn place_of_one(number: u8, general: GeneralNo, detail: u64, round: u8) -> SortingPlace
+    ensures { result ≡ record {
+      number = number;
+      general = general;
+      detail = detail;
+      round = round;
+      order = 0;
+    } }
+{
+    SortingPlace {
+        number,
+        general: general.get(),
+        detail,
+        round,
+        order: 0,
+    }
+}
+
+/// Returns the place of a finding of two generals.
+fn place_of_two(number: u8, from: GeneralNo, to: GeneralNo, round: u8, order: u8) -> SortingPlace
+    ensures { result ≡ record {
+      number = number;
+      general = from;
+      detail = to;
+      round = round;
+      order = order;
+    } }
+{
+    SortingPlace {
+        number,
+        general: from.get(),
+        detail: u64::from(to.get()),
+        round,
+        order,
+    }
+}
+
+/// Returns the place that a finding is sorted to.
+fn place_of(finding: &Finding) -> SortingPlace
+    ensures { result ≡ sorting_place finding.now }
+{
+    match *finding {
+        Finding::Missing { general } => place_of_one(1, general, 0, 0),
+        Finding::Several { general } => place_of_one(2, general, 0, 0),
+        Finding::Unreadable { general, fault } => {
+            let (log_number, chain_number) = numbers_of(fault);
+            place_of_one(3, general, log_number, chain_number)
+        }
+        Finding::Foreign { general } => place_of_one(4, general, 0, 0),
+        Finding::Unsigned { general, entry } => place_of_one(5, general, entry as u64, 0),
+        Finding::Unsealed { general } => place_of_one(6, general, 0, 0),
+        Finding::Departs { general, entry } => place_of_one(7, general, entry as u64, 0),
+        Finding::Unmatched {
+            from,
+            to,
+            round,
+            order,
+        } => place_of_two(8, from, to, round, order.get()),
+        Finding::Underivable {
+            from,
+            to,
+            round,
+            order,
+        } => place_of_two(9, from, to, round, order.get()),
+        Finding::Unjoined { first, second } => place_of_two(10, first, second, 0, 0),
+        Finding::Nobody => place_of_one(11, GeneralNo::commander(), 0, 0),
+    }
+}
+
+/// Returns whether two findings are the same, which they are if their places are.
+fn are_same(one: &Finding, other: &Finding) -> bool
+    ensures yes { OnTrue result (one.now ≡ other.now) }
+    ensures no { OnFalse result (one.now ≢ other.now) }
+{
+    place_of(one) == place_of(other)
+}
+
+/// Returns whether the finding is not the last of these.
+fn is_new(findings: &[Finding], finding: &Finding) -> bool
+    ensures yes { OnTrue result (
+        (front : List Finding) → findings.now ≡ front ++ finding.now ∷ [] → ⊥) }
+    ensures no { OnFalse result (
+        (front : List Finding) × (findings.now ≡ front ++ finding.now ∷ [])) }
+{
+    match findings.split_last() {
+        Some((last, _)) => !are_same(last, finding),
+        None => true,
+    }
+}
+
+/// Returns findings that are sorted by their places, each once.
+fn each_once(alloc: Global, sorted: &[Finding]) -> Result<Vec<Finding>, AllocError>
+    requires { IsSortedByKey sorting_place place_cmp sorted.now }
+    ensures { IfOk result (λ findings. AreFindings (Contains sorted.now) findings.items) }
+{
+    let mut findings = Vec::new(alloc);
+    for finding in sorted {
+        if is_new(findings.as_slice(), finding) {
+            findings.push(*finding)?;
+        }
+    }
+    Ok(findings)
+}
+
+/// Returns these findings in their one order, each once.
+///
+/// # Errors
+///
+/// `AllocError` where memory is refused.
+pub(crate) fn in_order(
+    alloc: Global,
+    mut findings: Vec<Finding>,
+) -> Result<Vec<Finding>, AllocError>
+    ensures { IfOk result (λ sorted. AreFindings (Contains findings.items) sorted.items) }
+{
+    findings.sort_by_key(|finding| place_of(finding))?;
+    each_once(alloc, findings.as_slice())
+}

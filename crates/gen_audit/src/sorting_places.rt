@@ -1,0 +1,17 @@
+//! What findings are sorted by.
+
+/// The numbers of a finding's place, 0 for those that it hasn't. Places are ordered by the first number, then by
+/// the next.
+#[derive(Clone, Copy, Debug, PartialEq, Eq, PartialOrd, Ord)]
+pub(crate) struct SortingPlace {
+    /// The number of the finding, 1 to 11.
+    pub(crate) number: u8,
+    /// The first general.
+    pub(crate) general: u8,
+    /// The second general, the entry, or the number of the log's fault.
+    pub(crate) detail: u64,
+    /// The round, or the number of the chain's fault.
+    pub(crate) round: u8,
+    /// The order.
+    pub(crate) order: u8,
+}

@@ -1,0 +1,216 @@
+//! Received chains that derive from nothing that the rest sent.
+ghost use Rattle.std.specs.Prelude.{◌≡◌, ◌<◌, ◌≤◌, ◌+◌, ◌++◌, ◌^◌, cond, Some, None, IfOk, IfSome, OnOk, AllPairs, Contains, length, map};
+ghost use Rattle.std.specs.List.{flat_map, AllByRecursion};
+ghost use Rattle.gen_types.specs.Ascending.{IsListOf};
+ghost use Rattle.gen_log.specs.Entry.{erase};
+ghost use Rattle.gen_local.specs.Erased.{erased};
+ghost use Rattle.gen_match.specs.Findings.{AreFindings};
+ghost use Rattle.gen_match.specs.Matching.{FindsUnderivable};
+ghost use Rattle.gen_match.specs.Reports.{AreUnder, told_logs};
+ghost use Rattle.gen_match.specs.Underivables as finding;
+
+use crate::finding::Finding;
+use crate::prefixes::{has_between, longer, sort_apart, source_key};
+use crate::sources::{find_sources, is_rest, rest_entries};
+use gen_local::LocalReport;
+use gen_log::Entry;
+use gen_net::Header;
+use gen_types::{GeneralNo, GeneralSet, OrderNo, Path};
+use std::alloc::{AllocError, Global};
+
+/// The number that is found, or else what was found before it.
+fn last_of(before: Option<u128>, is_found: bool, number: u128) -> Option<u128>
+    ensures { result ≡ cond is_found (Some number) before }
+{
+    if is_found { Some(number) } else { before }
+}
+
+/// The number of a path up to its last general of the rest, and None where nobody of it is of the rest.
+fn rest_begin(header: &Header, faulty: &GeneralSet, path: &Path) -> Option<u128>
+    ensures value { result ≡ finding.rest_begin header.now.network faulty.now 1 None path.now }
+    ensures small { IfSome result (λ number. number < 2 ^ 65) }
+{
+    let _at_most = path.len();
+    let mut number = 1;
+    let mut count = 0;
+    let mut found = None;
+    let mut rest = path.generals();
+    while let Some((general, others)) = rest.split_first() {
+        number = longer(number, count, *general);
+        count += 1;
+        found = last_of(found, is_rest(header, faulty, *general), number);
+        rest = others;
+    }
+    found
+}
+
+/// Whether a path has nobody of the rest, or begins, up to its last general of the rest, as a shorter path with a
+/// key does.
+fn derives(
+    sources: &[u128],
+    header: &Header,
+    faulty: &GeneralSet,
+    order: OrderNo,
+    path: &Path,
+) -> bool
+    requires { AllPairs (λ a b. a < b) sources.now }
+    ensures { result
+        ≡ finding.derives sources.now header.now.network faulty.now order path.now }
+{
+    match rest_begin(header, faulty, path) {
+        None => true,
+        Some(number) => {
+            let low = source_key(number, order, 0);
+            let high = source_key(number, order, path.len());
+            has_between(sources, low, high)
+        }
+    }
+}
+
+/// The number of a finding's place.
+fn place_number(from: GeneralNo, to: GeneralNo, round: usize, order: OrderNo) -> u128
+    requires { round ≤ 16 }
+    ensures { result ≡ finding.place_number from to round order }
+{
+    let generals = u128::from(from.get()) * 16 + u128::from(to.get());
+    (generals * 32 + round as u128) * 16 + u128::from(order.get())
+}
+
+/// The finding at a place.
+fn finding_at(place: u128) -> Finding
+    ensures { result ≡ finding.finding_at place }
+{
+    Finding::Underivable {
+        from: GeneralNo::at((place / 8192 % 16) as u8),
+        to: GeneralNo::at((place / 512 % 16) as u8),
+        round: (place / 16 % 32) as u8,
+        order: OrderNo::at((place % 16) as u8),
+    }
+}
+
+/// Makes known the ranges of an entry's numbers, which its types keep.
+fn learn_ranges(entry: &Entry)
+    ensures { finding.IsSmall (erase entry.now) }
+{
+    match entry {
+        Entry::Send { order, path, .. } => {
+            let _order = order.get();
+            let _len = path.len();
+        }
+        Entry::Recv { from, chain } => {
+            let _from = from.get();
+            let _order = chain.order().get();
+            let _len = chain.path().len();
+        }
+        _ => {}
+    }
+}
+
+/// Puts the place of a general's entry behind others, where it is a chain from somebody faulty that doesn't derive.
+fn find_entry(
+    sources: &[u128],
+    header: &Header,
+    faulty: &GeneralSet,
+    to: GeneralNo,
+    entry: &Entry,
+    places: &mut Vec<u128>,
+) -> Result<(), AllocError>
+    requires { AllPairs (λ a b. a < b) sources.now }
+    ensures { OnOk result (places.new.items ≡ places.old.items
+        ++ finding.found_at sources.now header.now.network faulty.now to (erase entry.now)) }
+{
+    match entry {
+        Entry::Recv { from, chain } => {
+            let path = chain.path();
+            let order = chain.order();
+            if faulty.contains(*from) && !derives(sources, header, faulty, order, &path) {
+                places.push(place_number(*from, to, path.len(), order))?;
+            }
+            Ok(())
+        }
+        _ => Ok(()),
+    }
+}
+
+/// Puts the places of a general's entries behind others, where they are chains from somebody faulty that don't
+/// derive.
+fn find_entries(
+    sources: &[u128],
+    header: &Header,
+    faulty: &GeneralSet,
+    to: GeneralNo,
+    entries: &[Entry],
+    places: &mut Vec<u128>,
+) -> Result<(), AllocError>
+    requires { AllPairs (λ a b. a < b) sources.now }
+    ensures places { OnOk result (places.new.items ≡ places.old.items
+        ++ flat_map (finding.found_at sources.now header.now.network faulty.now to) (erased entries.now)) }
+    ensures small { OnOk result (AllByRecursion finding.IsSmall (erased entries.now)) }
+{
+    let mut rest = entries;
+    while let Some((entry, others)) = rest.split_first() {
+        learn_ranges(entry);
+        find_entry(sources, header, faulty, to, entry, places)?;
+        rest = others;
+    }
+    Ok(())
+}
+
+/// The places, ascending, of all received chains from somebody faulty that don't derive.
+fn find_places(
+    alloc: Global,
+    sources: &[u128],
+    header: &Header,
+    faulty: &GeneralSet,
+    reports: &[LocalReport],
+) -> Result<Vec<u128>, AllocError>
+    requires { AllPairs (λ a b. a < b) sources.now }
+    ensures places { IfOk result (λ places. IsListOf places.items (Contains
+        (finding.found_places sources.now header.now.network faulty.now (told_logs reports.now)))) }
+    ensures small { OnOk result (finding.AreSmall header.now.network faulty.now
+        (told_logs reports.now) header.now.network.generals) }
+{
+    let mut places = Vec::new(alloc);
+    for number in 0..header.net().generals() {
+        let general = GeneralNo::at(number);
+        let entries = rest_entries(header, faulty, reports, general);
+        find_entries(sources, header, faulty, general, entries, &mut places)?;
+    }
+    sort_apart(&mut places)?;
+    Ok(places)
+}
+
+/// The findings at these places.
+fn findings_at(alloc: Global, places: &[u128]) -> Result<Vec<Finding>, AllocError>
+    ensures { IfOk result (λ findings. findings.items ≡ map finding.finding_at places.now) }
+{
+    let mut findings = Vec::new(alloc);
+    for place in places {
+        findings.push(finding_at(*place))?;
+    }
+    Ok(findings)
+}
+
+/// Returns, in their order, the chains that faulty generals sent generals of the rest and that derive from nothing
+/// that the rest sent a faulty one. The rest are the generals who aren't held for faulty, and of them those with
+/// one report alone, of a log that says it is theirs of this run. All reports must be made under this header.
+///
+/// # Errors
+///
+/// `AllocError` where memory is refused.
+pub fn check_derived(
+    alloc: Global,
+    header: &Header,
+    faulty: &GeneralSet,
+    reports: &[LocalReport],
+) -> Result<Vec<Finding>, AllocError>
+    requires { AreUnder header.now reports.now }
+    ensures { IfOk result (λ findings. AreFindings
+        (FindsUnderivable header.now.network faulty.now (told_logs reports.now)) findings.items) }
+{
+    // The header makes known that the network has at most 16 generals.
+    let _known = header.net();
+    let sources = find_sources(alloc, header, faulty, reports)?;
+    let places = find_places(alloc, sources.as_slice(), header, faulty, reports)?;
+    findings_at(alloc, places.as_slice())
+}

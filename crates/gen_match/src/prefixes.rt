@@ -1,0 +1,72 @@
+//! The beginnings of paths as numbers, and the keys of those that were sent.
+ghost use Rattle.std.specs.Prelude.{ℕ, ◌≡◌, ◌+◌, ◌*◌, ◌^◌, ◌<◌, ◌≤◌, ◌++◌, OnOk, AllPairs, Contains, length};
+ghost use Rattle.gen_types.specs.Ascending.{IsListOf};
+ghost use Rattle.gen_match.specs.Prefixes as keys;
+
+use gen_types::{GeneralNo, OrderNo, Path};
+use std::alloc::AllocError;
+
+/// The number of a path with so many generals, and behind them one more.
+pub(crate) fn longer(number: u128, count: usize, general: GeneralNo) -> u128
+    requires room { count < 16 }
+    requires small { number < 2 * 16 ^ count }
+    ensures value { result ≡ number * 16 + general }
+    ensures small { result < 2 * 16 ^ (count + 1) }
+{
+    number * 16 + u128::from(general.get())
+}
+
+/// The key of a beginning with this number, of a path of so many generals, under an order.
+pub(crate) fn source_key(number: u128, order: OrderNo, len: usize) -> u128
+    requires small { number < 2 ^ 65 }
+    requires few { len ≤ 16 }
+    ensures { result ≡ keys.source_key number order len }
+{
+    (number * 16 + u128::from(order.get())) * 32 + len as u128
+}
+
+/// Puts the keys of all beginnings of a path behind others.
+pub(crate) fn put_begins(
+    order: OrderNo,
+    path: &Path,
+    numbers: &mut Vec<u128>,
+) -> Result<(), AllocError>
+    ensures { OnOk result (numbers.new.items
+        ≡ numbers.old.items ++ keys.begin_keys order (length path.now) 1 path.now) }
+{
+    let len = path.len();
+    let mut number = 1;
+    let mut count = 0;
+    let mut rest = path.generals();
+    while let Some((general, others)) = rest.split_first() {
+        number = longer(number, count, *general);
+        count += 1;
+        numbers.push(source_key(number, order, len))?;
+        rest = others;
+    }
+    Ok(())
+}
+
+/// Sorts numbers and drops those that stand there twice.
+pub(crate) fn sort_apart(numbers: &mut Vec<u128>) -> Result<(), AllocError>
+    ensures { OnOk result (IsListOf numbers.new.items (Contains numbers.old.items)) }
+{
+    numbers.sort()?;
+    numbers.dedup();
+    Ok(())
+}
+
+/// Whether one of ascending numbers is at least low and below high, which is above low.
+pub(crate) fn has_between(numbers: &[u128], low: u128, high: u128) -> bool
+    requires ascending { AllPairs (λ a b. a < b) numbers.now }
+    requires above { low < high }
+    ensures { result ≡ keys.has_between numbers.now low high }
+{
+    match numbers.binary_search(&low) {
+        Ok(_) => true,
+        Err(next) => match numbers.get(next) {
+            Some(number) => *number < high,
+            None => false,
+        },
+    }
+}

@@ -1,0 +1,96 @@
+//! What the rest sent the faulty, by which received chains can be derived.
+ghost use Rattle.std.specs.Prelude.{◌≡◌, ◌++◌, OnOk, IfOk, Contains};
+ghost use Rattle.std.specs.List.{flat_map};
+ghost use Rattle.gen_types.specs.Ascending.{IsListOf};
+ghost use Rattle.gen_log.specs.Entry.{erase};
+ghost use Rattle.gen_local.specs.Erased.{erased};
+ghost use Rattle.gen_match.specs.Reports.{told_logs};
+ghost use Rattle.gen_match.specs.Underivables as finding;
+
+use crate::prefixes::{put_begins, sort_apart};
+use crate::telling::told;
+use gen_local::LocalReport;
+use gen_log::Entry;
+use gen_net::Header;
+use gen_types::{GeneralNo, GeneralSet};
+use std::alloc::{AllocError, Global};
+
+/// Whether a general is of the rest.
+pub(crate) fn is_rest(header: &Header, faulty: &GeneralSet, general: GeneralNo) -> bool
+    ensures { result ≡ finding.is_rest header.now.network faulty.now general }
+{
+    general.get() < header.net().generals() && !faulty.contains(general)
+}
+
+/// The entries of the log of a general of the rest, and none where he has no log that counts or isn't of the
+/// rest.
+pub(crate) fn rest_entries<'a>(
+    header: &Header,
+    faulty: &GeneralSet,
+    reports: &'a [LocalReport],
+    general: GeneralNo,
+) -> &'a [Entry]
+    ensures { erased result.now
+        ≡ finding.rest_entries header.now.network faulty.now (told_logs reports.now) general }
+{
+    if !is_rest(header, faulty, general) {
+        return &[];
+    }
+    match told(reports, general) {
+        Some(log) => log.entries(),
+        None => &[],
+    }
+}
+
+/// Puts the keys of an entry behind others.
+fn put_entry(faulty: &GeneralSet, entry: &Entry, keys: &mut Vec<u128>) -> Result<(), AllocError>
+    ensures { OnOk result (keys.new.items
+        ≡ keys.old.items ++ finding.entry_keys faulty.now (erase entry.now)) }
+{
+    match entry {
+        Entry::Send { to, order, path } => {
+            if faulty.contains(*to) {
+                put_begins(*order, path, keys)?;
+            }
+            Ok(())
+        }
+        _ => Ok(()),
+    }
+}
+
+/// Puts the keys of entries behind others.
+fn put_entries(
+    faulty: &GeneralSet,
+    entries: &[Entry],
+    keys: &mut Vec<u128>,
+) -> Result<(), AllocError>
+    ensures { OnOk result (keys.new.items
+        ≡ keys.old.items ++ flat_map (finding.entry_keys faulty.now) (erased entries.now)) }
+{
+    let mut rest = entries;
+    while let Some((entry, others)) = rest.split_first() {
+        put_entry(faulty, entry, keys)?;
+        rest = others;
+    }
+    Ok(())
+}
+
+/// The ascending keys of all beginnings of paths that the rest sent the faulty, each with the number of generals
+/// of the whole path.
+pub(crate) fn find_sources(
+    alloc: Global,
+    header: &Header,
+    faulty: &GeneralSet,
+    reports: &[LocalReport],
+) -> Result<Vec<u128>, AllocError>
+    ensures { IfOk result (λ keys. IsListOf keys.items (Contains
+        (finding.rest_keys header.now.network faulty.now (told_logs reports.now)))) }
+{
+    let mut keys = Vec::new(alloc);
+    for number in 0..header.net().generals() {
+        let entries = rest_entries(header, faulty, reports, GeneralNo::at(number));
+        put_entries(faulty, entries, &mut keys)?;
+    }
+    sort_apart(&mut keys)?;
+    Ok(keys)
+}

@@ -1,0 +1,47 @@
+//! The logs that reports tell.
+ghost use Rattle.std.specs.Prelude.{◌≡◌, ◌∷◌, [], IfSome, IfNone};
+ghost use Rattle.std.specs.Option.{option_map};
+ghost use Rattle.gen_local.specs.Erased.{erased};
+ghost use Rattle.gen_match.specs.Reports.{reports_of, entries_told, told_logs};
+
+use gen_local::{LocalReport, Reading};
+use gen_log::Log;
+use gen_types::GeneralNo;
+
+/// Returns the first report of a general, and the reports behind it.
+fn next_of(reports: &[LocalReport], general: GeneralNo) -> Option<(&LocalReport, &[LocalReport])>
+    ensures some { IfSome result (λ found.
+        reports_of reports.now general ≡ found.0.now ∷ reports_of found.1.now general) }
+    ensures none { IfNone result (reports_of reports.now general ≡ []) }
+{
+    let mut rest = reports;
+    while let Some((report, others)) = rest.split_first() {
+        if report.exhibit().general() == general {
+            return Some((report, others));
+        }
+        rest = others;
+    }
+    None
+}
+
+/// Returns the log of a reading that has one.
+fn log_of(reading: &Reading) -> Option<&Log>
+    ensures { option_map (λ log. erased log.now.entries) result ≡ entries_told reading.now }
+{
+    match reading {
+        Reading::Own(own) => Some(own.log()),
+        Reading::Unreadable(_) | Reading::Foreign => None,
+    }
+}
+
+/// Returns the log of a general's one report, where its exhibit is a log of his and its run, and else None, also where
+/// he has no report or several.
+pub(crate) fn told(reports: &[LocalReport], general: GeneralNo) -> Option<&Log>
+    ensures { option_map (λ log. erased log.now.entries) result ≡ told_logs reports.now general }
+{
+    let (report, others) = next_of(reports, general)?;
+    match next_of(others, general) {
+        None => log_of(report.reading()),
+        Some(_) => None,
+    }
+}

@@ -1,0 +1,49 @@
+-- The lines of findings.
+use Rattle.std.specs.Prelude.{ℕ, List, ◌++◌, codes}
+use Rattle.std.specs.Fmt.{decimal}
+use Rattle.gen_chain.specs.declared.fault.ChainFault.{ChainFault}
+use Rattle.gen_chain.specs.declared.fault.ChainFault.TheVariants as chain_faults
+use Rattle.gen_log.specs.declared.fault.LogFault.{LogFault}
+use Rattle.gen_log.specs.declared.fault.LogFault.TheVariants as log_faults
+use Rattle.gen_match.specs.declared.finding.Finding.{Finding}
+use Rattle.gen_match.specs.declared.finding.Finding.TheVariants.{Missing, Several, Unreadable, Foreign, Unsigned, Unsealed, Departs, Unmatched, Underivable, Unjoined, Nobody}
+
+-- the name of a chain's fault
+abbrev pub chain_fault_name : ChainFault → List ℕ
+chain_fault_name chain_faults.Truncated = codes "C1"
+chain_fault_name chain_faults.OrderRange = codes "C2"
+chain_fault_name chain_faults.SignerCount = codes "C3"
+chain_fault_name chain_faults.BadSigner = codes "C4"
+chain_fault_name chain_faults.NotFromCommander = codes "C5"
+
+-- the name of a log's fault, and behind it that of the chain's which it is
+abbrev pub log_fault_name : LogFault → List ℕ
+log_fault_name log_faults.Truncated = codes "L1"
+log_fault_name log_faults.UnknownKind = codes "L2"
+log_fault_name log_faults.OutOfRange = codes "L3"
+log_fault_name log_faults.OutOfPlace = codes "L4"
+log_fault_name (log_faults.Chain fault) = codes "L5 " ++ chain_fault_name fault
+log_fault_name log_faults.LeftOver = codes "L6"
+
+-- a message: from whom to whom, its round, and its order
+abbrev pub message_named : ℕ → ℕ → ℕ → ℕ → List ℕ
+message_named from to round order =
+    codes " from " ++ decimal from ++ codes " to " ++ decimal to ++ codes " round " ++ decimal round ++ codes " order " ++ decimal order
+
+-- what a finding is
+abbrev pub finding_named : Finding → List ℕ
+finding_named (Missing general) = codes "N1 general " ++ decimal general
+finding_named (Several general) = codes "N2 general " ++ decimal general
+finding_named (Unreadable general fault) = codes "N3 general " ++ decimal general ++ codes " " ++ log_fault_name fault
+finding_named (Foreign general) = codes "N4 general " ++ decimal general
+finding_named (Unsigned general entry) = codes "N5 general " ++ decimal general ++ codes " entry " ++ decimal entry
+finding_named (Unsealed general) = codes "N6 general " ++ decimal general
+finding_named (Departs general entry) = codes "N7 general " ++ decimal general ++ codes " entry " ++ decimal entry
+finding_named (Unmatched from to round order) = codes "N8" ++ message_named from to round order
+finding_named (Underivable from to round order) = codes "N9" ++ message_named from to round order
+finding_named (Unjoined first second) = codes "N10 pair " ++ decimal first ++ codes " " ++ decimal second
+finding_named Nobody = codes "N11"
+
+-- the line of a finding
+abbrev pub finding_line : Finding → List ℕ
+finding_line finding = finding_named finding ++ codes "\n"

@@ -1,0 +1,94 @@
+//! Verdicts as text.
+ghost use Rattle.std.specs.Prelude.{◌≡◌, ◌++◌, OnOk, IfOk, string_bytes};
+ghost use Rattle.std.specs.List.{flat_map};
+ghost use Rattle.gen_report.specs.Findings.{finding_line};
+ghost use Rattle.gen_report.specs.VerdictText.{run_line, decided_line, answer_lines, verdict_text};
+
+use crate::findings::push_finding;
+use gen_audit::Verdict;
+use gen_match::Finding;
+use gen_net::Header;
+use gen_world::Decision;
+use std::alloc::{AllocError, Global};
+
+/// Appends the line that says which run it is.
+fn push_run(alloc: Global, out: &mut String, header: &Header) -> Result<(), AllocError>
+    ensures { OnOk result (string_bytes out.new ≡ string_bytes out.old ++ run_line header.now) }
+{
+    let digits = hex::encode(alloc, *header.run_id())?;
+    write!(out, "run {digits}\n")
+}
+
+/// Appends the line of what a general decided.
+fn push_decided(out: &mut String, decision: &Decision) -> Result<(), AllocError>
+    ensures { OnOk result
+        (string_bytes out.new ≡ string_bytes out.old ++ decided_line decision.now) }
+{
+    let general = decision.general.get();
+    let order = decision.order.get();
+    write!(out, "general {general} decides {order}\n")
+}
+
+/// Appends the lines of what generals decided.
+fn push_all_decided(out: &mut String, decisions: &[Decision]) -> Result<(), AllocError>
+    ensures { OnOk result (string_bytes out.new
+        ≡ string_bytes out.old ++ flat_map decided_line decisions.now) }
+{
+    for decision in decisions {
+        push_decided(out, decision)?;
+    }
+    Ok(())
+}
+
+/// Appends the lines of findings.
+fn push_findings(out: &mut String, findings: &[Finding]) -> Result<(), AllocError>
+    ensures { OnOk result (string_bytes out.new
+        ≡ string_bytes out.old ++ flat_map finding_line findings.now) }
+{
+    for finding in findings {
+        push_finding(out, finding)?;
+    }
+    Ok(())
+}
+
+/// Appends the line of the verdict, and those of its decisions or findings.
+fn push_answer(out: &mut String, verdict: &Verdict) -> Result<(), AllocError>
+    ensures { OnOk result
+        (string_bytes out.new ≡ string_bytes out.old ++ answer_lines verdict.now) }
+{
+    match verdict {
+        Verdict::Agreed(order) => {
+            let order = order.get();
+            write!(out, "verdict agreed {order}\n")
+        }
+        Verdict::Explained(decisions) => {
+            out.push_str("verdict explained\n")?;
+            push_all_decided(out, decisions.as_slice())
+        }
+        Verdict::No(findings) => {
+            out.push_str("verdict no\n")?;
+            push_findings(out, findings.as_slice())
+        }
+    }
+}
+
+/// Returns the text of a verdict on a run: a line `run` with the 64 digits of the run's id, a line
+/// `verdict agreed V`, `verdict explained` or `verdict no`, a line `general G decides V` for each decision that
+/// explains or a line for each finding, and a line `end`.
+///
+/// # Errors
+///
+/// `AllocError` where memory is refused.
+pub fn print_verdict(
+    alloc: Global,
+    header: &Header,
+    verdict: &Verdict,
+) -> Result<Vec<u8>, AllocError>
+    ensures { IfOk result (λ v. v.items ≡ verdict_text header.now verdict.now) }
+{
+    let mut out = String::new(alloc);
+    push_run(alloc, &mut out, header)?;
+    push_answer(&mut out, verdict)?;
+    out.push_str("end\n")?;
+    Ok(out.into_bytes())
+}

@@ -1,0 +1,17 @@
+-- How a job fails where its input can't be read.
+use Rattle.gen_types.specs.declared.reading.ReadError.{ReadError}
+use Rattle.gen_types.specs.declared.reading.ReadError.TheVariants as errors
+use Rattle.gen_report.specs.declared.fault.ScenarioFault.{ScenarioFault}
+use Rattle.gen_audit.specs.declared.bundle_fault.BundleFault.{BundleFault}
+use Rattle.sm_tool.specs.declared.ends.JobFault.{JobFault}
+use Rattle.sm_tool.specs.declared.ends.JobFault.TheVariants as faults
+
+-- by a scenario that can't be read
+abbrev pub scenario_failure : ReadError ScenarioFault → JobFault
+scenario_failure errors.Memory = faults.Memory
+scenario_failure (errors.Fault f) = faults.Scenario f
+
+-- by a bundle that can't be read
+abbrev pub bundle_failure : ReadError BundleFault → JobFault
+bundle_failure errors.Memory = faults.Memory
+bundle_failure (errors.Fault f) = faults.Bundle f
