@@ -4,7 +4,8 @@ use Rattle.std.proofs.lemmas.List.{take-append-drop}
 use Rattle.gen_net.specs.Network.{Network}
 use Rattle.gen_net.specs.Run.{Run}
 use Rattle.gen_net.specs.Follows.{Conduct, Commands, Relays, Follows}
-use Rattle.gen_net.specs.Log.{Signed, IsEntry, IsFollowersLog}
+use Rattle.gen_net.specs.Log.{Signed, IsEntry}
+use Rattle.gen_net.specs.Departs.{IsFollowersLog}
 use Rattle.gen_convict.specs.Laws.{OneStatementOfEach, OneOrderOfCommander, NowhereDeparts}
 
 same_path : (net : Network) (run : Run) (g : ℕ) (c : Conduct) (v : ℕ) (p q : List ℕ) → IsEntry net run g c (Signed v p) → IsEntry net run g c (Signed v q) → p ≡ q

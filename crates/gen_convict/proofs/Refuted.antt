@@ -1,27 +1,33 @@
--- Evidence against a follower is answered.
+-- A claim against a follower is answered.
 use Rattle.std.proofs.Common.{◌≡◌, ◌≢◌, ℕ, ◌⊎◌, inl, inr, List, [], ◌∷◌, length, map, Contains, refl, sym, ap, subst, ◌∙◌, arith}
 use Rattle.std.proofs.lemmas.Bool.{cases_eq}
 use Rattle.sha2.proofs.Facts256.{length-sha256}
 use Rattle.gen_types.proofs.Lists.{decide_some, Contains_here, Contains_there, Contains_cases, Contains_nil}
-use Rattle.gen_net.specs.Network.{IsNetwork}
-use Rattle.gen_net.specs.Log.{Signed, IsFollowersLog, DepartsAt}
-use Rattle.gen_net.specs.Header.{RunHeader}
+use Rattle.gen_net.specs.Log.{Signed}
+use Rattle.gen_net.specs.Departs.{IsFollowersLog, DepartsAt}
+use Rattle.gen_net.specs.Header.{RunHeader, IsHeader}
 use Rattle.gen_chain.specs.declared.statements.Statement.{Statement}
 use Rattle.gen_chain.specs.declared.statements.HeadText.{HeadText}
 use Rattle.gen_log.specs.declared.entries.Entry.{Entry}
 use Rattle.gen_log.specs.declared.entries.Entry.TheVariants.{Start, Sign, Send, Recv, Decide}
-use Rattle.gen_log.specs.Entries.{erase}
+use Rattle.gen_log.specs.Entry.{erase}
 use Rattle.gen_log.specs.Links.{first_link, link_over, head_over}
-use Rattle.gen_log.specs.Logs.{RunLog}
+use Rattle.gen_log.specs.Log.{RunLog}
 use Rattle.gen_log.specs.Signing.{HasSign}
-use Rattle.gen_convict.specs.Evidence.{SignedText, OfStatement, OfHead, TextVerifies, AreDifferent, command, IsSealedLogOf, Evidence, TwoTexts, TwoOrders, MissingFromLog, DepartingLog}
+use Rattle.gen_local.specs.declared.texts.SignedText.{SignedText}
+use Rattle.gen_local.specs.declared.texts.Text.{Text}
+use Rattle.gen_local.specs.declared.texts.Text.TheVariants.{OfStatement, OfHead}
+use Rattle.gen_local.specs.Erased.{erased}
+use Rattle.gen_local.specs.SignedTexts.{stated, head_in}
+use Rattle.gen_convict.specs.Accused.{TextVerifies, AreUnlike, command}
+use Rattle.gen_convict.specs.Contradictions.{IsSealedLogOf, Claim, TwoTexts, TwoOrders, MissingFromLog, DepartingLog}
 use Rattle.gen_convict.specs.Refuting.{IsOwnLog, HasText, IsHeadIn, IsTextIn, Refutation, Forged, Collision, IsRefutation}
-use Rattle.gen_convict.specs.Laws.{Refutes}
+use Rattle.gen_convict.specs.Laws.{LinksTell, Refutes}
 use Rattle.gen_convict.proofs.Followers.{one_statement, one_order, nowhere}
-use Rattle.gen_convict.proofs.Linked.{same_or_not, links_tell}
+use Rattle.gen_convict.proofs.Linked.{same_or_not}
 
-abbrev Answered : RunHeader → ℕ → Evidence → RunLog → Type 0
-Answered h accused evidence own = (answer : Refutation) × IsRefutation h accused evidence own answer
+abbrev Answered : RunHeader → ℕ → Claim → RunLog → Type 0
+Answered h accused claim own = (answer : Refutation) × IsRefutation h accused claim own answer
 
 -- ---- what is decided
 
@@ -99,9 +105,9 @@ head_or_not s t = elim (cases_eq s.general t.general) [
   ]
 ]
 
-has_or_not : (h : RunHeader) (g : ℕ) (own : RunLog) (text : SignedText) → Either (HasText h g own text)
-has_or_not h g own (OfStatement s signature) = has_sign_or_not own s
-has_or_not h g own (OfHead head signature) = head_or_not head (head_over h g own.entries)
+has_or_not : (h : RunHeader) (g : ℕ) (own : RunLog) (text : Text) → Either (HasText h g own text)
+has_or_not h g own (OfStatement s) = has_sign_or_not own s
+has_or_not h g own (OfHead head) = head_or_not head (head_over h g own.entries)
 
 -- ---- what a follower's log can't have both of
 
@@ -112,7 +118,7 @@ mapped f (y ∷ ys) x h = elim (Contains_cases y x ys h) [
   | inr k ↦ Contains_there (f y) (f x) (map f ys) (mapped f ys x k)
 ]
 
-signed : (own : RunLog) (s : Statement) → HasSign own s → Contains (map erase own.entries) (Signed s.order s.path)
+signed : (own : RunLog) (s : Statement) → HasSign own s → Contains (erased own.entries) (Signed s.order s.path)
 signed own s h = mapped erase own.entries (Sign s.order s.path h.0) h.1
 
 statement_with : ℕ → List ℕ → Statement
@@ -122,54 +128,58 @@ pub statement_same : (s t : Statement) → s.order ≡ t.order → s.path ≡ t.
 unfolding statement_with
 statement_same s t e0 e1 = ap (λ (x : ℕ). statement_with x s.path) e0 ∙ ap (λ (x : List ℕ). statement_with t.order x) e1
 
-not_both : (h : RunHeader) (g : ℕ) (own : RunLog) → IsFollowersLog h.network g (map erase own.entries) → (x y : SignedText) → AreDifferent x y → HasText h g own x → HasText h g own y → ⊥
-not_both h g own l (OfStatement s a) (OfStatement t b) d hs ht =
+not_both : (h : RunHeader) (g : ℕ) (own : RunLog) → IsFollowersLog h.network g (erased own.entries) → (x y : Text) → AreUnlike x y → HasText h g own x → HasText h g own y → ⊥
+not_both h g own l (OfStatement s) (OfStatement t) d hs ht =
     let ss = signed own s hs in
-    let st = subst (λ (v : ℕ). Contains (map erase own.entries) (Signed v t.path)) (sym d.0) (signed own t ht) in
-    d.1 (statement_same s t d.0 (one_statement h.network g (map erase own.entries) l s.order s.path t.path ss st))
-not_both h g own l (OfStatement s a) (OfHead t b) d hs ht = d
-not_both h g own l (OfHead s a) (OfStatement t b) d hs ht = d
-not_both h g own l (OfHead s a) (OfHead t b) d hs ht = d (hs ∙ sym ht)
+    let st = subst (λ (v : ℕ). Contains (erased own.entries) (Signed v t.path)) (sym d.0) (signed own t ht) in
+    d.1 (statement_same s t d.0 (one_statement h.network g (erased own.entries) l s.order s.path t.path ss st))
+not_both h g own l (OfStatement s) (OfHead t) d hs ht = d
+not_both h g own l (OfHead s) (OfStatement t) d hs ht = d
+not_both h g own l (OfHead s) (OfHead t) d hs ht = d (hs ∙ sym ht)
 
 -- of two texts that the log can't have both of one is forged
-one_forged : (h : RunHeader) (g : ℕ) (evidence : Evidence) (own : RunLog) (x y : SignedText) → IsTextIn h g evidence x → IsTextIn h g evidence y → TextVerifies h g x → TextVerifies h g y → (HasText h g own x → HasText h g own y → ⊥) → Answered h g evidence own
-one_forged h g evidence own x y in_x in_y vx vy apart = elim (has_or_not h g own x) [
-  | inr none ↦ (Forged x, (in_x, vx, none))
-  | inl has ↦ (Forged y, (in_y, vy, apart has))
+one_forged : (h : RunHeader) (g : ℕ) (claim : Claim) (own : RunLog) (x y : SignedText) → IsTextIn h g claim x → IsTextIn h g claim y → TextVerifies h g x → TextVerifies h g y → (HasText h g own x.text → HasText h g own y.text → ⊥) → Answered h g claim own
+one_forged h g claim own x y in_x in_y vx vy apart = elim (has_or_not h g own x.text) [
+  | inr none ↦ (Forged x, record { inside = in_x; verifies = vx; absent = none })
+  | inl has ↦ (Forged y, record { inside = in_y; verifies = vy; absent = apart has })
 ]
 
 -- ---- another log with a head that verifies
 
-other_log : (h : RunHeader) (g : ℕ) (evidence : Evidence) (own : RunLog) (bytes : List ℕ) (log : RunLog) → IsNetwork h.network → IsOwnLog h g own → IsSealedLogOf h g bytes log → (log.entries ≢ own.entries) → ((text : SignedText) → IsHeadIn h g bytes text → IsTextIn h g evidence text) → Answered h g evidence own
+other_log : LinksTell → (h : RunHeader) (g : ℕ) (claim : Claim) (own : RunLog) (bytes : List ℕ) (log : RunLog) → IsHeader h → IsOwnLog h g own → IsSealedLogOf h g bytes log → (log.entries ≢ own.entries) → ((text : SignedText) → IsHeadIn h g bytes text → IsTextIn h g claim text) → Answered h g claim own
 unfolding first_link
-other_log h g evidence own bytes log ok is_own sealed differ inside = elim (head_or_not (head_over h g log.entries) (head_over h g own.entries)) [
+other_log tell h g claim own bytes log ok is_own sealed differ inside = elim (head_or_not (head_over h g log.entries) (head_over h g own.entries)) [
   | inr ne ↦ (
-    Forged (OfHead (head_over h g log.entries) log.head),
-    (inside (OfHead (head_over h g log.entries) log.head) (log, sealed.reads, sealed.spelled, refl), record { his = refl; stands = sealed.sealed }, ne),
+    Forged (head_in h g log),
+    record {
+      inside = inside (head_in h g log) (log, sealed.reads, refl);
+      verifies = record { signer = refl; his = refl; stands = sealed.sealed };
+      absent = ne;
+    },
   )
   | inl same ↦
       let len : length log.entries ≡ length own.entries = ap (λ (x : HeadText). x.entries) same in
       let last : link_over h g log.entries ≡ link_over h g own.entries = ap (λ (x : HeadText). x.last_link) same in
-      elim (links_tell h.network (first_link h g) log.entries own.entries ok (length-sha256 _) sealed.reads.entries is_own.reads.entries len last) [
+      elim (tell h (first_link h g) log.entries own.entries ok (length-sha256 _) sealed.reads.fits.entries is_own.reads.entries len last) [
         | inl e ↦ absurd (differ e)
         | inr c ↦ (Collision c.first c.second, (c.differ, c.hash))
       ]
 ]
 
-pub refutes : Refutes
-refutes h accused (TwoTexts first second) own ok holds is_own =
-    one_forged h accused (TwoTexts first second) own first second (inl refl) (inr refl) holds.0 holds.1 (not_both h accused own is_own.followed first second holds.2)
-refutes h accused (TwoOrders v a w b) own ok holds is_own =
-    let l : IsFollowersLog h.network 0 (map erase own.entries) = subst (λ g. IsFollowersLog h.network g (map erase own.entries)) holds.0 is_own.followed in
-    one_forged h accused (TwoOrders v a w b) own (command v a) (command w b) (inl refl) (inr refl) holds.1 holds.2 (λ hv hw.
-    holds.3 (one_order h.network (map erase own.entries) l v w (0 ∷ []) (0 ∷ []) (signed own (record { order = v; path = 0 ∷ [] }) hv) (signed own (record { order = w; path = 0 ∷ [] }) hw)))
-refutes h accused (MissingFromLog bytes statement signature) own ok holds is_own = elim (has_sign_or_not own statement) [
-  | inr none ↦ (Forged (OfStatement statement signature), (inl refl, holds.2, none))
-  | inl has ↦ other_log h accused (MissingFromLog bytes statement signature) own bytes holds.0 ok is_own holds.1
-      (λ e. holds.3 (has.0, subst (λ (es : List Entry). Contains es (Sign statement.order statement.path has.0)) (sym e) has.1))
+pub refutes : LinksTell → Refutes
+refutes tell h accused (TwoTexts first second) own ok holds is_own =
+    one_forged h accused (TwoTexts first second) own first second (inl refl) (inr refl) holds.one holds.other (not_both h accused own is_own.followed first.text second.text holds.different)
+refutes tell h accused (TwoOrders v a w b) own ok holds is_own =
+    let l : IsFollowersLog h.network 0 (erased own.entries) = subst (λ g. IsFollowersLog h.network g (erased own.entries)) holds.commander is_own.followed in
+    one_forged h accused (TwoOrders v a w b) own (command v a) (command w b) (inl refl) (inr refl) holds.one holds.other (λ hv hw.
+    holds.different (one_order h.network (erased own.entries) l v w (0 ∷ []) (0 ∷ []) (signed own (record { order = v; path = 0 ∷ [] }) hv) (signed own (record { order = w; path = 0 ∷ [] }) hw)))
+refutes tell h accused (MissingFromLog bytes statement signature) own ok holds is_own = elim (has_sign_or_not own statement) [
+  | inr none ↦ (Forged (stated statement.order statement.path accused signature), record { inside = inl refl; verifies = holds.verifies; absent = none })
+  | inl has ↦ other_log tell h accused (MissingFromLog bytes statement signature) own bytes holds.log ok is_own holds.his
+      (λ e. holds.missing (has.0, subst (λ (es : List Entry). Contains es (Sign statement.order statement.path has.0)) (sym e) has.1))
       (λ text i. inr i)
 ]
-refutes h accused (DepartingLog bytes p) own ok holds is_own =
-    other_log h accused (DepartingLog bytes p) own bytes holds.0 ok is_own holds.1
-    (λ e. nowhere h.network accused (map erase own.entries) p is_own.followed (subst (λ (es : List Entry). DepartsAt h.network accused (map erase es) p) e holds.2))
+refutes tell h accused (DepartingLog bytes p) own ok holds is_own =
+    other_log tell h accused (DepartingLog bytes p) own bytes holds.log ok is_own holds.his
+    (λ e. nowhere h.network accused (erased own.entries) p is_own.followed (subst (λ (es : List Entry). DepartsAt h.network accused (erased es) p) e holds.departs))
     (λ text i. i)

@@ -1,5 +1,5 @@
 use Rattle.gen_convict.proofs.Followers.{one_statement, one_order, nowhere}
-use Rattle.gen_convict.proofs.followers_logs.Goals as goal
+use Rattle.gen_convict.proofs.laws.followers_logs.Goals as goal
 
 pub returns-clause-statement : goal.returns-clause-statement
 returns-clause-statement c = one_statement
