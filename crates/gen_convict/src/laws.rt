@@ -1,6 +1,8 @@
 //! Laws of evidence and of its refutation. Each is a function whose contract is the law: a caller that calls
 //! it knows the law.
 ghost use Rattle.gen_convict.specs.Laws.{OneStatementOfEach, OneOrderOfCommander, NowhereDeparts, OneLinkText, LinksTell, Refutes};
+ghost use Rattle.gen_convict.specs.PairLaws.{FirstOfPlace, EarliestPlace, FirstCommand, OneOfEach, HasTwoTexts, OneFirstPair};
+ghost use Rattle.gen_convict.specs.FirstLaws.{TextsVerify, FirstHolds};
 
 use gen_log::laws::one_entry_spelling;
 
@@ -28,3 +30,19 @@ pub fn claims_are_refuted()
 {
     links_tell();
 }
+
+/// A list has at most one first pair of different texts, and it begins with the first text of its place.
+pub fn first_pairs()
+    ensures place { FirstOfPlace }
+    ensures earliest { EarliestPlace }
+    ensures command { FirstCommand }
+    ensures each { OneOfEach }
+    ensures found { HasTwoTexts }
+    ensures one { OneFirstPair }
+{}
+
+/// What is claimed of a general holds.
+pub fn first_claims()
+    ensures texts { TextsVerify }
+    ensures holds { FirstHolds }
+{}
