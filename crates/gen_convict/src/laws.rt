@@ -2,7 +2,7 @@
 //! it knows the law.
 ghost use Rattle.gen_convict.specs.Laws.{OneStatementOfEach, OneOrderOfCommander, NowhereDeparts, OneLinkText, LinksTell, Refutes};
 ghost use Rattle.gen_convict.specs.PairLaws.{FirstOfPlace, EarliestPlace, FirstCommand, OneOfEach, HasTwoTexts, OneFirstPair};
-ghost use Rattle.gen_convict.specs.FirstLaws.{TextsVerify, FirstHolds};
+ghost use Rattle.gen_convict.specs.FirstLaws.{TextsVerify, FirstHolds, GivenWhereHeld, OneClaim};
 
 use gen_log::laws::one_entry_spelling;
 
@@ -41,8 +41,11 @@ pub fn first_pairs()
     ensures one { OneFirstPair }
 {}
 
-/// What is claimed of a general holds.
+/// What is claimed of a general holds. A claim is made exactly where the exhibits hold a contradiction of his,
+/// and it is one.
 pub fn first_claims()
     ensures texts { TextsVerify }
     ensures holds { FirstHolds }
+    ensures given { GivenWhereHeld }
+    ensures one { OneClaim }
 {}
