@@ -7,4 +7,9 @@
 //! SHA-256: his own log shows which.
 #![tactic(auto)]
 
+mod checking;
+mod claims;
 pub mod laws;
+
+pub use checking::check_claim;
+pub use claims::Claim;
