@@ -13,3 +13,6 @@ pub mod laws;
 
 pub use checking::check_claim;
 pub use claims::Claim;
+
+#[cfg(test)]
+mod tests;
