@@ -1,0 +1,71 @@
+-- Laws of how the first pair of texts is found.
+use Rattle.std.specs.Prelude.{ℕ, ◌≤◌, ◌≡◌, ◌⊎◌, ◌+◌, List, [], ◌∷◌, ◌++◌, length, Contains}
+use Rattle.gen_local.specs.declared.texts.SignedText.{SignedText}
+use Rattle.gen_local.specs.declared.texts.Text.{Text}
+use Rattle.gen_local.specs.declared.texts.Text.TheVariants.{OfStatement, OfHead}
+use Rattle.gen_convict.specs.Accused.{AreDifferent}
+use Rattle.gen_convict.specs.First.{AreOrders}
+use Rattle.gen_convict.specs.Firsts.{IsFirst, IsFirstPair}
+
+-- where a text's like are kept: heads in place 0, statements of an order in the place behind the order's number
+abbrev pub place_of : Text → ℕ
+place_of (OfStatement s) = s.order + 1
+place_of (OfHead head) = 0
+
+abbrev pub AreAlike : SignedText → SignedText → Type 0
+AreAlike x z = place_of z.text ≡ place_of x.text
+
+-- the first pair of different texts begins with the first text of its place: so each need be compared with that one alone
+abbrev pub FirstOfPlace : Type 0
+FirstOfPlace =
+    (texts : List SignedText) (x y : SignedText) → IsFirstPair AreDifferent texts x y
+    → IsFirst (AreAlike x) texts x
+
+-- x is the first text of its place, and y the first text behind it that differs: what one pass keeps for each place
+pub record IsPlacePair (texts : List SignedText) (x y : SignedText) : Type 0 where
+  pub first : IsFirst (AreAlike x) texts x
+  pub second : IsFirst (AreDifferent x) first.after y
+
+-- the first pair of different texts is that place's pair that begins first
+abbrev pub EarliestPlace : Type 0
+EarliestPlace =
+    (texts : List SignedText) (x y : SignedText) (s : IsPlacePair texts x y)
+    → ((u v : SignedText) (t : IsPlacePair texts u v) → length s.first.before ≤ length t.first.before)
+    → IsFirstPair AreDifferent texts x y
+
+-- a statement of the commander alone
+abbrev pub IsByCommander : Text → Type 0
+IsByCommander (OfStatement s) = s.path ≡ 0 ∷ []
+IsByCommander (OfHead head) = ⊥
+
+abbrev pub IsCommand : SignedText → Type 0
+IsCommand t = IsByCommander t.text
+
+-- the first pair of two orders begins with the first statement of the commander alone
+abbrev pub FirstCommand : Type 0
+FirstCommand =
+    (texts : List SignedText) (x y : SignedText) → IsFirstPair AreOrders texts x y
+    → IsFirst IsCommand texts x
+
+-- texts have a first pair that differ, or no two of them differ, in whichever places they stand
+abbrev pub NoTwoTexts : List SignedText → Type 0
+NoTwoTexts texts =
+    (front back : List SignedText) (u v : SignedText) → texts ≡ front ++ u ∷ back → Contains back v
+    → AreDifferent u v → ⊥
+
+abbrev pub HasTwoTexts : Type 0
+HasTwoTexts =
+    (xs : List SignedText)
+    → ((x : SignedText) × (y : SignedText) × IsFirstPair AreDifferent xs x y) ⊎ NoTwoTexts xs
+
+-- a list of texts has one first pair that differ
+abbrev pub OneFirstPair : Type 0
+OneFirstPair =
+    (xs : List SignedText) (x y v w : SignedText) → IsFirstPair AreDifferent xs x y
+    → IsFirstPair AreDifferent xs v w → (x ≡ v) × (y ≡ w)
+
+-- where no two texts differ, statements of one order are the same text: so a log need be tested for 15 statements at most
+abbrev pub OneOfEach : Type 0
+OneOfEach =
+    (texts : List SignedText) → NoTwoTexts texts → (x y : SignedText) → Contains texts x
+    → Contains texts y → AreAlike x y → x.text ≡ y.text

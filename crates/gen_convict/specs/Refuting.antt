@@ -1,0 +1,64 @@
+-- What answers a claim against a general who kept a follower's log: a text that he didn't log, or two texts with one hash.
+use Rattle.std.specs.Prelude.{ℕ, ◌≡◌, ◌≢◌, ◌⊎◌, List, ◌∷◌, ◌++◌}
+use Rattle.sha2.specs.Sha256.{sha256}
+use Rattle.gen_types.specs.Spelled.{Spells}
+use Rattle.gen_net.specs.Departs.{IsFollowersLog}
+use Rattle.gen_net.specs.Header.{RunHeader, run_id_of}
+use Rattle.gen_log.specs.declared.entries.Entry.{Entry}
+use Rattle.gen_log.specs.Entry.{entry_spelling}
+use Rattle.gen_log.specs.Links.{link_prefix, head_over, HeadVerifies}
+use Rattle.gen_log.specs.Log.{RunLog, IsLog, log_spelling}
+use Rattle.gen_log.specs.Signing.{HasSign}
+use Rattle.gen_local.specs.declared.texts.SignedText.{SignedText}
+use Rattle.gen_local.specs.declared.texts.Text.{Text}
+use Rattle.gen_local.specs.declared.texts.Text.TheVariants.{OfStatement, OfHead}
+use Rattle.gen_local.specs.Erased.{erased}
+use Rattle.gen_local.specs.SignedTexts.{stated, head_in}
+use Rattle.gen_convict.specs.Accused.{TextVerifies, command}
+use Rattle.gen_convict.specs.Contradictions.{Claim, TwoTexts, TwoOrders, MissingFromLog, DepartingLog}
+
+-- a log of this run that the general could have kept by following, whose head verifies
+pub record IsOwnLog (h : RunHeader) (general : ℕ) (own : RunLog) : Type 0 where
+  pub reads : IsLog h own
+  pub of_run : own.run_id ≡ run_id_of h
+  pub followed : IsFollowersLog h.network general (erased own.entries)
+  pub sealed : HeadVerifies h general own
+
+-- the log has the text: a statement as SIGN, or a head as its own
+abbrev pub HasText : RunHeader → ℕ → RunLog → Text → Type 0
+HasText h general log (OfStatement statement) = HasSign log statement
+HasText h general log (OfHead head) = head ≡ head_over h general log.entries
+
+-- the text is the head of the log that the bytes are, with its signature
+abbrev pub IsHeadIn : RunHeader → ℕ → List ℕ → SignedText → Type 0
+IsHeadIn h general bytes text =
+    (log : RunLog) × Spells (IsLog h) log_spelling bytes log × (text ≡ head_in h general log)
+
+-- the text is one of those that the claim has
+abbrev pub IsTextIn : RunHeader → ℕ → Claim → SignedText → Type 0
+IsTextIn h accused (TwoTexts first second) text = (text ≡ first) ⊎ (text ≡ second)
+IsTextIn h accused (TwoOrders v a w b) text = (text ≡ command v a) ⊎ (text ≡ command w b)
+IsTextIn h accused (MissingFromLog bytes s signature) text =
+    (text ≡ stated s.order s.path accused signature) ⊎ IsHeadIn h accused bytes text
+IsTextIn h accused (DepartingLog bytes p) text = IsHeadIn h accused bytes text
+
+-- an answer to a claim: a text, or two strings of bytes
+pub data Refutation : Type 0 where
+  Forged : (text : SignedText) → Refutation
+  Collision : (a b : List ℕ) → Refutation
+
+-- the text is one of the claim, it verifies as the accused's, and his own log doesn't have it
+pub record IsForged (h : RunHeader) (accused : ℕ) (claim : Claim) (own : RunLog) (text : SignedText)
+    : Type 0 where
+  pub inside : IsTextIn h accused claim text
+  pub verifies : TextVerifies h accused text
+  pub absent : HasText h accused own text.text → ⊥
+
+-- a text is forged, or the two strings differ and have one hash
+abbrev pub IsRefutation : RunHeader → ℕ → Claim → RunLog → Refutation → Type 0
+IsRefutation h accused claim own (Forged text) = IsForged h accused claim own text
+IsRefutation h accused claim own (Collision a b) = (a ≢ b) × (sha256 a ≡ sha256 b)
+
+-- what is hashed for the link behind an entry
+abbrev pub link_text : List ℕ → Entry → List ℕ
+link_text link e = link_prefix ∷ (link ++ entry_spelling e)

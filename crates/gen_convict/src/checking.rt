@@ -1,0 +1,315 @@
+//! Checking evidence.
+ghost use Rattle.std.specs.Prelude.{IsTrue, ◌≡◌, ◌<◌, ◌↔◌, IfOk, IfSome, None, List, ℕ};
+ghost use Rattle.gen_net.specs.Departs.{DepartsAt};
+ghost use Rattle.gen_net.specs.Header.{IsHeader};
+ghost use Rattle.gen_log.specs.Links.{HeadVerifies};
+ghost use Rattle.gen_log.specs.Log.{RunLog, IsLog, BeginsWithStartOf};
+ghost use Rattle.gen_log.specs.Signing.{HasSign};
+ghost use Rattle.gen_log.specs.Verifying.{SaysItIsOf};
+ghost use Rattle.gen_local.specs.Erased.{erased};
+ghost use Rattle.gen_local.specs.SignedTexts.{stated};
+ghost use Rattle.gen_convict.specs.Accused as accused_texts;
+ghost use Rattle.gen_convict.specs.Contradictions.{AreTwoTexts, AreTwoOrders, IsSealedLogOf, IsMissingFrom, IsDepartingAt, IsContradiction};
+ghost use Rattle.gen_convict.specs.Told.{told};
+
+use crate::claims::Claim;
+use gen_chain::{Statement, has_signed, head_digest, leaf_of_head};
+use gen_local::{SignedText, Text, departs};
+use gen_log::{Entry, Log, has_sign, head_verifies, read_log};
+use gen_net::Header;
+use gen_tree::{Signature, verify};
+use gen_types::{GeneralNo, OrderNo, Path, ReadError};
+use std::alloc::{AllocError, Global};
+
+/// Whether a text is the general's.
+fn is_text_of(general: GeneralNo, text: &Text) -> bool
+    ensures { IsTrue result ↔ accused_texts.IsTextOf general text.now }
+{
+    match text {
+        Text::OfStatement(statement) => statement.path.ends_with(general),
+        Text::OfHead(head) => head.general == general,
+    }
+}
+
+/// Whether a general signed a text.
+fn has_signed_text(header: &Header, general: GeneralNo, text: &Text, signature: &Signature) -> bool
+    requires { general < header.now.network.generals }
+    ensures { IsTrue result
+        ↔ accused_texts.HasSignedText header.now general text.now signature.now }
+{
+    match text {
+        Text::OfStatement(statement) => has_signed(header, general, statement, signature),
+        Text::OfHead(head) => {
+            let digest = head_digest(header, head);
+            let leaf = leaf_of_head(header);
+            verify(
+                header.root(general),
+                header.height(),
+                leaf,
+                &digest,
+                signature,
+            )
+        }
+    }
+}
+
+/// Whether a text verifies as the general's.
+fn text_verifies(header: &Header, general: GeneralNo, text: &SignedText) -> bool
+    requires { general < header.now.network.generals }
+    ensures { IsTrue result ↔ accused_texts.TextVerifies header.now general text.now }
+{
+    text.signer == general
+        && is_text_of(general, &text.text)
+        && has_signed_text(header, general, &text.text, &text.signature)
+}
+
+/// Whether a statement verifies as the general's.
+fn statement_verifies(
+    header: &Header,
+    general: GeneralNo,
+    statement: &Statement,
+    signature: &Signature,
+) -> bool
+    ensures { IsTrue result ↔ accused_texts.TextVerifies header.now general
+        (stated statement.now.order statement.now.path general signature.now) }
+{
+    statement.path.ends_with(general) && has_signed(header, general, statement, signature)
+}
+
+/// Whether an order verifies as one that the commander sent out.
+fn command_verifies(header: &Header, order: OrderNo, signature: &Signature) -> bool
+    ensures { IsTrue result ↔ accused_texts.TextVerifies header.now 0
+        (accused_texts.command order signature.now) }
+{
+    let path = Path::commander();
+    let statement = Statement { order, path };
+    statement_verifies(header, GeneralNo::at(0), &statement, signature)
+}
+
+/// Whether two texts are two statements of one order, or two heads, and not the same.
+fn are_unlike(first: &Text, second: &Text) -> bool
+    ensures { IsTrue result ↔ accused_texts.AreUnlike first.now second.now }
+{
+    match (first, second) {
+        (Text::OfStatement(s), Text::OfStatement(t)) => s.order == t.order && *s != *t,
+        (Text::OfHead(s), Text::OfHead(t)) => *s != *t,
+        _ => false,
+    }
+}
+
+/// Whether these are two different texts of the general that verify.
+fn are_two_texts(
+    header: &Header,
+    general: GeneralNo,
+    first: &SignedText,
+    second: &SignedText,
+) -> bool
+    requires { general < header.now.network.generals }
+    ensures { IsTrue result ↔ AreTwoTexts header.now general first.now second.now }
+{
+    text_verifies(header, general, first)
+        && text_verifies(header, general, second)
+        && are_unlike(&first.text, &second.text)
+}
+
+/// Whether two orders verify as ones that the commander sent out.
+fn commands_verify(
+    header: &Header,
+    first: OrderNo,
+    first_signature: &Signature,
+    second: OrderNo,
+    second_signature: &Signature,
+) -> bool
+    ensures { IsTrue result
+        ↔ (accused_texts.TextVerifies header.now 0 (accused_texts.command first first_signature.now)
+        × accused_texts.TextVerifies header.now 0
+        (accused_texts.command second second_signature.now)) }
+{
+    command_verifies(header, first, first_signature)
+        && command_verifies(header, second, second_signature)
+}
+
+/// Whether these are two orders of the general, who is the commander, that verify.
+fn are_two_orders(
+    header: &Header,
+    general: GeneralNo,
+    first: OrderNo,
+    first_signature: &Signature,
+    second: OrderNo,
+    second_signature: &Signature,
+) -> bool
+    ensures { IsTrue result
+        ↔ AreTwoOrders header.now general first first_signature.now second second_signature.now }
+{
+    let verify = commands_verify(header, first, first_signature, second, second_signature);
+    general.get() == 0 && first != second && verify
+}
+
+/// Whether the first of the entries is a START that names the general.
+fn starts_as(general: GeneralNo, entries: &[Entry]) -> bool
+    ensures { IsTrue result ↔ BeginsWithStartOf general entries.now }
+{
+    match entries.first() {
+        Some(
+            Entry::Start {
+                general: first,
+                own: _,
+            },
+        ) => *first == general,
+        _ => false,
+    }
+}
+
+/// Whether a log says that it is the general's of this run.
+fn says_it_is_of(header: &Header, general: GeneralNo, log: &Log) -> bool
+    ensures { IsTrue result ↔ SaysItIsOf header.now general log.now }
+{
+    *log.run_id() == *header.run_id() && starts_as(general, log.entries())
+}
+
+/// Whether a log says that it is the general's of this run, and its head verifies.
+fn is_sealed_by(header: &Header, general: GeneralNo, log: &Log) -> bool
+    requires { general < header.now.network.generals }
+    ensures { IsTrue result
+        ↔ (SaysItIsOf header.now general log.now × HeadVerifies header.now general log.now) }
+{
+    says_it_is_of(header, general, log) && head_verifies(header, general, log)
+}
+
+/// The log that the bytes are, where it says that it is the general's of this run and its head verifies.
+fn sealed_log(
+    alloc: Global,
+    header: &Header,
+    general: GeneralNo,
+    bytes: &[u8],
+) -> Result<Option<Log>, AllocError>
+    requires { general < header.now.network.generals }
+    ensures header { IsHeader header.now }
+    ensures found { IfOk result (λ log. IfSome log (IsSealedLogOf header.now general bytes.now)) }
+    ensures none { IfOk result (λ log. log ≡ None
+        → (other : RunLog) → IsSealedLogOf header.now general bytes.now other → ⊥) }
+{
+    // A read of the network makes known what each header keeps.
+    let _net = header.net();
+    match read_log(alloc, header, bytes) {
+        Err(ReadError::Memory) => Err(AllocError),
+        Err(ReadError::Fault(_)) => Ok(None),
+        Ok(log) => {
+            let sealed = is_sealed_by(header, general, &log);
+            if !sealed {
+                return Ok(None);
+            }
+            Ok(Some(log))
+        }
+    }
+}
+
+/// Whether a statement verifies as the general's, and his log has no SIGN of it.
+fn lacks(
+    header: &Header,
+    general: GeneralNo,
+    log: &Log,
+    statement: &Statement,
+    signature: &Signature,
+) -> bool
+    ensures { IsTrue result ↔ (accused_texts.TextVerifies header.now general
+        (stated statement.now.order statement.now.path general signature.now)
+        × (HasSign log.now statement.now → ⊥)) }
+{
+    if has_sign(log, statement) {
+        return false;
+    }
+    statement_verifies(header, general, statement, signature)
+}
+
+/// Whether a statement of the general is missing from a log that he sealed.
+fn is_missing_from(
+    alloc: Global,
+    header: &Header,
+    general: GeneralNo,
+    bytes: &[u8],
+    statement: &Statement,
+    signature: &Signature,
+) -> Result<bool, AllocError>
+    requires { general < header.now.network.generals }
+    ensures { IfOk result (λ told. IsTrue told
+        ↔ IsMissingFrom header.now general bytes.now statement.now signature.now) }
+{
+    match sealed_log(alloc, header, general, bytes)? {
+        None => Ok(false),
+        Some(log) => Ok(lacks(header, general, &log, statement, signature)),
+    }
+}
+
+/// Whether the log of the general departs at this entry.
+fn departs_there(header: &Header, general: GeneralNo, log: &Log, entry: u32) -> bool
+    requires log { IsLog header.now log.now }
+    requires starts { BeginsWithStartOf general log.now.entries }
+    ensures { IsTrue result ↔ DepartsAt header.now.network general (erased log.now.entries) entry }
+{
+    match departs(header, log) {
+        Some(place) => place == entry as usize,
+        None => false,
+    }
+}
+
+/// Whether a log that the general sealed departs at this entry.
+fn is_departing_at(
+    alloc: Global,
+    header: &Header,
+    general: GeneralNo,
+    bytes: &[u8],
+    entry: u32,
+) -> Result<bool, AllocError>
+    requires { general < header.now.network.generals }
+    ensures { IfOk result (λ told. IsTrue told
+        ↔ IsDepartingAt header.now general bytes.now entry) }
+{
+    match sealed_log(alloc, header, general, bytes)? {
+        None => Ok(false),
+        Some(log) => Ok(departs_there(header, general, &log, entry)),
+    }
+}
+
+/// Returns whether a claim holds against a general of the network: its texts verify as his and contradict
+/// each other, or its log is one that he sealed, and it lacks the statement or departs at the entry. A log
+/// that doesn't read is no error: then the claim doesn't hold.
+///
+/// # Errors
+///
+/// `AllocError` where memory is refused.
+pub fn check_claim(
+    alloc: Global,
+    header: &Header,
+    accused: GeneralNo,
+    claim: &Claim,
+) -> Result<bool, AllocError>
+    requires { accused < header.now.network.generals }
+    ensures { IfOk result (λ holds. IsTrue holds
+        ↔ IsContradiction header.now accused (told claim.now)) }
+{
+    match claim {
+        Claim::Texts { first, second } => Ok(are_two_texts(header, accused, first, second)),
+        Claim::Orders {
+            first,
+            first_signature,
+            second,
+            second_signature,
+        } => Ok(are_two_orders(
+            header,
+            accused,
+            *first,
+            first_signature,
+            *second,
+            second_signature,
+        )),
+        Claim::Missing {
+            log,
+            statement,
+            signature,
+        } => is_missing_from(alloc, header, accused, log.as_slice(), statement, signature),
+        Claim::Departing { log, entry } => {
+            is_departing_at(alloc, header, accused, log.as_slice(), *entry)
+        }
+    }
+}

@@ -1,0 +1,51 @@
+//! Laws of evidence and of its refutation. Each is a function whose contract is the law: a caller that calls
+//! it knows the law.
+ghost use Rattle.gen_convict.specs.Laws.{OneStatementOfEach, OneOrderOfCommander, NowhereDeparts, OneLinkText, LinksTell, Refutes};
+ghost use Rattle.gen_convict.specs.PairLaws.{FirstOfPlace, EarliestPlace, FirstCommand, OneOfEach, HasTwoTexts, OneFirstPair};
+ghost use Rattle.gen_convict.specs.FirstLaws.{TextsVerify, FirstHolds, GivenWhereHeld, OneClaim};
+
+use gen_log::laws::one_entry_spelling;
+
+/// A follower signs one statement of an order at most, as the commander one order alone, and his log
+/// departs nowhere.
+pub fn followers_logs()
+    ensures statement { OneStatementOfEach }
+    ensures order { OneOrderOfCommander }
+    ensures nowhere { NowhereDeparts }
+{}
+
+/// What is hashed for a link tells the link before it and the entry. So equal last links over as many
+/// entries are over the same entries, or two of the texts that were hashed collide.
+pub fn links_tell()
+    ensures text { OneLinkText }
+    ensures entries { LinksTell }
+{
+    one_entry_spelling();
+}
+
+/// A claim that holds against a general is answered wherever he kept a follower's log: by a text of the
+/// claim that his log doesn't have, or by two strings of bytes with one hash.
+pub fn claims_are_refuted()
+    ensures { Refutes }
+{
+    links_tell();
+}
+
+/// A list has at most one first pair of different texts, and it begins with the first text of its place.
+pub fn first_pairs()
+    ensures place { FirstOfPlace }
+    ensures earliest { EarliestPlace }
+    ensures command { FirstCommand }
+    ensures each { OneOfEach }
+    ensures found { HasTwoTexts }
+    ensures one { OneFirstPair }
+{}
+
+/// What is claimed of a general holds. A claim is made exactly where the exhibits hold a contradiction of his,
+/// and it is one.
+pub fn first_claims()
+    ensures texts { TextsVerify }
+    ensures holds { FirstHolds }
+    ensures given { GivenWhereHeld }
+    ensures one { OneClaim }
+{}

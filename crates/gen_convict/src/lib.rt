@@ -1,0 +1,18 @@
+//! Evidence against a general: what he signed, where it contradicts itself or the signed message algorithm
+//! (section 4 of L. Lamport, R. Shostak and M. Pease, "The Byzantine Generals Problem", ACM TOPLAS 4, 1982).
+//!
+//! A general is convicted by two different texts that he signed under one leaf, as the commander by two
+//! orders, by a statement that is missing from a log that he sealed, or by such a log that departs from the
+//! algorithm. A general who follows can be convicted only by a text that he didn't sign or by a collision of
+//! SHA-256: his own log shows which.
+#![tactic(auto)]
+
+mod checking;
+mod claims;
+pub mod laws;
+
+pub use checking::check_claim;
+pub use claims::Claim;
+
+#[cfg(test)]
+mod tests;
