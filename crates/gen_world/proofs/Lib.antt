@@ -21,9 +21,11 @@ pub mod HeardOrders
 pub mod IfOks
 pub mod JournalActs
 pub mod JournalChains
-pub mod JournalLogs
-pub mod JournalRecvs
 pub mod JournalFits
+pub mod JournalLogs
+pub mod JournalOrder
+pub mod JournalRecords
+pub mod JournalRecvs
 pub mod KeptRounds
 pub mod LogEntries
 pub mod LogOrder
