@@ -34,7 +34,10 @@ fn close_all(mut parts: Vec<Participant>) {
 }
 
 /// Opens a general's ring, if he has no script.
-pub(crate) fn ring_for(scenario: &Scenario, general: GeneralNo) -> Result<Option<KeyRing>, AllocError>
+pub(crate) fn ring_for(
+    scenario: &Scenario,
+    general: GeneralNo,
+) -> Result<Option<KeyRing>, AllocError>
     requires { general < scenario.now.net.generals }
     ensures { IfOk result (λ ring. ring ≡ ring_at scenario.now general) }
 {
