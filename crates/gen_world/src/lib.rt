@@ -45,3 +45,5 @@ mod recording_tests;
 mod scripted_tests;
 #[cfg(test)]
 mod tests;
+#[cfg(test)]
+mod two_generals_tests;

@@ -19,7 +19,7 @@ use gen_types::GeneralNo;
 use std::alloc::{AllocError, Global};
 
 /// Closes a ring, if there is one.
-fn close_ring(ring: Option<KeyRing>) {
+pub(crate) fn close_ring(ring: Option<KeyRing>) {
     if let Some(ring) = ring {
         ring.close();
     }
@@ -34,7 +34,10 @@ fn close_all(mut parts: Vec<Participant>) {
 }
 
 /// Opens a general's ring, if he has no script.
-fn ring_for(scenario: &Scenario, general: GeneralNo) -> Result<Option<KeyRing>, AllocError>
+pub(crate) fn ring_for(
+    scenario: &Scenario,
+    general: GeneralNo,
+) -> Result<Option<KeyRing>, AllocError>
     requires { general < scenario.now.net.generals }
     ensures { IfOk result (λ ring. ring ≡ ring_at scenario.now general) }
 {
