@@ -42,8 +42,12 @@ pub use world_decisions::decide_world;
 #[cfg(test)]
 mod counting_tests;
 #[cfg(test)]
+mod recording_tests;
+#[cfg(test)]
 mod scripted_tests;
 #[cfg(test)]
 mod tests;
+#[cfg(test)]
+mod two_generals_tests;
 #[cfg(test)]
 mod world_tests;

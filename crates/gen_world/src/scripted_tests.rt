@@ -128,7 +128,7 @@ fn plan(alloc: Global, part: &Part, heard: &[Heard], round: u8) -> Result<Vec<Pl
 }
 
 /// What a general of the scenario knows.
-fn part_of(alloc: Global, scenario: &Scenario, general: u8) -> Result<Part, Fail> {
+pub(crate) fn part_of(alloc: Global, scenario: &Scenario, general: u8) -> Result<Part, Fail> {
     if general >= scenario.header().net().generals() {
         return Err("no general".into());
     }
@@ -191,7 +191,11 @@ fn from_himself(alloc: Global) -> Result<Heard, Fail> {
 
 /// The scenario of version 2 on a network, in which nobody has a script.
 #[tactic(auto, using(crate::proofs::ScriptPairs::no_scripts))]
-fn without_scripts(alloc: Global, net: Net, slot: u8) -> Result<Scenario, ReadError<HeaderFault>> {
+pub(crate) fn without_scripts(
+    alloc: Global,
+    net: Net,
+    slot: u8,
+) -> Result<Scenario, ReadError<HeaderFault>> {
     let _few = net.generals();
     let scripts: Vec<Script> = Vec::new(alloc);
     Scenario::new_in_slot(alloc, net, slot, OrderNo::at(1), &MASTER, scripts)
