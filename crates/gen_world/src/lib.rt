@@ -40,6 +40,8 @@ pub use world::run_world;
 #[cfg(test)]
 mod counting_tests;
 #[cfg(test)]
+mod recording_tests;
+#[cfg(test)]
 mod scripted_tests;
 #[cfg(test)]
 mod tests;

@@ -94,7 +94,7 @@ fn pair_of(alloc: Global, first: Script, second: Script) -> Result<Vec<Script>, 
 
 /// The scenario on four generals, all neighbours, with three rounds, in which general 0 sends order 1 to
 /// general 1 alone, and general 1 does what two lines say.
-fn scenario_with(alloc: Global, texts: (&str, &str)) -> Result<Scenario, Fail> {
+pub(crate) fn scenario_with(alloc: Global, texts: (&str, &str)) -> Result<Scenario, Fail> {
     let edges = [(0, 1), (0, 2), (0, 3), (1, 2), (1, 3), (2, 3)];
     let net = Net::new(alloc, 4, &edges, 2, 1, 2, 0)?;
     let _few = net.generals();
@@ -128,7 +128,7 @@ fn plan(alloc: Global, part: &Part, heard: &[Heard], round: u8) -> Result<Vec<Pl
 }
 
 /// What a general of the scenario knows.
-fn part_of(alloc: Global, scenario: &Scenario, general: u8) -> Result<Part, Fail> {
+pub(crate) fn part_of(alloc: Global, scenario: &Scenario, general: u8) -> Result<Part, Fail> {
     if general >= scenario.header().net().generals() {
         return Err("no general".into());
     }
