@@ -1,4 +1,3 @@
-use Rattle.std.proofs.lemmas.Result.{IfOk-at_ok}
 use Rattle.gen_world.proofs.Starting.{may_start}
 use Rattle.gen_world.proofs.two_generals_tests.recorder_of.Goals as goal
 

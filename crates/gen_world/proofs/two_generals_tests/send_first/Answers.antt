@@ -1,4 +1,4 @@
-use Rattle.std.proofs.Common.{◌≤◌, arith}
+use Rattle.std.proofs.Common.{arith}
 use Rattle.gen_world.proofs.JournalRecords.{first_signs_stand}
 use Rattle.gen_world.proofs.two_generals_tests.send_first.Goals as goal
 
