@@ -73,7 +73,7 @@ const FLOOD: Row<'_> = (
 );
 
 /// The scenario that a text with a seed tells.
-fn scenario_of(alloc: Global, text: &[u8]) -> Result<Scenario, Fail> {
+pub fn scenario_of(alloc: Global, text: &[u8]) -> Result<Scenario, Fail> {
     match read_scenario(alloc, text) {
         Ok(ScenarioText::Signed(signed)) => Ok(signed.into_scenario(alloc)?),
         _ => Err("no scenario with signatures".into()),
@@ -101,7 +101,7 @@ fn walks_of(alloc: Global, header: &Header, faulty: &GeneralSet) -> Walks {
 }
 
 /// The logs of the scenario's run, as exhibits.
-fn exhibits_of(alloc: Global, scenario: &Scenario) -> Result<Vec<Exhibit>, Fail> {
+pub fn exhibits_of(alloc: Global, scenario: &Scenario) -> Result<Vec<Exhibit>, Fail> {
     let mut exhibits = Vec::new(alloc);
     for log in run_world(alloc, scenario)?.into_logs() {
         exhibits.push(Exhibit::new(log.general(), log.into_bytes()))?;
@@ -110,7 +110,7 @@ fn exhibits_of(alloc: Global, scenario: &Scenario) -> Result<Vec<Exhibit>, Fail>
 }
 
 /// The bytes of the bundle of these exhibits.
-fn bundle_with(
+pub fn bundle_with(
     alloc: Global,
     header: Header,
     faulty: GeneralSet,
@@ -124,7 +124,7 @@ fn bundle_with(
 }
 
 /// The bytes of the bundle of the run that a text tells, in which those with scripts are held for faulty.
-fn bundle_of(alloc: Global, text: &[u8]) -> Result<Vec<u8>, Fail> {
+pub fn bundle_of(alloc: Global, text: &[u8]) -> Result<Vec<u8>, Fail> {
     let scenario = scenario_of(alloc, text)?;
     let exhibits = exhibits_of(alloc, &scenario)?;
     let header = scenario.header().clone()?;
@@ -132,7 +132,7 @@ fn bundle_of(alloc: Global, text: &[u8]) -> Result<Vec<u8>, Fail> {
 }
 
 /// Whether `audit` ends so, and writes these lines behind that of the run id.
-fn judges(alloc: Global, input: &[u8], wanted: JobEnd, lines: &[u8]) -> bool {
+pub fn judges(alloc: Global, input: &[u8], wanted: JobEnd, lines: &[u8]) -> bool {
     let mut reader = source_of(input, 65_536, 0, Slip::Fails);
     let mut writer = sink_for(alloc, 65_536, 0, Slip::Fails);
     let end = audit_engine(alloc, &mut reader, &mut writer);

@@ -12,6 +12,10 @@ use std::process::ExitCode;
 #[cfg(test)]
 mod audit_tests;
 #[cfg(test)]
+mod bundle_tests;
+#[cfg(test)]
+mod disputed_tests;
+#[cfg(test)]
 mod signed_tests;
 #[cfg(test)]
 mod tests;
