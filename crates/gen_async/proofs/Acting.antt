@@ -114,17 +114,17 @@ module _ (sc : Scenario) (capacity : ℕ) (places : List ℕ) (actors : List Act
         queued_up = λ a b a_small b_small. elim (put_after_put sc.net places g inside l h next a b) [
           | inl q ↦
               let here : queue_at (with_queue rows g h new) g h ≡ queue sc.net (frame_at sc) (one_on places g) g h =
-                  read_here rows k.all_rows g h g_small h_small new
-                  ∙ ap (λ z. z ++ frame ∷ []) (k.queued_up g h g_small h_small)
-                  ∙ ap (λ z. queue sc.net (frame_at sc) places g h ++ z ∷ []) framed
-                  ∙ sym (queue_longer sc.net (frame_at sc) places (one_on places g) g h l (k.machine.not_below g h) at_put.here (put_here sc.net places g inside l h next) (taken_after_put sc.net places g inside l h next g h)) in
+              read_here rows k.all_rows g h g_small h_small new
+              ∙ ap (λ z. z ++ frame ∷ []) (k.queued_up g h g_small h_small)
+              ∙ ap (λ z. queue sc.net (frame_at sc) places g h ++ z ∷ []) framed
+              ∙ sym (queue_longer sc.net (frame_at sc) places (one_on places g) g h l (k.machine.not_below g h) at_put.here (put_here sc.net places g inside l h next) (taken_after_put sc.net places g inside l h next g h)) in
               subst (λ z. queue_at (with_queue rows g h new) z b ≡ queue sc.net (frame_at sc) (one_on places g) z b) (sym q.0)
-                (subst (λ z. queue_at (with_queue rows g h new) g z ≡ queue sc.net (frame_at sc) (one_on places g) g z) (sym q.1) here)
+              (subst (λ z. queue_at (with_queue rows g h new) g z ≡ queue sc.net (frame_at sc) (one_on places g) g z) (sym q.1) here)
           | inr q ↦
               let not_here : (a ≡ g) × (b ≡ h) → ⊥ = λ e.
-                let p : put sc.net (one_on places g) g h ≡ put sc.net places g h + 1 = put_here sc.net places g inside l h next in
-                let r : put sc.net (one_on places g) g h ≡ put sc.net places g h = subst (λ z. put sc.net (one_on places g) z h ≡ put sc.net places z h) e.0 (subst (λ z. put sc.net (one_on places g) a z ≡ put sc.net places a z) e.1 q) in
-                absurd (omega arith) in
+              let p : put sc.net (one_on places g) g h ≡ put sc.net places g h + 1 = put_here sc.net places g inside l h next in
+              let r : put sc.net (one_on places g) g h ≡ put sc.net places g h = subst (λ z. put sc.net (one_on places g) z h ≡ put sc.net places z h) e.0 (subst (λ z. put sc.net (one_on places g) a z ≡ put sc.net places a z) e.1 q) in
+              absurd (omega arith) in
               read_there rows k.all_rows g h g_small h_small new a b a_small b_small not_here
               ∙ k.queued_up a b a_small b_small
               ∙ sym (queue_same sc.net (frame_at sc) places (one_on places g) a b q (taken_after_put sc.net places g inside l h next a b))
@@ -194,15 +194,15 @@ module _ (sc : Scenario) (capacity : ℕ) (places : List ℕ) (actors : List Act
         queued_up = λ a b a_small b_small. elim (taken_after_take sc.net places g inside l h next a b) [
           | inl q ↦
               let here : queue_at (with_queue rows h g new) h g ≡ queue sc.net (frame_at sc) (one_on places g) h g =
-                  read_here rows k.all_rows h g h_small g_small new
-                  ∙ ap (drop 1) (shorter l h next free) in
+              read_here rows k.all_rows h g h_small g_small new
+              ∙ ap (drop 1) (shorter l h next free) in
               subst (λ z. queue_at (with_queue rows h g new) z b ≡ queue sc.net (frame_at sc) (one_on places g) z b) (sym q.0)
-                (subst (λ z. queue_at (with_queue rows h g new) h z ≡ queue sc.net (frame_at sc) (one_on places g) h z) (sym q.1) here)
+              (subst (λ z. queue_at (with_queue rows h g new) h z ≡ queue sc.net (frame_at sc) (one_on places g) h z) (sym q.1) here)
           | inr q ↦
               let not_here : (a ≡ h) × (b ≡ g) → ⊥ = λ e.
-                let p : taken sc.net (one_on places g) h g ≡ taken sc.net places h g + 1 = taken_here sc.net places g inside l h next in
-                let r : taken sc.net (one_on places g) h g ≡ taken sc.net places h g = subst (λ z. taken sc.net (one_on places g) z g ≡ taken sc.net places z g) e.0 (subst (λ z. taken sc.net (one_on places g) a z ≡ taken sc.net places a z) e.1 q) in
-                absurd (omega arith) in
+              let p : taken sc.net (one_on places g) h g ≡ taken sc.net places h g + 1 = taken_here sc.net places g inside l h next in
+              let r : taken sc.net (one_on places g) h g ≡ taken sc.net places h g = subst (λ z. taken sc.net (one_on places g) z g ≡ taken sc.net places z g) e.0 (subst (λ z. taken sc.net (one_on places g) a z ≡ taken sc.net places a z) e.1 q) in
+              absurd (omega arith) in
               read_there rows k.all_rows h g h_small g_small new a b a_small b_small not_here
               ∙ k.queued_up a b a_small b_small
               ∙ sym (queue_same sc.net (frame_at sc) places (one_on places g) a b (put_after_take sc.net places g inside l h next a b) q)
@@ -264,7 +264,7 @@ runs_more before middle later acts i g moved short read r a =
     let net_same : middle.scenario.net ≡ before.scenario.net = ap (λ (z : Scenario). z.net) r.scenario in
     let room_same : middle.capacity ≡ before.capacity = r.capacity in
     let one : later.places ≡ step before.scenario.net before.capacity (after before.scenario.net before.capacity before.places (take i acts)) g =
-        a.places ∙ ap (λ z. step z middle.capacity middle.places g) net_same ∙ ap (λ z. step before.scenario.net z middle.places g) room_same ∙ ap (λ z. step before.scenario.net before.capacity z g) r.places in
+    a.places ∙ ap (λ z. step z middle.capacity middle.places g) net_same ∙ ap (λ z. step before.scenario.net z middle.places g) room_same ∙ ap (λ z. step before.scenario.net before.capacity z g) r.places in
     record {
       places = one ∙ sym (fold_push (step before.scenario.net before.capacity) before.places (take i acts) g) ∙ ap (after before.scenario.net before.capacity before.places) (sym longer);
       scenario = a.scenario ∙ r.scenario;
@@ -353,6 +353,6 @@ kept_at_start sc capacity actors rows ok all empty =
       all_rows = long 256 rows empty;
       acting = λ g d below. all.each g d below ∙ ap (λ j. let x : ActorState = record { scenario = sc; me = g; place = j } in x) (sym (start_places sc.net.generals g));
       queued_up = λ a b a_small b_small.
-        let none : queued sc.net (at_start sc.net) a b ≡ 0 = omega (arith, none_put sc.net a b, none_taken sc.net a b) in
-        no_queue 256 (a * 16 + b) rows empty (omega arith) ∙ sym (ap (λ z. map (λ l. frame_at sc l a b) (range_with_len (taken sc.net (at_start sc.net) a b + 1) z)) none);
+          let none : queued sc.net (at_start sc.net) a b ≡ 0 = omega (arith, none_put sc.net a b, none_taken sc.net a b) in
+          no_queue 256 (a * 16 + b) rows empty (omega arith) ∙ sym (ap (λ z. map (λ l. frame_at sc l a b) (range_with_len (taken sc.net (at_start sc.net) a b + 1) z)) none);
     })

@@ -27,8 +27,6 @@ popped f rows table i j old new view at inside read shrunk =
     ∙ ap (λ t. set t i (drop 1 (get_or t i []))) view
     ∙ ap (λ k. set table k (drop 1 (get_or table k []))) at
 
-
-
 -- a queue as it stands in the table
 pub at_spot : {D F : Type 0} (f : D → List F) (rows : List D) (i j : ℕ) (old : D) → i ≡ j → i < length rows → old ≡ get_or rows i old → f old ≡ get_or (map f rows) j []
 at_spot f rows i j old at inside read = sym (held_at f rows i inside old read) ∙ ap (λ k. get_or (map f rows) k []) at

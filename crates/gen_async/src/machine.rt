@@ -75,11 +75,7 @@ fn empty_queues(alloc: Global) -> Result<Vec<VecDeque<Frame>>, AllocError>
 }
 
 /// Makes all generals of a scenario, none of whose acts has moved.
-fn add_actors(
-    alloc: Global,
-    scenario: &Scenario,
-    actors: &mut Vec<Actor>,
-) -> Result<(), AllocError>
+fn add_actors(alloc: Global, scenario: &Scenario, actors: &mut Vec<Actor>) -> Result<(), AllocError>
     requires { actors.old.items ≡ [] }
     ensures { OnOk result (AllAre (λ g actor. actor ≡ record { scenario = scenario.now; me = g; place = 0 })
         scenario.now.net.generals actors.new.items) }
@@ -225,6 +221,13 @@ impl Machine {
             }
         }
         None
+    }
+
+    /// Returns how many generals there are.
+    pub fn generals(&self) -> u8
+        ensures { result ≡ self.now.scenario.net.generals }
+    {
+        self.actors.len() as u8
     }
 
     /// Returns the bytes of the entries that a general has written by the acts that have moved, START first.
