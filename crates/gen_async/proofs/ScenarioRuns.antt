@@ -23,7 +23,7 @@ use Rattle.gen_world.specs.Counted.{counted_of}
 use Rattle.gen_world.specs.Frames.{frame_of}
 
 -- the entries of a round, where he heard this many rounds before
-round_of : Scenario → ℕ → ℕ → ℕ → List Entry
+unfoldable pub round_of : Scenario → ℕ → ℕ → ℕ → List Entry
 round_of s g round k =
     let near = neighbours_of s.net g in
     sign_entries (part_of s g) (heard_by s k g) round
@@ -31,7 +31,7 @@ round_of s g round k =
     ++ flat_map (λ from. recv_entries (part_of s g) round from (counted_at s round from g)) near)
 
 -- what he writes by the acts of a round
-acts_written : (s : Scenario) (g round : ℕ) (near : List ℕ) → flat_map (λ (a : Act). written_by s g (Acts a)) (acts_of_round near round) ≡ flat_map (send_entries (part_of s g) (heard_by s (round - 1) g) round) near ++ flat_map (λ from. recv_entries (part_of s g) round from (counted_at s round from g)) near
+pub acts_written : (s : Scenario) (g round : ℕ) (near : List ℕ) → flat_map (λ (a : Act). written_by s g (Acts a)) (acts_of_round near round) ≡ flat_map (send_entries (part_of s g) (heard_by s (round - 1) g) round) near ++ flat_map (λ from. recv_entries (part_of s g) round from (counted_at s round from g)) near
 acts_written s g round near =
     let w = λ (a : Act). written_by s g (Acts a) in
     let sent = send_entries (part_of s g) (heard_by s (round - 1) g) round in

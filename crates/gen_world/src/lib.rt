@@ -36,7 +36,7 @@ pub use scenario::{Decision, PlainRun, PlainScenario};
 pub use scripted::Planned;
 pub use signed::Scenario;
 pub use signer_trees::SignerTree;
-pub use world::run_world;
+pub use world::{recorder_of, run_world};
 pub use world_decisions::decide_world;
 
 #[cfg(test)]

@@ -50,7 +50,11 @@ pub(crate) fn ring_for(
 }
 
 /// Makes a general of the scenario, as he is before the first round.
-fn recorder_of(
+///
+/// # Errors
+///
+/// `AllocError` where memory is refused.
+pub fn recorder_of(
     alloc: Global,
     scenario: &Scenario,
     general: GeneralNo,

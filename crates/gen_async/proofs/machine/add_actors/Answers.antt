@@ -1,0 +1,18 @@
+use Rattle.std.proofs.Common.{◌≡◌, ◌∙◌, ℕ, ap, arith}
+use Rattle.gen_world.proofs.Worlds.{pushed_each, length_pushed}
+use Rattle.gen_async.specs.Actors.{ActorState}
+use Rattle.gen_async.proofs.machine.add_actors.Goals as goal
+
+pub generals-preserved : goal.generals-preserved
+generals-preserved c =
+    let s = c.args.scenario.now in
+    let n = c.generals.number in
+    let items = rw c.unwrap.ensures at c.push.ensures.items in
+    let len = rw c.unwrap.ensures at c.push.ensures.len in
+    let made = rw c.at.ensures at c.in_ok-actor.ensures in
+    record {
+      count = length_pushed c.generals.actors.items c.push.new.self.items n c.in_ok-actor.actor c.generals.invariant.count items;
+      len = omega (arith, len, c.generals.invariant.len);
+      room = omega (arith, c.push.ensures.capacity, c.generals.invariant.room);
+      each = pushed_each (λ (g : ℕ) (a : ActorState). ◌≡◌ {A = ActorState} a (record { scenario = s; me = g; place = 0 })) c.generals.actors.items c.push.new.self.items n c.in_ok-actor.actor c.generals.invariant.count items c.generals.invariant.each made;
+    }

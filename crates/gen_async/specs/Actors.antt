@@ -1,0 +1,113 @@
+-- A general at the machine: how he stands before his next act.
+use Rattle.std.specs.Prelude.{ℕ, ◌≡◌, ◌+◌, ◌<◌, ◌≤◌, Bool, true, false, List, [], ◌∷◌, ◌++◌, length, take, Option, Some, None, slice_get}
+use Rattle.std.specs.List.{flat_map}
+use Rattle.gen_net.specs.Network.{rounds}
+use Rattle.gen_log.specs.declared.entries.Entry.{Entry}
+use Rattle.gen_log.specs.declared.entries.Entry.TheVariants.{Start}
+use Rattle.gen_log.specs.Entry.{entry_spelling}
+use Rattle.gen_world.specs.Loops.Records.{RecordsAfter, HasSent, HasHeard}
+use Rattle.gen_world.specs.Recording.{Recorded, with_recvs}
+use Rattle.gen_world.specs.Scenario.{Scenario, IsScenario}
+use Rattle.gen_world.specs.SignedWorld.{neighbours_of}
+use Rattle.gen_async.specs.declared.acts.Act.{Act}
+use Rattle.gen_async.specs.declared.acts.Act.TheVariants.{Puts, Takes}
+use Rattle.gen_async.specs.declared.acts.Step.{Step}
+use Rattle.gen_async.specs.declared.acts.Step.TheVariants.{Starts, Signs, Acts, Decides}
+use Rattle.gen_async.specs.Acts.{acts_of}
+use Rattle.gen_async.specs.Logs.{standing, steps_of}
+use Rattle.gen_async.specs.ScenarioRun.{written_by}
+
+-- whose general he is, and how many of his acts have moved
+pub record ActorState : Type 0 where
+  pub scenario : Scenario
+  pub me : ℕ
+  pub place : ℕ
+
+-- his next act
+abbrev pub act_at : ActorState → Option Act
+act_at a = slice_get (acts_of a.scenario.net a.me) a.place
+
+abbrev pub one_more : ActorState → ActorState
+one_more a = record { scenario = a.scenario; me = a.me; place = a.place + 1 }
+
+-- ---- what he has written
+
+-- what he writes by a step, but for DECIDE, which he writes when he ends
+abbrev pub undecided_by : Scenario → ℕ → Step → List Entry
+undecided_by s g Starts = written_by s g Starts
+undecided_by s g (Signs round) = written_by s g (Signs round)
+undecided_by s g (Acts act) = written_by s g (Acts act)
+undecided_by s g Decides = []
+
+-- the entries of his log once so many acts have moved, without DECIDE
+unfoldable pub entries_at : Scenario → ℕ → ℕ → List Entry
+entries_at s g place = flat_map (undecided_by s g) (standing place (steps_of s.net g))
+
+-- ---- how he stands
+
+-- before a put of round l to h he has begun the round and sent to the lesser neighbours
+pub record StandsAtPut (s : Scenario) (g l h : ℕ) (r : Recorded) : Type 0 where
+  pub gone : ℕ
+  pub round : l ≡ gone + 1
+  pub in_time : gone < rounds s.net
+  pub front : List ℕ
+  pub back : List ℕ
+  pub near : neighbours_of s.net g ≡ front ++ h ∷ back
+  pub sent : HasSent s gone g front r
+
+-- before a take of round l from h he has sent to all and heard the lesser neighbours
+pub record StandsAtTake (s : Scenario) (g l h : ℕ) (r : Recorded) : Type 0 where
+  pub gone : ℕ
+  pub round : l ≡ gone + 1
+  pub in_time : gone < rounds s.net
+  pub front : List ℕ
+  pub back : List ℕ
+  pub near : neighbours_of s.net g ≡ front ++ h ∷ back
+  pub heard : HasHeard s gone g front r
+
+-- and with no act left all rounds are behind him
+abbrev pub StandsBefore : Scenario → ℕ → Option Act → Recorded → Type 0
+StandsBefore s g None r = RecordsAfter s (rounds s.net) g r
+StandsBefore s g (Some (Puts l h)) r = StandsAtPut s g l h r
+StandsBefore s g (Some (Takes l h)) r = StandsAtTake s g l h r
+
+-- the bytes of his entries
+abbrev pub recorded_bytes : Recorded → List ℕ
+recorded_bytes r = flat_map entry_spelling (Start r.seat.known.me r.seat.known.own ∷ r.written)
+
+-- he has heard the last frame of a round already, and has yet to begin the next: so much of his log stood before
+pub record HasHeardLast (s : Scenario) (g place : ℕ) (r : Recorded) (shown : ℕ) : Type 0 where
+  pub gone : ℕ
+  pub in_time : gone < rounds s.net
+  pub from : ℕ
+  pub first : ℕ
+  pub others : List ℕ
+  pub here : slice_get (acts_of s.net g) place ≡ Some (Takes gone from)
+  pub near : neighbours_of s.net g ≡ first ∷ others
+  pub next : slice_get (acts_of s.net g) (place + 1) ≡ Some (Puts (gone + 1) first)
+  pub records : RecordsAfter s gone g r
+  pub fits : shown ≤ length (recorded_bytes r)
+  pub log : take shown (recorded_bytes r) ≡ flat_map entry_spelling (entries_at s g place)
+
+abbrev pub IsActing : Scenario → ℕ → ℕ → Recorded → Option ℕ → Type 0
+IsActing s g place r None = StandsBefore s g (slice_get (acts_of s.net g) place) r
+IsActing s g place r (Some shown) = HasHeardLast s g place r shown
+
+-- what the fields of a general keep
+pub record IsActor (s : Scenario) (g : ℕ) (acts : List Act) (place : ℕ) (r : Recorded) (waiting : Option ℕ) : Type 0 where
+  pub lawful : IsScenario s
+  pub known : g < s.net.generals
+  pub planned : acts ≡ acts_of s.net g
+  pub within : place ≤ length acts
+  pub acting : IsActing s g place r waiting
+
+-- the act puts
+abbrev pub is_put : Option Act → Bool
+is_put None = false
+is_put (Some (Puts l h)) = true
+is_put (Some (Takes l h)) = false
+
+-- he hears a frame, unless he has heard it already
+abbrev pub HearsOnce : Recorded → Option ℕ → ℕ → List (List ℕ) → Recorded → Option ℕ → Type 0
+HearsOnce old None from frame new waiting = (new ≡ with_recvs old from frame) × (waiting ≡ Some (length (recorded_bytes old)))
+HearsOnce old (Some shown) from frame new waiting = (new ≡ old) × (waiting ≡ Some shown)

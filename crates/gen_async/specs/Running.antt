@@ -1,0 +1,59 @@
+-- What the machine's fields keep, and what an attempt answers.
+use Rattle.std.specs.Prelude.{ℕ, ◌≡◌, ◌<◌, ◌+◌, ◌*◌, List, [], length, map, take, slice_index, slice_index_or, slice_set}
+use Rattle.gen_world.specs.Scenario.{Scenario, IsScenario}
+use Rattle.gen_world.specs.SignedWorld.{frame_at}
+use Rattle.gen_async.specs.declared.acts.Moved.{Moved}
+use Rattle.gen_async.specs.Actors.{ActorState}
+use Rattle.gen_async.specs.Frames.{queue}
+use Rattle.gen_async.specs.Laws.{IsMachine}
+use Rattle.gen_async.specs.Machine.{answer, step, after}
+
+-- a machine: its scenario, the capacity of its queues, and how many acts of each general have moved
+pub record MachineState : Type 0 where
+  pub scenario : Scenario
+  pub capacity : ℕ
+  pub places : List ℕ
+
+-- ---- its fields
+
+abbrev pub places_of : List ActorState → List ℕ
+places_of actors = map (λ a. a.place) actors
+
+-- the queue from a to b in a table of 16 by 16
+abbrev pub queue_at : {F : Type 0} → List (List F) → ℕ → ℕ → List F
+queue_at rows a b = slice_index_or rows (a * 16 + b) []
+
+-- the table with this queue from a to b
+abbrev pub with_queue : {F : Type 0} → List (List F) → ℕ → ℕ → List F → List (List F)
+with_queue rows a b held = slice_set rows (a * 16 + b) held
+
+-- the generals are the scenario's, in order, and the queues are what the places say
+pub record IsKept (s : Scenario) (capacity : ℕ) (places : List ℕ) (actors : List ActorState) (rows : List (List (List (List ℕ)))) : Type 0 where
+  pub lawful : IsScenario s
+  pub machine : IsMachine s.net capacity places
+  pub all_actors : length actors ≡ s.net.generals
+  pub all_rows : length rows ≡ 256
+  pub acting : (g : ℕ) (d : ActorState) → g < s.net.generals
+      → ◌≡◌ {A = ActorState} (slice_index_or actors g d) (record { scenario = s; me = g; place = slice_index places g })
+  pub queued_up : (a b : ℕ) → a < 16 → b < 16 → queue_at rows a b ≡ queue s.net (frame_at s) places a b
+
+-- ---- attempts
+
+-- the attempt of g answers and changes what the definitions say
+pub record Answers (before : MachineState) (g : ℕ) (moved : Moved) (later : MachineState) : Type 0 where
+  pub said : moved ≡ answer before.scenario.net before.capacity before.places g
+  pub places : later.places ≡ step before.scenario.net before.capacity before.places g
+  pub scenario : later.scenario ≡ before.scenario
+  pub capacity : later.capacity ≡ before.capacity
+
+-- these attempts, one after the other
+pub record RunsTo (before : MachineState) (acts : List ℕ) (later : MachineState) : Type 0 where
+  pub places : later.places ≡ after before.scenario.net before.capacity before.places acts
+  pub scenario : later.scenario ≡ before.scenario
+  pub capacity : later.capacity ≡ before.capacity
+
+-- some of these attempts, from the first on
+pub record RunsPartly (before : MachineState) (acts : List ℕ) (later : MachineState) : Type 0 where
+  pub count : ℕ
+  pub within : count < length acts
+  pub runs : RunsTo before (take count acts) later

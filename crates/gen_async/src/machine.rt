@@ -1,0 +1,253 @@
+//! The machine.
+ghost use Rattle.std.specs.Prelude.{ℕ, List, ◌≡◌, ◌<◌, ◌≤◌, ◌+◌, ◌*◌, [], Some, map, replicate, IfOk, OnOk, OnErr};
+ghost use Rattle.std.specs.List.{flat_map};
+ghost use Rattle.gen_log.specs.Entry.{entry_spelling};
+ghost use Rattle.gen_world.specs.Loops.Worlds.{AllAre};
+ghost use Rattle.gen_async.specs.declared.acts.Act.TheVariants.{Puts, Takes};
+ghost use Rattle.gen_async.specs.Actors.{undecided_by};
+ghost use Rattle.gen_async.specs.Laws.{AreActs, MoverNames};
+ghost use Rattle.gen_async.specs.Logs.{log_so_far};
+ghost use Rattle.gen_async.specs.Machine.{answer, at_start, has_moved, mover, next_act};
+ghost use Rattle.gen_async.specs.Running.{Answers, RunsTo, RunsPartly};
+
+use crate::actors::Actor;
+use crate::acts::{Act, Moved};
+use crate::frames::Frame;
+use gen_types::GeneralNo;
+use gen_world::Scenario;
+use std::alloc::{AllocError, Global};
+use std::collections::VecDeque;
+use std::marker::Model;
+use std::snapshot::Snapshot;
+
+/// The generals of a scenario, who put frames on queues and take them off, one act at a time, in any order.
+///
+/// A contract sees the scenario, the capacity of each queue and how many acts of each general have moved:
+/// what the queues hold and what has been written follows from these. Generals may hold rings, so a machine
+/// has to be ended by `close`.
+pub struct Machine {
+    scenario: Snapshot<Scenario>,
+    capacity: usize,
+    actors: Vec<Actor>,
+    queues: Vec<VecDeque<Frame>>,
+}
+
+impl Model for Machine {
+    ghost use Rattle.std.specs.Prelude.{map};
+    ghost use Rattle.gen_async.specs.Running.{MachineState, IsKept, places_of};
+
+    ghost Value = { MachineState };
+
+    ghost view = { λ m. record {
+      scenario = m.scenario.value;
+      capacity = m.capacity;
+      places = places_of m.actors.items;
+    } };
+
+    ghost invariant = { λ m. IsKept m.scenario.value m.capacity (places_of m.actors.items) m.actors.items
+        (map (λ queue. queue.items) m.queues.items) };
+}
+
+/// Returns where a general stands in the list of generals.
+fn place_of(general: GeneralNo) -> usize
+    ensures { result ≡ general }
+{
+    usize::from(general.get())
+}
+
+/// Returns where the queue from one general to another stands.
+fn spot(from: GeneralNo, to: GeneralNo) -> usize
+    ensures value { result ≡ from * 16 + to }
+    ensures below { result < 256 }
+{
+    place_of(from) * 16 + place_of(to)
+}
+
+/// Makes all queues, empty.
+fn empty_queues(alloc: Global) -> Result<Vec<VecDeque<Frame>>, AllocError>
+    ensures { IfOk result (λ queues. map (λ queue. queue.items) queues.items ≡ replicate 256 []) }
+{
+    let mut queues = Vec::with_capacity(alloc, 256)?;
+    'queues: for _ in 0..256usize {
+        queues.push(VecDeque::new(alloc))?;
+    }
+    Ok(queues)
+}
+
+/// Makes all generals of a scenario, none of whose acts has moved.
+fn add_actors(alloc: Global, scenario: &Scenario, actors: &mut Vec<Actor>) -> Result<(), AllocError>
+    requires { actors.old.items ≡ [] }
+    ensures { OnOk result (AllAre (λ g actor. actor ≡ record { scenario = scenario.now; me = g; place = 0 })
+        scenario.now.net.generals actors.new.items) }
+{
+    let generals = scenario.header().net().generals();
+    actors.reserve(usize::from(generals))?;
+    'generals: for number in 0..generals {
+        let actor = Actor::new(alloc, scenario, GeneralNo::at(number))?;
+        actors.push(actor).unwrap();
+    }
+    Ok(())
+}
+
+/// Ends all, and closes their rings.
+fn close_all(mut actors: Vec<Actor>) {
+    while let Some(actor) = actors.pop() {
+        actor.close();
+    }
+    actors.destroy_empty();
+}
+
+impl Machine {
+    /// Returns a machine in which no act has moved, with queues of this capacity.
+    ///
+    /// # Errors
+    ///
+    /// `AllocError` where memory is refused.
+    pub fn new(alloc: Global, scenario: &Scenario, capacity: usize) -> Result<Machine, AllocError>
+        ensures { IfOk result (λ machine. machine
+            ≡ record { scenario = scenario.now; capacity = capacity; places = at_start scenario.now.net }) }
+    {
+        let _lawful = scenario.header();
+        let queues = empty_queues(alloc)?;
+        let mut actors = Vec::new(alloc);
+        if add_actors(alloc, scenario, &mut actors).is_err() {
+            close_all(actors);
+            return Err(AllocError);
+        }
+        Ok(Machine {
+            scenario: Snapshot::of(scenario),
+            capacity,
+            actors,
+            queues,
+        })
+    }
+
+    /// An attempt of a general at a put, which is his next act.
+    fn put(&mut self, alloc: Global, me: GeneralNo, to: GeneralNo) -> Result<Moved, AllocError>
+        requires next { (l : ℕ) × (next_act self.old.scenario.net self.old.places me ≡ Some (Puts l to)) }
+        requires below { me < self.old.scenario.net.generals }
+        ensures ok { IfOk result (λ moved. Answers self.old me moved self.new) }
+        ensures err { OnErr result (self.new ≡ self.old) }
+    {
+        let queue = &mut self.queues[spot(me, to)];
+        if queue.len() >= self.capacity {
+            return Ok(Moved::Blocked);
+        }
+        queue.reserve(1)?;
+        let frame = self.actors[place_of(me)].put(alloc, to)?;
+        queue.push_back_reserved(frame);
+        Ok(Moved::Put)
+    }
+
+    /// An attempt of a general at a take, which is his next act.
+    fn take(&mut self, alloc: Global, me: GeneralNo, from: GeneralNo) -> Result<Moved, AllocError>
+        requires next { (l : ℕ) × (next_act self.old.scenario.net self.old.places me ≡ Some (Takes l from)) }
+        requires below { me < self.old.scenario.net.generals }
+        ensures ok { IfOk result (λ moved. Answers self.old me moved self.new) }
+        ensures err { OnErr result (self.new ≡ self.old) }
+    {
+        let queue = &mut self.queues[spot(from, me)];
+        let Some(frame) = queue.front() else {
+            return Ok(Moved::Blocked);
+        };
+        self.actors[place_of(me)].take(alloc, from, frame)?;
+        let _ = queue.pop_front();
+        Ok(Moved::Took)
+    }
+
+    /// One attempt of a general at his next act, and what became of it.
+    ///
+    /// # Errors
+    ///
+    /// `AllocError` where memory is refused: then nothing has changed, and the next attempt gives what this
+    /// one would have given.
+    pub fn act(&mut self, alloc: Global, me: GeneralNo) -> Result<Moved, AllocError>
+        requires below { me < self.old.scenario.net.generals }
+        ensures ok { IfOk result (λ moved. Answers self.old me moved self.new) }
+        ensures err { OnErr result (self.new ≡ self.old) }
+    {
+        let Some(next) = self.actors[place_of(me)].next() else {
+            return Ok(Moved::Done);
+        };
+        match &next {
+            Act::Puts(_, to) => self.put(alloc, me, *to),
+            Act::Takes(_, from) => self.take(alloc, me, *from),
+        }
+    }
+
+    /// The attempts of these generals, one after the other.
+    ///
+    /// # Errors
+    ///
+    /// `AllocError` where memory is refused: then the attempts before that one have been made.
+    pub fn run_acts(&mut self, alloc: Global, acts: &[GeneralNo]) -> Result<(), AllocError>
+        requires below { AreActs self.old.scenario.net acts.now }
+        ensures ok { OnOk result (RunsTo self.old acts.now self.new) }
+        ensures err { OnErr result (RunsPartly self.old acts.now self.new) }
+    {
+        'acts: for me in acts {
+            if self.act(alloc, *me).is_err() {
+                return Err(AllocError);
+            }
+        }
+        Ok(())
+    }
+
+    /// Returns whether the next act of a general would move.
+    fn would_move(&self, me: GeneralNo) -> bool
+        requires below { me < self.now.scenario.net.generals }
+        ensures { result ≡ has_moved (answer self.now.scenario.net self.now.capacity self.now.places me) }
+    {
+        let Some(next) = self.actors[place_of(me)].next() else {
+            return false;
+        };
+        match &next {
+            Act::Puts(_, to) => self.queues[spot(me, *to)].len() < self.capacity,
+            Act::Takes(_, from) => self.queues[spot(*from, me)].len() > 0,
+        }
+    }
+
+    /// Returns the first general whose next act would move. There is one until all are done, unless the
+    /// capacity is 0.
+    pub fn mover(&self) -> Option<GeneralNo>
+        ensures first { result ≡ mover self.now.scenario.net self.now.capacity self.now.places }
+        ensures names { 1 ≤ self.now.capacity
+            → MoverNames self.now.scenario.net self.now.capacity self.now.places result }
+    {
+        'generals: for number in 0..self.actors.len() as u8 {
+            let me = GeneralNo::at(number);
+            if self.would_move(me) {
+                return Some(me);
+            }
+        }
+        None
+    }
+
+    /// Returns how many generals there are.
+    pub fn generals(&self) -> u8
+        ensures { result ≡ self.now.scenario.net.generals }
+    {
+        self.actors.len() as u8
+    }
+
+    /// Returns the bytes of the entries that a general has written by the acts that have moved, START first.
+    /// DECIDE isn't among them: he writes it when he ends.
+    pub fn log_so_far(&self, me: GeneralNo) -> &[u8]
+        requires below { me < self.now.scenario.net.generals }
+        ensures { result.now ≡ flat_map entry_spelling
+            (log_so_far self.now.scenario.net (undecided_by self.now.scenario) self.now.places me) }
+    {
+        self.actors[place_of(me)].log_so_far()
+    }
+
+    /// Ends the machine, and closes all rings.
+    pub fn close(self) {
+        let Machine {
+            scenario: _,
+            capacity: _,
+            actors,
+            queues: _,
+        } = self;
+        close_all(actors);
+    }
+}

@@ -1,0 +1,103 @@
+//! Acts of the machine, and what it keeps. The answers of the two rows are worked out by hand.
+use crate::{Machine, Moved};
+use gen_net::Net;
+use gen_types::{GeneralNo, OrderNo};
+use gen_world::Scenario;
+use std::alloc::{AllocError, Global};
+use std::test::Fail;
+
+/// The scenario with order 1 in which nobody has a script.
+#[tactic(auto, using(gen_world::proofs::ScriptPairs::no_scripts))]
+fn without_scripts(
+    alloc: Global,
+    n: u8,
+    edges: &[(u8, u8)],
+    (m, d): (u8, u8),
+) -> Result<Scenario, Fail> {
+    let net = Net::new(alloc, n, edges, m, d, 2, 0)?;
+    let _few = net.generals();
+    Ok(Scenario::new(alloc, net, OrderNo::at(1), &[0; 32], Vec::new(alloc))?)
+}
+
+/// What the attempts of these generals answer, one after the other.
+fn answers_of(alloc: Global, machine: &mut Machine, acts: &[u8]) -> Result<Vec<Moved>, AllocError> {
+    let mut answers = Vec::new(alloc);
+    for number in acts {
+        if let Some(me) = GeneralNo::new(*number) {
+            if me.get() < machine.generals() {
+                answers.push(machine.act(alloc, me)?)?;
+            }
+        }
+    }
+    Ok(answers)
+}
+
+/// Lets whoever can act, as often as this.
+fn run_on(alloc: Global, machine: &mut Machine, times: u8) -> Result<(), AllocError> {
+    for _ in 0..times {
+        if let Some(me) = machine.mover() {
+            if me.get() < machine.generals() {
+                machine.run_acts(alloc, &[me])?;
+            }
+        }
+    }
+    Ok(())
+}
+
+/// How many bytes a general has written, 0 of a general that there isn't.
+fn written(machine: &Machine, number: u8) -> usize {
+    match GeneralNo::new(number) {
+        Some(me) if me.get() < machine.generals() => machine.log_so_far(me).len(),
+        _ => 0,
+    }
+}
+
+/// Runs the acts of a row on two generals, and says what they answered and how many bytes each wrote.
+fn run_pair(alloc: Global, machine: &mut Machine) -> Result<bool, AllocError> {
+    let before = (written(machine, 0), written(machine, 1));
+    let answers = answers_of(alloc, machine, &[1, 1, 0, 1, 1, 0, 0])?;
+    let expected = [
+        Moved::Put,
+        Moved::Blocked,
+        Moved::Put,
+        Moved::Took,
+        Moved::Done,
+        Moved::Took,
+        Moved::Done,
+    ];
+    let after = (written(machine, 0), written(machine, 1));
+    let grown = before.0 < after.0 && before.1 < after.1;
+    Ok(answers.as_slice() == expected.as_slice() && grown && machine.mover().is_none())
+}
+
+#[test]
+fn two_generals(rt: HostRuntime) -> Result<(), Fail> {
+    let alloc = rt.alloc();
+    let scenario = without_scripts(alloc, 2, &[(0, 1)], (0, 1))?;
+    let mut machine = Machine::new(alloc, &scenario, 1)?;
+    let right = run_pair(alloc, &mut machine);
+    machine.close();
+    assert!(rt; right?);
+    Ok(())
+}
+
+/// Runs the acts of a row on three generals up to the last, which answers this, and lets them end.
+fn run_three(alloc: Global, machine: &mut Machine, last: Moved) -> Result<bool, AllocError> {
+    let answers = answers_of(alloc, machine, &[0, 0, 2, 2, 1, 1, 1, 1, 1])?;
+    let right = answers.len() == 9 && answers.last() == Some(&last);
+    run_on(alloc, machine, 24)?;
+    Ok(right && machine.mover().is_none())
+}
+
+#[test]
+fn three_generals(rt: HostRuntime) -> Result<(), Fail> {
+    let alloc = rt.alloc();
+    let scenario = without_scripts(alloc, 3, &[(0, 1), (0, 2), (1, 2)], (1, 1))?;
+    for (capacity, last) in [(1, Moved::Blocked), (2, Moved::Put)] {
+        let mut machine = Machine::new(alloc, &scenario, capacity)?;
+        let right = run_three(alloc, &mut machine, last);
+        machine.close();
+        assert!(rt; right?);
+    }
+    Ok(())
+}
