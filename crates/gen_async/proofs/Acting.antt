@@ -1,10 +1,10 @@
 -- An act keeps the machine as the places say.
-use Rattle.std.proofs.Common.{◌≡◌, ℕ, zero, suc, ◌+◌, ◌-◌, ◌*◌, ◌<◌, ◌≤◌, ◌↔◌, inl, inr, List, [], ◌∷◌, ◌++◌, length, map, take, drop, find, replicate, Bool, true, false, ltb, slice_index, slice_set, slice_index_or, slice_get, Option, Some, None, IsSome, refl, sym, ap, subst, ◌∙◌, arith, zero-add}
+use Rattle.std.proofs.Common.{◌≡◌, ℕ, zero, suc, ◌+◌, ◌*◌, ◌<◌, ◌≤◌, inl, inr, List, [], ◌∷◌, ◌++◌, length, map, take, drop, find, replicate, Bool, true, false, ltb, slice_index, slice_set, slice_index_or, Option, Some, None, refl, sym, ap, subst, ◌∙◌, arith, zero-add}
 use Rattle.std.specs.List.{flat_map, range_with_len}
 use Rattle.std.proofs.lemmas.Bool.{cases_eq, cases_lt, cases_Bool, lt-ltb, le-ltb, cond-true, cond-false}
 use Rattle.std.proofs.lemmas.List.Sums.{fold_push}
-use Rattle.std.proofs.lemmas.List.{get_or-set_same, get_or-set_other, length-set, set-set, set-get_or, take_more, get_or_default, map-set, get_or-map, get_or-replicate, length-replicate}
-use Rattle.gen_net.specs.Network.{Network, IsNetwork, AreNeighbours, rounds}
+use Rattle.std.proofs.lemmas.List.{get_or-set_same, get_or-set_other, length-set, set-get_or, take_more, map-set, get_or-replicate, length-replicate}
+use Rattle.gen_net.specs.Network.{AreNeighbours}
 use Rattle.gen_net.proofs.Neighbours.{joined_below}
 use Rattle.gen_world.specs.Scenario.{Scenario, IsScenario}
 use Rattle.gen_world.specs.SignedWorld.{frame_at}
@@ -17,7 +17,7 @@ use Rattle.gen_log.specs.Entry.{entry_spelling}
 use Rattle.gen_async.specs.Actors.{ActorState, act_at, entries_at, one_more, undecided_by}
 use Rattle.gen_async.specs.Logs.{log_so_far}
 use Rattle.gen_async.specs.Frames.{queue}
-use Rattle.gen_async.specs.Laws.{IsMachine, MoverNames}
+use Rattle.gen_async.specs.Laws.{MoverNames}
 use Rattle.gen_async.specs.Machine.{at_start, next_act, put, taken, queued, answer, step, after, mover, has_moved}
 use Rattle.gen_async.specs.Running.{MachineState, IsKept, Answers, RunsTo, places_of, queue_at, with_queue}
 use Rattle.gen_async.proofs.Answering.{says_put, says_full, says_took, says_empty, says_done}

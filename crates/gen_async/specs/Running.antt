@@ -1,9 +1,12 @@
 -- What the machine's fields keep, and what an attempt answers.
-use Rattle.std.specs.Prelude.{ℕ, ◌≡◌, ◌<◌, ◌+◌, ◌*◌, List, [], length, map, take, slice_index, slice_index_or, slice_set}
+use Rattle.std.specs.Prelude.{ℕ, ◌≡◌, ◌<◌, ◌+◌, ◌*◌, List, [], length, map, take, slice_index, slice_index_or, slice_set, None}
+use Rattle.gen_log.specs.Writing.{LogBytes}
+use Rattle.gen_world.specs.Recording.{log_bytes}
+use Rattle.gen_world.specs.WorldLogs.{logs_of}
 use Rattle.gen_world.specs.Scenario.{Scenario, IsScenario}
 use Rattle.gen_world.specs.SignedWorld.{frame_at}
 use Rattle.gen_async.specs.declared.acts.Moved.{Moved}
-use Rattle.gen_async.specs.Actors.{ActorState}
+use Rattle.gen_async.specs.Actors.{ActorState, act_at}
 use Rattle.gen_async.specs.Frames.{queue}
 use Rattle.gen_async.specs.Laws.{IsMachine}
 use Rattle.gen_async.specs.Machine.{answer, step, after}
@@ -57,3 +60,13 @@ pub record RunsPartly (before : MachineState) (acts : List ℕ) (later : Machine
   pub count : ℕ
   pub within : count < length acts
   pub runs : RunsTo before (take count acts) later
+
+-- ---- the end
+
+-- none of them has an act left
+abbrev pub AreDone : List ActorState → Type 0
+AreDone actors = (i : ℕ) (d : ActorState) → i < length actors → act_at (slice_index_or actors i d) ≡ None
+
+-- the logs of a general in the scenario's run
+abbrev pub logs_at : ActorState → List LogBytes
+logs_at a = map (log_bytes a.me) (logs_of a.scenario a.me)

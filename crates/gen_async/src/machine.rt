@@ -2,17 +2,19 @@
 ghost use Rattle.std.specs.Prelude.{ℕ, List, ◌≡◌, ◌<◌, ◌≤◌, ◌+◌, ◌*◌, [], Some, map, replicate, IfOk, OnOk, OnErr};
 ghost use Rattle.std.specs.List.{flat_map};
 ghost use Rattle.gen_log.specs.Entry.{entry_spelling};
+ghost use Rattle.gen_world.specs.Rows.{logs_of_all};
 ghost use Rattle.gen_world.specs.Loops.Worlds.{AllAre};
 ghost use Rattle.gen_async.specs.declared.acts.Act.TheVariants.{Puts, Takes};
 ghost use Rattle.gen_async.specs.Actors.{undecided_by};
-ghost use Rattle.gen_async.specs.Laws.{AreActs, MoverNames};
+ghost use Rattle.gen_async.specs.Laws.{AllDone, AreActs, MoverNames};
 ghost use Rattle.gen_async.specs.Logs.{log_so_far};
 ghost use Rattle.gen_async.specs.Machine.{answer, at_start, has_moved, mover, next_act};
-ghost use Rattle.gen_async.specs.Running.{Answers, RunsTo, RunsPartly};
+ghost use Rattle.gen_async.specs.Running.{Answers, AreDone, RunsTo, RunsPartly, logs_at};
 
 use crate::actors::Actor;
 use crate::acts::{Act, Moved};
 use crate::frames::Frame;
+use gen_log::SealedLog;
 use gen_types::GeneralNo;
 use gen_world::Scenario;
 use std::alloc::{AllocError, Global};
@@ -24,7 +26,7 @@ use std::snapshot::Snapshot;
 ///
 /// A contract sees the scenario, the capacity of each queue and how many acts of each general have moved:
 /// what the queues hold and what has been written follows from these. Generals may hold rings, so a machine
-/// has to be ended by `close`.
+/// has to be ended by `finish` or `close`.
 pub struct Machine {
     scenario: Snapshot<Scenario>,
     capacity: usize,
@@ -95,6 +97,19 @@ fn close_all(mut actors: Vec<Actor>) {
         actor.close();
     }
     actors.destroy_empty();
+}
+
+/// All end one after another, and these are their logs. Where memory is refused the others are left.
+fn finish_all(alloc: Global, actors: &mut Vec<Actor>) -> Result<Vec<SealedLog>, AllocError>
+    requires { AreDone actors.old.items }
+    ensures { IfOk result (λ logs. logs.items ≡ flat_map logs_at actors.old.items) }
+{
+    let mut logs = Vec::new(alloc);
+    actors.reverse();
+    while let Some(actor) = actors.pop() {
+        actor.finish(alloc, &mut logs)?;
+    }
+    Ok(logs)
 }
 
 impl Machine {
@@ -230,6 +245,13 @@ impl Machine {
         self.actors.len() as u8
     }
 
+    /// Returns how many frames a queue may hold.
+    pub fn capacity(&self) -> usize
+        ensures { result ≡ self.now.capacity }
+    {
+        self.capacity
+    }
+
     /// Returns the bytes of the entries that a general has written by the acts that have moved, START first.
     /// DECIDE isn't among them: he writes it when he ends.
     pub fn log_so_far(&self, me: GeneralNo) -> &[u8]
@@ -238,6 +260,27 @@ impl Machine {
             (log_so_far self.now.scenario.net (undecided_by self.now.scenario) self.now.places me) }
     {
         self.actors[place_of(me)].log_so_far()
+    }
+
+    /// Ends a machine in which nobody has an act left, and returns the logs of the run: those of all
+    /// generals, in their order, a second log behind the first. All rings are closed, whatever comes.
+    ///
+    /// # Errors
+    ///
+    /// `AllocError` where memory is refused.
+    pub fn finish(self, alloc: Global) -> Result<Vec<SealedLog>, AllocError>
+        requires done { AllDone self.scenario.net self.places }
+        ensures { IfOk result (λ logs. logs.items ≡ logs_of_all self.scenario) }
+    {
+        let Machine {
+            scenario: _,
+            capacity: _,
+            mut actors,
+            queues: _,
+        } = self;
+        let logs = finish_all(alloc, &mut actors);
+        close_all(actors);
+        logs
     }
 
     /// Ends the machine, and closes all rings.

@@ -70,14 +70,24 @@ fn run_pair(alloc: Global, machine: &mut Machine) -> Result<bool, AllocError> {
     Ok(answers.as_slice() == expected.as_slice() && grown && machine.mover().is_none())
 }
 
+/// Ends a machine, and returns how many logs it gives, 0 where somebody can still act.
+fn count_logs(alloc: Global, machine: Machine) -> Result<usize, AllocError> {
+    if machine.capacity() == 0 || machine.mover().is_some() {
+        machine.close();
+        return Ok(0);
+    }
+    let logs = machine.finish(alloc)?;
+    Ok(logs.len())
+}
+
 #[test]
 fn two_generals(rt: HostRuntime) -> Result<(), Fail> {
     let alloc = rt.alloc();
     let scenario = without_scripts(alloc, 2, &[(0, 1)], (0, 1))?;
     let mut machine = Machine::new(alloc, &scenario, 1)?;
     let right = run_pair(alloc, &mut machine);
-    machine.close();
-    assert!(rt; right?);
+    let logs = count_logs(alloc, machine);
+    assert!(rt; right? && logs? == 2);
     Ok(())
 }
 

@@ -1,4 +1,4 @@
-use Rattle.std.proofs.Common.{◌≡◌, ◌+◌, ◌≤◌, ◌<◌, ℕ, length, slice_index_or, vec_capacity, vec_len}
+use Rattle.std.proofs.Common.{◌≡◌, ◌≤◌, ◌<◌, ℕ, length, slice_index_or, vec_capacity, vec_len}
 use Rattle.gen_async.specs.Actors.{ActorState}
 use Rattle.gen_async.proofs.machine.add_actors.Given as goal
 

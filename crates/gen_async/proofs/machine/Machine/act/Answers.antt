@@ -1,4 +1,4 @@
-use Rattle.std.proofs.Common.{sym, ap, ◌∙◌, map, Some, None}
+use Rattle.std.proofs.Common.{sym, ap, ◌∙◌, map, Some}
 use Rattle.gen_async.specs.declared.acts.Act.{Act}
 use Rattle.gen_async.specs.Running.{places_of}
 use Rattle.gen_async.proofs.Acting.{next_outside, below_inside, act_read, act_done}

@@ -1,4 +1,4 @@
-use Rattle.std.proofs.Common.{◌≡◌, ◌∙◌, map, Some, None, arith}
+use Rattle.std.proofs.Common.{◌≡◌, map, Some, None, arith}
 use Rattle.gen_async.specs.Running.{places_of}
 use Rattle.gen_async.proofs.Acting.{found, not_found, not_yet, named}
 use Rattle.gen_async.proofs.machine.Machine.mover.Goals as goal

@@ -1,4 +1,4 @@
-use Rattle.std.proofs.Common.{◌≡◌, ◌<◌, ◌+◌, ◌*◌, ◌∙◌, ◌++◌, ◌∷◌, [], List, ℕ, Some, map, length, refl, sym, ap, subst, arith, rules, deque_len}
+use Rattle.std.proofs.Common.{◌≡◌, ◌<◌, ◌+◌, ◌*◌, ◌∙◌, ◌++◌, ◌∷◌, [], Some, map, length, refl, sym, ap, subst, arith, rules, deque_len}
 use Rattle.std.proofs.lemmas.List.{length-map}
 use Rattle.gen_world.specs.SignedWorld.{frame_at}
 use Rattle.gen_async.specs.declared.acts.Act.TheVariants.{Puts}

@@ -4,7 +4,7 @@ use Rattle.gen_world.specs.SignedWorld.{frame_at}
 use Rattle.gen_async.specs.declared.acts.Act.TheVariants.{Takes}
 use Rattle.gen_async.specs.declared.acts.Moved.TheVariants.{Blocked}
 use Rattle.gen_async.specs.Actors.{ActorState, one_more}
-use Rattle.gen_async.specs.Running.{IsKept, Answers, places_of, queue_at}
+use Rattle.gen_async.specs.Running.{Answers, places_of}
 use Rattle.gen_async.proofs.Acting.{take_blocked, take_moved, act_read, actor_read, next_inside, below_inside, front_is, take_kept, places_on}
 use Rattle.gen_async.proofs.Tables.{at_spot, popped, none_left, some_left}
 use Rattle.gen_async.proofs.machine.Machine.take.Goals as goal
