@@ -1,8 +1,9 @@
 //! Acts of the machine, and what it keeps. The answers of the two rows are worked out by hand.
 use crate::{Machine, Moved};
+use gen_log::SealedLog;
 use gen_net::Net;
 use gen_types::{GeneralNo, OrderNo};
-use gen_world::Scenario;
+use gen_world::{Scenario, run_world};
 use std::alloc::{AllocError, Global};
 use std::test::Fail;
 
@@ -108,6 +109,60 @@ fn three_generals(rt: HostRuntime) -> Result<(), Fail> {
         let right = run_three(alloc, &mut machine, last);
         machine.close();
         assert!(rt; right?);
+    }
+    Ok(())
+}
+
+/// Lets whoever can act until nobody can, and at most so often, and returns how many acts moved.
+fn moves_to_the_end(alloc: Global, machine: &mut Machine, most: u32) -> Result<u32, AllocError> {
+    for moved in 0..most {
+        match machine.mover() {
+            Some(me) if me.get() < machine.generals() => machine.run_acts(alloc, &[me])?,
+            _ => return Ok(moved),
+        }
+    }
+    Ok(most)
+}
+
+/// The logs of a machine that has ended, none where somebody can still act.
+fn logs_of(alloc: Global, machine: Machine) -> Result<Vec<SealedLog>, AllocError> {
+    if machine.capacity() == 0 || machine.mover().is_some() {
+        machine.close();
+        return Ok(Vec::new(alloc));
+    }
+    machine.finish(alloc)
+}
+
+/// Whether these are the same logs.
+fn are_equal(logs: &[SealedLog], others: &[SealedLog]) -> bool {
+    logs.len() == others.len()
+        && logs.iter().zip(others).all(|(log, other)| log.general() == other.general()
+            && log.bytes() == other.bytes())
+}
+
+/// Whether a machine of this capacity ends after so many acts with the logs of the scenario's run.
+fn ends_as_the_run(
+    alloc: Global,
+    scenario: &Scenario,
+    capacity: usize,
+    acts: u32,
+) -> Result<bool, Fail> {
+    let mut machine = Machine::new(alloc, scenario, capacity)?;
+    let moved = moves_to_the_end(alloc, &mut machine, acts.saturating_add(1));
+    let logs = logs_of(alloc, machine)?;
+    let run = run_world(alloc, scenario)?;
+    Ok(moved? == acts && are_equal(logs.as_slice(), run.logs()))
+}
+
+#[test]
+fn any_capacity_gives_the_logs_of_the_run(rt: HostRuntime) -> Result<(), Fail> {
+    let alloc = rt.alloc();
+    let pair = without_scripts(alloc, 2, &[(0, 1)], (0, 1))?;
+    let line = without_scripts(alloc, 4, &[(0, 1), (1, 2), (2, 3)], (0, 3))?;
+    for capacity in [1, 2, 16] {
+        let right = ends_as_the_run(alloc, &pair, capacity, 4)?
+            && ends_as_the_run(alloc, &line, capacity, 36)?;
+        assert!(rt; right, "{capacity}");
     }
     Ok(())
 }

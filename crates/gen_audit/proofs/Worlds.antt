@@ -28,7 +28,9 @@ use Rattle.gen_audit.specs.declared.verdicts.Verdict.{Verdict}
 use Rattle.gen_audit.specs.declared.verdicts.Verdict.TheVariants.{Agreed, Explained, No}
 use Rattle.gen_audit.specs.Verdict.{IsVerdict}
 use Rattle.gen_audit.specs.Headline.{IsYes}
-use Rattle.gen_audit.specs.WorldBundle.{shown_by, bundle_of, IsAcceptable, WorldIsSupported, WorldIsAccepted, ShownAreLogs}
+use Rattle.gen_audit.specs.WorldBundle.{shown_by, bundle_of, IsAcceptable, WorldIsSupported, WorldIsAccepted, ShownAreLogs, SealedAreShown, shown_as}
+use Rattle.gen_world.specs.Recording.{log_bytes}
+use Rattle.gen_world.specs.Rows.{logs_of_all}
 use Rattle.gen_audit.proofs.Supporting.{counts, supported_is_clean}
 use Rattle.gen_audit.proofs.Answering.{unclean}
 
@@ -144,3 +146,19 @@ all_bytes s (g ∷ generals) =
 
 pub shown_are_logs : ShownAreLogs
 shown_are_logs s = all_bytes s (range_with_len 0 s.net.generals)
+
+-- sealed logs, shown as their generals'
+sealed_by_one : (g : ℕ) (logs : List RunLog) → map shown_as (map (log_bytes g) logs) ≡ map (λ log. record { general = g; bytes = log_spelling log }) logs
+sealed_by_one g [] = refl
+sealed_by_one g (log ∷ logs) = ap (λ xs. record { general = g; bytes = log_spelling log } ∷ xs) (sealed_by_one g logs)
+
+sealed_by_all : (s : Scenario) (gs : List ℕ) → map shown_as (flat_map (λ g. map (log_bytes g) (worlds.logs_of s g)) gs) ≡ flat_map (shown_by s) gs
+sealed_by_all s [] = refl
+sealed_by_all s (g ∷ gs) =
+    map-append shown_as (map (log_bytes g) (worlds.logs_of s g)) (flat_map (λ g. map (log_bytes g) (worlds.logs_of s g)) gs)
+    ∙ ap (λ xs. xs ++ map shown_as (flat_map (λ g. map (log_bytes g) (worlds.logs_of s g)) gs)) (sealed_by_one g (worlds.logs_of s g))
+    ∙ ap (λ ys. shown_by s g ++ ys) (sealed_by_all s gs)
+
+pub sealed_are_shown : SealedAreShown
+unfolding logs_of_all
+sealed_are_shown s = sealed_by_all s (range_with_len 0 s.net.generals)

@@ -7,6 +7,8 @@ use Rattle.gen_walks.specs.Walks.{BoundsDiameter}
 use Rattle.gen_log.specs.Log.{log_spelling}
 use Rattle.gen_world.specs.Scenario.{Scenario, IsScenario, header_of, scripted}
 use Rattle.gen_world.specs.SignedLaw.{HasNoRaw}
+use Rattle.gen_log.specs.Writing.{LogBytes}
+use Rattle.gen_world.specs.Rows.{logs_of_all}
 use Rattle.gen_world.specs.WorldLogs as worlds
 use Rattle.gen_local.specs.Shown.{ShownLog}
 use Rattle.gen_audit.specs.Bundle.{LogBundle}
@@ -50,3 +52,11 @@ WorldIsAccepted =
 -- what is shown are the bytes of all logs
 abbrev pub ShownAreLogs : Type 0
 ShownAreLogs = (s : Scenario) → map (λ x. x.bytes) (all_shown s) ≡ worlds.bytes_of_logs s
+
+-- a sealed log, shown as its general's
+abbrev pub shown_as : LogBytes → ShownLog
+shown_as log = record { general = log.general; bytes = log.bytes }
+
+-- whoever has the sealed logs of the run, by whatever order of acts, shows these exhibits
+abbrev pub SealedAreShown : Type 0
+SealedAreShown = (s : Scenario) → map shown_as (logs_of_all s) ≡ all_shown s
