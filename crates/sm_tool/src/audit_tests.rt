@@ -5,7 +5,7 @@ use crate::engine::audit_engine;
 use crate::tests::{Slip, sink_for, source_of};
 use gen_audit::{Bundle, BundleFault, write_bundle};
 use gen_local::Exhibit;
-use gen_net::Header;
+use gen_net::{Header, HeaderFault};
 use gen_report::{ScenarioText, read_scenario};
 use gen_types::{GeneralNo, GeneralSet};
 use gen_walks::{Walks, make_walks};
@@ -225,5 +225,46 @@ fn nobody_is_left_to_agree(rt: HostRuntime) -> Result<(), Fail> {
     let alloc = rt.alloc();
     let bundle = pair_without(alloc, 3)?;
     assert!(rt; judges(alloc, &bundle, JobEnd::Negative, b"verdict no\nN11\nend\n"));
+    Ok(())
+}
+
+/// A byte of the smallest run's bundle, what it is changed to, and the fault of the bundle then.
+const CHANGES: [(usize, u8, BundleFault); 13] = [
+    (3, 0x33, BundleFault::UnknownMark),
+    (4, 0, BundleFault::BadHeader(HeaderFault::UnknownVersion)),
+    (5, 17, BundleFault::BadHeader(HeaderFault::GeneralCount)),
+    (6, 9, BundleFault::BadHeader(HeaderFault::TraitorCount)),
+    (7, 0, BundleFault::BadHeader(HeaderFault::DiameterRange)),
+    (8, 1, BundleFault::BadHeader(HeaderFault::OrderCount)),
+    (9, 2, BundleFault::BadHeader(HeaderFault::UnknownChoice)),
+    (78, 4, BundleFault::FaultyRange),
+    (79, 0x79, BundleFault::WalkCount),
+    (80, 1, BundleFault::WalkCount),
+    (82, 2, BundleFault::BadWalk),
+    (83, 0x41, BundleFault::BadExhibit),
+    (84, 2, BundleFault::BadExhibit),
+];
+
+/// Whether a bundle with this byte changed is refused for this fault.
+fn is_refused(
+    alloc: Global,
+    bundle: &[u8],
+    (offset, value, fault): (usize, u8, BundleFault),
+) -> Result<bool, Fail> {
+    let mut changed = Vec::from_slice(alloc, bundle)?;
+    if let Some(byte) = changed.get_mut(offset) {
+        *byte = value;
+    }
+    Ok(refusal_of(alloc, &changed) == Some(JobEnd::Failed(JobFault::Bundle(fault))))
+}
+
+#[test]
+fn changed_bytes_are_refused(rt: HostRuntime) -> Result<(), Fail> {
+    let alloc = rt.alloc();
+    let bundle = bundle_of(alloc, PAIR.0)?;
+    for change in CHANGES {
+        let refused = is_refused(alloc, &bundle, change)?;
+        assert!(rt; refused, "{}", change.0);
+    }
     Ok(())
 }
