@@ -11,12 +11,12 @@ import subprocess
 import tempfile
 import time
 
-from decide import PROGRAM, RUNS, TOP
+from decide import BUILT, PROGRAM, RUNS, TOP
 from kernels import KEY_CRATES, KEYS_ON, built, least
 from signed import signed
 
 MEGABYTE = 1 << 20
-BUNDLE_ON = "gen_report gen_audit gen_walks gen_local gen_world gen_net gen_types anyhow"
+BUNDLE_ON = "gen_report gen_audit gen_walks gen_local gen_log gen_world gen_net gen_types anyhow"
 
 
 def all_crates():
@@ -26,13 +26,24 @@ def all_crates():
     return [name for name in names if name != "sm_tool"]
 
 
+def bundle_writer(scratch):
+    """The program that writes bundles, built. Building runs it once, without a scenario, which it refuses."""
+    try:
+        return built(scratch, "bundle.txt", all_crates(), BUNDLE_ON)
+    except subprocess.CalledProcessError:
+        program = os.path.join(scratch, "crates", "speed", "out", "speed")
+        if not os.path.exists(program):
+            raise
+        return program
+
+
 def audited(given, status):
     """The least time in seconds and the peak memory in MiB of audits of a file."""
     best, peak = None, 0
     for _ in range(RUNS):
         with open(given, "rb") as read:
             start = time.perf_counter()
-            child = subprocess.Popen([PROGRAM, "audit"], stdin=read, stdout=subprocess.DEVNULL)
+            child = subprocess.Popen([BUILT, "audit"], stdin=read, stdout=subprocess.DEVNULL)
             _, code, used = os.wait4(child.pid, 0)
             taken = time.perf_counter() - start
         child.returncode = os.waitstatus_to_exitcode(code)
@@ -59,7 +70,7 @@ def main():
         kernels = least(built(keys, "keys.txt", KEY_CRATES, KEYS_ON))
         runs = os.path.join(scratch, "runs")
         os.mkdir(runs)
-        writer = built(runs, "bundle.txt", all_crates(), BUNDLE_ON)
+        writer = bundle_writer(runs)
         bundle = os.path.join(scratch, "bundle")
         with open(bundle, "wb") as out:
             subprocess.run([writer], input=signed(16, everybody, 8, 8, 15, 14), stdout=out, check=True)
