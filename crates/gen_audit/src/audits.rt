@@ -1,6 +1,8 @@
 //! The audit of a bundle.
-ghost use Rattle.std.specs.Prelude.{ℕ, ◌≡◌, ◌↔◌, IfOk, IfSome, IfNone};
+ghost use Rattle.std.specs.Prelude.{ℕ, ◌≡◌, ◌↔◌, IfOk, IfSome, IfNone, map};
 ghost use Rattle.gen_types.specs.Ascending.{IsListOf};
+ghost use Rattle.gen_convict.specs.Convictions.{AreConvictions, AreEvidence};
+ghost use Rattle.gen_convict.specs.Evidence.{told_of};
 ghost use Rattle.gen_audit.specs.declared.verdicts.Verdict.TheVariants.{Agreed};
 ghost use Rattle.gen_audit.specs.Bundle.{IsBundle};
 ghost use Rattle.gen_audit.specs.Collecting.{DecidesIn, IsOwnOf};
@@ -12,8 +14,9 @@ ghost use Rattle.gen_audit.specs.Verdict.{AreDecisions, IsDecision, IsVerdict};
 
 use crate::bundles::Bundle;
 use crate::findings_collected::{findings_in, rest_of};
-use crate::verdicts::{Decisions, Findings, Verdict};
+use crate::verdicts::{Decisions, Findings, Judgement, Verdict};
 use gen_chain::VerifyStore;
+use gen_convict::find_evidence;
 use gen_local::{LocalReport, Reading, local_report_with};
 use gen_types::{GeneralNo, GeneralSet, OrderNo};
 use gen_world::Decision;
@@ -135,36 +138,53 @@ fn yes_on(
     Ok(Verdict::Explained(Decisions::new(decisions)))
 }
 
-/// Returns the verdict on a bundle.
-fn verdict_on(alloc: Global, bundle: &Bundle) -> Result<Verdict, AllocError>
+/// Returns the verdict on a bundle of which these are the reports.
+fn verdict_by(
+    alloc: Global,
+    bundle: &Bundle,
+    reports: &[LocalReport],
+) -> Result<Verdict, AllocError>
+    requires { AreReports bundle.now reports.now }
     ensures verdict { IfOk result (IsVerdict bundle.now) }
     ensures bundle { IsBundle bundle.now }
 {
     let rest = rest_of(bundle.header().net(), bundle.faulty());
-    let reports = reports_of_all(alloc, bundle)?;
-    let findings = findings_in(alloc, bundle, &rest, reports.as_slice())?;
+    let findings = findings_in(alloc, bundle, &rest, reports)?;
     if !findings.is_empty() {
         return Ok(Verdict::No(Findings::new(findings)));
     }
-    yes_on(alloc, bundle, &rest, reports.as_slice())
+    yes_on(alloc, bundle, &rest, reports)
 }
 
-/// Returns the verdict on a bundle.
+/// Returns the judgement on a bundle: the verdict, and the evidence that its exhibits hold.
 ///
 /// # Errors
 ///
 /// `AllocError` where memory is refused.
-pub fn audit_plain(alloc: Global, bundle: &Bundle) -> Result<Verdict, AllocError>
+pub fn audit_plain(alloc: Global, bundle: &Bundle) -> Result<Judgement, AllocError>
     // The verdict is the bundle's: no with exactly what is found, if anything is; else, with at most m held for
     // faulty, the order on which the rest agree; else what each of the rest decided.
-    ensures verdict { IfOk result (IsVerdict bundle.now) }
+    ensures verdict { IfOk result (λ judgement. IsVerdict bundle.now judgement.verdict) }
     // It is a yes exactly where each log of the rest verifies, the walks bound the diameter of the rest, and a run
     // of the algorithm exists in which all of the rest follow it and keep exactly these logs.
-    ensures exactly { IfOk result (λ verdict. IsYes verdict ↔ IsSupported bundle.now) }
+    ensures exactly { IfOk result (λ judgement.
+        IsYes judgement.verdict ↔ IsSupported bundle.now) }
     // With at most m held for faulty, such a bundle's verdict is the one order that all of the rest decided, which
     // is the commander's if he is of the rest.
-    ensures agreed { IfOk result (λ verdict. IsSupported bundle.now → HasFew bundle.now
-        → (order : ℕ) × (verdict ≡ Agreed order) × AgreeOn bundle.now order) }
+    ensures agreed { IfOk result (λ judgement. IsSupported bundle.now → HasFew bundle.now
+        → (order : ℕ) × (judgement.verdict ≡ Agreed order) × AgreeOn bundle.now order) }
+    // Each general against whom the exhibits hold a contradiction is convicted by the first one, and nobody else is.
+    ensures convictions { IfOk result (λ judgement. AreConvictions bundle.now.header bundle.now.exhibits
+        (map told_of judgement.convictions.items)) }
+    // And each conviction can be written.
+    ensures lawful { IfOk result (λ judgement.
+        AreEvidence bundle.now.header (map told_of judgement.convictions.items)) }
 {
-    verdict_on(alloc, bundle)
+    let reports = reports_of_all(alloc, bundle)?;
+    let verdict = verdict_by(alloc, bundle, reports.as_slice())?;
+    let convictions = find_evidence(alloc, bundle.header(), reports.as_slice())?;
+    Ok(Judgement {
+        verdict,
+        convictions,
+    })
 }

@@ -28,7 +28,7 @@ pub use bundle_fault::BundleFault;
 pub use bundle_reading::read_bundle;
 pub use bundle_writing::write_bundle;
 pub use bundles::Bundle;
-pub use verdicts::{Decisions, Findings, Verdict};
+pub use verdicts::{Decisions, Findings, Judgement, Verdict};
 
 #[cfg(test)]
 mod audit_tests;

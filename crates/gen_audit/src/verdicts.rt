@@ -1,6 +1,7 @@
 //! Verdicts.
 ghost use Rattle.std.specs.Prelude.{◌≡◌};
 
+use gen_convict::Evidence;
 use gen_match::Finding;
 use gen_types::OrderNo;
 use gen_world::Decision;
@@ -77,4 +78,14 @@ pub enum Verdict {
     Explained(Decisions),
     /// No: this is found.
     No(Findings),
+}
+
+/// The judgement on a bundle: the verdict, and who is convicted by its exhibits. A conviction changes no verdict.
+#[derive(Debug, Drop)]
+pub struct Judgement {
+    /// The verdict.
+    pub verdict: Verdict,
+    /// Of each general against whom the exhibits hold a contradiction the first one, in ascending order of
+    /// generals; of those who are held for faulty and of others.
+    pub convictions: Vec<Evidence>,
 }

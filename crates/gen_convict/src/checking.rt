@@ -13,6 +13,7 @@ ghost use Rattle.gen_convict.specs.Contradictions.{AreTwoTexts, AreTwoOrders, Is
 ghost use Rattle.gen_convict.specs.Told.{told};
 
 use crate::claims::Claim;
+use crate::evidence::Evidence;
 use gen_chain::{Statement, has_signed, head_digest, leaf_of_head};
 use gen_local::{SignedText, Text, departs};
 use gen_log::{Entry, Log, has_sign, head_verifies, read_log};
@@ -271,14 +272,8 @@ fn is_departing_at(
     }
 }
 
-/// Returns whether a claim holds against a general of the network: its texts verify as his and contradict
-/// each other, or its log is one that he sealed, and it lacks the statement or departs at the entry. A log
-/// that doesn't read is no error: then the claim doesn't hold.
-///
-/// # Errors
-///
-/// `AllocError` where memory is refused.
-pub fn check_claim(
+/// Whether a claim holds against a general.
+fn check_claim(
     alloc: Global,
     header: &Header,
     accused: GeneralNo,
@@ -312,4 +307,23 @@ pub fn check_claim(
             is_departing_at(alloc, header, accused, log.as_slice(), *entry)
         }
     }
+}
+
+/// Returns whether evidence holds against the accused, who is a general of the network: its texts verify as his
+/// and contradict each other, or its log is one that he sealed, and it lacks the statement or departs at the
+/// entry. A log that doesn't read is no error: then the evidence doesn't hold.
+///
+/// # Errors
+///
+/// `AllocError` where memory is refused.
+pub fn check_evidence(
+    alloc: Global,
+    header: &Header,
+    evidence: &Evidence,
+) -> Result<bool, AllocError>
+    requires { evidence.now.accused < header.now.network.generals }
+    ensures { IfOk result (λ holds. IsTrue holds
+        ↔ IsContradiction header.now evidence.now.accused (told evidence.now.claim)) }
+{
+    check_claim(alloc, header, evidence.accused, &evidence.claim)
 }

@@ -9,10 +9,24 @@
 
 mod checking;
 mod claims;
+mod evidence;
+mod evidence_fault;
+mod evidence_reading;
+mod evidence_writing;
+mod finding;
 pub mod laws;
+mod refutations;
+mod refuting;
 
-pub use checking::check_claim;
+pub use checking::check_evidence;
 pub use claims::Claim;
+pub use evidence::Evidence;
+pub use evidence_fault::EvidenceFault;
+pub use evidence_reading::read_evidence;
+pub use evidence_writing::write_evidence;
+pub use finding::find_evidence;
+pub use refutations::Refutation;
+pub use refuting::refute;
 
 #[cfg(test)]
 mod tests;

@@ -1,0 +1,264 @@
+-- Each step keeps the rule of an edge.
+use Rattle.std.proofs.Common.{◌≡◌, ◌≢◌, ℕ, zero, suc, ◌+◌, ◌<◌, ◌≤◌, Bool, true, false, true≢false, List, [], ◌∷◌, ◌++◌, length, map, set, sym, refl, ap, ◌∙◌, subst, inl, inr, ◌⊎◌, ⊎_elim, append_assoc, arith}
+use Rattle.std.proofs.lemmas.List.{append-nil, map-append}
+use mathlib.Core.Option.{some, some-injective, some-ne-none}
+use lib.ListN.{get_elem?}
+use Rattle.crossbeam_queue.specs.Fifo.{Pushes, Pops, Forks, Merges, Learns}
+use Rattle.crossbeam_queue.proofs.Lists.{at_set, at_snoc}
+use Rattle.edge.specs.declared.frame.Frame.{Frame}
+use Rattle.edge.specs.declared.frame.Frame.TheVariants.{Round, Gone}
+use Rattle.edge.specs.declared.rule.Seen.{Seen}
+use Rattle.edge.specs.Frames.{Parcels, Plain, round, gone, plain, row}
+use Rattle.edge.specs.Tied.{Tied, State, Counted, Fits, ComesNext, IsFrame, PutsNext, TakesNext, after_put, after_take, unopened, putter, taker, both_sides, spent_side, Rests, PutsSee, TakesSee}
+use Rattle.edge.proofs.Rows.{row_step, row_end, comes, some_below, empty_is_not}
+
+at_end : (l : List Seen) (a b : Seen) (j : ℕ) → get_elem? l j ≢ some b → get_elem? (l ++ a ∷ []) j ≡ some b → j ≡ length l
+at_end [] a b zero n e = refl
+at_end [] a b (suc j) n e = absurd (some-ne-none b (sym e))
+at_end (x ∷ xs) a b zero n e = absurd (n e)
+at_end (x ∷ xs) a b (suc j) n e = ap suc (at_end xs a b j n e)
+
+abbrev All : (ℕ → Seen → Type 0) → List Seen → Type 0
+All F views = (port : ℕ) (v : Seen) → get_elem? views port ≡ some v → F port v
+
+all_set : (F : ℕ → Seen → Type 0) (views : List Seen) (port : ℕ) (w : Seen) → F port w → ((j : ℕ) (u : Seen) → j ≢ port → get_elem? views j ≡ some u → F j u) → All F (set views port w)
+all_set F views port w mine others j u e = ⊎_elim (λ (x : (j ≡ port) × (w ≡ u)). subst (λ (y : ℕ × Seen). F y.0 y.1) (λ i. (sym x.0 i, x.1 i)) mine)
+    (λ (x : (j ≢ port) × (get_elem? views j ≡ some u)). others j u x.0 x.1) (at_set views port j w u e)
+
+-- one frame more in the queue
+more : (world : List Parcels) (n m t : ℕ) (g g' h : Bool) (items : List Frame) (x : Frame)
+    → row world m g' ≡ row world n g ++ plain x ∷ [] → row world n g ≡ row world t h ++ map plain items → row world m g' ≡ row world t h ++ map plain (items ++ x ∷ [])
+more world n m t g g' h items x step rests =
+    step ∙ ap (λ l. l ++ plain x ∷ []) rests ∙ append_assoc (row world t h) (map plain items) (plain x ∷ []) ∙ ap (λ l. row world t h ++ l) (sym (map-append plain items (x ∷ [])))
+
+bool_is : (b : Bool) → (b ≡ true) ⊎ (b ≡ false)
+bool_is true = inl refl
+bool_is false = inr refl
+
+put_fits : (s : State) (port : ℕ) (v : Seen) (views : List Seen) (n : ℕ) (g : Bool) → v.puts ≡ true → get_elem? views port ≡ some v → All (Fits s) views
+    → All (Fits (record s { put = n; gone_put = g })) (set views port (record v { put = n; gone_put = g }))
+put_fits s port v views n g may at all =
+    let mine = all port v at in
+    all_set (Fits (record s { put = n; gone_put = g })) views port (record v { put = n; gone_put = g })
+    ((λ _. ((mine.0 may).0, (mine.0 may).1, refl, refl)), mine.1)
+    (λ j u other e. ((λ p. absurd (other (((all j u e).0 p).0 ∙ sym (mine.0 may).0))), (all j u e).1))
+
+take_fits : (s : State) (port : ℕ) (v : Seen) (views : List Seen) (n : ℕ) (g : Bool) → v.takes ≡ true → get_elem? views port ≡ some v → All (Fits s) views
+    → All (Fits (record s { taken = n; gone_taken = g })) (set views port (record v { taken = n; gone_taken = g }))
+take_fits s port v views n g may at all =
+    let mine = all port v at in
+    all_set (Fits (record s { taken = n; gone_taken = g })) views port (record v { taken = n; gone_taken = g })
+    (mine.0, λ _. ((mine.1 may).0, (mine.1 may).1, refl, refl))
+    (λ j u other e. ((all j u e).0, λ p. absurd (other (((all j u e).1 p).0 ∙ sym (mine.1 may).0))))
+
+-- with nothing put after the last word, and a step of the row, the count is right after a push
+pushed : (s : State) (items : List Frame) (x : Frame) (n m : ℕ) (g g' : Bool) → Counted s items → n ≡ s.put → g ≡ s.gone_put → g ≡ false → n ≤ m → m ≤ length s.world
+    → row s.world m g' ≡ row s.world n g ++ plain x ∷ [] → Counted (record s { put = m; gone_put = g' }) (items ++ x ∷ [])
+pushed s items x n m g g' c is_n is_g not_yet le within step =
+    let open_yet : s.gone_taken ≡ true → ⊥ = λ e. true≢false (sym (c.after e) ∙ sym is_g ∙ not_yet) in
+    let behind = c.behind in record {
+      rests = more s.world n m s.taken g g' s.gone_taken items x step (ap (λ k. row s.world k g) is_n ∙ ap (λ k. row s.world s.put k) is_g ∙ c.rests);
+      within = within;
+      behind = omega arith;
+      last = λ e. absurd (open_yet e);
+      after = λ e. absurd (open_yet e);
+    }
+
+pub puts : (n port : ℕ) (v : Seen) (x : Frame) → v.puts ≡ true → ComesNext v.world v.put v.gone_put (plain x) → Pushes Tied n port v x (PutsNext v x)
+puts n port v (Round number parcels) may next items views room h at =
+    let s = h.0 in let c = h.1 in let mine = (h.2 port v at).0 may in
+    let p = map (λ (w : _). w.items) parcels.items in
+    let there : get_elem? s.world v.put ≡ some p = ap (λ (l : List Parcels). get_elem? l v.put) (sym mine.1) ∙ next.1.1 in
+    let below = some_below s.world v.put p there in
+    let step : row s.world (v.put + 1) v.gone_put ≡ row s.world v.put v.gone_put ++ round number p ∷ [] =
+    subst (λ b. row s.world (v.put + 1) b ≡ row s.world v.put b ++ round number p ∷ []) (sym next.0) (row_step s.world v.put number p next.1.0 there) in (
+      record v { put = v.put + 1 },
+      (
+        record s { put = v.put + 1; gone_put = v.gone_put },
+        pushed s items (Round number parcels) v.put (v.put + 1) v.gone_put v.gone_put c mine.2 mine.3 next.0 (omega arith) (omega arith) step,
+        put_fits s port v views (v.put + 1) v.gone_put may at h.2,
+      ),
+      refl,
+    )
+puts n port v Gone may next items views room h at =
+    let s = h.0 in let c = h.1 in let mine = (h.2 port v at).0 may in
+    let step : row s.world v.put true ≡ row s.world v.put v.gone_put ++ gone ∷ [] = subst (λ b. row s.world v.put true ≡ row s.world v.put b ++ gone ∷ []) (sym next) (row_end s.world v.put) in
+    let within = c.within in let same = mine.2 in (
+      record v { gone_put = true },
+      (
+        record s { put = v.put; gone_put = true },
+        pushed s items Gone v.put v.put v.gone_put true c mine.2 mine.3 next (omega arith) (omega arith) step,
+        put_fits s port v views v.put true may at h.2,
+      ),
+      refl,
+    )
+
+abbrev number_of : Plain → ℕ
+number_of (round n p) = n
+number_of gone = 0
+
+abbrev parcels_of : Plain → Parcels
+parcels_of (round n p) = p
+parcels_of gone = []
+
+abbrev is_round : Plain → Bool
+is_round (round n p) = true
+is_round gone = false
+
+none_in : (x : Frame) (items : List Frame) → x ∷ items ≡ [] → ⊥
+none_in x items e = some-ne-none x (ap (λ (l : List Frame). get_elem? l 0) e)
+
+-- the last word was not taken while something is in the queue
+not_over : (s : State) (x : Frame) (items : List Frame) → Counted s (x ∷ items) → s.gone_taken ≡ false
+not_over s x items c = ⊎_elim (λ e. absurd (none_in x items (c.last e))) (λ e. e) (bool_is s.gone_taken)
+
+turn : (s : State) (x : Frame) (items : List Frame) → Counted s (x ∷ items)
+    → ((p : Parcels) × (get_elem? s.world s.taken ≡ some p) × (plain x ≡ round (s.taken + 1) p) × (s.taken < s.put)) ⊎ ((s.taken ≡ s.put) × (s.gone_put ≡ true) × (plain x ≡ gone) × (map plain items ≡ []))
+turn s x items c = comes s.world s.taken s.put s.gone_put (plain x) (map plain items) c.behind c.within (c.rests ∙ ap (λ b. row s.world s.taken b ++ plain x ∷ map plain items) (not_over s x items c))
+
+nothing_mapped : (items : List Frame) → map plain items ≡ [] → items ≡ []
+nothing_mapped [] e = refl
+nothing_mapped (x ∷ xs) e = absurd (empty_is_not (plain x) (map plain xs) (sym e))
+
+-- the queue's front goes over to what was taken
+shift : (world : List Parcels) (m n t : ℕ) (g g' h : Bool) (x : Frame) (items : List Frame)
+    → row world n g ≡ row world t h ++ map plain (x ∷ items) → row world m g' ≡ row world t h ++ plain x ∷ [] → row world n g ≡ row world m g' ++ map plain items
+shift world m n t g g' h x items rests step = rests ∙ sym (append_assoc (row world t h) (plain x ∷ []) (map plain items)) ∙ ap (λ l. l ++ map plain items) (sym step)
+
+pub takes : (port : ℕ) (v : Seen) → v.takes ≡ true → Pops Tied port v (TakesNext v)
+takes port v may (Round number parcels) items views h at =
+    let s = h.0 in let c = h.1 in let mine = (h.2 port v at).1 may in let over = not_over s (Round number parcels) items c in
+    let p = map (λ (w : _). w.items) parcels.items in
+    let open_yet : v.gone_taken ≡ false = mine.3 ∙ over in
+    let x : Frame = Round number parcels in
+    ⊎_elim
+    (λ (t : (p' : Parcels) × (get_elem? s.world s.taken ≡ some p') × (plain x ≡ round (s.taken + 1) p') × (s.taken < s.put)).
+    let there : get_elem? s.world s.taken ≡ some p = t.1 ∙ ap some (sym (ap parcels_of t.2)) in
+    let nth : number ≡ s.taken + 1 = ap number_of t.2 in
+    let step : row s.world (s.taken + 1) s.gone_taken ≡ row s.world s.taken s.gone_taken ++ plain x ∷ [] =
+    subst (λ b. row s.world (s.taken + 1) b ≡ row s.world s.taken b ++ plain x ∷ []) (sym over) (row_step s.world s.taken number p nth there) in
+    let below = t.3 in let same = mine.2 in
+    let is_m : v.taken + 1 ≡ s.taken + 1 = ap (λ k. k + 1) mine.2 in (
+      record v { taken = v.taken + 1 },
+      (
+        record s { taken = v.taken + 1; gone_taken = v.gone_taken },
+        record {
+          rests = subst (λ (y : ℕ × Bool). row s.world s.put s.gone_put ≡ row s.world y.0 y.1 ++ map plain items) (λ i. (sym is_m i, sym mine.3 i))
+              (shift s.world (s.taken + 1) s.put s.taken s.gone_put s.gone_taken s.gone_taken x items c.rests step);
+          within = c.within;
+          behind = omega arith;
+          last = λ e. absurd (true≢false (sym e ∙ open_yet));
+          after = λ e. absurd (true≢false (sym e ∙ open_yet));
+        },
+        take_fits s port v views (v.taken + 1) v.gone_taken may at h.2,
+      ),
+      ((open_yet, (nth ∙ sym is_m, ap (λ (l : List Parcels). get_elem? l v.taken) mine.1 ∙ ap (λ k. get_elem? s.world k) mine.2 ∙ there)), refl),
+    ))
+    (λ (t : (s.taken ≡ s.put) × (s.gone_put ≡ true) × (plain x ≡ gone) × (map plain items ≡ [])). absurd (true≢false (ap is_round t.2)))
+    (turn s x items c)
+takes port v may Gone items views h at =
+    let s = h.0 in let c = h.1 in let mine = (h.2 port v at).1 may in let over = not_over s Gone items c in
+    let open_yet : v.gone_taken ≡ false = mine.3 ∙ over in
+    ⊎_elim
+    (λ (t : (p' : Parcels) × (get_elem? s.world s.taken ≡ some p') × (plain Gone ≡ round (s.taken + 1) p') × (s.taken < s.put)). absurd (true≢false (sym (ap is_round t.2))))
+    (λ (t : (s.taken ≡ s.put) × (s.gone_put ≡ true) × (plain Gone ≡ gone) × (map plain items ≡ [])).
+    let step : row s.world s.taken true ≡ row s.world s.taken s.gone_taken ++ gone ∷ [] = subst (λ b. row s.world s.taken true ≡ row s.world s.taken b ++ gone ∷ []) (sym over) (row_end s.world s.taken) in
+    let behind = c.behind in let same = mine.2 in (
+      record v { gone_taken = true },
+      (
+        record s { taken = v.taken; gone_taken = true },
+        record {
+          rests = ap (λ (l : List Plain). l) (shift s.world s.taken s.put s.taken s.gone_put true s.gone_taken Gone items c.rests step) ∙ ap (λ k. row s.world k true ++ map plain items) (sym mine.2);
+          within = c.within;
+          behind = omega arith;
+          last = λ _. nothing_mapped items t.3;
+          after = λ _. t.1;
+        },
+        take_fits s port v views v.taken true may at h.2,
+      ),
+      (open_yet, refl),
+    ))
+    (turn s Gone items c)
+
+only : (port : ℕ) (v : Seen) → get_elem? (unopened ∷ []) port ≡ some v → (0 ≡ port) × (unopened ≡ v)
+only zero v e = (refl, some-injective unopened v e)
+only (suc port) v e = absurd (some-ne-none v (sym e))
+
+-- an edge begins with one pass
+pub begins : Tied [] (unopened ∷ [])
+begins = (
+  record { writer = 0; reader = 0; world = []; put = 0; gone_put = false; taken = 0; gone_taken = false },
+  record { rests = refl; within = omega arith; behind = omega arith; last = λ e. absurd (true≢false (sym e)); after = λ e. absurd (true≢false (sym e)) },
+  λ port v e. let h = only port v e in (
+    (λ _. (sym h.0, ap (λ (y : Seen). y.world) (sym h.1), ap (λ (y : Seen). y.put) (sym h.1), ap (λ (y : Seen). y.gone_put) (sym h.1))),
+    λ _. (sym h.0, ap (λ (y : Seen). y.world) (sym h.1), ap (λ (y : Seen). y.taken) (sym h.1), ap (λ (y : Seen). y.gone_taken) (sym h.1)),
+  ),
+)
+
+-- the two ends get the world's frames
+pub opens : (world : List Parcels) (port : ℕ) (v : Seen) → v ≡ unopened → Forks Tied port v (putter world) (taker world)
+opens world port v new items views h at =
+    let s = h.0 in let c = h.1 in
+    let may_put : v.puts ≡ true = ap (λ (y : Seen). y.puts) new in let may_take : v.takes ≡ true = ap (λ (y : Seen). y.takes) new in
+    let w = (h.2 port v at).0 may_put in let r = (h.2 port v at).1 may_take in
+    let none : s.world ≡ [] = sym w.1 ∙ ap (λ (y : Seen). y.world) new in
+    let n₀ : s.put ≡ 0 = sym w.2 ∙ ap (λ (y : Seen). y.put) new in
+    let g₀ : s.gone_put ≡ false = sym w.3 ∙ ap (λ (y : Seen). y.gone_put) new in
+    let t₀ : s.taken ≡ 0 = sym r.2 ∙ ap (λ (y : Seen). y.taken) new in
+    let h₀ : s.gone_taken ≡ false = sym r.3 ∙ ap (λ (y : Seen). y.gone_taken) new in
+    let nothing : [] ≡ map plain items =
+    subst (λ (y : List Parcels × ℕ × Bool × ℕ × Bool). row y.0 y.1 y.2 ≡ row y.0 y.3 y.4 ++ map plain items) (λ i. (none i, n₀ i, g₀ i, t₀ i, h₀ i)) c.rests in
+    let l : Seen = putter world in let k : Seen = taker world in let vs : List Seen = set views port l in
+    let n : State = record { writer = port; reader = length vs; world = world; put = 0; gone_put = false; taken = 0; gone_taken = false } in
+    let Old : ℕ → Seen → Type 0 = λ j u. (u.puts ≡ true → (j ≡ port) × (u.world ≡ world) × (u.put ≡ 0) × (u.gone_put ≡ false)) × (u.takes ≢ true) in
+    let old : All Old vs =
+    all_set Old views port l ((λ _. (refl, refl, refl, refl)), λ p. true≢false (sym p))
+    (λ j u other e. ((λ p. absurd (other (((h.2 j u e).0 p).0 ∙ sym w.0))), λ p. other (((h.2 j u e).1 p).0 ∙ sym r.0))) in (
+      n,
+      record { rests = nothing; within = omega arith; behind = omega arith; last = λ e. absurd (true≢false (sym e)); after = λ e. absurd (true≢false (sym e)) },
+      λ j u e. ⊎_elim (λ x. ((old j u x).0, λ p. absurd ((old j u x).1 p)))
+          (λ (is : k ≡ u). (
+            (λ p. absurd (true≢false (sym (ap (λ (y : Seen). y.puts) is ∙ p)))),
+            λ p. (at_end vs k u j (λ x. (old j u x).1 p) e, ap (λ (y : Seen). y.world) (sym is), ap (λ (y : Seen). y.taken) (sym is), ap (λ (y : Seen). y.gone_taken) (sym is)),
+          ))
+          (at_snoc vs k u j e),
+    )
+
+-- both sides in one pass
+pub joins : (port : ℕ) (v : Seen) (other : ℕ) (u : Seen) → v.puts ≡ true → u.takes ≡ true → Merges Tied port v other u (both_sides v u) spent_side
+joins port v other u a b items views h at two at' =
+    let s = h.0 in let c = h.1 in let mine = h.2 port v at in let both : Seen = both_sides v u in let vs : List Seen = set views port both in
+    let was : get_elem? views other ≡ some u = ⊎_elim (λ x. absurd (two x.0)) (λ x. x.1) (at_set views port other both u at') in
+    let theirs = (h.2 other u was).1 b in let n : State = record s { reader = port } in
+    let Now : ℕ → Seen → Type 0 = λ j y. j ≢ other → Fits n j y in
+    let now : All Now vs =
+    all_set Now views port both (λ _. (mine.0, λ _. (refl, (mine.0 a).1, theirs.2, theirs.3)))
+    (λ j y _ e apart. ((h.2 j y e).0, λ p. absurd (apart (((h.2 j y e).1 p).0 ∙ sym theirs.0)))) in (
+      n,
+      record { rests = c.rests; within = c.within; behind = c.behind; last = c.last; after = c.after },
+      all_set (Fits n) vs other spent_side ((λ p. absurd (true≢false (sym p))), λ p. absurd (true≢false (sym p))) (λ j y apart e. now j y e apart),
+    )
+
+pub settles : (port : ℕ) (v : Seen) → v.puts ≡ true → v.takes ≡ true → Learns Tied port v (Rests v)
+settles port v a b items views h at =
+    let s = h.0 in let w = (h.2 port v at).0 a in let r = (h.2 port v at).1 b in
+    subst (λ (y : List Parcels × ℕ × Bool × ℕ × Bool). row y.0 y.1 y.2 ≡ row y.0 y.3 y.4 ++ map plain items) (λ i. (sym w.1 i, sym w.2 i, sym w.3 i, sym r.2 i, sym r.3 i)) h.1.rests
+
+pub puts_see : (port : ℕ) (v : Seen) → v.puts ≡ true → Learns Tied port v (PutsSee v)
+puts_see port v a items views h at =
+    let s = h.0 in let c = h.1 in let w = (h.2 port v at).0 a in let behind = c.behind in let same = w.2 in (
+      s.taken,
+      s.gone_taken,
+      omega arith,
+      subst (λ (y : List Parcels × ℕ × Bool). row y.0 y.1 y.2 ≡ row y.0 s.taken s.gone_taken ++ map plain items) (λ i. (sym w.1 i, sym w.2 i, sym w.3 i)) c.rests,
+    )
+
+pub takes_see : (port : ℕ) (v : Seen) → v.takes ≡ true → Learns Tied port v (TakesSee v)
+takes_see port v b items views h at =
+    let s = h.0 in let c = h.1 in let r = (h.2 port v at).1 b in let behind = c.behind in let same = r.2 in (
+      s.put,
+      s.gone_put,
+      omega arith,
+      subst (λ (l : List Parcels). s.put ≤ length l) (sym r.1) c.within,
+      subst (λ (y : List Parcels × ℕ × Bool). row y.0 s.put s.gone_put ≡ row y.0 y.1 y.2 ++ map plain items) (λ i. (sym r.1 i, sym r.2 i, sym r.3 i)) c.rests,
+    )

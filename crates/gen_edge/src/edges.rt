@@ -1,0 +1,80 @@
+//! The calls of an edge.
+ghost use Rattle.std.specs.Prelude.{◌≡◌, ◌<◌, ◌++◌, map, IfOk, MatchOption, MatchResult};
+ghost use Rattle.gen_net.specs.Edges.{joins};
+ghost use Rattle.gen_edge.specs.Frames.{carried, row, edge_frames};
+ghost use Rattle.gen_edge.specs.Tied.{ComesNext, TakesNext, after_put, putter, taker};
+ghost use Rattle.gen_edge.specs.Ends.{IsPutPassOf, IsTakePassOf, put_view, take_view, edge_capacity, WasFull, WasEmpty};
+
+use crate::frames::Frame;
+use crate::passes::{Edge, Left, Line, PutPass, TakePass};
+use crate::rule::{Drains, Ends, Naming, Opens, Puts, Settles, Takes};
+use gen_types::GeneralNo;
+use gen_world::Scenario;
+use std::alloc::{AllocError, Global};
+use std::marker::Brand;
+use std::sync::Wait;
+
+impl Edge {
+    /// Returns the edge of a scenario's network from one general to a neighbour, on which nothing was put yet and
+    /// which holds so many frames, at least one; the pass to put on it and the pass to take from it.
+    ///
+    /// # Errors
+    ///
+    /// `AllocError` where memory is refused.
+    pub fn new(
+        alloc: Global,
+        scenario: &Scenario,
+        from: GeneralNo,
+        to: GeneralNo,
+        capacity: usize,
+    ) -> Result<(Edge, PutPass, TakePass), AllocError>
+        requires { 0 < capacity }
+        ensures passes { IfOk result (λ r. IsPutPassOf r.0 r.1 × IsTakePassOf r.0 r.2) }
+        ensures capacity { IfOk result (λ r. edge_capacity r.0 ≡ capacity) }
+        ensures put { IfOk result (λ r. put_view r.1 ≡ putter (edge_frames scenario.now from to)) }
+        ensures taken { IfOk result (λ r. take_view r.2 ≡ taker (edge_frames scenario.now from to)) }
+    {
+        open::<Brand>(alloc, scenario, from, to, capacity)
+    }
+
+    /// Puts the next frame of the run on this edge, or the word that no more comes, which wasn't put yet. It is one
+    /// step on the queue, which may try again, and takes no memory.
+    ///
+    /// # Errors
+    ///
+    /// The frame, only where the queue was full at one moment of the call. Then nothing was put.
+    pub fn try_put<R: Wait>(&self, rt: &R, pass: &mut PutPass, frame: Frame) -> Result<(), Frame>
+        requires pass { IsPutPassOf self.now pass.old }
+        requires next { let v = put_view pass.old in ComesNext v.world v.put v.gone_put (carried frame) }
+        ensures pass { IsPutPassOf self.now pass.new }
+        ensures rule { MatchResult result
+            (λ _. put_view pass.new ≡ after_put (put_view pass.old) (carried frame))
+            (λ x. (x ≡ frame) × (put_view pass.new ≡ put_view pass.old) × WasFull self.now pass.old) }
+    {
+        Err(frame)
+    }
+
+    /// Takes what stands first on this edge: the frame of the run behind the last one taken, or the word that no
+    /// more comes, behind which nothing comes. It is one step on the queue, which may try again, and takes no
+    /// memory. It answers None only where the queue was empty at one moment of the call.
+    pub fn try_take<R: Wait>(&self, rt: &R, pass: &mut TakePass) -> Option<Frame>
+        requires { IsTakePassOf self.now pass.old }
+        ensures pass { IsTakePassOf self.now pass.new }
+        ensures rule { MatchOption result
+            ((take_view pass.new ≡ take_view pass.old) × WasEmpty pass.old)
+            (λ x. TakesNext (take_view pass.old) x (take_view pass.new)) }
+    {
+        None
+    }
+
+    /// Ends an edge, and returns what is left on it: what was taken followed by what is left is what was put. It
+    /// takes no memory.
+    pub fn settle<R: Wait>(self, rt: &R, put: PutPass, take: TakePass) -> Left
+        requires { IsPutPassOf self put × IsTakePassOf self take }
+        ensures { let p = put_view put in let t = take_view take in
+            row p.world p.put p.gone_put
+            ≡ row p.world t.taken t.gone_taken ++ map carried result.frames.items }
+    {
+        unreachable!()
+    }
+}

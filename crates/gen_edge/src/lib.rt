@@ -1,0 +1,14 @@
+//! Directed edges between generals: bounded queues of frames, each with a pass to put and a pass to take.
+//!
+//! What one neighbour puts the other takes, in order and nothing else; and in contracts each frame is the one
+//! of the run, so that threads which share nothing but edges make the run of their scenario
+//! (section 4 of L. Lamport, R. Shostak and M. Pease, "The Byzantine Generals Problem", ACM TOPLAS 4, 1982).
+#![tactic(auto)]
+
+mod edges;
+mod frames;
+mod passes;
+mod rule;
+
+pub use frames::Frame;
+pub use passes::{Edge, Left, PutPass, TakePass};

@@ -1,0 +1,65 @@
+-- The edges of a run, and what the passes of a general may do on them.
+use Rattle.std.specs.Prelude.{ℕ, ◌≡◌, ◌+◌, ◌*◌, ◌<◌, Bool, false, List, Option, Some, None, if◌then◌else◌, nat_lt, ◌&&◌, slice_index_or}
+use Rattle.std.specs.List.{AllZip}
+use Rattle.gen_edge.specs.declared.passes.Edge.{Edge}
+use Rattle.gen_edge.specs.declared.passes.PutPass.{PutPass}
+use Rattle.gen_edge.specs.declared.passes.TakePass.{TakePass}
+use Rattle.gen_edge.specs.Ends.{IsPutPassOf, IsTakePassOf, put_view, take_view}
+use Rattle.gen_edge.specs.Frames.{edge_frames}
+use Rattle.gen_edge.specs.Tied.{put_side, take_side}
+use Rattle.gen_world.specs.Scenario.{Scenario}
+use Rattle.gen_world.specs.SignedWorld.{neighbours_of}
+use Rattle.gen_world.specs.Loops.Worlds.{AllAre}
+use Rattle.gen_threads.specs.declared.edges.Edges.{Edges}
+use Rattle.gen_threads.specs.declared.edges.Passes.{Passes}
+
+-- the edge from a to b, if there is one: the table has a row for each general
+abbrev pub edge_at : Edges → ℕ → ℕ → Option Edge
+edge_at edges a b =
+    if nat_lt b edges.generals
+    then slice_index_or edges.table.items (a * edges.generals + b) None
+    else None
+
+-- the pass is one to put on the edge from a to b, or to take from it
+pub record IsPutOn (edges : Edges) (a b : ℕ) (pass : PutPass) : Type 0 where
+  pub edge : Edge
+  pub there : edge_at edges a b ≡ Some edge
+  pub of_edge : IsPutPassOf edge pass
+
+pub record IsTakeFrom (edges : Edges) (a b : ℕ) (pass : TakePass) : Type 0 where
+  pub edge : Edge
+  pub there : edge_at edges a b ≡ Some edge
+  pub of_edge : IsTakePassOf edge pass
+
+-- and the first n frames of the run were put by it, or taken, and no last word
+pub record HasPut (edges : Edges) (s : Scenario) (n a b : ℕ) (pass : PutPass) : Type 0 where
+  pub on : IsPutOn edges a b pass
+  pub view : put_view pass ≡ put_side (edge_frames s a b) n false
+
+pub record HasTaken (edges : Edges) (s : Scenario) (n a b : ℕ) (pass : TakePass) : Type 0 where
+  pub on : IsTakeFrom edges a b pass
+  pub view : take_view pass ≡ take_side (edge_frames s a b) n false
+
+-- general g takes from h
+abbrev pub IsTakeBy : Edges → ℕ → ℕ → TakePass → Type 0
+IsTakeBy edges g h pass = IsTakeFrom edges h g pass
+
+abbrev pub HasTakenBy : Edges → Scenario → ℕ → ℕ → ℕ → TakePass → Type 0
+HasTakenBy edges s n g h pass = HasTaken edges s n h g pass
+
+-- the passes of a general, one for each neighbour in ascending order
+pub record ArePassesOf (edges : Edges) (s : Scenario) (g : ℕ) (puts : List PutPass) (takes : List TakePass) : Type 0 where
+  pub puts : AllZip (IsPutOn edges g) (neighbours_of s.net g) puts
+  pub takes : AllZip (IsTakeBy edges g) (neighbours_of s.net g) takes
+
+-- and n frames went each way
+pub record HaveCarried (edges : Edges) (s : Scenario) (n g : ℕ) (puts : List PutPass) (takes : List TakePass) : Type 0 where
+  pub puts : AllZip (HasPut edges s n g) (neighbours_of s.net g) puts
+  pub takes : AllZip (HasTakenBy edges s n g) (neighbours_of s.net g) takes
+
+-- all generals have their passes, by which nothing was put or taken yet
+abbrev pub HasNewPasses : Edges → Scenario → ℕ → Passes → Type 0
+HasNewPasses edges s g passes = HaveCarried edges s 0 g passes.puts.items passes.takes.items
+
+abbrev pub AllHavePasses : Edges → Scenario → List Passes → Type 0
+AllHavePasses edges s all = AllAre (HasNewPasses edges s) s.net.generals all

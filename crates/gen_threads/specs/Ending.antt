@@ -1,0 +1,45 @@
+-- How a general ends.
+use Rattle.std.specs.Prelude.{ℕ, ◌≡◌, ◌<◌, ◌⊎◌, List, map, Contains, Option, Some, None, IfOk}
+use Rattle.gen_tree.specs.Rings.{Ring}
+use Rattle.gen_net.specs.Header.{RunHeader}
+use Rattle.gen_net.specs.Network.{rounds}
+use Rattle.gen_chain.specs.Leaves.{leaves_per_run, leaf_of_order}
+use Rattle.gen_log.specs.Writing.{LogBytes}
+use Rattle.gen_world.specs.Known.{known_of}
+use Rattle.gen_world.specs.Recording.{log_bytes}
+use Rattle.gen_world.specs.Scenario.{Scenario, script_of, header_of}
+use Rattle.gen_world.specs.Seat.{MayStart}
+use Rattle.gen_world.specs.SeatLaws.{IsOwnRing}
+use Rattle.gen_world.specs.WorldLogs.{logs_of}
+use Rattle.gen_threads.specs.declared.ends.GeneralEnd.{GeneralEnd}
+use Rattle.gen_threads.specs.declared.edges.Edges.{Edges}
+use Rattle.gen_threads.specs.Edges.{ArePassesOf, HaveCarried}
+
+-- the ring is that of his seed, from which no leaf of the run was taken, or none where he has a script
+abbrev pub MayRunWith : Scenario → ℕ → Option Ring → Type 0
+MayRunWith s g ring = MayStart (known_of s g) ring × IsOwnRing s g (script_of s.scripts g) ring
+
+-- the ring is the same, but that leaves of the run may have been taken from it
+pub record IsSameRing (h : RunHeader) (old new : Ring) : Type 0 where
+  pub seed : new.seed ≡ old.seed
+  pub height : new.height ≡ old.height
+  pub kept : (leaf : ℕ) → Contains old.taken leaf → Contains new.taken leaf
+  pub of_run : (leaf : ℕ) → Contains new.taken leaf
+      → Contains old.taken leaf ⊎ ((n : ℕ) × (n < leaves_per_run) × (leaf ≡ leaf_of_order h n))
+
+abbrev pub RingComesBack : RunHeader → Option Ring → Option Ring → Type 0
+RingComesBack h (Some old) (Some new) = IsSameRing h old new
+RingComesBack h None None = Unit {0}
+RingComesBack h _ _ = ⊥
+
+-- the logs of a general in the scenario's run
+abbrev pub logs_by : Scenario → ℕ → List LogBytes
+logs_by s g = map (log_bytes g) (logs_of s g)
+
+-- His ring and his passes come back, in their order; and where there is no fault the logs are his of the scenario's run, and
+-- each pass has carried the frames of all rounds.
+pub record IsEndOf (edges : Edges) (s : Scenario) (g : ℕ) (ring : Option Ring) (end : GeneralEnd) : Type 0 where
+  pub ring : RingComesBack (header_of s) ring end.ring
+  pub passes : ArePassesOf edges s g end.puts.items end.takes.items
+  pub logs : IfOk end.logs (λ logs. (logs.items ≡ logs_by s g)
+      × HaveCarried edges s (rounds s.net) g end.puts.items end.takes.items)

@@ -1,0 +1,51 @@
+//! How generals and runs end.
+use gen_edge::{PutPass, TakePass};
+use gen_log::SealedLog;
+use gen_tree::KeyRing;
+use thiserror::Error;
+
+/// Why a run has no logs.
+#[derive(Clone, Copy, Debug, PartialEq, Eq, Error)]
+pub enum RunFault {
+    /// Memory was refused.
+    #[error("memory")]
+    Memory,
+    /// A thread could not be started.
+    #[error("a thread could not be started")]
+    Thread,
+    /// A neighbour ended before his last round.
+    #[error("a neighbour ended early")]
+    Gone,
+}
+
+/// What a general gives back when he ends: his logs or why he has none, his ring if he has one, and his passes in
+/// the order of his neighbours.
+pub struct GeneralEnd {
+    /// His log, and a second one behind it where his script says so.
+    pub logs: Result<Vec<SealedLog>, RunFault>,
+    /// His ring. Where it isn't taken out it is closed.
+    pub ring: Option<KeyRing>,
+    /// The passes by which he put.
+    pub puts: Vec<PutPass>,
+    /// The passes by which he took.
+    pub takes: Vec<TakePass>,
+}
+
+/// Closes a ring, if there is one.
+pub(crate) fn close_ring(ring: Option<KeyRing>) {
+    if let Some(ring) = ring {
+        ring.close();
+    }
+}
+
+impl Drop for GeneralEnd {
+    fn drop(self) {
+        let GeneralEnd {
+            logs: _,
+            ring,
+            puts: _,
+            takes: _,
+        } = self;
+        close_ring(ring);
+    }
+}

@@ -1,0 +1,19 @@
+//! Generals in threads: each runs by what he alone knows, over the edges to his neighbours, and their logs are
+//! those of the scenario's run
+//! (section 4 of L. Lamport, R. Shostak and M. Pease, "The Byzantine Generals Problem", ACM TOPLAS 4, 1982).
+#![tactic(auto)]
+
+mod edges;
+mod ends;
+mod gates;
+mod run_parts;
+mod running;
+mod stopping;
+mod together;
+
+pub use edges::{Edges, Passes};
+pub use ends::{GeneralEnd, RunFault};
+pub use gates::Gate;
+pub use run_parts::RunPart;
+pub use running::run_general;
+pub use together::run_threads;

@@ -1,0 +1,54 @@
+//! What the thread of a general is given of a scenario.
+ghost use Rattle.std.specs.Prelude.{◌≡◌, ◌<◌, IfOk};
+ghost use Rattle.gen_world.specs.Known.{known_of};
+ghost use Rattle.gen_threads.specs.Parts.{IsPartOfRun};
+
+use gen_types::GeneralNo;
+use gen_world::{Part, Scenario};
+use std::alloc::{AllocError, Global};
+use std::marker::Model;
+use std::snapshot::Snapshot;
+
+/// What a general alone knows of a run. In contracts, and there alone, it names its scenario: nothing of another
+/// general's order or of anybody's seed is in it, but that those who have scripts know each other's keys.
+#[derive(Drop)]
+pub struct RunPart {
+    part: Part,
+    scenario: Snapshot<Scenario>,
+}
+
+impl Model for RunPart {
+    ghost use Rattle.gen_threads.specs.Parts.{PartOfRun, IsPartOfRun};
+
+    ghost Value = { PartOfRun };
+
+    ghost view = { λ p. record { scenario = p.scenario.value; me = p.part.me } };
+
+    ghost invariant = { λ p. IsPartOfRun p.scenario.value p.part };
+}
+
+impl RunPart {
+    /// Returns the part of a general of the scenario's network.
+    ///
+    /// # Errors
+    ///
+    /// `AllocError` where memory is refused.
+    pub fn of(alloc: Global, scenario: &Scenario, general: GeneralNo) -> Result<RunPart, AllocError>
+        requires { general < scenario.now.net.generals }
+        ensures { IfOk result (λ part. part ≡ record { scenario = scenario.now; me = general }) }
+    {
+        let part = scenario.part(alloc, general)?;
+        Ok(RunPart {
+            part,
+            scenario: Snapshot::of(scenario),
+        })
+    }
+
+    /// Returns what he knows.
+    pub fn part(&self) -> &Part
+        ensures value { result.now ≡ known_of self.now.scenario self.now.me }
+        ensures lawful { IsPartOfRun self.now.scenario result.now }
+    {
+        &self.part
+    }
+}

@@ -1,0 +1,1 @@
+//! How a general who can't go on ends his edges.
