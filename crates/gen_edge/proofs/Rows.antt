@@ -3,12 +3,12 @@ use Rattle.std.proofs.Common.{◌≡◌, ℕ, zero, suc, ◌+◌, ◌-◌, ◌<�
 use Rattle.std.proofs.lemmas.List.{append-nil, append_cancel_left}
 use mathlib.Core.Option.{some, some-injective, some-ne-none}
 use lib.ListN.{get_elem?}
-use Rattle.edge.specs.Frames.{Parcels, Plain, round, gone, numbered, ending, row}
+use Rattle.gen_edge.specs.Frames.{Parcels, Carried, round, gone, numbered, ending, row}
 
-head_is : (x y : Plain) (xs ys : List Plain) → x ∷ xs ≡ y ∷ ys → x ≡ y
+head_is : (x y : Carried) (xs ys : List Carried) → x ∷ xs ≡ y ∷ ys → x ≡ y
 head_is x y xs ys e = some-injective x y (ap (λ l. get_elem? l 0) e)
 
-pub empty_is_not : (x : Plain) (xs : List Plain) → [] ≡ x ∷ xs → ⊥
+pub empty_is_not : (x : Carried) (xs : List Carried) → [] ≡ x ∷ xs → ⊥
 empty_is_not x xs e = some-ne-none x (sym (ap (λ l. get_elem? l 0) e))
 
 pub some_below : (world : List Parcels) (n : ℕ) (p : Parcels) → get_elem? world n ≡ some p → n < length world
@@ -34,15 +34,15 @@ pub row_end : (world : List Parcels) (n : ℕ) → row world n true ≡ row worl
 row_end world n = ap (λ l. l ++ gone ∷ []) (sym (append-nil (numbered 0 (take n world))))
 
 -- what comes after the first t frames of a row of n frames, in a world whose first number is k + 1
-abbrev Turn : ℕ → List Parcels → ℕ → ℕ → Bool → Plain → List Plain → Type 0
+abbrev Turn : ℕ → List Parcels → ℕ → ℕ → Bool → Carried → List Carried → Type 0
 Turn k world t n ended x rest =
     ((p : Parcels) × (get_elem? world t ≡ some p) × (x ≡ round (k + t + 1) p) × (t < n)) ⊎ ((t ≡ n) × (ended ≡ true) × (x ≡ gone) × (rest ≡ []))
 
-at_end : (ended : Bool) (x : Plain) (rest : List Plain) → ending ended ≡ x ∷ rest → (ended ≡ true) × (x ≡ gone) × (rest ≡ [])
+at_end : (ended : Bool) (x : Carried) (rest : List Carried) → ending ended ≡ x ∷ rest → (ended ≡ true) × (x ≡ gone) × (rest ≡ [])
 at_end true x rest e = (refl, sym (head_is gone x [] rest e), ap (drop 1) (sym e))
 at_end false x rest e = absurd (empty_is_not x rest e)
 
-turn : (k : ℕ) (world : List Parcels) (t n : ℕ) (ended : Bool) (x : Plain) (rest : List Plain) → t ≤ n → n ≤ length world
+turn : (k : ℕ) (world : List Parcels) (t n : ℕ) (ended : Bool) (x : Carried) (rest : List Carried) → t ≤ n → n ≤ length world
     → numbered k (take n world) ++ ending ended ≡ numbered k (take t world) ++ x ∷ rest → Turn k world t n ended x rest
 turn k world zero zero ended x rest a b e = let h = at_end ended x rest e in inr (refl, h.0, h.1, h.2)
 turn k [] zero (suc n) ended x rest a b e = absurd (omega arith)
@@ -56,7 +56,7 @@ turn k (y ∷ ys) (suc t) (suc n) ended x rest a b e =
     (turn (k + 1) ys t n ended x rest (omega arith) (omega arith) (ap (drop 1) e))
 
 -- what comes next in a row
-pub comes : (world : List Parcels) (t n : ℕ) (ended : Bool) (x : Plain) (rest : List Plain) → t ≤ n → n ≤ length world → row world n ended ≡ row world t false ++ x ∷ rest
+pub comes : (world : List Parcels) (t n : ℕ) (ended : Bool) (x : Carried) (rest : List Carried) → t ≤ n → n ≤ length world → row world n ended ≡ row world t false ++ x ∷ rest
     → ((p : Parcels) × (get_elem? world t ≡ some p) × (x ≡ round (t + 1) p) × (t < n)) ⊎ ((t ≡ n) × (ended ≡ true) × (x ≡ gone) × (rest ≡ []))
 comes world t n ended x rest a b e =
     let q : 0 + t + 1 ≡ t + 1 = omega arith in

@@ -2,12 +2,12 @@
 use Rattle.std.proofs.Common.{◌≡◌, ℕ, zero, suc, ◌+◌, ◌<◌, ◌≤◌, Bool, true, false, List, [], ◌∷◌, ◌++◌, length, map, sym, refl, ap, ◌∙◌, subst, append_assoc, arith, length-append}
 use Rattle.std.proofs.lemmas.List.{append-nil, map-append, length-map}
 use Rattle.crossbeam_queue.specs.Fifo.{Held}
-use Rattle.edge.specs.declared.frame.Frame.{Frame}
-use Rattle.edge.specs.declared.frame.Frame.TheVariants.{Round, Gone}
-use Rattle.edge.specs.declared.rule.Seen.{Seen}
-use Rattle.edge.specs.Frames.{Parcels, Plain, round, gone, plain, row}
-use Rattle.edge.specs.Tied.{ComesNext, TakesNext, Rests}
-use Rattle.edge.proofs.Rows.{row_step, row_end}
+use Rattle.gen_edge.specs.declared.frames.Frame.{Frame}
+use Rattle.gen_edge.specs.declared.frames.Frame.TheVariants.{Round, Gone}
+use Rattle.gen_edge.specs.declared.rule.Seen.{Seen}
+use Rattle.gen_edge.specs.Frames.{Parcels, Carried, round, gone, carried, row}
+use Rattle.gen_edge.specs.Tied.{ComesNext, TakesNext, Rests}
+use Rattle.gen_edge.proofs.Rows.{row_step, row_end}
 
 -- a view with both sides, some frames after another
 pub record Drained (v w : Seen) (frames : List Frame) : Type 0 where
@@ -16,14 +16,14 @@ pub record Drained (v w : Seen) (frames : List Frame) : Type 0 where
   pub world : w.world ≡ v.world
   pub put : w.put ≡ v.put
   pub gone_put : w.gone_put ≡ v.gone_put
-  pub taken : row v.world w.taken w.gone_taken ≡ row v.world v.taken v.gone_taken ++ map plain frames
+  pub taken : row v.world w.taken w.gone_taken ≡ row v.world v.taken v.gone_taken ++ map carried frames
 
 pub drained_none : (v : Seen) → v.puts ≡ true → v.takes ≡ true → Drained v v []
 drained_none v a b = record { puts = a; takes = b; world = refl; put = refl; gone_put = refl; taken = sym (append-nil (row v.world v.taken v.gone_taken)) }
 
-taken_row : (v : Seen) (x : Frame) (w : Seen) → TakesNext v x w → row v.world w.taken w.gone_taken ≡ row v.world v.taken v.gone_taken ++ plain x ∷ []
+taken_row : (v : Seen) (x : Frame) (w : Seen) → TakesNext v x w → row v.world w.taken w.gone_taken ≡ row v.world v.taken v.gone_taken ++ carried x ∷ []
 taken_row v (Round number parcels) w t =
-    let p = map (λ (y : _). y.items) parcels.items in
+    let p = parcels.items in
     ap (λ (y : Seen). row v.world y.taken y.gone_taken) t.1
     ∙ subst (λ b. row v.world (v.taken + 1) b ≡ row v.world v.taken b ++ round number p ∷ []) (sym t.0.0) (row_step v.world v.taken number p t.0.1.0 t.0.1.1)
 taken_row v Gone w t =
@@ -40,30 +40,30 @@ drained_more v w u frames x d t = record {
   world = kept (λ y. y.world) w x u t (λ _ _. refl) ∙ d.world;
   put = kept (λ y. y.put) w x u t (λ _ _. refl) ∙ d.put;
   gone_put = kept (λ y. y.gone_put) w x u t (λ _ _. refl) ∙ d.gone_put;
-  taken = subst (λ (l : List Parcels). row l u.taken u.gone_taken ≡ row l w.taken w.gone_taken ++ plain x ∷ []) d.world (taken_row w x u t) ∙ ap (λ l. l ++ plain x ∷ []) d.taken
-      ∙ append_assoc (row v.world v.taken v.gone_taken) (map plain frames) (plain x ∷ []) ∙ ap (λ l. row v.world v.taken v.gone_taken ++ l) (sym (map-append plain frames (x ∷ [])));
+  taken = subst (λ (l : List Parcels). row l u.taken u.gone_taken ≡ row l w.taken w.gone_taken ++ carried x ∷ []) d.world (taken_row w x u t) ∙ ap (λ l. l ++ carried x ∷ []) d.taken
+      ∙ append_assoc (row v.world v.taken v.gone_taken) (map carried frames) (carried x ∷ []) ∙ ap (λ l. row v.world v.taken v.gone_taken ++ l) (sym (map-append carried frames (x ∷ [])));
 }
 
-rests_of : (v w : Seen) (frames items : List Frame) → Drained v w frames → Rests w items → row v.world v.put v.gone_put ≡ row v.world v.taken v.gone_taken ++ map plain frames ++ map plain items
+rests_of : (v w : Seen) (frames items : List Frame) → Drained v w frames → Rests w items → row v.world v.put v.gone_put ≡ row v.world v.taken v.gone_taken ++ map carried frames ++ map carried items
 rests_of v w frames items d r =
-    subst (λ (y : List Parcels × ℕ × Bool). row y.0 y.1 y.2 ≡ row y.0 w.taken w.gone_taken ++ map plain items) (λ i. (d.world i, d.put i, d.gone_put i)) r ∙ ap (λ l. l ++ map plain items) d.taken
+    subst (λ (y : List Parcels × ℕ × Bool). row y.0 y.1 y.2 ≡ row y.0 w.taken w.gone_taken ++ map carried items) (λ i. (d.world i, d.put i, d.gone_put i)) r ∙ ap (λ l. l ++ map carried items) d.taken
 
 no_items : (items : List Frame) → length items ≡ 0 → items ≡ []
 no_items [] e = refl
 no_items (x ∷ xs) e = absurd (omega arith)
 
 -- the queue was seen empty
-pub drained_empty : (v w : Seen) (frames : List Frame) → Drained v w frames → Held 0 (Rests w) → row v.world v.put v.gone_put ≡ row v.world v.taken v.gone_taken ++ map plain frames
+pub drained_empty : (v w : Seen) (frames : List Frame) → Drained v w frames → Held 0 (Rests w) → row v.world v.put v.gone_put ≡ row v.world v.taken v.gone_taken ++ map carried frames
 drained_empty v w frames d (items, none, r) =
-    rests_of v w frames items d r ∙ ap (λ l. row v.world v.taken v.gone_taken ++ map plain frames ++ map plain l) (no_items items none) ∙ append-nil (row v.world v.taken v.gone_taken ++ map plain frames)
+    rests_of v w frames items d r ∙ ap (λ l. row v.world v.taken v.gone_taken ++ map carried frames ++ map carried l) (no_items items none) ∙ append-nil (row v.world v.taken v.gone_taken ++ map carried frames)
 
 -- as many frames came as the queue held
-pub drained_all : (v w : Seen) (frames : List Frame) (n : ℕ) → Drained v w frames → Held n (Rests v) → length frames ≡ n → (items : List Frame) × Rests w items → row v.world v.put v.gone_put ≡ row v.world v.taken v.gone_taken ++ map plain frames
+pub drained_all : (v w : Seen) (frames : List Frame) (n : ℕ) → Drained v w frames → Held n (Rests v) → length frames ≡ n → (items : List Frame) × Rests w items → row v.world v.put v.gone_put ≡ row v.world v.taken v.gone_taken ++ map carried frames
 drained_all v w frames n d (items, held, r) many (items', r') =
     let all = rests_of v w frames items' d r' in
     let base = row v.world v.taken v.gone_taken in
-    let one = ap length r ∙ length-append base (map plain items) in
-    let two = ap length all ∙ length-append (base ++ map plain frames) (map plain items') in
-    let three = length-append base (map plain frames) in
-    let la = length-map items plain in let lb = length-map frames plain in let lc = length-map items' plain in
+    let one = ap length r ∙ length-append base (map carried items) in
+    let two = ap length all ∙ length-append (base ++ map carried frames) (map carried items') in
+    let three = length-append base (map carried frames) in
+    let la = length-map items carried in let lb = length-map frames carried in let lc = length-map items' carried in
     drained_empty v w frames d (items', omega arith, r')

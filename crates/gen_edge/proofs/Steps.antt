@@ -5,12 +5,12 @@ use mathlib.Core.Option.{some, some-injective, some-ne-none}
 use lib.ListN.{get_elem?}
 use Rattle.crossbeam_queue.specs.Fifo.{Pushes, Pops, Forks, Merges, Learns}
 use Rattle.crossbeam_queue.proofs.Lists.{at_set, at_snoc}
-use Rattle.edge.specs.declared.frame.Frame.{Frame}
-use Rattle.edge.specs.declared.frame.Frame.TheVariants.{Round, Gone}
-use Rattle.edge.specs.declared.rule.Seen.{Seen}
-use Rattle.edge.specs.Frames.{Parcels, Plain, round, gone, plain, row}
-use Rattle.edge.specs.Tied.{Tied, State, Counted, Fits, ComesNext, IsFrame, PutsNext, TakesNext, after_put, after_take, unopened, putter, taker, both_sides, spent_side, Rests, PutsSee, TakesSee}
-use Rattle.edge.proofs.Rows.{row_step, row_end, comes, some_below, empty_is_not}
+use Rattle.gen_edge.specs.declared.frames.Frame.{Frame}
+use Rattle.gen_edge.specs.declared.frames.Frame.TheVariants.{Round, Gone}
+use Rattle.gen_edge.specs.declared.rule.Seen.{Seen}
+use Rattle.gen_edge.specs.Frames.{Parcels, Carried, round, gone, carried, row}
+use Rattle.gen_edge.specs.Tied.{Tied, State, Counted, Fits, ComesNext, IsFrame, PutsNext, TakesNext, after_put, after_take, unopened, putter, taker, both_sides, spent_side, Rests, PutsSee, TakesSee}
+use Rattle.gen_edge.proofs.Rows.{row_step, row_end, comes, some_below, empty_is_not}
 
 at_end : (l : List Seen) (a b : Seen) (j : ℕ) → get_elem? l j ≢ some b → get_elem? (l ++ a ∷ []) j ≡ some b → j ≡ length l
 at_end [] a b zero n e = refl
@@ -27,9 +27,9 @@ all_set F views port w mine others j u e = ⊎_elim (λ (x : (j ≡ port) × (w 
 
 -- one frame more in the queue
 more : (world : List Parcels) (n m t : ℕ) (g g' h : Bool) (items : List Frame) (x : Frame)
-    → row world m g' ≡ row world n g ++ plain x ∷ [] → row world n g ≡ row world t h ++ map plain items → row world m g' ≡ row world t h ++ map plain (items ++ x ∷ [])
+    → row world m g' ≡ row world n g ++ carried x ∷ [] → row world n g ≡ row world t h ++ map carried items → row world m g' ≡ row world t h ++ map carried (items ++ x ∷ [])
 more world n m t g g' h items x step rests =
-    step ∙ ap (λ l. l ++ plain x ∷ []) rests ∙ append_assoc (row world t h) (map plain items) (plain x ∷ []) ∙ ap (λ l. row world t h ++ l) (sym (map-append plain items (x ∷ [])))
+    step ∙ ap (λ l. l ++ carried x ∷ []) rests ∙ append_assoc (row world t h) (map carried items) (carried x ∷ []) ∙ ap (λ l. row world t h ++ l) (sym (map-append carried items (x ∷ [])))
 
 bool_is : (b : Bool) → (b ≡ true) ⊎ (b ≡ false)
 bool_is true = inl refl
@@ -53,7 +53,7 @@ take_fits s port v views n g may at all =
 
 -- with nothing put after the last word, and a step of the row, the count is right after a push
 pushed : (s : State) (items : List Frame) (x : Frame) (n m : ℕ) (g g' : Bool) → Counted s items → n ≡ s.put → g ≡ s.gone_put → g ≡ false → n ≤ m → m ≤ length s.world
-    → row s.world m g' ≡ row s.world n g ++ plain x ∷ [] → Counted (record s { put = m; gone_put = g' }) (items ++ x ∷ [])
+    → row s.world m g' ≡ row s.world n g ++ carried x ∷ [] → Counted (record s { put = m; gone_put = g' }) (items ++ x ∷ [])
 pushed s items x n m g g' c is_n is_g not_yet le within step =
     let open_yet : s.gone_taken ≡ true → ⊥ = λ e. true≢false (sym (c.after e) ∙ sym is_g ∙ not_yet) in
     let behind = c.behind in record {
@@ -64,10 +64,10 @@ pushed s items x n m g g' c is_n is_g not_yet le within step =
       after = λ e. absurd (open_yet e);
     }
 
-pub puts : (n port : ℕ) (v : Seen) (x : Frame) → v.puts ≡ true → ComesNext v.world v.put v.gone_put (plain x) → Pushes Tied n port v x (PutsNext v x)
+pub puts : (n port : ℕ) (v : Seen) (x : Frame) → v.puts ≡ true → ComesNext v.world v.put v.gone_put (carried x) → Pushes Tied n port v x (PutsNext v x)
 puts n port v (Round number parcels) may next items views room h at =
     let s = h.0 in let c = h.1 in let mine = (h.2 port v at).0 may in
-    let p = map (λ (w : _). w.items) parcels.items in
+    let p = parcels.items in
     let there : get_elem? s.world v.put ≡ some p = ap (λ (l : List Parcels). get_elem? l v.put) (sym mine.1) ∙ next.1.1 in
     let below = some_below s.world v.put p there in
     let step : row s.world (v.put + 1) v.gone_put ≡ row s.world v.put v.gone_put ++ round number p ∷ [] =
@@ -93,15 +93,15 @@ puts n port v Gone may next items views room h at =
       refl,
     )
 
-abbrev number_of : Plain → ℕ
+abbrev number_of : Carried → ℕ
 number_of (round n p) = n
 number_of gone = 0
 
-abbrev parcels_of : Plain → Parcels
+abbrev parcels_of : Carried → Parcels
 parcels_of (round n p) = p
 parcels_of gone = []
 
-abbrev is_round : Plain → Bool
+abbrev is_round : Carried → Bool
 is_round (round n p) = true
 is_round gone = false
 
@@ -113,37 +113,37 @@ not_over : (s : State) (x : Frame) (items : List Frame) → Counted s (x ∷ ite
 not_over s x items c = ⊎_elim (λ e. absurd (none_in x items (c.last e))) (λ e. e) (bool_is s.gone_taken)
 
 turn : (s : State) (x : Frame) (items : List Frame) → Counted s (x ∷ items)
-    → ((p : Parcels) × (get_elem? s.world s.taken ≡ some p) × (plain x ≡ round (s.taken + 1) p) × (s.taken < s.put)) ⊎ ((s.taken ≡ s.put) × (s.gone_put ≡ true) × (plain x ≡ gone) × (map plain items ≡ []))
-turn s x items c = comes s.world s.taken s.put s.gone_put (plain x) (map plain items) c.behind c.within (c.rests ∙ ap (λ b. row s.world s.taken b ++ plain x ∷ map plain items) (not_over s x items c))
+    → ((p : Parcels) × (get_elem? s.world s.taken ≡ some p) × (carried x ≡ round (s.taken + 1) p) × (s.taken < s.put)) ⊎ ((s.taken ≡ s.put) × (s.gone_put ≡ true) × (carried x ≡ gone) × (map carried items ≡ []))
+turn s x items c = comes s.world s.taken s.put s.gone_put (carried x) (map carried items) c.behind c.within (c.rests ∙ ap (λ b. row s.world s.taken b ++ carried x ∷ map carried items) (not_over s x items c))
 
-nothing_mapped : (items : List Frame) → map plain items ≡ [] → items ≡ []
+nothing_mapped : (items : List Frame) → map carried items ≡ [] → items ≡ []
 nothing_mapped [] e = refl
-nothing_mapped (x ∷ xs) e = absurd (empty_is_not (plain x) (map plain xs) (sym e))
+nothing_mapped (x ∷ xs) e = absurd (empty_is_not (carried x) (map carried xs) (sym e))
 
 -- the queue's front goes over to what was taken
 shift : (world : List Parcels) (m n t : ℕ) (g g' h : Bool) (x : Frame) (items : List Frame)
-    → row world n g ≡ row world t h ++ map plain (x ∷ items) → row world m g' ≡ row world t h ++ plain x ∷ [] → row world n g ≡ row world m g' ++ map plain items
-shift world m n t g g' h x items rests step = rests ∙ sym (append_assoc (row world t h) (plain x ∷ []) (map plain items)) ∙ ap (λ l. l ++ map plain items) (sym step)
+    → row world n g ≡ row world t h ++ map carried (x ∷ items) → row world m g' ≡ row world t h ++ carried x ∷ [] → row world n g ≡ row world m g' ++ map carried items
+shift world m n t g g' h x items rests step = rests ∙ sym (append_assoc (row world t h) (carried x ∷ []) (map carried items)) ∙ ap (λ l. l ++ map carried items) (sym step)
 
 pub takes : (port : ℕ) (v : Seen) → v.takes ≡ true → Pops Tied port v (TakesNext v)
 takes port v may (Round number parcels) items views h at =
     let s = h.0 in let c = h.1 in let mine = (h.2 port v at).1 may in let over = not_over s (Round number parcels) items c in
-    let p = map (λ (w : _). w.items) parcels.items in
+    let p = parcels.items in
     let open_yet : v.gone_taken ≡ false = mine.3 ∙ over in
     let x : Frame = Round number parcels in
     ⊎_elim
-    (λ (t : (p' : Parcels) × (get_elem? s.world s.taken ≡ some p') × (plain x ≡ round (s.taken + 1) p') × (s.taken < s.put)).
+    (λ (t : (p' : Parcels) × (get_elem? s.world s.taken ≡ some p') × (carried x ≡ round (s.taken + 1) p') × (s.taken < s.put)).
     let there : get_elem? s.world s.taken ≡ some p = t.1 ∙ ap some (sym (ap parcels_of t.2)) in
     let nth : number ≡ s.taken + 1 = ap number_of t.2 in
-    let step : row s.world (s.taken + 1) s.gone_taken ≡ row s.world s.taken s.gone_taken ++ plain x ∷ [] =
-    subst (λ b. row s.world (s.taken + 1) b ≡ row s.world s.taken b ++ plain x ∷ []) (sym over) (row_step s.world s.taken number p nth there) in
+    let step : row s.world (s.taken + 1) s.gone_taken ≡ row s.world s.taken s.gone_taken ++ carried x ∷ [] =
+    subst (λ b. row s.world (s.taken + 1) b ≡ row s.world s.taken b ++ carried x ∷ []) (sym over) (row_step s.world s.taken number p nth there) in
     let below = t.3 in let same = mine.2 in
     let is_m : v.taken + 1 ≡ s.taken + 1 = ap (λ k. k + 1) mine.2 in (
       record v { taken = v.taken + 1 },
       (
         record s { taken = v.taken + 1; gone_taken = v.gone_taken },
         record {
-          rests = subst (λ (y : ℕ × Bool). row s.world s.put s.gone_put ≡ row s.world y.0 y.1 ++ map plain items) (λ i. (sym is_m i, sym mine.3 i))
+          rests = subst (λ (y : ℕ × Bool). row s.world s.put s.gone_put ≡ row s.world y.0 y.1 ++ map carried items) (λ i. (sym is_m i, sym mine.3 i))
               (shift s.world (s.taken + 1) s.put s.taken s.gone_put s.gone_taken s.gone_taken x items c.rests step);
           within = c.within;
           behind = omega arith;
@@ -154,21 +154,21 @@ takes port v may (Round number parcels) items views h at =
       ),
       ((open_yet, (nth ∙ sym is_m, ap (λ (l : List Parcels). get_elem? l v.taken) mine.1 ∙ ap (λ k. get_elem? s.world k) mine.2 ∙ there)), refl),
     ))
-    (λ (t : (s.taken ≡ s.put) × (s.gone_put ≡ true) × (plain x ≡ gone) × (map plain items ≡ [])). absurd (true≢false (ap is_round t.2)))
+    (λ (t : (s.taken ≡ s.put) × (s.gone_put ≡ true) × (carried x ≡ gone) × (map carried items ≡ [])). absurd (true≢false (ap is_round t.2)))
     (turn s x items c)
 takes port v may Gone items views h at =
     let s = h.0 in let c = h.1 in let mine = (h.2 port v at).1 may in let over = not_over s Gone items c in
     let open_yet : v.gone_taken ≡ false = mine.3 ∙ over in
     ⊎_elim
-    (λ (t : (p' : Parcels) × (get_elem? s.world s.taken ≡ some p') × (plain Gone ≡ round (s.taken + 1) p') × (s.taken < s.put)). absurd (true≢false (sym (ap is_round t.2))))
-    (λ (t : (s.taken ≡ s.put) × (s.gone_put ≡ true) × (plain Gone ≡ gone) × (map plain items ≡ [])).
+    (λ (t : (p' : Parcels) × (get_elem? s.world s.taken ≡ some p') × (carried Gone ≡ round (s.taken + 1) p') × (s.taken < s.put)). absurd (true≢false (sym (ap is_round t.2))))
+    (λ (t : (s.taken ≡ s.put) × (s.gone_put ≡ true) × (carried Gone ≡ gone) × (map carried items ≡ [])).
     let step : row s.world s.taken true ≡ row s.world s.taken s.gone_taken ++ gone ∷ [] = subst (λ b. row s.world s.taken true ≡ row s.world s.taken b ++ gone ∷ []) (sym over) (row_end s.world s.taken) in
     let behind = c.behind in let same = mine.2 in (
       record v { gone_taken = true },
       (
         record s { taken = v.taken; gone_taken = true },
         record {
-          rests = ap (λ (l : List Plain). l) (shift s.world s.taken s.put s.taken s.gone_put true s.gone_taken Gone items c.rests step) ∙ ap (λ k. row s.world k true ++ map plain items) (sym mine.2);
+          rests = ap (λ (l : List Carried). l) (shift s.world s.taken s.put s.taken s.gone_put true s.gone_taken Gone items c.rests step) ∙ ap (λ k. row s.world k true ++ map carried items) (sym mine.2);
           within = c.within;
           behind = omega arith;
           last = λ _. nothing_mapped items t.3;
@@ -206,8 +206,8 @@ opens world port v new items views h at =
     let g₀ : s.gone_put ≡ false = sym w.3 ∙ ap (λ (y : Seen). y.gone_put) new in
     let t₀ : s.taken ≡ 0 = sym r.2 ∙ ap (λ (y : Seen). y.taken) new in
     let h₀ : s.gone_taken ≡ false = sym r.3 ∙ ap (λ (y : Seen). y.gone_taken) new in
-    let nothing : [] ≡ map plain items =
-    subst (λ (y : List Parcels × ℕ × Bool × ℕ × Bool). row y.0 y.1 y.2 ≡ row y.0 y.3 y.4 ++ map plain items) (λ i. (none i, n₀ i, g₀ i, t₀ i, h₀ i)) c.rests in
+    let nothing : [] ≡ map carried items =
+    subst (λ (y : List Parcels × ℕ × Bool × ℕ × Bool). row y.0 y.1 y.2 ≡ row y.0 y.3 y.4 ++ map carried items) (λ i. (none i, n₀ i, g₀ i, t₀ i, h₀ i)) c.rests in
     let l : Seen = putter world in let k : Seen = taker world in let vs : List Seen = set views port l in
     let n : State = record { writer = port; reader = length vs; world = world; put = 0; gone_put = false; taken = 0; gone_taken = false } in
     let Old : ℕ → Seen → Type 0 = λ j u. (u.puts ≡ true → (j ≡ port) × (u.world ≡ world) × (u.put ≡ 0) × (u.gone_put ≡ false)) × (u.takes ≢ true) in
@@ -242,7 +242,7 @@ joins port v other u a b items views h at two at' =
 pub settles : (port : ℕ) (v : Seen) → v.puts ≡ true → v.takes ≡ true → Learns Tied port v (Rests v)
 settles port v a b items views h at =
     let s = h.0 in let w = (h.2 port v at).0 a in let r = (h.2 port v at).1 b in
-    subst (λ (y : List Parcels × ℕ × Bool × ℕ × Bool). row y.0 y.1 y.2 ≡ row y.0 y.3 y.4 ++ map plain items) (λ i. (sym w.1 i, sym w.2 i, sym w.3 i, sym r.2 i, sym r.3 i)) h.1.rests
+    subst (λ (y : List Parcels × ℕ × Bool × ℕ × Bool). row y.0 y.1 y.2 ≡ row y.0 y.3 y.4 ++ map carried items) (λ i. (sym w.1 i, sym w.2 i, sym w.3 i, sym r.2 i, sym r.3 i)) h.1.rests
 
 pub puts_see : (port : ℕ) (v : Seen) → v.puts ≡ true → Learns Tied port v (PutsSee v)
 puts_see port v a items views h at =
@@ -250,7 +250,7 @@ puts_see port v a items views h at =
       s.taken,
       s.gone_taken,
       omega arith,
-      subst (λ (y : List Parcels × ℕ × Bool). row y.0 y.1 y.2 ≡ row y.0 s.taken s.gone_taken ++ map plain items) (λ i. (sym w.1 i, sym w.2 i, sym w.3 i)) c.rests,
+      subst (λ (y : List Parcels × ℕ × Bool). row y.0 y.1 y.2 ≡ row y.0 s.taken s.gone_taken ++ map carried items) (λ i. (sym w.1 i, sym w.2 i, sym w.3 i)) c.rests,
     )
 
 pub takes_see : (port : ℕ) (v : Seen) → v.takes ≡ true → Learns Tied port v (TakesSee v)
@@ -260,5 +260,5 @@ takes_see port v b items views h at =
       s.gone_put,
       omega arith,
       subst (λ (l : List Parcels). s.put ≤ length l) (sym r.1) c.within,
-      subst (λ (y : List Parcels × ℕ × Bool). row y.0 s.put s.gone_put ≡ row y.0 y.1 y.2 ++ map plain items) (λ i. (sym r.1 i, sym r.2 i, sym r.3 i)) c.rests,
+      subst (λ (y : List Parcels × ℕ × Bool). row y.0 s.put s.gone_put ≡ row y.0 y.1 y.2 ++ map carried items) (λ i. (sym r.1 i, sym r.2 i, sym r.3 i)) c.rests,
     )

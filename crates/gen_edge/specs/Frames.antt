@@ -1,5 +1,5 @@
 -- The frames of a run that go over an edge, and what an edge has carried of them.
-use Rattle.std.specs.Prelude.{ℕ, ◌+◌, Bool, true, false, List, [], ◌∷◌, ◌++◌, map, take}
+use Rattle.std.specs.Prelude.{ℕ, ◌+◌, Bool, true, false, List, [], ◌∷◌, ◌++◌, map, take, Option, Some, None}
 use Rattle.std.specs.List.{range_with_len}
 use Rattle.gen_net.specs.Network.{rounds}
 use Rattle.gen_world.specs.Scenario.{Scenario}
@@ -19,6 +19,11 @@ pub data Carried : Type 0 where
 abbrev pub carried : Frame → Carried
 carried (frames.Round number parcels) = round number parcels.items
 carried frames.Gone = gone
+
+-- the round of a frame
+abbrev pub number_of : Carried → Option ℕ
+number_of (round number parcels) = Some number
+number_of gone = None
 
 -- the frames of rounds k + 1, k + 2 and so on
 abbrev pub numbered : ℕ → List Parcels → List Carried

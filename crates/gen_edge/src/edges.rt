@@ -51,7 +51,13 @@ impl Edge {
             (λ _. put_view pass.new ≡ after_put (put_view pass.old) (carried frame))
             (λ x. (x ≡ frame) × (put_view pass.new ≡ put_view pass.old) × WasFull self.now pass.old) }
     {
-        Err(frame)
+        let number = frame.number();
+        self.line.push_as::<Puts, R>(rt, &mut pass.pass, frame)?;
+        match number {
+            Some(number) => pass.put = number,
+            None => pass.gone = true,
+        }
+        Ok(())
     }
 
     /// Takes what stands first on this edge: the frame of the run behind the last one taken, or the word that no
@@ -64,7 +70,12 @@ impl Edge {
             ((take_view pass.new ≡ take_view pass.old) × WasEmpty pass.old)
             (λ x. TakesNext (take_view pass.old) x (take_view pass.new)) }
     {
-        None
+        let frame = self.line.pop_as::<Takes, R>(rt, &mut pass.pass)?;
+        match frame.number() {
+            Some(number) => pass.taken = number,
+            None => pass.gone = true,
+        }
+        Some(frame)
     }
 
     /// Ends an edge, and returns what is left on it: what was taken followed by what is left is what was put. It
@@ -75,6 +86,49 @@ impl Edge {
             row p.world p.put p.gone_put
             ≡ row p.world t.taken t.gone_taken ++ map carried result.frames.items }
     {
-        unreachable!()
+        let Edge { line, mut room } = self;
+        let PutPass { mut pass, .. } = put;
+        let TakePass { pass: other, .. } = take;
+        line.absorb::<Ends>(&mut pass, other);
+        let count = line.len_as::<Settles, R>(rt, &mut pass);
+        'left: for _done in 0..count {
+            match line.pop_as::<Drains, R>(rt, &mut pass) {
+                Some(frame) => room.push_reserved(frame),
+                None => return Left { frames: room },
+            }
+        }
+        line.learn_as::<Settles>(&mut pass);
+        Left { frames: room }
     }
+}
+
+/// Returns an edge over which the frames of this name go.
+fn open<N: Naming>(
+    alloc: Global,
+    scenario: &Scenario,
+    from: GeneralNo,
+    to: GeneralNo,
+    capacity: usize,
+) -> Result<(Edge, PutPass, TakePass), AllocError>
+    requires capacity { 0 < capacity }
+    requires world { N.world ≡ edge_frames scenario.now from to }
+    ensures passes { IfOk result (λ r. IsPutPassOf r.0 r.1 × IsTakePassOf r.0 r.2) }
+    ensures capacity { IfOk result (λ r. edge_capacity r.0 ≡ capacity) }
+    ensures put { IfOk result (λ r. put_view r.1 ≡ putter N.world) }
+    ensures taken { IfOk result (λ r. take_view r.2 ≡ taker N.world) }
+{
+    let room = Vec::with_capacity(alloc, capacity)?;
+    let (line, mut pass) = Line::ruled(alloc, capacity)?;
+    let other = line.another::<Opens<N>>(&mut pass);
+    let put = PutPass {
+        pass,
+        put: 0,
+        gone: false,
+    };
+    let take = TakePass {
+        pass: other,
+        taken: 0,
+        gone: false,
+    };
+    Ok((Edge { line, room }, put, take))
 }

@@ -1,4 +1,7 @@
 //! What goes over an edge.
+ghost use Rattle.std.specs.Prelude.{◌≡◌};
+ghost use Rattle.gen_edge.specs.Frames.{carried, number_of};
+
 use gen_script::Parcel;
 
 /// What one general puts on an edge to a neighbour, and the neighbour takes.
@@ -13,4 +16,16 @@ pub enum Frame {
     },
     /// The word that no more comes.
     Gone,
+}
+
+impl Frame {
+    /// Returns the round of the frame, and None of the last word.
+    pub fn number(&self) -> Option<u8>
+        ensures { result ≡ number_of (carried self.now) }
+    {
+        match self {
+            Frame::Round { number, .. } => Some(*number),
+            Frame::Gone => None,
+        }
+    }
 }

@@ -8,6 +8,7 @@
 mod edges;
 mod frames;
 mod passes;
+mod progress;
 mod rule;
 
 pub use frames::Frame;

@@ -49,13 +49,13 @@ HasTakenBy edges s n g h pass = HasTaken edges s n h g pass
 
 -- the passes of a general, one for each neighbour in ascending order
 pub record ArePassesOf (edges : Edges) (s : Scenario) (g : ℕ) (puts : List PutPass) (takes : List TakePass) : Type 0 where
-  pub puts : AllZip (IsPutOn edges g) (neighbours_of s.net g) puts
-  pub takes : AllZip (IsTakeBy edges g) (neighbours_of s.net g) takes
+  pub putting : AllZip (IsPutOn edges g) (neighbours_of s.net g) puts
+  pub taking : AllZip (IsTakeBy edges g) (neighbours_of s.net g) takes
 
 -- and n frames went each way
 pub record HaveCarried (edges : Edges) (s : Scenario) (n g : ℕ) (puts : List PutPass) (takes : List TakePass) : Type 0 where
-  pub puts : AllZip (HasPut edges s n g) (neighbours_of s.net g) puts
-  pub takes : AllZip (HasTakenBy edges s n g) (neighbours_of s.net g) takes
+  pub putting : AllZip (HasPut edges s n g) (neighbours_of s.net g) puts
+  pub taking : AllZip (HasTakenBy edges s n g) (neighbours_of s.net g) takes
 
 -- all generals have their passes, by which nothing was put or taken yet
 abbrev pub HasNewPasses : Edges → Scenario → ℕ → Passes → Type 0

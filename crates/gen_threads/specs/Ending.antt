@@ -39,7 +39,7 @@ logs_by s g = map (log_bytes g) (logs_of s g)
 -- His ring and his passes come back, in their order; and where there is no fault the logs are his of the scenario's run, and
 -- each pass has carried the frames of all rounds.
 pub record IsEndOf (edges : Edges) (s : Scenario) (g : ℕ) (ring : Option Ring) (end : GeneralEnd) : Type 0 where
-  pub ring : RingComesBack (header_of s) ring end.ring
+  pub comes_back : RingComesBack (header_of s) ring end.ring
   pub passes : ArePassesOf edges s g end.puts.items end.takes.items
   pub logs : IfOk end.logs (λ logs. (logs.items ≡ logs_by s g)
       × HaveCarried edges s (rounds s.net) g end.puts.items end.takes.items)

@@ -45,6 +45,13 @@ impl Edges {
     pub fn edge(&self, from: GeneralNo, to: GeneralNo) -> Option<&Edge>
         ensures { option_map (λ edge. edge.now) result ≡ edge_at self.now from to }
     {
-        None
+        if to.get() >= self.generals {
+            return None;
+        }
+        let place = usize::from(from.get()) * usize::from(self.generals) + usize::from(to.get());
+        match self.table.get(place) {
+            Some(Some(edge)) => Some(edge),
+            _ => None,
+        }
     }
 }

@@ -37,6 +37,7 @@ impl RunPart {
         requires { general < scenario.now.net.generals }
         ensures { IfOk result (λ part. part ≡ record { scenario = scenario.now; me = general }) }
     {
+        let _lawful = scenario.header();
         let part = scenario.part(alloc, general)?;
         Ok(RunPart {
             part,

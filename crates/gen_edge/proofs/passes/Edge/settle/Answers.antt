@@ -1,0 +1,29 @@
+use Rattle.std.proofs.Common.{rules, ◌≡◌, ap, sym, ◌∙◌, subst, arith}
+use Rattle.crossbeam_queue.specs.Passes.{view}
+use Rattle.crossbeam_queue.specs.Fifo.{Held}
+use Rattle.gen_edge.specs.declared.rule.Seen.{Seen}
+use Rattle.gen_edge.specs.Tied.{both_sides, Rests}
+use Rattle.gen_edge.proofs.Steps.{joins, takes, settles}
+use Rattle.gen_edge.proofs.Settled.{Drained, drained_none, drained_more, drained_empty, drained_all}
+use Rattle.gen_edge.proofs.passes.Edge.settle.Goals as goal
+
+pub absorb-requires-clause-rule : goal.absorb-requires-clause-rule
+absorb-requires-clause-rule g c = joins _ _ _ _ c.requires.0.1 c.requires.1.1
+
+pub len_as-count-requires-clause-rule : goal.len_as-count-requires-clause-rule
+len_as-count-requires-clause-rule g c =
+    settles _ _ (ap (λ (y : Seen). y.puts) c.absorb.ensures.rule ∙ c.requires.0.1) (ap (λ (y : Seen). y.takes) c.absorb.ensures.rule)
+
+pub pop_as-requires-clause-rule : goal.pop_as-requires-clause-rule
+pop_as-requires-clause-rule g c = let d = c.left.invariant.1 in (takes _ _ d.takes, settles _ _ d.puts d.takes)
+
+pub left-preserved : goal.left-preserved
+left-preserved g c = (search rules, rw c.push_reserved.ensures.items (drained_more _ _ _ _ _ c.left.invariant.1 c.in-Some.ensures.rule), search rules, search rules)
+
+pub returns : goal.returns
+returns g c =
+    let v = view c.args.put.pass in let t = view c.args.take.pass in
+    let start : view c.len_as-count.new.pass ≡ both_sides v t = c.len_as-count.ensures.queue.1 ∙ c.absorb.ensures.rule in
+    let d = subst (λ (y : Seen). Drained y (view c.left.pass) c.left.room.items) start c.left.invariant.1 in
+    let held = subst (λ (y : Seen). Held c.len_as-count.result (Rests y)) c.absorb.ensures.rule c.len_as-count.ensures.rule.1 in
+    drained_all (both_sides v t) _ _ c.len_as-count.result d held (search rules) c.learn_as.ensures.rule
