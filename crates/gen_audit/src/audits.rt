@@ -16,7 +16,7 @@ use crate::bundles::Bundle;
 use crate::findings_collected::{findings_in, rest_of};
 use crate::verdicts::{Decisions, Findings, Judgement, Verdict};
 use gen_chain::VerifyStore;
-use gen_convict::find_evidence;
+use gen_convict::{Evidence, find_evidence};
 use gen_local::{LocalReport, Reading, local_report_with};
 use gen_types::{GeneralNo, GeneralSet, OrderNo};
 use gen_world::Decision;
@@ -138,12 +138,8 @@ fn yes_on(
     Ok(Verdict::Explained(Decisions::new(decisions)))
 }
 
-/// Returns the verdict on a bundle of which these are the reports.
-fn verdict_by(
-    alloc: Global,
-    bundle: &Bundle,
-    reports: &[LocalReport],
-) -> Result<Verdict, AllocError>
+/// Returns what is found of a bundle of which these are the reports, or the yes on it.
+fn answer_by(alloc: Global, bundle: &Bundle, reports: &[LocalReport]) -> Result<Verdict, AllocError>
     requires { AreReports bundle.now reports.now }
     ensures verdict { IfOk result (IsVerdict bundle.now) }
     ensures bundle { IsBundle bundle.now }
@@ -154,6 +150,36 @@ fn verdict_by(
         return Ok(Verdict::No(Findings::new(findings)));
     }
     yes_on(alloc, bundle, &rest, reports)
+}
+
+/// Returns the verdict on a bundle of which these are the reports.
+fn verdict_by(
+    alloc: Global,
+    bundle: &Bundle,
+    reports: &[LocalReport],
+) -> Result<Verdict, AllocError>
+    requires { AreReports bundle.now reports.now }
+    ensures verdict { IfOk result (IsVerdict bundle.now) }
+    ensures exactly { IfOk result (λ verdict. IsYes verdict ↔ IsSupported bundle.now) }
+    ensures agreed { IfOk result (λ verdict. IsSupported bundle.now → HasFew bundle.now
+        → (order : ℕ) × (verdict ≡ Agreed order) × AgreeOn bundle.now order) }
+{
+    answer_by(alloc, bundle, reports)
+}
+
+/// Returns the evidence that a bundle's exhibits hold, of which these are the reports.
+fn convictions_by(
+    alloc: Global,
+    bundle: &Bundle,
+    reports: &[LocalReport],
+) -> Result<Vec<Evidence>, AllocError>
+    requires { AreReports bundle.now reports.now }
+    ensures convictions { IfOk result (λ found.
+        AreConvictions bundle.now.header bundle.now.exhibits (map told_of found.items)) }
+    ensures lawful { IfOk result (λ found.
+        AreEvidence bundle.now.header (map told_of found.items)) }
+{
+    find_evidence(alloc, bundle.header(), reports)
 }
 
 /// Returns the judgement on a bundle: the verdict, and the evidence that its exhibits hold.
@@ -182,7 +208,7 @@ pub fn audit_plain(alloc: Global, bundle: &Bundle) -> Result<Judgement, AllocErr
 {
     let reports = reports_of_all(alloc, bundle)?;
     let verdict = verdict_by(alloc, bundle, reports.as_slice())?;
-    let convictions = find_evidence(alloc, bundle.header(), reports.as_slice())?;
+    let convictions = convictions_by(alloc, bundle, reports.as_slice())?;
     Ok(Judgement {
         verdict,
         convictions,

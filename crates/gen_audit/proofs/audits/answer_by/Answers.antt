@@ -1,4 +1,4 @@
-use Rattle.gen_audit.proofs.audits.verdict_on.Goals as goal
+use Rattle.gen_audit.proofs.audits.answer_by.Goals as goal
 
 pub findings_in-requires-clause-rest : goal.findings_in-requires-clause-rest
 findings_in-requires-clause-rest c = rw (← c.header.ensures.value, ← c.net.ensures.value, ← c.faulty.ensures) c.rest_of-rest.ensures
