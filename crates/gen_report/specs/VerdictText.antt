@@ -1,9 +1,11 @@
--- The text of a verdict.
+-- The text of a judgement: a verdict, and convictions.
 use Rattle.std.specs.Prelude.{ℕ, List, ◌++◌, codes}
 use Rattle.std.specs.List.{flat_map}
 use Rattle.std.specs.Fmt.{decimal}
 use Rattle.hex.specs.Hex.{encode_lower}
 use Rattle.gen_net.specs.Header.{RunHeader, run_id_of}
+use Rattle.gen_convict.specs.Evidence.{Accusation}
+use Rattle.gen_convict.specs.First.{kind_of}
 use Rattle.gen_world.specs.declared.scenario.Decision.{Decision}
 use Rattle.gen_audit.specs.declared.verdicts.Verdict.{Verdict}
 use Rattle.gen_audit.specs.declared.verdicts.Verdict.TheVariants.{Agreed, Explained, No}
@@ -23,6 +25,11 @@ answer_lines (Agreed order) = codes "verdict agreed " ++ decimal order ++ codes 
 answer_lines (Explained decisions) = codes "verdict explained\n" ++ flat_map decided_line decisions
 answer_lines (No findings) = codes "verdict no\n" ++ flat_map finding_line findings
 
--- the run, the verdict and what it is for, and an end
-abbrev pub verdict_text : RunHeader → Verdict → List ℕ
-verdict_text h verdict = run_line h ++ answer_lines verdict ++ codes "end\n"
+-- who is convicted, and by which kind of evidence
+abbrev pub convicted_line : Accusation → List ℕ
+convicted_line x = codes "convicted " ++ decimal x.accused ++ codes " by K" ++ decimal (kind_of x.claim) ++ codes "\n"
+
+-- the run, the verdict and what it is for, the convictions, and an end
+abbrev pub verdict_text : RunHeader → Verdict → List Accusation → List ℕ
+verdict_text h verdict convictions =
+    run_line h ++ answer_lines verdict ++ flat_map convicted_line convictions ++ codes "end\n"

@@ -1,11 +1,15 @@
-//! Verdicts as text.
-ghost use Rattle.std.specs.Prelude.{◌≡◌, ◌++◌, OnOk, IfOk, string_bytes};
+//! Judgements as text.
+ghost use Rattle.std.specs.Prelude.{◌≡◌, ◌++◌, OnOk, IfOk, map, string_bytes};
 ghost use Rattle.std.specs.List.{flat_map};
+ghost use Rattle.gen_convict.specs.Evidence.{told_of};
+ghost use Rattle.gen_convict.specs.First.{kind_of};
+ghost use Rattle.gen_convict.specs.Told.{told};
 ghost use Rattle.gen_report.specs.Findings.{finding_line};
-ghost use Rattle.gen_report.specs.VerdictText.{run_line, decided_line, answer_lines, verdict_text};
+ghost use Rattle.gen_report.specs.VerdictText.{run_line, decided_line, answer_lines, convicted_line, verdict_text};
 
 use crate::findings::push_finding;
-use gen_audit::Verdict;
+use gen_audit::{Judgement, Verdict};
+use gen_convict::{Claim, Evidence};
 use gen_match::Finding;
 use gen_net::Header;
 use gen_world::Decision;
@@ -72,9 +76,43 @@ fn push_answer(out: &mut String, verdict: &Verdict) -> Result<(), AllocError>
     }
 }
 
-/// Returns the text of a verdict on a run: a line `run` with the 64 digits of the run's id, a line
+/// Returns the number of a claim's kind.
+fn kind_number(claim: &Claim) -> u8
+    ensures { result ≡ kind_of (told claim.now) }
+{
+    match claim {
+        Claim::Texts { .. } => 1,
+        Claim::Orders { .. } => 2,
+        Claim::Missing { .. } => 3,
+        Claim::Departing { .. } => 4,
+    }
+}
+
+/// Appends the line of a conviction.
+fn push_convicted(out: &mut String, evidence: &Evidence) -> Result<(), AllocError>
+    ensures { OnOk result (string_bytes out.new
+        ≡ string_bytes out.old ++ convicted_line (told_of evidence.now)) }
+{
+    let general = evidence.accused.get();
+    let kind = kind_number(&evidence.claim);
+    write!(out, "convicted {general} by K{kind}\n")
+}
+
+/// Appends the lines of convictions.
+fn push_all_convicted(out: &mut String, convictions: &[Evidence]) -> Result<(), AllocError>
+    ensures { OnOk result (string_bytes out.new
+        ≡ string_bytes out.old ++ flat_map convicted_line (map told_of convictions.now)) }
+{
+    for evidence in convictions {
+        push_convicted(out, evidence)?;
+    }
+    Ok(())
+}
+
+/// Returns the text of a judgement on a run: a line `run` with the 64 digits of the run's id, a line
 /// `verdict agreed V`, `verdict explained` or `verdict no`, a line `general G decides V` for each decision that
-/// explains or a line for each finding, and a line `end`.
+/// explains or a line for each finding, a line `convicted G by K2` for each conviction, by the kind of its evidence, and
+/// a line `end`.
 ///
 /// # Errors
 ///
@@ -82,13 +120,15 @@ fn push_answer(out: &mut String, verdict: &Verdict) -> Result<(), AllocError>
 pub fn print_verdict(
     alloc: Global,
     header: &Header,
-    verdict: &Verdict,
+    judgement: &Judgement,
 ) -> Result<Vec<u8>, AllocError>
-    ensures { IfOk result (λ v. v.items ≡ verdict_text header.now verdict.now) }
+    ensures { IfOk result (λ v. v.items ≡ verdict_text header.now judgement.now.verdict
+        (map told_of judgement.now.convictions.items)) }
 {
     let mut out = String::new(alloc);
     push_run(alloc, &mut out, header)?;
-    push_answer(&mut out, verdict)?;
+    push_answer(&mut out, &judgement.verdict)?;
+    push_all_convicted(&mut out, judgement.convictions.as_slice())?;
     out.push_str("end\n")?;
     Ok(out.into_bytes())
 }

@@ -56,17 +56,17 @@ fn says_no(verdict: &Verdict) -> bool
     }
 }
 
-/// Returns the text of the verdict on the bundle that the input spells, and whether it is a no.
+/// Returns the text of the judgement on the bundle that the input spells, and whether its verdict is a no.
 fn judge(alloc: Global, input: &[u8]) -> Result<Output, JobFault>
     ensures answer { IfOk result (λ o. IsAudited input.now o.text.items o.negative) }
     ensures fault { IfErr result (IsAuditFault input.now) }
 {
     let bundle = read_bundle(alloc, input)?;
-    let verdict = audit_plain(alloc, &bundle)?;
-    let text = print_verdict(alloc, bundle.header(), &verdict)?;
+    let judgement = audit_plain(alloc, &bundle)?;
+    let text = print_verdict(alloc, bundle.header(), &judgement)?;
     Ok(Output {
         text,
-        negative: says_no(&verdict),
+        negative: says_no(&judgement.verdict),
     })
 }
 

@@ -4,6 +4,7 @@
 mod ends;
 mod engine;
 mod program;
+mod running;
 mod transfer;
 mod words;
 
