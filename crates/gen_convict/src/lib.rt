@@ -8,9 +8,11 @@
 #![tactic(auto)]
 
 mod checking;
+mod claim_reading;
 mod claims;
 mod evidence;
 mod evidence_fault;
+mod evidence_fields;
 mod evidence_reading;
 mod evidence_writing;
 mod finding;
