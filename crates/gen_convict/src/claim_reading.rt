@@ -8,7 +8,8 @@ ghost use Rattle.gen_convict.specs.Told.{told};
 use crate::claims::Claim;
 use crate::evidence_fault::EvidenceFault;
 use crate::evidence_fields::{
-    STATEMENT_KIND, read_log_bytes, read_order_field, read_signature, read_signed, read_statement,
+    DEPARTING_KIND, MISSING_KIND, ORDERS_KIND, STATEMENT_KIND, TEXTS_KIND, read_log_bytes,
+    read_order_field, read_signature, read_signed, read_statement,
 };
 use gen_chain::Statement;
 use gen_net::{Header, Net};
@@ -90,6 +91,7 @@ fn read_missing<'a>(
     ensures { Gives (λ x. (told x.0, x.1.now)) result (reading.missing_at header.now bytes.now) }
 {
     let (log, rest) = read_log_bytes(alloc, bytes)?;
+    // The rules of `?` don't cover a statement beside a reference.
     let (statement, rest) = match read_missing_statement(rest, header.net()) {
         Ok(statement) => statement,
         Err(error) => return Err(error),
@@ -125,13 +127,13 @@ fn read_claim_of_kind<'a>(
     ensures { Gives (λ x. (told x.0, x.1.now)) result
         (reading.claim_of_kind header.now accused kind bytes.now) }
 {
-    if kind == 1 {
+    if kind == TEXTS_KIND {
         read_two_texts(alloc, bytes, header, accused)
-    } else if kind == 2 {
+    } else if kind == ORDERS_KIND {
         read_two_orders(alloc, bytes, header)
-    } else if kind == 3 {
+    } else if kind == MISSING_KIND {
         read_missing(alloc, bytes, header)
-    } else if kind == 4 {
+    } else if kind == DEPARTING_KIND {
         read_departing(alloc, bytes)
     } else {
         Err(ReadError::Fault(EvidenceFault::OutOfRange))

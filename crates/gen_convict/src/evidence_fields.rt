@@ -15,6 +15,18 @@ use gen_tree::sizes::signature_bytes;
 use gen_types::{GeneralNo, OrderNo, Path, ReadError, bytes_at, u8_at, u32_at, u64_at};
 use std::alloc::Global;
 
+/// The kind of a claim by two texts.
+pub const TEXTS_KIND: u8 = 1;
+
+/// The kind of a claim by two orders.
+pub const ORDERS_KIND: u8 = 2;
+
+/// The kind of a claim by a log and a statement that is missing from it.
+pub const MISSING_KIND: u8 = 3;
+
+/// The kind of a claim by a log that departs.
+pub const DEPARTING_KIND: u8 = 4;
+
 /// The byte before a statement.
 pub const STATEMENT_KIND: u8 = 1;
 
@@ -184,6 +196,7 @@ pub fn read_signed<'a>(
 ) -> Result<(SignedText, &'a [u8]), ReadError<EvidenceFault>>
     ensures { IsField result (field.signed_at header.now general bytes.now) }
 {
+    // The rules of `?` don't cover a text beside a reference.
     let (text, rest) = match read_text(bytes, header.net(), general) {
         Ok(text) => text,
         Err(error) => return Err(error),

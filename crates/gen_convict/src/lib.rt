@@ -31,4 +31,6 @@ pub use refutations::Refutation;
 pub use refuting::refute;
 
 #[cfg(test)]
+mod evidence_tests;
+#[cfg(test)]
 mod tests;
