@@ -9,6 +9,7 @@ use Rattle.gen_types.specs.Spelled.{Spells}
 use Rattle.gen_types.proofs.ByteFields.{IsBytes, Takes-then, byte_takes}
 use Rattle.gen_types.proofs.ManyFields.{Reads}
 use Rattle.gen_types.proofs.Steps.{after, after_check, at_end}
+use Rattle.gen_types.proofs.Wrapped.{mapped_reads}
 use Rattle.gen_net.specs.Front.{AreMarks, front_spelling}
 use Rattle.gen_net.specs.FrontReading.{front_at}
 use Rattle.gen_net.specs.Header.{RunHeader, IsHeader}
@@ -22,7 +23,7 @@ use Rattle.gen_convict.specs.Evidence.{Accusation, IsEvidence}
 use Rattle.gen_convict.specs.EvidenceReading.{IsWhole, accused_at, accusation_at, front_fault, evidence_at, whole_evidence}
 use Rattle.gen_convict.specs.EvidenceSpelling.{HeaderAndEvidence, evidence_marks, accusation_spelling, whole_spelling}
 use Rattle.gen_convict.proofs.EvidenceClaims.{kind_spelling, claims_read}
-use Rattle.gen_convict.proofs.EvidenceTexts.{Taken, mapped_reads}
+use Rattle.gen_convict.proofs.EvidenceTexts.{Taken}
 
 -- ---- the accusation
 

@@ -4,11 +4,12 @@ use Rattle.std.specs.Int.{w32, w64, to_be_bytes}
 use Rattle.std.proofs.lemmas.Bool.{eqb-true}
 use Rattle.std.proofs.lemmas.List.{take_at}
 use Rattle.std.proofs.lemmas.List.Elements.{All-from_get_or}
-use Rattle.gen_types.specs.Reading.{◌>>=◌, map_fault}
+use Rattle.gen_types.specs.Reading.{◌>>=◌}
 use Rattle.gen_types.specs.Bytes.{byte_at, bytes_at, number_at}
 use Rattle.gen_types.proofs.ByteFields.{IsBytes, IsBytes-take, Takes, Takes-then, byte_takes, bytes_takes, bytes_again, number_takes, number_again, wide32, wide64}
 use Rattle.gen_types.proofs.ManyFields.{Reads}
-use Rattle.gen_types.proofs.Steps.{after, at_end, mapped_ok}
+use Rattle.gen_types.proofs.Steps.{after, at_end}
+use Rattle.gen_types.proofs.Wrapped.{mapped_reads}
 use Rattle.gen_tree.specs.Sizes.{signature_length}
 use Rattle.gen_net.specs.Header.{RunHeader, height_of}
 use Rattle.gen_net.specs.Network.{Network}
@@ -32,13 +33,6 @@ use Rattle.gen_convict.specs.EvidenceSpelling.{statement_kind, head_kind, statem
 -- what a reader of a format took
 abbrev pub Taken : {A : Type 0} → (A → List ℕ) → (A → Type 0) → List ℕ → A × List ℕ → Type 0
 Taken spell Fits bytes x = Takes bytes (spell x.0) x.1 × Fits x.0
-
--- a reader whose faults are wrapped reads as before
-pub mapped_reads : {A F G : Type 0} (wrap : F → G) (read : List ℕ → Result (A × List ℕ) F) (spell : A → List ℕ) (Fits : A → Type 0) → Reads read spell Fits → Reads (λ bytes. map_fault wrap (read bytes)) spell Fits
-mapped_reads {A} {F} wrap read spell Fits reads = record {
-  takes = λ bytes x are e. reads.takes bytes x are (mapped_ok wrap (read bytes) x e);
-  again = λ a rest is. ap (λ (r : Result (A × List ℕ) F). map_fault wrap r) (reads.again a rest is);
-}
 
 -- ---- statements
 

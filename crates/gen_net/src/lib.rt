@@ -33,6 +33,8 @@ pub use version::{GREATEST_SLOT, Version};
 pub use writing::header_bytes;
 
 #[cfg(test)]
+mod front_tests;
+#[cfg(test)]
 mod header_tests;
 #[cfg(test)]
 mod tests;
