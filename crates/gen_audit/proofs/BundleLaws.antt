@@ -13,7 +13,8 @@ use Rattle.gen_types.proofs.Lists.{All_of}
 use Rattle.gen_types.proofs.Steps.{after, after_check, at_end}
 use Rattle.gen_types.proofs.ByteFields.{IsBytes, IsBytes-take, Takes, Takes-then, byte_takes, bytes_takes, bytes_again, number_takes, number_again, wide32}
 use Rattle.gen_types.proofs.ManyFields.{Reads, many_take, many_again}
-use Rattle.gen_net.specs.Header.{RunHeader, header_spelling}
+use Rattle.gen_net.specs.Front.{front_spelling}
+use Rattle.gen_net.specs.Header.{RunHeader}
 use Rattle.gen_net.specs.Network.{IsBefore}
 use Rattle.gen_log.specs.Fields.{AreBelow, set_spelling}
 use Rattle.gen_local.specs.Shown.{ShownLog}
@@ -23,12 +24,12 @@ use Rattle.gen_audit.specs.Behind.{many_behind}
 use Rattle.gen_audit.specs.Bundle.{LogBundle, IsBundle}
 use Rattle.gen_audit.specs.BundleParts.{most_walks, most_exhibits, ends_of, IsListedWalk, AreListedWalks, IsExhibit, AreExhibits}
 use Rattle.gen_audit.specs.BundleMaking.{is_walk_length, no_ends, may_follow, shown_general}
-use Rattle.gen_audit.specs.BundleSpelling.{mark_spelling, walk_spelling, walks_spelling, exhibit_spelling, exhibits_spelling, bundle_spelling}
+use Rattle.gen_audit.specs.BundleSpelling.{bundle_marks, walk_spelling, walks_spelling, exhibit_spelling, exhibits_spelling, bundle_spelling}
 use Rattle.gen_audit.specs.BundleFields.{front_at, faulty_at}
 use Rattle.gen_audit.specs.BundleReading.{general_at, walk_at, walks_at, owner_at, exhibit_at, exhibits_at, bundle_at, whole_bundle}
 use Rattle.gen_audit.proofs.BundleBehind.{stand_all, stand_told, behind_takes, behind_again}
 use Rattle.gen_audit.proofs.BundleParts.{walk_known, length_told, follow_told, walks_known, walks_stand, NotAfter, exhibits_known}
-use Rattle.gen_audit.proofs.BundleFronts.{faulty_reads, front_spelling, front_reads}
+use Rattle.gen_audit.proofs.BundleFronts.{faulty_reads, fronts_read}
 
 -- ---- walks
 
@@ -214,10 +215,6 @@ exhibits_read n = record { takes = exhibits_take n; again = exhibits_again n }
 
 -- ---- the bundle
 
--- the mark and the header stand together
-grouped : (b : LogBundle) → front_spelling b.header ++ (set_spelling b.faulty ++ (walks_spelling b.walks ++ exhibits_spelling b.exhibits)) ≡ bundle_spelling b
-grouped b = append_assoc (mark_spelling b.header.version) (header_spelling b.header) (set_spelling b.faulty ++ (walks_spelling b.walks ++ exhibits_spelling b.exhibits))
-
 abbrev BundleTaken : List ℕ → LogBundle × List ℕ → Type 0
 BundleTaken bytes x = Takes bytes (bundle_spelling x.0) x.1 × IsBundle x.0
 
@@ -229,17 +226,17 @@ bundle_takes bytes x fits e =
     after (faulty_at header.0.network.generals header.1) (λ faulty. walks_at header.0.network.generals faulty.1 >>= λ walks. exhibits_at header.0.network.generals walks.1 >>= λ exhibits. Ok (record { header = header.0; faulty = faulty.0; walks = walks.0; exhibits = exhibits.0 }, exhibits.1)) x e0 (λ faulty r1 e1.
     after (walks_at header.0.network.generals faulty.1) (λ walks. exhibits_at header.0.network.generals walks.1 >>= λ exhibits. Ok (record { header = header.0; faulty = faulty.0; walks = walks.0; exhibits = exhibits.0 }, exhibits.1)) x e1 (λ walks r2 e2.
     after (exhibits_at header.0.network.generals walks.1) (λ exhibits. Ok (record { header = header.0; faulty = faulty.0; walks = walks.0; exhibits = exhibits.0 }, exhibits.1)) x e2 (λ exhibits r3 e3.
-    let t0 = front_reads.takes bytes header fits r0 in
+    let t0 = fronts_read.takes bytes header fits r0 in
     let t1 = (faulty_reads n t0.1.network.ranges.few_generals).takes header.1 faulty t0.0.rest_fits r1 in
     let t2 = (walks_read n).takes faulty.1 walks t1.0.rest_fits r2 in
     let t3 = (exhibits_read n).takes walks.1 exhibits t2.0.rest_fits r3 in
     let t23 = Takes-then faulty.1 (walks_spelling walks.0) walks.1 (exhibits_spelling exhibits.0) exhibits.1 t2.0 t3.0 in
     let behind = walks_spelling walks.0 ++ exhibits_spelling exhibits.0 in
     let t13 = Takes-then header.1 (set_spelling faulty.0) faulty.1 behind exhibits.1 t1.0 t23 in
-    let t03 = Takes-then bytes (front_spelling header.0) header.1 (set_spelling faulty.0 ++ behind) exhibits.1 t0.0 t13 in
+    let t03 = Takes-then bytes (front_spelling bundle_marks header.0) header.1 (set_spelling faulty.0 ++ behind) exhibits.1 t0.0 t13 in
     let b : LogBundle = record { header = header.0; faulty = faulty.0; walks = walks.0; exhibits = exhibits.0 } in
     at_end {F = BundleFault} (BundleTaken bytes) (b, exhibits.1) x e3 (
-      subst (λ (t : List ℕ). Takes bytes t exhibits.1) (grouped b) t03,
+      t03,
       record { header = t0.1; faulty = t1.1; walks = t2.1; exhibits = t3.1.exhibits; bytes = t3.1.bytes },
     )))))
 
@@ -262,8 +259,8 @@ bundle_again b rest is =
     let members = set_spelling b.faulty in
     let third : (walks ++ shown) ++ rest ≡ walks ++ (shown ++ rest) = append_assoc walks shown rest in
     let second : (members ++ (walks ++ shown)) ++ rest ≡ members ++ (walks ++ (shown ++ rest)) = append_assoc members (walks ++ shown) rest ∙ ap (λ (t : List ℕ). members ++ t) third in
-    let regrouped : bundle_spelling b ++ rest ≡ front_spelling b.header ++ (members ++ (walks ++ (shown ++ rest))) = ap (λ (t : List ℕ). t ++ rest) (sym (grouped b)) ∙ append_assoc (front_spelling b.header) (members ++ (walks ++ shown)) rest ∙ ap (λ (t : List ℕ). front_spelling b.header ++ t) second in
-    let r0 = front_reads.again b.header (members ++ (walks ++ (shown ++ rest))) is.header in
+    let regrouped : bundle_spelling b ++ rest ≡ front_spelling bundle_marks b.header ++ (members ++ (walks ++ (shown ++ rest))) = append_assoc (front_spelling bundle_marks b.header) (members ++ (walks ++ shown)) rest ∙ ap (λ (t : List ℕ). front_spelling bundle_marks b.header ++ t) second in
+    let r0 = fronts_read.again b.header (members ++ (walks ++ (shown ++ rest))) is.header in
     let r1 = (faulty_reads n is.header.network.ranges.few_generals).again b.faulty (walks ++ (shown ++ rest)) is.faulty in
     let r2 = (walks_read n).again b.walks (shown ++ rest) is.walks in
     let r3 = (exhibits_read n).again b.exhibits rest (record { exhibits = is.exhibits; bytes = is.bytes }) in

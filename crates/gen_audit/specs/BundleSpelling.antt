@@ -2,26 +2,15 @@
 use Rattle.std.specs.Prelude.{ℕ, List, ◌∷◌, ◌++◌, length}
 use Rattle.std.specs.List.{flat_map}
 use Rattle.std.specs.Int.{w32, to_be_bytes}
-use Rattle.gen_net.specs.declared.version.Version.{Version}
-use Rattle.gen_net.specs.declared.version.Version.TheVariants.{One, Two}
-use Rattle.gen_net.specs.Header.{header_spelling}
+use Rattle.gen_net.specs.declared.marks.Marks.{Marks}
+use Rattle.gen_net.specs.Front.{front_spelling}
 use Rattle.gen_log.specs.Fields.{set_spelling}
 use Rattle.gen_local.specs.Shown.{ShownLog}
 use Rattle.gen_audit.specs.Bundle.{LogBundle}
 
 -- the first four bytes as a number, big-endian: `SMB1` before a header of version 1, `SMB2` before one of version 2
-abbrev pub mark_one : ℕ
-mark_one = 1397572145
-
-abbrev pub mark_two : ℕ
-mark_two = 1397572146
-
-abbrev pub mark_of : Version → ℕ
-mark_of One = mark_one
-mark_of (Two slot) = mark_two
-
-abbrev pub mark_spelling : Version → List ℕ
-mark_spelling version = to_be_bytes w32 (mark_of version)
+abbrev pub bundle_marks : Marks
+bundle_marks = record { one = 1397572145; two = 1397572146 }
 
 -- a walk is the number of its generals, and then the generals, a byte each
 abbrev pub walk_spelling : List ℕ → List ℕ
@@ -42,7 +31,6 @@ exhibits_spelling exhibits = length exhibits ∷ flat_map exhibit_spelling exhib
 -- the mark and the header, F as a number of two bytes, the walks, and the exhibits
 abbrev pub bundle_spelling : LogBundle → List ℕ
 bundle_spelling b =
-    mark_spelling b.header.version
-    ++ (header_spelling b.header
+    front_spelling bundle_marks b.header
     ++ (set_spelling b.faulty
-    ++ (walks_spelling b.walks ++ exhibits_spelling b.exhibits)))
+    ++ (walks_spelling b.walks ++ exhibits_spelling b.exhibits))

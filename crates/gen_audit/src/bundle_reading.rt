@@ -2,11 +2,10 @@
 //!
 //! Numbers are read as they stand, and their types are made of them where a part is made.
 ghost use Rattle.std.specs.Prelude.{◌≡◌, ◌≤◌, ◌<◌, IfOk, Ok};
-ghost use Rattle.gen_types.specs.Reading.{Gives, map_fault};
+ghost use Rattle.gen_types.specs.Reading.{Gives};
 ghost use Rattle.gen_types.specs.Spelled.{IsRead, IsField, Spells};
 ghost use Rattle.gen_types.specs.Bits.{members_of};
 ghost use Rattle.gen_types.specs.Bytes.{many_at};
-ghost use Rattle.gen_net.specs.HeaderReading.{header_at};
 ghost use Rattle.gen_audit.specs.Behind.{many_behind};
 ghost use Rattle.gen_audit.specs.Bundle.{LogBundle, IsBundle};
 ghost use Rattle.gen_audit.specs.BundleFields as fields;
@@ -20,77 +19,33 @@ use crate::bundle_fault::BundleFault;
 use crate::bundle_rules::{
     MOST_EXHIBITS, MOST_WALKS, NO_ENDS, ends_of, is_set_below, is_walk_length, may_follow,
 };
-use crate::bundles::{Bundle, MARK_ONE, MARK_TWO};
+use crate::bundles::{BUNDLE_MARKS, Bundle};
 use gen_local::Exhibit;
-use gen_net::{Header, HeaderFault, read_header};
+use gen_net::{FrontFault, Header, read_front};
 use gen_types::{GeneralNo, GeneralSet, ReadError, bytes_at, check, u8_at, u16_at, u32_at};
 use gen_walks::{Walk, Walks};
 use std::alloc::Global;
 
-/// The first byte of a header of version 1.
-const VERSION_ONE: u8 = 1;
-
-/// The first byte of a header of version 2.
-const VERSION_TWO: u8 = 2;
-
-/// The number of the version that the mark says, and the bytes after the mark.
-#[tactic(auto, unfolding(crate::specs::BundleFields::mark_at))]
-fn read_mark(bytes: &[u8]) -> Result<(u8, &[u8]), ReadError<BundleFault>>
-    ensures { IsField result (fields.mark_at bytes.now) }
-{
-    let (mark, rest) = u32_at(bytes, BundleFault::Truncated)?;
-    match mark {
-        MARK_ONE => Ok((VERSION_ONE, rest)),
-        MARK_TWO => Ok((VERSION_TWO, rest)),
-        _ => Err(ReadError::Fault(BundleFault::UnknownMark)),
-    }
-}
-
-/// A header's fault as one of the bundle.
-fn header_fault(fault: HeaderFault) -> BundleFault
-    ensures { result ≡ fields.header_fault fault }
+/// A fault of the mark and the header as one of the bundle.
+fn front_fault(fault: FrontFault) -> BundleFault
+    ensures { result ≡ fields.front_fault fault }
 {
     match fault {
-        HeaderFault::Truncated => BundleFault::Truncated,
-        other => BundleFault::BadHeader(other),
+        FrontFault::Truncated => BundleFault::Truncated,
+        FrontFault::UnknownMark => BundleFault::UnknownMark,
+        FrontFault::BadHeader(rule) => BundleFault::BadHeader(rule),
     }
-}
-
-/// The header in front of the bytes, and the bytes after it.
-fn read_header_field(alloc: Global, bytes: &[u8]) -> Result<(Header, &[u8]), ReadError<BundleFault>>
-    ensures { IsField result (map_fault fields.header_fault (header_at bytes.now)) }
-{
-    match read_header(alloc, bytes) {
-        Ok((header, taken)) => Ok((header, &bytes[taken..])),
-        Err(ReadError::Memory) => Err(ReadError::Memory),
-        Err(ReadError::Fault(fault)) => Err(ReadError::Fault(header_fault(fault))),
-    }
-}
-
-/// The header, whose first byte is the number of this version.
-#[tactic(auto, unfolding(crate::specs::BundleFields::header_behind))]
-fn read_header_of(
-    alloc: Global,
-    version: u8,
-    bytes: &[u8],
-) -> Result<(Header, &[u8]), ReadError<BundleFault>>
-    ensures { IsField result (fields.header_behind version bytes.now) }
-{
-    let (number, _) = u8_at(bytes, BundleFault::Truncated)?;
-    check(
-        number == version,
-        BundleFault::BadHeader(HeaderFault::UnknownVersion),
-    )?;
-    read_header_field(alloc, bytes)
 }
 
 /// The mark, and a header of the version that it says.
-#[tactic(auto, unfolding(crate::specs::BundleFields::front_at))]
-fn read_front(alloc: Global, bytes: &[u8]) -> Result<(Header, &[u8]), ReadError<BundleFault>>
+fn read_front_field(alloc: Global, bytes: &[u8]) -> Result<(Header, &[u8]), ReadError<BundleFault>>
     ensures { IsField result (fields.front_at bytes.now) }
 {
-    let (version, rest) = read_mark(bytes)?;
-    read_header_of(alloc, version, rest)
+    match read_front(alloc, BUNDLE_MARKS, bytes) {
+        Ok(header) => Ok(header),
+        Err(ReadError::Memory) => Err(ReadError::Memory),
+        Err(ReadError::Fault(fault)) => Err(ReadError::Fault(front_fault(fault))),
+    }
 }
 
 /// The bits of a set of generals below n.
@@ -261,7 +216,7 @@ fn read_exhibits(
 fn bundle_in_front(alloc: Global, bytes: &[u8]) -> Result<(Bundle, &[u8]), ReadError<BundleFault>>
     ensures { IsField result (bundle_at bytes.now) }
 {
-    let (header, rest) = read_front(alloc, bytes)?;
+    let (header, rest) = read_front_field(alloc, bytes)?;
     let n = header.net().generals();
     let (bits, rest) = read_faulty(n, rest)?;
     let (walks, rest) = read_walks(alloc, n, rest)?;

@@ -2,25 +2,15 @@
 ghost use Rattle.std.specs.Prelude.{◌≡◌, ◌<◌, ◌^◌, ◌++◌, length, All, IfOk, OnOk};
 ghost use Rattle.std.specs.List.{flat_map};
 ghost use Rattle.gen_audit.specs.BundleParts.{AreListedWalks, AreExhibits, IsListedWalk, IsExhibit};
-ghost use Rattle.gen_audit.specs.BundleSpelling.{mark_of, bundle_spelling};
+ghost use Rattle.gen_audit.specs.BundleSpelling.{bundle_spelling};
 ghost use Rattle.gen_audit.specs.BundleSpelling.{walk_spelling, walks_spelling, exhibit_spelling, exhibits_spelling};
 
-use crate::bundles::{Bundle, MARK_ONE, MARK_TWO};
+use crate::bundles::{BUNDLE_MARKS, Bundle};
 use gen_local::Exhibit;
-use gen_net::{Version, header_bytes};
+use gen_net::front_bytes;
 use gen_types::GeneralNo;
 use gen_walks::Walk;
 use std::alloc::{AllocError, Global};
-
-/// The mark before a header of this version.
-fn mark_number(version: Version) -> u32
-    ensures { result ≡ mark_of version }
-{
-    match version {
-        Version::One => MARK_ONE,
-        Version::Two { slot: _ } => MARK_TWO,
-    }
-}
 
 /// Appends generals, a byte each.
 fn put_generals(out: &mut Vec<u8>, generals: &[GeneralNo]) -> Result<(), AllocError>
@@ -82,9 +72,7 @@ pub fn write_bundle(alloc: Global, bundle: &Bundle) -> Result<Vec<u8>, AllocErro
     let header = bundle.header();
     let walks = bundle.walks().as_slice();
     let exhibits = bundle.exhibits();
-    let mut out = Vec::new(alloc);
-    out.extend_from_slice(&mark_number(header.version()).to_be_bytes())?;
-    out.extend_from_slice(&header_bytes(alloc, header)?)?;
+    let mut out = front_bytes(alloc, BUNDLE_MARKS, header)?;
     out.extend_from_slice(&bundle.faulty().bits().to_be_bytes())?;
     out.push(walks.len() as u8)?;
     put_each_walk(&mut out, walks)?;

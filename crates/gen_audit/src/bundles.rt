@@ -6,16 +6,16 @@ ghost use Rattle.gen_audit.specs.BundleMaking.{bundle_with};
 use crate::bundle_fault::BundleFault;
 use crate::bundle_rules::{is_set_below, test, test_exhibits, test_walks};
 use gen_local::Exhibit;
-use gen_net::Header;
+use gen_net::{Header, Marks};
 use gen_types::GeneralSet;
 use gen_walks::Walks;
 use std::marker::Model;
 
-/// The four bytes `SMB1`, which stand before a header of version 1, as a number.
-pub const MARK_ONE: u32 = 0x534d_4231;
-
-/// The four bytes `SMB2`, which stand before a header of version 2, as a number.
-pub const MARK_TWO: u32 = 0x534d_4232;
+/// The first four bytes of a bundle, `SMB1` before a header of version 1 and `SMB2` before one of version 2.
+pub const BUNDLE_MARKS: Marks = Marks {
+    one: 0x534d_4231,
+    two: 0x534d_4232,
+};
 
 /// What an audit is of: a header, the generals who are held for faulty, walks between the others, who are the
 /// rest, and what is shown as logs. A contract sees all of these as one record.

@@ -1,15 +1,50 @@
 -- Reading evidence from left to right, with the first fault that is met.
-use Rattle.std.specs.Prelude.{ℕ, List, Result, Err}
+use Rattle.std.specs.Prelude.{ℕ, ◌==◌, List, length, Result, Ok, nat_lt}
+use Rattle.gen_types.specs.Reading.{◌>>=◌, check, map_fault}
+use Rattle.gen_types.specs.Bytes.{byte_at}
+use Rattle.gen_net.specs.declared.marks.FrontFault.{FrontFault}
+use Rattle.gen_net.specs.declared.marks.FrontFault.TheVariants as fronts
+use Rattle.gen_net.specs.FrontReading.{front_at}
 use Rattle.gen_net.specs.Header.{RunHeader, IsHeader}
 use Rattle.gen_convict.specs.declared.evidence_fault.EvidenceFault.{EvidenceFault}
 use Rattle.gen_convict.specs.declared.evidence_fault.EvidenceFault.TheVariants as faults
-use Rattle.gen_convict.specs.Evidence.{IsEvidence}
-use Rattle.gen_convict.specs.EvidenceSpelling.{HeaderAndEvidence}
+use Rattle.gen_convict.specs.ClaimReading.{claim_at}
+use Rattle.gen_convict.specs.Evidence.{Accusation, IsEvidence}
+use Rattle.gen_convict.specs.EvidenceSpelling.{HeaderAndEvidence, evidence_marks}
 
 -- what evidence in bytes keeps: its header is one, and the evidence can stand under it
 abbrev pub IsWhole : HeaderAndEvidence → Type 0
 IsWhole x = IsHeader x.header × IsEvidence x.header x.evidence
 
+-- the accused, who is a general of the network, and the claim
+unfoldable pub accused_at : ℕ → List ℕ → Result (ℕ × List ℕ) EvidenceFault
+accused_at n bytes = do
+  accused ← byte_at faults.Truncated bytes
+  known ← check (nat_lt accused.0 n) faults.OutOfRange
+  Ok accused
+
+unfoldable pub accusation_at : RunHeader → List ℕ → Result (Accusation × List ℕ) EvidenceFault
+accusation_at h bytes = do
+  accused ← accused_at h.network.generals bytes
+  claim ← claim_at h accused.0 accused.1
+  Ok (record { accused = accused.0; claim = claim.0 }, claim.1)
+
+-- a fault of the mark and the header as one of evidence
+abbrev pub front_fault : FrontFault → EvidenceFault
+front_fault fronts.Truncated = faults.Truncated
+front_fault fronts.UnknownMark = faults.UnknownMark
+front_fault (fronts.BadHeader rule) = faults.BadHeader rule
+
+-- the mark and the header, the evidence under it, and the bytes after it
+unfoldable pub evidence_at : List ℕ → Result (HeaderAndEvidence × List ℕ) EvidenceFault
+evidence_at bytes = do
+  header ← map_fault front_fault (front_at evidence_marks bytes)
+  evidence ← accusation_at header.0 header.1
+  Ok (record { header = header.0; evidence = evidence.0 }, evidence.1)
+
 -- the header and the evidence that the whole of the bytes is
 unfoldable pub whole_evidence : List ℕ → Result HeaderAndEvidence EvidenceFault
-whole_evidence bytes = Err faults.Truncated
+whole_evidence bytes = do
+  whole ← evidence_at bytes
+  all ← check (length whole.1 == 0) faults.LeftOver
+  Ok whole.0

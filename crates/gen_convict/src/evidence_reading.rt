@@ -1,16 +1,106 @@
 //! Reading evidence.
-ghost use Rattle.std.specs.Prelude.{◌≡◌, IfOk, Ok};
-ghost use Rattle.gen_types.specs.Reading.{Gives};
-ghost use Rattle.gen_types.specs.Spelled.{Spells};
+ghost use Rattle.std.specs.Prelude.{◌≡◌, ◌≤◌, ◌<◌, IfOk, Ok};
+ghost use Rattle.gen_types.specs.Reading.{Gives, map_fault};
+ghost use Rattle.gen_types.specs.Spelled.{IsField, Spells};
+ghost use Rattle.gen_net.specs.FrontReading.{front_at};
 ghost use Rattle.gen_convict.specs.Evidence.{told_of};
-ghost use Rattle.gen_convict.specs.EvidenceReading.{IsWhole, whole_evidence};
-ghost use Rattle.gen_convict.specs.EvidenceSpelling.{HeaderAndEvidence, whole_spelling};
+ghost use Rattle.gen_convict.specs.EvidenceReading as reading;
+ghost use Rattle.gen_convict.specs.EvidenceReading.{IsWhole, evidence_at, whole_evidence};
+ghost use Rattle.gen_convict.specs.EvidenceSpelling.{HeaderAndEvidence, evidence_marks, whole_spelling};
 
+use crate::claim_reading::read_claim;
 use crate::evidence::Evidence;
 use crate::evidence_fault::EvidenceFault;
-use gen_net::Header;
-use gen_types::ReadError;
+use gen_net::{FrontFault, Header, Marks, read_front};
+use gen_types::{GeneralNo, ReadError, check, u8_at};
 use std::alloc::Global;
+
+/// The first four bytes of evidence, `SME1` before a header of version 1 and `SME2` before one of version 2.
+pub const EVIDENCE_MARKS: Marks = Marks {
+    one: 0x534d_4531,
+    two: 0x534d_4532,
+};
+
+/// A fault of the mark and the header as one of evidence.
+fn front_fault(fault: FrontFault) -> EvidenceFault
+    ensures { result ≡ reading.front_fault fault }
+{
+    match fault {
+        FrontFault::Truncated => EvidenceFault::Truncated,
+        FrontFault::UnknownMark => EvidenceFault::UnknownMark,
+        FrontFault::BadHeader(rule) => EvidenceFault::BadHeader(rule),
+    }
+}
+
+/// The mark and the header.
+fn read_front_field(
+    alloc: Global,
+    bytes: &[u8],
+) -> Result<(Header, &[u8]), ReadError<EvidenceFault>>
+    ensures { IsField result (map_fault reading.front_fault (front_at evidence_marks bytes.now)) }
+{
+    match read_front(alloc, EVIDENCE_MARKS, bytes) {
+        Ok(header) => Ok(header),
+        Err(ReadError::Memory) => Err(ReadError::Memory),
+        Err(ReadError::Fault(fault)) => Err(ReadError::Fault(front_fault(fault))),
+    }
+}
+
+/// The number of the accused, who is a general of the network.
+#[tactic(auto, unfolding(crate::specs::EvidenceReading::accused_at))]
+fn read_accused(n: u8, bytes: &[u8]) -> Result<(u8, &[u8]), ReadError<EvidenceFault>>
+    requires { n ≤ 16 }
+    ensures exact { IsField result (reading.accused_at n bytes.now) }
+    ensures known { IfOk result (λ x. x.0 < 16) }
+{
+    let (accused, rest) = u8_at(bytes, EvidenceFault::Truncated)?;
+    check(accused < n, EvidenceFault::OutOfRange)?;
+    Ok((accused, rest))
+}
+
+/// The accused, and what is held against him.
+#[tactic(auto, unfolding(crate::specs::EvidenceReading::accusation_at))]
+fn read_accusation<'a>(
+    alloc: Global,
+    header: &Header,
+    bytes: &'a [u8],
+) -> Result<(Evidence, &'a [u8]), ReadError<EvidenceFault>>
+    ensures { Gives (λ x. (told_of x.0, x.1.now)) result
+        (reading.accusation_at header.now bytes.now) }
+{
+    let (accused, rest) = read_accused(header.net().generals(), bytes)?;
+    let accused = GeneralNo::at(accused);
+    let (claim, rest) = read_claim(alloc, rest, header, accused)?;
+    Ok((Evidence { accused, claim }, rest))
+}
+
+/// The header and the evidence in front of the bytes, and the bytes after them.
+#[tactic(auto, unfolding(crate::specs::EvidenceReading::evidence_at))]
+fn evidence_in_front(
+    alloc: Global,
+    bytes: &[u8],
+) -> Result<(Header, Evidence, &[u8]), ReadError<EvidenceFault>>
+    ensures { Gives (λ x. (record { header = x.0; evidence = told_of x.1 }, x.2.now)) result
+        (evidence_at bytes.now) }
+{
+    let (header, rest) = read_front_field(alloc, bytes)?;
+    let (evidence, rest) = read_accusation(alloc, &header, rest)?;
+    Ok((header, evidence, rest))
+}
+
+/// The header and the evidence that all the bytes are.
+#[tactic(auto, unfolding(crate::specs::EvidenceReading::whole_evidence))]
+fn evidence_alone(
+    alloc: Global,
+    bytes: &[u8],
+) -> Result<(Header, Evidence), ReadError<EvidenceFault>>
+    ensures { Gives (λ x. record { header = x.0; evidence = told_of x.1 }) result
+        (whole_evidence bytes.now) }
+{
+    let (header, evidence, rest) = evidence_in_front(alloc, bytes)?;
+    check(rest.is_empty(), EvidenceFault::LeftOver)?;
+    Ok((header, evidence))
+}
 
 /// Returns the header and the evidence that all the bytes are: four bytes `SME1` or `SME2` and a header of
 /// version 1 or 2; the accused, and the kind of the claim, 1 to 4; then two texts, each with its signature; or two
@@ -36,5 +126,5 @@ pub fn read_evidence(
     ensures exact { Gives (λ x. record { header = x.0; evidence = told_of x.1 }) result
         (whole_evidence bytes.now) }
 {
-    Err(ReadError::Memory)
+    evidence_alone(alloc, bytes)
 }

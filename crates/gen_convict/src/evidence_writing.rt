@@ -1,11 +1,129 @@
 //! Writing evidence.
-ghost use Rattle.std.specs.Prelude.{◌≡◌, IfOk};
-ghost use Rattle.gen_convict.specs.Evidence.{IsEvidence, told_of};
+ghost use Rattle.std.specs.Prelude.{◌≡◌, ◌<◌, ◌^◌, ◌∷◌, ◌++◌, length, IfOk, OnOk};
+ghost use Rattle.gen_convict.specs.Evidence.{IsEvidence, HasShortLog, told_of};
+ghost use Rattle.gen_convict.specs.EvidenceSpelling as spelling;
+ghost use Rattle.gen_convict.specs.EvidenceSpelling.{text_spelling, signed_spelling, shown_spelling, claim_spelling};
 ghost use Rattle.gen_convict.specs.EvidenceSpelling.{evidence_spelling};
+ghost use Rattle.gen_convict.specs.First.{kind_of};
+ghost use Rattle.gen_convict.specs.Told.{told};
 
+use crate::claims::Claim;
 use crate::evidence::Evidence;
-use gen_net::Header;
+use crate::evidence_fields::{
+    DEPARTING_KIND, HEAD_KIND, MISSING_KIND, ORDERS_KIND, STATEMENT_KIND, TEXTS_KIND,
+};
+use crate::evidence_reading::EVIDENCE_MARKS;
+use gen_chain::{HeadText, Statement};
+use gen_local::{SignedText, Text};
+use gen_log::put_path;
+use gen_net::{Header, front_bytes};
+use gen_tree::Signature;
+use gen_types::OrderNo;
 use std::alloc::{AllocError, Global};
+
+/// Appends a statement behind the byte of its kind.
+fn put_statement(out: &mut Vec<u8>, statement: &Statement) -> Result<(), AllocError>
+    ensures { OnOk result (out.new.items
+        ≡ out.old.items ++ spelling.statement_kind ∷ spelling.statement_spelling statement.now) }
+{
+    let path = &statement.path;
+    out.extend_from_slice(&[STATEMENT_KIND, statement.order.get()])?;
+    out.reserve(1 + path.len())?;
+    put_path(out, path);
+    Ok(())
+}
+
+/// Appends a head behind the byte of its kind.
+fn put_head(out: &mut Vec<u8>, head: &HeadText) -> Result<(), AllocError>
+    ensures { OnOk result (out.new.items
+        ≡ out.old.items ++ spelling.head_kind ∷ spelling.head_spelling head.now) }
+{
+    out.push(HEAD_KIND)?;
+    out.extend_from_slice(&head.entries.to_be_bytes())?;
+    out.extend_from_slice(&head.last_link)
+}
+
+/// Appends a text.
+fn put_text(out: &mut Vec<u8>, text: &Text) -> Result<(), AllocError>
+    ensures { OnOk result (out.new.items ≡ out.old.items ++ text_spelling text.now) }
+{
+    match text {
+        Text::OfStatement(statement) => put_statement(out, statement),
+        Text::OfHead(head) => put_head(out, head),
+    }
+}
+
+/// Appends a text with its signature.
+fn put_signed(out: &mut Vec<u8>, signed: &SignedText) -> Result<(), AllocError>
+    ensures { OnOk result (out.new.items ≡ out.old.items ++ signed_spelling signed.now) }
+{
+    put_text(out, &signed.text)?;
+    signed.signature.append_to(out)
+}
+
+/// Appends an order, and the signature of the commander's statement.
+fn put_command(out: &mut Vec<u8>, order: OrderNo, signature: &Signature) -> Result<(), AllocError>
+    ensures { OnOk result (out.new.items ≡ out.old.items ++ order ∷ signature.now) }
+{
+    out.push(order.get())?;
+    signature.append_to(out)
+}
+
+/// Appends the bytes of a log behind their number.
+fn put_log(out: &mut Vec<u8>, log: &[u8]) -> Result<(), AllocError>
+    requires { length log.now < 2 ^ 32 }
+    ensures { OnOk result (out.new.items ≡ out.old.items ++ shown_spelling log.now) }
+{
+    out.extend_from_slice(&(log.len() as u32).to_be_bytes())?;
+    out.extend_from_slice(log)
+}
+
+/// The number of a claim's kind.
+fn kind_number(claim: &Claim) -> u8
+    ensures { result ≡ kind_of (told claim.now) }
+{
+    match claim {
+        Claim::Texts { .. } => TEXTS_KIND,
+        Claim::Orders { .. } => ORDERS_KIND,
+        Claim::Missing { .. } => MISSING_KIND,
+        Claim::Departing { .. } => DEPARTING_KIND,
+    }
+}
+
+/// Appends what is held against a general.
+fn put_claim(out: &mut Vec<u8>, claim: &Claim) -> Result<(), AllocError>
+    requires { HasShortLog (told claim.now) }
+    ensures { OnOk result (out.new.items ≡ out.old.items ++ claim_spelling (told claim.now)) }
+{
+    match claim {
+        Claim::Texts { first, second } => {
+            put_signed(out, first)?;
+            put_signed(out, second)
+        }
+        Claim::Orders {
+            first,
+            first_signature,
+            second,
+            second_signature,
+        } => {
+            put_command(out, *first, first_signature)?;
+            put_command(out, *second, second_signature)
+        }
+        Claim::Missing {
+            log,
+            statement,
+            signature,
+        } => {
+            put_log(out, log.as_slice())?;
+            put_statement(out, statement)?;
+            signature.append_to(out)
+        }
+        Claim::Departing { log, entry } => {
+            put_log(out, log.as_slice())?;
+            out.extend_from_slice(&entry.to_be_bytes())
+        }
+    }
+}
 
 /// Returns the one spelling of evidence under its header, as `read_evidence` reads it. It fails only where memory
 /// was refused.
@@ -17,5 +135,8 @@ pub fn write_evidence(
     requires { IsEvidence header.now (told_of evidence.now) }
     ensures { IfOk result (λ bytes. bytes.items ≡ evidence_spelling header.now (told_of evidence.now)) }
 {
-    Err(AllocError)
+    let mut out = front_bytes(alloc, EVIDENCE_MARKS, header)?;
+    out.extend_from_slice(&[evidence.accused.get(), kind_number(&evidence.claim)])?;
+    put_claim(&mut out, &evidence.claim)?;
+    Ok(out)
 }

@@ -1,5 +1,9 @@
 //! Laws of evidence and of its refutation. Each is a function whose contract is the law: a caller that calls
 //! it knows the law.
+ghost use Rattle.std.specs.Prelude.{◌≡◌, Ok};
+ghost use Rattle.gen_types.specs.Spelled.{HasOneSpelling};
+ghost use Rattle.gen_convict.specs.EvidenceReading.{IsWhole, whole_evidence};
+ghost use Rattle.gen_convict.specs.EvidenceSpelling.{HeaderAndEvidence, whole_spelling};
 ghost use Rattle.gen_convict.specs.Laws.{OneStatementOfEach, OneOrderOfCommander, NowhereDeparts, OneLinkText, LinksTell, Refutes};
 ghost use Rattle.gen_convict.specs.PairLaws.{FirstOfPlace, EarliestPlace, FirstCommand, OneOfEach, HasTwoTexts, OneFirstPair};
 ghost use Rattle.gen_convict.specs.FirstLaws.{TextsVerify, FirstHolds, GivenWhereHeld, OneClaim};
@@ -48,4 +52,11 @@ pub fn first_claims()
     ensures holds { FirstHolds }
     ensures given { GivenWhereHeld }
     ensures one { OneClaim }
+{}
+
+/// Evidence under a header has one spelling, and no spelling of evidence is the beginning of another (`one`); and
+/// what is written is read again (`again`).
+pub fn one_evidence_spelling()
+    ensures one { HasOneSpelling IsWhole whole_spelling }
+    ensures again { (e : HeaderAndEvidence) → IsWhole e → whole_evidence (whole_spelling e) ≡ Ok e }
 {}

@@ -8,9 +8,11 @@
 #![tactic(auto)]
 
 mod checking;
+mod claim_reading;
 mod claims;
 mod evidence;
 mod evidence_fault;
+mod evidence_fields;
 mod evidence_reading;
 mod evidence_writing;
 mod finding;
@@ -28,5 +30,7 @@ pub use finding::find_evidence;
 pub use refutations::Refutation;
 pub use refuting::refute;
 
+#[cfg(test)]
+mod evidence_tests;
 #[cfg(test)]
 mod tests;

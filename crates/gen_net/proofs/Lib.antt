@@ -1,4 +1,5 @@
 mod EdgeLists
+pub mod FrontLaws
 pub mod HeaderLaws
 pub mod Neighbours
 mod PlacedEdges

@@ -2,6 +2,8 @@ pub mod Chain
 pub mod Departs
 pub mod Edges
 pub mod Follows
+pub mod Front
+pub mod FrontReading
 pub mod Header
 pub mod HeaderReading
 pub mod Log

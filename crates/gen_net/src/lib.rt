@@ -9,9 +9,11 @@
 mod edges;
 mod fault;
 mod format;
+mod fronts;
 mod hashing;
 mod headers;
 pub mod laws;
+mod marks;
 mod message;
 mod net;
 mod numbers;
@@ -20,7 +22,9 @@ mod version;
 mod writing;
 
 pub use fault::HeaderFault;
+pub use fronts::{front_bytes, read_front};
 pub use headers::Header;
+pub use marks::{FrontFault, Marks};
 pub use message::Message;
 pub use net::Net;
 pub use numbers::NetNumbers;
@@ -28,6 +32,8 @@ pub use reading::read_header;
 pub use version::{GREATEST_SLOT, Version};
 pub use writing::header_bytes;
 
+#[cfg(test)]
+mod front_tests;
 #[cfg(test)]
 mod header_tests;
 #[cfg(test)]

@@ -9,3 +9,4 @@ pub mod Lists
 pub mod ManyFields
 pub mod Pushing
 pub mod Steps
+pub mod Wrapped

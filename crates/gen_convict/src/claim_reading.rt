@@ -1,0 +1,156 @@
+//! Reading what is held against a general.
+ghost use Rattle.std.specs.Prelude.{◌<◌, IfOk};
+ghost use Rattle.gen_types.specs.Reading.{Gives};
+ghost use Rattle.gen_types.specs.Spelled.{IsField};
+ghost use Rattle.gen_convict.specs.ClaimReading as reading;
+ghost use Rattle.gen_convict.specs.Told.{told};
+
+use crate::claims::Claim;
+use crate::evidence_fault::EvidenceFault;
+use crate::evidence_fields::{
+    DEPARTING_KIND, MISSING_KIND, ORDERS_KIND, STATEMENT_KIND, TEXTS_KIND, read_log_bytes,
+    read_order_field, read_signature, read_signed, read_statement,
+};
+use gen_chain::Statement;
+use gen_net::{Header, Net};
+use gen_tree::Signature;
+use gen_types::{GeneralNo, OrderNo, ReadError, check, u8_at, u32_at};
+use std::alloc::Global;
+
+/// Two texts of the accused.
+#[tactic(auto, unfolding(crate::specs::ClaimReading::two_texts_at))]
+fn read_two_texts<'a>(
+    alloc: Global,
+    bytes: &'a [u8],
+    header: &Header,
+    accused: GeneralNo,
+) -> Result<(Claim, &'a [u8]), ReadError<EvidenceFault>>
+    ensures { Gives (λ x. (told x.0, x.1.now)) result
+        (reading.two_texts_at header.now accused bytes.now) }
+{
+    let (first, rest) = read_signed(alloc, bytes, header, accused)?;
+    let (second, rest) = read_signed(alloc, rest, header, accused)?;
+    Ok((Claim::Texts { first, second }, rest))
+}
+
+/// The number of an order, and the signature of the commander's statement.
+#[tactic(auto, unfolding(crate::specs::ClaimReading::command_at))]
+fn read_command<'a>(
+    alloc: Global,
+    bytes: &'a [u8],
+    header: &Header,
+) -> Result<(u8, Signature, &'a [u8]), ReadError<EvidenceFault>>
+    ensures exact { Gives (λ x. ((x.0, x.1), x.2.now)) result (reading.command_at header.now bytes.now) }
+    ensures known { IfOk result (λ x. x.0 < 16) }
+{
+    let (order, rest) = read_order_field(bytes, header.net())?;
+    let (signature, rest) = read_signature(alloc, rest, header)?;
+    Ok((order, signature, rest))
+}
+
+/// Two orders of the commander.
+#[tactic(auto, unfolding(crate::specs::ClaimReading::two_orders_at))]
+fn read_two_orders<'a>(
+    alloc: Global,
+    bytes: &'a [u8],
+    header: &Header,
+) -> Result<(Claim, &'a [u8]), ReadError<EvidenceFault>>
+    ensures { Gives (λ x. (told x.0, x.1.now)) result (reading.two_orders_at header.now bytes.now) }
+{
+    let (first, first_signature, rest) = read_command(alloc, bytes, header)?;
+    let (second, second_signature, rest) = read_command(alloc, rest, header)?;
+    let claim = Claim::Orders {
+        first: OrderNo::at(first),
+        first_signature,
+        second: OrderNo::at(second),
+        second_signature,
+    };
+    Ok((claim, rest))
+}
+
+/// A text that has to be a statement.
+#[tactic(auto, unfolding(crate::specs::ClaimReading::missing_statement_at))]
+fn read_missing_statement<'a>(
+    bytes: &'a [u8],
+    net: &Net,
+) -> Result<(Statement, &'a [u8]), ReadError<EvidenceFault>>
+    ensures { IsField result (reading.missing_statement_at net.now bytes.now) }
+{
+    let (kind, rest) = u8_at(bytes, EvidenceFault::Truncated)?;
+    check(kind == STATEMENT_KIND, EvidenceFault::OutOfRange)?;
+    read_statement(rest, net)
+}
+
+/// A log, and a statement that it lacks.
+#[tactic(auto, unfolding(crate::specs::ClaimReading::missing_at))]
+fn read_missing<'a>(
+    alloc: Global,
+    bytes: &'a [u8],
+    header: &Header,
+) -> Result<(Claim, &'a [u8]), ReadError<EvidenceFault>>
+    ensures { Gives (λ x. (told x.0, x.1.now)) result (reading.missing_at header.now bytes.now) }
+{
+    let (log, rest) = read_log_bytes(alloc, bytes)?;
+    // The rules of `?` don't cover a statement beside a reference.
+    let (statement, rest) = match read_missing_statement(rest, header.net()) {
+        Ok(statement) => statement,
+        Err(error) => return Err(error),
+    };
+    let (signature, rest) = read_signature(alloc, rest, header)?;
+    let claim = Claim::Missing {
+        log,
+        statement,
+        signature,
+    };
+    Ok((claim, rest))
+}
+
+/// A log, and the number of the entry at which it departs.
+#[tactic(auto, unfolding(crate::specs::ClaimReading::departing_at))]
+fn read_departing(alloc: Global, bytes: &[u8]) -> Result<(Claim, &[u8]), ReadError<EvidenceFault>>
+    ensures { Gives (λ x. (told x.0, x.1.now)) result (reading.departing_at bytes.now) }
+{
+    let (log, rest) = read_log_bytes(alloc, bytes)?;
+    let (entry, rest) = u32_at(rest, EvidenceFault::Truncated)?;
+    Ok((Claim::Departing { log, entry }, rest))
+}
+
+/// The claim of the kind that a byte names.
+#[tactic(auto, unfolding(crate::specs::ClaimReading::claim_of_kind))]
+fn read_claim_of_kind<'a>(
+    alloc: Global,
+    bytes: &'a [u8],
+    header: &Header,
+    accused: GeneralNo,
+    kind: u8,
+) -> Result<(Claim, &'a [u8]), ReadError<EvidenceFault>>
+    ensures { Gives (λ x. (told x.0, x.1.now)) result
+        (reading.claim_of_kind header.now accused kind bytes.now) }
+{
+    if kind == TEXTS_KIND {
+        read_two_texts(alloc, bytes, header, accused)
+    } else if kind == ORDERS_KIND {
+        read_two_orders(alloc, bytes, header)
+    } else if kind == MISSING_KIND {
+        read_missing(alloc, bytes, header)
+    } else if kind == DEPARTING_KIND {
+        read_departing(alloc, bytes)
+    } else {
+        Err(ReadError::Fault(EvidenceFault::OutOfRange))
+    }
+}
+
+/// A claim against the accused, whose first byte names its kind.
+#[tactic(auto, unfolding(crate::specs::ClaimReading::claim_at))]
+pub fn read_claim<'a>(
+    alloc: Global,
+    bytes: &'a [u8],
+    header: &Header,
+    accused: GeneralNo,
+) -> Result<(Claim, &'a [u8]), ReadError<EvidenceFault>>
+    ensures { Gives (λ x. (told x.0, x.1.now)) result
+        (reading.claim_at header.now accused bytes.now) }
+{
+    let (kind, rest) = u8_at(bytes, EvidenceFault::Truncated)?;
+    read_claim_of_kind(alloc, rest, header, accused, kind)
+}

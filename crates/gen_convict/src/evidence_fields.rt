@@ -1,0 +1,224 @@
+//! Fields of evidence: texts, signatures and logs.
+ghost use Rattle.std.specs.Prelude.{◌≡◌, ◌<◌, [], IfOk};
+ghost use Rattle.gen_types.specs.Reading.{Gives};
+ghost use Rattle.gen_types.specs.Spelled.{IsField};
+ghost use Rattle.gen_convict.specs.EvidenceFields as field;
+
+use crate::evidence_fault::EvidenceFault;
+use gen_chain::{HeadText, Statement};
+use gen_local::{SignedText, Text};
+use gen_log::{LogFault, read_order, read_path};
+use gen_net::{Header, Net};
+use gen_ots::SigRoom;
+use gen_tree::Signature;
+use gen_tree::sizes::signature_bytes;
+use gen_types::{GeneralNo, OrderNo, Path, ReadError, bytes_at, u8_at, u32_at, u64_at};
+use std::alloc::Global;
+
+/// The kind of a claim by two texts.
+pub const TEXTS_KIND: u8 = 1;
+
+/// The kind of a claim by two orders.
+pub const ORDERS_KIND: u8 = 2;
+
+/// The kind of a claim by a log and a statement that is missing from it.
+pub const MISSING_KIND: u8 = 3;
+
+/// The kind of a claim by a log that departs.
+pub const DEPARTING_KIND: u8 = 4;
+
+/// The byte before a statement.
+pub const STATEMENT_KIND: u8 = 1;
+
+/// The byte before a head.
+pub const HEAD_KIND: u8 = 2;
+
+/// The bytes of a last link.
+const LINK_BYTES: usize = 32;
+
+/// A fault of a log's field as one of evidence.
+fn field_fault(fault: LogFault) -> EvidenceFault
+    ensures { result ≡ field.field_fault fault }
+{
+    match fault {
+        LogFault::Truncated => EvidenceFault::Truncated,
+        _ => EvidenceFault::OutOfRange,
+    }
+}
+
+/// The number of an order of the network.
+pub fn read_order_field<'a>(
+    bytes: &'a [u8],
+    net: &Net,
+) -> Result<(u8, &'a [u8]), ReadError<EvidenceFault>>
+    ensures exact { IsField result (field.order_at net.now bytes.now) }
+    ensures known { IfOk result (λ x. x.0 < 16) }
+{
+    match read_order(bytes, net) {
+        Ok(order) => Ok(order),
+        Err(ReadError::Memory) => Err(ReadError::Memory),
+        Err(ReadError::Fault(fault)) => Err(ReadError::Fault(field_fault(fault))),
+    }
+}
+
+/// Reads a path of the network into an empty path, and returns the bytes after it.
+fn read_path_field<'a>(
+    bytes: &'a [u8],
+    net: &Net,
+    path: &mut Path,
+) -> Result<&'a [u8], ReadError<EvidenceFault>>
+    requires { path.old ≡ [] }
+    ensures { Gives (λ rest. (path.new, rest.now)) result (field.path_at net.now bytes.now) }
+{
+    match read_path(bytes, net, path) {
+        Ok(rest) => Ok(rest),
+        Err(ReadError::Memory) => Err(ReadError::Memory),
+        Err(ReadError::Fault(fault)) => Err(ReadError::Fault(field_fault(fault))),
+    }
+}
+
+/// A statement.
+#[tactic(auto, unfolding(crate::specs::EvidenceFields::statement_at))]
+pub fn read_statement<'a>(
+    bytes: &'a [u8],
+    net: &Net,
+) -> Result<(Statement, &'a [u8]), ReadError<EvidenceFault>>
+    ensures { IsField result (field.statement_at net.now bytes.now) }
+{
+    let (order, rest) = read_order_field(bytes, net)?;
+    let mut path = Path::new();
+    let rest = read_path_field(rest, net, &mut path)?;
+    let order = OrderNo::at(order);
+    Ok((Statement { order, path }, rest))
+}
+
+/// A head of the general's log.
+#[tactic(auto, unfolding(crate::specs::EvidenceFields::head_at))]
+fn read_head(
+    bytes: &[u8],
+    general: GeneralNo,
+) -> Result<(HeadText, &[u8]), ReadError<EvidenceFault>>
+    ensures { IsField result (field.head_at general bytes.now) }
+{
+    let (entries, rest) = u64_at(bytes, EvidenceFault::Truncated)?;
+    let (link, rest) = bytes_at(rest, LINK_BYTES, EvidenceFault::Truncated)?;
+    let mut last_link = [0; LINK_BYTES];
+    last_link.copy_from_slice(link);
+    let head = HeadText {
+        general,
+        entries,
+        last_link,
+    };
+    Ok((head, rest))
+}
+
+/// A statement as a text.
+#[tactic(auto, unfolding(crate::specs::EvidenceFields::statement_text_at))]
+fn read_statement_text<'a>(
+    bytes: &'a [u8],
+    net: &Net,
+) -> Result<(Text, &'a [u8]), ReadError<EvidenceFault>>
+    ensures { IsField result (field.statement_text_at net.now bytes.now) }
+{
+    match read_statement(bytes, net) {
+        Ok((statement, rest)) => Ok((Text::OfStatement(statement), rest)),
+        Err(error) => Err(error),
+    }
+}
+
+/// A head as a text.
+#[tactic(auto, unfolding(crate::specs::EvidenceFields::head_text_at))]
+fn read_head_text(
+    bytes: &[u8],
+    general: GeneralNo,
+) -> Result<(Text, &[u8]), ReadError<EvidenceFault>>
+    ensures { IsField result (field.head_text_at general bytes.now) }
+{
+    match read_head(bytes, general) {
+        Ok((head, rest)) => Ok((Text::OfHead(head), rest)),
+        Err(error) => Err(error),
+    }
+}
+
+/// The general's text of the kind that a byte names.
+#[tactic(auto, unfolding(crate::specs::EvidenceFields::text_of_kind))]
+fn read_text_of_kind<'a>(
+    bytes: &'a [u8],
+    net: &Net,
+    general: GeneralNo,
+    kind: u8,
+) -> Result<(Text, &'a [u8]), ReadError<EvidenceFault>>
+    ensures { IsField result (field.text_of_kind net.now general kind bytes.now) }
+{
+    if kind == STATEMENT_KIND {
+        read_statement_text(bytes, net)
+    } else if kind == HEAD_KIND {
+        read_head_text(bytes, general)
+    } else {
+        Err(ReadError::Fault(EvidenceFault::OutOfRange))
+    }
+}
+
+/// A text of the general, whose first byte names its kind.
+#[tactic(auto, unfolding(crate::specs::EvidenceFields::text_at))]
+fn read_text<'a>(
+    bytes: &'a [u8],
+    net: &Net,
+    general: GeneralNo,
+) -> Result<(Text, &'a [u8]), ReadError<EvidenceFault>>
+    ensures { IsField result (field.text_at net.now general bytes.now) }
+{
+    let (kind, rest) = u8_at(bytes, EvidenceFault::Truncated)?;
+    read_text_of_kind(rest, net, general, kind)
+}
+
+/// A signature by a tree of the run's height.
+pub fn read_signature<'a>(
+    alloc: Global,
+    bytes: &'a [u8],
+    header: &Header,
+) -> Result<(Signature, &'a [u8]), ReadError<EvidenceFault>>
+    ensures { IsField result (field.signature_at header.now bytes.now) }
+{
+    let count = signature_bytes(header.height());
+    let (signature, rest) = bytes_at(bytes, count, EvidenceFault::Truncated)?;
+    let room = SigRoom::new(alloc, header.height())?;
+    Ok((Signature::read(room, signature), rest))
+}
+
+/// A text of the general with its signature.
+#[tactic(auto, unfolding(crate::specs::EvidenceFields::signed_at))]
+pub fn read_signed<'a>(
+    alloc: Global,
+    bytes: &'a [u8],
+    header: &Header,
+    general: GeneralNo,
+) -> Result<(SignedText, &'a [u8]), ReadError<EvidenceFault>>
+    ensures { IsField result (field.signed_at header.now general bytes.now) }
+{
+    // The rules of `?` don't cover a text beside a reference.
+    let (text, rest) = match read_text(bytes, header.net(), general) {
+        Ok(text) => text,
+        Err(error) => return Err(error),
+    };
+    let (signature, rest) = read_signature(alloc, rest, header)?;
+    let signed = SignedText {
+        signer: general,
+        text,
+        signature,
+    };
+    Ok((signed, rest))
+}
+
+/// The bytes of a log, which are copied, behind their number.
+#[tactic(auto, unfolding(crate::specs::EvidenceFields::log_at))]
+pub fn read_log_bytes(
+    alloc: Global,
+    bytes: &[u8],
+) -> Result<(Vec<u8>, &[u8]), ReadError<EvidenceFault>>
+    ensures { Gives (λ x. (x.0.items, x.1.now)) result (field.log_at bytes.now) }
+{
+    let (size, rest) = u32_at(bytes, EvidenceFault::Truncated)?;
+    let (log, rest) = bytes_at(rest, size as usize, EvidenceFault::Truncated)?;
+    Ok((Vec::from_slice(alloc, log)?, rest))
+}
