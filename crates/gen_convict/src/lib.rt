@@ -9,6 +9,7 @@
 
 mod checking;
 mod claims;
+mod colliding;
 mod evidence;
 mod evidence_fault;
 mod evidence_reading;
