@@ -7,7 +7,8 @@ use Rattle.sha2.proofs.Facts256.{length-sha256}
 use Rattle.gen_net.specs.Header.{RunHeader, IsHeader}
 use Rattle.gen_log.specs.declared.entries.Entry.{Entry}
 use Rattle.gen_log.specs.Entry.{IsEntryOf}
-use Rattle.gen_log.specs.Links.{next_link, link_behind}
+use Rattle.gen_chain.specs.declared.statements.HeadText.{HeadText}
+use Rattle.gen_log.specs.Links.{first_link, next_link, link_behind, link_over, head_over}
 use Rattle.gen_convict.specs.Refuting.{link_text}
 use Rattle.gen_convict.specs.Laws.{OneLinkText}
 
@@ -53,3 +54,10 @@ tells_on one h a b s t es fs i e f ok wide_a wide_b is_e is_f below_e below_f at
     ∙ ap (λ xs. xs ++ e ∷ []) (tells below.0)
     ∙ ap (λ x. take i fs ++ x ∷ []) below.1
     ∙ sym (take_more fs i f below_f at_f)
+
+-- equal heads are over equal last links
+pub links_meet : (h : RunHeader) (g : ℕ) (first : List ℕ) (es fs : List Entry) → first ≡ link_over h g [] → head_over h g es ≡ head_over h g fs → link_behind first es ≡ link_behind first fs
+links_meet h g first es fs is heads =
+    let begun : first_link h g ≡ first = no_links (first_link h g) ∙ sym is in
+    let last : link_behind (first_link h g) es ≡ link_behind (first_link h g) fs = ap (λ (t : HeadText). t.last_link) heads in
+    subst (λ l. link_behind l es ≡ link_behind l fs) begun last

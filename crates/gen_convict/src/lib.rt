@@ -16,6 +16,7 @@ mod evidence_reading;
 mod evidence_writing;
 mod finding;
 pub mod laws;
+mod own_logs;
 mod refutations;
 mod refuting;
 
@@ -26,6 +27,7 @@ pub use evidence_fault::EvidenceFault;
 pub use evidence_reading::read_evidence;
 pub use evidence_writing::write_evidence;
 pub use finding::find_evidence;
+pub use own_logs::is_own_log;
 pub use refutations::Refutation;
 pub use refuting::refute;
 
