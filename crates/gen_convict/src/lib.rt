@@ -32,4 +32,6 @@ pub use refutations::Refutation;
 pub use refuting::refute;
 
 #[cfg(test)]
+mod refuting_tests;
+#[cfg(test)]
 mod tests;
