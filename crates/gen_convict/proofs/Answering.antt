@@ -1,5 +1,5 @@
 -- What is answered to a claim, from the texts and logs that it has.
-use Rattle.std.proofs.Common.{◌≡◌, ◌≢◌, ℕ, inl, inr, Result, Ok, Err, IfOk, List, [], ◌∷◌, refl, sym, ap, subst}
+use Rattle.std.proofs.Common.{◌≡◌, ◌≢◌, ℕ, inl, inr, Result, Ok, Err, IfOk, List, refl, sym, ap, subst}
 use Rattle.gen_types.specs.Spelled.{Spells}
 use Rattle.gen_net.specs.Header.{RunHeader, IsHeader}
 use Rattle.gen_chain.specs.declared.statements.Statement.{Statement}
@@ -10,7 +10,7 @@ use Rattle.gen_log.specs.Signing.{HasSign}
 use Rattle.gen_local.specs.declared.texts.SignedText.{SignedText}
 use Rattle.gen_local.specs.declared.texts.Text.{Text}
 use Rattle.gen_local.specs.declared.texts.Text.TheVariants.{OfStatement, OfHead}
-use Rattle.gen_local.specs.SignedTexts.{stated, head_in}
+use Rattle.gen_local.specs.SignedTexts.{head_in}
 use Rattle.gen_convict.specs.declared.refutations.Refutation as answers
 use Rattle.gen_convict.specs.Accused.{TextVerifies, command}
 use Rattle.gen_convict.specs.Answers.{answer_of, SaysForged}

@@ -1,11 +1,11 @@
 -- Whose log it is that a follower kept.
-use Rattle.std.proofs.Common.{◌≡◌, ℕ, Option, Some, None, Bool, true, false, List, [], ◌∷◌, map, Contains, refl, sym, ap, subst, ◌∙◌}
+use Rattle.std.proofs.Common.{◌≡◌, ℕ, Option, Some, None, Bool, true, false, List, ◌∷◌, Contains, refl, sym, ap, subst, ◌∙◌}
 use Rattle.std.specs.Option.{is_some}
 use Rattle.gen_types.proofs.Lists.{Contains_here}
 use Rattle.gen_net.specs.Network.{Network}
 use Rattle.gen_net.specs.Run.{Run}
 use Rattle.gen_net.specs.Follows.{Conduct, Commands, Relays}
-use Rattle.gen_net.specs.Log.{LogEntry, Started, IsEntry}
+use Rattle.gen_net.specs.Log.{Started, IsEntry}
 use Rattle.gen_net.specs.Departs.{IsFollowersLog}
 use Rattle.gen_log.specs.declared.entries.Entry.{Entry}
 use Rattle.gen_log.specs.declared.entries.Entry.TheVariants.{Start}

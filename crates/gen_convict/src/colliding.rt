@@ -25,12 +25,7 @@ struct Side {
 }
 
 /// Fills a buffer anew with what is hashed for the link behind an entry.
-fn fill(
-    alloc: Global,
-    text: &mut Vec<u8>,
-    link: &[u8; 32],
-    entry: &Entry,
-) -> Result<(), AllocError>
+fn fill(alloc: Global, text: &mut Vec<u8>, link: &[u8; 32], entry: &Entry) -> Result<(), AllocError>
     ensures { OnOk result (text.new.items ≡ link_text link.now entry.now) }
 {
     let spelled = entry_bytes(alloc, entry)?;

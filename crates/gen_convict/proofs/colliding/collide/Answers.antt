@@ -1,4 +1,4 @@
-use Rattle.std.proofs.Common.{◌≡◌, ◌≢◌, ◌<◌, inl, inr, length, refl, arith}
+use Rattle.std.proofs.Common.{◌<◌, inl, inr, length, refl, arith}
 use Rattle.gen_log.specs.Entry.{IsEntryOf}
 use Rattle.gen_convict.proofs.Linked.{same_or_not}
 use Rattle.gen_convict.proofs.Meeting.{no_links, link_on, tells_on, is_at, wide}

@@ -1,5 +1,5 @@
-use Rattle.std.proofs.Common.{◌≡◌, ◌≢◌, sym, ap, ◌∙◌}
-use Rattle.gen_log.specs.Links.{head_over, link_behind}
+use Rattle.std.proofs.Common.{◌≢◌, sym, ap, ◌∙◌}
+use Rattle.gen_log.specs.Links.{head_over}
 use Rattle.gen_convict.proofs.Answering.{head_answered, the_other}
 use Rattle.gen_convict.proofs.Meeting.{links_meet}
 use Rattle.gen_convict.proofs.refuting.refute_log.Goals as goal
