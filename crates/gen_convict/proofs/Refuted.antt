@@ -105,7 +105,7 @@ head_or_not s t = elim (cases_eq s.general t.general) [
   ]
 ]
 
-has_or_not : (h : RunHeader) (g : ℕ) (own : RunLog) (text : Text) → Either (HasText h g own text)
+pub has_or_not : (h : RunHeader) (g : ℕ) (own : RunLog) (text : Text) → Either (HasText h g own text)
 has_or_not h g own (OfStatement s) = has_sign_or_not own s
 has_or_not h g own (OfHead head) = head_or_not head (head_over h g own.entries)
 
@@ -128,7 +128,7 @@ pub statement_same : (s t : Statement) → s.order ≡ t.order → s.path ≡ t.
 unfolding statement_with
 statement_same s t e0 e1 = ap (λ (x : ℕ). statement_with x s.path) e0 ∙ ap (λ (x : List ℕ). statement_with t.order x) e1
 
-not_both : (h : RunHeader) (g : ℕ) (own : RunLog) → IsFollowersLog h.network g (erased own.entries) → (x y : Text) → AreUnlike x y → HasText h g own x → HasText h g own y → ⊥
+pub not_both : (h : RunHeader) (g : ℕ) (own : RunLog) → IsFollowersLog h.network g (erased own.entries) → (x y : Text) → AreUnlike x y → HasText h g own x → HasText h g own y → ⊥
 not_both h g own l (OfStatement s) (OfStatement t) d hs ht =
     let ss = signed own s hs in
     let st = subst (λ (v : ℕ). Contains (erased own.entries) (Signed v t.path)) (sym d.0) (signed own t ht) in
@@ -136,6 +136,12 @@ not_both h g own l (OfStatement s) (OfStatement t) d hs ht =
 not_both h g own l (OfStatement s) (OfHead t) d hs ht = d
 not_both h g own l (OfHead s) (OfStatement t) d hs ht = d
 not_both h g own l (OfHead s) (OfHead t) d hs ht = d (hs ∙ sym ht)
+
+-- nor of two orders, where he is the commander
+pub not_both_orders : (h : RunHeader) (g : ℕ) (own : RunLog) → g ≡ 0 → IsFollowersLog h.network g (erased own.entries) → (v w : ℕ) → v ≢ w → HasSign own (record { order = v; path = 0 ∷ [] }) → HasSign own (record { order = w; path = 0 ∷ [] }) → ⊥
+not_both_orders h g own e l v w differ hv hw =
+    let commands : IsFollowersLog h.network 0 (erased own.entries) = subst (λ x. IsFollowersLog h.network x (erased own.entries)) e l in
+    differ (one_order h.network (erased own.entries) commands v w (0 ∷ []) (0 ∷ []) (signed own (record { order = v; path = 0 ∷ [] }) hv) (signed own (record { order = w; path = 0 ∷ [] }) hw))
 
 -- of two texts that the log can't have both of one is forged
 one_forged : (h : RunHeader) (g : ℕ) (claim : Claim) (own : RunLog) (x y : SignedText) → IsTextIn h g claim x → IsTextIn h g claim y → TextVerifies h g x → TextVerifies h g y → (HasText h g own x.text → HasText h g own y.text → ⊥) → Answered h g claim own
@@ -145,6 +151,15 @@ one_forged h g claim own x y in_x in_y vx vy apart = elim (has_or_not h g own x.
 ]
 
 -- ---- another log with a head that verifies
+
+-- a log without a statement that his own has is another
+pub apart_missing : (own log : RunLog) (s : Statement) → HasSign own s → (HasSign log s → ⊥) → log.entries ≢ own.entries
+apart_missing own log s has missing = λ e. missing (has.0, subst (λ (es : List Entry). Contains es (Sign s.order s.path has.0)) (sym e) has.1)
+
+-- and so is one that departs
+pub apart_departing : (h : RunHeader) (g : ℕ) (own log : RunLog) (p : ℕ) → IsFollowersLog h.network g (erased own.entries) → DepartsAt h.network g (erased log.entries) p → log.entries ≢ own.entries
+apart_departing h g own log p l departs =
+    λ e. nowhere h.network g (erased own.entries) p l (subst (λ (es : List Entry). DepartsAt h.network g (erased es) p) e departs)
 
 other_log : LinksTell → (h : RunHeader) (g : ℕ) (claim : Claim) (own : RunLog) (bytes : List ℕ) (log : RunLog) → IsHeader h → IsOwnLog h g own → IsSealedLogOf h g bytes log → (log.entries ≢ own.entries) → ((text : SignedText) → IsHeadIn h g bytes text → IsTextIn h g claim text) → Answered h g claim own
 unfolding first_link
@@ -170,16 +185,11 @@ pub refutes : LinksTell → Refutes
 refutes tell h accused (TwoTexts first second) own ok holds is_own =
     one_forged h accused (TwoTexts first second) own first second (inl refl) (inr refl) holds.one holds.other (not_both h accused own is_own.followed first.text second.text holds.different)
 refutes tell h accused (TwoOrders v a w b) own ok holds is_own =
-    let l : IsFollowersLog h.network 0 (erased own.entries) = subst (λ g. IsFollowersLog h.network g (erased own.entries)) holds.commander is_own.followed in
-    one_forged h accused (TwoOrders v a w b) own (command v a) (command w b) (inl refl) (inr refl) holds.one holds.other (λ hv hw.
-    holds.different (one_order h.network (erased own.entries) l v w (0 ∷ []) (0 ∷ []) (signed own (record { order = v; path = 0 ∷ [] }) hv) (signed own (record { order = w; path = 0 ∷ [] }) hw)))
+    one_forged h accused (TwoOrders v a w b) own (command v a) (command w b) (inl refl) (inr refl) holds.one holds.other
+    (not_both_orders h accused own holds.commander is_own.followed v w holds.different)
 refutes tell h accused (MissingFromLog bytes statement signature) own ok holds is_own = elim (has_sign_or_not own statement) [
   | inr none ↦ (Forged (stated statement.order statement.path accused signature), record { inside = inl refl; verifies = holds.verifies; absent = none })
-  | inl has ↦ other_log tell h accused (MissingFromLog bytes statement signature) own bytes holds.log ok is_own holds.his
-      (λ e. holds.missing (has.0, subst (λ (es : List Entry). Contains es (Sign statement.order statement.path has.0)) (sym e) has.1))
-      (λ text i. inr i)
+  | inl has ↦ other_log tell h accused (MissingFromLog bytes statement signature) own bytes holds.log ok is_own holds.his (apart_missing own holds.log statement has holds.missing) (λ text i. inr i)
 ]
 refutes tell h accused (DepartingLog bytes p) own ok holds is_own =
-    other_log tell h accused (DepartingLog bytes p) own bytes holds.log ok is_own holds.his
-    (λ e. nowhere h.network accused (erased own.entries) p is_own.followed (subst (λ (es : List Entry). DepartsAt h.network accused (erased es) p) e holds.departs))
-    (λ text i. i)
+    other_log tell h accused (DepartingLog bytes p) own bytes holds.log ok is_own holds.his (apart_departing h accused own holds.log p is_own.followed holds.departs) (λ text i. i)

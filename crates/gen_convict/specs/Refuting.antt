@@ -54,10 +54,14 @@ pub record IsForged (h : RunHeader) (accused : ℕ) (claim : Claim) (own : RunLo
   pub verifies : TextVerifies h accused text
   pub absent : HasText h accused own text.text → ⊥
 
--- a text is forged, or the two strings differ and have one hash
+-- the two strings differ and have one hash
+abbrev pub AreColliding : List ℕ → List ℕ → Type 0
+AreColliding a b = (a ≢ b) × (sha256 a ≡ sha256 b)
+
+-- a text is forged, or two strings collide
 abbrev pub IsRefutation : RunHeader → ℕ → Claim → RunLog → Refutation → Type 0
 IsRefutation h accused claim own (Forged text) = IsForged h accused claim own text
-IsRefutation h accused claim own (Collision a b) = (a ≢ b) × (sha256 a ≡ sha256 b)
+IsRefutation h accused claim own (Collision a b) = AreColliding a b
 
 -- what is hashed for the link behind an entry
 abbrev pub link_text : List ℕ → Entry → List ℕ

@@ -169,7 +169,7 @@ fn says_it_is_of(header: &Header, general: GeneralNo, log: &Log) -> bool
 }
 
 /// Whether a log says that it is the general's of this run, and its head verifies.
-fn is_sealed_by(header: &Header, general: GeneralNo, log: &Log) -> bool
+pub fn is_sealed_by(header: &Header, general: GeneralNo, log: &Log) -> bool
     requires { general < header.now.network.generals }
     ensures { IsTrue result
         ↔ (SaysItIsOf header.now general log.now × HeadVerifies header.now general log.now) }

@@ -10,6 +10,7 @@
 mod checking;
 mod claim_reading;
 mod claims;
+mod colliding;
 mod evidence;
 mod evidence_fault;
 mod evidence_fields;
@@ -17,6 +18,7 @@ mod evidence_reading;
 mod evidence_writing;
 mod finding;
 pub mod laws;
+mod own_logs;
 mod refutations;
 mod refuting;
 
@@ -27,10 +29,13 @@ pub use evidence_fault::EvidenceFault;
 pub use evidence_reading::read_evidence;
 pub use evidence_writing::write_evidence;
 pub use finding::find_evidence;
+pub use own_logs::is_own_log;
 pub use refutations::Refutation;
 pub use refuting::refute;
 
 #[cfg(test)]
 mod evidence_tests;
+#[cfg(test)]
+mod refuting_tests;
 #[cfg(test)]
 mod tests;

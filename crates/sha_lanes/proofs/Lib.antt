@@ -1,4 +1,4 @@
-pub mod LaneFacts
 mod BlockBytes
 mod Scheduled
 mod Taken
+pub mod LaneFacts

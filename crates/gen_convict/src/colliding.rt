@@ -1,0 +1,105 @@
+//! Two strings of bytes with one hash, where links agree behind entries that differ.
+ghost use Rattle.std.specs.Prelude.{◌≡◌, ◌≢◌, ◌↔◌, IsTrue, IfOk, OnOk, length};
+ghost use Rattle.std.specs.List.{AllByRecursion};
+ghost use Rattle.sha2.specs.Sha256.{sha256};
+ghost use Rattle.gen_log.specs.Entry.{IsEntryOf};
+ghost use Rattle.gen_log.specs.Links.{link_behind};
+ghost use Rattle.gen_convict.specs.Refuting.{AreColliding, link_text};
+
+use crate::laws::links_tell;
+use gen_log::{Entry, entry_bytes};
+use gen_net::Header;
+use sha2::{Digest, Sha256};
+use std::alloc::{AllocError, Global};
+
+/// The byte before each link but the first, where it is hashed.
+const LINK_PREFIX: u8 = 0x21;
+
+/// How far a walk over the entries of a log has come.
+#[derive(Drop)]
+struct Side {
+    /// The link behind the entries so far.
+    link: [u8; 32],
+    /// What was hashed for it; before all entries nothing.
+    text: Vec<u8>,
+}
+
+/// Fills a buffer anew with what is hashed for the link behind an entry.
+fn fill(alloc: Global, text: &mut Vec<u8>, link: &[u8; 32], entry: &Entry) -> Result<(), AllocError>
+    ensures { OnOk result (text.new.items ≡ link_text link.now entry.now) }
+{
+    let spelled = entry_bytes(alloc, entry)?;
+    text.clear();
+    text.push(LINK_PREFIX)?;
+    text.extend_from_slice(link)?;
+    text.extend_from_slice(&spelled)
+}
+
+/// The hash of a string of bytes.
+fn hash_of(text: &[u8]) -> [u8; 32]
+    ensures { result ≡ sha256 text.now }
+{
+    Sha256::digest(text)
+}
+
+/// Walks on over one entry.
+fn walk_on(alloc: Global, side: &mut Side, entry: &Entry) -> Result<(), AllocError>
+    ensures text { OnOk result (side.new.text.items ≡ link_text side.old.link entry.now) }
+    ensures link { OnOk result (side.new.link ≡ sha256 side.new.text.items) }
+{
+    fill(alloc, &mut side.text, &side.link, entry)?;
+    side.link = hash_of(&side.text);
+    Ok(())
+}
+
+/// Whether the links of two walks are equal, and not what was hashed for them.
+fn have_met(left: &Side, right: &Side) -> bool
+    ensures { IsTrue result
+        ↔ ((left.now.link ≡ right.now.link) × (left.now.text.items ≢ right.now.text.items)) }
+{
+    left.link == right.link && left.text != right.text
+}
+
+/// Returns two strings of bytes that are not the same and have one hash of SHA-256. It asks for two lists of as
+/// many entries, which are not the same, with equal last links over them from one first link.
+///
+/// The strings are what was hashed at the first place where that differs and the links behind it agree. There
+/// is such a place: where what is hashed is equal, so are the entries and the links before them.
+///
+/// # Errors
+///
+/// `AllocError` where memory is refused.
+pub fn collide(
+    alloc: Global,
+    header: &Header,
+    first: &[u8; 32],
+    own: &[Entry],
+    other: &[Entry],
+) -> Result<(Vec<u8>, Vec<u8>), AllocError>
+    requires own { AllByRecursion (IsEntryOf header.now) own.now }
+    requires other { AllByRecursion (IsEntryOf header.now) other.now }
+    requires length { length own.now ≡ length other.now }
+    requires links { link_behind first.now own.now ≡ link_behind first.now other.now }
+    requires differ { own.now ≢ other.now }
+    ensures { IfOk result (λ pair. AreColliding pair.0.items pair.1.items) }
+{
+    // A read of the network makes known what each header keeps.
+    let _net = header.net();
+    links_tell();
+    let mut left = Side {
+        link: *first,
+        text: Vec::new(alloc),
+    };
+    let mut right = Side {
+        link: *first,
+        text: Vec::new(alloc),
+    };
+    'places: for i in 0..own.len() {
+        walk_on(alloc, &mut left, &own[i])?;
+        walk_on(alloc, &mut right, &other[i])?;
+        if have_met(&left, &right) {
+            return Ok((left.text, right.text));
+        }
+    }
+    unreachable!()
+}
