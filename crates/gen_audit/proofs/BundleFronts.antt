@@ -1,5 +1,5 @@
 -- The mark, the header and the set in front of a bundle: what was read is what stood there, and what was written is read again.
-use Rattle.std.proofs.Common.{◌≡◌, ℕ, ◌^◌, ◌<◌, ◌≤◌, List, ◌++◌, Contains, Ok, sym, ap, subst, arith}
+use Rattle.std.proofs.Common.{◌≡◌, ℕ, ◌^◌, ◌<◌, ◌≤◌, List, ◌++◌, Contains, Ok, refl, sym, ap, subst, arith}
 use Rattle.std.specs.Int.{w16, to_be_bytes}
 use Rattle.std.proofs.lemmas.List.Elements.{All-contains}
 use Rattle.gen_types.specs.Bits.{members_of, bits_of}
