@@ -59,7 +59,7 @@ abbrev pub new_one : List SignedText → SignedText → List SignedText
 new_one before t = cond (list_any (λ x. is_like x.text t.text) before) [] (t ∷ [])
 
 -- of the texts that are left, the first of each place that none of those before them stands in
-unfoldable pub one_each : List SignedText → List SignedText → List SignedText
+abbrev pub one_each : List SignedText → List SignedText → List SignedText
 one_each before [] = []
 one_each before (t ∷ texts) = new_one before t ++ one_each (before ++ new_one before t) texts
 

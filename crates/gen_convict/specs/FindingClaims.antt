@@ -83,11 +83,17 @@ abbrev pub departing_claim : ℕ → List Report → Option Claim
 departing_claim general reports = departing_in (find (departs general) reports)
 
 -- the claim of the least kind
+abbrev pub claim_by_log : ℕ → List SignedText → List Report → Option Claim
+claim_by_log general firsts reports =
+    option_or (missing_claim general firsts reports) (departing_claim general reports)
+
+abbrev pub claim_behind_texts : ℕ → List SignedText → List SignedText → List Report → Option Claim
+claim_behind_texts general firsts texts reports =
+    option_or (orders_claim general texts) (claim_by_log general firsts reports)
+
 abbrev pub claim_by : ℕ → List SignedText → List SignedText → List Report → Option Claim
 claim_by general firsts texts reports =
-    option_or (texts_claim firsts texts)
-    (option_or (orders_claim general texts)
-    (option_or (missing_claim general firsts reports) (departing_claim general reports)))
+    option_or (texts_claim firsts texts) (claim_behind_texts general firsts texts reports)
 
 unfoldable pub claim_for : List Report → ℕ → Option Claim
 claim_for reports general =

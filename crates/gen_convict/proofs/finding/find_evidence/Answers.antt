@@ -1,0 +1,8 @@
+use Rattle.gen_convict.proofs.FoundTexts.{texts_found, texts_none, orders_found, orders_none, unsaid_of_each}
+use Rattle.gen_convict.proofs.finding.find_evidence.Goals as goal
+
+pub returns-clause-found : goal.returns-clause-found
+returns-clause-found c = ?
+
+pub returns-clause-lawful : goal.returns-clause-lawful
+returns-clause-lawful c = ?
