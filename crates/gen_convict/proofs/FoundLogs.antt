@@ -132,7 +132,7 @@ his_texts_are h reports general are =
 
 -- ---- tests of reports
 
-some_of : {X : Type 0} (o : Option X) → is_some o ≡ true → (x : X) × (o ≡ Some x)
+pub some_of : {X : Type 0} (o : Option X) → is_some o ≡ true → (x : X) × (o ≡ Some x)
 some_of None e = absurd cc
 some_of (Some x) e = (x, refl)
 
@@ -144,7 +144,7 @@ none_of None e = refl
 none_of (Some x) e = absurd cc
 
 -- the value is given under a condition
-under : {X : Type 0} (c : Bool) (o : Option X) (x : X) → cond c o None ≡ Some x → (c ≡ true) × (o ≡ Some x)
+pub under : {X : Type 0} (c : Bool) (o : Option X) (x : X) → cond c o None ≡ Some x → (c ≡ true) × (o ≡ Some x)
 under true o x e = (refl, e)
 under false o x e = absurd cc
 

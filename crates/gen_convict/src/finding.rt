@@ -2,6 +2,7 @@
 ghost use Rattle.std.specs.Prelude.{◌≡◌, ◌≤◌, ◌++◌, Contains, IfOk, OnOk, map};
 ghost use Rattle.std.specs.Option.{option_map};
 ghost use Rattle.std.specs.List.{range_with_len};
+ghost use Rattle.gen_log.specs.Fields.{AreBelow};
 ghost use Rattle.gen_local.specs.Report.{Report, IsReport};
 ghost use Rattle.gen_convict.specs.Convictions.{AreConvictions, AreEvidence, AreShort, AreUnderHeader, shown_in};
 ghost use Rattle.gen_convict.specs.Evidence.{told_of};
@@ -69,6 +70,7 @@ fn claim_by(
 }
 
 /// The claim against a general.
+#[tactic(auto, unfolding(crate::specs::FindingClaims::claim_for))]
 fn claim_against(
     alloc: Global,
     general: GeneralNo,
@@ -118,12 +120,21 @@ fn claims_against(
     Ok(found)
 }
 
+/// Makes known what a report keeps.
+fn read_one(report: &LocalReport)
+    ensures report { IsReport report.now }
+    ensures bytes { AreBelow 256 report.now.exhibit.bytes }
+{
+    let _reading = report.reading();
+    let _log = report.exhibit().log();
+}
+
 /// Makes known what each report keeps.
 fn read_all(reports: &[LocalReport])
-    ensures { (r : Report) → Contains reports.now r → IsReport r }
+    ensures { (r : Report) → Contains reports.now r → IsReport r × AreBelow 256 r.exhibit.bytes }
 {
     for report in reports {
-        let _reading = report.reading();
+        read_one(report);
     }
 }
 
