@@ -6,11 +6,13 @@ use Rattle.gen_types.proofs.Lists.{AllPairs-append, Contains_here, Contains_ther
 use Rattle.gen_net.specs.Header.{RunHeader, IsHeader}
 use Rattle.gen_log.specs.Fields.{AreBelow}
 use Rattle.gen_log.specs.LogReading.{log_of}
+use Rattle.gen_local.specs.declared.texts.SignedText.{SignedText}
 use Rattle.gen_local.specs.Report.{Report, IsReport, IsReading}
 use Rattle.gen_convict.specs.Contradictions.{Claim}
 use Rattle.gen_convict.specs.Convictions.{AreConvictions, AreShort, AreUnderHeader, shown_in}
 use Rattle.gen_convict.specs.Evidence.{Accusation}
-use Rattle.gen_convict.specs.FindingClaims.{claim_for, accusing, accusations}
+use Rattle.gen_convict.specs.FindingClaims.{claim_by, claim_for, accusing, accusations}
+use Rattle.gen_convict.specs.Finding.{his_texts, one_each}
 use Rattle.gen_convict.specs.First.{IsFirstClaim}
 use Rattle.gen_convict.proofs.FoundClaims.{claim_found, claim_none}
 use Rattle.gen_convict.proofs.FoundLogs.{AreOf}
@@ -19,6 +21,13 @@ use Rattle.gen_convict.proofs.OneGiven.{one_claim}
 pub if_ok : {A E : Type 0} (P Q : A → Type 0) (r : Result A E) → ((x : A) → P x → Q x) → IfOk r P → IfOk r Q
 if_ok P Q (Ok x) f p = f x p
 if_ok P Q (Err e) f p = p
+
+-- the claim by these texts is that by one of each place
+pub claim_same : (general : ℕ) (firsts texts : List SignedText) (reports : List Report) → texts ≡ his_texts general reports → firsts ≡ one_each [] texts → claim_by general firsts texts reports ≡ claim_for reports general
+unfolding claim_for
+claim_same general firsts texts reports e f =
+    ap (λ fs. claim_by general fs texts reports) f
+    ∙ ap (λ ts. claim_by general (one_each [] ts) ts reports) e
 
 -- the next general's claim behind those that were found
 pub one_more : (reports : List Report) (done : List Accusation) (i n : ℕ) → i < n → done ++ accusations reports (range_with_len i (n - i)) ≡ (done ++ accusing i (claim_for reports i)) ++ accusations reports (range_with_len (i + 1) (n - (i + 1)))

@@ -151,17 +151,17 @@ as_many_bytes : (es : List Entry) → length es ≤ length (flat_map entry_spell
 as_many_bytes [] = omega arith
 as_many_bytes (e ∷ es) = omega (arith, as_many_bytes es, length-append (entry_spelling e) (flat_map entry_spelling es), some_bytes e)
 
-log_longer : (log : RunLog) → length log.entries ≤ length (log_spelling log)
+pub log_longer : (log : RunLog) → length log.entries ≤ length (log_spelling log)
 log_longer log =
     let n = to_be_bytes w64 (length log.entries) in
     let es = flat_map entry_spelling log.entries in
     omega (arith, as_many_bytes log.entries, length-append log.run_id (n ++ (es ++ log.head)), length-append n (es ++ log.head), length-append es log.head)
 
-length_erased : (es : List Entry) → length (erased es) ≡ length es
+pub length_erased : (es : List Entry) → length (erased es) ≡ length es
 length_erased [] = refl
 length_erased (e ∷ es) = omega (arith, length_erased es)
 
-mapped : {X Y : Type 0} (f : X → Y) (xs : List X) (x : X) → Contains xs x → Contains (map f xs) (f x)
+pub mapped : {X Y : Type 0} (f : X → Y) (xs : List X) (x : X) → Contains xs x → Contains (map f xs) (f x)
 mapped f [] x c = absurd (Contains_nil x c)
 mapped f (y ∷ ys) x c = elim (Contains_cases y x ys c) [
   | inl e ↦ subst (λ z. Contains (f y ∷ map f ys) z) (ap f e) (Contains_here (f y) (map f ys))

@@ -70,7 +70,6 @@ fn claim_by(
 }
 
 /// The claim against a general.
-#[tactic(auto, unfolding(crate::specs::FindingClaims::claim_for))]
 fn claim_against(
     alloc: Global,
     general: GeneralNo,
@@ -120,13 +119,21 @@ fn claims_against(
     Ok(found)
 }
 
+/// Makes known that bytes are bytes.
+fn read_bytes(bytes: &[u8])
+    ensures { AreBelow 256 bytes.now }
+{
+    let _bytes = bytes.len();
+}
+
 /// Makes known what a report keeps.
 fn read_one(report: &LocalReport)
     ensures report { IsReport report.now }
     ensures bytes { AreBelow 256 report.now.exhibit.bytes }
 {
     let _reading = report.reading();
-    let _log = report.exhibit().log();
+    let exhibit = report.exhibit();
+    read_bytes(exhibit.log());
 }
 
 /// Makes known what each report keeps.
