@@ -1,7 +1,7 @@
 mod EdgeLists
-mod PlacedEdges
-mod Ranges
-mod Rows
 pub mod FrontLaws
 pub mod HeaderLaws
 pub mod Neighbours
+mod PlacedEdges
+mod Ranges
+mod Rows

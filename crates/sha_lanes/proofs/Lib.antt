@@ -1,4 +1,4 @@
 mod BlockBytes
+pub mod LaneFacts
 mod Scheduled
 mod Taken
-pub mod LaneFacts
