@@ -64,7 +64,8 @@ fn have_met(left: &Side, right: &Side) -> bool
 /// many entries, which are not the same, with equal last links over them from one first link.
 ///
 /// The strings are what was hashed at the first place where that differs and the links behind it agree. There
-/// is such a place: where what is hashed is equal, so are the entries and the links before them.
+/// is such a place: where what is hashed is equal, so are the entries and the links before them. Which of the
+/// two comes first plays no part.
 ///
 /// # Errors
 ///

@@ -9,8 +9,9 @@ use gen_log::Log;
 use gen_net::Header;
 use gen_types::GeneralNo;
 
-/// Returns whether a log, as `read_log` gives it under this header, is one that a general of the network could
-/// have kept of this run by following, and its head verifies as his: what `refute` asks for. It takes no memory.
+/// Returns whether a log, as `read_log` gives it under this header, is one that a general of the network
+/// could have kept of this run by following, and its head verifies as his: what `refute` asks for. It takes
+/// no memory.
 pub fn is_own_log(header: &Header, general: GeneralNo, log: &Log) -> bool
     requires general { general < header.now.network.generals }
     requires log { IsLog header.now log.now }
