@@ -24,6 +24,11 @@ shown_in reports = map (λ r. r.exhibit) reports
 abbrev pub AreUnderHeader : RunHeader → List Report → Type 0
 AreUnderHeader h reports = (r : Report) → Contains reports r → r.header ≡ h
 
+-- each is the first claim against its general
+abbrev pub AreFirst : RunHeader → List ShownLog → List Accusation → Type 0
+AreFirst h exhibits convictions =
+    (x : Accusation) → Contains convictions x → IsFirstClaim h exhibits x.accused x.claim
+
 -- no exhibit has 2 to the power of 32 bytes or more
 abbrev pub AreShort : List ShownLog → Type 0
 AreShort exhibits = (x : ShownLog) → Contains exhibits x → length x.bytes < 2 ^ 32

@@ -4,7 +4,7 @@ ghost use Rattle.std.specs.Option.{option_map};
 ghost use Rattle.std.specs.List.{range_with_len};
 ghost use Rattle.gen_log.specs.Fields.{AreBelow};
 ghost use Rattle.gen_local.specs.Report.{Report, IsReport};
-ghost use Rattle.gen_convict.specs.Convictions.{AreConvictions, AreEvidence, AreShort, AreUnderHeader, shown_in};
+ghost use Rattle.gen_convict.specs.Convictions.{AreConvictions, AreEvidence, AreFirst, AreShort, AreUnderHeader, shown_in};
 ghost use Rattle.gen_convict.specs.Evidence.{told_of};
 ghost use Rattle.gen_convict.specs.FindingClaims as finds;
 ghost use Rattle.gen_convict.specs.Told.{told};
@@ -158,8 +158,11 @@ pub fn find_evidence(
     reports: &[LocalReport],
 ) -> Result<Vec<Evidence>, AllocError>
     requires { AreUnderHeader header.now reports.now }
-    // Each general who has a contradiction among the exhibits has the first one, and nobody else has one, where
-    // the exhibits are short enough for the entry at which a log departs to have four bytes.
+    // Each is the first contradiction that the exhibits hold against its general.
+    ensures right { IfOk result (λ found.
+        AreFirst header.now (shown_in reports.now) (map told_of found.items)) }
+    // Where the exhibits are so short that the entry at which a log departs has four bytes, each general against
+    // whom they hold a contradiction has the first one, and nobody else has one.
     ensures found { IfOk result (λ found. AreShort (shown_in reports.now)
         → AreConvictions header.now (shown_in reports.now) (map told_of found.items)) }
     // All of it has a spelling.
