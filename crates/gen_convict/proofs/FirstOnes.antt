@@ -177,7 +177,7 @@ pub differ_or_not : (x y : SignedText) → AreDifferent x y ⊎ (AreDifferent x 
 differ_or_not x y = unlike_or_not x.text y.text
 
 -- two texts of one place are unlike or the same
-unlike_or_same : (x y : Text) → place_of x ≡ place_of y → AreUnlike x y ⊎ (x ≡ y)
+pub unlike_or_same : (x y : Text) → place_of x ≡ place_of y → AreUnlike x y ⊎ (x ≡ y)
 unlike_or_same (OfStatement s) (OfStatement t) e = elim (statement_or_not s t) [
   | inl same ↦ inr (ap OfStatement same)
   | inr ne ↦ let orders : s.order ≡ t.order = omega (arith, e) in inl (orders, ne)
@@ -205,7 +205,7 @@ places_part x y z d e = elim (unlike_or_same z.text x.text e) [
 pub first_of_place : FirstOfPlace
 first_of_place texts x y p = first_of_like (AreAlike x) AreDifferent texts x y refl (places_part x y) p
 
-commands_part : (x y z : Text) → DifferInOrder x y → IsByCommander z → DifferInOrder z x ⊎ DifferInOrder z y
+pub commands_part : (x y z : Text) → DifferInOrder x y → IsByCommander z → DifferInOrder z x ⊎ DifferInOrder z y
 commands_part (OfStatement s) (OfStatement t) (OfStatement u) d is = elim (cases_eq u.order s.order) [
   | inr ne ↦ inl (is, d.0, ne)
   | inl e ↦ inr (is, d.1, λ other. d.2 (sym e ∙ other))
@@ -215,7 +215,7 @@ commands_part (OfStatement s) (OfHead t) z d is = absurd d
 commands_part (OfHead s) (OfStatement t) z d is = absurd d
 commands_part (OfHead s) (OfHead t) z d is = absurd d
 
-is_command : (x y : Text) → DifferInOrder x y → IsByCommander x
+pub is_command : (x y : Text) → DifferInOrder x y → IsByCommander x
 is_command (OfStatement s) (OfStatement t) d = d.0
 is_command (OfStatement s) (OfHead t) d = absurd d
 is_command (OfHead s) (OfStatement t) d = absurd d

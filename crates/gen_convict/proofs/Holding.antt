@@ -45,7 +45,7 @@ both a b e = (and-eq-true_iff a b).0 e
 
 -- ---- logs that were read
 
-starts_known : (general : ℕ) (entries : List Entry) → starts_as general entries ≡ true → BeginsWithStartOf general entries
+pub starts_known : (general : ℕ) (entries : List Entry) → starts_as general entries ≡ true → BeginsWithStartOf general entries
 starts_known general [] e = absurd cc
 starts_known general (Start g own ∷ more) e = (own, more, ap (λ x. Start x own ∷ more) (eqb-true g general e))
 starts_known general (Sign order path signature ∷ more) e = absurd cc

@@ -1,12 +1,149 @@
 //! Finding evidence.
-ghost use Rattle.std.specs.Prelude.{◌≡◌, IfOk, map};
+ghost use Rattle.std.specs.Prelude.{◌≡◌, ◌≤◌, ◌++◌, Contains, IfOk, OnOk, map};
+ghost use Rattle.std.specs.Option.{option_map};
+ghost use Rattle.std.specs.List.{range_with_len};
+ghost use Rattle.gen_log.specs.Fields.{AreBelow};
+ghost use Rattle.gen_local.specs.Report.{Report, IsReport};
 ghost use Rattle.gen_convict.specs.Convictions.{AreConvictions, AreEvidence, AreShort, AreUnderHeader, shown_in};
 ghost use Rattle.gen_convict.specs.Evidence.{told_of};
+ghost use Rattle.gen_convict.specs.FindingClaims as finds;
+ghost use Rattle.gen_convict.specs.Told.{told};
 
+use crate::claims::Claim;
 use crate::evidence::Evidence;
-use gen_local::LocalReport;
+use crate::gathered::{one_of_each, texts_by};
+use crate::log_claims::{departing_claim, missing_claim};
+use crate::text_claims::{orders_claim, texts_claim};
+use gen_local::{LocalReport, SignedText};
 use gen_net::Header;
+use gen_types::GeneralNo;
 use std::alloc::{AllocError, Global};
+
+/// The claim against a general by a log of his.
+fn claim_by_log(
+    alloc: Global,
+    general: GeneralNo,
+    firsts: &[&SignedText],
+    reports: &[LocalReport],
+) -> Result<Option<Claim>, AllocError>
+    ensures { IfOk result (λ claim. option_map told claim
+        ≡ finds.claim_by_log general (map (λ t. t.now) firsts.now) reports.now) }
+{
+    match missing_claim(alloc, general, firsts, reports)? {
+        Some(claim) => Ok(Some(claim)),
+        None => departing_claim(alloc, general, reports),
+    }
+}
+
+/// The claim against the commander by two orders, and else that against the general by a log of his.
+fn claim_behind_texts(
+    alloc: Global,
+    general: GeneralNo,
+    firsts: &[&SignedText],
+    texts: &[&SignedText],
+    reports: &[LocalReport],
+) -> Result<Option<Claim>, AllocError>
+    ensures { IfOk result (λ claim. option_map told claim ≡ finds.claim_behind_texts general
+        (map (λ t. t.now) firsts.now) (map (λ t. t.now) texts.now) reports.now) }
+{
+    match orders_claim(alloc, general, texts)? {
+        Some(claim) => Ok(Some(claim)),
+        None => claim_by_log(alloc, general, firsts, reports),
+    }
+}
+
+/// The claim of the least kind against a general, by these texts of his or by a log of his.
+fn claim_by(
+    alloc: Global,
+    general: GeneralNo,
+    firsts: &[&SignedText],
+    texts: &[&SignedText],
+    reports: &[LocalReport],
+) -> Result<Option<Claim>, AllocError>
+    ensures { IfOk result (λ claim. option_map told claim ≡ finds.claim_by general
+        (map (λ t. t.now) firsts.now) (map (λ t. t.now) texts.now) reports.now) }
+{
+    match texts_claim(alloc, firsts, texts)? {
+        Some(claim) => Ok(Some(claim)),
+        None => claim_behind_texts(alloc, general, firsts, texts, reports),
+    }
+}
+
+/// The claim against a general.
+fn claim_against(
+    alloc: Global,
+    general: GeneralNo,
+    reports: &[LocalReport],
+) -> Result<Option<Claim>, AllocError>
+    ensures { IfOk result (λ claim. option_map told claim ≡ finds.claim_for reports.now general) }
+{
+    let texts = texts_by(alloc, general, reports)?;
+    let firsts = one_of_each(alloc, texts.as_slice())?;
+    claim_by(alloc, general, firsts.as_slice(), texts.as_slice(), reports)
+}
+
+/// Puts what is held against a general behind the others.
+fn add_claim(
+    alloc: Global,
+    general: GeneralNo,
+    reports: &[LocalReport],
+    found: &mut Vec<Evidence>,
+) -> Result<(), AllocError>
+    ensures { OnOk result (map told_of found.new.items ≡ map told_of found.old.items
+        ++ finds.accusing general (finds.claim_for reports.now general)) }
+{
+    match claim_against(alloc, general, reports)? {
+        None => {}
+        Some(claim) => found.push(Evidence {
+            accused: general,
+            claim,
+        })?,
+    }
+    Ok(())
+}
+
+/// What is held against so many generals.
+fn claims_against(
+    alloc: Global,
+    generals: u8,
+    reports: &[LocalReport],
+) -> Result<Vec<Evidence>, AllocError>
+    requires { generals ≤ 16 }
+    ensures { IfOk result (λ found. map told_of found.items
+        ≡ finds.accusations reports.now (range_with_len 0 generals)) }
+{
+    let mut found = Vec::new(alloc);
+    for number in 0..generals {
+        add_claim(alloc, GeneralNo::at(number), reports, &mut found)?;
+    }
+    Ok(found)
+}
+
+/// Makes known that bytes are bytes.
+fn read_bytes(bytes: &[u8])
+    ensures { AreBelow 256 bytes.now }
+{
+    let _bytes = bytes.len();
+}
+
+/// Makes known what a report keeps.
+fn read_one(report: &LocalReport)
+    ensures report { IsReport report.now }
+    ensures bytes { AreBelow 256 report.now.exhibit.bytes }
+{
+    let _reading = report.reading();
+    let exhibit = report.exhibit();
+    read_bytes(exhibit.log());
+}
+
+/// Makes known what each report keeps.
+fn read_all(reports: &[LocalReport])
+    ensures { (r : Report) → Contains reports.now r → IsReport r × AreBelow 256 r.exhibit.bytes }
+{
+    for report in reports {
+        read_one(report);
+    }
+}
 
 /// Returns of each general the first claim that the exhibits hold against him, in ascending order of generals:
 /// of the least kind, and the first of that kind in the one order of the exhibits' texts and logs. The reports
@@ -21,12 +158,14 @@ pub fn find_evidence(
     reports: &[LocalReport],
 ) -> Result<Vec<Evidence>, AllocError>
     requires { AreUnderHeader header.now reports.now }
-    // Each general who has a contradiction among the exhibits has the first one, and nobody else has one.
-    ensures found { IfOk result (λ found.
-        AreConvictions header.now (shown_in reports.now) (map told_of found.items)) }
-    // All of it has a spelling, where the exhibits are short enough to have one.
+    // Each general who has a contradiction among the exhibits has the first one, and nobody else has one, where
+    // the exhibits are short enough for the entry at which a log departs to have four bytes.
+    ensures found { IfOk result (λ found. AreShort (shown_in reports.now)
+        → AreConvictions header.now (shown_in reports.now) (map told_of found.items)) }
+    // All of it has a spelling.
     ensures lawful { IfOk result (λ found. AreShort (shown_in reports.now)
         → AreEvidence header.now (map told_of found.items)) }
 {
-    Err(AllocError)
+    read_all(reports);
+    claims_against(alloc, header.net().generals(), reports)
 }

@@ -14,9 +14,14 @@ mod evidence_fault;
 mod evidence_reading;
 mod evidence_writing;
 mod finding;
+mod first_texts;
+mod gathered;
 pub mod laws;
+mod log_claims;
 mod refutations;
 mod refuting;
+mod text_claims;
+mod text_tests;
 
 pub use checking::check_evidence;
 pub use claims::Claim;

@@ -1,0 +1,6 @@
+use Rattle.std.proofs.Common.{◌≡◌, ◌++◌, drop, map}
+use Rattle.gen_convict.specs.Finding.{his_texts}
+use Rattle.gen_convict.proofs.gathered.texts_by.Given as goal
+
+abbrev pub invariant-loop-report : goal.invariant-loop-report
+invariant-loop-report l = map (λ t. t.now) l.texts.items ++ his_texts l.general (drop l.report-index l.reports) ≡ his_texts l.general l.reports

@@ -1,0 +1,8 @@
+use Rattle.std.proofs.Common.{◌≡◌, drop, map}
+use Rattle.std.specs.List.{find, list_any}
+use Rattle.gen_convict.specs.Finding as finds
+use Rattle.gen_convict.specs.FindingClaims as claims
+use Rattle.gen_convict.proofs.log_claims.first_departing.Given as goal
+
+abbrev pub invariant-loop-report : goal.invariant-loop-report
+invariant-loop-report l = find (claims.departs l.general) (drop l.report-index l.reports) ≡ find (claims.departs l.general) l.reports

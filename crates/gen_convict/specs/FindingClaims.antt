@@ -1,0 +1,108 @@
+-- The claim that is found against a general, as a function of the reports.
+use Rattle.std.specs.Prelude.{ℕ, Bool, ◌&&◌, ◌==◌, ◌^◌, nat_lt, cond, List, [], ◌∷◌, Option, Some, None}
+use Rattle.std.specs.Option.{option_map, option_or, is_some}
+use Rattle.std.specs.List.{find, flat_map}
+use Rattle.gen_local.specs.declared.reading.Reading.{Reading}
+use Rattle.gen_local.specs.declared.reading.Reading.TheVariants.{Unreadable, Foreign, Own}
+use Rattle.gen_local.specs.declared.texts.SignedText.{SignedText}
+use Rattle.gen_local.specs.declared.texts.Text.{Text}
+use Rattle.gen_local.specs.declared.texts.Text.TheVariants.{OfStatement, OfHead}
+use Rattle.gen_local.specs.Report.{Report}
+use Rattle.gen_convict.specs.Contradictions.{Claim, TwoTexts, TwoOrders, MissingFromLog, DepartingLog}
+use Rattle.gen_convict.specs.Evidence.{Accusation}
+use Rattle.gen_convict.specs.Finding.{his_texts, one_each, is_unlike, has_unlike, is_command, are_orders, is_unsaid}
+
+-- the first text of a place that has an unlike one, with the first that is unlike it
+abbrev pub with_unlike : List SignedText → Option SignedText → Option Claim
+with_unlike texts None = None
+with_unlike texts (Some x) = option_map (TwoTexts x) (find (λ y. is_unlike x.text y.text) texts)
+
+abbrev pub texts_claim : List SignedText → List SignedText → Option Claim
+texts_claim firsts texts = with_unlike texts (find (has_unlike texts) firsts)
+
+-- of the commander, his first order, with the first one that is another
+abbrev pub order_of : Text → ℕ
+order_of (OfStatement s) = s.order
+order_of (OfHead head) = 0
+
+abbrev pub two_orders : SignedText → SignedText → Claim
+two_orders x y = TwoOrders (order_of x.text) x.signature (order_of y.text) y.signature
+
+abbrev pub with_order : List SignedText → Option SignedText → Option Claim
+with_order texts None = None
+with_order texts (Some x) = option_map (two_orders x) (find (λ y. are_orders x.text y.text) texts)
+
+abbrev pub first_order : List SignedText → Option SignedText
+first_order texts = find (λ t. is_command t.text) texts
+
+abbrev pub orders_claim : ℕ → List SignedText → Option Claim
+orders_claim general texts = cond (general == 0) (with_order texts (first_order texts)) None
+
+-- the first of his sealed logs that has no SIGN of one of these statements, with the first such statement
+abbrev pub unsaid_in : List SignedText → Reading → Option SignedText
+unsaid_in firsts (Own found) = cond found.sealed (find (λ t. is_unsaid found.log t.text) firsts) None
+unsaid_in firsts (Unreadable fault) = None
+unsaid_in firsts Foreign = None
+
+abbrev pub lacks : ℕ → List SignedText → Report → Bool
+lacks general firsts r = r.exhibit.general == general && is_some (unsaid_in firsts r.reading)
+
+abbrev pub missing_of : List ℕ → List ℕ → Text → Option Claim
+missing_of bytes signature (OfStatement s) = Some (MissingFromLog bytes s signature)
+missing_of bytes signature (OfHead head) = None
+
+abbrev pub missing_as : List ℕ → Option SignedText → Option Claim
+missing_as bytes None = None
+missing_as bytes (Some t) = missing_of bytes t.signature t.text
+
+abbrev pub missing_in : List SignedText → Option Report → Option Claim
+missing_in firsts None = None
+missing_in firsts (Some r) = missing_as r.exhibit.bytes (unsaid_in firsts r.reading)
+
+abbrev pub missing_claim : ℕ → List SignedText → List Report → Option Claim
+missing_claim general firsts reports = missing_in firsts (find (lacks general firsts) reports)
+
+-- the first of his sealed logs that departs, and where, if the number has four bytes
+abbrev pub departure_in : Reading → Option ℕ
+departure_in (Own found) = cond found.sealed found.departure None
+departure_in (Unreadable fault) = None
+departure_in Foreign = None
+
+abbrev pub departs : ℕ → Report → Bool
+departs general r = r.exhibit.general == general && is_some (departure_in r.reading)
+
+abbrev pub departing_at : List ℕ → Option ℕ → Option Claim
+departing_at bytes None = None
+departing_at bytes (Some p) = cond (nat_lt p (2 ^ 32)) (Some (DepartingLog bytes p)) None
+
+abbrev pub departing_in : Option Report → Option Claim
+departing_in None = None
+departing_in (Some r) = departing_at r.exhibit.bytes (departure_in r.reading)
+
+abbrev pub departing_claim : ℕ → List Report → Option Claim
+departing_claim general reports = departing_in (find (departs general) reports)
+
+-- the claim of the least kind
+abbrev pub claim_by_log : ℕ → List SignedText → List Report → Option Claim
+claim_by_log general firsts reports =
+    option_or (missing_claim general firsts reports) (departing_claim general reports)
+
+abbrev pub claim_behind_texts : ℕ → List SignedText → List SignedText → List Report → Option Claim
+claim_behind_texts general firsts texts reports =
+    option_or (orders_claim general texts) (claim_by_log general firsts reports)
+
+abbrev pub claim_by : ℕ → List SignedText → List SignedText → List Report → Option Claim
+claim_by general firsts texts reports =
+    option_or (texts_claim firsts texts) (claim_behind_texts general firsts texts reports)
+
+unfoldable pub claim_for : List Report → ℕ → Option Claim
+claim_for reports general =
+    claim_by general (one_each [] (his_texts general reports)) (his_texts general reports) reports
+
+-- what is found against these generals
+abbrev pub accusing : ℕ → Option Claim → List Accusation
+accusing general None = []
+accusing general (Some claim) = record { accused = general; claim = claim } ∷ []
+
+abbrev pub accusations : List Report → List ℕ → List Accusation
+accusations reports generals = flat_map (λ g. accusing g (claim_for reports g)) generals

@@ -1,0 +1,92 @@
+//! The first text of some kind.
+ghost use Rattle.std.specs.Prelude.{◌≡◌, map};
+ghost use Rattle.std.specs.Option.{option_map};
+ghost use Rattle.std.specs.List.{find};
+ghost use Rattle.gen_convict.specs.Finding as finds;
+
+use crate::text_tests::{are_orders, is_command, is_unlike, is_unsaid};
+use gen_local::SignedText;
+use gen_log::Log;
+
+/// Whether one of the texts is unlike this one.
+fn has_unlike(texts: &[&SignedText], text: &SignedText) -> bool
+    ensures { result ≡ finds.has_unlike (map (λ t. t.now) texts.now) text.now }
+{
+    for other in texts {
+        if is_unlike(&text.text, &other.text) {
+            return true;
+        }
+    }
+    false
+}
+
+/// Returns the first of these texts to which one of all texts is unlike.
+pub fn first_with_unlike<'a>(
+    firsts: &[&'a SignedText],
+    texts: &[&SignedText],
+) -> Option<&'a SignedText>
+    ensures { option_map (λ t. t.now) result
+        ≡ find (finds.has_unlike (map (λ t. t.now) texts.now)) (map (λ t. t.now) firsts.now) }
+{
+    for text in firsts {
+        if has_unlike(texts, text) {
+            return Some(text);
+        }
+    }
+    None
+}
+
+/// Returns the first text that is unlike this one.
+pub fn first_unlike<'a>(text: &SignedText, texts: &[&'a SignedText]) -> Option<&'a SignedText>
+    ensures { option_map (λ t. t.now) result
+        ≡ find (λ x. finds.is_unlike text.now.text x.text) (map (λ t. t.now) texts.now) }
+{
+    for other in texts {
+        if is_unlike(&text.text, &other.text) {
+            return Some(other);
+        }
+    }
+    None
+}
+
+/// Returns the first statement of the commander alone.
+pub fn first_command<'a>(texts: &[&'a SignedText]) -> Option<&'a SignedText>
+    ensures { option_map (λ t. t.now) result
+        ≡ find (λ t. finds.is_command t.text) (map (λ t. t.now) texts.now) }
+{
+    for text in texts {
+        if is_command(&text.text) {
+            return Some(text);
+        }
+    }
+    None
+}
+
+/// Returns the first statement of the commander alone that is of another order than this one.
+pub fn first_other_order<'a>(
+    text: &SignedText,
+    texts: &[&'a SignedText],
+) -> Option<&'a SignedText>
+    ensures { option_map (λ t. t.now) result
+        ≡ find (λ x. finds.are_orders text.now.text x.text) (map (λ t. t.now) texts.now) }
+{
+    for other in texts {
+        if are_orders(&text.text, &other.text) {
+            return Some(other);
+        }
+    }
+    None
+}
+
+/// Returns the first of the texts that is a statement of which a log has no SIGN.
+pub fn first_unsaid<'a>(log: &Log, texts: &[&'a SignedText]) -> Option<&'a SignedText>
+    ensures { option_map (λ t. t.now) result
+        ≡ find (λ t. finds.is_unsaid log.now t.text) (map (λ t. t.now) texts.now) }
+{
+    for text in texts {
+        if is_unsaid(log, &text.text) {
+            return Some(text);
+        }
+    }
+    None
+}

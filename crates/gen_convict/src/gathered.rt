@@ -1,0 +1,105 @@
+//! The texts of one general in all reports, and one of each place.
+ghost use Rattle.std.specs.Prelude.{◌≡◌, [], ◌∷◌, ◌++◌, IfOk, OnOk, map, filter};
+ghost use Rattle.std.specs.List.{list_any};
+ghost use Rattle.gen_convict.specs.Exhibits.{is_by};
+ghost use Rattle.gen_convict.specs.Finding as finds;
+
+use crate::text_tests::is_like;
+use gen_local::{LocalReport, Reading, SignedText};
+use gen_types::GeneralNo;
+use std::alloc::{AllocError, Global};
+
+/// The texts of a report that verify.
+fn read_texts(reading: &Reading) -> &[SignedText]
+    ensures { result.now ≡ finds.read_texts reading.now }
+{
+    match reading {
+        Reading::Own(found) => found.texts(),
+        _ => &[],
+    }
+}
+
+/// Puts a text behind those that are gathered, if it is the general's.
+fn gather_one<'a>(
+    general: GeneralNo,
+    text: &'a SignedText,
+    gathered: &mut Vec<&'a SignedText>,
+) -> Result<(), AllocError>
+    ensures { OnOk result (map (λ t. t.now) gathered.new.items
+        ≡ map (λ t. t.now) gathered.old.items ++ filter (is_by general) (text.now ∷ [])) }
+{
+    if text.signer == general {
+        gathered.push(text)?;
+    }
+    Ok(())
+}
+
+/// Puts the texts of a general behind those that are gathered.
+fn gather<'a>(
+    general: GeneralNo,
+    texts: &'a [SignedText],
+    gathered: &mut Vec<&'a SignedText>,
+) -> Result<(), AllocError>
+    ensures { OnOk result (map (λ t. t.now) gathered.new.items
+        ≡ map (λ t. t.now) gathered.old.items ++ filter (is_by general) texts.now) }
+{
+    for text in texts {
+        gather_one(general, text, gathered)?;
+    }
+    Ok(())
+}
+
+/// Returns the texts of a general in all the reports, in their order.
+pub fn texts_by<'a>(
+    alloc: Global,
+    general: GeneralNo,
+    reports: &'a [LocalReport],
+) -> Result<Vec<&'a SignedText>, AllocError>
+    ensures { IfOk result (λ texts.
+        map (λ t. t.now) texts.items ≡ finds.his_texts general reports.now) }
+{
+    let mut texts = Vec::new(alloc);
+    for report in reports {
+        gather(general, read_texts(report.reading()), &mut texts)?;
+    }
+    Ok(texts)
+}
+
+/// Whether one of the texts stands in the place of this one.
+fn has_like(texts: &[&SignedText], text: &SignedText) -> bool
+    ensures { result
+        ≡ list_any (λ x. finds.is_like x.text text.now.text) (map (λ t. t.now) texts.now) }
+{
+    for other in texts {
+        if is_like(&other.text, &text.text) {
+            return true;
+        }
+    }
+    false
+}
+
+/// Puts a text behind the others, unless one of them stands in its place.
+fn put_new<'a>(text: &'a SignedText, firsts: &mut Vec<&'a SignedText>) -> Result<(), AllocError>
+    ensures { OnOk result (map (λ t. t.now) firsts.new.items
+        ≡ map (λ t. t.now) firsts.old.items ++ finds.new_one (map (λ t. t.now) firsts.old.items) text.now) }
+{
+    if !has_like(firsts.as_slice(), text) {
+        firsts.push(text)?;
+    }
+    Ok(())
+}
+
+/// Returns the first text of each place, in their order.
+pub fn one_of_each<'a>(
+    alloc: Global,
+    texts: &[&'a SignedText],
+) -> Result<Vec<&'a SignedText>, AllocError>
+    ensures { IfOk result (λ firsts. map (λ t. t.now) firsts.items
+        ≡ finds.one_each [] (map (λ t. t.now) texts.now)) }
+{
+    let mut firsts = Vec::new(alloc);
+    for text in texts {
+        put_new(text, &mut firsts)?;
+    }
+    Ok(firsts)
+}
