@@ -10,6 +10,7 @@ pub mod Collecting
 pub mod Explained
 pub mod Findings
 pub mod Headline
+pub mod Judgement
 pub mod LocalFindings
 pub mod Sorting
 pub mod Supported

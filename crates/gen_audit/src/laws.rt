@@ -9,6 +9,7 @@ ghost use Rattle.gen_audit.specs.BundleReading.{whole_bundle};
 ghost use Rattle.gen_audit.specs.BundleSpelling.{bundle_spelling};
 ghost use Rattle.gen_audit.specs.Explained.{ExplainedFindsNothing, NothingFoundExplains, RunsHaveLogs};
 ghost use Rattle.gen_audit.specs.Headline.{HeadlineHolds};
+ghost use Rattle.gen_audit.specs.Judgement.{OneJudgement};
 ghost use Rattle.gen_audit.specs.LocalFindings.{ReportsFindLocal};
 ghost use Rattle.gen_audit.specs.Supported.{CleanAgrees, CleanIsSupported, SupportedIsClean};
 ghost use Rattle.gen_audit.specs.Telling.{ReportsTellLogs};
@@ -57,6 +58,11 @@ pub fn headline()
 pub fn one_verdict()
     ensures one { OneVerdict }
     ensures exists { VerdictExists }
+{}
+
+/// A bundle has one judgement: one verdict, and one list of convictions.
+pub fn one_judgement()
+    ensures { OneJudgement }
 {}
 
 /// In a supported bundle each of the rest decided once.

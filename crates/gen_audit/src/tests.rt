@@ -11,6 +11,7 @@ fn the_laws_are_there_to_be_called(_rt: HostRuntime) -> Result<(), Fail> {
     laws::clean_agrees();
     laws::headline();
     laws::one_verdict();
+    laws::one_judgement();
     laws::each_decided_once();
     laws::reports_tell_logs();
     laws::own_runs_are_accepted();

@@ -1,11 +1,15 @@
-//! Verdicts as text, of values that are made by hand.
+//! Judgements as text, of values that are made by hand.
 use super::*;
-use gen_audit::{Decisions, Findings, Verdict};
-use gen_chain::ChainFault;
+use gen_audit::{Decisions, Findings, Judgement, Verdict};
+use gen_chain::{ChainFault, HeadText, Statement};
+use gen_convict::{Claim, Evidence};
+use gen_local::{SignedText, Text};
 use gen_log::LogFault;
 use gen_match::Finding;
 use gen_net::{Header, read_header};
-use gen_types::{GeneralNo, OrderNo, OrderSet};
+use gen_ots::SigRoom;
+use gen_tree::Signature;
+use gen_types::{GeneralNo, OrderNo, OrderSet, Path, TreeHeight};
 use gen_world::Decision;
 use std::alloc::{AllocError, Global};
 use std::test::*;
@@ -109,20 +113,29 @@ fn header_of_two(alloc: Global) -> Result<Option<Header>, AllocError> {
     Ok(read_header(alloc, &bytes).ok().map(|read| read.0))
 }
 
-/// Whether the verdict on that run has these lines between the first and the last.
-fn prints(alloc: Global, verdict: &Verdict, lines: &str) -> Result<bool, AllocError> {
+/// Whether the judgement on that run has these lines between the first and the last.
+fn prints_judgement(alloc: Global, judgement: &Judgement, lines: &str) -> Result<bool, AllocError> {
     let Some(header) = header_of_two(alloc)? else {
         return Ok(false);
     };
-    let text = print_verdict(alloc, &header, verdict)?;
+    let text = print_verdict(alloc, &header, judgement)?;
     let want = format!(in alloc; "{RUN}{lines}end\n")?;
     Ok(text.as_slice() == want.as_bytes())
+}
+
+/// Whether the verdict, where nobody is convicted, has these lines.
+fn prints(alloc: Global, verdict: Verdict, lines: &str) -> Result<bool, AllocError> {
+    let judgement = Judgement {
+        verdict,
+        convictions: Vec::new(alloc),
+    };
+    prints_judgement(alloc, &judgement, lines)
 }
 
 #[test]
 fn prints_an_order(rt: HostRuntime) -> Result<(), Fail> {
     let verdict = Verdict::Agreed(OrderNo::at(14));
-    assert!(rt; prints(rt.alloc(), &verdict, "verdict agreed 14\n")?);
+    assert!(rt; prints(rt.alloc(), verdict, "verdict agreed 14\n")?);
     Ok(())
 }
 
@@ -143,13 +156,108 @@ fn prints_what_each_decided(rt: HostRuntime) -> Result<(), Fail> {
     ];
     let verdict = Verdict::Explained(Decisions::new(Vec::from_array(rt.alloc(), decided)?));
     let lines = "verdict explained\ngeneral 2 decides 1\ngeneral 15 decides 0\n";
-    assert!(rt; prints(rt.alloc(), &verdict, lines)?);
+    assert!(rt; prints(rt.alloc(), verdict, lines)?);
     Ok(())
 }
 
 #[test]
 fn prints_findings(rt: HostRuntime) -> Result<(), Fail> {
     let verdict = Verdict::No(Findings::new(Vec::from_array(rt.alloc(), found())?));
-    assert!(rt; prints(rt.alloc(), &verdict, LINES)?);
+    assert!(rt; prints(rt.alloc(), verdict, LINES)?);
+    Ok(())
+}
+
+/// A signature of zeros.
+fn no_signature(alloc: Global) -> Result<Signature, Fail> {
+    let room = SigRoom::new(alloc, TreeHeight::Four)?;
+    let bytes = vec![in alloc; 0u8; 16_512]?;
+    Ok(Signature::read(room, &bytes))
+}
+
+/// The statement of an order that the commander alone signs.
+fn command_of(order: OrderNo) -> Statement {
+    Statement {
+        order,
+        path: Path::commander(),
+    }
+}
+
+/// A text of a general under a signature of zeros.
+fn signed(alloc: Global, signer: GeneralNo, text: Text) -> Result<SignedText, Fail> {
+    Ok(SignedText {
+        signer,
+        text,
+        signature: no_signature(alloc)?,
+    })
+}
+
+/// The head of a log of so many entries.
+fn head_of(general: GeneralNo, entries: u64) -> Text {
+    Text::OfHead(HeadText {
+        general,
+        entries,
+        last_link: [0; 32],
+    })
+}
+
+/// Two heads of a general.
+fn two_heads(alloc: Global, accused: GeneralNo) -> Result<Evidence, Fail> {
+    let first = signed(alloc, accused, head_of(accused, 2))?;
+    let second = signed(alloc, accused, head_of(accused, 3))?;
+    let claim = Claim::Texts { first, second };
+    Ok(Evidence { accused, claim })
+}
+
+/// Two orders of the commander.
+fn two_orders(alloc: Global) -> Result<Evidence, Fail> {
+    let claim = Claim::Orders {
+        first: OrderNo::at(0),
+        first_signature: no_signature(alloc)?,
+        second: OrderNo::at(1),
+        second_signature: no_signature(alloc)?,
+    };
+    let accused = GeneralNo::at(0);
+    Ok(Evidence { accused, claim })
+}
+
+/// A log of a general that has no SIGN.
+fn no_sign(alloc: Global, accused: GeneralNo) -> Result<Evidence, Fail> {
+    let claim = Claim::Missing {
+        log: Vec::new(alloc),
+        statement: command_of(OrderNo::at(1)),
+        signature: no_signature(alloc)?,
+    };
+    Ok(Evidence { accused, claim })
+}
+
+/// A log of a general that departs at an entry.
+fn departing(alloc: Global, accused: GeneralNo, entry: u32) -> Evidence {
+    let claim = Claim::Departing {
+        log: Vec::new(alloc),
+        entry,
+    };
+    Evidence { accused, claim }
+}
+
+/// Evidence of each kind.
+fn convicted(alloc: Global) -> Result<Vec<Evidence>, Fail> {
+    let mut convictions = Vec::new(alloc);
+    convictions.push(two_orders(alloc)?)?;
+    convictions.push(no_sign(alloc, GeneralNo::at(3))?)?;
+    convictions.push(departing(alloc, GeneralNo::at(9), 3))?;
+    convictions.push(two_heads(alloc, GeneralNo::at(12))?)?;
+    Ok(convictions)
+}
+
+#[test]
+fn prints_who_is_convicted(rt: HostRuntime) -> Result<(), Fail> {
+    let alloc = rt.alloc();
+    let judgement = Judgement {
+        verdict: Verdict::Agreed(OrderNo::at(1)),
+        convictions: convicted(alloc)?,
+    };
+    let lines =
+        "verdict agreed 1\nconvicted 0 by K2\nconvicted 3 by K3\nconvicted 9 by K4\nconvicted 12 by K1\n";
+    assert!(rt; prints_judgement(alloc, &judgement, lines)?);
     Ok(())
 }

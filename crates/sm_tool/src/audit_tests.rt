@@ -27,7 +27,7 @@ const PAIR: Row<'_> = (
 const SPLIT: Row<'_> = (
     b"generals 3\nedge 0 1\nedge 0 2\nedge 1 2\ntraitors 1\ndiameter 1\norders 2\nchoice 0\norder 1\nseed 0000000000000000000000000000000000000000000000000000000000000000\nscript 0\nmake 1 1 1 0\nmake 1 2 0 0\nend\n",
     JobEnd::Done,
-    b"verdict agreed 0\nend\n",
+    b"verdict agreed 0\nconvicted 0 by K2\nend\n",
 );
 
 // Four generals in a line.
@@ -41,35 +41,49 @@ const LINE: Row<'_> = (
 const RING: Row<'_> = (
     b"generals 6\nedge 0 1\nedge 1 2\nedge 2 3\nedge 3 4\nedge 4 5\nedge 0 5\ntraitors 1\ndiameter 4\norders 2\nchoice 0\norder 1\nseed 0000000000000000000000000000000000000000000000000000000000000000\nscript 3\nend\n",
     JobEnd::Done,
-    b"verdict agreed 1\nend\n",
+    b"verdict agreed 1\nconvicted 3 by K4\nend\n",
 );
 
 // Two traitors show the order to one lieutenant as late as they may.
 const LATE: Row<'_> = (
     b"generals 4\nedge 0 1\nedge 0 2\nedge 0 3\nedge 1 2\nedge 1 3\nedge 2 3\ntraitors 2\ndiameter 1\norders 2\nchoice 0\norder 0\nseed 0000000000000000000000000000000000000000000000000000000000000000\nscript 0\nscript 1\nmake 2 2 1 0,1\nend\n",
     JobEnd::Done,
-    b"verdict agreed 1\nend\n",
+    b"verdict agreed 1\nconvicted 0 by K3\nconvicted 1 by K4\nend\n",
 );
 
 // The same, planned for one traitor.
 const ONE_TOO_MANY: Row<'_> = (
     b"generals 4\nedge 0 1\nedge 0 2\nedge 0 3\nedge 1 2\nedge 1 3\nedge 2 3\ntraitors 1\ndiameter 1\norders 2\nchoice 0\norder 0\nseed 0000000000000000000000000000000000000000000000000000000000000000\nscript 0\nscript 1\nmake 2 2 1 0,1\nend\n",
     JobEnd::Done,
-    b"verdict explained\ngeneral 2 decides 1\ngeneral 3 decides 0\nend\n",
+    b"verdict explained\ngeneral 2 decides 1\ngeneral 3 decides 0\nconvicted 0 by K3\nconvicted 1 by K4\nend\n",
 );
 
 // A traitor stands between the others, whom no walk joins.
 const CUT: Row<'_> = (
     b"generals 3\nedge 0 1\nedge 1 2\ntraitors 1\ndiameter 2\norders 2\nchoice 0\norder 1\nseed 0000000000000000000000000000000000000000000000000000000000000000\nscript 1\nend\n",
     JobEnd::Negative,
-    b"verdict no\nN10 pair 0 2\nend\n",
+    b"verdict no\nN10 pair 0 2\nconvicted 1 by K4\nend\n",
 );
 
 // A frame of more parcels than orders, in slot 2 of version 2.
 const FLOOD: Row<'_> = (
     b"generals 5\nedge 0 1\nedge 0 2\nedge 0 3\nedge 0 4\nedge 1 2\nedge 1 3\nedge 1 4\nedge 2 3\nedge 2 4\nedge 3 4\ntraitors 4\ndiameter 1\norders 2\nchoice 0\norder 0\nseed 0000000000000000000000000000000000000000000000000000000000000000\nslot 2\nscript 0\nscript 1\nmake 3 2 1 0,3,1\nmake 3 2 1 0,4,1\nmake 3 2 0 0,3,1\nscript 3\nscript 4\nend\n",
     JobEnd::Done,
-    b"verdict agreed 0\nend\n",
+    b"verdict agreed 0\nconvicted 0 by K4\nconvicted 1 by K4\nend\n",
+);
+
+// A traitor seals two logs.
+const TWO_HEADS: Row<'_> = (
+    b"generals 3\nedge 0 1\nedge 0 2\nedge 1 2\ntraitors 1\ndiameter 1\norders 2\nchoice 0\norder 1\nseed 0000000000000000000000000000000000000000000000000000000000000000\nscript 1\ntwohead\nend\n",
+    JobEnd::Done,
+    b"verdict agreed 1\nconvicted 1 by K1\nend\n",
+);
+
+// A traitor sends parcels that hold no chains.
+const SCRAPS: Row<'_> = (
+    b"generals 3\nedge 0 1\nedge 0 2\nedge 1 2\ntraitors 1\ndiameter 1\norders 2\nchoice 0\norder 1\nseed 0000000000000000000000000000000000000000000000000000000000000000\nscript 1\nraw 1 2 00\nraw 2 2 ff\nend\n",
+    JobEnd::Done,
+    b"verdict agreed 1\nconvicted 1 by K4\nend\n",
 );
 
 /// The scenario that a text with a seed tells.
@@ -158,6 +172,14 @@ fn generals_who_follow_agree(rt: HostRuntime) -> Result<(), Fail> {
 fn under_a_traitor_they_agree(rt: HostRuntime) -> Result<(), Fail> {
     let alloc = rt.alloc();
     let right = is_right(alloc, &SPLIT)? && is_right(alloc, &LATE)? && is_right(alloc, &FLOOD)?;
+    assert!(rt; right);
+    Ok(())
+}
+
+#[test]
+fn a_traitor_of_two_logs_or_of_scraps_is_convicted(rt: HostRuntime) -> Result<(), Fail> {
+    let alloc = rt.alloc();
+    let right = is_right(alloc, &TWO_HEADS)? && is_right(alloc, &SCRAPS)?;
     assert!(rt; right);
     Ok(())
 }

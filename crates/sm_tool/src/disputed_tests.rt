@@ -123,7 +123,13 @@ fn a_commander_must_have_an_order(rt: HostRuntime) -> Result<(), Fail> {
         exhibits.push(silent(alloc, &header, number)?)?;
     }
     let bundle = bundle_with(alloc, header, GeneralSet::new(), exhibits)?;
-    assert!(rt; is_no(alloc, &bundle, b"verdict no\nN7 general 0 entry 0\nend\n"));
+    assert!(rt;
+        is_no(
+            alloc,
+            &bundle,
+            b"verdict no\nN7 general 0 entry 0\nconvicted 0 by K4\nend\n"
+        )
+    );
     Ok(())
 }
 
@@ -216,7 +222,7 @@ fn a_key_may_be_stolen(rt: HostRuntime) -> Result<(), Fail> {
         is_no(
             alloc,
             &bundle,
-            b"verdict no\nN9 from 3 to 2 round 2 order 0\nend\n"
+            b"verdict no\nN9 from 3 to 2 round 2 order 0\nconvicted 0 by K2\nend\n"
         )
     );
     Ok(())
