@@ -1,6 +1,9 @@
 //! The program: signed Byzantine agreement, run from standard input to standard output.
 #![tactic(auto)]
 
+mod accusing;
+mod checking;
+mod command_line;
 mod ends;
 mod engine;
 mod program;

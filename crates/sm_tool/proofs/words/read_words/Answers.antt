@@ -1,7 +1,8 @@
 use Rattle.std.proofs.Common.{◌≡◌, List, [], ap, map, ◌∙◌, sym, subst}
 use Rattle.std.proofs.lemmas.Result.{err_from_is_err_and}
 use Rattle.clap.specs.Words.{App, Text, HasKind, fault_of, is_simple, is_simple_and_free, subcommand_of}
-use Rattle.sm_tool.specs.Tool.{tool, job_said}
+use Rattle.sm_tool.specs.CommandLine.{tool}
+use Rattle.sm_tool.specs.Jobs.{job_said}
 use Rattle.sm_tool.proofs.Faults.{asks_for, both_parts, is_memory, missed, tool_is_free, tool_is_simple}
 use Rattle.sm_tool.proofs.words.read_words.Goals as goal
 
@@ -11,24 +12,3 @@ returns-in_err-matches-clause-only c =
     let texts : List Text = map (λ w. w.now) c.args.words.now in
     let has : HasKind (fault_of tool texts) c.in_err-matches.field-0.0 = subst (λ (a : App). HasKind (fault_of a texts) c.in_err-matches.field-0.0) c.in_ok-command.ensures (c.in_err-matches.ensures.kinds (ap is_simple_and_free c.in_ok-command.ensures ∙ tool_is_free)) in
     rw p.1 (λ asks. is_memory (fault_of tool texts) _ _ (job_said (subcommand_of tool texts)) has p.2 asks)
-
-pub returns-in-Some-job_of-clause-ok : goal.returns-in-Some-job_of-clause-ok
-returns-in-Some-job_of-clause-ok c =
-    let texts : List Text = map (λ w. w.now) c.args.words.now in
-    let none : fault_of tool texts ≡ [] = subst (λ (a : App). fault_of a texts ≡ []) c.in_ok-command.ensures (c.in_ok-matches.ensures.kinds (ap is_simple_and_free c.in_ok-command.ensures ∙ tool_is_free)) in
-    let told = (c.in_ok-matches.ensures.matches (ap is_simple c.in_ok-command.ensures ∙ tool_is_simple)).1 in
-    let met = both_parts _ _ _ _ _ c.in-Some.ensures.name c.in-Some.ensures.rows in
-    asks_for texts _ _ _ none (sym (told ∙ ap (λ (a : App). subcommand_of a texts) c.in_ok-command.ensures) ∙ met) c.in-Some-job_of.ensures
-
-pub returns-clause-only : goal.returns-clause-only
-returns-clause-only c =
-    let texts : List Text = map (λ w. w.now) c.args.words.now in
-    let none : fault_of tool texts ≡ [] = subst (λ (a : App). fault_of a texts ≡ []) c.in_ok-command.ensures (c.in_ok-matches.ensures.kinds (ap is_simple_and_free c.in_ok-command.ensures ∙ tool_is_free)) in
-    let told = (c.in_ok-matches.ensures.matches (ap is_simple c.in_ok-command.ensures ∙ tool_is_simple)).1 in
-    let met = both_parts _ _ _ _ _ c.in-Some.ensures.name c.in-Some.ensures.rows in
-    missed _ _ (asks_for texts _ _ _ none (sym (told ∙ ap (λ (a : App). subcommand_of a texts) c.in_ok-command.ensures) ∙ met) c.in-None.ensures)
-
-pub returns-clause-fault : goal.returns-clause-fault
-returns-clause-fault c =
-    let texts : List Text = map (λ w. w.now) c.args.words.now in
-    subst (λ (a : App). fault_of a texts ≡ []) c.in_ok-command.ensures (c.in_ok-matches.ensures.kinds (ap is_simple_and_free c.in_ok-command.ensures ∙ tool_is_free))
