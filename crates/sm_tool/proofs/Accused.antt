@@ -1,7 +1,7 @@
 -- Who is convicted, by a look through the convictions.
-use Rattle.std.proofs.Common.{◌≡◌, ◌<◌, ℕ, Bool, true, false, List, [], ◌∷◌, Option, Some, None, find, map, ◌==◌, ◌×◌, refl, inl, inr, sym, ap, subst, ◌∙◌}
+use Rattle.std.proofs.Common.{◌≡◌, ◌<◌, ℕ, Bool, true, false, List, [], ◌∷◌, Option, Some, None, find, map, ◌==◌, refl, inl, inr, sym, ap, subst, ◌∙◌}
 use Rattle.std.specs.Prelude.{Contains}
-use Rattle.std.proofs.lemmas.Bool.{cases_Bool}
+use Rattle.std.proofs.lemmas.Bool.{cases_Bool, eq-eqb, eqb-true}
 use Rattle.gen_types.proofs.Lists.{Contains_here, Contains_there, Contains_cases, Contains_nil}
 use Rattle.gen_net.specs.Header.{RunHeader}
 use Rattle.gen_audit.specs.Bundle.{LogBundle}
@@ -18,7 +18,7 @@ convicted g [] e is = absurd cc
 convicted g (x ∷ es) e is = elim (cases_Bool (x.accused == g)) [
   | inl yes_it ↦
       let same : e ≡ x = cc in
-      (subst (λ (y : Evidence). Contains (map told_of (x ∷ es)) (told_of y)) (sym same) (Contains_here (told_of x) (map told_of es)), rw same (omega (yes_it)))
+      (subst (λ (y : Evidence). Contains (map told_of (x ∷ es)) (told_of y)) (sym same) (Contains_here (told_of x) (map told_of es)), rw same (eqb-true x.accused g yes_it))
   | inr no_it ↦
       let rest : Some e ≡ find (λ y. y.accused == g) es = cc in
       let more = convicted g es e rest in
@@ -33,7 +33,10 @@ unconvicted g (x ∷ es) is a inside whose = elim (cases_Bool (x.accused == g)) 
   | inr no_it ↦
       let rest : None ≡ find (λ y. y.accused == g) es = cc in
       elim (Contains_cases (told_of x) a (map told_of es) inside) [
-        | inl here ↦ absurd (cc)
+        | inl here ↦
+            let same : x.accused ≡ g = ap (λ (y : Accusation). y.accused) here ∙ whose in
+            let yes_it : (x.accused == g) ≡ true = eq-eqb x.accused g same in
+            absurd cc
         | inr there ↦ unconvicted g es rest a there whose
       ]
 ]
