@@ -1,14 +1,12 @@
 -- Who is convicted, by a look through the convictions.
-use Rattle.std.proofs.Common.{◌≡◌, ◌<◌, ℕ, Bool, true, false, List, [], ◌∷◌, Option, Some, None, find, map, ◌==◌, refl, inl, inr, sym, ap, subst, ◌∙◌}
+use Rattle.std.proofs.Common.{◌≡◌, ℕ, Bool, true, false, List, [], ◌∷◌, Some, None, find, map, ◌==◌, refl, inl, inr, sym, ap, subst, ◌∙◌}
 use Rattle.std.specs.Prelude.{Contains}
 use Rattle.std.proofs.lemmas.Bool.{cases_Bool, eq-eqb, eqb-true}
 use Rattle.gen_types.proofs.Lists.{Contains_here, Contains_there, Contains_cases, Contains_nil}
-use Rattle.gen_net.specs.Header.{RunHeader}
 use Rattle.gen_audit.specs.Bundle.{LogBundle}
 use Rattle.gen_convict.specs.declared.evidence.Evidence.{Evidence}
-use Rattle.gen_convict.specs.Convictions.{AreConvictions, AreEvidence}
-use Rattle.gen_convict.specs.Contradictions.{Claim}
-use Rattle.gen_convict.specs.Evidence.{Accusation, IsEvidence, told_of}
+use Rattle.gen_convict.specs.Convictions.{AreConvictions}
+use Rattle.gen_convict.specs.Evidence.{Accusation, told_of}
 use Rattle.gen_convict.specs.EvidenceSpelling.{evidence_spelling}
 use Rattle.sm_tool.specs.Accusing.{Accuses, IsClaimOn, TellsOf}
 

@@ -9,7 +9,7 @@ use Rattle.sm_tool.specs.declared.words.WordsFault.{WordsFault}
 use Rattle.sm_tool.specs.declared.words.WordsFault.TheVariants.{Memory, NotText, NoCommand, BadNumber, Words}
 use Rattle.sm_tool.specs.CommandLine.{tool}
 use Rattle.sm_tool.specs.Jobs.{job_told}
-use Rattle.sm_tool.specs.Tool.{asked, without_fault, fault_from, HasNoCommand, IsFaultOf, IsRefusal}
+use Rattle.sm_tool.specs.Tool.{asked, without_fault, fault_from, IsFaultOf, IsRefusal}
 
 pub tool_is_simple : is_simple tool ≡ true
 unfolding clap_on_literals
@@ -45,17 +45,9 @@ refused words command NoCommand none named is refusal = (none, rw named (refusal
 refused words command BadNumber none named is refusal = (none, rw named (refusal, is))
 refused words command (Words e) none named is refusal = absurd refusal
 
--- words without a fault that name no command are refused
-pub unnamed : (words : List Text) → fault_of tool words ≡ [] → subcommand_of tool words ≡ None → IsFaultOf words NoCommand
-unnamed words none named = (none, rw named tt)
-
 abbrev paired : {X : Type 0} → (X → Text) → (X → List Row) → X → Text × List Row
 paired f g b = (f b, g b)
 
 pub both_parts : {X : Type 0} (f : X → Text) (g : X → List Row) (s : Option X) (n : Text) (r : List Row) → Some n ≡ option_map f s → Some r ≡ option_map (λ (p : Text × List Row). p.1) (option_map (paired f g) s) → option_map (paired f g) s ≡ Some (n, r)
 both_parts f g None n r a b = absurd cc
 both_parts f g (Some x) n r a b = cc
-
-pub no_parts : {X : Type 0} (f : X → Text) (g : X → List Row) (s : Option X) → None ≡ option_map f s → option_map (paired f g) s ≡ None
-no_parts f g None a = refl
-no_parts f g (Some x) a = absurd cc

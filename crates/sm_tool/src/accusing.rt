@@ -20,7 +20,9 @@ use std::io::{Read, Write};
 fn conviction_of(convictions: &[Evidence], general: GeneralNo) -> Option<&Evidence>
     ensures { option_map (λ e. e.now) result ≡ find (λ e. e.accused == general) convictions.now }
 {
-    convictions.iter().find(|evidence| evidence.accused == general)
+    convictions
+        .iter()
+        .find(|evidence| evidence.accused == general)
 }
 
 /// Returns the bytes of a general's conviction, or none where he has none, which says no.

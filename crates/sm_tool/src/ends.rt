@@ -112,9 +112,8 @@ impl JobEnd {
         match self {
             JobEnd::Done => 0,
             JobEnd::Negative => 1,
-            JobEnd::Failed(
-                JobFault::Scenario(_) | JobFault::Bundle(_) | JobFault::Evidence(_),
-            ) => 3,
+            JobEnd::Failed(JobFault::Scenario(_) | JobFault::Bundle(_) | JobFault::Evidence(_)) =>
+                3,
             JobEnd::Failed(JobFault::Memory | JobFault::Thread) => 4,
             JobEnd::Failed(JobFault::Read | JobFault::Write) => 5,
         }

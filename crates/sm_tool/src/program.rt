@@ -41,9 +41,7 @@ fn finish<R: AllocGlobal + Input + Print + Eprint + Threads + Wait + Sync>(rt: &
         Job::Decide => decide_engine(rt.alloc(), &mut reader, &mut writer),
         Job::Run { capacity } => run_engine(rt, rt.alloc(), capacity, &mut reader, &mut writer),
         Job::Audit => audit_engine(rt.alloc(), &mut reader, &mut writer),
-        Job::Accuse { general } => {
-            accuse_engine(rt.alloc(), general, &mut reader, &mut writer)
-        }
+        Job::Accuse { general } => { accuse_engine(rt.alloc(), general, &mut reader, &mut writer) }
         Job::Evidence => evidence_engine(rt.alloc(), &mut reader, &mut writer),
     };
     end_with(rt, end)

@@ -229,11 +229,7 @@ fn shows_ends(rt: HostRuntime) -> Result<(), Fail> {
             "fault B3 H6",
         ),
         (JobFault::Bundle(BundleFault::OutOfOrder), 3, "fault B9"),
-        (
-            JobFault::Evidence(EvidenceFault::Truncated),
-            3,
-            "fault V1",
-        ),
+        (JobFault::Evidence(EvidenceFault::Truncated), 3, "fault V1"),
         (JobFault::Memory, 4, "memory"),
         (JobFault::Thread, 4, "thread"),
         (JobFault::Read, 5, "read failed"),

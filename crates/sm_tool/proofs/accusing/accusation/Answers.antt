@@ -1,4 +1,3 @@
-use Rattle.std.proofs.Common.{refl}
 use Rattle.gen_convict.specs.Evidence.{told_of}
 use Rattle.sm_tool.proofs.Accused.{convicted, unconvicted}
 use Rattle.sm_tool.proofs.accusing.accusation.Goals as goal

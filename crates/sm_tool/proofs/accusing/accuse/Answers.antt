@@ -1,7 +1,6 @@
-use Rattle.std.proofs.Common.{◌≡◌, List, map, sym, subst, ap}
+use Rattle.std.proofs.Common.{List, map, subst}
 use Rattle.gen_net.specs.Header.{RunHeader}
 use Rattle.gen_convict.specs.declared.evidence.Evidence.{Evidence}
-use Rattle.gen_convict.specs.Convictions.{AreConvictions, AreEvidence}
 use Rattle.gen_convict.specs.Evidence.{told_of}
 use Rattle.sm_tool.proofs.Accused.{accuses}
 use Rattle.sm_tool.specs.Accusing.{TellsOf}

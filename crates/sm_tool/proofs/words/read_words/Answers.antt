@@ -1,10 +1,10 @@
-use Rattle.std.proofs.Common.{◌≡◌, List, [], Some, None, ap, ap₂, map, option_map, ◌∙◌, codes, sym, subst}
+use Rattle.std.proofs.Common.{◌≡◌, List, [], ap, ap₂, map, option_map, ◌∙◌, codes, sym, subst}
 use Rattle.std.proofs.lemmas.Result.{err_from_is_err_and}
 use Rattle.clap.specs.Words.{App, Row, Text, HasKind, fault_of, first_of, found_of, is_simple, is_simple_and_free, rows_of, subcommand_of}
 use Rattle.clap.proofs.WalkLemmas.{first_value-rows}
 use Rattle.sm_tool.specs.CommandLine.{tool}
 use Rattle.sm_tool.specs.Jobs.{job_named, job_said}
-use Rattle.sm_tool.proofs.Faults.{asks_for, both_parts, is_memory, missed, no_parts, refused, tool_is_free, tool_is_simple, unnamed}
+use Rattle.sm_tool.proofs.Faults.{asks_for, both_parts, is_memory, missed, refused, tool_is_free, tool_is_simple}
 use Rattle.sm_tool.proofs.words.read_words.Goals as goal
 
 pub returns-in_err-matches-clause-only : goal.returns-in_err-matches-clause-only
