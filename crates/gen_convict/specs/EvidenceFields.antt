@@ -1,7 +1,7 @@
 -- Reading the fields of evidence from left to right, with the first fault that is met: texts, signatures and logs.
 use Rattle.std.specs.Prelude.{ℕ, ◌==◌, if◌then◌else◌, List, Result, Ok, Err}
 use Rattle.std.specs.Int.{w32, w64}
-use Rattle.gen_types.specs.Reading.{◌>>=◌, check, map_fault}
+use Rattle.gen_types.specs.Reading.{◌>>=◌, map_fault}
 use Rattle.gen_types.specs.Bytes.{byte_at, bytes_at, number_at}
 use Rattle.gen_tree.specs.Sizes.{signature_length}
 use Rattle.gen_net.specs.Header.{RunHeader, height_of}

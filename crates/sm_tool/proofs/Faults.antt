@@ -6,8 +6,10 @@ use Rattle.clap.specs.Words.{HasKind, Kinds, Row, Text, fault_of, is_simple, is_
 use Rattle.clap.proofs.OnLiterals.{clap_on_literals}
 use Rattle.sm_tool.specs.declared.words.Job.{Job}
 use Rattle.sm_tool.specs.declared.words.WordsFault.{WordsFault}
-use Rattle.sm_tool.specs.declared.words.WordsFault.TheVariants.{Memory, NotText, NoCommand, Words}
-use Rattle.sm_tool.specs.Tool.{tool, asked, job_named, without_fault, fault_from}
+use Rattle.sm_tool.specs.declared.words.WordsFault.TheVariants.{Memory, NotText, NoCommand, BadNumber, Words}
+use Rattle.sm_tool.specs.CommandLine.{tool}
+use Rattle.sm_tool.specs.Jobs.{job_told}
+use Rattle.sm_tool.specs.Tool.{asked, without_fault, fault_from, IsFaultOf, IsRefusal}
 
 pub tool_is_simple : is_simple tool ≡ true
 unfolding clap_on_literals
@@ -22,17 +24,26 @@ pub is_memory : (kinds : Kinds) (error : Error) (fault : WordsFault) (job : Opti
 is_memory [] error Memory job has from asks = refl
 is_memory [] error NotText job has from asks = absurd from
 is_memory [] error NoCommand job has from asks = absurd from
+is_memory [] error BadNumber job has from asks = absurd from
 is_memory [] error (Words e) job (inl memory) from asks = absurd (from.1 memory)
 is_memory [] error (Words e) job (inr none) from asks = absurd none
 is_memory (k ∷ ks) error fault job has from asks = absurd cc
 
 -- words without a fault ask for the job of their command
-pub asks_for : (words : List Text) (name : Text) (rows : List Row) (job : Option Job) → fault_of tool words ≡ [] → subcommand_of tool words ≡ Some (name, rows) → job ≡ job_named name → asked words ≡ job
-asks_for words name rows job none named is = rw (none, named, is) refl
+pub asks_for : (words : List Text) (command : Text × List Row) (job : Option Job) → fault_of tool words ≡ [] → subcommand_of tool words ≡ Some command → job ≡ job_told command → asked words ≡ job
+asks_for words command job none named is = rw (none, named, is) refl
 
 pub missed : (o : Option Job) (P : Type 0) → o ≡ None → IsSome o → P
 missed None P e asks = absurd cc
 missed (Some j) P e asks = absurd cc
+
+-- words without a fault whose command has no job are refused
+pub refused : (words : List Text) (command : Text × List Row) (fault : WordsFault) → fault_of tool words ≡ [] → subcommand_of tool words ≡ Some command → job_told command ≡ None → IsRefusal command.0 fault → IsFaultOf words fault
+refused words command Memory none named is refusal = absurd refusal
+refused words command NotText none named is refusal = absurd refusal
+refused words command NoCommand none named is refusal = (none, rw named (refusal, is))
+refused words command BadNumber none named is refusal = (none, rw named (refusal, is))
+refused words command (Words e) none named is refusal = absurd refusal
 
 abbrev paired : {X : Type 0} → (X → Text) → (X → List Row) → X → Text × List Row
 paired f g b = (f b, g b)

@@ -10,6 +10,7 @@ use Rattle.sm_tool.specs.declared.ends.JobFault.TheVariants as faults
 abbrev pub fault_status : JobFault → ℕ
 fault_status (faults.Scenario f) = 3
 fault_status (faults.Bundle f) = 3
+fault_status (faults.Evidence f) = 3
 fault_status faults.Memory = 4
 fault_status faults.Thread = 4
 fault_status faults.Read = 5

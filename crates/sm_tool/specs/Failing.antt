@@ -3,6 +3,7 @@ use Rattle.gen_types.specs.declared.reading.ReadError.{ReadError}
 use Rattle.gen_types.specs.declared.reading.ReadError.TheVariants as errors
 use Rattle.gen_report.specs.declared.fault.ScenarioFault.{ScenarioFault}
 use Rattle.gen_audit.specs.declared.bundle_fault.BundleFault.{BundleFault}
+use Rattle.gen_convict.specs.declared.evidence_fault.EvidenceFault.{EvidenceFault}
 use Rattle.sm_tool.specs.declared.ends.JobFault.{JobFault}
 use Rattle.sm_tool.specs.declared.ends.JobFault.TheVariants as faults
 
@@ -15,3 +16,8 @@ scenario_failure (errors.Fault f) = faults.Scenario f
 abbrev pub bundle_failure : ReadError BundleFault → JobFault
 bundle_failure errors.Memory = faults.Memory
 bundle_failure (errors.Fault f) = faults.Bundle f
+
+-- by evidence that can't be read
+abbrev pub evidence_failure : ReadError EvidenceFault → JobFault
+evidence_failure errors.Memory = faults.Memory
+evidence_failure (errors.Fault f) = faults.Evidence f

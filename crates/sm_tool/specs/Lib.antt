@@ -1,7 +1,11 @@
+pub mod Accusing
 pub mod Answering
 pub mod Audit
+pub mod Checking
+pub mod CommandLine
 pub mod Decide
 pub mod Ends
 pub mod Failing
+pub mod Jobs
 pub mod Refusal
 pub mod Tool

@@ -6,7 +6,7 @@ use Rattle.clap.specs.Words.{kind_of}
 use Rattle.sm_tool.specs.declared.ends.JobEnd.TheVariants.{Done, Failed}
 use Rattle.sm_tool.specs.declared.ends.JobFault.TheVariants as faults
 use Rattle.sm_tool.specs.declared.words.WordsFault.{WordsFault}
-use Rattle.sm_tool.specs.declared.words.WordsFault.TheVariants.{Memory, NotText, NoCommand, Words}
+use Rattle.sm_tool.specs.declared.words.WordsFault.TheVariants.{Memory, NotText, NoCommand, BadNumber, Words}
 use Rattle.sm_tool.specs.Ends.{status_of, words_status}
 
 -- the words ask for help or for the version
@@ -26,6 +26,7 @@ abbrev pub Refuses : WordsFault → ℕ → Type 0
 Refuses Memory status = status ≡ status_of (Failed faults.Memory)
 Refuses NotText status = IsBlamed status
 Refuses NoCommand status = IsBlamed status
+Refuses BadNumber status = IsBlamed status
 Refuses (Words e) status = (AsksToShow e → IsShown status) × ((AsksToShow e → ⊥) → IsBlamed status)
 
 -- The line ends by saying how to ask for help.

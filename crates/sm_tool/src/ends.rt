@@ -4,6 +4,7 @@ ghost use Rattle.sm_tool.specs.Ends.{status_of, fault_in};
 ghost use Rattle.sm_tool.specs.declared.ends.JobFault.TheVariants.{Memory};
 
 use gen_audit::BundleFault;
+use gen_convict::EvidenceFault;
 use gen_report::ScenarioFault;
 use gen_types::ReadError;
 use std::alloc::AllocError;
@@ -18,6 +19,9 @@ pub enum JobFault {
     /// The input is no bundle.
     #[error("fault {0}")]
     Bundle(BundleFault),
+    /// The input is no evidence.
+    #[error("fault {0}")]
+    Evidence(EvidenceFault),
     /// Memory was refused.
     #[error("memory")]
     Memory,
@@ -66,6 +70,19 @@ impl From<ReadError<BundleFault>> for JobFault {
     }
 }
 
+impl From<ReadError<EvidenceFault>> for JobFault {
+    ghost use Rattle.sm_tool.specs.Failing.{evidence_failure};
+
+    ghost from_gives = { λ e fault. fault ≡ evidence_failure e };
+
+    fn from(e: ReadError<EvidenceFault>) -> JobFault {
+        match e {
+            ReadError::Memory => JobFault::Memory,
+            ReadError::Fault(fault) => JobFault::Evidence(fault),
+        }
+    }
+}
+
 /// What a job is to write.
 #[derive(Debug, Drop)]
 pub struct Output {
@@ -95,7 +112,8 @@ impl JobEnd {
         match self {
             JobEnd::Done => 0,
             JobEnd::Negative => 1,
-            JobEnd::Failed(JobFault::Scenario(_) | JobFault::Bundle(_)) => 3,
+            JobEnd::Failed(JobFault::Scenario(_) | JobFault::Bundle(_) | JobFault::Evidence(_)) =>
+                3,
             JobEnd::Failed(JobFault::Memory | JobFault::Thread) => 4,
             JobEnd::Failed(JobFault::Read | JobFault::Write) => 5,
         }

@@ -1,6 +1,9 @@
 //! The program: signed Byzantine agreement, run from standard input to standard output.
 #![tactic(auto)]
 
+mod accusing;
+mod checking;
+mod command_line;
 mod ends;
 mod engine;
 mod program;
@@ -20,6 +23,8 @@ mod disputed_tests;
 mod signed_tests;
 #[cfg(test)]
 mod tests;
+#[cfg(test)]
+mod words_tests;
 
 fn main(rt: HostRuntime) -> ExitCode {
     ExitCode::from(program::run(&rt))

@@ -1,21 +1,27 @@
 //! The program: from its words to its exit status.
 ghost use Rattle.std.specs.Prelude.{◌≡◌, IfOk, string_bytes};
 ghost use Rattle.sm_tool.specs.Ends.{status_of, IsStatus};
+ghost use Rattle.sm_tool.specs.Jobs.{IsInRange};
 ghost use Rattle.sm_tool.specs.Refusal.{IsShown, IsBlamed, PointsAtHelp, Refuses};
 ghost use Rattle.sm_tool.specs.declared.ends.JobEnd.{JobEnd};
 
+use crate::accusing::accuse_engine;
+use crate::checking::evidence_engine;
 use crate::ends::{JobEnd, JobFault};
 use crate::engine::{audit_engine, decide_engine};
+use crate::running::run_engine;
 use crate::words::{Job, WordsFault, read_words};
 use std::alloc::{AllocError, Global};
 use std::rt::Env;
+use std::sync::Wait;
+use std::thread::Threads;
 use std::{env, io};
 
 /// The exit status for a fault of the words.
 const WORDS_STATUS: u8 = 2;
 
 /// Does what the words ask for, and returns the exit status.
-pub fn run<R: Env + AllocGlobal + Input + Print + Eprint>(rt: &R) -> u8
+pub fn run<R: Env + AllocGlobal + Input + Print + Eprint + Threads + Wait + Sync>(rt: &R) -> u8
     ensures { IsStatus result }
 {
     match given_job(rt) {
@@ -25,20 +31,26 @@ pub fn run<R: Env + AllocGlobal + Input + Print + Eprint>(rt: &R) -> u8
 }
 
 /// Does the job from standard input to standard output, and returns the exit status of its end.
-fn finish<R: AllocGlobal + Input + Print + Eprint>(rt: &R, job: Job) -> u8
+fn finish<R: AllocGlobal + Input + Print + Eprint + Threads + Wait + Sync>(rt: &R, job: Job) -> u8
+    requires { IsInRange job }
     ensures { (end : JobEnd) × (result ≡ status_of end) }
 {
     let mut reader = rt.reader();
     let mut writer = io::writer(rt);
     let end = match job {
         Job::Decide => decide_engine(rt.alloc(), &mut reader, &mut writer),
+        Job::Run { capacity } => run_engine(rt, rt.alloc(), capacity, &mut reader, &mut writer),
         Job::Audit => audit_engine(rt.alloc(), &mut reader, &mut writer),
+        Job::Accuse { general } => { accuse_engine(rt.alloc(), general, &mut reader, &mut writer) }
+        Job::Evidence => evidence_engine(rt.alloc(), &mut reader, &mut writer),
     };
     end_with(rt, end)
 }
 
 /// Returns the job that the words of this process ask for.
-fn given_job<R: Env + AllocGlobal>(rt: &R) -> Result<Job, WordsFault> {
+fn given_job<R: Env + AllocGlobal>(rt: &R) -> Result<Job, WordsFault>
+    ensures { IfOk result IsInRange }
+{
     let given = match env::args(rt) {
         Ok(given) => given,
         Err(e) if e.kind() == io::ErrorKind::OutOfMemory => return Err(WordsFault::Memory),

@@ -5,6 +5,7 @@ use crate::transfer::{deliver, read_all, write_output};
 use crate::words::{Job, WordsFault, read_words};
 use clap::error::ErrorKind;
 use gen_audit::BundleFault;
+use gen_convict::EvidenceFault;
 use gen_net::HeaderFault;
 use gen_report::{LineFault, ScenarioFault};
 use std::alloc::Global;
@@ -228,6 +229,7 @@ fn shows_ends(rt: HostRuntime) -> Result<(), Fail> {
             "fault B3 H6",
         ),
         (JobFault::Bundle(BundleFault::OutOfOrder), 3, "fault B9"),
+        (JobFault::Evidence(EvidenceFault::Truncated), 3, "fault V1"),
         (JobFault::Memory, 4, "memory"),
         (JobFault::Thread, 4, "thread"),
         (JobFault::Read, 5, "read failed"),

@@ -1,0 +1,43 @@
+-- The job of a command, and of the number that stands behind its option.
+use Rattle.std.specs.Prelude.{◌≤◌, ◌<◌, ℕ, Bool, ◌&&◌, ◌||◌, List, codes, Option, Some, None, option_and_then, option_map, nat_le, if◌then◌else◌}
+use Rattle.std.specs.Str.{bytes_eq}
+use Rattle.clap.specs.Words.{Row, Text, first_of}
+use Rattle.gen_types.specs.Texts.{number_of}
+use Rattle.sm_tool.specs.declared.words.Job.{Job}
+use Rattle.sm_tool.specs.declared.words.Job.TheVariants as jobs
+
+-- a number that is in the range
+abbrev pub within : ℕ → ℕ → Option ℕ → Option ℕ
+within least most None = None
+within least most (Some n) = if nat_le least n && nat_le n most then Some n else None
+
+-- the number in the range that a text spells, in decimal digits without leading zeros
+abbrev pub number_between : ℕ → ℕ → Option Text → Option ℕ
+number_between least most text = within least most (option_and_then number_of text)
+
+-- the job of a command, whose options have these texts
+abbrev pub job_named : Text → Option Text → Option Text → Option Job
+job_named name capacity general =
+    if bytes_eq name (codes "decide") then Some jobs.Decide
+    else if bytes_eq name (codes "run") then option_map (λ n. jobs.Run n) (number_between 1 16 capacity)
+    else if bytes_eq name (codes "audit") then Some jobs.Audit
+    else if bytes_eq name (codes "accuse") then option_map (λ n. jobs.Accuse n) (number_between 0 15 general)
+    else if bytes_eq name (codes "evidence") then Some jobs.Evidence
+    else None
+
+-- the job of a command and its arguments
+abbrev pub job_told : Text × List Row → Option Job
+job_told p = job_named p.0 (first_of (codes "capacity") p.1) (first_of (codes "general") p.1)
+
+abbrev pub job_said : Option (Text × List Row) → Option Job
+job_said command = option_and_then job_told command
+
+-- the command takes a number
+abbrev pub takes_number : Text → Bool
+takes_number name = bytes_eq name (codes "run") || bytes_eq name (codes "accuse")
+
+-- the numbers of a job are in their ranges
+abbrev pub IsInRange : Job → Type 0
+IsInRange (jobs.Run n) = (1 ≤ n) × (n ≤ 16)
+IsInRange (jobs.Accuse g) = g < 16
+IsInRange _ = Unit {0}
