@@ -96,7 +96,8 @@ fn departure_in(reading: &Reading) -> Option<usize>
 {
     match reading {
         Reading::Own(found) => {
-            if found.is_sealed() {
+            let sealed = found.is_sealed();
+            if sealed {
                 return found.departure();
             }
             None
