@@ -2,7 +2,7 @@
 use Rattle.std.proofs.Common.{◌≡◌, ℕ, zero, suc, ◌+◌, ◌-◌, ◌<◌, ◌≤◌, Option, Some, None, Result, Ok, Err, IfOk, List, [], ◌∷◌, ◌++◌, Contains, AllPairs, refl, sym, ap, subst, ◌∙◌, inl, inr, arith, append_assoc}
 use Rattle.std.specs.List.{flat_map, range_with_len}
 use Rattle.std.proofs.lemmas.List.Elements.{Contains-append_left, Contains-append_right}
-use Rattle.gen_types.proofs.Lists.{AllPairs-append, Contains_here, Contains_there, Contains_cases, Contains_nil, Contains_flat_mapped, Contains_range, Contains_in_range}
+use Rattle.gen_types.proofs.Lists.{AllPairs-append, Contains_here, Contains_cases, Contains_nil, Contains_flat_mapped, Contains_range, Contains_in_range}
 use Rattle.gen_net.specs.Header.{RunHeader, IsHeader}
 use Rattle.gen_log.specs.Fields.{AreBelow}
 use Rattle.gen_log.specs.LogReading.{log_of}

@@ -1,5 +1,5 @@
 -- The first member of a list that passes a test.
-use Rattle.std.proofs.Common.{◌≡◌, ◌≢◌, Bool, true, false, cond, Option, Some, None, List, [], ◌∷◌, ◌++◌, Contains, refl, sym, ap, subst, ◌∙◌, inl, inr, append_assoc}
+use Rattle.std.proofs.Common.{◌≡◌, Bool, true, false, cond, Some, None, List, [], ◌∷◌, ◌++◌, Contains, refl, sym, ap, subst, ◌∙◌, inl, inr, append_assoc}
 use Rattle.std.specs.List.{find, flat_map}
 use Rattle.std.proofs.lemmas.List.Elements.{Contains-append_cases, Contains-append_right}
 use Rattle.gen_types.proofs.Lists.{bool_cases, split, Contains-middle, Contains_here, Contains_there, Contains_cases, Contains_nil}
@@ -117,8 +117,7 @@ flat_first P test f (z ∷ zs) all x e = elim (bool_cases (test z)) [
   | inl passes ↦
       let e1 : Some z ≡ Some x = rw passes at e in
       let same : z ≡ x = cc in
-      let s = (all z (Contains_here z zs)).one passes in
-      (
+      let s = (all z (Contains_here z zs)).one passes in (
         s.0,
         ap f (sym same) ∙ s.1,
         record { before = []; after = flat_map f zs; split = ap (λ ys. ys ++ flat_map f zs) s.1; holds = s.2; none_before = λ y h q. Contains_nil y h },
@@ -126,8 +125,7 @@ flat_first P test f (z ∷ zs) all x e = elim (bool_cases (test z)) [
   | inr not_it ↦
       let e1 : find test zs ≡ Some x = rw not_it at e in
       let s = flat_first P test f zs (λ y h. all y (Contains_there z y zs h)) x e1 in
-      let g = s.2 in
-      (
+      let g = s.2 in (
         s.0,
         s.1,
         record {

@@ -1,22 +1,20 @@
 -- What is found against a general is the first claim.
-use Rattle.std.proofs.Common.{◌≡◌, ℕ, ◌<◌, ◌≤◌, ◌^◌, Bool, true, false, ◌&&◌, cond, eqb, nat_lt, Result, Ok, Err, Option, Some, None, List, [], ◌∷◌, ◌++◌, length, length-append, map, filter, Contains, refl, sym, ap, subst, ◌∙◌, inl, inr, arith}
+use Rattle.std.proofs.Common.{◌≡◌, ℕ, ◌<◌, ◌≤◌, ◌^◌, Bool, true, ◌&&◌, cond, eqb, nat_lt, Result, Option, Some, None, List, [], ◌∷◌, ◌++◌, length, length-append, map, filter, Contains, refl, sym, ap, subst, ◌∙◌, inl, inr, arith}
 use Rattle.std.specs.List.{find, flat_map}
 use Rattle.std.specs.Option.{option_or, is_some}
 use Rattle.std.proofs.lemmas.Bool.{eqb-true, lt-ltb}
-use Rattle.gen_types.proofs.Lists.{bool_cases, Contains-middle, Contains_here, Contains_there, Contains_cases, Contains_nil, Contains_filtered, not_nil}
-use Rattle.gen_net.specs.Departs.{DepartsAt}
+use Rattle.gen_types.proofs.Lists.{Contains-middle, Contains_here, Contains_there, Contains_cases, Contains_nil, Contains_filtered, not_nil}
 use Rattle.gen_net.specs.Header.{RunHeader, IsHeader}
 use Rattle.gen_chain.specs.declared.statements.Statement.{Statement}
 use Rattle.gen_chain.proofs.TestedChains.{both}
 use Rattle.gen_log.specs.declared.entries.Entry.{Entry}
 use Rattle.gen_log.specs.declared.entries.Entry.TheVariants.{Start, Sign, Send, Recv, Decide}
 use Rattle.gen_log.specs.declared.fault.LogFault.{LogFault}
-use Rattle.gen_log.specs.Entry.{erase, entry_spelling}
-use Rattle.gen_log.specs.Log.{RunLog, IsLog, log_spelling}
+use Rattle.gen_log.specs.Entry.{entry_spelling}
+use Rattle.gen_log.specs.Log.{RunLog, log_spelling}
 use Rattle.gen_log.specs.LogReading.{log_of}
 use Rattle.gen_log.proofs.LogLaws.{log_found}
 use Rattle.gen_log.proofs.NextEntries.{are_bytes}
-use Rattle.gen_types.specs.Spelled.{Spells}
 use Rattle.std.specs.Int.{w64, to_be_bytes}
 use Rattle.gen_local.specs.declared.reading.Reading.{Reading}
 use Rattle.gen_local.specs.declared.reading.Reading.TheVariants.{Unreadable, Foreign, Own}

@@ -32,7 +32,7 @@ use Rattle.gen_convict.specs.Convictions.{shown_in}
 use Rattle.gen_convict.specs.Exhibits.{HeldLog, starts_as, says_it_is_of, held, logs_in, log_texts, texts_in, is_by, texts_of, is_his, logs_of}
 use Rattle.gen_convict.specs.Finding.{read_texts, his_texts, is_unsaid}
 use Rattle.gen_convict.specs.FindingClaims.{unsaid_in, lacks, departure_in, departs}
-use Rattle.gen_convict.specs.First.{IsMissing, LacksSome, IsDeparting, DepartsSomewhere}
+use Rattle.gen_convict.specs.First.{IsMissing, LacksSome, DepartsSomewhere}
 use Rattle.gen_convict.proofs.FindFirst.{find_in, find_none, is_false, Singles}
 use Rattle.gen_convict.proofs.FoundTexts.{unsaid_tests}
 use Rattle.gen_convict.proofs.Holding.{starts_known}

@@ -1,13 +1,13 @@
 -- The claims that are found by two texts.
-use Rattle.std.proofs.Common.{◌≡◌, ◌≢◌, ℕ, Bool, true, false, not, ◌&&◌, cond, eqb, Option, Some, None, List, [], ◌∷◌, ◌++◌, Contains, refl, sym, ap, subst, ◌∙◌, inl, inr, arith}
+use Rattle.std.proofs.Common.{◌≡◌, ℕ, Bool, true, false, not, ◌&&◌, cond, eqb, Option, Some, None, List, [], ◌∷◌, ◌++◌, Contains, refl, sym, ap, subst, ◌∙◌, inl, inr, arith}
 use Rattle.std.specs.Bool.{nat_eq}
 use Rattle.std.specs.List.{find, list_any}
 use Rattle.std.specs.Option.{option_map}
-use Rattle.std.specs.Cmp.Lexicographic.{pointwise, same_text, other_text}
+use Rattle.std.specs.Cmp.Lexicographic.{pointwise, same_text}
 use Rattle.std.proofs.lemmas.Bool.{eqb-true, eq-eqb}
 use Rattle.std.proofs.lemmas.List.{append-nil}
 use Rattle.std.proofs.lemmas.List.Elements.{Contains-push_cases}
-use Rattle.gen_types.proofs.Lists.{bool_cases, split, Contains-middle, Contains_here, Contains_there, Contains_cases, Contains_nil}
+use Rattle.gen_types.proofs.Lists.{bool_cases, split, Contains-middle, Contains_here, Contains_there, Contains_nil}
 use Rattle.gen_chain.specs.declared.statements.Statement.{Statement}
 use Rattle.gen_chain.proofs.TestedChains.{both, and_so, same_list}
 use Rattle.gen_local.specs.declared.texts.SignedText.{SignedText}
@@ -21,10 +21,9 @@ use Rattle.gen_convict.specs.Finding.{is_like, is_unlike, has_unlike, is_command
 use Rattle.gen_convict.specs.FindingClaims.{with_unlike, texts_claim, order_of, two_orders, with_order, first_order, orders_claim}
 use Rattle.gen_convict.specs.First.{DifferInOrder, AreOrders, IsUnsaid, IsMissing}
 use Rattle.gen_convict.specs.Firsts.{IsFirst, IsFirstPair}
-use Rattle.gen_convict.specs.PairLaws.{NoTwoTexts, place_of, AreAlike, IsByCommander, IsCommand}
-use Rattle.gen_convict.proofs.FirstOnes as firsts
-use Rattle.gen_convict.proofs.FirstOnes.{NoPair, unlike_or_same, commands_part, turned, not_itself, one_of_each}
-use Rattle.gen_convict.proofs.FindFirst.{Tests, fails, find_first, find_none, find_in, find_same, is_false, pair_found}
+use Rattle.gen_convict.specs.PairLaws.{NoTwoTexts, place_of, IsByCommander, IsCommand}
+use Rattle.gen_convict.proofs.FirstOnes.{unlike_or_same, commands_part, turned, not_itself, one_of_each}
+use Rattle.gen_convict.proofs.FindFirst.{Tests, find_first, find_none, find_in, pair_found}
 use Rattle.gen_convict.proofs.Signs.{any_found, any_told, one_test, sign_found, sign_told}
 
 -- ---- what the tests tell

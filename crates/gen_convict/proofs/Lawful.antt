@@ -1,21 +1,20 @@
 -- What is found can stand in evidence.
-use Rattle.std.proofs.Common.{◌≡◌, ◌≢◌, ℕ, ◌<◌, ◌≤◌, ◌^◌, Option, Some, None, List, [], ◌∷◌, ◌++◌, length, length-append, map, filter, Contains, All, AllPairs, refl, sym, ap, subst, ◌∙◌, inl, inr, arith, append_assoc, get_or}
+use Rattle.std.proofs.Common.{◌≡◌, ℕ, ◌<◌, ◌^◌, Option, Some, None, List, [], ◌∷◌, ◌++◌, length, length-append, filter, Contains, refl, sym, ap, subst, ◌∙◌, inl, inr, arith, append_assoc}
 use Rattle.std.specs.Prelude.{slice_get, ◌-◌}
 use Rattle.std.specs.List.{flat_map, AllByRecursion}
 use Rattle.std.proofs.lemmas.List.Elements.{All-contains, Contains-append_left, Contains-append_cases}
 use Rattle.sha2.proofs.Facts256.{length-sha256}
 use Rattle.gen_types.specs.Ends.{BeginsWith}
 use Rattle.gen_types.proofs.Lists.{Contains_here, Contains_there, Contains_cases, Contains_nil, Contains_flat_mapped, Contains_filtered, All_of, AllPairs-front}
-use Rattle.gen_tree.specs.Sizes.{signature_length}
 use Rattle.gen_net.specs.Network.{Network}
-use Rattle.gen_net.specs.Header.{RunHeader, IsHeader, height_of}
+use Rattle.gen_net.specs.Header.{RunHeader, IsHeader}
 use Rattle.gen_chain.specs.Chain.{signed_path}
 use Rattle.gen_chain.specs.declared.chains.Signer.{Signer}
 use Rattle.gen_log.specs.declared.entries.Entry.{Entry}
 use Rattle.gen_log.specs.declared.entries.Entry.TheVariants.{Start, Sign, Send, Recv, Decide}
 use Rattle.gen_log.specs.Entry.{IsEntryOf}
-use Rattle.gen_log.specs.Fields.{AreBelow, IsChainOf}
-use Rattle.gen_log.specs.Links.{link_behind, first_link, next_link, link_over}
+use Rattle.gen_log.specs.Fields.{AreBelow}
+use Rattle.gen_log.specs.Links.{link_behind, first_link, next_link}
 use Rattle.gen_log.specs.Log.{RunLog, IsLog}
 use Rattle.gen_log.specs.Path.{IsPathOf}
 use Rattle.gen_local.specs.declared.reading.Reading.{Reading}
@@ -27,15 +26,14 @@ use Rattle.gen_local.specs.Report.{Report}
 use Rattle.gen_local.specs.Shown.{ShownLog}
 use Rattle.gen_local.specs.SignedTexts as signed
 use Rattle.gen_local.specs.SignedTexts.{stated, texts_behind, text_under, head_in, text_verifies}
-use Rattle.gen_convict.specs.Accused.{HasSignedText, TextVerifies, AreDifferent, command}
+use Rattle.gen_convict.specs.Accused.{HasSignedText, AreDifferent, command}
 use Rattle.gen_convict.specs.Contradictions.{Claim, TwoTexts, TwoOrders, MissingFromLog, DepartingLog}
 use Rattle.gen_convict.specs.Convictions.{AreShort, shown_in}
-use Rattle.gen_convict.specs.Evidence.{Accusation, IsSignature, IsStatementOf, IsTextFor, IsSignedTextFor, IsLogBytes, IsClaimFor, IsEvidence}
+use Rattle.gen_convict.specs.Evidence.{Accusation, IsSignature, IsTextFor, IsSignedTextFor, IsLogBytes, IsClaimFor, IsEvidence}
 use Rattle.gen_convict.specs.Exhibits.{AllBytes, HeldLog, is_by, is_his, texts_of, texts_in, logs_in, logs_of, log_texts}
 use Rattle.gen_convict.specs.First.{AreOrders, IsMissing, LacksSome, DepartsSomewhere, IsFirstOfKind, IsFirstClaim}
-use Rattle.gen_convict.specs.Firsts.{IsFirst}
 use Rattle.gen_convict.proofs.FoundClaims.{length_erased, log_longer, mapped}
-use Rattle.gen_convict.proofs.FoundLogs.{AreOf, own_of, log_in, his_log, his_logs_are, his_own}
+use Rattle.gen_convict.proofs.FoundLogs.{AreOf, log_in, his_log, his_logs_are, his_own}
 use Rattle.gen_convict.proofs.Holding.{IsReadLog, logs_read, texts_verify, first_in, pair_in}
 
 -- ---- the front of a path

@@ -1,7 +1,7 @@
 -- How the first claim is found: what reports say of one general, and tests on his texts.
-use Rattle.std.specs.Prelude.{ℕ, Bool, true, false, ◌&&◌, ◌==◌, not, cond, List, [], ◌∷◌, ◌++◌, map, filter, Option, Some, None}
+use Rattle.std.specs.Prelude.{ℕ, Bool, true, false, ◌&&◌, ◌==◌, not, cond, List, [], ◌∷◌, ◌++◌, filter}
 use Rattle.std.specs.Bool.{nat_eq}
-use Rattle.std.specs.List.{flat_map, list_any, find}
+use Rattle.std.specs.List.{flat_map, list_any}
 use Rattle.std.specs.Cmp.Lexicographic.{pointwise}
 use Rattle.gen_log.specs.Log.{RunLog}
 use Rattle.gen_log.specs.Signing.{is_sign_of}
@@ -10,7 +10,6 @@ use Rattle.gen_local.specs.declared.reading.Reading.TheVariants.{Unreadable, For
 use Rattle.gen_local.specs.declared.texts.SignedText.{SignedText}
 use Rattle.gen_local.specs.declared.texts.Text.{Text}
 use Rattle.gen_local.specs.declared.texts.Text.TheVariants.{OfStatement, OfHead}
-use Rattle.gen_local.specs.FoundLog.{FoundLog}
 use Rattle.gen_local.specs.Report.{Report}
 use Rattle.gen_convict.specs.Exhibits.{is_by}
 

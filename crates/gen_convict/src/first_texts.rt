@@ -63,10 +63,7 @@ pub fn first_command<'a>(texts: &[&'a SignedText]) -> Option<&'a SignedText>
 }
 
 /// Returns the first statement of the commander alone that is of another order than this one.
-pub fn first_other_order<'a>(
-    text: &SignedText,
-    texts: &[&'a SignedText],
-) -> Option<&'a SignedText>
+pub fn first_other_order<'a>(text: &SignedText, texts: &[&'a SignedText]) -> Option<&'a SignedText>
     ensures { option_map (λ t. t.now) result
         ≡ find (λ x. finds.are_orders text.now.text x.text) (map (λ t. t.now) texts.now) }
 {

@@ -41,6 +41,8 @@ pub use refuting::refute;
 #[cfg(test)]
 mod evidence_tests;
 #[cfg(test)]
+mod finding_tests;
+#[cfg(test)]
 mod refuting_tests;
 #[cfg(test)]
 mod tests;

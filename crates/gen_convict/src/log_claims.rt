@@ -53,11 +53,7 @@ fn first_lacking<'a>(
 }
 
 /// The claim that a statement is missing from a log.
-fn missing_of(
-    alloc: Global,
-    log: &[u8],
-    text: &SignedText,
-) -> Result<Option<Claim>, AllocError>
+fn missing_of(alloc: Global, log: &[u8], text: &SignedText) -> Result<Option<Claim>, AllocError>
     ensures { IfOk result (λ claim. option_map told claim
         ≡ finds.missing_of log.now text.now.signature text.now.text) }
 {
@@ -100,7 +96,8 @@ fn departure_in(reading: &Reading) -> Option<usize>
 {
     match reading {
         Reading::Own(found) => {
-            if found.is_sealed() {
+            let sealed = found.is_sealed();
+            if sealed {
                 return found.departure();
             }
             None
@@ -117,10 +114,7 @@ fn departs(general: GeneralNo, report: &LocalReport) -> bool
 }
 
 /// The first report of such a log.
-fn first_departing<'a>(
-    general: GeneralNo,
-    reports: &'a [LocalReport],
-) -> Option<&'a LocalReport>
+fn first_departing<'a>(general: GeneralNo, reports: &'a [LocalReport]) -> Option<&'a LocalReport>
     ensures { option_map (λ r. r.now) result ≡ find (finds.departs general) reports.now }
 {
     for report in reports {

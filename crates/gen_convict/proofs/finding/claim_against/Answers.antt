@@ -15,8 +15,8 @@ returns c =
     let firsts = map (λ (t : Bor SignedText). t.now) c.as_slice-2.result.now in
     let texts_are : texts ≡ his_texts general reports = ap (map (λ (t : Bor SignedText). t.now)) c.as_slice-3.ensures.value ∙ c.in_ok-texts.ensures in
     let firsts_are : firsts ≡ one_each [] texts =
-        ap (map (λ (t : Bor SignedText). t.now)) c.as_slice-2.ensures.value ∙ c.in_ok-firsts.ensures
-        ∙ ap (λ xs. one_each [] (map (λ (t : Bor SignedText). t.now) xs)) (c.as_slice.ensures.value ∙ sym c.as_slice-3.ensures.value) in
+    ap (map (λ (t : Bor SignedText). t.now)) c.as_slice-2.ensures.value ∙ c.in_ok-firsts.ensures
+    ∙ ap (λ xs. one_each [] (map (λ (t : Bor SignedText). t.now) xs)) (c.as_slice.ensures.value ∙ sym c.as_slice-3.ensures.value) in
     if_ok (λ claim. option_map told claim ≡ claim_by general firsts texts reports) (λ claim. option_map told claim ≡ claim_for reports general) c.claim_by.result
     (λ claim e. e ∙ claim_same general firsts texts reports texts_are firsts_are)
     c.claim_by.ensures

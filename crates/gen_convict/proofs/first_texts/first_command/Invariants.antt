@@ -1,7 +1,6 @@
 use Rattle.std.proofs.Common.{◌≡◌, drop, map}
-use Rattle.std.specs.List.{find, list_any}
+use Rattle.std.specs.List.{find}
 use Rattle.gen_convict.specs.Finding as finds
-use Rattle.gen_convict.specs.FindingClaims as claims
 use Rattle.gen_convict.proofs.first_texts.first_command.Given as goal
 
 abbrev pub invariant-loop-text : goal.invariant-loop-text

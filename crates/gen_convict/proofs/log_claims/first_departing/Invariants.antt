@@ -1,6 +1,5 @@
-use Rattle.std.proofs.Common.{◌≡◌, drop, map}
-use Rattle.std.specs.List.{find, list_any}
-use Rattle.gen_convict.specs.Finding as finds
+use Rattle.std.proofs.Common.{◌≡◌, drop}
+use Rattle.std.specs.List.{find}
 use Rattle.gen_convict.specs.FindingClaims as claims
 use Rattle.gen_convict.proofs.log_claims.first_departing.Given as goal
 

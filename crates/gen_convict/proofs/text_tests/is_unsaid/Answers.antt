@@ -1,4 +1,4 @@
-use Rattle.std.proofs.Common.{◌≡◌, not, sym, ap, ◌∙◌}
+use Rattle.std.proofs.Common.{not, sym, ap, ◌∙◌}
 use Rattle.gen_convict.specs.Finding as finds
 use Rattle.gen_convict.proofs.Signs.{has_sign_tests}
 use Rattle.gen_convict.proofs.text_tests.is_unsaid.Goals as goal
