@@ -5,7 +5,7 @@ use mathlib.Core.Option.{some, some-injective, some-ne-none}
 use lib.ListN.{get_elem?}
 use Rattle.gen_edge.specs.Frames.{Parcels, Carried, round, gone, numbered, ending, row}
 
-head_is : (x y : Carried) (xs ys : List Carried) → x ∷ xs ≡ y ∷ ys → x ≡ y
+pub head_is : (x y : Carried) (xs ys : List Carried) → x ∷ xs ≡ y ∷ ys → x ≡ y
 head_is x y xs ys e = some-injective x y (ap (λ l. get_elem? l 0) e)
 
 pub empty_is_not : (x : Carried) (xs : List Carried) → [] ≡ x ∷ xs → ⊥
