@@ -1,14 +1,12 @@
 -- How many frames go over an edge, and that nothing comes behind the last word.
-use Rattle.std.proofs.Common.{◌≡◌, ℕ, zero, suc, ◌+◌, ◌<◌, ◌≤◌, Bool, true, false, true≢false, List, [], ◌∷◌, ◌++◌, length, map, take, drop, Some, None, sym, refl, ap, ◌∙◌, subst, arith, length-append}
+use Rattle.std.proofs.Common.{◌≡◌, ℕ, zero, suc, ◌+◌, ◌≤◌, Bool, true, false, true≢false, List, [], ◌∷◌, ◌++◌, length, map, take, drop, Some, sym, refl, ap, ◌∙◌, arith, length-append}
 use Rattle.std.proofs.lemmas.List.{length-map}
-use mathlib.Core.Option.{some}
-use lib.ListN.{get_elem?}
 use Rattle.crossbeam_queue.specs.Fifo.{Held}
 use Rattle.gen_edge.specs.declared.frames.Frame.{Frame}
 use Rattle.gen_edge.specs.declared.frames.Frame.TheVariants.{Round, Gone}
 use Rattle.gen_edge.specs.declared.rule.Seen.{Seen}
 use Rattle.gen_edge.specs.Frames.{Parcels, Carried, round, gone, carried, number_of, numbered, ending, row}
-use Rattle.gen_edge.specs.Tied.{ComesNext, TakesNext, PutsSee, after_put, after_take}
+use Rattle.gen_edge.specs.Tied.{ComesNext, TakesNext, PutsSee, after_put}
 use Rattle.gen_edge.proofs.Rows.{head_is, some_below, empty_is_not}
 
 abbrev is_round : Carried → Bool

@@ -1,6 +1,6 @@
 -- The frames of the run on an edge, one by one.
 use Rattle.std.proofs.Common.{◌≡◌, ℕ, zero, suc, ◌+◌, ◌<◌, ◌≤◌, ◌==◌, ◌&&◌, Bool, true, false, cond, Some, List, [], ◌∷◌, map, Contains, sym, refl, ap, ◌∙◌, subst, arith}
-use Rattle.std.specs.List.{range_with_len, flat_map, find}
+use Rattle.std.specs.List.{range_with_len, find}
 use mathlib.Core.Option.{some}
 use lib.ListN.{get_elem?}
 use Rattle.gen_types.proofs.Lists.{Contains_here, Contains_there, Contains_mapped, Contains_flat_mapped, Contains_range}

@@ -27,8 +27,7 @@ fn row_of(rows: &[FrameRow], way: (GeneralNo, GeneralNo), round: u8) -> Option<&
     ensures { option_map (λ row. row.now) result ≡
         find (λ (row : Row). row.from == way.0 && row.to == way.1 && row.round == round) rows.now }
 {
-    rows.iter()
-        .find(|row| row.from() == way.0 && row.to() == way.1 && row.round() == round)
+    rows.iter().find(|row| row.from() == way.0 && row.to() == way.1 && row.round() == round)
 }
 
 /// The same, to be put on an edge.

@@ -101,7 +101,10 @@ impl Lane {
     /// What is left in the end.
     pub(crate) fn settle<R: Wait>(self, rt: &R, alloc: Global) -> Result<Vec<Shape>, AllocError> {
         let Lane {
-            edge, put, take, ..
+            edge,
+            put,
+            take,
+            ..
         } = self;
         let left = edge.settle(rt, put, take);
         shapes_of(alloc, &left)

@@ -37,7 +37,12 @@ fn lane_of(alloc: Global, capacity: usize) -> Result<Lane, Fail> {
         return Err("no room".into());
     }
     let triangle = without_scripts(alloc, 3, &[(0, 1), (0, 2), (1, 2)], (1, 1))?;
-    Ok(Lane::new(alloc, triangle, (GeneralNo::at(1), GeneralNo::at(2)), capacity)?)
+    Ok(Lane::new(
+        alloc,
+        triangle,
+        (GeneralNo::at(1), GeneralNo::at(2)),
+        capacity,
+    )?)
 }
 
 #[test]
@@ -56,7 +61,14 @@ fn an_edge_that_holds_one_frame(rt: HostRuntime) -> Result<(), Fail> {
 fn the_last_word_comes_last(rt: HostRuntime) -> Result<(), Fail> {
     let alloc = rt.alloc();
     let mut lane = lane_of(alloc, 16)?;
-    let steps = [Step::Put, Step::End, Step::Put, Step::Take, Step::Take, Step::Take];
+    let steps = [
+        Step::Put,
+        Step::End,
+        Step::Put,
+        Step::Take,
+        Step::Take,
+        Step::Take,
+    ];
     let (puts, takes) = lane.try_all(&rt, alloc, &steps)?;
     assert!(rt; puts.as_slice() == [true, true, false].as_slice());
     assert!(rt; takes.as_slice() == [NOTHING, Some(LAST), None].as_slice());

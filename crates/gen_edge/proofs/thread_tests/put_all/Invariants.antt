@@ -1,5 +1,4 @@
 use Rattle.std.proofs.Common.{◌≡◌}
-use Rattle.gen_world.specs.Rows.{rows_of}
 use Rattle.gen_edge.specs.Frames.{edge_frames}
 use Rattle.gen_edge.specs.Ends.{IsPutPassOf, put_view}
 use Rattle.gen_edge.proofs.thread_tests.put_all.Given as goal

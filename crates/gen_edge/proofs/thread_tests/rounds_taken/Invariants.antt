@@ -1,4 +1,3 @@
-use Rattle.std.proofs.Common.{◌≡◌}
 use Rattle.gen_edge.specs.Ends.{IsTakePassOf}
 use Rattle.gen_edge.proofs.thread_tests.rounds_taken.Given as goal
 

@@ -1,10 +1,10 @@
-use Rattle.std.proofs.Common.{rules, ◌≡◌, ap, sym, ◌∙◌, subst, arith}
+use Rattle.std.proofs.Common.{rules, ◌≡◌, ap, ◌∙◌, subst}
 use Rattle.crossbeam_queue.specs.Passes.{view}
 use Rattle.crossbeam_queue.specs.Fifo.{Held}
 use Rattle.gen_edge.specs.declared.rule.Seen.{Seen}
 use Rattle.gen_edge.specs.Tied.{both_sides, Rests}
 use Rattle.gen_edge.proofs.Steps.{joins, takes, settles}
-use Rattle.gen_edge.proofs.Settled.{Drained, drained_none, drained_more, drained_empty, drained_all}
+use Rattle.gen_edge.proofs.Settled.{Drained, drained_more, drained_empty, drained_all}
 use Rattle.gen_edge.proofs.Bounds.{nothing_left}
 use Rattle.gen_edge.proofs.passes.Edge.settle.Goals as goal
 
