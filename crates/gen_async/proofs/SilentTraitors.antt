@@ -1,10 +1,9 @@
 -- Scenarios in which one general has a script, without a line.
-use Rattle.std.proofs.Common.{◌≡◌, ◌<◌, ◌≤◌, ℕ, List, [], ◌∷◌, sym, subst, Contains, arith}
+use Rattle.std.proofs.Common.{◌≡◌, ◌<◌, ◌≤◌, ℕ, List, [], ◌∷◌, Contains, arith}
 use Rattle.gen_types.proofs.Lists.{Contains_nil}
 use Rattle.gen_net.specs.declared.version.Version.{Version}
 use Rattle.gen_net.specs.Version.{slot_in, greatest_slot}
 use Rattle.gen_net.specs.Network.{Network, IsNetwork}
-use Rattle.gen_script.specs.declared.lines.ScriptLine.{ScriptLine}
 use Rattle.gen_script.specs.Script.{Script}
 use Rattle.gen_world.specs.Scenario.{IsScenario}
 use Rattle.gen_world.proofs.ScriptPairs.{one_member}

@@ -114,7 +114,11 @@ fn three_generals(rt: HostRuntime) -> Result<(), Fail> {
 }
 
 /// Lets whoever can act until nobody can, and at most so often, and returns how many acts moved.
-pub(crate) fn moves_to_the_end(alloc: Global, machine: &mut Machine, most: u32) -> Result<u32, AllocError> {
+pub(crate) fn moves_to_the_end(
+    alloc: Global,
+    machine: &mut Machine,
+    most: u32,
+) -> Result<u32, AllocError> {
     for moved in 0..most {
         match machine.mover() {
             Some(me) if me.get() < machine.generals() => machine.run_acts(alloc, &[me])?,

@@ -89,7 +89,10 @@ fn whoever_acts_when_the_logs_are_the_same(rt: HostRuntime) -> Result<(), Fail> 
     for capacity in [1, 2, 16] {
         for seed in [None, Some(1), Some(2)] {
             let (moved, logs) = run_ring(alloc, &scenario, capacity, seed)?;
-            assert!(rt; moved == RING_ACTS && are_equal(logs.as_slice(), run.logs()), "{capacity}");
+            assert!(rt;
+                moved == RING_ACTS && are_equal(logs.as_slice(), run.logs()),
+                "{capacity}"
+            );
         }
     }
     Ok(())
