@@ -9,7 +9,7 @@ use std::test::Fail;
 
 /// The scenario with order 1 in which nobody has a script.
 #[tactic(auto, using(gen_world::proofs::ScriptPairs::no_scripts))]
-fn without_scripts(
+pub(crate) fn without_scripts(
     alloc: Global,
     n: u8,
     edges: &[(u8, u8)],
@@ -114,7 +114,11 @@ fn three_generals(rt: HostRuntime) -> Result<(), Fail> {
 }
 
 /// Lets whoever can act until nobody can, and at most so often, and returns how many acts moved.
-fn moves_to_the_end(alloc: Global, machine: &mut Machine, most: u32) -> Result<u32, AllocError> {
+pub(crate) fn moves_to_the_end(
+    alloc: Global,
+    machine: &mut Machine,
+    most: u32,
+) -> Result<u32, AllocError> {
     for moved in 0..most {
         match machine.mover() {
             Some(me) if me.get() < machine.generals() => machine.run_acts(alloc, &[me])?,
@@ -125,7 +129,7 @@ fn moves_to_the_end(alloc: Global, machine: &mut Machine, most: u32) -> Result<u
 }
 
 /// The logs of a machine that has ended, none where somebody can still act.
-fn logs_of(alloc: Global, machine: Machine) -> Result<Vec<SealedLog>, AllocError> {
+pub(crate) fn logs_of(alloc: Global, machine: Machine) -> Result<Vec<SealedLog>, AllocError> {
     if machine.capacity() == 0 || machine.mover().is_some() {
         machine.close();
         return Ok(Vec::new(alloc));
@@ -134,7 +138,7 @@ fn logs_of(alloc: Global, machine: Machine) -> Result<Vec<SealedLog>, AllocError
 }
 
 /// Whether these are the same logs.
-fn are_equal(logs: &[SealedLog], others: &[SealedLog]) -> bool {
+pub(crate) fn are_equal(logs: &[SealedLog], others: &[SealedLog]) -> bool {
     logs.len() == others.len()
         && logs.iter().zip(others).all(|(log, other)| log.general() == other.general()
             && log.bytes() == other.bytes())

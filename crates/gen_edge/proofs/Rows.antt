@@ -1,11 +1,11 @@
 -- Rows of frames.
-use Rattle.std.proofs.Common.{◌≡◌, ℕ, zero, suc, ◌+◌, ◌-◌, ◌<◌, ◌≤◌, ◌⊎◌, inl, inr, ⊎_elim, Bool, true, false, List, [], ◌∷◌, ◌++◌, length, map, take, drop, sym, refl, ap, ◌∙◌, append_assoc, arith, length-append, zero-add}
-use Rattle.std.proofs.lemmas.List.{append-nil, append_cancel_left}
+use Rattle.std.proofs.Common.{◌≡◌, ℕ, zero, suc, ◌+◌, ◌<◌, ◌≤◌, ◌⊎◌, inl, inr, ⊎_elim, Bool, true, false, List, [], ◌∷◌, ◌++◌, length, take, drop, sym, refl, ap, ◌∙◌, arith}
+use Rattle.std.proofs.lemmas.List.{append-nil}
 use mathlib.Core.Option.{some, some-injective, some-ne-none}
 use lib.ListN.{get_elem?}
 use Rattle.gen_edge.specs.Frames.{Parcels, Carried, round, gone, numbered, ending, row}
 
-head_is : (x y : Carried) (xs ys : List Carried) → x ∷ xs ≡ y ∷ ys → x ≡ y
+pub head_is : (x y : Carried) (xs ys : List Carried) → x ∷ xs ≡ y ∷ ys → x ≡ y
 head_is x y xs ys e = some-injective x y (ap (λ l. get_elem? l 0) e)
 
 pub empty_is_not : (x : Carried) (xs : List Carried) → [] ≡ x ∷ xs → ⊥

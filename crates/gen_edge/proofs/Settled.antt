@@ -1,12 +1,12 @@
 -- What is left on an edge.
-use Rattle.std.proofs.Common.{◌≡◌, ℕ, zero, suc, ◌+◌, ◌<◌, ◌≤◌, Bool, true, false, List, [], ◌∷◌, ◌++◌, length, map, sym, refl, ap, ◌∙◌, subst, append_assoc, arith, length-append}
+use Rattle.std.proofs.Common.{◌≡◌, ℕ, ◌+◌, Bool, true, List, [], ◌∷◌, ◌++◌, length, map, sym, refl, ap, ◌∙◌, subst, append_assoc, arith, length-append}
 use Rattle.std.proofs.lemmas.List.{append-nil, map-append, length-map}
 use Rattle.crossbeam_queue.specs.Fifo.{Held}
 use Rattle.gen_edge.specs.declared.frames.Frame.{Frame}
 use Rattle.gen_edge.specs.declared.frames.Frame.TheVariants.{Round, Gone}
 use Rattle.gen_edge.specs.declared.rule.Seen.{Seen}
-use Rattle.gen_edge.specs.Frames.{Parcels, Carried, round, gone, carried, row}
-use Rattle.gen_edge.specs.Tied.{ComesNext, TakesNext, Rests}
+use Rattle.gen_edge.specs.Frames.{Parcels, round, gone, carried, row}
+use Rattle.gen_edge.specs.Tied.{TakesNext, Rests}
 use Rattle.gen_edge.proofs.Rows.{row_step, row_end}
 
 -- a view with both sides, some frames after another

@@ -1,6 +1,6 @@
 -- Each step keeps the rule of an edge.
 use Rattle.std.proofs.Common.{◌≡◌, ◌≢◌, ℕ, zero, suc, ◌+◌, ◌<◌, ◌≤◌, Bool, true, false, true≢false, List, [], ◌∷◌, ◌++◌, length, map, set, sym, refl, ap, ◌∙◌, subst, inl, inr, ◌⊎◌, ⊎_elim, append_assoc, arith}
-use Rattle.std.proofs.lemmas.List.{append-nil, map-append}
+use Rattle.std.proofs.lemmas.List.{map-append}
 use mathlib.Core.Option.{some, some-injective, some-ne-none}
 use lib.ListN.{get_elem?}
 use Rattle.crossbeam_queue.specs.Fifo.{Pushes, Pops, Forks, Merges, Learns}
@@ -9,7 +9,7 @@ use Rattle.gen_edge.specs.declared.frames.Frame.{Frame}
 use Rattle.gen_edge.specs.declared.frames.Frame.TheVariants.{Round, Gone}
 use Rattle.gen_edge.specs.declared.rule.Seen.{Seen}
 use Rattle.gen_edge.specs.Frames.{Parcels, Carried, round, gone, carried, row}
-use Rattle.gen_edge.specs.Tied.{Tied, State, Counted, Fits, ComesNext, IsFrame, PutsNext, TakesNext, after_put, after_take, unopened, putter, taker, both_sides, spent_side, Rests, PutsSee, TakesSee}
+use Rattle.gen_edge.specs.Tied.{Tied, State, Counted, Fits, ComesNext, PutsNext, TakesNext, unopened, putter, taker, both_sides, spent_side, Rests, PutsSee, TakesSee}
 use Rattle.gen_edge.proofs.Rows.{row_step, row_end, comes, some_below, empty_is_not}
 
 at_end : (l : List Seen) (a b : Seen) (j : ℕ) → get_elem? l j ≢ some b → get_elem? (l ++ a ∷ []) j ≡ some b → j ≡ length l

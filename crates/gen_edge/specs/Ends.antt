@@ -1,5 +1,5 @@
 -- What a clause says of an edge and its two passes.
-use Rattle.std.specs.Prelude.{◌≡◌, ℕ, true}
+use Rattle.std.specs.Prelude.{◌≡◌, ◌≤◌, ℕ, true, length}
 use Rattle.crossbeam_queue.specs.Fifo.{Held}
 use Rattle.gen_edge.specs.Tied.{PutsSee, TakesSee}
 use Rattle.crossbeam_queue.specs.Passes.{view, IsPassOf, ruled_capacity}
@@ -8,25 +8,35 @@ use Rattle.gen_edge.specs.declared.passes.Edge.{Edge}
 use Rattle.gen_edge.specs.declared.passes.PutPass.{PutPass}
 use Rattle.gen_edge.specs.declared.passes.TakePass.{TakePass}
 
+-- what a pass knows: the frames of the run on its edge, how many of them it put or took, and whether the last word
 abbrev pub put_view : PutPass → Seen
 put_view p = view p.pass
 
 abbrev pub take_view : TakePass → Seen
 take_view p = view p.pass
 
+-- the pass is the one to put on the edge, or the one to take from it
 abbrev pub IsPutPassOf : Edge → PutPass → Type 0
 IsPutPassOf e p = IsPassOf e.line p.pass × ((view p.pass).puts ≡ true)
 
 abbrev pub IsTakePassOf : Edge → TakePass → Type 0
 IsTakePassOf e p = IsPassOf e.line p.pass × ((view p.pass).takes ≡ true)
 
+-- how many frames its queue can hold
 abbrev pub edge_capacity : Edge → ℕ
 edge_capacity e = ruled_capacity e.line
 
--- at one moment of the call the queue held as many frames as it can
+-- by the pass no more frames went than the run has on the edge, one for each round
+abbrev pub PutsWithin : PutPass → Type 0
+PutsWithin p = (put_view p).put ≤ length (put_view p).world
+
+abbrev pub TakesWithin : TakePass → Type 0
+TakesWithin p = (take_view p).taken ≤ length (take_view p).world
+
+-- at one moment of the call the queue held as many frames as it can: those that were put and that somebody had not taken yet
 abbrev pub WasFull : Edge → PutPass → Type 0
 WasFull e p = Held (edge_capacity e) (PutsSee (put_view p))
 
--- at one moment of the call the queue held nothing
+-- at one moment of the call the queue held nothing: all that somebody had put was taken
 abbrev pub WasEmpty : TakePass → Type 0
 WasEmpty p = Held 0 (TakesSee (take_view p))

@@ -1,10 +1,10 @@
 -- The rule of an edge: what was put is what was taken, and then what the queue holds.
-use Rattle.std.specs.Prelude.{◌≡◌, ℕ, ◌+◌, ◌-◌, ◌<◌, ◌≤◌, Bool, true, false, List, [], ◌∷◌, ◌++◌, map, length, drop}
+use Rattle.std.specs.Prelude.{◌≡◌, ℕ, ◌+◌, ◌-◌, ◌<◌, ◌≤◌, Bool, true, false, List, [], ◌++◌, map, length}
 use mathlib.Core.Option.{some}
 use lib.ListN.{get_elem?}
 use Rattle.gen_edge.specs.declared.frames.Frame.{Frame}
 use Rattle.gen_edge.specs.declared.rule.Seen.{Seen}
-use Rattle.gen_edge.specs.Frames.{Parcels, Carried, round, gone, carried, numbered, row}
+use Rattle.gen_edge.specs.Frames.{Parcels, Carried, round, gone, carried, row}
 
 abbrev pub unopened : Seen
 unopened = record { puts = true; takes = true; world = []; put = 0; gone_put = false; taken = 0; gone_taken = false }

@@ -1,9 +1,8 @@
 //! The calls of an edge.
-ghost use Rattle.std.specs.Prelude.{◌≡◌, ◌<◌, ◌++◌, map, IfOk, MatchOption, MatchResult};
-ghost use Rattle.gen_net.specs.Edges.{joins};
+ghost use Rattle.std.specs.Prelude.{◌≡◌, ◌<◌, ◌≤◌, ◌+◌, ◌++◌, [], None, Ok, map, true, length, IfOk, MatchOption, MatchResult};
 ghost use Rattle.gen_edge.specs.Frames.{carried, row, edge_frames};
 ghost use Rattle.gen_edge.specs.Tied.{ComesNext, TakesNext, after_put, putter, taker};
-ghost use Rattle.gen_edge.specs.Ends.{IsPutPassOf, IsTakePassOf, put_view, take_view, edge_capacity, WasFull, WasEmpty};
+ghost use Rattle.gen_edge.specs.Ends.{IsPutPassOf, IsTakePassOf, put_view, take_view, edge_capacity, PutsWithin, TakesWithin, WasFull, WasEmpty};
 
 use crate::frames::Frame;
 use crate::passes::{Edge, Left, Line, PutPass, TakePass};
@@ -50,6 +49,8 @@ impl Edge {
         ensures rule { MatchResult result
             (λ _. put_view pass.new ≡ after_put (put_view pass.old) (carried frame))
             (λ x. (x ≡ frame) × (put_view pass.new ≡ put_view pass.old) × WasFull self.now pass.old) }
+        ensures room { (put_view pass.old).put < edge_capacity self.now → result ≡ Ok tt }
+        ensures within { PutsWithin pass.new }
     {
         let number = frame.number();
         self.line.push_as::<Puts, R>(rt, &mut pass.pass, frame)?;
@@ -69,6 +70,8 @@ impl Edge {
         ensures rule { MatchOption result
             ((take_view pass.new ≡ take_view pass.old) × WasEmpty pass.old)
             (λ x. TakesNext (take_view pass.old) x (take_view pass.new)) }
+        ensures ended { (take_view pass.old).gone_taken ≡ true → result ≡ None }
+        ensures within { TakesWithin pass.new }
     {
         let frame = self.line.pop_as::<Takes, R>(rt, &mut pass.pass)?;
         match frame.number() {
@@ -82,9 +85,11 @@ impl Edge {
     /// takes no memory.
     pub fn settle<R: Wait>(self, rt: &R, put: PutPass, take: TakePass) -> Left
         requires { IsPutPassOf self put × IsTakePassOf self take }
-        ensures { let p = put_view put in let t = take_view take in
+        ensures left { let p = put_view put in let t = take_view take in
             row p.world p.put p.gone_put
             ≡ row p.world t.taken t.gone_taken ++ map carried result.frames.items }
+        ensures ended { (take_view take).gone_taken ≡ true → result.frames.items ≡ [] }
+        ensures few { length result.frames.items ≤ edge_capacity self }
     {
         let Edge { line, mut room } = self;
         let PutPass { mut pass, .. } = put;

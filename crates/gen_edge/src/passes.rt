@@ -1,5 +1,5 @@
 //! An edge, and the passes of the two who use it.
-ghost use Rattle.std.specs.Prelude.{◌≡◌, ◌≤◌, [], vec_capacity};
+ghost use Rattle.std.specs.Prelude.{◌≡◌, ◌≤◌, [], length, vec_capacity};
 ghost use Rattle.crossbeam_queue.specs.Passes.{ruled_capacity, view};
 
 use crate::frames::Frame;
@@ -9,7 +9,10 @@ use crossbeam_queue::{Pass, RuledArrayQueue};
 /// A queue under the rule of an edge.
 pub(crate) type Line = RuledArrayQueue<Frame, Seen, Tie>;
 
-/// One direction between two generals: a bounded queue of frames, and room for what is left in the end.
+/// One direction between two generals: a queue that holds so many frames, at least one, and no lock. One pass puts on
+/// it and one takes from it. It has room for what is left in the end.
+///
+/// It may be dropped with frames on it; then nothing is said of them.
 #[derive(Drop)]
 pub struct Edge {
     pub(crate) line: Line,
@@ -17,27 +20,31 @@ pub struct Edge {
     ghost roomy: { (room.items ≡ []) × (ruled_capacity line ≤ vec_capacity room) },
 }
 
-/// The right to put on an edge. It keeps how many frames were put by it, and whether the last word was.
+/// The right to put on one edge, which no other value has. It keeps how many frames were put by it, at most one for
+/// each round of the run, and whether the last word was.
 #[derive(Drop)]
 pub struct PutPass {
     pub(crate) pass: Pass<Frame, Seen>,
     pub(crate) put: u8,
     pub(crate) gone: bool,
     ghost counted: { ((view pass).put ≡ put) × ((view pass).gone_put ≡ gone) },
+    ghost within: { put ≤ length (view pass).world },
 }
 
-/// The right to take from an edge. It keeps how many frames were taken by it, and whether the last word was.
+/// The right to take from one edge, which no other value has. It keeps how many frames were taken by it, at most one
+/// for each round of the run, and whether the last word was.
 #[derive(Drop)]
 pub struct TakePass {
     pub(crate) pass: Pass<Frame, Seen>,
     pub(crate) taken: u8,
     pub(crate) gone: bool,
     ghost counted: { ((view pass).taken ≡ taken) × ((view pass).gone_taken ≡ gone) },
+    ghost within: { taken ≤ length (view pass).world },
 }
 
-/// What was put on an edge and not taken, in order.
+/// What was put on an edge and not taken.
 #[derive(Drop)]
 pub struct Left {
-    /// The frames.
+    /// The frames, in the order in which they were put, and last the word that no more comes where it was put.
     pub frames: Vec<Frame>,
 }

@@ -1,0 +1,83 @@
+-- How many frames go over an edge, and that nothing comes behind the last word.
+use Rattle.std.proofs.Common.{◌≡◌, ℕ, zero, suc, ◌+◌, ◌≤◌, Bool, true, false, true≢false, List, [], ◌∷◌, ◌++◌, length, map, take, drop, Some, sym, refl, ap, ◌∙◌, arith, length-append}
+use Rattle.std.proofs.lemmas.List.{length-map}
+use Rattle.crossbeam_queue.specs.Fifo.{Held}
+use Rattle.gen_edge.specs.declared.frames.Frame.{Frame}
+use Rattle.gen_edge.specs.declared.frames.Frame.TheVariants.{Round, Gone}
+use Rattle.gen_edge.specs.declared.rule.Seen.{Seen}
+use Rattle.gen_edge.specs.Frames.{Parcels, Carried, round, gone, carried, number_of, numbered, ending, row}
+use Rattle.gen_edge.specs.Tied.{ComesNext, TakesNext, PutsSee, after_put}
+use Rattle.gen_edge.proofs.Rows.{head_is, some_below, empty_is_not}
+
+abbrev is_round : Carried → Bool
+is_round (round n p) = true
+is_round gone = false
+
+-- what the counter of a pass says after a frame of this number went
+pub record IsCounted (world : List Parcels) (count number : ℕ) (ended was : Bool) : Type 0 where
+  pub counted : count ≡ number
+  pub kept : ended ≡ was
+  pub within : number ≤ length world
+
+pub put_counted : (v w : Seen) (x : Frame) (number : ℕ) → number_of (carried x) ≡ Some number → ComesNext v.world v.put v.gone_put (carried x) → w ≡ after_put v (carried x)
+    → IsCounted w.world w.put number w.gone_put v.gone_put
+put_counted v w (Round k parcels) number is next e =
+    let below = some_below v.world v.put parcels.items next.1.1 in
+    let same : k ≡ number = cc in
+    let nth : k ≡ v.put + 1 = next.1.0 in
+    rw e (record { counted = sym nth ∙ same; kept = refl; within = omega (arith, below, same, nth) })
+put_counted v w Gone number is next e = absurd cc
+
+pub take_counted : (v w : Seen) (x : Frame) (number : ℕ) → number_of (carried x) ≡ Some number → TakesNext v x w → IsCounted w.world w.taken number w.gone_taken v.gone_taken
+take_counted v w (Round k parcels) number is (next, e) =
+    let below = some_below v.world v.taken parcels.items next.1.1 in
+    let same : k ≡ number = cc in
+    let nth : k ≡ v.taken + 1 = next.1.0 in
+    rw e (record { counted = sym nth ∙ same; kept = refl; within = omega (arith, below, same, nth) })
+take_counted v w Gone number is next = absurd cc
+
+taken_few : (n : ℕ) (xs : List Parcels) → length (take n xs) ≤ n
+taken_few zero xs = omega arith
+taken_few (suc n) [] = omega arith
+taken_few (suc n) (x ∷ xs) = let h = taken_few n xs in omega arith
+
+numbered_many : (k : ℕ) (xs : List Parcels) → length (numbered k xs) ≡ length xs
+numbered_many k [] = refl
+numbered_many k (x ∷ xs) = ap suc (numbered_many (k + 1) xs)
+
+row_few : (world : List Parcels) (n : ℕ) → length (row world n false) ≤ n
+row_few world n =
+    let a = length-append (numbered 0 (take n world)) [] in
+    let b = numbered_many 0 (take n world) in
+    let c = taken_few n world in
+    omega (arith, a, b, c)
+
+-- where something comes next, the last word did not come
+pub open_before : (world : List Parcels) (n : ℕ) (ended : Bool) (x : Carried) → ComesNext world n ended x → ended ≡ false
+open_before world n ended (round number parcels) next = next.0
+open_before world n ended gone next = next
+
+-- a queue that is full holds no more than was put
+pub full_of_puts : (n : ℕ) (v : Seen) → v.gone_put ≡ false → Held n (PutsSee v) → n ≤ v.put
+full_of_puts n v open_yet (items, many, (taken, gone_taken, behind, rests)) =
+    let few = row_few v.world v.put in
+    let all : row v.world v.put false ≡ row v.world taken gone_taken ++ map carried items = ap (λ b. row v.world v.put b) (sym open_yet) ∙ rests in
+    let long = ap length all in
+    let sum = length-append (row v.world taken gone_taken) (map carried items) in
+    let each = length-map items carried in
+    omega (arith, few, long, sum, each, many)
+
+nothing_behind : (k j : ℕ) (l m : List Parcels) (ended : Bool) (xs : List Carried) → numbered k l ++ ending ended ≡ (numbered j m ++ gone ∷ []) ++ xs → xs ≡ []
+nothing_behind k j [] [] true xs e = sym (ap (drop 1) e)
+nothing_behind k j [] [] false xs e = absurd (empty_is_not gone xs e)
+nothing_behind k j [] (y ∷ ys) true xs e = absurd (true≢false (ap is_round (sym (head_is gone (round (j + 1) y) [] ((numbered (j + 1) ys ++ gone ∷ []) ++ xs) e))))
+nothing_behind k j [] (y ∷ ys) false xs e = absurd (empty_is_not (round (j + 1) y) ((numbered (j + 1) ys ++ gone ∷ []) ++ xs) e)
+nothing_behind k j (x ∷ l) [] ended xs e = absurd (true≢false (ap is_round (head_is (round (k + 1) x) gone (numbered (k + 1) l ++ ending ended) xs e)))
+nothing_behind k j (x ∷ l) (y ∷ ys) ended xs e = nothing_behind (k + 1) (j + 1) l ys ended xs (ap (drop 1) e)
+
+-- behind the last word nothing is left
+pub nothing_left : (world : List Parcels) (n t : ℕ) (g h : Bool) (frames : List Frame) → row world n g ≡ row world t h ++ map carried frames → h ≡ true → frames ≡ []
+nothing_left world n t g h [] e ended = refl
+nothing_left world n t g h (x ∷ frames) e ended =
+    let all : row world n g ≡ row world t true ++ map carried (x ∷ frames) = e ∙ ap (λ b. row world t b ++ map carried (x ∷ frames)) ended in
+    absurd (empty_is_not (carried x) (map carried frames) (sym (nothing_behind 0 0 (take n world) (take t world) g (map carried (x ∷ frames)) all)))

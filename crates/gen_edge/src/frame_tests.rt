@@ -1,0 +1,116 @@
+//! What the tests put on edges, the frames of a scenario's run one after the other, and what they see of it.
+ghost use Rattle.std.specs.Prelude.{ℕ, ◌≡◌, ◌+◌, ◌==◌, ◌&&◌, false, option_map, IfOk, IfSome};
+ghost use Rattle.std.specs.List.{find};
+ghost use Rattle.gen_world.specs.Rows.{Row, rows_of};
+ghost use Rattle.gen_edge.specs.Frames.{carried, edge_frames, round};
+ghost use Rattle.gen_edge.specs.Tied.{ComesNext};
+ghost use Rattle.gen_edge.specs.Ends.{IsPutPassOf, IsTakePassOf, put_view};
+
+use crate::{Edge, Frame, Left, PutPass, TakePass};
+use gen_types::GeneralNo;
+use gen_world::{FrameRow, Scenario, WorldRun};
+use std::alloc::{AllocError, Global};
+use std::sync::Wait;
+
+/// A frame of the run.
+fn copy_of(alloc: Global, row: &FrameRow) -> Result<Frame, AllocError>
+    ensures { IfOk result (λ frame. carried frame ≡ round row.now.round row.now.parcels) }
+{
+    Ok(Frame::Round {
+        number: row.round(),
+        parcels: row.parcels().to_vec(alloc)?,
+    })
+}
+
+/// The frame of a round from one general to another, among those of a run.
+fn row_of(rows: &[FrameRow], way: (GeneralNo, GeneralNo), round: u8) -> Option<&FrameRow>
+    ensures { option_map (λ row. row.now) result ≡
+        find (λ (row : Row). row.from == way.0 && row.to == way.1 && row.round == round) rows.now }
+{
+    rows.iter().find(|row| row.from() == way.0 && row.to() == way.1 && row.round() == round)
+}
+
+/// The same, to be put on an edge.
+fn frame_of(
+    alloc: Global,
+    scenario: &Scenario,
+    run: &WorldRun,
+    way: (GeneralNo, GeneralNo),
+    round: u8,
+) -> Result<Option<Frame>, AllocError>
+    requires { run.now.frames ≡ rows_of scenario.now }
+    ensures { IfOk result (λ found. IfSome found (λ frame. (n : ℕ) → round ≡ n + 1
+        → ComesNext (edge_frames scenario.now way.0 way.1) n false (carried frame))) }
+{
+    match row_of(run.frames(), way, round) {
+        Some(row) => Ok(Some(copy_of(alloc, row)?)),
+        None => Ok(None),
+    }
+}
+
+/// Tries to put the frame of the run that comes next on an edge. Whether it was put.
+pub(crate) fn put_next<R: Wait>(
+    rt: &R,
+    alloc: Global,
+    scenario: &Scenario,
+    run: &WorldRun,
+    way: (GeneralNo, GeneralNo),
+    edge: &Edge,
+    pass: &mut PutPass,
+) -> Result<bool, AllocError>
+    requires run { run.now.frames ≡ rows_of scenario.now }
+    requires pass { IsPutPassOf edge.now pass.old }
+    requires world { (put_view pass.old).world ≡ edge_frames scenario.now way.0 way.1 }
+    ensures pass { IsPutPassOf edge.now pass.new }
+    ensures world { (put_view pass.new).world ≡ edge_frames scenario.now way.0 way.1 }
+{
+    let put = pass.put();
+    if pass.has_ended() || put >= 16 {
+        return Ok(false);
+    }
+    match frame_of(alloc, scenario, run, way, put + 1)? {
+        Some(frame) => Ok(edge.try_put(rt, pass, frame).is_ok()),
+        None => Ok(false),
+    }
+}
+
+/// The round of a frame, how many parcels it has, and how many bytes the longest; three times 0 of the last word.
+pub(crate) type Shape = (u8, usize, usize);
+
+/// The shape of a frame.
+fn shape(frame: &Frame) -> Shape {
+    match frame {
+        Frame::Round { number, parcels } => {
+            let bytes = parcels.iter().map(|parcel| parcel.bytes().len());
+            (*number, parcels.len(), bytes.max().unwrap_or(0))
+        }
+        Frame::Gone => (0, 0, 0),
+    }
+}
+
+/// Tries to put the last word on an edge. Whether it was put.
+pub(crate) fn put_last<R: Wait>(rt: &R, edge: &Edge, pass: &mut PutPass) -> bool
+    requires { IsPutPassOf edge.now pass.old }
+    ensures pass { IsPutPassOf edge.now pass.new }
+    ensures world { (put_view pass.new).world ≡ (put_view pass.old).world }
+{
+    !pass.has_ended() && edge.try_put(rt, pass, Frame::Gone).is_ok()
+}
+
+/// Tries to take what comes first, and says what it is.
+pub(crate) fn take_shape<R: Wait>(rt: &R, edge: &Edge, pass: &mut TakePass) -> Option<Shape>
+    requires { IsTakePassOf edge.now pass.old }
+    ensures { IsTakePassOf edge.now pass.new }
+{
+    let frame = edge.try_take(rt, pass)?;
+    Some(shape(&frame))
+}
+
+/// The shapes of what is left.
+pub(crate) fn shapes_of(alloc: Global, left: &Left) -> Result<Vec<Shape>, AllocError> {
+    let mut shapes = Vec::new(alloc);
+    for frame in left.frames.as_slice() {
+        shapes.push(shape(frame))?;
+    }
+    Ok(shapes)
+}

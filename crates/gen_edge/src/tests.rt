@@ -1,0 +1,89 @@
+//! Edges in one hand. The frames are those of a triangle in which everybody relays: on the edge from 1 to 2 comes
+//! nothing in round 1, and in round 2 the order that 1 got from the commander, in a chain of two signers. Such a chain
+//! has 2 bytes and 16,513 for each signer.
+use crate::frame_tests::Shape;
+use crate::lane_tests::{Lane, Step};
+use gen_net::Net;
+use gen_types::{GeneralNo, OrderNo};
+use gen_world::Scenario;
+use std::alloc::Global;
+use std::test::Fail;
+
+/// What comes in round 1.
+const NOTHING: Option<Shape> = Some((1, 0, 0));
+
+/// What comes in round 2.
+const RELAYED: Shape = (2, 1, 33_028);
+
+/// The last word.
+const LAST: Shape = (0, 0, 0);
+
+/// The scenario with order 1 in which nobody has a script.
+#[tactic(auto, using(gen_world::proofs::ScriptPairs::no_scripts))]
+pub(crate) fn without_scripts(
+    alloc: Global,
+    n: u8,
+    edges: &[(u8, u8)],
+    (m, d): (u8, u8),
+) -> Result<Scenario, Fail> {
+    let net = Net::new(alloc, n, edges, m, d, 2, 0)?;
+    let _few = net.generals();
+    Ok(Scenario::new(alloc, net, OrderNo::at(1), &[0; 32], Vec::new(alloc))?)
+}
+
+/// The edge from 1 to 2 of the triangle, with two rounds.
+fn lane_of(alloc: Global, capacity: usize) -> Result<Lane, Fail> {
+    if capacity == 0 {
+        return Err("no room".into());
+    }
+    let triangle = without_scripts(alloc, 3, &[(0, 1), (0, 2), (1, 2)], (1, 1))?;
+    Ok(Lane::new(
+        alloc,
+        triangle,
+        (GeneralNo::at(1), GeneralNo::at(2)),
+        capacity,
+    )?)
+}
+
+#[test]
+fn an_edge_that_holds_one_frame(rt: HostRuntime) -> Result<(), Fail> {
+    let alloc = rt.alloc();
+    let mut lane = lane_of(alloc, 1)?;
+    let steps = [Step::Put, Step::Put, Step::Take, Step::Take, Step::Put];
+    let (puts, takes) = lane.try_all(&rt, alloc, &steps)?;
+    assert!(rt; puts.as_slice() == [true, false, true].as_slice());
+    assert!(rt; takes.as_slice() == [NOTHING, None].as_slice());
+    assert!(rt; lane.settle(&rt, alloc)?.as_slice() == [RELAYED].as_slice());
+    Ok(())
+}
+
+#[test]
+fn the_last_word_comes_last(rt: HostRuntime) -> Result<(), Fail> {
+    let alloc = rt.alloc();
+    let mut lane = lane_of(alloc, 16)?;
+    let steps = [
+        Step::Put,
+        Step::End,
+        Step::Put,
+        Step::Take,
+        Step::Take,
+        Step::Take,
+    ];
+    let (puts, takes) = lane.try_all(&rt, alloc, &steps)?;
+    assert!(rt; puts.as_slice() == [true, true, false].as_slice());
+    assert!(rt; takes.as_slice() == [NOTHING, Some(LAST), None].as_slice());
+    assert!(rt; lane.counts() == [(1, true), (1, true)]);
+    Ok(())
+}
+
+#[test]
+fn what_is_left_is_what_was_not_taken(rt: HostRuntime) -> Result<(), Fail> {
+    let alloc = rt.alloc();
+    let mut lane = lane_of(alloc, 3)?;
+    let steps = [Step::Put, Step::Put, Step::End, Step::Take];
+    let (puts, takes) = lane.try_all(&rt, alloc, &steps)?;
+    assert!(rt; puts.as_slice() == [true, true, true].as_slice());
+    assert!(rt; takes.as_slice() == [NOTHING].as_slice());
+    assert!(rt; lane.settle(&rt, alloc)?.as_slice() == [RELAYED, LAST].as_slice());
+    Ok(())
+}
