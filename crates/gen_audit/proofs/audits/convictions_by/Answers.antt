@@ -9,7 +9,9 @@ pub find_evidence-requires : goal.find_evidence-requires
 find_evidence-requires c = λ r inside. c.requires.header r inside ∙ sym c.header.ensures.value
 
 pub returns-clause-convictions : goal.returns-clause-convictions
-returns-clause-convictions c = rw (← c.header.ensures.value, ← c.requires.exhibits) c.find_evidence.ensures.found
+returns-clause-convictions c =
+    let short = subst AreShort (sym c.requires.exhibits) (λ x inside. (All-contains (IsExhibit c.args.bundle.now.header.network.generals) c.args.bundle.now.exhibits x c.header.ensures.bundle.exhibits.each inside).short) in
+    rw (← c.header.ensures.value, ← c.requires.exhibits) (IfOk-weaker c.find_evidence.result _ _ (λ found are. are short) c.find_evidence.ensures.found)
 
 pub returns-clause-lawful : goal.returns-clause-lawful
 returns-clause-lawful c =
