@@ -7,9 +7,11 @@ mod edges;
 mod ends;
 mod gates;
 mod run_parts;
+mod rounds;
 mod running;
 mod stopping;
 mod together;
+mod waiting;
 
 pub use edges::{Edges, Passes};
 pub use ends::{GeneralEnd, RunFault};

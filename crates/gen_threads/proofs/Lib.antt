@@ -1,0 +1,4 @@
+pub mod Carrying
+pub mod Nears
+pub mod Passing
+pub mod Zips
