@@ -1,5 +1,7 @@
 pub mod Carrying
+pub mod Ending
 pub mod Nears
 pub mod Passing
+pub mod Rings
 pub mod Turning
 pub mod Zips
