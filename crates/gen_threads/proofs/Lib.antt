@@ -3,5 +3,6 @@ pub mod Ending
 pub mod Nears
 pub mod Passing
 pub mod Rings
+pub mod Started
 pub mod Turning
 pub mod Zips

@@ -25,11 +25,11 @@ returns-in_err-put_all-clause-passes g c = record {
 pub returns-in_err-put_all-clause-ring : goal.returns-in_err-put_all-clause-ring
 returns-in_err-put_all-clause-ring g c =
     let s = c.args.part.now.scenario in let p = c.args.recorder.now in
-    let begun = ring_begun s c.part-_lawful.ensures.lawful.lawful p.seat c.requires.records.seat.part.header p.seat.ring c.begin_round.new.self.seat.ring c.in_ok-begin_round.ensures.ok.seat.ring in
+    let begun = ring_begun s c.part-lawful.ensures.lawful.lawful p.seat c.requires.records.seat.part.header p.seat.ring c.begin_round.new.self.seat.ring c.in_ok-begin_round.ensures.ok.seat.ring in
     subst (λ (ring : Option Ring). RingComesBack (header_of s) p.seat.ring ring) (sym c.put_all.ensures.ring) begun
 
 pub returns-clause-ring : goal.returns-clause-ring
 returns-clause-ring g c =
     let s = c.args.part.now.scenario in let p = c.args.recorder.now in
-    let begun = ring_begun s c.part-_lawful.ensures.lawful.lawful p.seat c.requires.records.seat.part.header p.seat.ring c.begin_round.new.self.seat.ring c.in_ok-begin_round.ensures.ok.seat.ring in
+    let begun = ring_begun s c.part-lawful.ensures.lawful.lawful p.seat c.requires.records.seat.part.header p.seat.ring c.begin_round.new.self.seat.ring c.in_ok-begin_round.ensures.ok.seat.ring in
     subst (λ (ring : Option Ring). RingComesBack (header_of s) p.seat.ring ring) (sym (c.take_all.ensures.ring ∙ c.put_all.ensures.ring)) begun
