@@ -1,23 +1,23 @@
 -- One frame more over an edge.
-use Rattle.std.proofs.Common.{◌≡◌, ℕ, zero, suc, ◌+◌, ◌-◌, ◌<◌, ◌⊎◌, Bool, true, false, List, [], ◌∷◌, map, refl, sym, ap, subst, ◌∙◌, arith, slice_set}
-use Rattle.std.specs.List.{range_with_len, AllZip}
+use Rattle.std.proofs.Common.{◌≡◌, ℕ, zero, suc, ◌+◌, ◌-◌, ◌<◌, ◌⊎◌, false, List, map, sym, ap, subst, ◌∙◌, arith}
+use Rattle.std.specs.List.{range_with_len}
 use mathlib.Core.Option.{some, some-injective}
 use lib.ListN.{get_elem?}
-use Rattle.gen_net.specs.Network.{rounds, AreNeighbours}
+use Rattle.gen_net.specs.Network.{rounds}
 use Rattle.gen_edge.specs.declared.frames.Frame.{Frame}
 use Rattle.gen_edge.specs.declared.passes.PutPass.{PutPass}
 use Rattle.gen_edge.specs.declared.passes.TakePass.{TakePass}
 use Rattle.gen_edge.specs.declared.rule.Seen.{Seen}
-use Rattle.gen_edge.specs.Ends.{put_view, take_view, IsPutPassOf, IsTakePassOf}
-use Rattle.gen_edge.specs.Frames.{Parcels, Carried, round, gone, carried, edge_frames}
+use Rattle.gen_edge.specs.Ends.{put_view, take_view}
+use Rattle.gen_edge.specs.Frames.{Parcels, Carried, round, carried, edge_frames}
 use Rattle.gen_edge.specs.Tied.{ComesNext, IsWorlds, TakesNext, after_put, after_take, put_side, take_side}
 use Rattle.gen_edge.proofs.Next.{next_at, put_one}
 use Rattle.gen_world.specs.Scenario.{Scenario}
-use Rattle.gen_world.specs.SignedWorld.{frame_at, neighbours_of}
+use Rattle.gen_world.specs.SignedWorld.{frame_at}
 use Rattle.gen_threads.specs.declared.edges.Edges.{Edges}
-use Rattle.gen_threads.specs.Edges.{IsPutOn, IsTakeFrom, IsTakeBy, HasPut, HasTakenBy, HasTaken}
-use Rattle.gen_threads.specs.Turns.{HasPutUntil, HasTakenUntil, carried_until, place_of_next}
-use Rattle.gen_threads.proofs.Passing.{near_set, carried_below, carried_above, carried_others}
+use Rattle.gen_threads.specs.Edges.{IsPutOn, IsTakeBy}
+use Rattle.gen_threads.specs.Turns.{HasPutUntil, HasTakenUntil}
+use Rattle.gen_threads.proofs.Passing.{carried_below, carried_above, carried_others}
 
 nth : {X : Type 0} (f : ℕ → X) (a n k : ℕ) → k < n → get_elem? (map f (range_with_len a n)) k ≡ some (f (a + k))
 nth f a zero k low = absurd (omega arith)

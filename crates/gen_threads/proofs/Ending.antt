@@ -1,5 +1,5 @@
 -- How the passes stand when a general ends.
-use Rattle.std.proofs.Common.{◌≡◌, ℕ, zero, suc, ◌+◌, ◌<◌, ◌≤◌, inl, inr, List, [], ◌∷◌, slice_index_or, refl, sym, ap, subst, ◌∙◌, arith, length}
+use Rattle.std.proofs.Common.{◌≡◌, ℕ, zero, suc, inl, List, [], ◌∷◌, refl, ap, ◌∙◌, arith, length}
 use Rattle.std.specs.List.{AllZip, All}
 use Rattle.gen_edge.specs.declared.passes.PutPass.{PutPass}
 use Rattle.gen_edge.specs.declared.passes.TakePass.{TakePass}

@@ -1,8 +1,8 @@
 -- The passes of a general, one for each neighbour.
-use Rattle.std.proofs.Common.{◌≡◌, ℕ, zero, suc, ◌+◌, ◌<◌, ◌≤◌, ◌⊎◌, inl, inr, ◌↔◌, List, [], ◌∷◌, ◌++◌, length, map, filter, slice_index_or, slice_set, Contains, Bool, true, false, IsTrue, Option, Some, None, refl, sym, ap, subst, ◌∙◌, arith}
-use Rattle.std.specs.Prelude.{IsSome, option_map, nat_lt, if◌then◌else◌}
+use Rattle.std.proofs.Common.{◌≡◌, ℕ, ◌+◌, ◌<◌, ◌≤◌, ◌⊎◌, inl, inr, List, length, slice_index_or, slice_set, true, false, Option, Some, None, refl, sym, ap, subst, ◌∙◌, arith}
+use Rattle.std.specs.Prelude.{IsSome, option_map, nat_lt}
 use Rattle.std.specs.List.{range_with_len, list_any, AllZip}
-use Rattle.std.proofs.lemmas.Bool.{lt-ltb, cases_lt, cases_Bool, ltb-true}
+use Rattle.std.proofs.lemmas.Bool.{lt-ltb, cases_Bool, ltb-true}
 use Rattle.gen_net.specs.Edges.{joins}
 use Rattle.gen_net.specs.Network.{Network, AreNeighbours}
 use Rattle.gen_world.proofs.Worlds.{near_known}
@@ -51,7 +51,7 @@ module _ (net : Network) (g h : ℕ) (known : h < net.generals) (joined : AreNei
   near_set R S others p one all =
       let cut = near_cut net g h (edge_joins net g h joined) known in
       let r = zip_set R S (near_of net g (range_with_len 0 h)) h cut.back passes p
-          (λ a b m. others a b (inl (cut.below a m))) one (λ a b m. others a b (inr (cut.above a m))) (subst (λ (xs : List ℕ). AllZip R xs passes) cut.cut all) in
+      (λ a b m. others a b (inl (cut.below a m))) one (λ a b m. others a b (inr (cut.above a m))) (subst (λ (xs : List ℕ). AllZip R xs passes) cut.cut all) in
       subst (λ k. AllZip S (neighbours_of net g) (slice_set passes k p)) (sym here) (subst (λ (xs : List ℕ). AllZip S xs (slice_set passes (length (near_of net g (range_with_len 0 h))) p)) (sym cut.cut) r)
 
 -- ---- how many frames went over an edge

@@ -1,12 +1,12 @@
 -- His ring comes back.
-use Rattle.std.proofs.Common.{◌≡◌, ℕ, ◌+◌, ◌<◌, ◌≤◌, ◌⊎◌, inl, inr, Contains, Option, Some, None, refl, sym, ap, subst, ◌∙◌, arith}
+use Rattle.std.proofs.Common.{◌≡◌, inl, inr, Option, Some, None, refl, ap, ◌∙◌, arith}
 use Rattle.gen_tree.specs.Rings.{Ring}
 use Rattle.gen_net.specs.Header.{RunHeader}
-use Rattle.gen_chain.specs.Leaves.{leaves_per_run, leaf_of_order}
+use Rattle.gen_chain.specs.Leaves.{leaf_of_order}
 use Rattle.gen_world.specs.Scenario.{Scenario, IsScenario, header_of}
 use Rattle.gen_world.specs.Seat.{Seat, RingAfter}
 use Rattle.gen_world.specs.Recording.{RingSealed}
-use Rattle.gen_threads.specs.Ending.{IsSameRing, RingComesBack}
+use Rattle.gen_threads.specs.Ending.{RingComesBack}
 
 pub ring_same : (h : RunHeader) (ring : Option Ring) → RingComesBack h ring ring
 ring_same h None = tt

@@ -1,5 +1,5 @@
 -- A general as he is before the first round.
-use Rattle.std.proofs.Common.{◌≡◌, ℕ, Option, Some, None, Result, Ok, Err, refl, sym, ap, subst, ◌∙◌}
+use Rattle.std.proofs.Common.{◌≡◌, ℕ, Option, Result, Ok, Err, refl, sym, ap, subst, ◌∙◌}
 use Rattle.std.specs.Prelude.{IfOk, IfErr, MatchResult}
 use Rattle.gen_tree.specs.Rings.{Ring}
 use Rattle.gen_world.specs.Known.{Known, known_of}

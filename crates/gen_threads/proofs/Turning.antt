@@ -1,5 +1,5 @@
 -- A general goes from neighbour to neighbour.
-use Rattle.std.proofs.Common.{◌≡◌, ℕ, ◌+◌, ◌<◌, ◌≤◌, ◌⊎◌, inl, inr, Bool, true, false, List, [], ◌∷◌, ◌++◌, length, Contains, refl, sym, ap, subst, ◌∙◌, arith}
+use Rattle.std.proofs.Common.{◌≡◌, ℕ, ◌+◌, ◌<◌, ◌⊎◌, inl, inr, true, false, List, [], ◌∷◌, ◌++◌, Contains, refl, sym, ap, subst, ◌∙◌, arith}
 use Rattle.std.specs.List.{range_with_len, list_any, AllZip}
 use Rattle.std.proofs.lemmas.Bool.{cases_lt, cases_eq}
 use Rattle.std.proofs.lemmas.List.{append-nil}
@@ -7,20 +7,20 @@ use Rattle.gen_types.specs.Members.{filter_range_has}
 use Rattle.gen_edge.specs.declared.passes.PutPass.{PutPass}
 use Rattle.gen_edge.specs.declared.passes.TakePass.{TakePass}
 use Rattle.gen_net.specs.Edges.{joins}
-use Rattle.gen_net.specs.Network.{Network, rounds}
+use Rattle.gen_net.specs.Network.{Network}
 use Rattle.gen_world.specs.Scenario.{Scenario, IsScenario}
 use Rattle.gen_world.specs.SignedWorld.{frame_at, neighbours_of}
 use Rattle.gen_world.specs.Recording.{Recorded, StandBefore, send_act, hear_act, with_sends, with_recvs}
-use Rattle.gen_world.specs.Seat.{Seat, sends}
+use Rattle.gen_world.specs.Seat.{sends}
 use Rattle.gen_world.specs.Loops.Records.{HasSent, HasHeard, RecordsAfter}
 use Rattle.gen_world.specs.Loops.Worlds.{near_of}
 use Rattle.gen_world.proofs.LogPlaces.{may_send, may_hear}
-use Rattle.gen_world.proofs.Recorders.{sent_far, sent_near, sent_to_last, hears_from, round_ends}
+use Rattle.gen_world.proofs.Recorders.{sent_far, sent_near, hears_from, round_ends}
 use Rattle.gen_world.proofs.Stepping.{frame_after}
 use Rattle.gen_world.proofs.Worlds.{near_more, near_out, near_in, sends_frames}
 use Rattle.gen_threads.specs.declared.edges.Edges.{Edges}
 use Rattle.gen_threads.specs.Edges.{HasPut, HasTakenBy, IsPutOn, IsTakeBy}
-use Rattle.gen_threads.specs.Turns.{HasPutUntil, HasTakenUntil, IsPutting, IsTaking, carried_until}
+use Rattle.gen_threads.specs.Turns.{HasPutUntil, HasTakenUntil, IsPutting, IsTaking}
 use Rattle.gen_threads.proofs.Carrying.{put_others, taken_others}
 use Rattle.gen_threads.proofs.Nears.{place_behind, place_kept}
 use Rattle.gen_threads.proofs.Passing.{carried_above, carried_below}

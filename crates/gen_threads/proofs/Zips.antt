@@ -1,5 +1,5 @@
 -- Two lists side by side, and a write to one place of the second.
-use Rattle.std.proofs.Common.{◌≡◌, ℕ, zero, suc, ◌+◌, ◌<◌, List, [], ◌∷◌, ◌++◌, length, slice_index_or, slice_set, Contains, arith}
+use Rattle.std.proofs.Common.{◌<◌, List, [], ◌∷◌, ◌++◌, length, slice_index_or, slice_set, Contains, arith}
 use Rattle.std.specs.List.{AllZip}
 use Rattle.gen_types.specs.Members.{Contains_here, Contains_there}
 

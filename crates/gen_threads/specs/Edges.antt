@@ -1,5 +1,5 @@
 -- The edges of a run, and what the passes of a general may do on them.
-use Rattle.std.specs.Prelude.{ℕ, ◌≡◌, ◌+◌, ◌*◌, ◌<◌, Bool, false, List, Option, Some, None, if◌then◌else◌, nat_lt, ◌&&◌, slice_index_or}
+use Rattle.std.specs.Prelude.{ℕ, ◌≡◌, ◌+◌, ◌*◌, false, List, Option, Some, None, if◌then◌else◌, nat_lt, slice_index_or}
 use Rattle.std.specs.List.{AllZip}
 use Rattle.gen_edge.specs.declared.passes.Edge.{Edge}
 use Rattle.gen_edge.specs.declared.passes.PutPass.{PutPass}

@@ -6,8 +6,8 @@
 mod edges;
 mod ends;
 mod gates;
-mod run_parts;
 mod rounds;
+mod run_parts;
 mod running;
 mod stopping;
 mod together;

@@ -61,8 +61,8 @@ fn take_next<R: Wait>(
         (neighbours_of part.now.scenario.net part.now.me) takes.old.items }
     ensures frame { (number : ℕ) (parcels : Parcels) → carried result ≡ round number parcels
         → (parcels ≡ frame_at part.now.scenario (gone + 1) from part.now.me)
-            × AllZip (HasTakenUntil edges.now part.now.scenario gone (from + 1) part.now.me)
-                (neighbours_of part.now.scenario.net part.now.me) takes.new.items }
+        × AllZip (HasTakenUntil edges.now part.now.scenario gone (from + 1) part.now.me)
+        (neighbours_of part.now.scenario.net part.now.me) takes.new.items }
     ensures passes { AllZip (IsTakeBy edges.now part.now.me)
         (neighbours_of part.now.scenario.net part.now.me) takes.new.items }
 {
@@ -194,7 +194,9 @@ fn take_all<R: Wait>(
     let mut place = 0;
     'near: for number in 0..part.part().header().net().generals() {
         let from = GeneralNo::at(number);
-        take_from(rt, alloc, part, edges, gone, from, &mut place, recorder, takes)?;
+        take_from(
+            rt, alloc, part, edges, gone, from, &mut place, recorder, takes,
+        )?;
     }
     Ok(())
 }

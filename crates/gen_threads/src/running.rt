@@ -24,11 +24,7 @@ use std::sync::Wait;
 /// # Errors
 ///
 /// The ring, where memory is refused.
-fn begin(
-    alloc: Global,
-    part: &RunPart,
-    ring: Option<KeyRing>,
-) -> Result<Recorder, Option<KeyRing>>
+fn begin(alloc: Global, part: &RunPart, ring: Option<KeyRing>) -> Result<Recorder, Option<KeyRing>>
     requires { MayRunWith part.now.scenario part.now.me ring }
     ensures { MatchResult result
         (λ recorder. RecordsAfter part.now.scenario 0 part.now.me recorder × (recorder.seat.ring ≡ ring))
@@ -143,7 +139,14 @@ pub fn run_general<R: Wait, G: Gate>(
         }
         Err((fault, ring)) => {
             let known = part.part();
-            stop(rt, edges, known.me(), known.header().net(), &mut puts, &mut takes);
+            stop(
+                rt,
+                edges,
+                known.me(),
+                known.header().net(),
+                &mut puts,
+                &mut takes,
+            );
             GeneralEnd {
                 logs: Err(fault),
                 ring,

@@ -1,4 +1,4 @@
-use Rattle.std.proofs.Common.{◌≡◌, ◌∙◌, ◌+◌, sym, ap, subst, arith}
+use Rattle.std.proofs.Common.{◌∙◌, ◌+◌, sym, ap, subst, arith}
 use Rattle.gen_edge.specs.declared.passes.Edge.{Edge}
 use Rattle.gen_edge.specs.Ends.{IsPutPassOf}
 use Rattle.gen_threads.specs.Edges.{IsPutOn, edge_at}
@@ -45,4 +45,4 @@ returns g c =
     let same = is_that (λ e. e.now) c.edge.result (edge_at edges c.me.result to) c.unwrap-edge.result has.on.edge c.edge.ensures (ap (λ m. edge_at edges m to) who ∙ has.on.there) c.unwrap-edge.ensures in
     let on : IsPutOn edges me to q = record { edge = has.on.edge; there = has.on.there; of_edge = subst (λ (e : Edge). IsPutPassOf e q) same c.put_frame.ensures.pass } in
     near_set s.net me to c.requires.to.0 c.requires.to.1 c.args.puts.now.items c.args.place c.requires.place (HasPutUntil edges s gone to me) (HasPutUntil edges s gone (to + 1) me)
-        (λ a b o h. put_others edges s gone me to a b o h) q (has_put_more edges s gone me to c.requires.gone _ c.requires.frame p q has on c.put_frame.ensures.put) c.requires.passes
+    (λ a b o h. put_others edges s gone me to a b o h) q (has_put_more edges s gone me to c.requires.gone _ c.requires.frame p q has on c.put_frame.ensures.put) c.requires.passes

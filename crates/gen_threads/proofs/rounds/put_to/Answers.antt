@@ -34,7 +34,7 @@ pub put_next-requires-clause-frame : goal.put_next-requires-clause-frame
 put_next-requires-clause-frame g c =
     let s = c.args.part.now.scenario in let me = c.args.part.now.me in
     ap (λ (parcels : Parcels). round (c.args.gone + 1) parcels)
-        (putting_frame c.args.edges.now s c.args.gone me c.args.to c.args.place.now c.args.recorder.now c.args.puts.now.items c.in_ok-parcels.parcels.items c.requires.so_far c.in_ok-parcels.ensures.frame)
+    (putting_frame c.args.edges.now s c.args.gone me c.args.to c.args.place.now c.args.recorder.now c.args.puts.now.items c.in_ok-parcels.parcels.items c.requires.so_far c.in_ok-parcels.ensures.frame)
 
 pub overflow_add-place : goal.overflow_add-place
 overflow_add-place g c =

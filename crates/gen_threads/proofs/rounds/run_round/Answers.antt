@@ -1,4 +1,4 @@
-use Rattle.std.proofs.Common.{◌≡◌, ◌∙◌, sym, ap, subst}
+use Rattle.std.proofs.Common.{◌∙◌, sym, subst}
 use Rattle.std.specs.Prelude.{Option}
 use Rattle.gen_tree.specs.Rings.{Ring}
 use Rattle.gen_world.specs.Scenario.{header_of}

@@ -40,4 +40,4 @@ returns-clause-ok g c =
     let near : list_any (joins me c.args.from) s.net.edges ≡ true = near_known s.net c.has_edge.result me c.args.from both ∙ c.if-not-has_edge.false in
     let came = c.take_next-frame.ensures.frame c.in-Round.number c.in-Round.parcels.items (ap carried c.in-Round.is) in
     taking_near c.args.edges.now s c.args.gone me c.args.from c.args.place.now c.args.recorder.now c.hear.new.self c.args.takes.now.items c.take_next-frame.new.takes.items c.as_slice.result.now
-        near c.requires.so_far (c.as_slice.ensures.value ∙ came.0) c.in_ok-hear.ensures.ok came.1
+    near c.requires.so_far (c.as_slice.ensures.value ∙ came.0) c.in_ok-hear.ensures.ok came.1

@@ -1,4 +1,4 @@
-use Rattle.std.proofs.Common.{◌≡◌, ◌∙◌, sym, ap, subst, arith}
+use Rattle.std.proofs.Common.{sym, subst, arith}
 use Rattle.gen_edge.specs.declared.passes.Edge.{Edge}
 use Rattle.gen_edge.specs.Ends.{IsTakePassOf}
 use Rattle.gen_net.specs.Network.{rounds}
