@@ -1,3 +1,4 @@
 pub mod Edges
 pub mod Ending
 pub mod Parts
+pub mod Turns

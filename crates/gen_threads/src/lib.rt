@@ -6,10 +6,12 @@
 mod edges;
 mod ends;
 mod gates;
+mod rounds;
 mod run_parts;
 mod running;
 mod stopping;
 mod together;
+mod waiting;
 
 pub use edges::{Edges, Passes};
 pub use ends::{GeneralEnd, RunFault};
