@@ -7,6 +7,7 @@ use Rattle.gen_edge.specs.declared.passes.TakePass.{TakePass}
 use Rattle.gen_edge.specs.Ends.{IsPutPassOf, IsTakePassOf, put_view, take_view}
 use Rattle.gen_edge.specs.Frames.{edge_frames}
 use Rattle.gen_edge.specs.Tied.{put_side, take_side}
+use Rattle.gen_net.specs.Network.{Network}
 use Rattle.gen_world.specs.Scenario.{Scenario}
 use Rattle.gen_world.specs.SignedWorld.{neighbours_of}
 use Rattle.gen_world.specs.Loops.Worlds.{AllAre}
@@ -47,10 +48,13 @@ IsTakeBy edges g h pass = IsTakeFrom edges h g pass
 abbrev pub HasTakenBy : Edges → Scenario → ℕ → ℕ → ℕ → TakePass → Type 0
 HasTakenBy edges s n g h pass = HasTaken edges s n h g pass
 
--- the passes of a general, one for each neighbour in ascending order
-pub record ArePassesOf (edges : Edges) (s : Scenario) (g : ℕ) (puts : List PutPass) (takes : List TakePass) : Type 0 where
-  pub putting : AllZip (IsPutOn edges g) (neighbours_of s.net g) puts
-  pub taking : AllZip (IsTakeBy edges g) (neighbours_of s.net g) takes
+-- the passes of a general of a network, one for each neighbour in ascending order
+pub record ArePassesIn (edges : Edges) (net : Network) (g : ℕ) (puts : List PutPass) (takes : List TakePass) : Type 0 where
+  pub putting : AllZip (IsPutOn edges g) (neighbours_of net g) puts
+  pub taking : AllZip (IsTakeBy edges g) (neighbours_of net g) takes
+
+abbrev pub ArePassesOf : Edges → Scenario → ℕ → List PutPass → List TakePass → Type 0
+ArePassesOf edges s g puts takes = ArePassesIn edges s.net g puts takes
 
 -- and n frames went each way
 pub record HaveCarried (edges : Edges) (s : Scenario) (n g : ℕ) (puts : List PutPass) (takes : List TakePass) : Type 0 where

@@ -1,7 +1,10 @@
 //! How generals and runs end.
+ghost use Rattle.std.specs.Prelude.{◌≡◌};
+
 use gen_edge::{PutPass, TakePass};
 use gen_log::SealedLog;
 use gen_tree::KeyRing;
+use std::alloc::AllocError;
 use thiserror::Error;
 
 /// Why a run has no logs.
@@ -16,6 +19,17 @@ pub enum RunFault {
     /// A neighbour ended before his last round.
     #[error("a neighbour ended early")]
     Gone,
+}
+
+impl From<AllocError> for RunFault {
+    ghost use Rattle.std.specs.Prelude.{◌≡◌};
+    ghost use Rattle.gen_threads.specs.declared.ends.RunFault.TheVariants.{Memory};
+
+    ghost from_gives = { λ _ fault. fault ≡ Memory };
+
+    fn from(_refused: AllocError) -> RunFault {
+        RunFault::Memory
+    }
 }
 
 /// What a general gives back when he ends: his logs or why he has none, his ring if he has one, and his passes in
@@ -35,6 +49,22 @@ pub struct GeneralEnd {
 pub(crate) fn close_ring(ring: Option<KeyRing>) {
     if let Some(ring) = ring {
         ring.close();
+    }
+}
+
+impl GeneralEnd {
+    /// Returns his logs, or why he has none. His ring is closed.
+    pub(crate) fn into_logs(self) -> Result<Vec<SealedLog>, RunFault>
+        ensures { result ≡ self.logs }
+    {
+        let GeneralEnd {
+            logs,
+            ring,
+            puts: _,
+            takes: _,
+        } = self;
+        close_ring(ring);
+        logs
     }
 }
 

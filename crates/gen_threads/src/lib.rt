@@ -6,10 +6,13 @@
 mod edges;
 mod ends;
 mod gates;
+mod joining;
 mod run_parts;
 mod running;
+mod starting;
 mod stopping;
 mod together;
+mod works;
 
 pub use edges::{Edges, Passes};
 pub use ends::{GeneralEnd, RunFault};

@@ -1,0 +1,3 @@
+pub mod Froms
+pub mod Making
+pub mod Turning
