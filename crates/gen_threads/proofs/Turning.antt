@@ -1,5 +1,6 @@
 -- What comes of generals, and their logs one after another.
-use Rattle.std.proofs.Common.{◌≡◌, ℕ, ◌+◌, List, [], ◌∷◌, ◌++◌, Option, Some, None, refl, sym, ap, subst, ◌∙◌, append-nil}
+use Rattle.std.proofs.Common.{◌≡◌, ℕ, ◌+◌, List, [], ◌∷◌, ◌++◌, Option, Some, None, refl, sym, ap, subst, ◌∙◌, append-nil, Result, Ok, Err, arith}
+use Rattle.std.specs.Prelude.{OnOk}
 use Rattle.std.specs.List.{range_with_len, flat_map, AllZip}
 use Rattle.std.proofs.lemmas.Grind.{flat_map-append}
 use Rattle.gen_tree.specs.Rings.{Ring}
@@ -17,7 +18,9 @@ use Rattle.gen_world.proofs.Worlds.{one_more}
 use Rattle.gen_threads.specs.declared.edges.Edges.{Edges}
 use Rattle.gen_threads.specs.declared.edges.Passes.{Passes}
 use Rattle.gen_threads.specs.Edges.{ArePassesOf, HasNewPasses, HaveCarried, HasPut, HasTakenBy, IsPutOn, IsTakeBy}
+use Rattle.gen_threads.specs.declared.ends.RunFault.{RunFault}
 use Rattle.gen_threads.specs.Ending.{MayRunWith, logs_by}
+use Rattle.gen_threads.specs.Faults.{worse_of}
 use Rattle.gen_threads.proofs.Making.{zip_map}
 
 -- ---- passes and rings
@@ -55,3 +58,14 @@ logs_more s k old new before e =
 pub logs_all : (s : Scenario) (n : ℕ) (logs : List LogBytes) → n ≡ s.net.generals → logs ≡ logs_first s n → logs ≡ logs_of_all s
 unfolding logs_first logs_of_all
 logs_all s n logs same e = e ∙ ap (λ k. flat_map (logs_by s) (range_with_len 0 k)) same
+
+-- a general's logs behind those of the ones before him, if neither has a fault
+pub gathered : (s : Scenario) (k : ℕ) (a b : Result (Unit {0}) RunFault) (old new : List LogBytes) → OnOk a (old ≡ logs_first s k) → OnOk b (new ≡ old ++ logs_by s k) → OnOk (worse_of a b) (new ≡ logs_first s (k + 1))
+gathered s k (Ok x) (Ok y) old new before e = logs_more s k old new before e
+gathered s k (Ok x) (Err y) old new before e = record {}
+gathered s k (Err x) (Ok y) old new before e = record {}
+gathered s k (Err x) (Err y) old new before e = record {}
+
+pub gathered_all : (s : Scenario) (k rest : ℕ) (a : Result (Unit {0}) RunFault) (x : Unit {0}) (logs : List LogBytes) → a ≡ Ok x → rest ≡ 0 → k + rest ≡ s.net.generals → OnOk a (logs ≡ logs_first s k) → logs ≡ logs_of_all s
+gathered_all s k rest (Ok y) x logs ok none count e = logs_all s k logs (omega (arith, none, count)) e
+gathered_all s k rest (Err y) x logs ok none count e = absurd cc

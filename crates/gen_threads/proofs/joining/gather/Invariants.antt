@@ -6,7 +6,7 @@ use Rattle.gen_threads.proofs.Turning.{logs_first}
 use Rattle.gen_threads.proofs.joining.gather.Given as goal
 
 abbrev pub invariant-loop-turn : goal.invariant-loop-turn
-invariant-loop-turn g l =
+invariant-loop-turn l =
     let rest = l.turn-iterator in
     (k : ℕ) × (k + into_iter_len rest ≡ l.scenario.net.generals)
     × TurnsFrom l.edges l.scenario k (into_iter_items rest)

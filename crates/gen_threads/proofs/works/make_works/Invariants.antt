@@ -4,7 +4,7 @@ use Rattle.gen_threads.specs.Works.{WorksFrom, PassesFrom}
 use Rattle.gen_threads.proofs.works.make_works.Given as goal
 
 abbrev pub invariant-works : goal.invariant-works
-invariant-works g l = record {
+invariant-works l = record {
   count : l.me + into_iter_len l.passes-iterator ≡ l.scenario.net.generals;
   len : vec_len l.works ≡ l.me;
   room : vec_capacity l.works ≡ vec_capacity l.initial.works;
