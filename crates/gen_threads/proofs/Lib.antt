@@ -1,3 +1,3 @@
 pub mod Froms
+pub mod Gathering
 pub mod Making
-pub mod Turning

@@ -20,3 +20,6 @@ pub use gates::Gate;
 pub use run_parts::RunPart;
 pub use running::run_general;
 pub use together::run_threads;
+
+#[cfg(test)]
+mod tests;

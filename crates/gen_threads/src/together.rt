@@ -19,7 +19,7 @@ use std::thread;
 use std::thread::{Scope, Threads};
 
 /// Makes a flag for each of so many generals, none of them set.
-fn make_flags(alloc: Global, count: usize) -> Result<Vec<AtomicBool>, AllocError>
+pub(crate) fn make_flags(alloc: Global, count: usize) -> Result<Vec<AtomicBool>, AllocError>
     ensures { IfOk result (λ flags. vec_len flags ≡ count) }
 {
     let mut flags = Vec::with_capacity(alloc, count)?;

@@ -2,7 +2,7 @@ use Rattle.std.proofs.Common.{◌≡◌, ◌+◌, ◌∙◌, sym, ap, subst, ari
 use Rattle.std.specs.Vec.Iter.{into_iter_len}
 use Rattle.gen_threads.specs.Works.{IsTurn, TurnsFrom}
 use Rattle.gen_threads.proofs.Froms.{from_head, from_tail}
-use Rattle.gen_threads.proofs.Turning.{gathered, gathered_all, logs_none}
+use Rattle.gen_threads.proofs.Gathering.{gathered, gathered_all, logs_none}
 use Rattle.gen_threads.proofs.joining.gather.Goals as goal
 
 pub loop-turn-init : goal.loop-turn-init

@@ -2,7 +2,7 @@ use Rattle.std.proofs.Common.{◌≡◌, ℕ, ◌+◌}
 use Rattle.std.specs.Prelude.{OnOk}
 use Rattle.std.specs.Vec.Iter.{into_iter_items, into_iter_len}
 use Rattle.gen_threads.specs.Works.{TurnsFrom}
-use Rattle.gen_threads.proofs.Turning.{logs_first}
+use Rattle.gen_threads.proofs.Gathering.{logs_first}
 use Rattle.gen_threads.proofs.joining.gather.Given as goal
 
 abbrev pub invariant-loop-turn : goal.invariant-loop-turn

@@ -1,4 +1,4 @@
-use Rattle.gen_threads.proofs.Turning.{passes_of}
+use Rattle.gen_threads.proofs.Gathering.{passes_of}
 use Rattle.gen_threads.proofs.starting.run_work.Goals as goal
 
 pub returns-then-load : goal.returns-then-load

@@ -1,4 +1,4 @@
-use Rattle.gen_threads.proofs.Turning.{passes_of}
+use Rattle.gen_threads.proofs.Gathering.{passes_of}
 use Rattle.gen_threads.proofs.starting.start_next.Goals as goal
 
 pub returns-then-stopped-clause-err : goal.returns-then-stopped-clause-err

@@ -3,7 +3,7 @@ use Rattle.std.specs.Vec.Iter.{into_iter_len}
 use Rattle.gen_threads.specs.Edges.{HasNewPasses}
 use Rattle.gen_threads.specs.Works.{IsWork}
 use Rattle.gen_threads.proofs.Froms.{from_head, from_tail, from_push}
-use Rattle.gen_threads.proofs.Turning.{may_run}
+use Rattle.gen_threads.proofs.Gathering.{may_run}
 use Rattle.gen_threads.proofs.works.make_works.Goals as goal
 
 pub works-preserved : goal.works-preserved
