@@ -1,3 +1,11 @@
+pub mod Carrying
+pub mod Ending
 pub mod Froms
 pub mod Gathering
 pub mod Making
+pub mod Nears
+pub mod Passing
+pub mod Rings
+pub mod Started
+pub mod Turning
+pub mod Zips

@@ -13,6 +13,34 @@ use Rattle.gen_world.specs.Loops.Worlds.{near_of}
 use Rattle.gen_threads.specs.declared.edges.Edges.{Edges}
 use Rattle.gen_threads.specs.Edges.{HasPut, HasTakenBy}
 
+-- ---- in the round after the first ones
+
+-- one frame more went over the edges with the neighbours below the next one than over those with the others
+abbrev pub carried_until : ℕ → ℕ → ℕ → ℕ
+carried_until gone next h = if nat_lt h next then gone + 1 else gone
+
+abbrev pub HasPutUntil : Edges → Scenario → ℕ → ℕ → ℕ → ℕ → PutPass → Type 0
+HasPutUntil edges s gone next g h pass = HasPut edges s (carried_until gone next h) g h pass
+
+abbrev pub HasTakenUntil : Edges → Scenario → ℕ → ℕ → ℕ → ℕ → TakePass → Type 0
+HasTakenUntil edges s gone next g h pass = HasTakenBy edges s (carried_until gone next h) g h pass
+
+-- how many neighbours stand below the next one
+abbrev pub place_of_next : Network → ℕ → ℕ → ℕ
+place_of_next net g next = length (near_of net g (range_with_len 0 next))
+
+-- he has begun the round, and has put to the neighbours below the next one
+pub record IsPutting (edges : Edges) (s : Scenario) (gone g next place : ℕ) (r : Recorded) (puts : List PutPass) : Type 0 where
+  pub sent : HasSent s gone g (near_of s.net g (range_with_len 0 next)) r
+  pub here : place ≡ place_of_next s.net g next
+  pub passes : AllZip (HasPutUntil edges s gone next g) (neighbours_of s.net g) puts
+
+-- he has put to all, and has taken from the neighbours below the next one
+pub record IsTaking (edges : Edges) (s : Scenario) (gone g next place : ℕ) (r : Recorded) (takes : List TakePass) : Type 0 where
+  pub heard : HasHeard s gone g (near_of s.net g (range_with_len 0 next)) r
+  pub here : place ≡ place_of_next s.net g next
+  pub passes : AllZip (HasTakenUntil edges s gone next g) (neighbours_of s.net g) takes
+
 -- ---- when he ends
 
 -- the frames of all rounds went over the edge, or the last word

@@ -7,11 +7,13 @@ mod edges;
 mod ends;
 mod gates;
 mod joining;
+mod rounds;
 mod run_parts;
 mod running;
 mod starting;
 mod stopping;
 mod together;
+mod waiting;
 mod works;
 
 pub use edges::{Edges, Passes};

@@ -1,17 +1,110 @@
 //! The thread of one general.
-ghost use Rattle.std.specs.Prelude.{◌≡◌};
-ghost use Rattle.gen_threads.specs.Edges.{HaveCarried, ArePassesOf};
-ghost use Rattle.gen_threads.specs.Ending.{IsEndOf, MayRunWith};
+ghost use Rattle.std.specs.Prelude.{◌≡◌, IfOk, IfErr, MatchResult, OnOk};
+ghost use Rattle.gen_net.specs.Network.{rounds};
+ghost use Rattle.gen_world.specs.Loops.Records.{RecordsAfter};
+ghost use Rattle.gen_world.specs.Scenario.{header_of};
+ghost use Rattle.gen_threads.specs.Edges.{ArePassesOf, HaveCarried};
+ghost use Rattle.gen_threads.specs.Ending.{IsEndOf, MayRunWith, RingComesBack, logs_by};
+ghost use Rattle.gen_threads.specs.Turns.{AreOver};
 
 use crate::edges::Edges;
-use crate::ends::GeneralEnd;
+use crate::ends::{GeneralEnd, RunFault};
 use crate::gates::Gate;
+use crate::rounds::run_round;
 use crate::run_parts::RunPart;
+use crate::stopping::stop;
 use gen_edge::{PutPass, TakePass};
 use gen_tree::KeyRing;
+use gen_world::{Finished, Recorder};
 use std::alloc::Global;
 use std::sync::Wait;
-use std::thread;
+
+/// Makes the general as he is before the first round.
+///
+/// # Errors
+///
+/// The ring, where memory is refused.
+fn begin(
+    alloc: Global,
+    part: &RunPart,
+    ring: Option<KeyRing>,
+) -> Result<Recorder, Option<KeyRing>>
+    requires { MayRunWith part.now.scenario part.now.me ring }
+    ensures { MatchResult result
+        (λ recorder. RecordsAfter part.now.scenario 0 part.now.me recorder × (recorder.seat.ring ≡ ring))
+        (λ back. back ≡ ring) }
+{
+    let Ok(known) = part.part().clone() else {
+        return Err(ring);
+    };
+    Recorder::new(alloc, known, ring)
+}
+
+/// Runs all rounds.
+fn run_rounds<R: Wait, G: Gate>(
+    rt: &R,
+    alloc: Global,
+    gate: &G,
+    part: &RunPart,
+    edges: &Edges,
+    recorder: &mut Recorder,
+    puts: &mut Vec<PutPass>,
+    takes: &mut Vec<TakePass>,
+) -> Result<(), RunFault>
+    requires records { RecordsAfter part.now.scenario 0 part.now.me recorder.old }
+    requires passes { HaveCarried edges.now part.now.scenario 0 part.now.me puts.old.items takes.old.items }
+    ensures records { OnOk result
+        (RecordsAfter part.now.scenario (rounds part.now.scenario.net) part.now.me recorder.new) }
+    ensures carried { OnOk result (HaveCarried edges.now part.now.scenario (rounds part.now.scenario.net)
+        part.now.me puts.new.items takes.new.items) }
+    ensures passes { ArePassesOf edges.now part.now.scenario part.now.me puts.new.items takes.new.items }
+    ensures ring { RingComesBack (header_of part.now.scenario) recorder.old.seat.ring recorder.new.seat.ring }
+{
+    let me = part.part().me();
+    'rounds: for gone in 0..part.part().header().net().rounds() {
+        gate.before_round(me, gone + 1);
+        run_round(rt, alloc, part, edges, gone, recorder, puts, takes)?;
+    }
+    Ok(())
+}
+
+/// Runs all rounds, and ends the general by his logs.
+///
+/// # Errors
+///
+/// The fault, and the ring.
+fn run_to_end<R: Wait, G: Gate>(
+    rt: &R,
+    alloc: Global,
+    gate: &G,
+    part: &RunPart,
+    ring: Option<KeyRing>,
+    edges: &Edges,
+    puts: &mut Vec<PutPass>,
+    takes: &mut Vec<TakePass>,
+) -> Result<Finished, (RunFault, Option<KeyRing>)>
+    requires ring { MayRunWith part.now.scenario part.now.me ring }
+    requires passes { HaveCarried edges.now part.now.scenario 0 part.now.me puts.old.items takes.old.items }
+    ensures ring { MatchResult result
+        (λ end. RingComesBack (header_of part.now.scenario) ring end.ring)
+        (λ fault. RingComesBack (header_of part.now.scenario) ring fault.1) }
+    ensures logs { IfOk result (λ end. end.logs ≡ logs_by part.now.scenario part.now.me) }
+    ensures carried { OnOk result (HaveCarried edges.now part.now.scenario (rounds part.now.scenario.net)
+        part.now.me puts.new.items takes.new.items) }
+    ensures passes { ArePassesOf edges.now part.now.scenario part.now.me puts.new.items takes.new.items }
+{
+    let mut recorder = match begin(alloc, part, ring) {
+        Ok(recorder) => recorder,
+        Err(ring) => return Err((RunFault::Memory, ring)),
+    };
+    if let Err(fault) = run_rounds(rt, alloc, gate, part, edges, &mut recorder, puts, takes) {
+        return Err((fault, recorder.close()));
+    }
+    match recorder.finish(alloc) {
+        Ok(end) => Ok(end),
+        Err(ring) => Err((RunFault::Memory, ring)),
+    }
+}
 
 /// Runs a general from his first round to his last: in each round the gate is called, he signs, puts a frame to
 /// each neighbour in ascending order, and takes one from each in ascending order. He knows his part alone, and
@@ -33,10 +126,30 @@ pub fn run_general<R: Wait, G: Gate>(
 ) -> GeneralEnd
     requires ring { MayRunWith part.now.scenario part.now.me ring }
     requires passes { HaveCarried edges.now part.now.scenario 0 part.now.me puts.items takes.items }
-    ensures { IsEndOf edges.now part.now.scenario part.now.me ring result }
+    ensures end { IsEndOf edges.now part.now.scenario part.now.me ring result }
+    ensures over { AreOver (rounds part.now.scenario.net) result.puts.items result.takes.items }
 {
-    for _ in rt.forever() {
-        thread::yield_now();
+    let mut puts = puts;
+    let mut takes = takes;
+    match run_to_end(rt, alloc, gate, part, ring, edges, &mut puts, &mut takes) {
+        Ok(end) => {
+            let (logs, ring) = end.into_parts();
+            GeneralEnd {
+                logs: Ok(logs),
+                ring,
+                puts,
+                takes,
+            }
+        }
+        Err((fault, ring)) => {
+            let known = part.part();
+            stop(rt, edges, known.me(), known.header().net(), &mut puts, &mut takes);
+            GeneralEnd {
+                logs: Err(fault),
+                ring,
+                puts,
+                takes,
+            }
+        }
     }
-    unreachable!()
 }

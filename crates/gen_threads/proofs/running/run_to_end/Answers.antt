@@ -1,0 +1,27 @@
+use Rattle.std.proofs.Common.{◌≡◌, ◌∙◌, ap, subst}
+use Rattle.std.specs.Prelude.{Option}
+use Rattle.gen_tree.specs.Rings.{Ring}
+use Rattle.gen_net.specs.Header.{RunHeader}
+use Rattle.gen_world.specs.Recording.{RingSealed}
+use Rattle.gen_world.specs.Scenario.{header_of}
+use Rattle.gen_world.proofs.Recorders.{logs_by}
+use Rattle.gen_threads.specs.Ending.{RingComesBack}
+use Rattle.gen_threads.proofs.Ending.{carried_passes}
+use Rattle.gen_threads.proofs.Rings.{ring_then, ring_sealed}
+use Rattle.gen_threads.proofs.running.run_to_end.Goals as goal
+
+pub returns-in-Err-clause-passes : goal.returns-in-Err-clause-passes
+returns-in-Err-clause-passes g c =
+    carried_passes c.args.edges.now c.args.part.now.scenario 0 c.args.part.now.me c.args.puts.now.items c.args.takes.now.items c.requires.passes
+
+pub returns-in-Ok-finish-clause-ring : goal.returns-in-Ok-finish-clause-ring
+returns-in-Ok-finish-clause-ring g c =
+    let s = c.args.part.now.scenario in let h = header_of s in
+    let last = c.run_rounds.new.recorder.seat in
+    let ran = subst (λ (ring : Option Ring). RingComesBack h ring last.ring) c.in-Ok.ensures.1 c.run_rounds.ensures.ring in
+    let closed = subst (λ (x : RunHeader). RingSealed x last.ring c.in-Ok-finish.end.ring) c.in_default.ensures.records.seat.part.header c.in-Ok-finish.ensures.ring in
+    ring_then h c.args.ring last.ring c.in-Ok-finish.end.ring ran (ring_sealed h last.ring c.in-Ok-finish.end.ring closed)
+
+pub returns-in-Ok-finish-clause-logs : goal.returns-in-Ok-finish-clause-logs
+returns-in-Ok-finish-clause-logs g c =
+    c.in-Ok-finish.ensures.logs ∙ logs_by c.args.part.now.scenario c.args.part.now.me c.run_rounds.new.recorder c.in_default.ensures.records

@@ -1,0 +1,226 @@
+//! One round of a general.
+ghost use Rattle.std.specs.Prelude.{ℕ, ◌≡◌, ◌<◌, ◌+◌, [], OnOk};
+ghost use Rattle.std.specs.List.{AllZip};
+ghost use Rattle.gen_edge.specs.Frames.{Parcels, carried, round};
+ghost use Rattle.gen_net.specs.Network.{AreNeighbours, rounds};
+ghost use Rattle.gen_world.specs.Loops.Records.{HasSent, HasHeard, RecordsAfter};
+ghost use Rattle.gen_world.specs.Scenario.{header_of};
+ghost use Rattle.gen_world.specs.SignedWorld.{frame_at, neighbours_of};
+ghost use Rattle.gen_threads.specs.Edges.{ArePassesOf, HasPut, HasTakenBy, HaveCarried, IsPutOn, IsTakeBy};
+ghost use Rattle.gen_threads.specs.Ending.{RingComesBack};
+ghost use Rattle.gen_threads.specs.Turns.{HasPutUntil, HasTakenUntil, IsPutting, IsTaking, place_of_next};
+
+use crate::edges::Edges;
+use crate::ends::RunFault;
+use crate::run_parts::RunPart;
+use crate::waiting::{put_frame, take_frame};
+use gen_edge::{Frame, PutPass, TakePass};
+use gen_types::GeneralNo;
+use gen_world::Recorder;
+use std::alloc::{AllocError, Global};
+use std::sync::Wait;
+
+/// Puts a neighbour's frame of the round after the first ones. His pass is the one at the place.
+fn put_next<R: Wait>(
+    rt: &R,
+    part: &RunPart,
+    edges: &Edges,
+    gone: u8,
+    to: GeneralNo,
+    place: usize,
+    puts: &mut Vec<PutPass>,
+    frame: Frame,
+)
+    requires gone { gone < rounds part.now.scenario.net }
+    requires to { (to < part.now.scenario.net.generals) × AreNeighbours part.now.scenario.net part.now.me to }
+    requires place { place ≡ place_of_next part.now.scenario.net part.now.me to }
+    requires frame { carried frame ≡ round (gone + 1) (frame_at part.now.scenario (gone + 1) part.now.me to) }
+    requires passes { AllZip (HasPutUntil edges.now part.now.scenario gone to part.now.me)
+        (neighbours_of part.now.scenario.net part.now.me) puts.old.items }
+    ensures { AllZip (HasPutUntil edges.now part.now.scenario gone (to + 1) part.now.me)
+        (neighbours_of part.now.scenario.net part.now.me) puts.new.items }
+{
+    let edge = edges.edge(part.part().me(), to).unwrap();
+    put_frame(rt, edge, &mut puts[place], frame);
+}
+
+/// Takes a neighbour's frame of the round after the first ones, or the last word. His pass is the one at the place.
+fn take_next<R: Wait>(
+    rt: &R,
+    part: &RunPart,
+    edges: &Edges,
+    gone: u8,
+    from: GeneralNo,
+    place: usize,
+    takes: &mut Vec<TakePass>,
+) -> Frame
+    requires gone { gone < rounds part.now.scenario.net }
+    requires from { (from < part.now.scenario.net.generals) × AreNeighbours part.now.scenario.net part.now.me from }
+    requires place { place ≡ place_of_next part.now.scenario.net part.now.me from }
+    requires passes { AllZip (HasTakenUntil edges.now part.now.scenario gone from part.now.me)
+        (neighbours_of part.now.scenario.net part.now.me) takes.old.items }
+    ensures frame { (number : ℕ) (parcels : Parcels) → carried result ≡ round number parcels
+        → (parcels ≡ frame_at part.now.scenario (gone + 1) from part.now.me)
+            × AllZip (HasTakenUntil edges.now part.now.scenario gone (from + 1) part.now.me)
+                (neighbours_of part.now.scenario.net part.now.me) takes.new.items }
+    ensures passes { AllZip (IsTakeBy edges.now part.now.me)
+        (neighbours_of part.now.scenario.net part.now.me) takes.new.items }
+{
+    let edge = edges.edge(from, part.part().me()).unwrap();
+    take_frame(rt, edge, &mut takes[place])
+}
+
+/// In the round after the first ones, puts the frame to this general, if he is a neighbour. His pass is the one at the
+/// place, which moves on.
+fn put_to<R: Wait>(
+    rt: &R,
+    alloc: Global,
+    part: &RunPart,
+    edges: &Edges,
+    gone: u8,
+    to: GeneralNo,
+    place: &mut usize,
+    recorder: &mut Recorder,
+    puts: &mut Vec<PutPass>,
+) -> Result<(), AllocError>
+    requires gone { gone < rounds part.now.scenario.net }
+    requires to { to < part.now.scenario.net.generals }
+    requires so_far { IsPutting edges.now part.now.scenario gone part.now.me to place.old recorder.old puts.old.items }
+    ensures ok { OnOk result
+        (IsPutting edges.now part.now.scenario gone part.now.me (to + 1) place.new recorder.new puts.new.items) }
+    ensures passes { AllZip (IsPutOn edges.now part.now.me)
+        (neighbours_of part.now.scenario.net part.now.me) puts.new.items }
+    ensures ring { recorder.new.seat.ring ≡ recorder.old.seat.ring }
+{
+    let known = part.part();
+    if !known.header().net().has_edge(known.me(), to) {
+        return Ok(());
+    }
+    let parcels = recorder.send(alloc, to)?;
+    let frame = Frame::Round {
+        number: gone + 1,
+        parcels,
+    };
+    put_next(rt, part, edges, gone, to, *place, puts, frame);
+    *place += 1;
+    Ok(())
+}
+
+/// In the round after the first ones, puts a frame to each neighbour, in ascending order.
+fn put_all<R: Wait>(
+    rt: &R,
+    alloc: Global,
+    part: &RunPart,
+    edges: &Edges,
+    gone: u8,
+    recorder: &mut Recorder,
+    puts: &mut Vec<PutPass>,
+) -> Result<(), AllocError>
+    requires gone { gone < rounds part.now.scenario.net }
+    requires begun { HasSent part.now.scenario gone part.now.me [] recorder.old }
+    requires passes { AllZip (HasPut edges.now part.now.scenario gone part.now.me)
+        (neighbours_of part.now.scenario.net part.now.me) puts.old.items }
+    ensures sent { OnOk result (HasHeard part.now.scenario gone part.now.me [] recorder.new) }
+    ensures put { OnOk result (AllZip (HasPut edges.now part.now.scenario (gone + 1) part.now.me)
+        (neighbours_of part.now.scenario.net part.now.me) puts.new.items) }
+    ensures passes { AllZip (IsPutOn edges.now part.now.me)
+        (neighbours_of part.now.scenario.net part.now.me) puts.new.items }
+    ensures ring { recorder.new.seat.ring ≡ recorder.old.seat.ring }
+{
+    let mut place = 0;
+    'near: for number in 0..part.part().header().net().generals() {
+        let to = GeneralNo::at(number);
+        put_to(rt, alloc, part, edges, gone, to, &mut place, recorder, puts)?;
+    }
+    Ok(())
+}
+
+/// In the round after the first ones, takes the frame from this general, if he is a neighbour. His pass is the one at
+/// the place, which moves on.
+fn take_from<R: Wait>(
+    rt: &R,
+    alloc: Global,
+    part: &RunPart,
+    edges: &Edges,
+    gone: u8,
+    from: GeneralNo,
+    place: &mut usize,
+    recorder: &mut Recorder,
+    takes: &mut Vec<TakePass>,
+) -> Result<(), RunFault>
+    requires gone { gone < rounds part.now.scenario.net }
+    requires from { from < part.now.scenario.net.generals }
+    requires so_far { IsTaking edges.now part.now.scenario gone part.now.me from place.old recorder.old takes.old.items }
+    ensures ok { OnOk result
+        (IsTaking edges.now part.now.scenario gone part.now.me (from + 1) place.new recorder.new takes.new.items) }
+    ensures passes { AllZip (IsTakeBy edges.now part.now.me)
+        (neighbours_of part.now.scenario.net part.now.me) takes.new.items }
+    ensures ring { recorder.new.seat.ring ≡ recorder.old.seat.ring }
+{
+    let known = part.part();
+    if !known.header().net().has_edge(known.me(), from) {
+        return Ok(());
+    }
+    let frame = take_next(rt, part, edges, gone, from, *place, takes);
+    let Frame::Round { parcels, .. } = frame else {
+        return Err(RunFault::Gone);
+    };
+    *place += 1;
+    recorder.hear(alloc, from, parcels.as_slice())?;
+    Ok(())
+}
+
+/// In the round after the first ones, takes a frame from each neighbour, in ascending order.
+fn take_all<R: Wait>(
+    rt: &R,
+    alloc: Global,
+    part: &RunPart,
+    edges: &Edges,
+    gone: u8,
+    recorder: &mut Recorder,
+    takes: &mut Vec<TakePass>,
+) -> Result<(), RunFault>
+    requires gone { gone < rounds part.now.scenario.net }
+    requires sent { HasHeard part.now.scenario gone part.now.me [] recorder.old }
+    requires passes { AllZip (HasTakenBy edges.now part.now.scenario gone part.now.me)
+        (neighbours_of part.now.scenario.net part.now.me) takes.old.items }
+    ensures heard { OnOk result (RecordsAfter part.now.scenario (gone + 1) part.now.me recorder.new) }
+    ensures taken { OnOk result (AllZip (HasTakenBy edges.now part.now.scenario (gone + 1) part.now.me)
+        (neighbours_of part.now.scenario.net part.now.me) takes.new.items) }
+    ensures passes { AllZip (IsTakeBy edges.now part.now.me)
+        (neighbours_of part.now.scenario.net part.now.me) takes.new.items }
+    ensures ring { recorder.new.seat.ring ≡ recorder.old.seat.ring }
+{
+    let mut place = 0;
+    'near: for number in 0..part.part().header().net().generals() {
+        let from = GeneralNo::at(number);
+        take_from(rt, alloc, part, edges, gone, from, &mut place, recorder, takes)?;
+    }
+    Ok(())
+}
+
+/// Runs the round after the first ones: he signs, puts a frame to each neighbour, and takes one from each.
+pub(crate) fn run_round<R: Wait>(
+    rt: &R,
+    alloc: Global,
+    part: &RunPart,
+    edges: &Edges,
+    gone: u8,
+    recorder: &mut Recorder,
+    puts: &mut Vec<PutPass>,
+    takes: &mut Vec<TakePass>,
+) -> Result<(), RunFault>
+    requires gone { gone < rounds part.now.scenario.net }
+    requires records { RecordsAfter part.now.scenario gone part.now.me recorder.old }
+    requires passes { HaveCarried edges.now part.now.scenario gone part.now.me puts.old.items takes.old.items }
+    ensures records { OnOk result (RecordsAfter part.now.scenario (gone + 1) part.now.me recorder.new) }
+    ensures carried { OnOk result
+        (HaveCarried edges.now part.now.scenario (gone + 1) part.now.me puts.new.items takes.new.items) }
+    ensures passes { ArePassesOf edges.now part.now.scenario part.now.me puts.new.items takes.new.items }
+    ensures ring { RingComesBack (header_of part.now.scenario) recorder.old.seat.ring recorder.new.seat.ring }
+{
+    let _lawful = part.part();
+    recorder.begin_round(alloc)?;
+    put_all(rt, alloc, part, edges, gone, recorder, puts)?;
+    take_all(rt, alloc, part, edges, gone, recorder, takes)
+}
