@@ -8,10 +8,13 @@ use gen_net::Net;
 use gen_types::{GeneralNo, OrderNo};
 use gen_world::{Scenario, run_world};
 use std::alloc::Global;
+use std::sync::Wait;
 use std::sync::atomic::{AtomicBool, Ordering};
 use std::test::*;
+use std::thread::Threads;
 
 /// A gate at which nobody waits.
+#[derive(Drop)]
 struct Open;
 
 impl Gate for Open {
@@ -29,6 +32,7 @@ fn is_set_within(flag: &AtomicBool, times: u32) -> bool {
 }
 
 /// A gate at which generals 0 and 1, before round 1, wait for each other.
+#[derive(Drop)]
 struct Meeting {
     here: [AtomicBool; 2],
     met: [AtomicBool; 2],
@@ -47,6 +51,7 @@ impl Gate for Meeting {
 }
 
 /// A gate at which general 0, before round 2, looks for long whether general 1 is before round 3.
+#[derive(Drop)]
 struct Watch {
     third: AtomicBool,
     early: AtomicBool,
@@ -99,15 +104,16 @@ fn is_same(a: &SealedLog, b: &SealedLog) -> bool {
 }
 
 /// The first of these capacities with which the logs aren't those of the run.
-fn first_wrong(
-    rt: &HostRuntime,
+fn first_wrong<R: Threads + Wait + Sync>(
+    rt: &R,
+    alloc: Global,
     scenario: &Scenario,
     capacities: &[usize],
 ) -> Result<Option<usize>, Fail> {
     for capacity in capacities {
         if *capacity > 0 {
-            let logs = run_threads(rt, rt.alloc(), scenario, *capacity, &Open)?;
-            if !are_of_run(rt.alloc(), scenario, logs.as_slice())? {
+            let logs = run_threads(rt, alloc, scenario, *capacity, &Open)?;
+            if !are_of_run(alloc, scenario, logs.as_slice())? {
                 return Ok(Some(*capacity));
             }
         }
@@ -116,8 +122,7 @@ fn first_wrong(
 }
 
 /// How many works come back where all flags are set.
-fn count_back(rt: &HostRuntime, scenario: &Scenario) -> Result<usize, Fail> {
-    let alloc = rt.alloc();
+fn count_back<R: Wait>(rt: &R, alloc: Global, scenario: &Scenario) -> Result<usize, Fail> {
     let parts = make_parts(alloc, scenario)?;
     let (edges, mut works) = make_works(alloc, scenario, 1)?;
     let flags = make_flags(alloc, parts.len())?;
@@ -148,7 +153,7 @@ fn count_back(rt: &HostRuntime, scenario: &Scenario) -> Result<usize, Fail> {
 #[test]
 fn logs_of_a_pair(rt: HostRuntime) -> Result<(), Fail> {
     let scenario = pair(rt.alloc())?;
-    let wrong = first_wrong(&rt, &scenario, &[1, 2, 16])?;
+    let wrong = first_wrong(&rt, rt.alloc(), &scenario, &[1, 2, 16])?;
     assert_eq!(rt; wrong, None);
     Ok(())
 }
@@ -156,7 +161,7 @@ fn logs_of_a_pair(rt: HostRuntime) -> Result<(), Fail> {
 #[test]
 fn logs_of_a_line(rt: HostRuntime) -> Result<(), Fail> {
     let scenario = line(rt.alloc())?;
-    let wrong = first_wrong(&rt, &scenario, &[1, 16])?;
+    let wrong = first_wrong(&rt, rt.alloc(), &scenario, &[1, 16])?;
     assert_eq!(rt; wrong, None);
     Ok(())
 }
@@ -189,7 +194,7 @@ fn generals_wait_for_frames(rt: HostRuntime) -> Result<(), Fail> {
 #[test]
 fn works_come_back(rt: HostRuntime) -> Result<(), Fail> {
     let scenario = pair(rt.alloc())?;
-    let count = count_back(&rt, &scenario)?;
+    let count = count_back(&rt, rt.alloc(), &scenario)?;
     assert_eq!(rt; count, 2);
     Ok(())
 }

@@ -4,7 +4,10 @@ use crate::ends::{JobEnd, JobFault};
 use crate::running::run_engine;
 use crate::tests::{Slip, sink_for, source_of};
 use gen_report::{LineFault, ScenarioFault};
+use std::alloc::Global;
+use std::sync::Wait;
 use std::test::*;
+use std::thread::Threads;
 
 // Two generals, and the same in slot 1 of version 2.
 const PAIR: &[u8] = b"generals 2\nedge 0 1\ntraitors 0\ndiameter 1\norders 2\nchoice 0\norder 1\nseed 0000000000000000000000000000000000000000000000000000000000000000\nend\n";
@@ -26,28 +29,44 @@ const RUNS: [&[u8]; 7] = [
 ];
 
 /// How the job ends on a text, and what it writes.
-fn run_on(rt: &HostRuntime, text: &[u8], capacity: u8) -> (JobEnd, Vec<u8>) {
+fn run_on<R: Threads + Wait + Sync>(
+    rt: &R,
+    alloc: Global,
+    text: &[u8],
+    capacity: u8,
+) -> (JobEnd, Vec<u8>) {
     let mut reader = source_of(text, 65_536, 0, Slip::Fails);
-    let mut writer = sink_for(rt.alloc(), 65_536, 0, Slip::Fails);
+    let mut writer = sink_for(alloc, 65_536, 0, Slip::Fails);
     let end = if capacity == 0 {
         JobEnd::Failed(JobFault::Write)
     } else {
-        run_engine(rt, rt.alloc(), capacity, &mut reader, &mut writer)
+        run_engine(rt, alloc, capacity, &mut reader, &mut writer)
     };
     (end, writer.taken)
 }
 
 /// Whether the job writes so many bytes.
-fn writes_count(rt: &HostRuntime, text: &[u8], capacity: u8, count: usize) -> bool {
-    let (end, bytes) = run_on(rt, text, capacity);
+fn writes_count<R: Threads + Wait + Sync>(
+    rt: &R,
+    alloc: Global,
+    text: &[u8],
+    capacity: u8,
+    count: usize,
+) -> bool {
+    let (end, bytes) = run_on(rt, alloc, text, capacity);
     end == JobEnd::Done && bytes.len() == count
 }
 
 /// The place of the first text for which the job doesn't write the bundle of its run.
-fn first_wrong(rt: &HostRuntime, texts: &[&[u8]], capacity: u8) -> Result<Option<usize>, Fail> {
+fn first_wrong<R: Threads + Wait + Sync>(
+    rt: &R,
+    alloc: Global,
+    texts: &[&[u8]],
+    capacity: u8,
+) -> Result<Option<usize>, Fail> {
     for (place, text) in texts.iter().enumerate() {
-        let (end, bytes) = run_on(rt, text, capacity);
-        if end != JobEnd::Done || bytes.as_slice() != bundle_of(rt.alloc(), text)?.as_slice() {
+        let (end, bytes) = run_on(rt, alloc, text, capacity);
+        if end != JobEnd::Done || bytes.as_slice() != bundle_of(alloc, text)?.as_slice() {
             return Ok(Some(place));
         }
     }
@@ -56,35 +75,35 @@ fn first_wrong(rt: &HostRuntime, texts: &[&[u8]], capacity: u8) -> Result<Option
 
 #[test]
 fn bundle_of_a_pair(rt: HostRuntime) -> Result<(), Fail> {
-    let least = writes_count(&rt, PAIR, 1, 66_250);
-    let more = writes_count(&rt, PAIR, 2, 66_250) && writes_count(&rt, PAIR, 16, 66_250);
+    let least = writes_count(&rt, rt.alloc(), PAIR, 1, 66_250);
+    let more = writes_count(&rt, rt.alloc(), PAIR, 2, 66_250) && writes_count(&rt, rt.alloc(), PAIR, 16, 66_250);
     assert!(rt; least && more);
     Ok(())
 }
 
 #[test]
 fn bundle_in_a_slot(rt: HostRuntime) -> Result<(), Fail> {
-    assert!(rt; writes_count(&rt, PAIR_IN_SLOT, 1, 66_507));
+    assert!(rt; writes_count(&rt, rt.alloc(), PAIR_IN_SLOT, 1, 66_507));
     Ok(())
 }
 
 #[test]
 fn bundles_are_of_the_run(rt: HostRuntime) -> Result<(), Fail> {
-    let wrong = first_wrong(&rt, &RUNS, 1)?;
+    let wrong = first_wrong(&rt, rt.alloc(), &RUNS, 1)?;
     assert_eq!(rt; wrong, None);
     Ok(())
 }
 
 #[test]
 fn bundles_are_of_the_run_with_room(rt: HostRuntime) -> Result<(), Fail> {
-    let wrong = first_wrong(&rt, &RUNS[..4], 16)?;
+    let wrong = first_wrong(&rt, rt.alloc(), &RUNS[..4], 16)?;
     assert_eq!(rt; wrong, None);
     Ok(())
 }
 
 #[test]
 fn a_seed_is_missed(rt: HostRuntime) -> Result<(), Fail> {
-    let (end, bytes) = run_on(&rt, SEEDLESS, 1);
+    let (end, bytes) = run_on(&rt, rt.alloc(), SEEDLESS, 1);
     let fault = ScenarioFault {
         kind: LineFault::BadSeed,
         line: 8,
