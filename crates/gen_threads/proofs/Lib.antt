@@ -1,5 +1,8 @@
 pub mod Carrying
 pub mod Ending
+pub mod Froms
+pub mod Gathering
+pub mod Making
 pub mod Nears
 pub mod Passing
 pub mod Rings

@@ -1,4 +1,7 @@
+pub mod Building
 pub mod Edges
 pub mod Ending
+pub mod Faults
 pub mod Parts
 pub mod Turns
+pub mod Works

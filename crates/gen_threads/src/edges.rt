@@ -1,5 +1,6 @@
 //! All edges of a run.
-ghost use Rattle.std.specs.Prelude.{◌≡◌, ◌<◌, IfOk, option_map};
+ghost use Rattle.std.specs.Prelude.{◌≡◌, ◌<◌, ◌+◌, IfOk, OnOk, length, option_map};
+ghost use Rattle.gen_threads.specs.Building.{AreEmpty, AreMade, HasMorePuts, HasMoreTakes};
 ghost use Rattle.gen_threads.specs.Edges.{AllHavePasses, edge_at};
 
 use gen_edge::{Edge, PutPass, TakePass};
@@ -23,6 +24,86 @@ pub struct Passes {
     pub takes: Vec<TakePass>,
 }
 
+/// Returns for each of so many generals that he has no passes.
+fn no_passes(alloc: Global, generals: u8) -> Result<Vec<Passes>, AllocError>
+    ensures { IfOk result (λ all. AreEmpty generals all.items) }
+{
+    let mut all = Vec::with_capacity(alloc, usize::from(generals))?;
+    'generals: for _number in 0..generals {
+        all.push(Passes {
+            puts: Vec::new(alloc),
+            takes: Vec::new(alloc),
+        })?;
+    }
+    Ok(all)
+}
+
+/// Gives a general one more pass to put by.
+fn add_put(all: &mut Vec<Passes>, general: GeneralNo, put: PutPass) -> Result<(), AllocError>
+    requires { general < length all.old.items }
+    ensures { OnOk result (HasMorePuts general put all.old.items all.new.items) }
+{
+    all[usize::from(general.get())].puts.push(put)?;
+    Ok(())
+}
+
+/// Gives a general one more pass to take by.
+fn add_take(all: &mut Vec<Passes>, general: GeneralNo, take: TakePass) -> Result<(), AllocError>
+    requires { general < length all.old.items }
+    ensures { OnOk result (HasMoreTakes general take all.old.items all.new.items) }
+{
+    all[usize::from(general.get())].takes.push(take)?;
+    Ok(())
+}
+
+/// Makes the edge from one general to another, if they are neighbours, and gives them its passes.
+fn add_edge(
+    alloc: Global,
+    scenario: &Scenario,
+    capacity: usize,
+    from: GeneralNo,
+    to: GeneralNo,
+    edges: &mut Edges,
+    all: &mut Vec<Passes>,
+) -> Result<(), AllocError>
+    requires capacity { 0 < capacity }
+    requires from { from < scenario.now.net.generals }
+    requires to { to < scenario.now.net.generals }
+    requires made { AreMade scenario.now from to edges.old all.old.items }
+    ensures { OnOk result (AreMade scenario.now from (to + 1) edges.new all.new.items) }
+{
+    if !scenario.header().net().has_edge(from, to) {
+        edges.table.push(None)?;
+        return Ok(());
+    }
+    let (edge, put, take) = Edge::new(alloc, scenario, from, to, capacity)?;
+    edges.table.push(Some(edge))?;
+    add_put(all, from, put)?;
+    add_take(all, to, take)?;
+    Ok(())
+}
+
+/// Makes all edges from a general to his neighbours, and gives them and him their passes.
+fn add_edges_from(
+    alloc: Global,
+    scenario: &Scenario,
+    capacity: usize,
+    from: GeneralNo,
+    edges: &mut Edges,
+    all: &mut Vec<Passes>,
+) -> Result<(), AllocError>
+    requires capacity { 0 < capacity }
+    requires from { from < scenario.now.net.generals }
+    requires made { AreMade scenario.now from 0 edges.old all.old.items }
+    ensures { OnOk result (AreMade scenario.now (from + 1) 0 edges.new all.new.items) }
+{
+    'receivers: for number in 0..scenario.header().net().generals() {
+        let to = GeneralNo::at(number);
+        add_edge(alloc, scenario, capacity, from, to, edges, all)?;
+    }
+    Ok(())
+}
+
 impl Edges {
     /// Returns all edges of a scenario's network, each of which holds so many frames, at least one, and nothing was
     /// put yet; and of each general, in ascending order, the passes.
@@ -38,7 +119,17 @@ impl Edges {
         requires { 0 < capacity }
         ensures { IfOk result (λ r. AllHavePasses r.0 scenario.now r.1.items) }
     {
-        Err(AllocError)
+        let generals = scenario.header().net().generals();
+        let mut all = no_passes(alloc, generals)?;
+        let mut edges = Edges {
+            generals,
+            table: Vec::new(alloc),
+        };
+        'senders: for number in 0..generals {
+            let from = GeneralNo::at(number);
+            add_edges_from(alloc, scenario, capacity, from, &mut edges, &mut all)?;
+        }
+        Ok((edges, all))
     }
 
     /// Returns the edge from one general to another, if they are neighbours.

@@ -1,4 +1,6 @@
 //! How generals and runs end.
+ghost use Rattle.std.specs.Prelude.{◌≡◌};
+
 use gen_edge::{PutPass, TakePass};
 use gen_log::SealedLog;
 use gen_tree::KeyRing;
@@ -47,6 +49,22 @@ pub struct GeneralEnd {
 pub(crate) fn close_ring(ring: Option<KeyRing>) {
     if let Some(ring) = ring {
         ring.close();
+    }
+}
+
+impl GeneralEnd {
+    /// Returns his logs, or why he has none. His ring is closed.
+    pub(crate) fn into_logs(self) -> Result<Vec<SealedLog>, RunFault>
+        ensures { result ≡ self.logs }
+    {
+        let GeneralEnd {
+            logs,
+            ring,
+            puts: _,
+            takes: _,
+        } = self;
+        close_ring(ring);
+        logs
     }
 }
 

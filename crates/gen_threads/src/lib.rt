@@ -6,12 +6,15 @@
 mod edges;
 mod ends;
 mod gates;
+mod joining;
 mod rounds;
 mod run_parts;
 mod running;
+mod starting;
 mod stopping;
 mod together;
 mod waiting;
+mod works;
 
 pub use edges::{Edges, Passes};
 pub use ends::{GeneralEnd, RunFault};
@@ -19,3 +22,6 @@ pub use gates::Gate;
 pub use run_parts::RunPart;
 pub use running::run_general;
 pub use together::run_threads;
+
+#[cfg(test)]
+mod tests;

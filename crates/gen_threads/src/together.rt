@@ -1,21 +1,105 @@
 //! All generals in threads.
-ghost use Rattle.std.specs.Prelude.{◌≡◌, ◌<◌, IfOk};
+ghost use Rattle.std.specs.Prelude.{◌≡◌, ◌<◌, ◌≤◌, [], length, IfOk, vec_len, vec_capacity};
 ghost use Rattle.gen_world.specs.Rows.{logs_of_all};
+ghost use Rattle.gen_threads.specs.Works.{AreParts, AreWorks, TurnsFrom};
 
+use crate::edges::Edges;
 use crate::ends::RunFault;
 use crate::gates::Gate;
+use crate::joining::{end_all, gather};
+use crate::run_parts::RunPart;
+use crate::starting::start_all;
+use crate::works::{Field, Turn, Work, make_parts, make_works};
 use gen_log::SealedLog;
 use gen_world::Scenario;
-use std::alloc::Global;
+use std::alloc::{AllocError, Global};
 use std::sync::Wait;
-use std::thread::Threads;
+use std::sync::atomic::AtomicBool;
+use std::thread;
+use std::thread::{Scope, Threads};
+
+/// Makes a flag for each of so many generals, none of them set.
+pub(crate) fn make_flags(alloc: Global, count: usize) -> Result<Vec<AtomicBool>, AllocError>
+    ensures { IfOk result (λ flags. vec_len flags ≡ count) }
+{
+    let mut flags = Vec::with_capacity(alloc, count)?;
+    for _ in 0..count {
+        flags.push(AtomicBool::new(false))?;
+    }
+    Ok(flags)
+}
+
+/// Starts all threads and ends them, in a scope of theirs.
+fn run_within<'s, E, R: Threads + Wait + Sync, G: Gate + Sync>(
+    rt: &'s R,
+    alloc: Global,
+    gate: &'s G,
+    scope: &Scope<'s, E>,
+    field: Field<'s>,
+    works: Vec<Work>,
+    back: Vec<Turn>,
+    turns: Vec<Turn>,
+) -> Result<Vec<Turn>, AllocError>
+    requires parts { AreParts field.scenario.now field.parts.now }
+    requires flags { length field.flags.now ≡ field.scenario.now.net.generals }
+    requires works { AreWorks field.edges.now field.scenario.now works.items }
+    requires empty { (turns.items ≡ []) × (back.items ≡ []) }
+    requires room { (vec_len works ≤ vec_capacity turns) × (vec_len works ≤ vec_capacity back) }
+    ensures count { IfOk result (λ v. vec_len v ≡ field.entry.scenario.now.net.generals) }
+    ensures turns { IfOk result (λ v. TurnsFrom field.entry.edges.now field.entry.scenario.now 0 v.items) }
+{
+    let handles = Vec::with_capacity(alloc, works.len())?;
+    let (handles, back) = start_all(rt, alloc, gate, scope, field, works, handles, back);
+    Ok(end_all(rt, field, handles, back, turns))
+}
+
+/// Runs each general in a thread of his own, and returns what came of each, in their order.
+fn run_works<R: Threads + Wait + Sync, G: Gate + Sync>(
+    rt: &R,
+    alloc: Global,
+    gate: &G,
+    edges: &Edges,
+    scenario: &Scenario,
+    parts: &[RunPart],
+    works: Vec<Work>,
+) -> Result<Vec<Turn>, AllocError>
+    requires parts { AreParts scenario.now parts.now }
+    requires works { AreWorks edges.now scenario.now works.items }
+    ensures count { IfOk result (λ v. vec_len v ≡ scenario.now.net.generals) }
+    ensures turns { IfOk result (λ v. TurnsFrom edges.now scenario.now 0 v.items) }
+{
+    let count = works.len();
+    let all_flags = make_flags(alloc, count)?;
+    let turns = Vec::with_capacity(alloc, count)?;
+    let back = Vec::with_capacity(alloc, count)?;
+    let flags = all_flags.as_slice();
+    thread::scope(
+        thread::scope_env(),
+        rt,
+        move |scope| -> Result<Vec<Turn>, AllocError>
+            requires { AreParts scenario.now parts.now × (length flags.now ≡ scenario.now.net.generals)
+                × AreWorks edges.now scenario.now works.items × (turns.items ≡ []) × (back.items ≡ [])
+                × (vec_len works ≤ vec_capacity turns) × (vec_len works ≤ vec_capacity back) }
+            ensures { IfOk result (λ v. (vec_len v ≡ scenario.entry.now.net.generals)
+                × TurnsFrom edges.entry.now scenario.entry.now 0 v.items) }
+        {
+            let field = Field {
+                edges,
+                scenario,
+                parts,
+                flags,
+            };
+            run_within(rt, alloc, gate, scope, field, works, back, turns)
+        },
+    )
+}
 
 /// Runs a scenario, each general in a thread of his own, over edges that hold so many frames each, at least one; and
 /// returns the logs of all, in the order of generals, a second log behind the first. The gate is called by each
 /// general's thread before each round.
 ///
 /// Threads are started in ascending order. After one that could not be started no other is, and this thread tells
-/// the neighbours of all who weren't.
+/// the neighbours of all who weren't. All rings are closed, whatever comes.
 ///
 /// # Errors
 ///
@@ -31,5 +115,9 @@ pub fn run_threads<R: Threads + Wait + Sync, G: Gate + Sync>(
     requires { 0 < capacity }
     ensures { IfOk result (λ logs. logs.items ≡ logs_of_all scenario.now) }
 {
-    Err(RunFault::Memory)
+    let parts = make_parts(alloc, scenario)?;
+    let (edges, works) = make_works(alloc, scenario, capacity)?;
+    let logs = Vec::with_capacity(alloc, 2 * parts.len())?;
+    let turns = run_works(rt, alloc, gate, &edges, scenario, parts.as_slice(), works)?;
+    gather(scenario, &edges, turns, logs)
 }

@@ -8,4 +8,5 @@ pub mod Ends
 pub mod Failing
 pub mod Jobs
 pub mod Refusal
+pub mod Run
 pub mod Tool

@@ -1,0 +1,5 @@
+use Rattle.gen_threads.specs.Building.{AreMade}
+use Rattle.gen_threads.proofs.edges.Edges.new.Given as goal
+
+abbrev pub invariant-senders : goal.invariant-senders
+invariant-senders l = AreMade l.scenario l.number 0 l.edges l.all.items

@@ -1,0 +1,32 @@
+use Rattle.std.proofs.Common.{◌≡◌, ◌+◌, ◌∙◌, sym, ap, subst, arith, vec_len}
+use Rattle.std.specs.Vec.Iter.{into_iter_len}
+use Rattle.gen_threads.specs.Works.{IsTurn, TurnsFrom}
+use Rattle.gen_threads.proofs.Froms.{from_head, from_tail}
+use Rattle.gen_threads.proofs.Gathering.{gathered, gathered_all, logs_none}
+use Rattle.gen_threads.proofs.joining.gather.Goals as goal
+
+pub loop-turn-init : goal.loop-turn-init
+loop-turn-init c =
+    let e = c.args.edges.now in let s = c.args.scenario.now in let r = c.requires in (
+      0,
+      (let a = c.into_iter-turn-iterator.ensures.into_iter_gives.1 in let b = r.count in omega (arith, c.args.turns.ok)),
+      subst (TurnsFrom e s 0) (sym c.into_iter-turn-iterator.ensures.into_iter_gives.0) r.turns,
+      r.empty ∙ logs_none s,
+    )
+
+pub loop-turn-preserved : goal.loop-turn-preserved
+loop-turn-preserved c =
+    let e = c.args.edges.now in let s = c.args.scenario.now in let i = c.loop-turn.invariant in
+    let k = i.0 in
+    let turn = from_head (IsTurn e s) k c.in-Some.turn _ _ c.in-Some.ensures.steps.0 i.2 in
+    let logs = gathered s k c.loop-turn.outcome c.gather_one.result c.loop-turn.logs.items c.gather_one.new.logs.items i.3 (c.gather_one.ensures e s k turn) in (
+      k + 1,
+      (let a = i.1 in let b = c.in-Some.ensures.steps.1 in omega arith),
+      from_tail (IsTurn e s) k c.in-Some.turn _ _ c.in-Some.ensures.steps.0 i.2,
+      rw c.worse-outcome.ensures logs,
+    )
+
+pub returns : goal.returns
+returns c =
+    let s = c.args.scenario.now in let i = c.loop-turn.invariant in
+    gathered_all s i.0 _ c.loop-turn.outcome c.in_ok-outcome.field-0 c.loop-turn.logs.items c.in_ok-outcome.was c.in-None.ensures.steps.0 i.1 i.3

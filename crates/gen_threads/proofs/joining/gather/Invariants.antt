@@ -1,0 +1,13 @@
+use Rattle.std.proofs.Common.{◌≡◌, ℕ, ◌+◌}
+use Rattle.std.specs.Prelude.{OnOk}
+use Rattle.std.specs.Vec.Iter.{into_iter_items, into_iter_len}
+use Rattle.gen_threads.specs.Works.{TurnsFrom}
+use Rattle.gen_threads.proofs.Gathering.{logs_first}
+use Rattle.gen_threads.proofs.joining.gather.Given as goal
+
+abbrev pub invariant-loop-turn : goal.invariant-loop-turn
+invariant-loop-turn l =
+    let rest = l.turn-iterator in
+    (k : ℕ) × (k + into_iter_len rest ≡ l.scenario.net.generals)
+    × TurnsFrom l.edges l.scenario k (into_iter_items rest)
+    × OnOk l.outcome (l.logs.items ≡ logs_first l.scenario k)

@@ -1,0 +1,29 @@
+use Rattle.std.proofs.Common.{rules, ◌≡◌, ℕ, ◌+◌, subst, arith, vec_len}
+use Rattle.gen_world.specs.Scenario.{Scenario}
+use Rattle.gen_threads.specs.declared.edges.Edges.{Edges}
+use Rattle.gen_threads.specs.Works.{IsPromise, IsTurn}
+use Rattle.gen_threads.proofs.Froms.{from_head, from_tail, from_push}
+use Rattle.gen_threads.proofs.joining.join_all.Goals as goal
+
+pub loop-handle-preserved : goal.loop-handle-preserved
+loop-handle-preserved g c =
+    let e = c.args.field.edges.now in let s = c.args.field.scenario.now in let i = c.loop-handle.invariant in
+    let n = vec_len c.loop-handle.turns in
+    let mine = from_head (λ k h. IsPromise e s k h.promise) n c.in-Some.handle _ _ c.in-Some.ensures.steps.0 i.1 in
+    let turn : IsTurn e s n c.join.result = subst (λ (y : Edges × Scenario × ℕ). IsTurn y.0 y.1 y.2 c.join.result) (λ j. (mine.1 j, mine.2 j, mine.0 j)) c.join.ensures in (
+      (let a = c.push_reserved.ensures.len in let b = c.in-Some.ensures.steps.1 in let d = i.0 in omega arith),
+      rw c.push_reserved.ensures.len (from_tail (λ k h. IsPromise e s k h.promise) n c.in-Some.handle _ _ c.in-Some.ensures.steps.0 i.1),
+      from_push (IsTurn e s) 0 n _ _ _ c.push_reserved.ensures.items (omega (arith, c.loop-handle.turns.ok)) i.2 turn,
+      search rules,
+    )
+
+pub loop-turn-preserved : goal.loop-turn-preserved
+loop-turn-preserved g c =
+    let e = c.args.field.edges.now in let s = c.args.field.scenario.now in let i = c.loop-turn.invariant in
+    let n = vec_len c.loop-turn.turns in
+    let turn = from_head (IsTurn e s) n c.in-Some-turn.turn _ _ c.in-Some-turn.ensures.steps.0 i.1 in (
+      (let a = c.push_reserved-in-loop-turn.ensures.len in let b = c.in-Some-turn.ensures.steps.1 in let d = i.0 in omega arith),
+      rw c.push_reserved-in-loop-turn.ensures.len (from_tail (IsTurn e s) n c.in-Some-turn.turn _ _ c.in-Some-turn.ensures.steps.0 i.1),
+      from_push (IsTurn e s) 0 n _ _ _ c.push_reserved-in-loop-turn.ensures.items (omega (arith, c.loop-turn.turns.ok)) i.2 turn,
+      search rules,
+    )

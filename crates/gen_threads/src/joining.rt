@@ -1,0 +1,163 @@
+//! How a run of threads ends.
+ghost use Rattle.std.specs.Prelude.{ℕ, ◌≡◌, ◌<◌, ◌+◌, ◌++◌, ◌≤◌, [], length, IfOk, OnOk, vec_len, vec_capacity};
+ghost use Rattle.gen_world.specs.Rows.{logs_of_all};
+ghost use Rattle.gen_world.specs.Scenario as scenarios;
+ghost use Rattle.gen_threads.specs.Ending.{logs_by};
+ghost use Rattle.gen_threads.specs.Faults.{worse_of};
+ghost use Rattle.gen_threads.specs.Works.{AreParts, ArePromised, IsTurn, TurnsFrom};
+ghost use Rattle.gen_threads.specs.declared.edges.Edges.{Edges as AllEdges};
+
+use crate::edges::Edges;
+use crate::ends::RunFault;
+use crate::run_parts::RunPart;
+use crate::starting::Handles;
+use crate::stopping::stop_once;
+use crate::works::{Field, Turn};
+use gen_log::SealedLog;
+use gen_world::Scenario;
+use std::sync::Wait;
+use std::thread;
+use std::thread::Threads;
+
+/// Does one turn for a general whose thread was not started, and returns whether nothing is left to do.
+fn stop_turn<R: Wait>(rt: &R, edges: &Edges, part: &RunPart, turn: &mut Turn) -> bool
+    requires { IsTurn edges.now part.now.scenario part.now.me turn.old }
+    ensures { IsTurn edges.now part.now.scenario part.now.me turn.new }
+{
+    match turn {
+        Turn::Ended(_) => true,
+        Turn::Back(work) => {
+            let known = part.part();
+            let net = known.header().net();
+            stop_once(rt, edges, known.me(), net, &mut work.passes.puts, &mut work.passes.takes)
+        }
+    }
+}
+
+/// Does one turn for each general whose thread was not started, and returns whether nothing is left to do.
+fn stop_each<R: Wait>(rt: &R, field: Field, first: usize, back: &mut Vec<Turn>) -> bool
+    requires parts { AreParts field.scenario.now field.parts.now }
+    requires count { first + length back.old.items ≡ field.scenario.now.net.generals }
+    requires turns { TurnsFrom field.edges.now field.scenario.now first back.old.items }
+    ensures count { length back.new.items ≡ length back.old.items }
+    ensures turns { TurnsFrom field.entry.edges.now field.entry.scenario.now first back.new.items }
+{
+    let mut over = true;
+    'turns: for index in 0..back.len() {
+        let one = stop_turn(rt, field.edges, &field.parts[first + index], &mut back[index]);
+        over = over && one;
+    }
+    over
+}
+
+/// Ends the edges of all generals from one on, whose threads were not started, turn about.
+fn stop_all<R: Wait>(rt: &R, field: Field, first: usize, back: &mut Vec<Turn>)
+    requires parts { AreParts field.scenario.now field.parts.now }
+    requires count { first + length back.old.items ≡ field.scenario.now.net.generals }
+    requires turns { TurnsFrom field.edges.now field.scenario.now first back.old.items }
+    ensures count { length back.new.items ≡ length back.old.items }
+    ensures turns { TurnsFrom field.entry.edges.now field.entry.scenario.now first back.new.items }
+{
+    for _ in rt.forever() {
+        if stop_each(rt, field, first, back) {
+            return;
+        }
+        thread::yield_now();
+    }
+    unreachable!()
+}
+
+/// Joins the threads in ascending order, and adds what came back of those that were not started.
+fn join_all<'s, R: Threads>(
+    rt: &R,
+    field: Field<'s>,
+    handles: Handles<'s>,
+    back: Vec<Turn>,
+    turns: Vec<Turn>,
+) -> Vec<Turn>
+    requires promised { ArePromised field.edges.now field.scenario.now handles.items }
+    requires back { TurnsFrom field.edges.now field.scenario.now (vec_len handles) back.items }
+    requires room { (turns.items ≡ []) × (vec_len handles + vec_len back ≤ vec_capacity turns) }
+    ensures count { vec_len result ≡ vec_len handles.entry + vec_len back }
+    ensures turns { TurnsFrom field.entry.edges.now field.entry.scenario.now 0 result.items }
+{
+    let mut turns = turns;
+    for handle in handles {
+        turns.push_reserved(handle.join(rt));
+    }
+    for turn in back {
+        turns.push_reserved(turn);
+    }
+    turns
+}
+
+/// Ends a run: first the edges of all whose threads were not started, so that nobody waits for them, and then the
+/// threads. Returns what came of each general, in ascending order.
+pub(crate) fn end_all<'s, R: Threads + Wait>(
+    rt: &R,
+    field: Field<'s>,
+    handles: Handles<'s>,
+    back: Vec<Turn>,
+    turns: Vec<Turn>,
+) -> Vec<Turn>
+    requires parts { AreParts field.scenario.now field.parts.now }
+    requires count { vec_len handles + vec_len back ≡ field.scenario.now.net.generals }
+    requires promised { ArePromised field.edges.now field.scenario.now handles.items }
+    requires back { TurnsFrom field.edges.now field.scenario.now (vec_len handles) back.items }
+    requires room { (turns.items ≡ []) × (vec_len handles + vec_len back ≤ vec_capacity turns) }
+    ensures count { vec_len result ≡ field.entry.scenario.now.net.generals }
+    ensures turns { TurnsFrom field.entry.edges.now field.entry.scenario.now 0 result.items }
+{
+    let mut back = back;
+    stop_all(rt, field, handles.len(), &mut back);
+    join_all(rt, field, handles, back, turns)
+}
+
+/// Returns of two outcomes the fault that a run answers: Memory before Thread, and that before Gone.
+fn worse(first: Result<(), RunFault>, second: Result<(), RunFault>) -> Result<(), RunFault>
+    ensures { result ≡ worse_of first second }
+{
+    match (first, second) {
+        (Ok(()), _) => second,
+        (_, Ok(())) => first,
+        (Err(RunFault::Memory), _) | (_, Err(RunFault::Memory)) => Err(RunFault::Memory),
+        (Err(RunFault::Thread), _) | (_, Err(RunFault::Thread)) => Err(RunFault::Thread),
+        (Err(RunFault::Gone), Err(RunFault::Gone)) => Err(RunFault::Gone),
+    }
+}
+
+/// Appends a general's logs, or returns why he has none.
+fn gather_one(turn: Turn, logs: &mut Vec<SealedLog>) -> Result<(), RunFault>
+    ensures { (edges : AllEdges) (s : scenarios.Scenario) (g : ℕ) → IsTurn edges s g turn
+        → OnOk result (logs.new.items ≡ logs.old.items ++ logs_by s g) }
+{
+    match turn {
+        Turn::Ended(end) => {
+            let mut own = end.into_logs()?;
+            logs.append(&mut own)?;
+            Ok(())
+        }
+        Turn::Back(_) => Err(RunFault::Thread),
+    }
+}
+
+/// Returns the logs of all, in the order of generals, or the fault of the run.
+pub(crate) fn gather(
+    scenario: &Scenario,
+    edges: &Edges,
+    turns: Vec<Turn>,
+    logs: Vec<SealedLog>,
+) -> Result<Vec<SealedLog>, RunFault>
+    requires count { vec_len turns ≡ scenario.now.net.generals }
+    requires turns { TurnsFrom edges.now scenario.now 0 turns.items }
+    requires empty { logs.items ≡ [] }
+    ensures { IfOk result (λ logs. logs.items ≡ logs_of_all scenario.now) }
+{
+    let mut logs = logs;
+    let mut outcome = Ok(());
+    for turn in turns {
+        outcome = worse(outcome, gather_one(turn, &mut logs));
+    }
+    outcome?;
+    Ok(logs)
+}

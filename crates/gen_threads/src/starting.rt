@@ -1,0 +1,158 @@
+//! How generals' threads are started.
+ghost use Rattle.std.specs.Prelude.{◌≡◌, ◌<◌, ◌+◌, ◌≤◌, [], false, length, IfOk, IfErr, vec_len, vec_capacity};
+ghost use Rattle.gen_threads.specs.Works.{AreParts, ArePromised, AreWorks, IsPromise, IsTurn, IsWork, TurnsFrom};
+
+use crate::edges::{Edges, Passes};
+use crate::gates::Gate;
+use crate::run_parts::RunPart;
+use crate::running::run_general;
+use crate::works::{EndsAs, Field, Turn, Work};
+use gen_world::Scenario;
+use std::alloc::Global;
+use std::sync::Wait;
+use std::sync::atomic::{AtomicBool, Ordering};
+use std::thread::{PromisedHandle, Scope, Threads};
+
+/// The handles of started threads.
+pub(crate) type Handles<'s> = Vec<PromisedHandle<Turn, EndsAs<'s>>>;
+
+/// Runs a general, or hands his work back where his flag is set.
+pub(crate) fn run_work<R: Wait, G: Gate>(
+    rt: &R,
+    alloc: Global,
+    gate: &G,
+    edges: &Edges,
+    scenario: &Scenario,
+    parts: &[RunPart],
+    flags: &[AtomicBool],
+    me: usize,
+    work: Work,
+) -> Turn
+    requires me { me < scenario.now.net.generals }
+    requires parts { AreParts scenario.now parts.now }
+    requires flags { length flags.now ≡ scenario.now.net.generals }
+    requires work { IsWork edges.now scenario.now me work }
+    ensures { IsTurn edges.now scenario.now me result }
+{
+    if flags[me].load(Ordering::SeqCst) {
+        return Turn::Back(work);
+    }
+    let (ring, passes) = work.into_parts();
+    let Passes { puts, takes } = passes;
+    Turn::Ended(run_general(rt, alloc, gate, &parts[me], ring, edges, puts, takes))
+}
+
+/// Starts a general's thread.
+///
+/// # Errors
+///
+/// His work, where none can be started. His flag is set then.
+fn start_one<'s, E, R: Threads + Wait + Sync, G: Gate + Sync>(
+    rt: &'s R,
+    alloc: Global,
+    gate: &'s G,
+    scope: &Scope<'s, E>,
+    field: Field<'s>,
+    me: usize,
+    work: Work,
+) -> Result<PromisedHandle<Turn, EndsAs<'s>>, Turn>
+    requires me { me < field.scenario.now.net.generals }
+    requires parts { AreParts field.scenario.now field.parts.now }
+    requires flags { length field.flags.now ≡ field.scenario.now.net.generals }
+    requires work { IsWork field.edges.now field.scenario.now me work }
+    ensures ok { IfOk result (λ h. IsPromise field.entry.edges.now field.entry.scenario.now me h.promise) }
+    ensures err { IfErr result (IsTurn field.entry.edges.now field.entry.scenario.now me) }
+{
+    let Field {
+        edges,
+        scenario,
+        parts,
+        flags,
+    } = field;
+    let promise = EndsAs {
+        edges,
+        scenario,
+        me,
+    };
+    match scope.spawn_with(
+        promise,
+        move || -> Turn
+            requires { (me < scenario.now.net.generals) × AreParts scenario.now parts.now
+                × (length flags.now ≡ scenario.now.net.generals) × IsWork edges.now scenario.now me work }
+            ensures { IsTurn edges.entry.now scenario.entry.now me result }
+        { run_work(rt, alloc, gate, edges, scenario, parts, flags, me, work) },
+    ) {
+        Ok(handle) => Ok(handle),
+        Err(refused) => {
+            flags[me].store(true, Ordering::SeqCst);
+            Err((refused.value)())
+        }
+    }
+}
+
+/// Starts a general's thread, unless an earlier one could not be started.
+///
+/// # Errors
+///
+/// His work, where none was started.
+fn start_next<'s, E, R: Threads + Wait + Sync, G: Gate + Sync>(
+    rt: &'s R,
+    alloc: Global,
+    gate: &'s G,
+    scope: &Scope<'s, E>,
+    field: Field<'s>,
+    me: usize,
+    work: Work,
+    stopped: bool,
+) -> Result<PromisedHandle<Turn, EndsAs<'s>>, Turn>
+    requires me { me < field.scenario.now.net.generals }
+    requires parts { AreParts field.scenario.now field.parts.now }
+    requires flags { length field.flags.now ≡ field.scenario.now.net.generals }
+    requires work { IsWork field.edges.now field.scenario.now me work }
+    ensures ok { IfOk result (λ h. IsPromise field.entry.edges.now field.entry.scenario.now me h.promise) }
+    ensures started { IfOk result (λ _. stopped ≡ false) }
+    ensures err { IfErr result (IsTurn field.entry.edges.now field.entry.scenario.now me) }
+{
+    if stopped {
+        return Err(Turn::Back(work));
+    }
+    start_one(rt, alloc, gate, scope, field, me, work)
+}
+
+/// Starts the threads in ascending order; after one that can't be started no other is. Returns the handles of those
+/// that were started, and the works of the others.
+pub(crate) fn start_all<'s, E, R: Threads + Wait + Sync, G: Gate + Sync>(
+    rt: &'s R,
+    alloc: Global,
+    gate: &'s G,
+    scope: &Scope<'s, E>,
+    field: Field<'s>,
+    works: Vec<Work>,
+    handles: Handles<'s>,
+    back: Vec<Turn>,
+) -> (Handles<'s>, Vec<Turn>)
+    requires parts { AreParts field.scenario.now field.parts.now }
+    requires flags { length field.flags.now ≡ field.scenario.now.net.generals }
+    requires works { AreWorks field.edges.now field.scenario.now works.items }
+    requires empty { (handles.items ≡ []) × (back.items ≡ []) }
+    requires room { (vec_len works ≤ vec_capacity handles) × (vec_len works ≤ vec_capacity back) }
+    ensures count { vec_len result.0 + vec_len result.1 ≡ vec_len works }
+    ensures promised { ArePromised field.entry.edges.now field.entry.scenario.now result.0.items }
+    ensures turns { TurnsFrom field.entry.edges.now field.entry.scenario.now (vec_len result.0) result.1.items }
+{
+    let mut handles = handles;
+    let mut back = back;
+    let mut me = 0;
+    let mut stopped = false;
+    for work in works {
+        match start_next(rt, alloc, gate, scope, field, me, work, stopped) {
+            Ok(handle) => handles.push_reserved(handle),
+            Err(turn) => {
+                stopped = true;
+                back.push_reserved(turn);
+            }
+        }
+        me += 1;
+    }
+    (handles, back)
+}
