@@ -14,6 +14,8 @@ mod words;
 use std::process::ExitCode;
 
 #[cfg(test)]
+mod accusing_tests;
+#[cfg(test)]
 mod audit_tests;
 #[cfg(test)]
 mod bundle_tests;

@@ -1,0 +1,89 @@
+//! Evidence out of bundles, and whether it holds.
+use crate::accusing::accuse_engine;
+use crate::audit_tests::bundle_of;
+use crate::checking::evidence_engine;
+use crate::ends::{JobEnd, JobFault};
+use crate::tests::{Slip, sink_for, source_of};
+use gen_audit::BundleFault;
+use gen_convict::EvidenceFault;
+use gen_types::GeneralNo;
+use std::alloc::Global;
+use std::test::*;
+
+// The paper's figure 5: a traitorous commander splits the lieutenants.
+const SPLIT: &[u8] =
+    b"generals 3\nedge 0 1\nedge 0 2\nedge 1 2\ntraitors 1\ndiameter 1\norders 2\nchoice 0\norder 1\nseed 0000000000000000000000000000000000000000000000000000000000000000\nscript 0\nmake 1 1 1 0\nmake 1 2 0 0\nend\n";
+
+/// How `accuse` ends, and what it writes.
+fn accused(alloc: Global, bundle: &[u8], number: u8) -> (JobEnd, Vec<u8>) {
+    let mut reader = source_of(bundle, 65_536, 0, Slip::Fails);
+    let mut writer = sink_for(alloc, 65_536, 0, Slip::Fails);
+    let end = accuse_engine(alloc, GeneralNo::at(number), &mut reader, &mut writer);
+    (end, writer.taken)
+}
+
+/// Whether `evidence` ends so, and writes this.
+fn tells(alloc: Global, evidence: &[u8], wanted: JobEnd, text: &[u8]) -> bool {
+    let mut reader = source_of(evidence, 65_536, 0, Slip::Fails);
+    let mut writer = sink_for(alloc, 65_536, 0, Slip::Fails);
+    let end = evidence_engine(alloc, &mut reader, &mut writer);
+    end == wanted && writer.taken.as_slice() == text
+}
+
+#[test]
+fn the_commander_is_convicted(rt: HostRuntime) -> Result<(), Fail> {
+    let alloc = rt.alloc();
+    let (end, evidence) = accused(alloc, &bundle_of(alloc, SPLIT)?, 0);
+    assert!(rt; end == JobEnd::Done && evidence.len() == 33_141);
+    Ok(())
+}
+
+#[test]
+fn nobody_else_is_convicted(rt: HostRuntime) -> Result<(), Fail> {
+    let alloc = rt.alloc();
+    let bundle = bundle_of(alloc, SPLIT)?;
+    for number in [1, 2, 3, 15] {
+        let (end, evidence) = accused(alloc, &bundle, number);
+        assert!(rt; end == JobEnd::Negative && evidence.is_empty(), "{number}");
+    }
+    Ok(())
+}
+
+#[test]
+fn a_cut_bundle_accuses_nobody(rt: HostRuntime) -> Result<(), Fail> {
+    let alloc = rt.alloc();
+    let bundle = bundle_of(alloc, SPLIT)?;
+    let (end, evidence) = accused(alloc, &bundle[..bundle.len() - 1], 0);
+    assert!(rt; end == JobEnd::Failed(JobFault::Bundle(BundleFault::Truncated)));
+    assert!(rt; evidence.is_empty());
+    Ok(())
+}
+
+#[test]
+fn the_evidence_holds(rt: HostRuntime) -> Result<(), Fail> {
+    let alloc = rt.alloc();
+    let (_, evidence) = accused(alloc, &bundle_of(alloc, SPLIT)?, 0);
+    assert!(rt; tells(alloc, &evidence, JobEnd::Done, b"evidence holds\n"));
+    Ok(())
+}
+
+#[test]
+fn bent_evidence_fails(rt: HostRuntime) -> Result<(), Fail> {
+    let alloc = rt.alloc();
+    let (_, mut evidence) = accused(alloc, &bundle_of(alloc, SPLIT)?, 0);
+    if let Some(last) = evidence.last_mut() {
+        *last ^= 128;
+    }
+    assert!(rt; tells(alloc, &evidence, JobEnd::Negative, b"evidence fails\n"));
+    Ok(())
+}
+
+#[test]
+fn cut_evidence_is_refused(rt: HostRuntime) -> Result<(), Fail> {
+    let alloc = rt.alloc();
+    let (_, mut evidence) = accused(alloc, &bundle_of(alloc, SPLIT)?, 0);
+    let _ = evidence.pop();
+    let wanted = JobEnd::Failed(JobFault::Evidence(EvidenceFault::Truncated));
+    assert!(rt; tells(alloc, &evidence, wanted, b""));
+    Ok(())
+}
