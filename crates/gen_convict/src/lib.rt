@@ -34,6 +34,4 @@ pub use refutations::Refutation;
 pub use refuting::refute;
 
 #[cfg(test)]
-mod finding_tests;
-#[cfg(test)]
 mod tests;
