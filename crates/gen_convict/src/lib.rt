@@ -34,4 +34,6 @@ pub use refutations::Refutation;
 pub use refuting::refute;
 
 #[cfg(test)]
+mod finding_tests;
+#[cfg(test)]
 mod tests;
