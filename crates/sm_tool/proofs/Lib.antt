@@ -1,4 +1,3 @@
-pub mod Bundling
 pub mod Delivering
 pub mod Faults
 pub mod Known
