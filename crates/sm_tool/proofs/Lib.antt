@@ -1,3 +1,4 @@
+pub mod Bundling
 pub mod Delivering
 pub mod Faults
 pub mod Known

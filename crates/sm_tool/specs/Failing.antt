@@ -3,6 +3,8 @@ use Rattle.gen_types.specs.declared.reading.ReadError.{ReadError}
 use Rattle.gen_types.specs.declared.reading.ReadError.TheVariants as errors
 use Rattle.gen_report.specs.declared.fault.ScenarioFault.{ScenarioFault}
 use Rattle.gen_audit.specs.declared.bundle_fault.BundleFault.{BundleFault}
+use Rattle.gen_threads.specs.declared.ends.RunFault.{RunFault}
+use Rattle.gen_threads.specs.declared.ends.RunFault.TheVariants as runs
 use Rattle.sm_tool.specs.declared.ends.JobFault.{JobFault}
 use Rattle.sm_tool.specs.declared.ends.JobFault.TheVariants as faults
 
@@ -15,3 +17,9 @@ scenario_failure (errors.Fault f) = faults.Scenario f
 abbrev pub bundle_failure : ReadError BundleFault → JobFault
 bundle_failure errors.Memory = faults.Memory
 bundle_failure (errors.Fault f) = faults.Bundle f
+
+-- by a run that ended early
+abbrev pub run_failure : RunFault → JobFault
+run_failure runs.Memory = faults.Memory
+run_failure runs.Thread = faults.Thread
+run_failure runs.Gone = faults.Thread

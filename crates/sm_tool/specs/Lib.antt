@@ -4,4 +4,5 @@ pub mod Decide
 pub mod Ends
 pub mod Failing
 pub mod Refusal
+pub mod Run
 pub mod Tool

@@ -5,6 +5,7 @@ ghost use Rattle.sm_tool.specs.declared.ends.JobFault.TheVariants.{Memory};
 
 use gen_audit::BundleFault;
 use gen_report::ScenarioFault;
+use gen_threads::RunFault;
 use gen_types::ReadError;
 use std::alloc::AllocError;
 use thiserror::Error;
@@ -37,6 +38,19 @@ impl From<AllocError> for JobFault {
 
     fn from(_e: AllocError) -> JobFault {
         JobFault::Memory
+    }
+}
+
+impl From<RunFault> for JobFault {
+    ghost use Rattle.sm_tool.specs.Failing.{run_failure};
+
+    ghost from_gives = { λ e fault. fault ≡ run_failure e };
+
+    fn from(e: RunFault) -> JobFault {
+        match e {
+            RunFault::Memory => JobFault::Memory,
+            RunFault::Thread | RunFault::Gone => JobFault::Thread,
+        }
     }
 }
 

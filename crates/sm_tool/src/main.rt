@@ -17,6 +17,8 @@ mod bundle_tests;
 #[cfg(test)]
 mod disputed_tests;
 #[cfg(test)]
+mod running_tests;
+#[cfg(test)]
 mod signed_tests;
 #[cfg(test)]
 mod tests;

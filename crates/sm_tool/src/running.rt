@@ -1,18 +1,160 @@
 //! The job `run`.
-use crate::ends::{JobEnd, JobFault};
-use std::alloc::Global;
+ghost use Rattle.std.specs.Prelude.{◌≡◌, ◌<◌, IfErr, IfOk, IfSome, map};
+ghost use Rattle.gen_types.specs.Ascending.{IsListOf};
+ghost use Rattle.gen_net.specs.Network.{IsLoyal};
+ghost use Rattle.gen_audit.specs.WorldBundle.{shown_as};
+ghost use Rattle.gen_report.specs.LineReading.{fault_at};
+ghost use Rattle.gen_report.specs.declared.fault.LineFault.TheVariants.{BadSeed};
+ghost use Rattle.sm_tool.specs.Answering.{Answers};
+ghost use Rattle.sm_tool.specs.Ends.{IsTaken, KeepsUntilWhole};
+ghost use Rattle.sm_tool.specs.Run.{AreWalksOfRun, IsRun, IsRunFault, MakesBundle, line_after_order};
+ghost use Rattle.sm_tool.specs.declared.ends.JobFault.TheVariants as faults;
+
+use crate::ends::{JobEnd, JobFault, Output};
+use crate::transfer::{deliver, read_all};
+use gen_audit::laws::own_runs_are_accepted;
+use gen_audit::{Bundle, write_bundle};
+use gen_local::Exhibit;
+use gen_log::SealedLog;
+use gen_net::Net;
+use gen_report::{LineFault, ScenarioFault, ScenarioText, read_scenario};
+use gen_threads::{Gate, run_threads};
+use gen_types::{GeneralNo, GeneralSet};
+use gen_walks::{WalkFault, Walks, make_walks};
+use gen_world::{PlainScenario, Scenario};
+use std::alloc::{AllocError, Global};
 use std::io::{Read, Write};
 use std::sync::Wait;
 use std::thread::Threads;
 
+/// A gate at which nobody waits.
+struct Open;
+
+impl Gate for Open {
+    fn before_round(&self, _general: GeneralNo, _round: u8) {}
+}
+
+/// Returns how the job fails on a scenario without a seed.
+fn missing_seed(plain: &PlainScenario) -> JobFault
+    ensures { result ≡ faults.Scenario (fault_at BadSeed (line_after_order plain.now.net)) }
+{
+    JobFault::Scenario(ScenarioFault {
+        kind: LineFault::BadSeed,
+        line: plain.net().edges().len() + 7,
+    })
+}
+
+/// Returns the generals of a network but these.
+fn rest_of(net: &Net, faulty: &GeneralSet) -> GeneralSet
+    ensures { IsListOf result (IsLoyal net.now faulty.now) }
+{
+    let mut rest = GeneralSet::new();
+    for number in 0..net.generals() {
+        let general = GeneralNo::at(number);
+        if !faulty.contains(general) {
+            rest.insert(general);
+        }
+    }
+    rest
+}
+
+/// Returns the best walks between these generals, or none where two of them have no short one.
+fn walks_between(alloc: Global, net: &Net, rest: &GeneralSet) -> Result<Walks, AllocError>
+    ensures { IfOk result (AreWalksOfRun net.now rest.now) }
+{
+    match make_walks(alloc, net, rest) {
+        Ok(walks) => Ok(walks),
+        Err(WalkFault::Memory) => Err(AllocError),
+        Err(_) => Ok(Walks::new(alloc)),
+    }
+}
+
+/// Shows sealed logs, each as its general's.
+fn exhibits_of(alloc: Global, logs: Vec<SealedLog>) -> Result<Vec<Exhibit>, AllocError>
+    ensures { IfOk result (λ exhibits. exhibits.items ≡ map shown_as logs.items) }
+{
+    let mut exhibits = Vec::with_capacity(alloc, logs.len())?;
+    for log in logs {
+        exhibits.push_reserved(Exhibit::new(log.general(), log.into_bytes()));
+    }
+    Ok(exhibits)
+}
+
+/// Returns the bundle of the scenario's run: the generals who have scripts are held for faulty, and all logs are shown.
+fn bundle_of_run<T: Threads + Wait + Sync>(
+    rt: &T,
+    alloc: Global,
+    capacity: u8,
+    scenario: &Scenario,
+) -> Result<Bundle, JobFault>
+    requires { 0 < capacity }
+    ensures { MakesBundle scenario.now result }
+{
+    own_runs_are_accepted();
+    let logs = run_threads(rt, alloc, scenario, usize::from(capacity), &Open)?;
+    let faulty = scenario.scripted();
+    let header = scenario.header().clone()?;
+    let net = header.net();
+    let walks = walks_between(alloc, net, &rest_of(net, &faulty))?;
+    let exhibits = exhibits_of(alloc, logs)?;
+    match Bundle::new(header, faulty, walks, exhibits) {
+        Ok(bundle) => Ok(bundle),
+        Err(fault) => Err(JobFault::Bundle(fault)),
+    }
+}
+
+/// Returns the bytes of the bundle of the run of the scenario that the input spells.
+fn run<T: Threads + Wait + Sync>(
+    rt: &T,
+    alloc: Global,
+    capacity: u8,
+    input: &[u8],
+) -> Result<Output, JobFault>
+    requires { 0 < capacity }
+    ensures answer { IfOk result (λ o. IsRun input.now o.text.items o.negative) }
+    ensures fault { IfErr result (IsRunFault input.now) }
+{
+    match read_scenario(alloc, input)? {
+        ScenarioText::Plain(plain) => Err(missing_seed(&plain)),
+        ScenarioText::Signed(signed) => {
+            let scenario = signed.into_scenario(alloc)?;
+            let bundle = bundle_of_run(rt, alloc, capacity, &scenario)?;
+            let text = write_bundle(alloc, &bundle)?;
+            Ok(Output {
+                text,
+                negative: false,
+            })
+        }
+    }
+}
+
 /// Reads a scenario text with a seed to its end, runs it, each general in a thread of his own over edges that hold so
-/// many frames each, and writes the bundle of the run.
+/// many frames each, at least one, and writes the bundle of the run: the generals who have scripts are held for
+/// faulty, all logs are shown, and the walks are the best ones between the others, or none where two of them have no
+/// short one.
+///
+/// A fault of the input is looked for once it was read whole, and nothing is written before the output
+/// is whole. Where a read, a write, memory or a thread fails the job ends so.
+#[tactic(auto, using(crate::proofs::Known::taken, crate::proofs::Delivering::answered, crate::proofs::Delivering::late, crate::proofs::Delivering::unread_answers, crate::proofs::Delivering::unread_taken, crate::proofs::Delivering::unread_late))]
 pub fn run_engine<T: Threads + Wait + Sync, R: Read, W: Write>(
     rt: &T,
     alloc: Global,
     capacity: u8,
     reader: &mut R,
     writer: &mut W,
-) -> JobEnd {
-    JobEnd::Failed(JobFault::Memory)
+) -> JobEnd
+    requires { 0 < capacity }
+    // What is written is the bundle of the run of the scenario that was read.
+    ensures answers { IfSome (R.remaining reader.old) (λ input.
+        Answers (IsRun input) (IsRunFault input)
+        (W.contents writer.old) (W.contents writer.new) result) }
+    // What was read is within the limit.
+    ensures taken { IfSome (R.remaining reader.old) (λ input. IsTaken input result) }
+    // Nothing is written before the output is whole.
+    ensures late { KeepsUntilWhole (W.contents writer.old) (W.contents writer.new) result }
+{
+    match read_all(alloc, reader) {
+        Ok(input) => deliver(writer, run(rt, alloc, capacity, &input)),
+        Err(fault) => JobEnd::Failed(fault),
+    }
 }

@@ -1,0 +1,113 @@
+//! The job `run`: it writes the bundle of the scenario's run, whatever edges hold.
+use crate::audit_tests::bundle_of;
+use crate::ends::{JobEnd, JobFault};
+use crate::running::run_engine;
+use crate::tests::{Slip, sink_for, source_of};
+use gen_report::{LineFault, ScenarioFault};
+use std::alloc::Global;
+use std::sync::Wait;
+use std::test::*;
+use std::thread::Threads;
+
+// Two generals, and the same in slot 1 of version 2.
+const PAIR: &[u8] = b"generals 2\nedge 0 1\ntraitors 0\ndiameter 1\norders 2\nchoice 0\norder 1\nseed 0000000000000000000000000000000000000000000000000000000000000000\nend\n";
+const PAIR_IN_SLOT: &[u8] = b"generals 2\nedge 0 1\ntraitors 0\ndiameter 1\norders 2\nchoice 0\norder 1\nseed 0000000000000000000000000000000000000000000000000000000000000000\nslot 1\nend\n";
+
+// The same without a seed.
+const SEEDLESS: &[u8] =
+    b"generals 2\nedge 0 1\ntraitors 0\ndiameter 1\norders 2\nchoice 0\norder 1\nend\n";
+
+// Scenarios with and without traitors; in the one before the last no walks are given.
+const RUNS: [&[u8]; 7] = [
+    b"generals 3\nedge 0 1\nedge 0 2\nedge 1 2\ntraitors 1\ndiameter 1\norders 2\nchoice 0\norder 1\nseed 0000000000000000000000000000000000000000000000000000000000000000\nscript 0\nmake 1 1 1 0\nmake 1 2 0 0\nend\n",
+    b"generals 4\nedge 0 1\nedge 1 2\nedge 2 3\ntraitors 0\ndiameter 3\norders 2\nchoice 0\norder 1\nseed 0000000000000000000000000000000000000000000000000000000000000000\nend\n",
+    b"generals 6\nedge 0 1\nedge 1 2\nedge 2 3\nedge 3 4\nedge 4 5\nedge 0 5\ntraitors 1\ndiameter 4\norders 2\nchoice 0\norder 1\nseed 0000000000000000000000000000000000000000000000000000000000000000\nscript 3\nend\n",
+    b"generals 4\nedge 0 1\nedge 0 2\nedge 0 3\nedge 1 2\nedge 1 3\nedge 2 3\ntraitors 2\ndiameter 1\norders 2\nchoice 0\norder 0\nseed 0000000000000000000000000000000000000000000000000000000000000000\nscript 0\nscript 1\nmake 2 2 1 0,1\nend\n",
+    b"generals 4\nedge 0 1\nedge 0 2\nedge 0 3\nedge 1 2\nedge 1 3\nedge 2 3\ntraitors 1\ndiameter 1\norders 2\nchoice 0\norder 0\nseed 0000000000000000000000000000000000000000000000000000000000000000\nscript 0\nscript 1\nmake 2 2 1 0,1\nend\n",
+    b"generals 3\nedge 0 1\nedge 1 2\ntraitors 1\ndiameter 2\norders 2\nchoice 0\norder 1\nseed 0000000000000000000000000000000000000000000000000000000000000000\nscript 1\ntwohead\nend\n",
+    b"generals 5\nedge 0 1\nedge 0 2\nedge 0 3\nedge 0 4\nedge 1 2\nedge 1 3\nedge 1 4\nedge 2 3\nedge 2 4\nedge 3 4\ntraitors 4\ndiameter 1\norders 2\nchoice 0\norder 0\nseed 0000000000000000000000000000000000000000000000000000000000000000\nscript 0\nscript 1\nmake 3 2 1 0,3,1\nmake 3 2 1 0,4,1\nmake 3 2 0 0,3,1\nscript 3\nscript 4\nend\n",
+];
+
+/// How the job ends on a text, and what it writes.
+fn run_on<R: Threads + Wait + Sync>(
+    rt: &R,
+    alloc: Global,
+    text: &[u8],
+    capacity: u8,
+) -> (JobEnd, Vec<u8>) {
+    let mut reader = source_of(text, 65_536, 0, Slip::Fails);
+    let mut writer = sink_for(alloc, 65_536, 0, Slip::Fails);
+    let end = if capacity == 0 {
+        JobEnd::Failed(JobFault::Write)
+    } else {
+        run_engine(rt, alloc, capacity, &mut reader, &mut writer)
+    };
+    (end, writer.taken)
+}
+
+/// Whether the job writes so many bytes.
+fn writes_count<R: Threads + Wait + Sync>(
+    rt: &R,
+    alloc: Global,
+    text: &[u8],
+    capacity: u8,
+    count: usize,
+) -> bool {
+    let (end, bytes) = run_on(rt, alloc, text, capacity);
+    end == JobEnd::Done && bytes.len() == count
+}
+
+/// The place of the first text for which the job doesn't write the bundle of its run.
+fn first_wrong<R: Threads + Wait + Sync>(
+    rt: &R,
+    alloc: Global,
+    texts: &[&[u8]],
+    capacity: u8,
+) -> Result<Option<usize>, Fail> {
+    for (place, text) in texts.iter().enumerate() {
+        let (end, bytes) = run_on(rt, alloc, text, capacity);
+        if end != JobEnd::Done || bytes.as_slice() != bundle_of(alloc, text)?.as_slice() {
+            return Ok(Some(place));
+        }
+    }
+    Ok(None)
+}
+
+#[test]
+fn bundle_of_a_pair(rt: HostRuntime) -> Result<(), Fail> {
+    let least = writes_count(&rt, rt.alloc(), PAIR, 1, 66_250);
+    let more = writes_count(&rt, rt.alloc(), PAIR, 2, 66_250) && writes_count(&rt, rt.alloc(), PAIR, 16, 66_250);
+    assert!(rt; least && more);
+    Ok(())
+}
+
+#[test]
+fn bundle_in_a_slot(rt: HostRuntime) -> Result<(), Fail> {
+    assert!(rt; writes_count(&rt, rt.alloc(), PAIR_IN_SLOT, 1, 66_507));
+    Ok(())
+}
+
+#[test]
+fn bundles_are_of_the_run(rt: HostRuntime) -> Result<(), Fail> {
+    let wrong = first_wrong(&rt, rt.alloc(), &RUNS, 1)?;
+    assert_eq!(rt; wrong, None);
+    Ok(())
+}
+
+#[test]
+fn bundles_are_of_the_run_with_room(rt: HostRuntime) -> Result<(), Fail> {
+    let wrong = first_wrong(&rt, rt.alloc(), &RUNS[..4], 16)?;
+    assert_eq!(rt; wrong, None);
+    Ok(())
+}
+
+#[test]
+fn a_seed_is_missed(rt: HostRuntime) -> Result<(), Fail> {
+    let (end, bytes) = run_on(&rt, rt.alloc(), SEEDLESS, 1);
+    let fault = ScenarioFault {
+        kind: LineFault::BadSeed,
+        line: 8,
+    };
+    assert!(rt; end == JobEnd::Failed(JobFault::Scenario(fault)) && bytes.is_empty());
+    Ok(())
+}
