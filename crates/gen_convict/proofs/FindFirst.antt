@@ -2,7 +2,7 @@
 use Rattle.std.proofs.Common.{◌≡◌, Bool, true, false, cond, Some, None, List, [], ◌∷◌, ◌++◌, Contains, refl, sym, ap, subst, ◌∙◌, inl, inr, append_assoc}
 use Rattle.std.specs.List.{find, flat_map}
 use Rattle.std.proofs.lemmas.List.Elements.{Contains-append_cases, Contains-append_right}
-use Rattle.gen_types.proofs.Lists.{bool_cases, split, Contains-middle, Contains_here, Contains_there, Contains_cases, Contains_nil}
+use Rattle.gen_types.proofs.Lists.{bool_cases, Contains-middle, Contains_here, Contains_there, Contains_cases, Contains_nil}
 use Rattle.gen_convict.specs.Firsts.{IsFirst, IsFirstPair}
 
 -- a test tells whether something has a property

@@ -7,7 +7,7 @@ use Rattle.std.specs.Cmp.Lexicographic.{pointwise, same_text}
 use Rattle.std.proofs.lemmas.Bool.{eqb-true, eq-eqb}
 use Rattle.std.proofs.lemmas.List.{append-nil}
 use Rattle.std.proofs.lemmas.List.Elements.{Contains-push_cases}
-use Rattle.gen_types.proofs.Lists.{bool_cases, split, Contains-middle, Contains_here, Contains_there, Contains_nil}
+use Rattle.gen_types.proofs.Lists.{bool_cases, Contains-middle, Contains_here, Contains_there, Contains_nil}
 use Rattle.gen_chain.specs.declared.statements.Statement.{Statement}
 use Rattle.gen_chain.proofs.TestedChains.{both, and_so, same_list}
 use Rattle.gen_local.specs.declared.texts.SignedText.{SignedText}

@@ -1,4 +1,4 @@
-use Rattle.std.proofs.Common.{◌≡◌, Contains, sym, subst, inl, inr}
+use Rattle.std.proofs.Common.{◌≡◌, Contains, subst, inl, inr}
 use Rattle.std.proofs.lemmas.List.Elements.{Contains-push_cases}
 use Rattle.gen_local.specs.Report.{Report}
 use Rattle.gen_convict.proofs.finding_tests.reports_of.Goals as goal
