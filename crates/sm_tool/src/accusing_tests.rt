@@ -15,10 +15,10 @@ const SPLIT: &[u8] =
     b"generals 3\nedge 0 1\nedge 0 2\nedge 1 2\ntraitors 1\ndiameter 1\norders 2\nchoice 0\norder 1\nseed 0000000000000000000000000000000000000000000000000000000000000000\nscript 0\nmake 1 1 1 0\nmake 1 2 0 0\nend\n";
 
 /// How `accuse` ends, and what it writes.
-fn accused(alloc: Global, bundle: &[u8], number: u8) -> (JobEnd, Vec<u8>) {
+fn accused(alloc: Global, bundle: &[u8], general: GeneralNo) -> (JobEnd, Vec<u8>) {
     let mut reader = source_of(bundle, 65_536, 0, Slip::Fails);
     let mut writer = sink_for(alloc, 65_536, 0, Slip::Fails);
-    let end = accuse_engine(alloc, GeneralNo::at(number), &mut reader, &mut writer);
+    let end = accuse_engine(alloc, general, &mut reader, &mut writer);
     (end, writer.taken)
 }
 
@@ -33,7 +33,7 @@ fn tells(alloc: Global, evidence: &[u8], wanted: JobEnd, text: &[u8]) -> bool {
 #[test]
 fn the_commander_is_convicted(rt: HostRuntime) -> Result<(), Fail> {
     let alloc = rt.alloc();
-    let (end, evidence) = accused(alloc, &bundle_of(alloc, SPLIT)?, 0);
+    let (end, evidence) = accused(alloc, &bundle_of(alloc, SPLIT)?, GeneralNo::at(0));
     assert!(rt; end == JobEnd::Done && evidence.len() == 33_141);
     Ok(())
 }
@@ -42,9 +42,15 @@ fn the_commander_is_convicted(rt: HostRuntime) -> Result<(), Fail> {
 fn nobody_else_is_convicted(rt: HostRuntime) -> Result<(), Fail> {
     let alloc = rt.alloc();
     let bundle = bundle_of(alloc, SPLIT)?;
-    for number in [1, 2, 3, 15] {
-        let (end, evidence) = accused(alloc, &bundle, number);
-        assert!(rt; end == JobEnd::Negative && evidence.is_empty(), "{number}");
+    let generals = [
+        GeneralNo::at(1),
+        GeneralNo::at(2),
+        GeneralNo::at(3),
+        GeneralNo::at(15),
+    ];
+    for general in generals {
+        let (end, evidence) = accused(alloc, &bundle, general);
+        assert!(rt; end == JobEnd::Negative && evidence.is_empty());
     }
     Ok(())
 }
@@ -52,8 +58,9 @@ fn nobody_else_is_convicted(rt: HostRuntime) -> Result<(), Fail> {
 #[test]
 fn a_cut_bundle_accuses_nobody(rt: HostRuntime) -> Result<(), Fail> {
     let alloc = rt.alloc();
-    let bundle = bundle_of(alloc, SPLIT)?;
-    let (end, evidence) = accused(alloc, &bundle[..bundle.len() - 1], 0);
+    let mut bundle = bundle_of(alloc, SPLIT)?;
+    let _ = bundle.pop();
+    let (end, evidence) = accused(alloc, &bundle, GeneralNo::at(0));
     assert!(rt; end == JobEnd::Failed(JobFault::Bundle(BundleFault::Truncated)));
     assert!(rt; evidence.is_empty());
     Ok(())
@@ -62,7 +69,7 @@ fn a_cut_bundle_accuses_nobody(rt: HostRuntime) -> Result<(), Fail> {
 #[test]
 fn the_evidence_holds(rt: HostRuntime) -> Result<(), Fail> {
     let alloc = rt.alloc();
-    let (_, evidence) = accused(alloc, &bundle_of(alloc, SPLIT)?, 0);
+    let (_, evidence) = accused(alloc, &bundle_of(alloc, SPLIT)?, GeneralNo::at(0));
     assert!(rt; tells(alloc, &evidence, JobEnd::Done, b"evidence holds\n"));
     Ok(())
 }
@@ -70,7 +77,7 @@ fn the_evidence_holds(rt: HostRuntime) -> Result<(), Fail> {
 #[test]
 fn bent_evidence_fails(rt: HostRuntime) -> Result<(), Fail> {
     let alloc = rt.alloc();
-    let (_, mut evidence) = accused(alloc, &bundle_of(alloc, SPLIT)?, 0);
+    let (_, mut evidence) = accused(alloc, &bundle_of(alloc, SPLIT)?, GeneralNo::at(0));
     if let Some(last) = evidence.last_mut() {
         *last ^= 128;
     }
@@ -81,7 +88,7 @@ fn bent_evidence_fails(rt: HostRuntime) -> Result<(), Fail> {
 #[test]
 fn cut_evidence_is_refused(rt: HostRuntime) -> Result<(), Fail> {
     let alloc = rt.alloc();
-    let (_, mut evidence) = accused(alloc, &bundle_of(alloc, SPLIT)?, 0);
+    let (_, mut evidence) = accused(alloc, &bundle_of(alloc, SPLIT)?, GeneralNo::at(0));
     let _ = evidence.pop();
     let wanted = JobEnd::Failed(JobFault::Evidence(EvidenceFault::Truncated));
     assert!(rt; tells(alloc, &evidence, wanted, b""));

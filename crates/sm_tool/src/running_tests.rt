@@ -10,8 +10,11 @@ use std::test::*;
 use std::thread::Threads;
 
 // Two generals, and the same in slot 1 of version 2.
-const PAIR: &[u8] = b"generals 2\nedge 0 1\ntraitors 0\ndiameter 1\norders 2\nchoice 0\norder 1\nseed 0000000000000000000000000000000000000000000000000000000000000000\nend\n";
-const PAIR_IN_SLOT: &[u8] = b"generals 2\nedge 0 1\ntraitors 0\ndiameter 1\norders 2\nchoice 0\norder 1\nseed 0000000000000000000000000000000000000000000000000000000000000000\nslot 1\nend\n";
+const PAIR: &[u8] =
+    b"generals 2\nedge 0 1\ntraitors 0\ndiameter 1\norders 2\nchoice 0\norder 1\nseed 0000000000000000000000000000000000000000000000000000000000000000\nend\n";
+
+const PAIR_IN_SLOT: &[u8] =
+    b"generals 2\nedge 0 1\ntraitors 0\ndiameter 1\norders 2\nchoice 0\norder 1\nseed 0000000000000000000000000000000000000000000000000000000000000000\nslot 1\nend\n";
 
 // The same without a seed.
 const SEEDLESS: &[u8] =
@@ -76,7 +79,8 @@ fn first_wrong<R: Threads + Wait + Sync>(
 #[test]
 fn bundle_of_a_pair(rt: HostRuntime) -> Result<(), Fail> {
     let least = writes_count(&rt, rt.alloc(), PAIR, 1, 66_250);
-    let more = writes_count(&rt, rt.alloc(), PAIR, 2, 66_250) && writes_count(&rt, rt.alloc(), PAIR, 16, 66_250);
+    let more = writes_count(&rt, rt.alloc(), PAIR, 2, 66_250)
+        && writes_count(&rt, rt.alloc(), PAIR, 16, 66_250);
     assert!(rt; least && more);
     Ok(())
 }

@@ -7,7 +7,7 @@ use std::alloc::Global;
 use std::test::*;
 
 /// Returns whether the words ask for the job.
-fn asks(alloc: Global, words: &[&str], job: Job) -> bool {
+fn asks<'a>(alloc: Global, words: &'a [&'a str], job: Job) -> bool {
     matches!(read_words(alloc, words), Ok(read) if read == job)
 }
 
@@ -28,14 +28,13 @@ fn runs_take_a_capacity(rt: HostRuntime) {
 #[test]
 fn somebody_is_accused(rt: HostRuntime) {
     let alloc = rt.alloc();
-    let rows: [(&[&str], u8); 3] = [
-        (&["sm_tool", "accuse", "--general", "0"], 0),
-        (&["sm_tool", "accuse", "--general=7"], 7),
-        (&["sm_tool", "accuse", "--general", "15"], 15),
+    let rows: [(&[&str], GeneralNo); 3] = [
+        (&["sm_tool", "accuse", "--general", "0"], GeneralNo::at(0)),
+        (&["sm_tool", "accuse", "--general=7"], GeneralNo::at(7)),
+        (&["sm_tool", "accuse", "--general", "15"], GeneralNo::at(15)),
     ];
-    for (words, number) in rows {
-        let general = GeneralNo::at(number);
-        assert!(rt; asks(alloc, words, Job::Accuse { general }), "{number}");
+    for (words, general) in rows {
+        assert!(rt; asks(alloc, words, Job::Accuse { general }));
     }
 }
 
