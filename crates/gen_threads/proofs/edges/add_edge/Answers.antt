@@ -38,4 +38,4 @@ returns c =
     let put = new_put s c.args.from c.args.to old new edge c.in_ok-edge.put more low place c.in_ok-edge.ensures.passes.0 c.in_ok-edge.ensures.put in
     let take = new_take s c.args.from c.args.to old new edge c.in_ok-edge.take more low place c.in_ok-edge.ensures.passes.1 c.in_ok-edge.ensures.taken in
     made_near s c.args.from c.args.to old new c.args.all.now.items c.add_put.new.all.items c.add_take.new.all.items edge c.in_ok-edge.put c.in_ok-edge.take more c.in_ok-add_put.ensures c.in_ok-add_take.ensures
-        put take near back c.requires.from c.requires.made
+    put take near back c.requires.from c.requires.made
