@@ -1,5 +1,5 @@
 -- The edges of a run and their passes, while they are made.
-use Rattle.std.proofs.Common.{◌≡◌, ◌≢◌, ◌↔◌, ◌⊎◌, Contains, ℕ, zero, suc, ◌+◌, ◌*◌, ◌<◌, ◌≤◌, Bool, true, false, List, [], ◌∷◌, ◌++◌, length, Option, Some, None, refl, sym, ap, subst, ◌∙◌, eqb, inl, inr, if◌then◌else◌, nat_lt, slice_index_or, arith, append-nil, length-append, get_or}
+use Rattle.std.proofs.Common.{◌≡◌, ◌≢◌, ◌↔◌, ℕ, zero, suc, ◌+◌, ◌*◌, ◌<◌, Bool, true, false, List, [], ◌∷◌, ◌++◌, length, Option, Some, None, refl, sym, ap, subst, ◌∙◌, eqb, inl, inr, if◌then◌else◌, nat_lt, slice_index_or, arith, append-nil, length-append}
 use Rattle.std.specs.List.{range_with_len, list_any, AllZip}
 use Rattle.std.proofs.lemmas.Bool.{eqb-true, lt-ltb, le-ltb, ltb-true, ltb-false}
 use Rattle.gen_types.proofs.Lists.{bool_cases}
@@ -13,7 +13,7 @@ use Rattle.gen_edge.specs.Ends.{IsPutPassOf, IsTakePassOf, put_view, take_view}
 use Rattle.gen_edge.specs.Frames.{edge_frames}
 use Rattle.gen_edge.specs.Tied.{putter, taker}
 use Rattle.gen_world.specs.Scenario.{Scenario}
-use Rattle.gen_world.specs.Loops.Worlds.{AllAre, near_of}
+use Rattle.gen_world.specs.Loops.Worlds.{near_of}
 use Rattle.gen_world.proofs.Worlds.{eqb_not, near_more, near_in, near_out}
 use Rattle.gen_threads.specs.declared.edges.Edges.{Edges}
 use Rattle.gen_threads.specs.declared.edges.Passes.{Passes}

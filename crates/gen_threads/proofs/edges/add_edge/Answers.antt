@@ -1,10 +1,7 @@
-use Rattle.std.proofs.Common.{◌≡◌, ◌↔◌, ◌∙◌, ◌<◌, ◌⊎◌, true, false, sym, ap, refl, inl, inr, arith, Option, Some, None}
-use Rattle.std.specs.Prelude.{IsTrue}
+use Rattle.std.proofs.Common.{◌≡◌, ◌∙◌, ◌<◌, true, false, sym, refl, inl, inr, arith, Some, None}
 use Rattle.std.specs.List.{list_any}
 use Rattle.gen_types.proofs.Lists.{bool_cases}
 use Rattle.gen_net.specs.Edges.{joins}
-use Rattle.gen_net.specs.Network.{AreNeighbours}
-use Rattle.gen_edge.specs.declared.passes.Edge.{Edge}
 use Rattle.gen_world.proofs.Worlds.{near_known}
 use Rattle.gen_threads.specs.declared.edges.Edges.{Edges}
 use Rattle.gen_threads.specs.Building.{HasMore}
