@@ -1,7 +1,7 @@
 -- What comes of generals, and their logs one after another.
 use Rattle.std.proofs.Common.{◌≡◌, ℕ, ◌+◌, List, [], ◌∷◌, ◌++◌, Option, Some, None, refl, sym, ap, subst, ◌∙◌, append-nil, Result, Ok, Err, arith}
 use Rattle.std.specs.Prelude.{OnOk}
-use Rattle.std.specs.List.{range_with_len, flat_map, AllZip}
+use Rattle.std.specs.List.{range_with_len, flat_map}
 use Rattle.std.proofs.lemmas.Grind.{flat_map-append}
 use Rattle.gen_tree.specs.Rings.{Ring}
 use Rattle.gen_edge.specs.declared.passes.PutPass.{PutPass}
@@ -16,8 +16,7 @@ use Rattle.gen_world.specs.Loops.Worlds.{ring_at, ring_under}
 use Rattle.gen_world.proofs.Starting.{may_start}
 use Rattle.gen_world.proofs.Worlds.{one_more}
 use Rattle.gen_threads.specs.declared.edges.Edges.{Edges}
-use Rattle.gen_threads.specs.declared.edges.Passes.{Passes}
-use Rattle.gen_threads.specs.Edges.{ArePassesOf, HasNewPasses, HaveCarried, HasPut, HasTakenBy, IsPutOn, IsTakeBy}
+use Rattle.gen_threads.specs.Edges.{ArePassesOf, HaveCarried, HasPut, HasTakenBy, IsPutOn, IsTakeBy}
 use Rattle.gen_threads.specs.declared.ends.RunFault.{RunFault}
 use Rattle.gen_threads.specs.Ending.{MayRunWith, logs_by}
 use Rattle.gen_threads.specs.Faults.{worse_of}

@@ -1,5 +1,5 @@
 -- The edges of a run and their passes, while they are made.
-use Rattle.std.proofs.Common.{◌≡◌, ◌≢◌, ◌↔◌, ◌⊎◌, Contains, ℕ, zero, suc, ◌+◌, ◌*◌, ◌<◌, ◌≤◌, Bool, true, false, List, [], ◌∷◌, ◌++◌, length, Option, Some, None, refl, sym, ap, subst, ◌∙◌, eqb, inl, inr, if◌then◌else◌, nat_lt, slice_index_or, arith, append-nil, length-append, get_or}
+use Rattle.std.proofs.Common.{◌≡◌, ◌≢◌, ◌↔◌, ℕ, zero, suc, ◌+◌, ◌*◌, ◌<◌, Bool, true, false, List, [], ◌∷◌, ◌++◌, length, Option, Some, None, refl, sym, ap, subst, ◌∙◌, eqb, inl, inr, if◌then◌else◌, nat_lt, slice_index_or, arith, append-nil, length-append}
 use Rattle.std.specs.List.{range_with_len, list_any, AllZip}
 use Rattle.std.proofs.lemmas.Bool.{eqb-true, lt-ltb, le-ltb, ltb-true, ltb-false}
 use Rattle.gen_types.proofs.Lists.{bool_cases}
@@ -13,7 +13,7 @@ use Rattle.gen_edge.specs.Ends.{IsPutPassOf, IsTakePassOf, put_view, take_view}
 use Rattle.gen_edge.specs.Frames.{edge_frames}
 use Rattle.gen_edge.specs.Tied.{putter, taker}
 use Rattle.gen_world.specs.Scenario.{Scenario}
-use Rattle.gen_world.specs.Loops.Worlds.{AllAre, near_of}
+use Rattle.gen_world.specs.Loops.Worlds.{near_of}
 use Rattle.gen_world.proofs.Worlds.{eqb_not, near_more, near_in, near_out}
 use Rattle.gen_threads.specs.declared.edges.Edges.{Edges}
 use Rattle.gen_threads.specs.declared.edges.Passes.{Passes}
@@ -89,8 +89,8 @@ takes_kept x old new s g below takes more = zip_map (HasTakenBy old s 0 g) (HasT
 pub joined_back : (net : Network) (a b : ℕ) (t : Bool) → (IsTrue t ↔ AreNeighbours net a b) → (IsTrue t ↔ AreNeighbours net b a)
 joined_back net a b t both = (λ h. turned a b (both.0 h), λ h. both.1 (turned b a h))
   where
-  turned : (x y : ℕ) → AreNeighbours net x y → AreNeighbours net y x
-  turned x y h = elim h [ inl p ↦ inr p | inr q ↦ inl q ]
+    turned : (x y : ℕ) → AreNeighbours net x y → AreNeighbours net y x
+    turned x y h = elim h [ inl p ↦ inr p | inr q ↦ inl q ]
 
 -- ---- how far they are
 
@@ -103,8 +103,8 @@ puts_other n from to g other = elim (bool_cases (nat_lt g from)) [
   ]
 ]
   where
-  between : (a b : ℕ) → nat_lt a b ≡ false → nat_lt b a ≡ false → a ≡ b
-  between a b x y = omega (arith, ltb-false a b x, ltb-false b a y)
+    between : (a b : ℕ) → nat_lt a b ≡ false → nat_lt b a ≡ false → a ≡ b
+    between a b x y = omega (arith, ltb-false a b x, ltb-false b a y)
 
 puts_here : (n from to : ℕ) → puts_below n from to from ≡ to
 puts_here n from to = let f : nat_lt from from ≡ false = le-ltb from from (omega arith) in rw f refl
@@ -159,8 +159,8 @@ row_made s from edges all made = record {
   takes = λ g d low. subst (λ below. AreTakesBelow edges s g below (slice_index_or all g d).takes.items) (takes_row s.net.generals from g low) (made.takes g d low);
 }
   where
-  more : (n k : ℕ) → k * n + n ≡ (k + 1) * n + 0
-  more n k = omega arith
+    more : (n k : ℕ) → k * n + n ≡ (k + 1) * n + 0
+    more n k = omega arith
 
 -- ---- a place of the table
 
@@ -188,7 +188,7 @@ module _ (s : Scenario) (from to : ℕ) (old new : Edges) (all : List Passes) wh
         | inl t ↦
             let e = eqb-true g from t in
             let is : near_of s.net g (range_with_len 0 (puts_below s.net.generals from to g)) ≡ near_of s.net g (range_with_len 0 (puts_below s.net.generals from (to + 1) g)) =
-                rw e (ap (λ k. near_of s.net from (range_with_len 0 k)) (puts_here s.net.generals from to) ∙ sym (near_far s from to far) ∙ ap (λ k. near_of s.net from (range_with_len 0 k)) (sym (puts_here s.net.generals from (to + 1)))) in
+            rw e (ap (λ k. near_of s.net from (range_with_len 0 k)) (puts_here s.net.generals from to) ∙ sym (near_far s from to far) ∙ ap (λ k. near_of s.net from (range_with_len 0 k)) (sym (puts_here s.net.generals from (to + 1)))) in
             subst (λ near. AllZip (HasPut new s 0 g) near (slice_index_or all g d).puts.items) is kept
         | inr f ↦ subst (λ below. ArePutsBelow new s g below (slice_index_or all g d).puts.items) (sym (puts_other s.net.generals from to g (eqb_not g from f))) kept
       ]
@@ -201,7 +201,7 @@ module _ (s : Scenario) (from to : ℕ) (old new : Edges) (all : List Passes) wh
         | inl t ↦
             let e = eqb-true g to t in
             let is : near_of s.net g (range_with_len 0 (takes_below from to g)) ≡ near_of s.net g (range_with_len 0 (takes_below from (to + 1) g)) =
-                rw e (ap (λ k. near_of s.net to (range_with_len 0 k)) (takes_before from to) ∙ sym (near_far s to from far) ∙ ap (λ k. near_of s.net to (range_with_len 0 k)) (sym (takes_after from to))) in
+            rw e (ap (λ k. near_of s.net to (range_with_len 0 k)) (takes_before from to) ∙ sym (near_far s to from far) ∙ ap (λ k. near_of s.net to (range_with_len 0 k)) (sym (takes_after from to))) in
             subst (λ near. AllZip (HasTakenBy new s 0 g) near (slice_index_or all g d).takes.items) is kept
         | inr f ↦ subst (λ below. AreTakesBelow new s g below (slice_index_or all g d).takes.items) (sym (takes_other from to g (eqb_not g to f))) kept
       ]
@@ -268,8 +268,8 @@ module _ (s : Scenario) (from to : ℕ) (old new : Edges) (all mid next : List P
     takes = near_takes more one two takes back made;
   }
     where
-    next_place : (n : ℕ) → from * n + to + 1 ≡ from * n + (to + 1)
-    next_place n = omega arith
+      next_place : (n : ℕ) → from * n + to + 1 ≡ from * n + (to + 1)
+      next_place n = omega arith
 
 -- ---- the new edge's passes
 
@@ -302,8 +302,8 @@ none_made s edges all generals table empty = record {
       rw (none, (empty.each g d low).1) tt;
 }
   where
-  nothing : (n : ℕ) → 0 ≡ 0 * n + 0
-  nothing n = omega arith
+    nothing : (n : ℕ) → 0 ≡ 0 * n + 0
+    nothing n = omega arith
 
 pub all_made : (s : Scenario) (edges : Edges) (all : List Passes) → AreMade s s.net.generals 0 edges all → AllHavePasses edges s all
 all_made s edges all made = record {

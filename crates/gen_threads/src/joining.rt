@@ -20,7 +20,7 @@ use std::thread;
 use std::thread::Threads;
 
 /// Does one turn for a general whose thread was not started, and returns whether nothing is left to do.
-fn stop_turn<R: Wait>(rt: &R, edges: &Edges, part: &RunPart, turn: &mut Turn) -> bool
+pub(crate) fn stop_turn<R: Wait>(rt: &R, edges: &Edges, part: &RunPart, turn: &mut Turn) -> bool
     requires { IsTurn edges.now part.now.scenario part.now.me turn.old }
     ensures { IsTurn edges.now part.now.scenario part.now.me turn.new }
 {
@@ -29,7 +29,14 @@ fn stop_turn<R: Wait>(rt: &R, edges: &Edges, part: &RunPart, turn: &mut Turn) ->
         Turn::Back(work) => {
             let known = part.part();
             let net = known.header().net();
-            stop_once(rt, edges, known.me(), net, &mut work.passes.puts, &mut work.passes.takes)
+            stop_once(
+                rt,
+                edges,
+                known.me(),
+                net,
+                &mut work.passes.puts,
+                &mut work.passes.takes,
+            )
         }
     }
 }
@@ -44,7 +51,12 @@ fn stop_each<R: Wait>(rt: &R, field: Field, first: usize, back: &mut Vec<Turn>) 
 {
     let mut over = true;
     'turns: for index in 0..back.len() {
-        let one = stop_turn(rt, field.edges, &field.parts[first + index], &mut back[index]);
+        let one = stop_turn(
+            rt,
+            field.edges,
+            &field.parts[first + index],
+            &mut back[index],
+        );
         over = over && one;
     }
     over

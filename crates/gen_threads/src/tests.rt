@@ -1,13 +1,14 @@
 //! Runs in threads: their logs, that generals run at once and wait for each other's frames, and works that come back.
-use crate::together::make_flags;
+use crate::joining::stop_turn;
 use crate::starting::run_work;
+use crate::together::make_flags;
 use crate::works::{Turn, make_parts, make_works};
-use crate::{Gate, run_threads};
+use crate::{Gate, RunFault, run_threads};
 use gen_log::SealedLog;
 use gen_net::Net;
 use gen_types::{GeneralNo, OrderNo};
 use gen_world::{Scenario, run_world};
-use std::alloc::Global;
+use std::alloc::{AllocError, Global};
 use std::sync::Wait;
 use std::sync::atomic::{AtomicBool, Ordering};
 use std::test::*;
@@ -121,33 +122,51 @@ fn first_wrong<R: Threads + Wait + Sync>(
     Ok(None)
 }
 
-/// How many works come back where all flags are set.
-fn count_back<R: Wait>(rt: &R, alloc: Global, scenario: &Scenario) -> Result<usize, Fail> {
-    let parts = make_parts(alloc, scenario)?;
-    let (edges, mut works) = make_works(alloc, scenario, 1)?;
-    let flags = make_flags(alloc, parts.len())?;
-    for flag in &flags {
-        flag.store(true, Ordering::SeqCst);
+/// Sets these flags as given.
+fn set_all(flags: &[AtomicBool], values: &[bool]) {
+    for (flag, value) in flags.iter().zip(values) {
+        flag.store(*value, Ordering::SeqCst);
     }
-    let mut count = 0;
-    while let Some(work) = works.pop() {
-        let me = works.len();
-        let turn = run_work(
-            rt,
-            alloc,
-            &Open,
-            &edges,
-            scenario,
-            parts.as_slice(),
-            flags.as_slice(),
-            me,
-            work,
-        );
-        if let Turn::Back(_) = &turn {
-            count += 1;
+}
+
+/// What comes of the generals one after another, over edges that hold four frames: each runs, or where his place here
+/// is true he does what is done for one whose thread was not started.
+fn turns_of<R: Wait>(
+    rt: &R,
+    alloc: Global,
+    scenario: &Scenario,
+    stopped: &[bool],
+) -> Result<Vec<Turn>, AllocError> {
+    let all_parts = make_parts(alloc, scenario)?;
+    let (edges, works) = make_works(alloc, scenario, 4)?;
+    let all_flags = make_flags(alloc, all_parts.len())?;
+    set_all(all_flags.as_slice(), stopped);
+    let (parts, flags) = (all_parts.as_slice(), all_flags.as_slice());
+    let mut turns = Vec::new(alloc);
+    let mut me = 0;
+    'works: for work in works {
+        let mut turn = run_work(rt, alloc, &Open, &edges, scenario, parts, flags, me, work);
+        stop_turn(rt, &edges, &parts[me], &mut turn);
+        turns.push(turn)?;
+        me += 1;
+    }
+    Ok(turns)
+}
+
+/// Whether his work came back.
+fn is_back(turn: &Turn) -> bool {
+    matches!(turn, Turn::Back(_))
+}
+
+/// Whether he ended because a neighbour had, and gave back one pass to put by and one to take by.
+fn has_gone(turn: &Turn) -> bool {
+    match turn {
+        Turn::Ended(end) => {
+            let fault = matches!(&end.logs, Err(RunFault::Gone));
+            fault && end.puts.len() == 1 && end.takes.len() == 1
         }
+        Turn::Back(_) => false,
     }
-    Ok(count)
 }
 
 #[test]
@@ -194,7 +213,15 @@ fn generals_wait_for_frames(rt: HostRuntime) -> Result<(), Fail> {
 #[test]
 fn works_come_back(rt: HostRuntime) -> Result<(), Fail> {
     let scenario = pair(rt.alloc())?;
-    let count = count_back(&rt, rt.alloc(), &scenario)?;
-    assert_eq!(rt; count, 2);
+    let turns = turns_of(&rt, rt.alloc(), &scenario, &[true, true])?;
+    assert!(rt; turns.len() == 2 && turns.iter().all(is_back));
+    Ok(())
+}
+
+#[test]
+fn a_neighbour_who_ends_early(rt: HostRuntime) -> Result<(), Fail> {
+    let scenario = pair(rt.alloc())?;
+    let turns = turns_of(&rt, rt.alloc(), &scenario, &[true, false])?;
+    assert!(rt; turns.first().is_some_and(is_back) && turns.last().is_some_and(has_gone));
     Ok(())
 }

@@ -1,10 +1,7 @@
-use Rattle.std.proofs.Common.{◌≡◌, ◌↔◌, ◌∙◌, ◌<◌, ◌⊎◌, true, false, sym, ap, refl, inl, inr, arith, Option, Some, None}
-use Rattle.std.specs.Prelude.{IsTrue}
+use Rattle.std.proofs.Common.{◌≡◌, ◌∙◌, ◌<◌, true, false, sym, refl, inl, inr, arith, Some, None}
 use Rattle.std.specs.List.{list_any}
 use Rattle.gen_types.proofs.Lists.{bool_cases}
 use Rattle.gen_net.specs.Edges.{joins}
-use Rattle.gen_net.specs.Network.{AreNeighbours}
-use Rattle.gen_edge.specs.declared.passes.Edge.{Edge}
 use Rattle.gen_world.proofs.Worlds.{near_known}
 use Rattle.gen_threads.specs.declared.edges.Edges.{Edges}
 use Rattle.gen_threads.specs.Building.{HasMore}
@@ -38,4 +35,4 @@ returns c =
     let put = new_put s c.args.from c.args.to old new edge c.in_ok-edge.put more low place c.in_ok-edge.ensures.passes.0 c.in_ok-edge.ensures.put in
     let take = new_take s c.args.from c.args.to old new edge c.in_ok-edge.take more low place c.in_ok-edge.ensures.passes.1 c.in_ok-edge.ensures.taken in
     made_near s c.args.from c.args.to old new c.args.all.now.items c.add_put.new.all.items c.add_take.new.all.items edge c.in_ok-edge.put c.in_ok-edge.take more c.in_ok-add_put.ensures c.in_ok-add_take.ensures
-        put take near back c.requires.from c.requires.made
+    put take near back c.requires.from c.requires.made

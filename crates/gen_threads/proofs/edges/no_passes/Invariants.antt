@@ -1,4 +1,3 @@
-use Rattle.std.proofs.Common.{◌≡◌, length}
 use Rattle.gen_threads.specs.Building.{AreEmpty}
 use Rattle.gen_threads.proofs.edges.no_passes.Given as goal
 

@@ -1,5 +1,4 @@
-use Rattle.std.proofs.Common.{◌≡◌, ◌+◌, ◌∙◌, sym, ap, subst, arith, vec_len}
-use Rattle.std.specs.Vec.Iter.{into_iter_len}
+use Rattle.std.proofs.Common.{◌+◌, ◌∙◌, sym, subst, arith}
 use Rattle.gen_threads.specs.Works.{IsTurn, TurnsFrom}
 use Rattle.gen_threads.proofs.Froms.{from_head, from_tail}
 use Rattle.gen_threads.proofs.Gathering.{gathered, gathered_all, logs_none}

@@ -1,4 +1,4 @@
-use Rattle.std.proofs.Common.{rules, ◌≡◌, ℕ, ◌+◌, subst, arith, vec_len}
+use Rattle.std.proofs.Common.{rules, ℕ, subst, arith, vec_len}
 use Rattle.gen_world.specs.Scenario.{Scenario}
 use Rattle.gen_threads.specs.declared.edges.Edges.{Edges}
 use Rattle.gen_threads.specs.Works.{IsPromise, IsTurn}

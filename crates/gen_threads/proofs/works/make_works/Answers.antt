@@ -1,5 +1,4 @@
-use Rattle.std.proofs.Common.{◌≡◌, ◌+◌, ◌∙◌, arith, vec_len}
-use Rattle.std.specs.Vec.Iter.{into_iter_len}
+use Rattle.std.proofs.Common.{◌∙◌, arith}
 use Rattle.gen_threads.specs.Edges.{HasNewPasses}
 use Rattle.gen_threads.specs.Works.{IsWork}
 use Rattle.gen_threads.proofs.Froms.{from_head, from_tail, from_push}
