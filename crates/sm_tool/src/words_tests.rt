@@ -8,7 +8,10 @@ use std::test::*;
 
 /// Returns whether the words ask for the job.
 fn asks<'a>(alloc: Global, words: &'a [&'a str], job: Job) -> bool {
-    matches!(read_words(alloc, words), Ok(read) if read == job)
+    match &read_words(alloc, words) {
+        Ok(read) => *read == job,
+        Err(_) => false,
+    }
 }
 
 #[test]
