@@ -3,6 +3,7 @@ pub mod ChainReading
 pub mod Keeping
 pub mod Leaves
 pub mod Making
+pub mod Pooled
 pub mod Prefixes
 pub mod Store
 pub mod StoredChain

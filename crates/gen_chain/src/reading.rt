@@ -11,8 +11,7 @@ ghost use Rattle.gen_chain.specs.ChainReading.{repeats, begins_with_commander};
 use crate::chains::{SignedChain, Signer};
 use crate::fault::ChainFault;
 use crate::sizes::{GREATEST_ORDER, MOST_SIGNERS, signers_bytes};
-use gen_ots::SigRoom;
-use gen_tree::Signature;
+use gen_tree::SignaturePool;
 use gen_tree::sizes::signature_bytes;
 use gen_types::limits::MOST_GENERALS;
 use gen_types::{GeneralNo, OrderNo, ReadError, TreeHeight, bytes_at, check, u8_at};
@@ -27,20 +26,19 @@ struct ChainFront {
 
 /// A signer, and the bytes after him.
 #[tactic(auto, unfolding(crate::specs::ChainReading::signer_at))]
-fn read_signer(
-    alloc: Global,
+fn read_signer<'a>(
     height: TreeHeight,
-    bytes: &[u8],
-) -> Result<(Signer, &[u8]), ReadError<ChainFault>>
+    bytes: &'a [u8],
+    pool: &mut SignaturePool,
+) -> Result<(Signer, &'a [u8]), ReadError<ChainFault>>
     ensures { IsField result (signer_at height bytes.now) }
 {
     let (number, rest) = u8_at(bytes, ChainFault::Truncated)?;
     let (signature, rest) = bytes_at(rest, signature_bytes(height), ChainFault::Truncated)?;
     check(number < MOST_GENERALS, ChainFault::BadSigner)?;
-    let room = SigRoom::new(alloc, height)?;
     let signer = Signer {
         general: GeneralNo::at(number),
-        signature: Signature::read(room, signature),
+        signature: pool.read(height, signature)?,
     };
     Ok((signer, rest))
 }
@@ -59,18 +57,19 @@ fn read_front(bytes: &[u8]) -> Result<(ChainFront, &[u8]), ReadError<ChainFault>
 }
 
 /// This many signers.
-fn read_many(
+fn read_many<'a>(
     alloc: Global,
     height: TreeHeight,
     count: u8,
-    bytes: &[u8],
-) -> Result<(Vec<Signer>, &[u8]), ReadError<ChainFault>>
+    bytes: &'a [u8],
+    pool: &mut SignaturePool,
+) -> Result<(Vec<Signer>, &'a [u8]), ReadError<ChainFault>>
     ensures { Gives (λ x. (x.0.items, x.1.now)) result (many_at (signer_at height) count bytes.now) }
 {
     let mut signers = Vec::with_capacity(alloc, usize::from(count))?;
     let mut rest = bytes;
     for _ in 0..count {
-        let (signer, after) = read_signer(alloc, height, rest)?;
+        let (signer, after) = read_signer(height, rest, pool)?;
         signers.push(signer)?;
         rest = after;
     }
@@ -110,15 +109,16 @@ fn begin(signers: &[Signer]) -> bool
 
 /// This many signers, who make a path.
 #[tactic(auto, unfolding(crate::specs::ChainReading::signers_at))]
-fn read_signers(
+fn read_signers<'a>(
     alloc: Global,
     height: TreeHeight,
     count: u8,
-    bytes: &[u8],
-) -> Result<(Vec<Signer>, &[u8]), ReadError<ChainFault>>
+    bytes: &'a [u8],
+    pool: &mut SignaturePool,
+) -> Result<(Vec<Signer>, &'a [u8]), ReadError<ChainFault>>
     ensures { Gives (λ x. (x.0.items, x.1.now)) result (signers_at height count bytes.now) }
 {
-    let (signers, rest) = read_many(alloc, height, count, bytes)?;
+    let (signers, rest) = read_many(alloc, height, count, bytes, pool)?;
     check(are_distinct(&signers), ChainFault::BadSigner)?;
     check(begin(&signers), ChainFault::NotFromCommander)?;
     Ok((signers, rest))
@@ -126,17 +126,18 @@ fn read_signers(
 
 /// The chain in front of the bytes, and the bytes after it.
 #[tactic(auto, unfolding(crate::specs::ChainReading::chain_at))]
-fn chain_in_front(
+fn chain_in_front<'a>(
     alloc: Global,
     height: TreeHeight,
-    bytes: &[u8],
-) -> Result<(SignedChain, &[u8]), ReadError<ChainFault>>
+    bytes: &'a [u8],
+    pool: &mut SignaturePool,
+) -> Result<(SignedChain, &'a [u8]), ReadError<ChainFault>>
     ensures { IsField result (chain_at height bytes.now) }
 {
     let (front, rest) = read_front(bytes)?;
     let enough = signers_bytes(height, front.count) <= rest.len();
     check(enough, ChainFault::Truncated)?;
-    let (signers, rest) = read_signers(alloc, height, front.count, rest)?;
+    let (signers, rest) = read_signers(alloc, height, front.count, rest, pool)?;
     let chain = SignedChain {
         order: OrderNo::at(front.order),
         signers,
@@ -150,10 +151,11 @@ fn counted_chain(
     alloc: Global,
     height: TreeHeight,
     bytes: &[u8],
+    pool: &mut SignaturePool,
 ) -> Result<(SignedChain, usize), ReadError<ChainFault>>
     ensures { IsRead result (counted (chain_at height) bytes.now) }
 {
-    let (chain, rest) = chain_in_front(alloc, height, bytes)?;
+    let (chain, rest) = chain_in_front(alloc, height, bytes, pool)?;
     Ok((chain, bytes.len() - rest.len()))
 }
 
@@ -177,5 +179,25 @@ pub fn read_chain(
     // Which fault it is.
     ensures exact { IsRead result (counted (chain_at height) bytes.now) }
 {
-    counted_chain(alloc, height, bytes)
+    read_chain_with(alloc, height, bytes, &mut SignaturePool::new(alloc))
+}
+
+/// Returns what `read_chain` does. The chain's signatures share their memory with equal ones of the pool,
+/// and are read into it.
+///
+/// # Errors
+///
+/// Those of `read_chain`.
+pub fn read_chain_with(
+    alloc: Global,
+    height: TreeHeight,
+    bytes: &[u8],
+    pool: &mut SignaturePool,
+) -> Result<(SignedChain, usize), ReadError<ChainFault>>
+    ensures found { IfOk result (IsReadFrom (IsSignedChain height) chain_spelling bytes.now) }
+    ensures only { (c : Chain) → StandsInFront (IsSignedChain height) chain_spelling bytes.now c
+        → IsRead result (Ok (c, length (chain_spelling c))) }
+    ensures exact { IsRead result (counted (chain_at height) bytes.now) }
+{
+    counted_chain(alloc, height, bytes, pool)
 }

@@ -8,6 +8,8 @@ ghost use Rattle.gen_chain.specs.declared.kept.Kept.{Kept};
 ghost use Rattle.gen_chain.specs.Keeping.{items_of};
 ghost use Rattle.gen_chain.specs.Store.{Triple, answer_in, answer_of, is_claim, kept_at, IsAfter, KeepsAll, Serves};
 ghost use Rattle.gen_chain.specs.StoredChain.{KeepsSigners, KeepsChain};
+ghost use Rattle.gen_chain.specs.Pooled.{LendsPool};
+ghost use Rattle.std.specs.Borrow.{sem};
 
 use crate::chains::{SignedChain, Signer};
 use crate::kept::{Claim, Kept};
@@ -15,8 +17,7 @@ use crate::sizes::MOST_SIGNERS;
 use crate::statements::Statement;
 use crate::verifying::has_signed;
 use gen_net::Header;
-use gen_ots::SigRoom;
-use gen_tree::Signature;
+use gen_tree::{Signature, SignaturePool};
 use gen_types::{GeneralNo, OrderNo, Path};
 use std::alloc::{AllocError, Global};
 use std::collections::BTreeMap;
@@ -63,6 +64,7 @@ pub struct VerifyStore {
     alloc: Global,
     kept: BTreeMap<Claim, Vec<Kept>>,
     runs: u64,
+    pool: SignaturePool,
 }
 
 impl Model for VerifyStore {
@@ -90,6 +92,7 @@ impl VerifyStore {
             alloc,
             kept: BTreeMap::new(alloc),
             runs: 0,
+            pool: SignaturePool::new(alloc),
         })
     }
 
@@ -99,6 +102,13 @@ impl VerifyStore {
         ensures { result ≡ self.now.runs }
     {
         self.runs
+    }
+
+    /// Returns the store's pool, by which signatures are read, so that equal ones share their memory.
+    pub fn pool(&mut self) -> &mut SignaturePool
+        ensures* { sem 𝓛 (LendsPool self.entry result) }
+    {
+        &mut self.pool
     }
 
     /// The answer that is kept for the claim and the signature.
@@ -151,9 +161,8 @@ impl VerifyStore {
             return Ok(answer);
         }
         let answer = has_signed(header, signer, statement, signature);
-        let room = SigRoom::new(self.alloc, signature.height())?;
         let last = Kept {
-            signature: signature.copy(room),
+            signature: signature.share(self.alloc)?,
             answer,
         };
         keep(self.alloc, &mut self.kept, claim, last)?;

@@ -125,7 +125,7 @@ impl OneTimeKey {
             push_pair(&mut bytes, &shown2, &images[2]);
             push_pair(&mut bytes, &shown3, &images[3]);
         }
-        OtsSig { bytes }
+        OtsSig::owning(bytes)
     }
 
     /// Ends the key unused, and returns the number of its leaf.

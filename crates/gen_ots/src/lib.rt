@@ -18,6 +18,7 @@
 mod hashing;
 mod keys;
 mod secrets;
+mod sharing;
 mod signatures;
 pub mod sizes;
 

@@ -7,6 +7,7 @@ ghost use Rattle.std.proofs.lemmas.Cmp.{nat_list_eq_equiv};
 ghost use Rattle.gen_ots.specs.Signatures.{other_at, shown_at, signed_leaf_value};
 
 use crate::hashing::{absorb, four_images, is_one, leaf_hasher};
+use crate::sharing::SigBytes;
 use crate::sizes::{DIGEST_BITS, HASH_BYTES, OTS_BYTES, PAIR_BYTES};
 use gen_types::TreeHeight;
 use sha2::Digest;
@@ -60,21 +61,32 @@ impl SigRoom {
 /// It may be anybody's bytes: whom it speaks for is what `image_of` says.
 #[derive(Debug, Drop)]
 pub struct OtsSig {
-    pub(crate) bytes: Vec<u8>,
+    bytes: SigBytes,
 }
 
 impl Model for OtsSig {
     ghost use Rattle.std.specs.Prelude.{◌≡◌, List, ℕ, length};
+    ghost use Rattle.gen_ots.specs.Sharing.{bytes_of};
     ghost use Rattle.gen_ots.specs.Sizes.{ots_length};
 
     ghost Value = { List ℕ };
 
-    ghost view = { λ s. s.bytes.items };
+    ghost view = { λ s. bytes_of s.bytes };
 
-    ghost invariant = { λ s. length s.bytes.items ≡ ots_length };
+    ghost invariant = { λ s. length (bytes_of s.bytes) ≡ ots_length };
 }
 
 impl OtsSig {
+    /// The signature that owns these bytes.
+    pub(crate) fn owning(bytes: Vec<u8>) -> OtsSig
+        requires { length bytes.items ≡ OTS_BYTES }
+        ensures { result ≡ bytes.items }
+    {
+        OtsSig {
+            bytes: SigBytes::Owned(bytes),
+        }
+    }
+
     /// Returns the signature with these bytes, of which there are `OTS_BYTES`.
     pub fn read(room: SigRoom, pairs: &[u8]) -> OtsSig
         requires { length pairs.now ≡ OTS_BYTES }
@@ -82,7 +94,32 @@ impl OtsSig {
     {
         let mut bytes = room.bytes;
         bytes.extend_from_slice(pairs).unwrap();
-        OtsSig { bytes }
+        OtsSig::owning(bytes)
+    }
+
+    /// Returns the signature with these bytes, of which there are `OTS_BYTES`, which others can share.
+    ///
+    /// # Errors
+    ///
+    /// `AllocError` where memory is refused.
+    pub fn shared(alloc: Global, pairs: &[u8]) -> Result<OtsSig, AllocError>
+        requires { length pairs.now ≡ OTS_BYTES }
+        ensures { IfOk result (λ signature. signature ≡ pairs.now) }
+    {
+        let bytes = SigBytes::shared(alloc, pairs)?;
+        Ok(OtsSig { bytes })
+    }
+
+    /// Returns the same signature for one owner more. Bytes that can be shared are not copied.
+    ///
+    /// # Errors
+    ///
+    /// `AllocError` where memory is refused.
+    pub fn share(&self, alloc: Global) -> Result<OtsSig, AllocError>
+        ensures { IfOk result (λ signature. signature ≡ self.now) }
+    {
+        let bytes = self.bytes.share(alloc)?;
+        Ok(OtsSig { bytes })
     }
 
     /// Returns the same signature again, in other room.
@@ -107,7 +144,7 @@ impl PartialEq for OtsSig {
     ghost laws = { partial_equiv_from_equiv nat_list_eq_equiv };
 
     fn eq(&self, other: &OtsSig) -> bool {
-        self.bytes == other.bytes
+        self.as_bytes() == other.as_bytes()
     }
 }
 
@@ -120,7 +157,7 @@ impl Eq for OtsSig {
 pub fn image_of(signature: &OtsSig, digest: &[u8; 32]) -> [u8; 32]
     ensures { result ≡ signed_leaf_value signature.now digest.now }
 {
-    let pairs = signature.bytes.as_slice();
+    let pairs = signature.as_bytes();
     let mut hasher = leaf_hasher();
     // Four bits a turn, so that four secrets are hashed side by side.
     'turns: for turn in 0..DIGEST_BITS / 4 {

@@ -10,7 +10,7 @@ turns-init c = c.leaf_hasher-hasher.ensures
 
 pub turns-preserved : goal.turns-preserved
 turns-preserved c =
-    let pairs = c.as_slice-pairs.result.now in
+    let pairs = c.as_bytes-pairs.result.now in
     let digest = c.args.digest.now in
     let n = 4 * c.turns.turn in
     let images : c.four_images-images.result ≡ image (shown_at pairs n) ∷ image (shown_at pairs (n + 1))
@@ -31,5 +31,5 @@ pub returns : goal.returns
 unfolding signed_leaf_value
 returns c =
     let all : 4 * c.turns.turn ≡ 256 = omega arith in
-    let m = c.finalize.ensures (1 ∷ given_images c.as_slice-pairs.result.now c.args.digest.now 256) (rw all at c.turns.invariant) in
-    rw (← c.signature.view_is, ← c.as_slice-pairs.ensures.value) m
+    let m = c.finalize.ensures (1 ∷ given_images c.as_bytes-pairs.result.now c.args.digest.now 256) (rw all at c.turns.invariant) in
+    rw c.as_bytes-pairs.ensures.value at m

@@ -22,11 +22,11 @@ new c = record { kept = items_of c.keep.new.kept.entries; runs = c.saturating_ad
 
 after : (c : goal.After-self-1) → IsAfter c.args.self.now (asked c) c.has_signed-answer.result (new c)
 after c =
-    let last : Kept = record { signature = c.copy.result; answer = c.has_signed-answer.result } in
+    let last : Kept = record { signature = c.in_ok-share.field-0; answer = c.has_signed-answer.result } in
     let old : Store = record { kept = items_of c.self.inside.kept.entries; runs = c.self.inside.runs } in
     let none = rw (← c.self.view_is) at (sym c.answer_of.ensures ∙ c.in_default.is) in
     subst (λ store. IsAfter store (asked c) c.has_signed-answer.result (new c)) c.self.view_is
-    (after_one_more old (new c) (asked c) last c.copy.ensures none c.in_ok-keep.ensures.here c.in_ok-keep.ensures.others c.saturating_add-self-inside.ensures)
+    (after_one_more old (new c) (asked c) last c.in_ok-share.ensures none c.in_ok-keep.ensures.here c.in_ok-keep.ensures.others c.saturating_add-self-inside.ensures)
 
 pub returns-clause-kept : goal.returns-clause-kept
 returns-clause-kept c = after c

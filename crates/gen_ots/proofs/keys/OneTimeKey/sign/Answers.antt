@@ -54,8 +54,8 @@ turns-preserved c =
       omega (arith, c.push_pair.ensures.capacity, c.push_pair-in-turns.ensures.capacity, c.push_pair-in-turns-2.ensures.capacity, c.push_pair-in-turns-3.ensures.capacity),
     )
 
-pub invariant_of-result : goal.invariant_of-result
-invariant_of-result c =
+pub owning-requires : goal.owning-requires
+owning-requires c =
     let all : 4 * c.turns.turn ≡ 256 = omega arith in
     rw (c.turns.invariant.1, all) (length-first_pairs c.args.self.name c.args.digest.now 256)
 
@@ -63,15 +63,15 @@ pub returns-clause-bytes : goal.returns-clause-bytes
 unfolding signature_of
 returns-clause-bytes c =
     let all : 4 * c.turns.turn ≡ 256 = omega arith in
-    rw all at c.turns.invariant.1
+    rw c.owning.ensures (rw all at c.turns.invariant.1)
 
 pub returns-clause-leaf : goal.returns-clause-leaf
 returns-clause-leaf c =
     let all : 4 * c.turns.turn ≡ 256 = omega arith in
     let e : c.turns.bytes.items ≡ signature_of c.args.self.name c.args.digest.now = whole-signature c.args.self.name c.args.digest.now c.turns.bytes.items (rw all at c.turns.invariant.1) in
-    rw e (signed_leaf_value-signature_of c.args.self.name c.args.digest.now)
+    rw (c.owning.ensures, e) (signed_leaf_value-signature_of c.args.self.name c.args.digest.now)
 
 pub returns-clause-width : goal.returns-clause-width
 returns-clause-width c =
     let all : 4 * c.turns.turn ≡ 256 = omega arith in
-    rw (c.turns.invariant.1, all) (length-first_pairs c.args.self.name c.args.digest.now 256)
+    rw (c.owning.ensures, c.turns.invariant.1, all) (length-first_pairs c.args.self.name c.args.digest.now 256)

@@ -1,0 +1,10 @@
+-- A store whose pool is lent.
+use Rattle.std.specs.Borrow.{Lends, MutBor, Fml}
+use Rattle.gen_chain.specs.declared.store.VerifyStore.{VerifyStore}
+use Rattle.gen_chain.specs.contracts.store.VerifyStore as store
+use Rattle.gen_tree.specs.declared.pool.SignaturePool.{SignaturePool}
+use Rattle.gen_tree.specs.contracts.pool.SignaturePool as pool
+
+-- whatever comes into the pool, the store is as it was
+abbrev pub LendsPool : MutBor VerifyStore → MutBor SignaturePool → Fml
+LendsPool s r = Lends store.the_row pool.the_row s r (λ _. s.now)

@@ -1,0 +1,70 @@
+//! Signatures that share their bytes.
+ghost use Rattle.std.specs.Prelude.{◌≡◌, ◌≤◌, length, IfOk};
+ghost use Rattle.gen_tree.specs.Sizes.{signature_length};
+
+use crate::signatures::Signature;
+use gen_ots::sizes::OTS_BYTES;
+use gen_types::TreeHeight;
+use std::alloc::{AllocError, Global};
+use std::collections::BTreeMap;
+use std::marker::Model;
+
+/// How many of its first bytes a signature is found by.
+const NAME_BYTES: usize = 8;
+
+/// Signatures that were read, so that equal ones need not stand in memory twice. Signatures with the same
+/// first eight bytes displace each other: of those it keeps the last one. A contract sees nothing of it,
+/// since it changes nothing of what is read.
+#[derive(Debug, Drop)]
+pub struct SignaturePool {
+    alloc: Global,
+    known: BTreeMap<u64, Signature>,
+}
+
+impl Model for SignaturePool {
+    ghost use Rattle.std.specs.Prelude.{⊤};
+
+    ghost Value = { ⊤ };
+
+    ghost view = { λ _. tt };
+}
+
+/// The first eight of these bytes as a number.
+fn name_of(bytes: &[u8]) -> u64
+    requires { OTS_BYTES ≤ length bytes.now }
+{
+    let mut name = [0; NAME_BYTES];
+    name.copy_from_slice(&bytes[..NAME_BYTES]);
+    u64::from_be_bytes(name)
+}
+
+impl SignaturePool {
+    /// Returns a pool without signatures. It takes no memory before the first is read.
+    pub fn new(alloc: Global) -> SignaturePool {
+        SignaturePool {
+            alloc,
+            known: BTreeMap::new(alloc),
+        }
+    }
+
+    /// Returns the signature with these bytes, of which there are as many as signatures for this height have.
+    /// It shares its memory with an equal one of the pool, if there is one.
+    ///
+    /// # Errors
+    ///
+    /// `AllocError` where memory is refused.
+    pub fn read(&mut self, height: TreeHeight, bytes: &[u8]) -> Result<Signature, AllocError>
+        requires { length bytes.now ≡ signature_length height }
+        ensures { IfOk result (λ signature. signature ≡ bytes.now) }
+    {
+        let name = name_of(bytes);
+        if let Some(known) = self.known.get(&name) {
+            if known.is_spelled(bytes) {
+                return known.share(self.alloc);
+            }
+        }
+        let signature = Signature::shared(self.alloc, height, bytes)?;
+        self.known.insert(name, signature.share(self.alloc)?)?;
+        Ok(signature)
+    }
+}
