@@ -12,7 +12,6 @@ use crate::texts::{SignedText, Text};
 use gen_chain::{Signer, Statement, VerifyStore};
 use gen_log::Entry;
 use gen_net::Header;
-use gen_ots::SigRoom;
 use gen_tree::Signature;
 use gen_types::{GeneralNo, OrderNo, Path};
 use std::alloc::{AllocError, Global};
@@ -47,11 +46,10 @@ pub fn put_if(
         ((record { signer = signer; text = text; signature = signature.now }) ∷ [])) }
 {
     if verifies {
-        let room = SigRoom::new(alloc, signature.height())?;
         texts.push(SignedText {
             signer,
             text,
-            signature: signature.copy(room),
+            signature: signature.share(alloc)?,
         })?;
     }
     Ok(())

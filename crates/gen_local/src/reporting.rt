@@ -16,7 +16,7 @@ use crate::own_log::OwnLog;
 use crate::reading::Reading;
 use crate::texts::Text;
 use gen_chain::{HeadText, VerifyStore, head_digest, leaf_of_head};
-use gen_log::{Entry, Log, last_link, read_log};
+use gen_log::{Entry, Log, last_link, read_log_with};
 use gen_net::Header;
 use gen_tree::{Signature, verify};
 use gen_types::{GeneralNo, ReadError};
@@ -117,7 +117,7 @@ pub fn reading_of(
     ensures grows { KeepsAll store.old store.new }
     ensures serves { Serves header.now store.new }
 {
-    match read_log(alloc, header, bytes) {
+    match read_log_with(alloc, header, bytes, store.pool()) {
         Err(ReadError::Memory) => Err(AllocError),
         Err(ReadError::Fault(fault)) => Ok(Reading::Unreadable(fault)),
         Ok(log) => {

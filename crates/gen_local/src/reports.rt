@@ -74,12 +74,13 @@ pub fn local_report(
     ensures report { IfOk result IsReport }
 {
     let mut store = VerifyStore::new(alloc)?;
-    local_report_with(alloc, header, general, log, &mut store)
+    let exhibit = Exhibit::new(general, Vec::from_slice(alloc, log)?)?;
+    local_report_with(alloc, header, &exhibit, &mut store)
 }
 
-/// Returns the report of an exhibit, a general and bytes that are said to be his log, under a header.
-/// Signatures are verified through the store, so that none is verified twice; the store must serve the
-/// header, and serves it afterwards too.
+/// Returns the report of an exhibit under a header, which shares the bytes of the exhibit. Signatures are
+/// verified through the store, so that none is verified twice, and equal ones share their memory; the
+/// store must serve the header, and serves it afterwards too.
 ///
 /// # Errors
 ///
@@ -87,21 +88,19 @@ pub fn local_report(
 pub fn local_report_with(
     alloc: Global,
     header: &Header,
-    general: GeneralNo,
-    log: &[u8],
+    exhibit: &Exhibit,
     store: &mut VerifyStore,
 ) -> Result<LocalReport, AllocError>
     requires { Serves header.now store.old }
     ensures header { IfOk result (λ report. report.header ≡ header.now) }
-    ensures exhibit { IfOk result (λ report.
-        report.exhibit ≡ record { general = general; bytes = log.now }) }
+    ensures exhibit { IfOk result (λ report. report.exhibit ≡ exhibit.now) }
     ensures report { IfOk result IsReport }
     ensures grows { KeepsAll store.old store.new }
     ensures serves { Serves header.now store.new }
 {
-    let reading = reading_of(alloc, header, general, log, store)?;
+    let reading = reading_of(alloc, header, exhibit.general(), exhibit.log(), store)?;
     let header = header.clone()?;
-    let exhibit = Exhibit::new(general, Vec::from_slice(alloc, log)?);
+    let exhibit = exhibit.share()?;
     Ok(LocalReport {
         header,
         exhibit,
