@@ -34,13 +34,7 @@ pub(crate) fn reports_of_all(alloc: Global, bundle: &Bundle) -> Result<Vec<Local
     let mut store = VerifyStore::new(alloc)?;
     let mut reports = Vec::new(alloc);
     for exhibit in bundle.exhibits() {
-        let report = local_report_with(
-            alloc,
-            header,
-            exhibit.general(),
-            exhibit.log(),
-            &mut store,
-        )?;
+        let report = local_report_with(alloc, header, exhibit, &mut store)?;
         reports.push(report)?;
     }
     Ok(reports)

@@ -170,7 +170,7 @@ fn read_exhibit(
     let (size, rest) = u32_at(rest, BundleFault::Truncated)?;
     let (log, rest) = bytes_at(rest, size as usize, BundleFault::Truncated)?;
     let log = Vec::from_slice(alloc, log)?;
-    Ok((Exhibit::new(GeneralNo::at(general), log), rest))
+    Ok((Exhibit::new(GeneralNo::at(general), log)?, rest))
 }
 
 /// This many exhibits.

@@ -79,7 +79,7 @@ fn exhibits_of(alloc: Global, generals: &[u8]) -> Result<Vec<Exhibit>, Fail> {
     let mut exhibits = Vec::new(alloc);
     for general in generals {
         let general = GeneralNo::new(*general).ok_or("no general")?;
-        exhibits.push(Exhibit::new(general, Vec::new(alloc)))?;
+        exhibits.push(Exhibit::new(general, Vec::new(alloc))?)?;
     }
     Ok(exhibits)
 }

@@ -7,7 +7,6 @@ ghost use Rattle.gen_convict.specs.Told.{told};
 
 use crate::claims::Claim;
 use crate::first_texts::first_unsaid;
-use crate::text_claims::copied_signature;
 use gen_local::{LocalReport, Reading, SignedText, Text};
 use gen_types::GeneralNo;
 use std::alloc::{AllocError, Global};
@@ -61,7 +60,7 @@ fn missing_of(alloc: Global, log: &[u8], text: &SignedText) -> Result<Option<Cla
         Text::OfHead(_) => Ok(None),
         Text::OfStatement(statement) => {
             let log = Vec::from_slice(alloc, log)?;
-            let signature = copied_signature(alloc, &text.signature)?;
+            let signature = text.signature.share(alloc)?;
             Ok(Some(Claim::Missing {
                 log,
                 statement,

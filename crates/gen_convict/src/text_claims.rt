@@ -8,28 +8,17 @@ ghost use Rattle.gen_convict.specs.Told.{told};
 use crate::claims::Claim;
 use crate::first_texts::{first_command, first_other_order, first_unlike, first_with_unlike};
 use gen_local::{SignedText, Text};
-use gen_ots::SigRoom;
-use gen_tree::Signature;
 use gen_types::{GeneralNo, OrderNo};
 use std::alloc::{AllocError, Global};
 
-/// A copy of a signature.
-pub fn copied_signature(alloc: Global, signature: &Signature) -> Result<Signature, AllocError>
-    ensures { IfOk result (λ copy. copy ≡ signature.now) }
-{
-    let room = SigRoom::new(alloc, signature.height())?;
-    Ok(signature.copy(room))
-}
-
-/// A copy of a text with its signature.
+/// A copy of a text, which shares the signature.
 fn copied_text(alloc: Global, text: &SignedText) -> Result<SignedText, AllocError>
     ensures { IfOk result (λ copy. copy ≡ text.now) }
 {
-    let signature = copied_signature(alloc, &text.signature)?;
     Ok(SignedText {
         signer: text.signer,
         text: text.text,
-        signature,
+        signature: text.signature.share(alloc)?,
     })
 }
 
@@ -74,8 +63,8 @@ fn order_of(text: &Text) -> OrderNo
 fn two_orders(alloc: Global, first: &SignedText, second: &SignedText) -> Result<Claim, AllocError>
     ensures { IfOk result (λ claim. told claim ≡ finds.two_orders first.now second.now) }
 {
-    let first_signature = copied_signature(alloc, &first.signature)?;
-    let second_signature = copied_signature(alloc, &second.signature)?;
+    let first_signature = first.signature.share(alloc)?;
+    let second_signature = second.signature.share(alloc)?;
     Ok(Claim::Orders {
         first: order_of(&first.text),
         first_signature,

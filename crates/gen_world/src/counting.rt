@@ -6,7 +6,7 @@ ghost use Rattle.gen_world.specs.Counting.{MayCount, Carries, AreCounted};
 ghost use Rattle.gen_world.specs.Counted.{counted_of};
 ghost use Rattle.gen_world.specs.Loops.Listing.{AreListed};
 
-use gen_chain::{SignedChain, VerifyStore, read_chain};
+use gen_chain::{SignedChain, VerifyStore, read_chain_with};
 use gen_net::Header;
 use gen_script::Parcel;
 use gen_types::{GeneralNo, OrderNo, ReadError};
@@ -62,7 +62,7 @@ fn carried(
     ensures none { result ≡ Ok None
         → (c : Chain) → Carries header.now delivery.now parcel.now c → ⊥ }
 {
-    match read_chain(alloc, header.height(), parcel) {
+    match read_chain_with(alloc, header.height(), parcel, store.pool()) {
         Err(ReadError::Memory) => Err(AllocError),
         Err(ReadError::Fault(_)) => Ok(None),
         Ok((chain, taken)) => {

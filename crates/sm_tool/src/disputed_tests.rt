@@ -79,7 +79,7 @@ fn sealed(alloc: Global, header: &Header, number: u8, front: &[u8]) -> Result<Ex
     let digest = digest_of(alloc, header, general, log.as_slice())?;
     log.truncate(front.len());
     signed(alloc, general, 15, &digest)?.append_to(&mut log)?;
-    Ok(Exhibit::new(general, log))
+    Ok(Exhibit::new(general, log)?)
 }
 
 /// The log of one who writes that nothing came, and that he has no order of his own.

@@ -75,7 +75,7 @@ fn exhibits_of(alloc: Global, logs: Vec<SealedLog>) -> Result<Vec<Exhibit>, Allo
 {
     let mut exhibits = Vec::with_capacity(alloc, logs.len())?;
     for log in logs {
-        exhibits.push_reserved(Exhibit::new(log.general(), log.into_bytes()));
+        exhibits.push_reserved(Exhibit::new(log.general(), log.into_bytes())?);
     }
     Ok(exhibits)
 }
