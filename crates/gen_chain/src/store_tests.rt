@@ -128,6 +128,28 @@ fn changed_chain(alloc: Global, header: &Header) -> Result<SignedChain, Fail> {
     Ok(changed)
 }
 
+// Whether a chain that is read twice by a store's pool is the same both times and of the same length.
+fn reads_alike(alloc: Global, store: &mut VerifyStore, bytes: &[u8]) -> Result<bool, Fail> {
+    let first = read_chain_with(alloc, TreeHeight::Four, bytes, store.pool());
+    let again = read_chain_with(alloc, TreeHeight::Four, bytes, store.pool());
+    match (first, again) {
+        (Ok((first, 33_028)), Ok((again, 33_028))) => {
+            Ok(write_chain(alloc, &first)? == write_chain(alloc, &again)?)
+        }
+        _ => Ok(false),
+    }
+}
+
+#[test]
+fn chains_by_the_pool_of_a_store(rt: HostRuntime) -> Result<(), Fail> {
+    let header = header_of_three(rt.alloc())?;
+    let bytes = write_chain(rt.alloc(), &chain_of_two(rt.alloc(), &header)?)?;
+    let mut store = VerifyStore::new(rt.alloc())?;
+    assert!(rt; reads_alike(rt.alloc(), &mut store, bytes.as_slice())?);
+    assert_eq!(rt; store.runs(), 0);
+    Ok(())
+}
+
 // The first wrong answer where chains don't verify. Of an order that the network does not have nothing is verified.
 fn first_wrong_refusal(alloc: Global, header: &Header) -> Result<Option<usize>, Fail> {
     let changed = changed_chain(alloc, header)?;
