@@ -25,7 +25,7 @@ pub fn read_all<R: Read>(alloc: Global, reader: &mut R) -> Result<Vec<u8>, JobFa
     ensures fault { IfErr result IsReadFault }
 {
     let mut all = Vec::new(alloc);
-    let mut buffer = [0u8; 4096];
+    let mut buffer = [0u8; 65_536];
     for _ in 0..MOST_READS {
         let count = match reader.read(&mut buffer) {
             Ok(count) => count,
