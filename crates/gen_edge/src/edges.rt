@@ -7,6 +7,7 @@ ghost use Rattle.gen_edge.specs.Ends.{IsPutPassOf, IsTakePassOf, put_view, take_
 use crate::frames::Frame;
 use crate::passes::{Edge, Left, Line, PutPass, TakePass};
 use crate::rule::{Drains, Ends, Naming, Opens, Puts, Settles, Takes};
+use crossbeam_utils::sync::{EventCount, Key};
 use gen_types::GeneralNo;
 use gen_world::Scenario;
 use std::alloc::{AllocError, Global};
@@ -58,6 +59,7 @@ impl Edge {
             Some(number) => pass.put = number,
             None => pass.gone = true,
         }
+        self.moved.notify_one();
         Ok(())
     }
 
@@ -78,7 +80,15 @@ impl Edge {
             Some(number) => pass.taken = number,
             None => pass.gone = true,
         }
+        self.moved.notify_one();
         Some(frame)
+    }
+
+    /// Announces that the caller is going to wait for the next step on this edge. What is waited for, room or a frame,
+    /// is to be looked for once more before the wait, which ends once anything is put on the edge or taken from it. So
+    /// a general who waits sleeps, and no step is missed.
+    pub fn prepare_wait(&self) -> Key<'_> {
+        self.moved.prepare_wait()
     }
 
     /// Ends an edge, and returns what is left on it: what was taken followed by what is left is what was put. It
@@ -91,7 +101,7 @@ impl Edge {
         ensures ended { (take_view take).gone_taken ≡ true → result.frames.items ≡ [] }
         ensures few { length result.frames.items ≤ edge_capacity self }
     {
-        let Edge { line, mut room } = self;
+        let Edge { line, mut room, .. } = self;
         let PutPass { mut pass, .. } = put;
         let TakePass { pass: other, .. } = take;
         line.absorb::<Ends>(&mut pass, other);
@@ -135,5 +145,6 @@ fn open<N: Naming>(
         taken: 0,
         gone: false,
     };
-    Ok((Edge { line, room }, put, take))
+    let moved = EventCount::new();
+    Ok((Edge { line, room, moved }, put, take))
 }

@@ -5,6 +5,7 @@ ghost use Rattle.crossbeam_queue.specs.Passes.{ruled_capacity, view};
 use crate::frames::Frame;
 use crate::rule::{Seen, Tie};
 use crossbeam_queue::{Pass, RuledArrayQueue};
+use crossbeam_utils::sync::EventCount;
 
 /// A queue under the rule of an edge.
 pub(crate) type Line = RuledArrayQueue<Frame, Seen, Tie>;
@@ -17,6 +18,7 @@ pub(crate) type Line = RuledArrayQueue<Frame, Seen, Tie>;
 pub struct Edge {
     pub(crate) line: Line,
     pub(crate) room: Vec<Frame>,
+    pub(crate) moved: EventCount,
     ghost roomy: { (room.items ≡ []) × (ruled_capacity line ≤ vec_capacity room) },
 }
 

@@ -18,11 +18,15 @@ pub(crate) fn put_frame<R: Wait>(rt: &R, edge: &Edge, pass: &mut PutPass, frame:
     let backoff = Backoff::new();
     let mut held = frame;
     for _ in rt.forever() {
+        let sleep = backoff.is_completed().then(|| edge.prepare_wait());
         match edge.try_put(rt, pass, held) {
             Ok(()) => return,
             Err(back) => held = back,
         }
-        backoff.snooze();
+        match sleep {
+            Some(key) => key.wait(rt),
+            None => backoff.snooze(),
+        }
     }
     unreachable!()
 }
@@ -35,10 +39,14 @@ pub(crate) fn take_frame<R: Wait>(rt: &R, edge: &Edge, pass: &mut TakePass) -> F
 {
     let backoff = Backoff::new();
     for _ in rt.forever() {
+        let sleep = backoff.is_completed().then(|| edge.prepare_wait());
         if let Some(frame) = edge.try_take(rt, pass) {
             return frame;
         }
-        backoff.snooze();
+        match sleep {
+            Some(key) => key.wait(rt),
+            None => backoff.snooze(),
+        }
     }
     unreachable!()
 }

@@ -18,6 +18,9 @@ len_as-count-requires-clause-rule g c =
 pub pop_as-requires-clause-rule : goal.pop_as-requires-clause-rule
 pop_as-requires-clause-rule g c = let d = c.left.invariant.1 in (takes _ _ d.takes, settles _ _ d.puts d.takes)
 
+pub learn_as-requires-clause-rule : goal.learn_as-requires-clause-rule
+learn_as-requires-clause-rule g c = let d = c.left.invariant.1 in settles _ _ d.puts d.takes
+
 pub left-preserved : goal.left-preserved
 left-preserved g c = (search rules, rw c.push_reserved.ensures.items (drained_more _ _ _ _ _ c.left.invariant.1 c.in-Some.ensures.rule), search rules, search rules)
 
