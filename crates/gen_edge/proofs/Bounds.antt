@@ -1,12 +1,12 @@
 -- How many frames go over an edge, and that nothing comes behind the last word.
-use Rattle.std.proofs.Common.{◌≡◌, ℕ, zero, suc, ◌+◌, ◌≤◌, Bool, true, false, true≢false, List, [], ◌∷◌, ◌++◌, length, map, take, drop, Some, sym, refl, ap, ◌∙◌, arith, length-append}
-use Rattle.std.proofs.lemmas.List.{length-map}
+use Rattle.std.proofs.Common.{◌≡◌, ℕ, zero, suc, ◌+◌, ◌<◌, ◌≤◌, ◌⊎◌, ⊎_elim, Bool, true, false, true≢false, List, [], ◌∷◌, ◌++◌, length, map, take, drop, Some, sym, refl, ap, ◌∙◌, arith, length-append}
+use Rattle.std.proofs.lemmas.List.{append-nil, length-map}
 use Rattle.crossbeam_queue.specs.Fifo.{Held}
 use Rattle.gen_edge.specs.declared.frames.Frame.{Frame}
 use Rattle.gen_edge.specs.declared.frames.Frame.TheVariants.{Round, Gone}
 use Rattle.gen_edge.specs.declared.rule.Seen.{Seen}
 use Rattle.gen_edge.specs.Frames.{Parcels, Carried, round, gone, carried, number_of, numbered, ending, row}
-use Rattle.gen_edge.specs.Tied.{ComesNext, TakesNext, PutsSee, after_put}
+use Rattle.gen_edge.specs.Tied.{ComesNext, TakesNext, PutsSee, TakesSee, after_put}
 use Rattle.gen_edge.proofs.Rows.{head_is, some_below, empty_is_not}
 
 abbrev is_round : Carried → Bool
@@ -74,6 +74,32 @@ nothing_behind k j [] (y ∷ ys) true xs e = absurd (true≢false (ap is_round (
 nothing_behind k j [] (y ∷ ys) false xs e = absurd (empty_is_not (round (j + 1) y) ((numbered (j + 1) ys ++ gone ∷ []) ++ xs) e)
 nothing_behind k j (x ∷ l) [] ended xs e = absurd (true≢false (ap is_round (head_is (round (k + 1) x) gone (numbered (k + 1) l ++ ending ended) xs e)))
 nothing_behind k j (x ∷ l) (y ∷ ys) ended xs e = nothing_behind (k + 1) (j + 1) l ys ended xs (ap (drop 1) e)
+
+no_round : (k : ℕ) (p : Parcels) (xs : List Carried) (ended : Bool) → ending ended ≡ round k p ∷ xs → ⊥
+no_round k p xs true e = true≢false (sym (ap is_round (head_is gone (round k p) [] xs e)))
+no_round k p xs false e = empty_is_not (round k p) xs e
+
+-- two rows are the same only where they have as many frames, and ended both or neither
+rows_alike : (k : ℕ) (world : List Parcels) (n t : ℕ) (g h : Bool) → n ≤ length world → t ≤ length world → numbered k (take n world) ++ ending g ≡ numbered k (take t world) ++ ending h
+    → (n ≡ t) × (g ≡ h)
+rows_alike k world zero zero true true a b e = (refl, refl)
+rows_alike k world zero zero false false a b e = (refl, refl)
+rows_alike k world zero zero true false a b e = absurd (empty_is_not gone [] (sym e))
+rows_alike k world zero zero false true a b e = absurd (empty_is_not gone [] e)
+rows_alike k [] (suc n) t g h a b e = absurd (omega arith)
+rows_alike k [] zero (suc t) g h a b e = absurd (omega arith)
+rows_alike k (x ∷ xs) (suc n) zero g h a b e = absurd (no_round (k + 1) x (numbered (k + 1) (take n xs) ++ ending g) h (sym e))
+rows_alike k (x ∷ xs) zero (suc t) g h a b e = absurd (no_round (k + 1) x (numbered (k + 1) (take t xs) ++ ending h) g e)
+rows_alike k (x ∷ xs) (suc n) (suc t) g h a b e = let more = rows_alike (k + 1) xs n t g h (omega arith) (omega arith) (ap (drop 1) e) in (ap suc more.0, more.1)
+
+-- who finds a queue empty knows of nothing that he did not take
+pub none_missed : (v : Seen) → Held 0 (TakesSee v) → (v.taken < v.known) ⊎ ((v.known_gone ≡ true) × (v.gone_taken ≡ false)) → ⊥
+none_missed v (x ∷ items, none, see) more = absurd (omega arith)
+none_missed v ([], none, (put, gone_put, behind, within, known, rests)) more =
+    let same = rows_alike 0 v.world put v.taken gone_put v.gone_taken within (omega arith) (rests ∙ append-nil (row v.world v.taken v.gone_taken)) in
+    let many = same.0 in let few = known.0 in
+    ⊎_elim (λ (frames : v.taken < v.known). absurd (omega (arith, many, few, frames)))
+    (λ (ended : (v.known_gone ≡ true) × (v.gone_taken ≡ false)). true≢false (sym (known.1 ended.0) ∙ same.1 ∙ ended.1)) more
 
 -- behind the last word nothing is left
 pub nothing_left : (world : List Parcels) (n t : ℕ) (g h : Bool) (frames : List Frame) → row world n g ≡ row world t h ++ map carried frames → h ≡ true → frames ≡ []

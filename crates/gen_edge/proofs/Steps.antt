@@ -9,7 +9,7 @@ use Rattle.gen_edge.specs.declared.frames.Frame.{Frame}
 use Rattle.gen_edge.specs.declared.frames.Frame.TheVariants.{Round, Gone}
 use Rattle.gen_edge.specs.declared.rule.Seen.{Seen}
 use Rattle.gen_edge.specs.Frames.{Parcels, Carried, round, gone, carried, row}
-use Rattle.gen_edge.specs.Tied.{Tied, State, Counted, Fits, ComesNext, PutsNext, TakesNext, unopened, putter, taker, both_sides, spent_side, Rests, PutsSee, TakesSee}
+use Rattle.gen_edge.specs.Tied.{Tied, State, Counted, Fits, Known, ComesNext, PutsNext, TakesNext, unopened, putter, taker, both_sides, spent_side, news_of, heard, Rests, PutsSee, TakesSee}
 use Rattle.gen_edge.proofs.Rows.{row_step, row_end, comes, some_below, empty_is_not}
 
 at_end : (l : List Seen) (a b : Seen) (j : ℕ) → get_elem? l j ≢ some b → get_elem? (l ++ a ∷ []) j ≡ some b → j ≡ length l
@@ -35,21 +35,25 @@ bool_is : (b : Bool) → (b ≡ true) ⊎ (b ≡ false)
 bool_is true = inl refl
 bool_is false = inr refl
 
-put_fits : (s : State) (port : ℕ) (v : Seen) (views : List Seen) (n : ℕ) (g : Bool) → v.puts ≡ true → get_elem? views port ≡ some v → All (Fits s) views
+-- what is known stays so where more was put
+still : (u : Seen) (n m : ℕ) (g g' : Bool) → Known u n g → n ≤ m → (g ≡ true → g' ≡ true) → Known u m g'
+still u n m g g' known more_put ended = let few = known.0 in (omega arith, λ e. ended (known.1 e))
+
+put_fits : (s : State) (port : ℕ) (v : Seen) (views : List Seen) (n : ℕ) (g : Bool) → v.puts ≡ true → get_elem? views port ≡ some v → All (Fits s) views → s.put ≤ n → (s.gone_put ≡ true → g ≡ true)
     → All (Fits (record s { put = n; gone_put = g })) (set views port (record v { put = n; gone_put = g }))
-put_fits s port v views n g may at all =
+put_fits s port v views n g may at all more_put ended =
     let mine = all port v at in
     all_set (Fits (record s { put = n; gone_put = g })) views port (record v { put = n; gone_put = g })
-    ((λ _. ((mine.0 may).0, (mine.0 may).1, refl, refl)), mine.1)
-    (λ j u other e. ((λ p. absurd (other (((all j u e).0 p).0 ∙ sym (mine.0 may).0))), (all j u e).1))
+    ((λ _. ((mine.0 may).0, (mine.0 may).1, refl, refl)), mine.1, still v s.put n s.gone_put g mine.2 more_put ended)
+    (λ j u other e. ((λ p. absurd (other (((all j u e).0 p).0 ∙ sym (mine.0 may).0))), (all j u e).1, still u s.put n s.gone_put g (all j u e).2 more_put ended))
 
 take_fits : (s : State) (port : ℕ) (v : Seen) (views : List Seen) (n : ℕ) (g : Bool) → v.takes ≡ true → get_elem? views port ≡ some v → All (Fits s) views
     → All (Fits (record s { taken = n; gone_taken = g })) (set views port (record v { taken = n; gone_taken = g }))
 take_fits s port v views n g may at all =
     let mine = all port v at in
     all_set (Fits (record s { taken = n; gone_taken = g })) views port (record v { taken = n; gone_taken = g })
-    (mine.0, λ _. ((mine.1 may).0, (mine.1 may).1, refl, refl))
-    (λ j u other e. ((all j u e).0, λ p. absurd (other (((all j u e).1 p).0 ∙ sym (mine.1 may).0))))
+    (mine.0, (λ _. ((mine.1 may).0, (mine.1 may).1, refl, refl)), mine.2)
+    (λ j u other e. ((all j u e).0, (λ p. absurd (other (((all j u e).1 p).0 ∙ sym (mine.1 may).0))), (all j u e).2))
 
 -- with nothing put after the last word, and a step of the row, the count is right after a push
 pushed : (s : State) (items : List Frame) (x : Frame) (n m : ℕ) (g g' : Bool) → Counted s items → n ≡ s.put → g ≡ s.gone_put → g ≡ false → n ≤ m → m ≤ length s.world
@@ -76,7 +80,7 @@ puts n port v (Round number parcels) may next items views room h at =
       (
         record s { put = v.put + 1; gone_put = v.gone_put },
         pushed s items (Round number parcels) v.put (v.put + 1) v.gone_put v.gone_put c mine.2 mine.3 next.0 (omega arith) (omega arith) step,
-        put_fits s port v views (v.put + 1) v.gone_put may at h.2,
+        put_fits s port v views (v.put + 1) v.gone_put may at h.2 (omega (arith, mine.2)) (λ e. mine.3 ∙ e),
       ),
       refl,
     )
@@ -88,7 +92,7 @@ puts n port v Gone may next items views room h at =
       (
         record s { put = v.put; gone_put = true },
         pushed s items Gone v.put v.put v.gone_put true c mine.2 mine.3 next (omega arith) (omega arith) step,
-        put_fits s port v views v.put true may at h.2,
+        put_fits s port v views v.put true may at h.2 (omega (arith, mine.2)) (λ _. refl),
       ),
       refl,
     )
@@ -184,6 +188,13 @@ only : (port : ℕ) (v : Seen) → get_elem? (unopened ∷ []) port ≡ some v �
 only zero v e = (refl, some-injective unopened v e)
 only (suc port) v e = absurd (some-ne-none v (sym e))
 
+-- who was told nothing knows no more than was put
+unknown : (v : Seen) (n : ℕ) (g : Bool) → v.known ≡ 0 → v.known_gone ≡ false → Known v n g
+unknown v n g none open_yet = (omega (arith, none), λ e. absurd (true≢false (sym e ∙ open_yet)))
+
+knows_none : (v : Seen) → unopened ≡ v → Known v 0 false
+knows_none v is = unknown v 0 false (ap (λ (y : Seen). y.known) (sym is)) (ap (λ (y : Seen). y.known_gone) (sym is))
+
 -- an edge begins with one pass
 pub begins : Tied [] (unopened ∷ [])
 begins = (
@@ -191,7 +202,8 @@ begins = (
   record { rests = refl; within = omega arith; behind = omega arith; last = λ e. absurd (true≢false (sym e)); after = λ e. absurd (true≢false (sym e)) },
   λ port v e. let h = only port v e in (
     (λ _. (sym h.0, ap (λ (y : Seen). y.world) (sym h.1), ap (λ (y : Seen). y.put) (sym h.1), ap (λ (y : Seen). y.gone_put) (sym h.1))),
-    λ _. (sym h.0, ap (λ (y : Seen). y.world) (sym h.1), ap (λ (y : Seen). y.taken) (sym h.1), ap (λ (y : Seen). y.gone_taken) (sym h.1)),
+    (λ _. (sym h.0, ap (λ (y : Seen). y.world) (sym h.1), ap (λ (y : Seen). y.taken) (sym h.1), ap (λ (y : Seen). y.gone_taken) (sym h.1))),
+    knows_none v h.1,
   ),
 )
 
@@ -210,19 +222,31 @@ opens world port v new items views h at =
     subst (λ (y : List Parcels × ℕ × Bool × ℕ × Bool). row y.0 y.1 y.2 ≡ row y.0 y.3 y.4 ++ map carried items) (λ i. (none i, n₀ i, g₀ i, t₀ i, h₀ i)) c.rests in
     let l : Seen = putter world in let k : Seen = taker world in let vs : List Seen = set views port l in
     let n : State = record { writer = port; reader = length vs; world = world; put = 0; gone_put = false; taken = 0; gone_taken = false } in
-    let Old : ℕ → Seen → Type 0 = λ j u. (u.puts ≡ true → (j ≡ port) × (u.world ≡ world) × (u.put ≡ 0) × (u.gone_put ≡ false)) × (u.takes ≢ true) in
+    let Old : ℕ → Seen → Type 0 = λ j u. (u.puts ≡ true → (j ≡ port) × (u.world ≡ world) × (u.put ≡ 0) × (u.gone_put ≡ false)) × (u.takes ≢ true) × Known u 0 false in
     let old : All Old vs =
-    all_set Old views port l ((λ _. (refl, refl, refl, refl)), λ p. true≢false (sym p))
-    (λ j u other e. ((λ p. absurd (other (((h.2 j u e).0 p).0 ∙ sym w.0))), λ p. other (((h.2 j u e).1 p).0 ∙ sym r.0))) in (
+    all_set Old views port l ((λ _. (refl, refl, refl, refl)), (λ p. true≢false (sym p)), unknown l 0 false refl refl)
+    (λ j u other e. (
+      (λ p. absurd (other (((h.2 j u e).0 p).0 ∙ sym w.0))),
+      (λ p. other (((h.2 j u e).1 p).0 ∙ sym r.0)),
+      still u s.put 0 s.gone_put false (h.2 j u e).2 (omega (arith, n₀)) (λ q. sym g₀ ∙ q),
+    )) in (
       n,
       record { rests = nothing; within = omega arith; behind = omega arith; last = λ e. absurd (true≢false (sym e)); after = λ e. absurd (true≢false (sym e)) },
-      λ j u e. ⊎_elim (λ x. ((old j u x).0, λ p. absurd ((old j u x).1 p)))
+      λ j u e. ⊎_elim (λ x. ((old j u x).0, (λ p. absurd ((old j u x).1 p)), (old j u x).2))
           (λ (is : k ≡ u). (
             (λ p. absurd (true≢false (sym (ap (λ (y : Seen). y.puts) is ∙ p)))),
-            λ p. (at_end vs k u j (λ x. (old j u x).1 p) e, ap (λ (y : Seen). y.world) (sym is), ap (λ (y : Seen). y.taken) (sym is), ap (λ (y : Seen). y.gone_taken) (sym is)),
+            (λ p. (at_end vs k u j (λ x. (old j u x).1 p) e, ap (λ (y : Seen). y.world) (sym is), ap (λ (y : Seen). y.taken) (sym is), ap (λ (y : Seen). y.gone_taken) (sym is))),
+            unknown u 0 false (ap (λ (y : Seen). y.known) (sym is)) (ap (λ (y : Seen). y.known_gone) (sym is)),
           ))
           (at_snoc vs k u j e),
     )
+
+-- a pass that is spent fits, and one that only has news of what was put
+spent_fits : (s : State) (port : ℕ) → Fits s port spent_side
+spent_fits s port = ((λ p. absurd (true≢false (sym p))), (λ p. absurd (true≢false (sym p))), unknown spent_side s.put s.gone_put refl refl)
+
+news_fits : (s : State) (port : ℕ) (v : Seen) → v.put ≡ s.put → v.gone_put ≡ s.gone_put → Fits s port (news_of v)
+news_fits s port v many ended = ((λ p. absurd (true≢false (sym p))), (λ p. absurd (true≢false (sym p))), (omega (arith, many), λ e. sym ended ∙ e))
 
 -- both sides in one pass
 pub joins : (port : ℕ) (v : Seen) (other : ℕ) (u : Seen) → v.puts ≡ true → u.takes ≡ true → Merges Tied port v other u (both_sides v u) spent_side
@@ -232,12 +256,30 @@ joins port v other u a b items views h at two at' =
     let theirs = (h.2 other u was).1 b in let n : State = record s { reader = port } in
     let Now : ℕ → Seen → Type 0 = λ j y. j ≢ other → Fits n j y in
     let now : All Now vs =
-    all_set Now views port both (λ _. (mine.0, λ _. (refl, (mine.0 a).1, theirs.2, theirs.3)))
-    (λ j y _ e apart. ((h.2 j y e).0, λ p. absurd (apart (((h.2 j y e).1 p).0 ∙ sym theirs.0)))) in (
+    all_set Now views port both (λ _. (mine.0, (λ _. (refl, (mine.0 a).1, theirs.2, theirs.3)), mine.2))
+    (λ j y _ e apart. ((h.2 j y e).0, (λ p. absurd (apart (((h.2 j y e).1 p).0 ∙ sym theirs.0))), (h.2 j y e).2)) in (
       n,
       record { rests = c.rests; within = c.within; behind = c.behind; last = c.last; after = c.after },
-      all_set (Fits n) vs other spent_side ((λ p. absurd (true≢false (sym p))), λ p. absurd (true≢false (sym p))) (λ j y apart e. now j y e apart),
+      all_set (Fits n) vs other spent_side (spent_fits n other) (λ j y apart e. now j y e apart),
     )
+
+-- news of what was put, from one who puts
+pub tells : (port : ℕ) (v : Seen) → v.puts ≡ true → Forks Tied port v v (news_of v)
+tells port v a items views h at =
+    let s = h.0 in let mine = h.2 port v at in let vs : List Seen = set views port v in
+    let old : All (Fits s) vs = all_set (Fits s) views port v mine (λ j u _ e. h.2 j u e) in (
+      s,
+      h.1,
+      λ j u e. ⊎_elim (λ x. old j u x) (λ (is : news_of v ≡ u). subst (Fits s j) is (news_fits s j v (mine.0 a).2 (mine.0 a).3)) (at_snoc vs (news_of v) u j e),
+    )
+
+-- one who takes hears them
+pub hears : (port : ℕ) (v : Seen) (other : ℕ) (w : Seen) → Merges Tied port v other w (heard v w) spent_side
+hears port v other w items views h at two at' =
+    let s = h.0 in let mine = h.2 port v at in let after : Seen = heard v w in let vs : List Seen = set views port after in
+    let was : get_elem? views other ≡ some w = ⊎_elim (λ x. absurd (two x.0)) (λ x. x.1) (at_set views port other after w at') in
+    let old : All (Fits s) vs = all_set (Fits s) views port after (mine.0, mine.1, (h.2 other w was).2) (λ j u _ e. h.2 j u e) in
+    (s, h.1, all_set (Fits s) vs other spent_side (spent_fits s other) (λ j u _ e. old j u e))
 
 pub settles : (port : ℕ) (v : Seen) → v.puts ≡ true → v.takes ≡ true → Learns Tied port v (Rests v)
 settles port v a b items views h at =
@@ -260,5 +302,6 @@ takes_see port v b items views h at =
       s.gone_put,
       omega arith,
       subst (λ (l : List Parcels). s.put ≤ length l) (sym r.1) c.within,
+      (h.2 port v at).2,
       subst (λ (y : List Parcels × ℕ × Bool). row y.0 s.put s.gone_put ≡ row y.0 y.1 y.2 ++ map carried items) (λ i. (sym r.1 i, sym r.2 i, sym r.3 i)) c.rests,
     )

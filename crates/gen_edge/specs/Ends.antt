@@ -1,5 +1,5 @@
 -- What a clause says of an edge and its two passes.
-use Rattle.std.specs.Prelude.{◌≡◌, ◌≤◌, ℕ, true, length}
+use Rattle.std.specs.Prelude.{◌≡◌, ◌<◌, ◌≤◌, ◌⊎◌, ℕ, true, false, length}
 use Rattle.crossbeam_queue.specs.Fifo.{Held}
 use Rattle.gen_edge.specs.Tied.{PutsSee, TakesSee}
 use Rattle.crossbeam_queue.specs.Passes.{view, IsPassOf, ruled_capacity}
@@ -37,6 +37,10 @@ TakesWithin p = (take_view p).taken ≤ length (take_view p).world
 abbrev pub WasFull : Edge → PutPass → Type 0
 WasFull e p = Held (edge_capacity e) (PutsSee (put_view p))
 
--- at one moment of the call the queue held nothing: all that somebody had put was taken
+-- at one moment of the call the queue held nothing: all that somebody had put, and so all that the pass knew of, was taken
 abbrev pub WasEmpty : TakePass → Type 0
 WasEmpty p = Held 0 (TakesSee (take_view p))
+
+-- the pass knows of a frame that was put and that it did not take, or of the last word
+abbrev pub KnowsOfMore : TakePass → Type 0
+KnowsOfMore p = ((take_view p).taken < (take_view p).known) ⊎ (((take_view p).known_gone ≡ true) × ((take_view p).gone_taken ≡ false))

@@ -7,13 +7,13 @@ use Rattle.gen_edge.specs.declared.rule.Seen.{Seen}
 use Rattle.gen_edge.specs.Frames.{Parcels, Carried, round, gone, carried, row}
 
 abbrev pub unopened : Seen
-unopened = record { puts = true; takes = true; world = []; put = 0; gone_put = false; taken = 0; gone_taken = false }
+unopened = record { puts = true; takes = true; world = []; put = 0; gone_put = false; taken = 0; gone_taken = false; known = 0; known_gone = false }
 
 abbrev pub put_side : List Parcels → ℕ → Bool → Seen
-put_side world n ended = record { puts = true; takes = false; world = world; put = n; gone_put = ended; taken = 0; gone_taken = false }
+put_side world n ended = record { puts = true; takes = false; world = world; put = n; gone_put = ended; taken = 0; gone_taken = false; known = 0; known_gone = false }
 
 abbrev pub take_side : List Parcels → ℕ → Bool → Seen
-take_side world n ended = record { puts = false; takes = true; world = world; put = 0; gone_put = false; taken = n; gone_taken = ended }
+take_side world n ended = record { puts = false; takes = true; world = world; put = 0; gone_put = false; taken = n; gone_taken = ended; known = 0; known_gone = false }
 
 abbrev pub putter : List Parcels → Seen
 putter world = put_side world 0 false
@@ -26,6 +26,17 @@ both_sides v w = record v { takes = true; taken = w.taken; gone_taken = w.gone_t
 
 abbrev pub spent_side : Seen
 spent_side = record unopened { puts = false; takes = false }
+
+-- what one who puts can tell: how much was put
+abbrev pub news_of : Seen → Seen
+news_of v = record spent_side { known = v.put; known_gone = v.gone_put }
+
+abbrev pub heard : Seen → Seen → Seen
+heard v w = record v { known = w.known; known_gone = w.known_gone }
+
+-- one who takes knows of as much as one who puts has put
+abbrev pub after_tell : Seen → Seen → Seen
+after_tell v w = record v { known = w.put; known_gone = w.gone_put }
 
 -- x is the world's frame number n + 1
 abbrev pub IsFrame : List Parcels → ℕ → ℕ → Parcels → Type 0
@@ -61,9 +72,13 @@ Rests v items = row v.world v.put v.gone_put ≡ row v.world v.taken v.gone_take
 abbrev pub PutsSee : Seen → List Frame → Type 0
 PutsSee v items = (taken : ℕ) × (gone_taken : Bool) × (taken ≤ v.put) × (row v.world v.put v.gone_put ≡ row v.world taken gone_taken ++ map carried items)
 
--- what some number of puts put is what was taken, and then what the queue holds
+-- no more is known than was put
+abbrev pub Known : Seen → ℕ → Bool → Type 0
+Known v put gone_put = (v.known ≤ put) × (v.known_gone ≡ true → gone_put ≡ true)
+
+-- what some number of puts put, at least as many as are known, is what was taken, and then what the queue holds
 abbrev pub TakesSee : Seen → List Frame → Type 0
-TakesSee v items = (put : ℕ) × (gone_put : Bool) × (v.taken ≤ put) × (put ≤ length v.world) × (row v.world put gone_put ≡ row v.world v.taken v.gone_taken ++ map carried items)
+TakesSee v items = (put : ℕ) × (gone_put : Bool) × (v.taken ≤ put) × (put ≤ length v.world) × Known v put gone_put × (row v.world put gone_put ≡ row v.world v.taken v.gone_taken ++ map carried items)
 
 pub record State : Type 0 where
   pub writer : ℕ
@@ -78,6 +93,7 @@ abbrev pub Fits : State → ℕ → Seen → Type 0
 Fits s port v =
     (v.puts ≡ true → (port ≡ s.writer) × (v.world ≡ s.world) × (v.put ≡ s.put) × (v.gone_put ≡ s.gone_put))
     × (v.takes ≡ true → (port ≡ s.reader) × (v.world ≡ s.world) × (v.taken ≡ s.taken) × (v.gone_taken ≡ s.gone_taken))
+    × Known v s.put s.gone_put
 
 -- nothing comes after the last word
 pub record Counted (s : State) (items : List Frame) : Type 0 where

@@ -1,12 +1,12 @@
 //! The calls of an edge.
-ghost use Rattle.std.specs.Prelude.{◌≡◌, ◌<◌, ◌≤◌, ◌+◌, ◌++◌, [], None, Ok, map, true, length, IfOk, MatchOption, MatchResult};
+ghost use Rattle.std.specs.Prelude.{◌≡◌, ◌<◌, ◌≤◌, ◌+◌, ◌++◌, [], None, Ok, map, true, length, IfOk, IsSome, MatchOption, MatchResult};
 ghost use Rattle.gen_edge.specs.Frames.{carried, row, edge_frames};
-ghost use Rattle.gen_edge.specs.Tied.{ComesNext, TakesNext, after_put, putter, taker};
-ghost use Rattle.gen_edge.specs.Ends.{IsPutPassOf, IsTakePassOf, put_view, take_view, edge_capacity, PutsWithin, TakesWithin, WasFull, WasEmpty};
+ghost use Rattle.gen_edge.specs.Tied.{ComesNext, TakesNext, after_put, after_tell, putter, taker};
+ghost use Rattle.gen_edge.specs.Ends.{IsPutPassOf, IsTakePassOf, put_view, take_view, edge_capacity, PutsWithin, TakesWithin, WasFull, WasEmpty, KnowsOfMore};
 
 use crate::frames::Frame;
 use crate::passes::{Edge, Left, Line, PutPass, TakePass};
-use crate::rule::{Drains, Ends, Naming, Opens, Puts, Settles, Takes};
+use crate::rule::{Drains, Ends, Hears, Naming, Opens, Puts, Settles, Takes, Tells};
 use crossbeam_utils::sync::{EventCount, Key};
 use gen_types::GeneralNo;
 use gen_world::Scenario;
@@ -65,13 +65,15 @@ impl Edge {
 
     /// Takes what stands first on this edge: the frame of the run behind the last one taken, or the word that no
     /// more comes, behind which nothing comes. It is one step on the queue, which may try again, and takes no
-    /// memory. It answers None only where the queue was empty at one moment of the call.
+    /// memory. It answers None only where the queue was empty at one moment of the call, and never where the pass was
+    /// told of something that it has not taken.
     pub fn try_take<R: Wait>(&self, rt: &R, pass: &mut TakePass) -> Option<Frame>
         requires { IsTakePassOf self.now pass.old }
         ensures pass { IsTakePassOf self.now pass.new }
         ensures rule { MatchOption result
             ((take_view pass.new ≡ take_view pass.old) × WasEmpty pass.old)
             (λ x. TakesNext (take_view pass.old) x (take_view pass.new)) }
+        ensures told { KnowsOfMore pass.old → IsSome result }
         ensures ended { (take_view pass.old).gone_taken ≡ true → result ≡ None }
         ensures within { TakesWithin pass.new }
     {
@@ -89,6 +91,19 @@ impl Edge {
     /// a general who waits sleeps, and no step is missed.
     pub fn prepare_wait(&self) -> Key<'_> {
         self.moved.prepare_wait()
+    }
+
+    /// Tells who takes how much was put, and whether the last word was. Whoever holds both passes, before threads start
+    /// or after they were joined, so makes it known: from then on no take misses what was put until now. It takes no
+    /// memory.
+    pub fn tell(&self, put: &mut PutPass, take: &mut TakePass)
+        requires { IsPutPassOf self.now put.old × IsTakePassOf self.now take.old }
+        ensures passes { IsPutPassOf self.now put.new × IsTakePassOf self.now take.new }
+        ensures put { put_view put.new ≡ put_view put.old }
+        ensures told { take_view take.new ≡ after_tell (take_view take.old) (put_view put.old) }
+    {
+        let news = self.line.another::<Tells>(&mut put.pass);
+        self.line.absorb::<Hears>(&mut take.pass, news);
     }
 
     /// Ends an edge, and returns what is left on it: what was taken followed by what is left is what was put. It

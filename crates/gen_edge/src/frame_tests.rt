@@ -106,6 +106,26 @@ pub(crate) fn take_shape<R: Wait>(rt: &R, edge: &Edge, pass: &mut TakePass) -> O
     Some(shape(&frame))
 }
 
+/// Tells the taker what was put, and takes what comes first where something was put and not taken: no second try is
+/// needed.
+pub(crate) fn take_told<R: Wait>(
+    rt: &R,
+    edge: &Edge,
+    put: &mut PutPass,
+    take: &mut TakePass,
+) -> Option<Shape>
+    requires { IsPutPassOf edge.now put.old × IsTakePassOf edge.now take.old }
+    ensures passes { IsPutPassOf edge.now put.new × IsTakePassOf edge.now take.new }
+    ensures put { put_view put.new ≡ put_view put.old }
+{
+    edge.tell(put, take);
+    if take.taken() < put.put() || put.has_ended() && !take.has_ended() {
+        let frame = edge.try_take(rt, take).unwrap();
+        return Some(shape(&frame));
+    }
+    None
+}
+
 /// The shapes of what is left.
 pub(crate) fn shapes_of(alloc: Global, left: &Left) -> Result<Vec<Shape>, AllocError> {
     let mut shapes = Vec::new(alloc);

@@ -4,7 +4,7 @@ ghost use Rattle.gen_world.specs.Rows.{rows_of};
 ghost use Rattle.gen_edge.specs.Frames.{edge_frames};
 ghost use Rattle.gen_edge.specs.Ends.{IsPutPassOf, IsTakePassOf, put_view};
 
-use crate::frame_tests::{Shape, put_last, put_next, shapes_of, take_shape};
+use crate::frame_tests::{Shape, put_last, put_next, shapes_of, take_shape, take_told};
 use crate::{Edge, PutPass, TakePass};
 use gen_types::GeneralNo;
 use gen_world::{Scenario, WorldRun, run_world};
@@ -34,6 +34,8 @@ pub(crate) enum Step {
     End,
     /// Something is taken.
     Take,
+    /// The taker is told what was put, and takes something where he knows of it.
+    Tell,
 }
 
 impl Lane {
@@ -71,6 +73,11 @@ impl Lane {
         )
     }
 
+    /// Tells the taker, and takes what is known.
+    fn take_told<R: Wait>(&mut self, rt: &R) -> Option<Shape> {
+        take_told(rt, &self.edge, &mut self.put, &mut self.take)
+    }
+
     /// Tries one step after the other. What each put answers, and each take.
     pub(crate) fn try_all<R: Wait>(
         &mut self,
@@ -85,6 +92,7 @@ impl Lane {
                 Step::Put => puts.push(self.put_next(rt, alloc)?)?,
                 Step::End => puts.push(put_last(rt, &self.edge, &mut self.put))?,
                 Step::Take => takes.push(take_shape(rt, &self.edge, &mut self.take))?,
+                Step::Tell => takes.push(self.take_told(rt))?,
             }
         }
         Ok((puts, takes))

@@ -4,7 +4,8 @@ use crossbeam_queue::protocol::{Join, Lesson, Outcome, Protocol, Split};
 use std::collections::LinkedList;
 use std::marker::{Brand, PhantomData};
 
-// What a pass may do, the frames of the world on this edge, and how far it has come. No value of it is made.
+// What a pass may do, the frames of the world on this edge, how far it has come, and how much it knows was put. No value
+// of it is made.
 pub struct Seen {
     pub puts: bool,
     pub takes: bool,
@@ -13,6 +14,8 @@ pub struct Seen {
     pub gone_put: bool,
     pub taken: u64,
     pub gone_taken: bool,
+    pub known: u64,
+    pub known_gone: bool,
 }
 
 pub struct Tie;
@@ -58,6 +61,28 @@ impl Join<Seen> for Ends {
     ghost use Rattle.gen_edge.specs.Tied.{both_sides, spent_side};
 
     ghost both = { both_sides };
+
+    ghost spent = { spent_side };
+}
+
+// Who puts makes news of what was put.
+pub struct Tells;
+
+impl Split<Seen> for Tells {
+    ghost use Rattle.gen_edge.specs.Tied.{news_of};
+
+    ghost left = { λ v. v };
+
+    ghost right = { news_of };
+}
+
+// Who takes hears the news.
+pub struct Hears;
+
+impl Join<Seen> for Hears {
+    ghost use Rattle.gen_edge.specs.Tied.{heard, spent_side};
+
+    ghost both = { heard };
 
     ghost spent = { spent_side };
 }

@@ -87,3 +87,24 @@ fn what_is_left_is_what_was_not_taken(rt: HostRuntime) -> Result<(), Fail> {
     assert!(rt; lane.settle(&rt, alloc)?.as_slice() == [RELAYED, LAST].as_slice());
     Ok(())
 }
+
+#[test]
+fn no_take_misses_what_was_told(rt: HostRuntime) -> Result<(), Fail> {
+    let alloc = rt.alloc();
+    let mut lane = lane_of(alloc, 3)?;
+    let steps = [
+        Step::Tell,
+        Step::Put,
+        Step::Tell,
+        Step::Put,
+        Step::End,
+        Step::Tell,
+        Step::Tell,
+        Step::Tell,
+    ];
+    let (puts, takes) = lane.try_all(&rt, alloc, &steps)?;
+    assert!(rt; puts.as_slice() == [true, true, true].as_slice());
+    assert!(rt; takes.as_slice() == [None, NOTHING, Some(RELAYED), Some(LAST), None].as_slice());
+    assert!(rt; lane.counts() == [(2, true), (2, true)]);
+    Ok(())
+}
