@@ -1,52 +1,46 @@
-//! Calls of an edge that are tried until they do something.
+//! Calls of an edge that are tried until they do something. Between tries a general sleeps until something is put on
+//! the edge or taken from it: with more generals than cores one who looks again and again takes time from those who
+//! work, and nobody acts on an edge without waking who waits for it.
 ghost use Rattle.std.specs.Prelude.{◌≡◌};
 ghost use Rattle.gen_edge.specs.Ends.{IsPutPassOf, IsTakePassOf, put_view, take_view};
 ghost use Rattle.gen_edge.specs.Frames.{carried};
 ghost use Rattle.gen_edge.specs.Tied.{ComesNext, TakesNext, after_put};
 
-use crossbeam_utils::Backoff;
 use gen_edge::{Edge, Frame, PutPass, TakePass};
 use std::sync::Wait;
 
-/// Puts a frame, the next of the run, or the word that no more comes. It tries until the edge has room.
+/// Puts a frame, the next of the run, or the word that no more comes. It tries, and sleeps, until the
+/// edge has room.
 pub(crate) fn put_frame<R: Wait>(rt: &R, edge: &Edge, pass: &mut PutPass, frame: Frame)
     requires pass { IsPutPassOf edge.now pass.old }
     requires next { let v = put_view pass.old in ComesNext v.world v.put v.gone_put (carried frame) }
     ensures pass { IsPutPassOf edge.now pass.new }
     ensures put { put_view pass.new ≡ after_put (put_view pass.old) (carried frame) }
 {
-    let backoff = Backoff::new();
     let mut held = frame;
     for _ in rt.forever() {
-        let sleep = backoff.is_completed().then(|| edge.prepare_wait());
+        let moved = edge.prepare_wait();
         match edge.try_put(rt, pass, held) {
             Ok(()) => return,
             Err(back) => held = back,
         }
-        match sleep {
-            Some(key) => key.wait(rt),
-            None => backoff.snooze(),
-        }
+        moved.wait(rt);
     }
     unreachable!()
 }
 
-/// Takes what stands first on the edge. It tries until something does.
+/// Takes what stands first on the edge. It tries, and sleeps, until something does.
 pub(crate) fn take_frame<R: Wait>(rt: &R, edge: &Edge, pass: &mut TakePass) -> Frame
     requires { IsTakePassOf edge.now pass.old }
     ensures pass { IsTakePassOf edge.now pass.new }
     ensures taken { TakesNext (take_view pass.old) result (take_view pass.new) }
 {
-    let backoff = Backoff::new();
     for _ in rt.forever() {
-        let sleep = backoff.is_completed().then(|| edge.prepare_wait());
+        let moved = edge.prepare_wait();
         if let Some(frame) = edge.try_take(rt, pass) {
             return frame;
         }
-        match sleep {
-            Some(key) => key.wait(rt),
-            None => backoff.snooze(),
-        }
+        moved.wait(rt);
     }
     unreachable!()
 }
