@@ -1,12 +1,12 @@
 //! Chains.
-ghost use Rattle.std.specs.Prelude.{◌≡◌, ◌≢◌, ◌≤◌, AllPairs, length};
+ghost use Rattle.std.specs.Prelude.{◌≡◌, ◌≢◌, ◌≤◌, AllPairs, IfOk, length};
 ghost use Rattle.gen_chain.specs.Chain.{IsSignedChain, signed_path};
 
 use crate::sizes::{GREATEST_ORDER, MOST_SIGNERS};
 use gen_ots::SigRoom;
 use gen_tree::Signature;
 use gen_types::{GeneralNo, OrderNo, Path, TreeHeight};
-use std::alloc::AllocError;
+use std::alloc::{AllocError, Global};
 use std::marker::Model;
 
 /// A general, and his signature.
@@ -73,7 +73,7 @@ impl SignedChain {
     }
 }
 
-/// A copy is equal to its original. It fails only where memory was refused.
+/// A copy is equal to its original, and shares its signatures. It fails only where memory was refused.
 impl Clone for SignedChain {
     ghost is_clone = { λ chain copy. copy ≡ chain };
 
@@ -81,8 +81,7 @@ impl Clone for SignedChain {
         let alloc = *self.signers.allocator();
         let mut signers = Vec::with_capacity(alloc, self.signers.len())?;
         'signers: for signer in &self.signers {
-            let room = SigRoom::new(alloc, self.height)?;
-            signers.push(signer.copy(room))?;
+            signers.push(signer.share(alloc)?)?;
         }
         Ok(SignedChain {
             order: self.order,
@@ -93,6 +92,20 @@ impl Clone for SignedChain {
 }
 
 impl Signer {
+    /// Returns the same signer again, who shares the signature.
+    ///
+    /// # Errors
+    ///
+    /// `AllocError` where memory is refused.
+    pub fn share(&self, alloc: Global) -> Result<Signer, AllocError>
+        ensures { IfOk result (λ signer. signer ≡ self.now) }
+    {
+        Ok(Signer {
+            general: self.general,
+            signature: self.signature.share(alloc)?,
+        })
+    }
+
     /// Returns the same signer again, with his signature in other room.
     pub fn copy(&self, room: SigRoom) -> Signer
         ensures { result ≡ self.now }

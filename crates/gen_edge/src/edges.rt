@@ -65,8 +65,8 @@ impl Edge {
 
     /// Takes what stands first on this edge: the frame of the run behind the last one taken, or the word that no
     /// more comes, behind which nothing comes. It is one step on the queue, which may try again, and takes no
-    /// memory. It answers None only where the queue was empty at one moment of the call, and never where the pass was
-    /// told of something that it has not taken.
+    /// memory. It answers None only where the queue was empty at one moment of the call, and never
+    /// where the pass was told of something that it has not taken.
     pub fn try_take<R: Wait>(&self, rt: &R, pass: &mut TakePass) -> Option<Frame>
         requires { IsTakePassOf self.now pass.old }
         ensures pass { IsTakePassOf self.now pass.new }
@@ -93,9 +93,9 @@ impl Edge {
         self.moved.prepare_wait()
     }
 
-    /// Tells who takes how much was put, and whether the last word was. Whoever holds both passes, before threads start
-    /// or after they were joined, so makes it known: from then on no take misses what was put until now. It takes no
-    /// memory.
+    /// Tells the pass to take how many frames were put until now, and whether the last word was. It
+    /// is for whoever holds both passes, before threads start or after they were joined: from then
+    /// on no take answers None until all of this was taken. It takes no memory.
     pub fn tell(&self, put: &mut PutPass, take: &mut TakePass)
         requires { IsPutPassOf self.now put.old × IsTakePassOf self.now take.old }
         ensures passes { IsPutPassOf self.now put.new × IsTakePassOf self.now take.new }

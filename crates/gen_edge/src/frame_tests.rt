@@ -106,8 +106,8 @@ pub(crate) fn take_shape<R: Wait>(rt: &R, edge: &Edge, pass: &mut TakePass) -> O
     Some(shape(&frame))
 }
 
-/// Tells the taker what was put, and takes what comes first where something was put and not taken: no second try is
-/// needed.
+/// Tells the taker what was put, and takes what comes first where something was put and not taken.
+/// No second try is needed.
 pub(crate) fn take_told<R: Wait>(
     rt: &R,
     edge: &Edge,

@@ -4,8 +4,8 @@ use crossbeam_queue::protocol::{Join, Lesson, Outcome, Protocol, Split};
 use std::collections::LinkedList;
 use std::marker::{Brand, PhantomData};
 
-// What a pass may do, the frames of the world on this edge, how far it has come, and how much it knows was put. No value
-// of it is made.
+// What a pass may do, the frames of the world on this edge, how far it has come, and how much it
+// knows was put. No value of it is made.
 pub struct Seen {
     pub puts: bool,
     pub takes: bool,
