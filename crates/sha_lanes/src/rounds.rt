@@ -74,18 +74,17 @@ fn next_word(words: &[u32x4; ROUNDS], t: usize) -> u32x4
     add(add(near, small_sigma0(words[t - 15])), words[t - 16])
 }
 
-// The words of all rounds, from those of the block.
+// Makes `words` those of all rounds, from those of the block. They stay in the caller's array, since
+// an array that is handed out is copied.
 #[inline(always)]
-fn schedule(block: &[u32x4; BLOCK_WORDS]) -> [u32x4; ROUNDS]
+fn schedule(words: &mut [u32x4; ROUNDS], block: &[u32x4; BLOCK_WORDS])
     ensures { (j : ℕ) → j < 4 → (b : List ℕ) → HasWords j block.now b
-        → lane j result ≡ schedule b 48 }
+        → lane j words.new ≡ schedule b 48 }
 {
-    let mut words = [u32x4::splat(0); ROUNDS];
     words[..BLOCK_WORDS].copy_from_slice(block);
     'next: for t in BLOCK_WORDS..ROUNDS {
-        words[t] = next_word(&words, t);
+        words[t] = next_word(words, t);
     }
-    words
 }
 
 // One round on the working variables.
@@ -135,7 +134,8 @@ pub fn compress(start: [u32x4; 8], block: &[u32x4; BLOCK_WORDS]) -> [u32x4; 8]
     ensures { (j : ℕ) → j < 4 → (b : List ℕ) → HasWords j block.now b
         → state j result ≡ compress (state j start) b }
 {
-    let words = schedule(block);
+    let mut words = [u32x4::splat(0); ROUNDS];
+    schedule(&mut words, block);
     let mut v = start;
     'rounds: for turn in 0..ROUNDS / 8 {
         v = eight_rounds(&words, v, 8 * turn);

@@ -11,7 +11,7 @@ rounds-init c j below = refl
 pub rounds-preserved : goal.rounds-preserved
 rounds-preserved c j below =
     let h = state j c.args.start in
-    let w = lane j c.schedule-words.result in
+    let w = lane j c.schedule.new.words in
     rounds_at h w _ _ _ (omega arith) (c.eight_rounds-v.ensures j below h (c.rounds.invariant j below))
 
 pub returns : goal.returns
@@ -20,7 +20,7 @@ returns c j below b words =
     let h = state j c.args.start in
     let all : 8 * c.rounds.turn ≡ 64 = omega arith in
     let done = rw all at (c.rounds.invariant j below) in
-    let scheduled = c.schedule-words.ensures j below b words in
+    let scheduled = c.schedule.ensures j below b words in
     rw (
       c.add.ensures j below,
       c.add-2.ensures j below,

@@ -1,4 +1,4 @@
-use Rattle.std.proofs.Common.{◌≡◌, ℕ, List, [], length, length-append, replicate, slice_index_or, ap, ◌∙◌, arith}
+use Rattle.std.proofs.Common.{◌≡◌, ℕ, List, [], length, length-append, length-drop, drop, slice_index_or, ap, ◌∙◌, arith}
 use Rattle.std.proofs.lemmas.List.{get_or_append_left, length-set}
 use Rattle.sha_lanes.proofs.Scheduled.{scheduled_first, scheduled_more, scheduled_all}
 use Rattle.sha_lanes.proofs.rounds.schedule.Goals as goal
@@ -6,10 +6,10 @@ use Rattle.sha_lanes.proofs.rounds.schedule.Goals as goal
 pub next-init : goal.next-init
 next-init c =
     let front = c.copy_from_slice.new.self in
-    let rest = replicate 48 (replicate 4 0) in
+    let rest = drop 16 c.args.words.now in
     let copied : front ≡ c.args.block.now = c.copy_from_slice.ensures.after in
     let len : length front ≡ 16 = ap length copied ∙ c.told-block in (
-      omega (arith, length-append front rest),
+      omega (arith, length-append front rest, length-drop 16 c.args.words.now, c.told-words),
       λ j below b words.
           scheduled_first j b c.args.block.now _ words (λ i lt.
           get_or_append_left front rest [] i (omega arith)
