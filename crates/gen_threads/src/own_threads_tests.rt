@@ -60,10 +60,12 @@ pub(crate) fn make_ready(
     passes: Passes,
 ) -> Result<Ready, Fail>
     requires general { general < scenario.now.net.generals }
-    requires passes { HaveCarried edges.now scenario.now 0 general passes.puts.items passes.takes.items }
+    requires passes { HaveCarried edges.now scenario.now 0 general
+        passes.puts.items passes.takes.items }
     ensures ring { IfOk result (λ r. MayRunWith scenario.now general r.ring) }
     ensures passes { IfOk result
-        (λ r. HaveCarried edges.now scenario.now 0 general r.passes.puts.items r.passes.takes.items) }
+        (λ r. HaveCarried edges.now scenario.now 0 general
+        r.passes.puts.items r.passes.takes.items) }
 {
     let ring = ring_of(scenario, general)?;
     Ok(Ready { ring, passes })
@@ -87,7 +89,8 @@ pub(crate) fn run_ready<R: Wait, G: Gate>(
     run_general(rt, alloc, gate, part, ring, edges, puts, takes)
 }
 
-/// Starts a thread for each of two generals. How they end, or None where no thread could be started.
+/// Starts a thread for each of two generals. How they end, or None where the first could not be
+/// started; the second runs here where his could not.
 fn run_two<R: Threads + Wait + Sync, G: Gate + Sync>(
     rt: &R,
     alloc: Global,
@@ -98,9 +101,11 @@ fn run_two<R: Threads + Wait + Sync, G: Gate + Sync>(
     right: Ready,
 ) -> Option<[GeneralEnd; 2]>
     requires left { MayRunWith parts.0.now.scenario parts.0.now.me left.ring
-        × HaveCarried edges.now parts.0.now.scenario 0 parts.0.now.me left.passes.puts.items left.passes.takes.items }
+        × HaveCarried edges.now parts.0.now.scenario 0 parts.0.now.me
+        left.passes.puts.items left.passes.takes.items }
     requires right { MayRunWith parts.1.now.scenario parts.1.now.me right.ring
-        × HaveCarried edges.now parts.1.now.scenario 0 parts.1.now.me right.passes.puts.items right.passes.takes.items }
+        × HaveCarried edges.now parts.1.now.scenario 0 parts.1.now.me
+        right.passes.puts.items right.passes.takes.items }
 {
     let (one, other) = parts;
     thread::scope(
@@ -108,14 +113,17 @@ fn run_two<R: Threads + Wait + Sync, G: Gate + Sync>(
         rt,
         move |scope| -> Option<[GeneralEnd; 2]>
             requires { MayRunWith one.now.scenario one.now.me left.ring
-                × HaveCarried edges.now one.now.scenario 0 one.now.me left.passes.puts.items left.passes.takes.items
+                × HaveCarried edges.now one.now.scenario 0 one.now.me
+                left.passes.puts.items left.passes.takes.items
                 × MayRunWith other.now.scenario other.now.me right.ring
-                × HaveCarried edges.now other.now.scenario 0 other.now.me right.passes.puts.items right.passes.takes.items }
+                × HaveCarried edges.now other.now.scenario 0 other.now.me
+                right.passes.puts.items right.passes.takes.items }
         {
             let Ok(first) = scope.spawn(
                 move || -> GeneralEnd
                     requires { MayRunWith one.now.scenario one.now.me left.ring
-                        × HaveCarried edges.now one.now.scenario 0 one.now.me left.passes.puts.items left.passes.takes.items }
+                        × HaveCarried edges.now one.now.scenario 0 one.now.me
+                        left.passes.puts.items left.passes.takes.items }
                 { run_ready(rt, alloc, gate, one, edges, left) },
             ) else {
                 return None;
@@ -123,7 +131,8 @@ fn run_two<R: Threads + Wait + Sync, G: Gate + Sync>(
             let second = match scope.spawn(
                 move || -> GeneralEnd
                     requires { MayRunWith other.now.scenario other.now.me right.ring
-                        × HaveCarried edges.now other.now.scenario 0 other.now.me right.passes.puts.items right.passes.takes.items }
+                        × HaveCarried edges.now other.now.scenario 0 other.now.me
+                        right.passes.puts.items right.passes.takes.items }
                 { run_ready(rt, alloc, gate, other, edges, right) },
             ) {
                 Ok(second) => second.join(rt),
