@@ -24,4 +24,6 @@ pub use running::run_general;
 pub use together::run_threads;
 
 #[cfg(test)]
+mod own_threads_tests;
+#[cfg(test)]
 mod tests;

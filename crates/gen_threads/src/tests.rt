@@ -34,9 +34,24 @@ fn is_set_within(flag: &AtomicBool, times: u32) -> bool {
 
 /// A gate at which generals 0 and 1, before round 1, wait for each other.
 #[derive(Drop)]
-struct Meeting {
+pub(crate) struct Meeting {
     here: [AtomicBool; 2],
     met: [AtomicBool; 2],
+}
+
+impl Meeting {
+    /// The gate at which nobody was yet.
+    pub(crate) fn new() -> Meeting {
+        Meeting {
+            here: [AtomicBool::new(false), AtomicBool::new(false)],
+            met: [AtomicBool::new(false), AtomicBool::new(false)],
+        }
+    }
+
+    /// Whether each saw that the other was there.
+    pub(crate) fn has_met(&self) -> bool {
+        self.met[0].load(Ordering::SeqCst) && self.met[1].load(Ordering::SeqCst)
+    }
 }
 
 impl Gate for Meeting {
@@ -83,7 +98,7 @@ fn without_scripts(
 }
 
 /// Two generals who are neighbours.
-fn pair(alloc: Global) -> Result<Scenario, Fail> {
+pub(crate) fn pair(alloc: Global) -> Result<Scenario, Fail> {
     without_scripts(alloc, 2, &[(0, 1)], (0, 1))
 }
 
@@ -100,7 +115,7 @@ fn are_of_run(alloc: Global, scenario: &Scenario, logs: &[SealedLog]) -> Result<
 }
 
 /// Whether two logs are the same general's and have the same bytes.
-fn is_same(a: &SealedLog, b: &SealedLog) -> bool {
+pub(crate) fn is_same(a: &SealedLog, b: &SealedLog) -> bool {
     a.general() == b.general() && a.bytes() == b.bytes()
 }
 
@@ -188,13 +203,9 @@ fn logs_of_a_line(rt: HostRuntime) -> Result<(), Fail> {
 #[test]
 fn generals_run_at_once(rt: HostRuntime) -> Result<(), Fail> {
     let scenario = pair(rt.alloc())?;
-    let gate = Meeting {
-        here: [AtomicBool::new(false), AtomicBool::new(false)],
-        met: [AtomicBool::new(false), AtomicBool::new(false)],
-    };
+    let gate = Meeting::new();
     let logs = run_threads(&rt, rt.alloc(), &scenario, 1, &gate)?;
-    let met = gate.met[0].load(Ordering::SeqCst) && gate.met[1].load(Ordering::SeqCst);
-    assert!(rt; met && are_of_run(rt.alloc(), &scenario, logs.as_slice())?);
+    assert!(rt; gate.has_met() && are_of_run(rt.alloc(), &scenario, logs.as_slice())?);
     Ok(())
 }
 

@@ -198,14 +198,19 @@ fn text_with(alloc: Global, bytes: &[u8]) -> Result<Vec<u8>, Fail> {
     Ok(text)
 }
 
-/// The exhibits of 0, 1 and 2 in the run with the stolen key, and its header.
-fn stolen_run(alloc: Global) -> Result<(Header, Vec<Exhibit>), Fail> {
+/// The text of the scenario in which general 3 sends the chain of the stolen key.
+pub fn stolen_text(alloc: Global) -> Result<Vec<u8>, Fail> {
     let no_bytes = text_with(alloc, &[0])?;
     let header = scenario_of(alloc, &no_bytes)?.header().clone()?;
-    let text = text_with(alloc, stolen_chain(alloc, &header)?.as_slice())?;
-    let shown = exhibits_of(alloc, &scenario_of(alloc, &text)?)?;
+    text_with(alloc, stolen_chain(alloc, &header)?.as_slice())
+}
+
+/// The exhibits of 0, 1 and 2 in the run with the stolen key, and its header.
+fn stolen_run(alloc: Global) -> Result<(Header, Vec<Exhibit>), Fail> {
+    let scenario = scenario_of(alloc, &stolen_text(alloc)?)?;
+    let shown = exhibits_of(alloc, &scenario)?;
     let exhibits = exhibits_below(alloc, shown, 3, Vec::new(alloc))?;
-    Ok((header, exhibits))
+    Ok((scenario.header().clone()?, exhibits))
 }
 
 /// The general 3 alone.
@@ -213,18 +218,26 @@ fn the_thief() -> GeneralSet {
     GeneralSet::from_bits(8)
 }
 
+/// The bundle of the stolen key: general 3, who is held for faulty, shows nothing.
+pub fn stolen_bundle(alloc: Global) -> Result<Vec<u8>, Fail> {
+    let (header, exhibits) = stolen_run(alloc)?;
+    bundle_with(alloc, header, the_thief(), exhibits)
+}
+
+/// Whether the verdict is that on the bundle of the stolen key.
+pub fn is_of_stolen_key(alloc: Global, bundle: &[u8]) -> bool {
+    is_no(
+        alloc,
+        bundle,
+        b"verdict no\nN9 from 3 to 2 round 2 order 0\nconvicted 0 by K2\nend\n",
+    )
+}
+
 #[test]
 fn a_key_may_be_stolen(rt: HostRuntime) -> Result<(), Fail> {
     let alloc = rt.alloc();
-    let (header, exhibits) = stolen_run(alloc)?;
-    let bundle = bundle_with(alloc, header, the_thief(), exhibits)?;
-    assert!(rt;
-        is_no(
-            alloc,
-            &bundle,
-            b"verdict no\nN9 from 3 to 2 round 2 order 0\nconvicted 0 by K2\nend\n"
-        )
-    );
+    let bundle = stolen_bundle(alloc)?;
+    assert!(rt; is_of_stolen_key(alloc, &bundle));
     Ok(())
 }
 

@@ -1,5 +1,6 @@
 //! The job `run`: it writes the bundle of the scenario's run, whatever edges hold.
 use crate::audit_tests::bundle_of;
+use crate::disputed_tests::{is_of_stolen_key, stolen_bundle, stolen_text};
 use crate::ends::{JobEnd, JobFault};
 use crate::running::run_engine;
 use crate::tests::{Slip, sink_for, source_of};
@@ -102,6 +103,30 @@ fn bundles_are_of_the_run(rt: HostRuntime) -> Result<(), Fail> {
 fn bundles_are_of_the_run_with_room(rt: HostRuntime) -> Result<(), Fail> {
     let wrong = first_wrong(&rt, rt.alloc(), &RUNS[..4], 16)?;
     assert_eq!(rt; wrong, None);
+    Ok(())
+}
+
+/// Where the bundle of the stolen key says how many exhibits it shows.
+const COUNT: usize = 163;
+
+/// The bundle of four exhibits without the last of them, of which so many bytes are left.
+fn without_last(bundle: Vec<u8>, len: usize) -> Vec<u8> {
+    let mut left = bundle;
+    left.truncate(len);
+    if let Some(count) = left.get_mut(COUNT) {
+        *count = count.saturating_sub(1);
+    }
+    left
+}
+
+#[test]
+fn bundle_of_a_stolen_key(rt: HostRuntime) -> Result<(), Fail> {
+    let alloc = rt.alloc();
+    let (end, bundle) = run_on(&rt, alloc, &stolen_text(alloc)?, 1);
+    let wanted = stolen_bundle(alloc)?;
+    let left = without_last(bundle, wanted.len());
+    assert!(rt; end == JobEnd::Done && left.as_slice() == wanted.as_slice());
+    assert!(rt; is_of_stolen_key(alloc, &left));
     Ok(())
 }
 
