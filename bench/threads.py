@@ -98,14 +98,34 @@ def refused(text):
         print(f"{kind}: {len(numbers)}, the first {numbers[0]}, the last {numbers[-1]}")
 
 
+def busy(program, cores):
+    """The mean time of each kernel in nanoseconds where so many processes run at once, the least of several runs."""
+    times = {}
+    for _ in range(RUNS):
+        together = [subprocess.Popen([program], stdout=subprocess.PIPE, text=True) for _ in range(cores)]
+        sums = {}
+        for one in together:
+            for name, taken in (line.split() for line in one.communicate()[0].splitlines()):
+                sums[name] = sums.get(name, 0) + int(taken)
+        for name, taken in sums.items():
+            times[name] = min(taken / cores, times.get(name, taken / cores))
+    return times
+
+
+def spread(kernels, size):
+    """What a run needs in milliseconds that can be spread over cores: each lieutenant verifies the commander's order and what
+    14 others made of it, each general signs it and a head, and each log is hashed once for its links."""
+    block = kernels["sha2_blocks"] / 12334
+    return (15 * 15 * kernels["verify"] + 32 * kernels["sign"] + size / 64 * block) / 1e6
+
+
 def timed(text):
     """The least time of a run, beside what it needs, and its peak memory."""
-    with tempfile.TemporaryDirectory() as scratch:
-        kernels = least(built(scratch, "keys.txt", KEY_CRATES, KEYS_ON))
-    ring, verify, sign = (kernels[name] / 1e6 for name in ("ring", "verify", "sign"))
-    block = kernels["sha2_blocks"] / 12334 / 1e6
-    best, peak, size = None, 0, 0
     cores = min(4, len(os.sched_getaffinity(0)))
+    with tempfile.TemporaryDirectory() as scratch:
+        program = built(scratch, "keys.txt", KEY_CRATES, KEYS_ON)
+        alone, together = least(program), busy(program, cores)
+    best, peak, size = None, 0, 0
     for _ in range(RUNS):
         with tempfile.TemporaryFile() as given, tempfile.TemporaryFile() as written:
             given.write(text)
@@ -120,11 +140,10 @@ def timed(text):
         if child.returncode != 0:
             sys.exit(f"status {child.returncode} where 0 was expected")
         best, peak = taken if best is None else min(best, taken), max(peak, used.ru_maxrss / 1024)
-    # Each lieutenant verifies the commander's order and what 14 others made of it, each general signs it and a head, and each
-    # log is hashed once for its links.
-    spread = 15 * 15 * verify + 32 * sign + size / 64 * block
-    needs = 16 * ring + spread / cores
-    print(f"{taken_line(best, needs)}   {peak:.1f} MiB, of which the bundle is {size / (1 << 20):.1f} (goal: 64 more)")
+    trees = 16 * alone["ring"] / 1e6
+    for name, kernels in (("cores as fast together as alone", alone), (f"{cores} cores at once", together)):
+        print(f"{name}: {taken_line(best, trees + spread(kernels, size) / cores)}")
+    print(f"{peak:.1f} MiB, of which the bundle is {size / (1 << 20):.1f} (goal: 64 more)")
 
 
 def taken_line(taken, needs):

@@ -1,8 +1,10 @@
 //! The decisions in the run of a scenario, of which nothing else is kept.
 ghost use Rattle.std.specs.Prelude.{◌≡◌, ◌≢◌, ◌<◌, ◌+◌, ◌++◌, [], ◌∷◌, ℕ, length, slice_index_or, IfOk, OnOk};
 ghost use Rattle.std.specs.List.{range_with_len};
+ghost use Rattle.gen_chain.specs.Store.{Serves};
 ghost use Rattle.gen_net.specs.Network.{rounds};
 ghost use Rattle.gen_world.specs.Deciding.{decisions_of};
+ghost use Rattle.gen_world.specs.Scenario.{header_of};
 ghost use Rattle.gen_world.specs.Seat.{Seat};
 ghost use Rattle.gen_world.specs.SignedLaw.{IsBounded, AreAlike};
 ghost use Rattle.gen_world.specs.SeatLaws.{IsIn};
@@ -13,6 +15,7 @@ use crate::participants::Participant;
 use crate::scenario::Decision;
 use crate::signed::Scenario;
 use crate::world::{close_ring, ring_for};
+use gen_chain::VerifyStore;
 use gen_types::GeneralNo;
 use std::alloc::{AllocError, Global};
 
@@ -80,7 +83,8 @@ fn begin_all(
     Ok(())
 }
 
-/// The frame from one general to another is made and heard, where they are neighbours.
+/// The frame from one general to another is made and heard, where they are neighbours. What one of them verified
+/// no other verifies again.
 fn hear_one(
     alloc: Global,
     scenario: &Scenario,
@@ -88,24 +92,27 @@ fn hear_one(
     parts: &mut Vec<Participant>,
     from: GeneralNo,
     to: GeneralNo,
+    store: &mut VerifyStore,
 ) -> Result<(), AllocError>
     requires gone { gone < rounds scenario.now.net }
     requires from { from < scenario.now.net.generals }
     requires to { to < scenario.now.net.generals }
     requires all { AllAre (IsIn scenario.now gone) scenario.now.net.generals parts.old.items }
+    requires serves { Serves (header_of scenario.now) store.old }
     ensures all { OnOk result (AllAre (IsIn scenario.now gone) scenario.now.net.generals parts.new.items) }
     ensures heard { OnOk result ((d : Seat) → (slice_index_or parts.new.items to d).heard
         ≡ (slice_index_or parts.old.items to d).heard
         ++ hears_of scenario.now gone to (near_of scenario.now.net to (from ∷ []))) }
     ensures others { OnOk result ((g : ℕ) (d : Seat) → g ≢ to
         → slice_index_or parts.new.items g d ≡ slice_index_or parts.old.items g d) }
+    ensures serves { Serves (header_of scenario.now) store.new }
 {
     let _rounds = scenario.header().net().rounds();
     if !scenario.header().net().has_edge(to, from) {
         return Ok(());
     }
     let parcels = parts[usize::from(from.get())].frame_for(alloc, to)?;
-    parts[usize::from(to.get())].hear(alloc, from, parcels.as_slice())?;
+    parts[usize::from(to.get())].hear_with(alloc, from, parcels.as_slice(), store)?;
     Ok(())
 }
 
@@ -116,20 +123,23 @@ fn hear_all_of(
     gone: u8,
     parts: &mut Vec<Participant>,
     to: GeneralNo,
+    store: &mut VerifyStore,
 ) -> Result<(), AllocError>
     requires gone { gone < rounds scenario.now.net }
     requires to { to < scenario.now.net.generals }
     requires all { AllAre (IsIn scenario.now gone) scenario.now.net.generals parts.old.items }
+    requires serves { Serves (header_of scenario.now) store.old }
     ensures all { OnOk result (AllAre (IsIn scenario.now gone) scenario.now.net.generals parts.new.items) }
     ensures heard { OnOk result ((d : Seat) → (slice_index_or parts.new.items to d).heard
         ≡ (slice_index_or parts.old.items to d).heard ++ hears_of scenario.now gone to
         (near_of scenario.now.net to (range_with_len 0 scenario.now.net.generals))) }
     ensures others { OnOk result ((g : ℕ) (d : Seat) → g ≢ to
         → slice_index_or parts.new.items g d ≡ slice_index_or parts.old.items g d) }
+    ensures serves { Serves (header_of scenario.now) store.new }
 {
     'senders: for number in 0..scenario.header().net().generals() {
         let from = GeneralNo::at(number);
-        hear_one(alloc, scenario, gone, parts, from, to)?;
+        hear_one(alloc, scenario, gone, parts, from, to, store)?;
     }
     Ok(())
 }
@@ -140,14 +150,17 @@ fn hear_all(
     scenario: &Scenario,
     gone: u8,
     parts: &mut Vec<Participant>,
+    store: &mut VerifyStore,
 ) -> Result<(), AllocError>
     requires gone { gone < rounds scenario.now.net }
     requires all { AllBegun scenario.now gone parts.old.items }
+    requires serves { Serves (header_of scenario.now) store.old }
     ensures all { OnOk result (AllStand scenario.now (gone + 1) parts.new.items) }
+    ensures serves { Serves (header_of scenario.now) store.new }
 {
     'receivers: for number in 0..scenario.header().net().generals() {
         let to = GeneralNo::at(number);
-        hear_all_of(alloc, scenario, gone, parts, to)?;
+        hear_all_of(alloc, scenario, gone, parts, to, store)?;
     }
     Ok(())
 }
@@ -193,16 +206,18 @@ fn decide_rounds(
     requires { parts.old.items ≡ [] }
     ensures { IfOk result (λ decisions. decisions.items ≡ decisions_of scenario.now) }
 {
+    let mut store = VerifyStore::new(alloc)?;
     make_all(alloc, scenario, parts)?;
     'rounds: for gone in 0..scenario.header().net().rounds() {
         begin_all(alloc, scenario, gone, parts)?;
-        hear_all(alloc, scenario, gone, parts)?;
+        hear_all(alloc, scenario, gone, parts, &mut store)?;
     }
     decide_all(alloc, scenario, parts.as_slice())
 }
 
 /// Returns what all decide in the run of a scenario who have no scripts, in ascending order of generals. No log
-/// is kept, and each frame is let go once it was heard. All rings are closed, also where memory is refused.
+/// is kept, and each frame is let go once it was heard. One store keeps the verifications of all, so each signature
+/// of a statement is verified once. All rings are closed, also where memory is refused.
 ///
 /// # Errors
 ///

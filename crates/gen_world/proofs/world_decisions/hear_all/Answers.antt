@@ -7,6 +7,7 @@ receivers-init c = record {
   all = record { count = c.requires.all.count; each = λ g d below. (c.requires.all.each g d below).0 };
   done = λ g d none. absurd (omega (arith, none));
   rest = λ g d above below. (c.requires.all.each g d below).1;
+  serves = c.requires.serves;
 }
 
 pub receivers-preserved : goal.receivers-preserved
@@ -21,4 +22,5 @@ receivers-preserved c =
       all = c.in_ok-hear_all_of.ensures.all;
       done = receivers_done s k n c.receivers.parts.items c.hear_all_of.new.parts.items known c.receivers.invariant.done c.receivers.invariant.rest e others;
       rest = receivers_rest s k n c.receivers.parts.items c.hear_all_of.new.parts.items c.receivers.invariant.rest others;
+      serves = c.in_ok-hear_all_of.ensures.serves;
     }

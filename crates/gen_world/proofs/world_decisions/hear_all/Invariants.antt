@@ -1,5 +1,7 @@
 use Rattle.std.proofs.Common.{◌≡◌, ◌+◌, ◌≤◌, ◌<◌, ℕ, slice_index_or}
 use Rattle.gen_world.specs.SignedWorld.{heard_by}
+use Rattle.gen_chain.specs.Store.{Serves}
+use Rattle.gen_world.specs.Scenario.{header_of}
 use Rattle.gen_world.specs.Seat.{Seat}
 use Rattle.gen_world.specs.SeatLaws.{IsIn}
 use Rattle.gen_world.specs.Loops.Worlds.{AllAre}
@@ -10,4 +12,5 @@ invariant-receivers l = record {
   all : AllAre (IsIn l.scenario l.gone) l.scenario.net.generals l.parts.items;
   done : (g : ℕ) (d : Seat) → g < l.number → (slice_index_or l.parts.items g d).heard ≡ heard_by l.scenario (l.gone + 1) g;
   rest : (g : ℕ) (d : Seat) → l.number ≤ g → g < l.scenario.net.generals → (slice_index_or l.parts.items g d).heard ≡ heard_by l.scenario l.gone g;
+  serves : Serves (header_of l.scenario) l.store;
 }

@@ -14,4 +14,5 @@ senders-preserved c =
       all = c.in_ok-hear_one.ensures.all;
       heard = λ d. grows _ _ _ _ _ _ (heard d) (c.senders.invariant.heard d) (hears_more s k to n);
       others = λ g d ne. c.in_ok-hear_one.ensures.others g d ne ∙ c.senders.invariant.others g d ne;
+      serves = c.in_ok-hear_one.ensures.serves;
     }

@@ -1,5 +1,7 @@
 use Rattle.std.proofs.Common.{◌≡◌, ◌≢◌, ◌++◌, ℕ, slice_index_or}
 use Rattle.std.specs.List.{range_with_len}
+use Rattle.gen_chain.specs.Store.{Serves}
+use Rattle.gen_world.specs.Scenario.{header_of}
 use Rattle.gen_world.specs.Seat.{Seat}
 use Rattle.gen_world.specs.SeatLaws.{IsIn}
 use Rattle.gen_world.specs.Loops.Worlds.{AllAre, near_of, hears_of}
@@ -10,4 +12,5 @@ invariant-senders l = record {
   all : AllAre (IsIn l.scenario l.gone) l.scenario.net.generals l.parts.items;
   heard : (d : Seat) → (slice_index_or l.parts.items l.to d).heard ≡ (slice_index_or l.initial.parts.items l.to d).heard ++ hears_of l.scenario l.gone l.to (near_of l.scenario.net l.to (range_with_len 0 l.number));
   others : (g : ℕ) (d : Seat) → g ≢ l.to → slice_index_or l.parts.items g d ≡ slice_index_or l.initial.parts.items g d;
+  serves : Serves (header_of l.scenario) l.store;
 }

@@ -29,8 +29,8 @@ returns-clause-heard c =
     let pf : c.index.result.now ≡ slice_index_or ps c.args.from c.index.result.now = rw j at c.index.ensures in
     let is = subst (λ (x : Seat). IsIn s c.args.gone c.args.to x) (sym p) (c.requires.all.each c.args.to c.index_mut.result.now c.requires.to) in
     let by = subst (λ (x : Seat). IsIn s c.args.gone c.args.from x) (sym pf) (c.requires.all.each c.args.from c.index.result.now c.requires.from) in
-    let hd = rw c.as_slice.ensures.value at c.in_ok-hear.ensures.ok in
-    let one = hear_near s c.args.gone c.args.from c.args.to c.index_mut.result.now c.index.result.now c.hear.new.self _ near is by c.in_ok-parcels.ensures hd in
+    let hd = rw c.as_slice.ensures.value at c.in_ok-hear_with.ensures.ok in
+    let one = hear_near s c.args.gone c.args.from c.args.to c.index_mut.result.now c.index.result.now c.hear_with.new.self _ near is by c.in_ok-parcels.ensures hd in
     let within : c.from-2.result < length ps = omega (arith, i, c.requires.to, c.requires.all.count) in
-    λ d. ap (λ (x : Seat). x.heard) (at_same ps c.from-2.result c.args.to c.hear.new.self d within (sym i)) ∙ one
+    λ d. ap (λ (x : Seat). x.heard) (at_same ps c.from-2.result c.args.to c.hear_with.new.self d within (sym i)) ∙ one
     ∙ ap (λ (x : Seat). x.heard ++ hears_of s c.args.gone c.args.to (near_of s.net c.args.to (c.args.from ∷ []))) (p ∙ get_or_default ps c.args.to c.index_mut.result.now d (omega (arith, c.requires.to, c.requires.all.count)))
