@@ -80,3 +80,20 @@ fn frames_by_sender_and_receiver(rt: HostRuntime) -> Result<(), Fail> {
     assert!(rt; run.into_logs().len() == 3);
     Ok(())
 }
+
+/// Whether decisions alone are those of the run.
+fn decides_alike(alloc: Global, scenario: &Scenario) -> Result<bool, Fail> {
+    let run = run_world(alloc, scenario)?;
+    let decisions = decide_world(alloc, scenario)?;
+    Ok(decisions.as_slice() == run.decisions())
+}
+
+#[test]
+fn decisions_alone_are_those_of_the_run(rt: HostRuntime) -> Result<(), Fail> {
+    let alloc = rt.alloc();
+    let line = without_scripts(alloc, 3, &[(0, 1), (1, 2)], (0, 2))?;
+    assert!(rt; decides_alike(alloc, &line)?);
+    let scripted = scenario_with(alloc, ("make 2 2 1 0,1", "twohead"))?;
+    assert!(rt; decides_alike(alloc, &scripted)?);
+    Ok(())
+}
