@@ -57,8 +57,8 @@ WITHOUT_SHA = {"OPENSSL_ia32cap": ":~0x20000000"}
 RUNS = 10
 
 
-def built(scratch, source, crates, stands_on):
-    """The path of the program, built in a scratch repository."""
+def built(scratch, source, crates, stands_on, proofs=()):
+    """The path of the program, built in a scratch repository, with these files, each a path and a source, as its proofs."""
     with open(os.path.join(TOP, "crates.txt")) as listed:
         lines = [line for line in listed if line.split(":")[0] in crates]
     for name in crates:
@@ -66,6 +66,10 @@ def built(scratch, source, crates, stands_on):
     speed = os.path.join(scratch, "crates", "speed")
     os.makedirs(os.path.join(speed, "src"))
     shutil.copy(os.path.join(TOP, "bench", source), os.path.join(speed, "src", "main.rt"))
+    for path, proof in proofs:
+        target = os.path.join(speed, "proofs", path)
+        os.makedirs(os.path.dirname(target))
+        shutil.copy(os.path.join(TOP, "bench", proof), target)
     shutil.copy(os.path.join(TOP, "HANDLES"), scratch)
     with open(os.path.join(scratch, "crates.txt"), "w") as listed:
         listed.write("".join(lines) + f"speed: {stands_on}\n")

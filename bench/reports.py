@@ -14,13 +14,14 @@ from kernels import KEY_CRATES, KEYS_ON, built, least
 from signed import signed
 
 REPORTS_ON = "gen_report gen_local gen_world gen_log gen_chain gen_net anyhow"
+MEASURE = ("+report_each/Invariants.antt", "reports.antt")
 RUNS = 5
 
 
 def reports_program(scratch):
     """The program, built. Building runs it once, without a scenario, which it refuses."""
     try:
-        return built(scratch, "reports.txt", all_crates(), REPORTS_ON)
+        return built(scratch, "reports.txt", all_crates(), REPORTS_ON, [MEASURE])
     except subprocess.CalledProcessError:
         program = os.path.join(scratch, "crates", "speed", "out", "speed")
         if not os.path.exists(program):
