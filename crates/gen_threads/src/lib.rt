@@ -24,6 +24,8 @@ pub use running::run_general;
 pub use together::run_threads;
 
 #[cfg(test)]
+mod early_end_tests;
+#[cfg(test)]
 mod own_threads_tests;
 #[cfg(test)]
 mod tests;

@@ -16,7 +16,7 @@ use std::thread::Threads;
 
 /// A gate at which nobody waits.
 #[derive(Drop)]
-struct Open;
+pub(crate) struct Open;
 
 impl Gate for Open {
     fn before_round(&self, _general: GeneralNo, _round: u8) {}
@@ -103,7 +103,7 @@ pub(crate) fn pair(alloc: Global) -> Result<Scenario, Fail> {
 }
 
 /// Four generals in a line.
-fn line(alloc: Global) -> Result<Scenario, Fail> {
+pub(crate) fn line(alloc: Global) -> Result<Scenario, Fail> {
     without_scripts(alloc, 4, &[(0, 1), (1, 2), (2, 3)], (0, 3))
 }
 
