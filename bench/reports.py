@@ -14,7 +14,7 @@ from kernels import KEY_CRATES, KEYS_ON, built, least
 from signed import signed
 
 REPORTS_ON = "gen_report gen_local gen_world gen_log gen_chain gen_net anyhow"
-MEASURE = ("+report_each/Invariants.antt", "reports.antt")
+MEASURE = ("+report_each/Invariants.antt", "reports_measure.txt")
 RUNS = 5
 
 
