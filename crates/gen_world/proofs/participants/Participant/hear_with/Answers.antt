@@ -1,6 +1,5 @@
 use Rattle.std.proofs.Common.{◌∙◌, ap, subst, sym}
 use Rattle.gen_chain.specs.Store.{Serves}
-use Rattle.gen_world.specs.Loops.Roles.{IsSeat}
 use Rattle.gen_world.specs.Seat.{Seat}
 use Rattle.gen_world.proofs.Seats.{seat_heard}
 use Rattle.gen_world.proofs.participants.Participant.hear_with.Goals as goal
