@@ -70,7 +70,9 @@ Rests v items = row v.world v.put v.gone_put ≡ row v.world v.taken v.gone_take
 
 -- what was put is what some number of takes took, and then what the queue holds
 abbrev pub PutsSee : Seen → List Frame → Type 0
-PutsSee v items = (taken : ℕ) × (gone_taken : Bool) × (taken ≤ v.put) × (row v.world v.put v.gone_put ≡ row v.world taken gone_taken ++ map carried items)
+PutsSee v items =
+    (taken : ℕ) × (gone_taken : Bool) × (taken ≤ v.put)
+    × (row v.world v.put v.gone_put ≡ row v.world taken gone_taken ++ map carried items)
 
 -- no more is known than was put
 abbrev pub Known : Seen → ℕ → Bool → Type 0
@@ -78,7 +80,9 @@ Known v put gone_put = (v.known ≤ put) × (v.known_gone ≡ true → gone_put 
 
 -- what some number of puts put, at least as many as are known, is what was taken, and then what the queue holds
 abbrev pub TakesSee : Seen → List Frame → Type 0
-TakesSee v items = (put : ℕ) × (gone_put : Bool) × (v.taken ≤ put) × (put ≤ length v.world) × Known v put gone_put × (row v.world put gone_put ≡ row v.world v.taken v.gone_taken ++ map carried items)
+TakesSee v items =
+    (put : ℕ) × (gone_put : Bool) × (v.taken ≤ put) × (put ≤ length v.world) × Known v put gone_put
+    × (row v.world put gone_put ≡ row v.world v.taken v.gone_taken ++ map carried items)
 
 pub record State : Type 0 where
   pub writer : ℕ
