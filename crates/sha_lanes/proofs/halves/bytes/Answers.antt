@@ -3,7 +3,7 @@ use Rattle.std.proofs.lemmas.List.{take_all}
 use Rattle.std.proofs.lemmas.Slice.{overwrites}
 use Rattle.sha2.specs.Sha256.{digest_bytes}
 use Rattle.sha2.proofs.Absorbing256.{digest_more}
-use Rattle.sha_lanes.proofs.digests.digest.Goals as goal
+use Rattle.sha_lanes.proofs.halves.bytes.Goals as goal
 
 pub words-init : goal.words-init
 unfolding digest_bytes

@@ -1,5 +1,5 @@
 use Rattle.sha_lanes.proofs.LaneFacts.{each_lane}
-use Rattle.sha_lanes.proofs.digests.digests.Goals as goal
+use Rattle.sha_lanes.proofs.halves.to_bytes.Goals as goal
 
 pub returns-clause-value : goal.returns-clause-value
 returns-clause-value c =
