@@ -1,4 +1,5 @@
-mod BlockBytes
+mod BlockWords
+mod HalfBytes
 pub mod LaneFacts
 mod Scheduled
 mod Taken

@@ -1,6 +1,7 @@
 //! Words of four lanes, and the bytes that they stand for.
-ghost use Rattle.std.specs.Prelude.{◌≡◌, ℕ, ◌<◌, ◌*◌, [], length, slice_index, slice_index_or};
-ghost use Rattle.sha2.specs.Sha256.{digest_bytes, word_at};
+ghost use Rattle.std.specs.Prelude.{◌≡◌, ℕ, ◌<◌, ◌*◌, [], length, take, drop, slice_index, slice_index_or};
+ghost use Rattle.std.specs.Int.{w32, to_be_bytes};
+ghost use Rattle.sha2.specs.Sha256.{digest_bytes};
 ghost use Rattle.sha_lanes.specs.Lanes.{lane_bytes};
 
 use std::simd::u32x4;
@@ -9,7 +10,8 @@ use std::simd::u32x4;
 #[inline(always)]
 fn word(half: &[u8; 32], i: usize) -> u32
     requires { i < 8 }
-    ensures { result ≡ word_at half.now (4 * i) }
+    ensures width { length half.now ≡ 32 }
+    ensures value { to_be_bytes w32 result ≡ take 4 (drop (4 * i) half.now) }
 {
     let at = 4 * i;
     u32::from_be_bytes([half[at], half[at + 1], half[at + 2], half[at + 3]])
@@ -19,8 +21,9 @@ fn word(half: &[u8; 32], i: usize) -> u32
 #[inline(always)]
 fn words(halves: &[[u8; 32]; 4], i: usize) -> u32x4
     requires { i < 8 }
-    ensures { (j : ℕ) → j < 4
-        → slice_index result j ≡ word_at (slice_index_or halves.now j []) (4 * i) }
+    ensures width { (j : ℕ) → j < 4 → length (slice_index_or halves.now j []) ≡ 32 }
+    ensures value { (j : ℕ) → j < 4 → to_be_bytes w32 (slice_index result j)
+        ≡ take 4 (drop (4 * i) (slice_index_or halves.now j [])) }
 {
     u32x4::from_array([
         word(&halves[0], i),
