@@ -1,11 +1,13 @@
 //! What is hashed, and what the bits of a digest choose.
-ghost use Rattle.std.specs.Prelude.{◌≡◌, ℕ, ◌<◌, List, [], ◌∷◌, ◌++◌, length, map};
+ghost use Rattle.std.specs.Prelude.{◌≡◌, ℕ, ◌<◌, List, [], ◌∷◌, ◌++◌, length, map, slice_index_or};
 ghost use Rattle.sha2.specs.Hashers.{Holds256};
+ghost use Rattle.sha_lanes.specs.Lanes.{lane_bytes};
 ghost use Rattle.gen_ots.specs.OneTime.{image, leaf_prefix, bit_of, on_side};
 
 use crate::sizes::{DIGEST_BITS, HASH_BYTES};
-use sha_lanes::images;
+use sha_lanes::{images, to_bytes, to_words};
 use sha2::{Digest, Sha256};
+use std::simd::u32x4;
 
 /// The byte before a secret, where its image is hashed.
 const IMAGE_PREFIX: u8 = 0x00;
@@ -13,11 +15,20 @@ const IMAGE_PREFIX: u8 = 0x00;
 /// The byte before the images of a key, where its leaf value is hashed.
 pub const LEAF_PREFIX: u8 = 0x01;
 
+/// Returns the images of four secrets, which are hashed side by side, as words in lanes.
+pub fn images_in_lanes(secrets: &[[u8; 32]; 4]) -> [u32x4; 8]
+    ensures width { length secrets.now ≡ 4 }
+    ensures value { (j : ℕ) → j < 4
+        → lane_bytes j result ≡ image (slice_index_or secrets.now j []) }
+{
+    images(IMAGE_PREFIX, &to_words(secrets))
+}
+
 /// Returns the images of four secrets, which are hashed side by side.
 pub fn four_images(secrets: &[[u8; 32]; 4]) -> [[u8; 32]; 4]
     ensures { result ≡ map image secrets.now }
 {
-    images(IMAGE_PREFIX, secrets)
+    to_bytes(&images_in_lanes(secrets))
 }
 
 /// Returns a hasher of a leaf value, which is still to be fed with the images.

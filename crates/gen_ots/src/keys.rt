@@ -4,7 +4,7 @@ ghost use Rattle.gen_types.specs.Heights.{leaves_of};
 ghost use Rattle.gen_ots.specs.OneTime.{key_leaf_value};
 ghost use Rattle.gen_ots.specs.Signatures.{signature_of, signed_leaf_value};
 
-use crate::hashing::{LEAF_PREFIX, four_images, is_one, leaf_hasher};
+use crate::hashing::{LEAF_PREFIX, four_images, images_in_lanes, is_one, leaf_hasher};
 use crate::secrets::{next_pair, next_secret, secrets_of};
 use crate::signatures::{OtsSig, SigRoom, push_pair};
 use crate::sizes::{DIGEST_BITS, OTS_BYTES};
@@ -159,8 +159,8 @@ pub fn leaf_values(seed: &[u8; 32], height: TreeHeight, first: u8) -> [[u8; 32];
         let high2 = next_secret(&mut words2);
         let low3 = next_secret(&mut words3);
         let high3 = next_secret(&mut words3);
-        let low = four_images(&[low0, low1, low2, low3]);
-        let high = four_images(&[high0, high1, high2, high3]);
+        let low = images_in_lanes(&[low0, low1, low2, low3]);
+        let high = images_in_lanes(&[high0, high1, high2, high3]);
         hashers.update(&low, &high);
     }
     hashers.finalize()

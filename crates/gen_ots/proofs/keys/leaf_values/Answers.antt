@@ -1,4 +1,5 @@
-use Rattle.std.proofs.Common.{◌≡◌, ◌+◌, ◌∷◌, [], arith, ℕ, ◌<◌}
+use Rattle.std.proofs.Common.{◌≡◌, ◌+◌, ◌∷◌, [], arith, ℕ, ◌<◌, ap, ◌∙◌, slice_index_or}
+use Rattle.sha_lanes.specs.Lanes.{lane_bytes}
 use Rattle.sha_lanes.proofs.LaneFacts.{each_lane}
 use Rattle.gen_ots.specs.OneTime.{image, first_images, key_leaf_value}
 use Rattle.gen_ots.specs.Secrets.{KeyName, secret_of}
@@ -37,20 +38,21 @@ bits-preserved c =
     c.next_secret-low3.result c.next_secret-high3.result (omega arith) c.bits.invariant.3
     c.next_secret-low3.ensures.secret c.next_secret-low3.ensures.moved
     c.next_secret-high3.ensures.secret c.next_secret-high3.ensures.moved in
-    let low : c.four_images-low.result ≡ image (secret_of (k 0) n 0) ∷ image (secret_of (k 1) n 0) ∷ image (secret_of (k 2) n 0) ∷ image (secret_of (k 3) n 0) ∷ []
-    = rw (r0.0, r1.0, r2.0, r3.0) at c.four_images-low.ensures in
-    let high : c.four_images-high.result ≡ image (secret_of (k 0) n 1) ∷ image (secret_of (k 1) n 1) ∷ image (secret_of (k 2) n 1) ∷ image (secret_of (k 3) n 1) ∷ []
-    = rw (r0.1, r1.1, r2.1, r3.1) at c.four_images-high.ensures in
-    let held = λ (j : ℕ) (h : j < 4). rw (low, high) at (c.update.ensures j h (1 ∷ first_images (k j) n) (c.bits.invariant.4 j h)) in (
+    let lows = c.next_secret-low0.result ∷ c.next_secret-low1.result ∷ c.next_secret-low2.result ∷ c.next_secret-low3.result ∷ [] in
+    let highs = c.next_secret-high0.result ∷ c.next_secret-high1.result ∷ c.next_secret-high2.result ∷ c.next_secret-high3.result ∷ [] in
+    let low : (j : ℕ) → j < 4 → lane_bytes j c.images_in_lanes-low.result ≡ image (secret_of (k j) n 0) = λ j below.
+    c.images_in_lanes-low.ensures.value j below
+    ∙ ap image (each_lane (λ (j : ℕ). slice_index_or lows j [] ≡ secret_of (k j) n 0) r0.0 r1.0 r2.0 r3.0 j below) in
+    let high : (j : ℕ) → j < 4 → lane_bytes j c.images_in_lanes-high.result ≡ image (secret_of (k j) n 1) = λ j below.
+    c.images_in_lanes-high.ensures.value j below
+    ∙ ap image (each_lane (λ (j : ℕ). slice_index_or highs j [] ≡ secret_of (k j) n 1) r0.1 r1.1 r2.1 r3.1 j below) in
+    let held = λ (j : ℕ) (h : j < 4).
+    rw (low j h, high j h, ← first_images-both (k j) n) at (c.update.ensures j h (1 ∷ first_images (k j) n) (c.bits.invariant.4 j h)) in (
       r0.2,
       r1.2,
       r2.2,
       r3.2,
-      each_lane _
-          (rw first_images-both (held 0 (omega arith)))
-          (rw first_images-both (held 1 (omega arith)))
-          (rw first_images-both (held 2 (omega arith)))
-          (rw first_images-both (held 3 (omega arith))),
+      held,
     )
 
 pub returns : goal.returns
