@@ -19,7 +19,7 @@ filled ini h c after m f s one len held =
     IsAbsorbed_fill ini h (c ∷ []) after m d (c ∷ d) held (omega arith) front
 
 -- two halves fill the block and leave one byte
-halves_taken : (ini h : List ℕ) (c : ℕ) (m f s : List ℕ) → length m % 64 ≡ 1
+pub halves_taken : (ini h : List ℕ) (c : ℕ) (m f s : List ℕ) → length m % 64 ≡ 1
     → length f ≡ 32 → length s ≡ 32 → IsAbsorbed ini h (c ∷ []) m
     → IsAbsorbed ini (compress h (block c f s)) (slice_index s 31 ∷ []) (m ++ (f ++ s))
 halves_taken ini h c m f s one wide_first wide_second held =

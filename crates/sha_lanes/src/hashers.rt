@@ -58,6 +58,28 @@ impl FourHashers {
         }
     }
 
+    /// Returns the hashers of four messages that have this hash value, the low byte of this word after it, and
+    /// this length.
+    pub(crate) fn alike(hash: &[u32; 8], carry: u32, total: u64) -> FourHashers
+        ensures state { (j : ℕ) → j < 4 → state_of j result ≡ hash.now }
+        ensures carry { (j : ℕ) → j < 4 → slice_index result.carry j ≡ carry }
+        ensures total { result.total ≡ total }
+    {
+        let [a, b, c, d, e, f, g, h] = *hash;
+        FourHashers {
+            a: u32x4::splat(a),
+            b: u32x4::splat(b),
+            c: u32x4::splat(c),
+            d: u32x4::splat(d),
+            e: u32x4::splat(e),
+            f: u32x4::splat(f),
+            g: u32x4::splat(g),
+            h: u32x4::splat(h),
+            carry: u32x4::splat(carry),
+            total,
+        }
+    }
+
     // The hash values, once 64 bytes more are taken in.
     #[inline(always)]
     fn hashed(&self, first: &[u32x4; 8], second: &[u32x4; 8]) -> [u32x4; 8]

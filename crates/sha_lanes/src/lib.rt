@@ -17,6 +17,8 @@ ghost use Rattle.sha_lanes.specs.Lanes.{lane_bytes};
 mod blocks;
 mod halves;
 mod hashers;
+mod one;
+mod plain;
 mod rounds;
 #[cfg(test)]
 mod tests;
@@ -25,6 +27,7 @@ mod words;
 use blocks::blocks;
 pub use halves::{to_bytes, to_words};
 pub use hashers::FourHashers;
+pub use one::OneHasher;
 use rounds::{compress, initial_states};
 use std::simd::u32x4;
 
