@@ -15,6 +15,7 @@
 //! has the seed can make the key again.
 #![tactic(auto)]
 
+mod chacha;
 mod hashing;
 mod keys;
 mod secrets;
