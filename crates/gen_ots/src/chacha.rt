@@ -2,41 +2,16 @@
 //!
 //! Each word of a state is a vector, with one lane for each block. Blocks have one key and one stream, and
 //! each has a counter of its own.
-ghost use Rattle.std.specs.Prelude.{◌≡◌, ℕ, ◌<◌, ◌/◌, ◌%◌, ◌^◌, bit_xor, slice_index};
-ghost use Rattle.std.specs.Int.{w32, rotate_left};
+ghost use Rattle.std.specs.Prelude.{◌≡◌, ℕ, ◌<◌, ◌/◌, ◌%◌, ◌^◌, slice_index};
 ghost use Rattle.rand_chacha.specs.Block.{add32, column_round, diagonal_round, initial_state, quarter_round, xor_rotate};
 ghost use Rattle.rand_chacha.specs.Lanes.{lane, lane_at};
 ghost use Rattle.gen_ots.specs.Blocks.{HasBlock};
 
+use crate::lanes::{add, rotate_left, xor};
 use std::simd::u32x4;
 
 /// The pairs of rounds of ChaCha20, each of a round on columns and one on diagonals.
 const DOUBLE_ROUNDS: usize = 10;
-
-// The sums, each with the carry out of its word dropped.
-#[inline(always)]
-fn add(x: u32x4, y: u32x4) -> u32x4
-    ensures { (j : ℕ) → j < 4 → slice_index result j ≡ add32 (slice_index x j) (slice_index y j) }
-{
-    x + y
-}
-
-#[inline(always)]
-fn xor(x: u32x4, y: u32x4) -> u32x4
-    ensures { (j : ℕ) → j < 4 → slice_index result j ≡ bit_xor (slice_index x j) (slice_index y j) }
-{
-    x ^ y
-}
-
-// Each word, with the `count` bits that leave it at the high end put in at the low end.
-#[inline(always)]
-fn rotate_left(x: u32x4, count: u32) -> u32x4
-    requires some { 0 < count }
-    requires fits { count < 32 }
-    ensures { (j : ℕ) → j < 4 → slice_index result j ≡ rotate_left w32 (slice_index x j) count }
-{
-    (x << u32x4::splat(count)) | (x >> u32x4::splat(32 - count))
-}
 
 // The bits in which the words differ, rotated.
 #[inline(always)]

@@ -18,6 +18,7 @@
 mod chacha;
 mod hashing;
 mod keys;
+mod lanes;
 mod secrets;
 mod sharing;
 mod signatures;
