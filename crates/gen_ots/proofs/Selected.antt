@@ -3,7 +3,10 @@ use Rattle.std.proofs.Common.{◌≡◌, ℕ, ◌<◌, Bool, true, false, List, 
 use Rattle.std.proofs.lemmas.Simd.{get_or-sel_l}
 use Rattle.std.specs.Int.{from_bool}
 use Rattle.std.specs.Simd.Lanes.{sel_l, top}
+use Rattle.sha2.specs.Sha256.{digest_bytes}
+use Rattle.sha_lanes.specs.Lanes.{lane_at, lane_bytes, state}
 use Rattle.sha_lanes.proofs.LaneFacts.{each_lane}
+use Rattle.gen_ots.specs.OneTime.{on_side}
 
 -- a lane of the mask, from the number of a bit
 abbrev marked : ℕ → Bool
@@ -24,3 +27,18 @@ selected ones n0 n1 n2 n3 z f wide_z wide_f e0 e1 e2 e3 j below =
     (marked-bit _ n0 e0) (marked-bit _ n1 e1) (marked-bit _ n2 e2) (marked-bit _ n3 e3) in
     get_or-sel_l masks f z j 0 (omega arith) (omega arith) (omega arith)
     ∙ ap (λ (one : Bool). if one then slice_index f j else slice_index z j) (each j below)
+
+-- a word of each of two lists, as a bit chooses
+abbrev chooses : Bool → ℕ → List (List ℕ) → List (List ℕ) → List (List ℕ) → ℕ → Type 0
+chooses one j r z f k = lane_at r k j ≡ (if one then lane_at f k j else lane_at z k j)
+
+-- a lane whose words are chosen by one bit has the bytes of a whole lane
+pub chosen_lane : (one : Bool) (j : ℕ) (r z f : List (List ℕ))
+    → chooses one j r z f 0 → chooses one j r z f 1 → chooses one j r z f 2 → chooses one j r z f 3
+    → chooses one j r z f 4 → chooses one j r z f 5 → chooses one j r z f 6 → chooses one j r z f 7
+    → lane_bytes j r ≡ on_side one (lane_bytes j z) (lane_bytes j f)
+unfolding on_side
+chosen_lane true j r z f a b c d e g h k =
+    λ i. digest_bytes (a i ∷ b i ∷ c i ∷ d i ∷ e i ∷ g i ∷ h i ∷ k i ∷ []) 8
+chosen_lane false j r z f a b c d e g h k =
+    λ i. digest_bytes (a i ∷ b i ∷ c i ∷ d i ∷ e i ∷ g i ∷ h i ∷ k i ∷ []) 8
