@@ -17,7 +17,7 @@ returns c =
     let s = c.args.secrets.now in
     let r = c.to_bytes.result in
     let one : (j : ℕ) → j < 4 → slice_index_or r j [] ≡ image (slice_index_or s j []) = λ j below.
-    c.to_bytes.ensures.value j below ∙ c.images_in_lanes.ensures.value j below in
+    c.to_bytes.ensures.value j below ∙ c.images_in_lanes.ensures j below ∙ ap image (c.to_words.ensures j below) in
     sym (one_by_one r c.to_bytes.ensures.width)
     ∙ rw (one 0 (omega arith), one 1 (omega arith), one 2 (omega arith), one 3 (omega arith))
-    (ap (map image) (one_by_one s c.images_in_lanes.ensures.width))
+    (ap (map image) (one_by_one s c.told-secrets))
