@@ -1,0 +1,32 @@
+use Rattle.std.proofs.Common.{◌≡◌, ◌+◌, ◌∷◌, arith, refl, ap, ◌∙◌}
+use Rattle.sha_lanes.specs.Lanes.{lane_bytes}
+use Rattle.gen_ots.specs.OneTime.{image, first_images, key_leaf_value}
+use Rattle.gen_ots.specs.Secrets.{KeyName, secret_of}
+use Rattle.gen_ots.proofs.Pairs.{first_images-both}
+use Rattle.gen_ots.proofs.Words.{IsOf, low-of, high-of}
+use Rattle.gen_ots.proofs.keys.leaf_values.Goals as goal
+
+pub bits-init : goal.bits-init
+unfolding first_images
+bits-init c = c.new-hashers.ensures
+
+pub bits-preserved : goal.bits-preserved
+bits-preserved c j below =
+    let k : KeyName = record { seed = c.args.seed.now; height = c.args.height; leaf = c.args.first + j } in
+    let n = c.bits.bit in
+    let same : IsOf k c.key_of-key.result c.stream_of-stream.result k.leaf = (c.key_of-key.ensures, c.stream_of-stream.ensures, refl) in
+    let has = c.blocks_of_leaves-blocks.ensures j below in
+    let low : lane_bytes j c.images_in_lanes-low.result ≡ image (secret_of k n 0)
+    = c.images_in_lanes-low.ensures j below ∙ ap image (c.low_secrets.ensures j below _ _ _ has
+    ∙ low-of k n _ _ _ same) in
+    let high : lane_bytes j c.images_in_lanes-high.result ≡ image (secret_of k n 1)
+    = c.images_in_lanes-high.ensures j below ∙ ap image (c.high_secrets.ensures j below _ _ _ has
+    ∙ high-of k n _ _ _ same) in
+    rw (low, high, ← first_images-both k n) at (c.update.ensures j below (1 ∷ first_images k n) (c.bits.invariant j below))
+
+pub returns : goal.returns
+unfolding key_leaf_value
+returns c j below =
+    let all : c.bits.bit ≡ 256 = omega arith in
+    c.finalize.ensures j below (1 ∷ first_images (record { seed = c.args.seed.now; height = c.args.height; leaf = c.args.first + j }) 256)
+    (rw all at (c.bits.invariant j below))
