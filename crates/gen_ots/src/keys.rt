@@ -4,15 +4,14 @@ ghost use Rattle.gen_types.specs.Heights.{leaves_of};
 ghost use Rattle.gen_ots.specs.OneTime.{key_leaf_value};
 ghost use Rattle.gen_ots.specs.Signatures.{signature_of, signed_leaf_value};
 
-use crate::hashing::{LEAF_PREFIX, are_ones, chosen_in_lanes, images_in_lanes, leaf_hasher};
+use crate::hashing::{LEAF_PREFIX, are_ones, chosen_in_lanes, images_in_lanes};
 use crate::secrets::{
     blocks_of_bits, blocks_of_leaves, high_secrets, key_of, low_secrets, stream_of,
 };
 use crate::signatures::{OtsSig, SigRoom, push_pair};
 use crate::sizes::{DIGEST_BITS, OTS_BYTES};
 use gen_types::TreeHeight;
-use sha_lanes::{FourHashers, to_bytes};
-use sha2::Digest;
+use sha_lanes::{FourHashers, OneHasher, to_bytes};
 use std::marker::Model;
 
 /// A one-time key, which signs one digest or is retired.
@@ -87,20 +86,13 @@ impl OneTimeKey {
     {
         let key = key_of(&self.seed);
         let stream = stream_of(self.height);
-        let mut hasher = leaf_hasher();
+        let mut hasher = OneHasher::new(LEAF_PREFIX);
         // Four bits a turn, so that four secrets are hashed side by side.
         'turns: for turn in 0..DIGEST_BITS / 4 {
             let blocks = blocks_of_bits(&key, stream, self.leaf, 4 * turn);
-            let low = to_bytes(&images_in_lanes(&low_secrets(&blocks)));
-            let high = to_bytes(&images_in_lanes(&high_secrets(&blocks)));
-            hasher.update(low[0]);
-            hasher.update(high[0]);
-            hasher.update(low[1]);
-            hasher.update(high[1]);
-            hasher.update(low[2]);
-            hasher.update(high[2]);
-            hasher.update(low[3]);
-            hasher.update(high[3]);
+            let low = images_in_lanes(&low_secrets(&blocks));
+            let high = images_in_lanes(&high_secrets(&blocks));
+            hasher.update(&low, &high);
         }
         hasher.finalize()
     }

@@ -1,14 +1,11 @@
-use Rattle.std.proofs.Common.{◌≡◌, ℕ, ◌<◌, ◌+◌, List, [], ◌∷◌, ◌++◌, slice_index_or, refl, sym, ap, subst, ◌∙◌, arith, append_assoc}
+use Rattle.std.proofs.Common.{◌≡◌, ℕ, ◌<◌, ◌+◌, List, [], ◌∷◌, ◌++◌, slice_index_or, sym, ap, subst, ◌∙◌, arith}
 use Rattle.sha_lanes.specs.Lanes.{lane_bytes}
 use Rattle.sha_lanes.specs.One.{HoldsOne, four_blocks}
 use Rattle.sha_lanes.proofs.LaneFacts.{each_lane}
 use Rattle.gen_ots.specs.OneTime.{bit_of, image, on_side}
 use Rattle.gen_ots.specs.Signatures.{both_images, given_images, other_at, shown_at}
-use Rattle.gen_ots.proofs.Pairs.{given_images-next}
+use Rattle.gen_ots.proofs.Pairs.{given_images-next, in_one}
 use Rattle.gen_ots.proofs.signatures.absorb.Goals as goal
-
-in_one : (m a b c d : List ℕ) → m ++ (a ++ (b ++ (c ++ d))) ≡ (((m ++ a) ++ b) ++ c) ++ d
-in_one m a b c d = simp append_assoc
 
 -- both images of a bit
 abbrev images_at : List ℕ → List ℕ → ℕ → List ℕ
