@@ -131,3 +131,6 @@ pub first_images-both : (k : KeyName) (n : ℕ)
     → first_images k (n + 1) ≡ first_images k n ++ (image (secret_of k n 0) ++ image (secret_of k n 1))
 first_images-both k n =
     rw (add-one, first_images-suc k n) (append_assoc (first_images k n) (image (secret_of k n 0)) (image (secret_of k n 1)))
+
+pub in_one : (m a b c d : List ℕ) → m ++ (a ++ (b ++ (c ++ d))) ≡ (((m ++ a) ++ b) ++ c) ++ d
+in_one m a b c d = simp append_assoc

@@ -4,13 +4,14 @@ ghost use Rattle.gen_types.specs.Heights.{leaves_of};
 ghost use Rattle.gen_ots.specs.OneTime.{key_leaf_value};
 ghost use Rattle.gen_ots.specs.Signatures.{signature_of, signed_leaf_value};
 
-use crate::hashing::{LEAF_PREFIX, four_images, is_one, leaf_hasher};
-use crate::secrets::{next_pair, next_secret, secrets_of};
+use crate::hashing::{LEAF_PREFIX, are_ones, chosen_in_lanes, images_in_lanes};
+use crate::secrets::{
+    blocks_of_bits, blocks_of_leaves, high_secrets, key_of, low_secrets, stream_of,
+};
 use crate::signatures::{OtsSig, SigRoom, push_pair};
 use crate::sizes::{DIGEST_BITS, OTS_BYTES};
 use gen_types::TreeHeight;
-use sha_lanes::FourHashers;
-use sha2::Digest;
+use sha_lanes::{FourHashers, OneHasher, to_bytes};
 use std::marker::Model;
 
 /// A one-time key, which signs one digest or is retired.
@@ -83,19 +84,15 @@ impl OneTimeKey {
     pub fn leaf_value(&self) -> [u8; 32]
         ensures { result ≡ key_leaf_value self.now.name }
     {
-        let mut words = secrets_of(&self.seed, self.height, self.leaf);
-        let mut hasher = leaf_hasher();
-        // Two bits a turn, so that four secrets are hashed side by side.
-        'turns: for _turn in 0..DIGEST_BITS / 2 {
-            let low = next_secret(&mut words);
-            let high = next_secret(&mut words);
-            let next_low = next_secret(&mut words);
-            let next_high = next_secret(&mut words);
-            let images = four_images(&[low, high, next_low, next_high]);
-            hasher.update(images[0]);
-            hasher.update(images[1]);
-            hasher.update(images[2]);
-            hasher.update(images[3]);
+        let key = key_of(&self.seed);
+        let stream = stream_of(self.height);
+        let mut hasher = OneHasher::new(LEAF_PREFIX);
+        // Four bits a turn, so that four secrets are hashed side by side.
+        'turns: for turn in 0..DIGEST_BITS / 4 {
+            let blocks = blocks_of_bits(&key, stream, self.leaf, 4 * turn);
+            let low = images_in_lanes(&low_secrets(&blocks));
+            let high = images_in_lanes(&high_secrets(&blocks));
+            hasher.update(&low, &high);
         }
         hasher.finalize()
     }
@@ -110,20 +107,21 @@ impl OneTimeKey {
     {
         let mut this = self;
         this.live = false;
-        let mut words = secrets_of(&this.seed, this.height, this.leaf);
+        let key = key_of(&this.seed);
+        let stream = stream_of(this.height);
         let mut bytes = room.bytes;
         // Four bits a turn, so that four secrets are hashed side by side.
         'turns: for turn in 0..DIGEST_BITS / 4 {
-            let bit = 4 * turn;
-            let (shown0, hidden0) = next_pair(&mut words, is_one(digest, bit));
-            let (shown1, hidden1) = next_pair(&mut words, is_one(digest, bit + 1));
-            let (shown2, hidden2) = next_pair(&mut words, is_one(digest, bit + 2));
-            let (shown3, hidden3) = next_pair(&mut words, is_one(digest, bit + 3));
-            let images = four_images(&[hidden0, hidden1, hidden2, hidden3]);
-            push_pair(&mut bytes, &shown0, &images[0]);
-            push_pair(&mut bytes, &shown1, &images[1]);
-            push_pair(&mut bytes, &shown2, &images[2]);
-            push_pair(&mut bytes, &shown3, &images[3]);
+            let ones = are_ones(digest, 4 * turn);
+            let blocks = blocks_of_bits(&key, stream, this.leaf, 4 * turn);
+            let low = low_secrets(&blocks);
+            let high = high_secrets(&blocks);
+            let shown = to_bytes(&chosen_in_lanes(&ones, &low, &high));
+            let images = to_bytes(&images_in_lanes(&chosen_in_lanes(&ones, &high, &low)));
+            push_pair(&mut bytes, &shown[0], &images[0]);
+            push_pair(&mut bytes, &shown[1], &images[1]);
+            push_pair(&mut bytes, &shown[2], &images[2]);
+            push_pair(&mut bytes, &shown[3], &images[3]);
         }
         OtsSig::owning(bytes)
     }
@@ -145,22 +143,13 @@ pub fn leaf_values(seed: &[u8; 32], height: TreeHeight, first: u8) -> [[u8; 32];
     ensures { (j : ℕ) → j < 4 → slice_index_or result j [] ≡ key_leaf_value
         (record { seed = seed.now; height = height; leaf = first + j }) }
 {
-    let mut words0 = secrets_of(seed, height, first);
-    let mut words1 = secrets_of(seed, height, first + 1);
-    let mut words2 = secrets_of(seed, height, first + 2);
-    let mut words3 = secrets_of(seed, height, first + 3);
+    let key = key_of(seed);
+    let stream = stream_of(height);
     let mut hashers = FourHashers::new(LEAF_PREFIX);
-    'bits: for _bit in 0..DIGEST_BITS {
-        let low0 = next_secret(&mut words0);
-        let high0 = next_secret(&mut words0);
-        let low1 = next_secret(&mut words1);
-        let high1 = next_secret(&mut words1);
-        let low2 = next_secret(&mut words2);
-        let high2 = next_secret(&mut words2);
-        let low3 = next_secret(&mut words3);
-        let high3 = next_secret(&mut words3);
-        let low = four_images(&[low0, low1, low2, low3]);
-        let high = four_images(&[high0, high1, high2, high3]);
+    'bits: for bit in 0..DIGEST_BITS {
+        let blocks = blocks_of_leaves(&key, stream, first, bit);
+        let low = images_in_lanes(&low_secrets(&blocks));
+        let high = images_in_lanes(&high_secrets(&blocks));
         hashers.update(&low, &high);
     }
     hashers.finalize()

@@ -15,8 +15,10 @@
 //! has the seed can make the key again.
 #![tactic(auto)]
 
+mod chacha;
 mod hashing;
 mod keys;
+mod lanes;
 mod secrets;
 mod sharing;
 mod signatures;

@@ -1,21 +1,18 @@
-//! The secrets of a key, read one after another from its stream of ChaCha20.
-ghost use Rattle.std.specs.Prelude.{◌≡◌, ◌<◌, ◌+◌, ◌*◌, ◌^◌};
+//! The secrets of keys, read from the blocks of their streams of ChaCha20.
+//!
+//! A block of sixteen words is both secrets of one bit of one leaf, that of side 0 first.
+ghost use Rattle.std.specs.Prelude.{◌≡◌, ℕ, ◌<◌, ◌+◌, ◌*◌, List};
 ghost use Rattle.rand_chacha.specs.ChaCha.{key_of};
-ghost use Rattle.gen_ots.specs.OneTime.{on_side};
-ghost use Rattle.gen_ots.specs.Secrets.{secret_at, eight_words, secret_place, secret_stream};
+ghost use Rattle.sha_lanes.specs.Lanes.{lane_bytes};
+ghost use Rattle.gen_ots.specs.Blocks.{HasBlock};
+ghost use Rattle.gen_ots.specs.Secrets.{secret_at, secret_block, secret_stream};
 
-use crate::sizes::{DIGEST_BITS, HASH_BYTES};
-use byteorder::{ByteOrder, LittleEndian};
+use crate::chacha::four_blocks;
+use crate::lanes::swap_bytes;
+use crate::sizes::DIGEST_BITS;
 use gen_types::TreeHeight;
-use rand_chacha::ChaCha20Rng;
-use rand_core::SeedableRng;
-use rand_core::utils::NextWord;
-
-/// The words of one secret.
-const WORDS_PER_SECRET: usize = 8;
-
-/// The words of all secrets of one key: two secrets for each bit of a digest.
-const WORDS_PER_KEY: usize = 2 * WORDS_PER_SECRET * DIGEST_BITS;
+use rand_core::utils::read_u32;
+use std::simd::u32x4;
 
 /// The stream of ChaCha20 that the secrets of trees of four levels come from.
 const STREAM_OF_FOUR: u64 = 0;
@@ -24,7 +21,7 @@ const STREAM_OF_FOUR: u64 = 0;
 const STREAM_OF_SIX: u64 = 1;
 
 /// Returns the stream of secrets for trees of a height.
-fn stream_of(height: TreeHeight) -> u64
+pub fn stream_of(height: TreeHeight) -> u64
     ensures { result ≡ secret_stream height }
 {
     match height {
@@ -33,66 +30,97 @@ fn stream_of(height: TreeHeight) -> u64
     }
 }
 
-/// Returns the generator of a key's secrets, at the first of them: bit 0, side 0.
-pub fn secrets_of(seed: &[u8; 32], height: TreeHeight, leaf: u8) -> ChaCha20Rng
-    ensures key { result.key ≡ key_of seed.now }
-    ensures stream { result.stream ≡ secret_stream height }
-    ensures place { result.word_pos ≡ secret_place leaf 0 0 }
-{
-    let mut words = ChaCha20Rng::from_seed(*seed);
-    words.set_stream(stream_of(height));
-    words.set_word_pos(u128::from(leaf) * WORDS_PER_KEY as u128);
-    words
-}
-
-/// Returns the next eight words.
-#[tactic(auto, unfolding(crate::specs::Secrets::eight_words))]
-fn next_words(words: &mut ChaCha20Rng) -> [u32; WORDS_PER_SECRET]
-    requires room { words.old.word_pos + WORDS_PER_SECRET < 2 ^ 68 }
-    ensures eight { result ≡ eight_words words.old.key words.old.stream words.old.word_pos }
-    ensures moved { words.new
-        ≡ record words.old { word_pos = words.old.word_pos + WORDS_PER_SECRET } }
+/// Returns the words of a seed, which are the key of its streams: each with its low byte first.
+pub fn key_of(seed: &[u8; 32]) -> [u32; 8]
+    ensures { result ≡ key_of seed.now }
 {
     [
-        words.next_word(),
-        words.next_word(),
-        words.next_word(),
-        words.next_word(),
-        words.next_word(),
-        words.next_word(),
-        words.next_word(),
-        words.next_word(),
+        read_u32(seed, 0),
+        read_u32(seed, 1),
+        read_u32(seed, 2),
+        read_u32(seed, 3),
+        read_u32(seed, 4),
+        read_u32(seed, 5),
+        read_u32(seed, 6),
+        read_u32(seed, 7),
     ]
 }
 
-/// Returns the next secret: eight words, each with its low byte first.
-#[tactic(auto, unfolding(crate::specs::Secrets::secret_at))]
-pub fn next_secret(words: &mut ChaCha20Rng) -> [u8; 32]
-    requires room { words.old.word_pos + WORDS_PER_SECRET < 2 ^ 68 }
-    ensures secret { result ≡ secret_at words.old.key words.old.stream words.old.word_pos }
-    ensures moved { words.new
-        ≡ record words.old { word_pos = words.old.word_pos + WORDS_PER_SECRET } }
+/// Returns the number of the block that has the secrets of a bit of a leaf.
+fn block_of(leaf: u8, bit: usize) -> u64
+    requires { bit < DIGEST_BITS }
+    ensures { result ≡ secret_block leaf bit }
 {
-    let eight = next_words(words);
-    let mut secret = [0; HASH_BYTES];
-    LittleEndian::write_u32_into(&eight, &mut secret);
-    secret
+    u64::from(leaf) * DIGEST_BITS as u64 + bit as u64
 }
 
-/// Returns the secret that a bit of this value shows and the one that it hides, of the next two.
-#[tactic(auto, unfolding(crate::specs::OneTime::on_side))]
-pub fn next_pair(words: &mut ChaCha20Rng, one: bool) -> ([u8; 32], [u8; 32])
-    requires room { words.old.word_pos + 2 * WORDS_PER_SECRET < 2 ^ 68 }
-    ensures shown { result.0 ≡ on_side one
-        (secret_at words.old.key words.old.stream words.old.word_pos)
-        (secret_at words.old.key words.old.stream (words.old.word_pos + WORDS_PER_SECRET)) }
-    ensures hidden { result.1 ≡ on_side one
-        (secret_at words.old.key words.old.stream (words.old.word_pos + WORDS_PER_SECRET))
-        (secret_at words.old.key words.old.stream words.old.word_pos) }
-    ensures moved { words.new
-        ≡ record words.old { word_pos = words.old.word_pos + 2 * WORDS_PER_SECRET } }
+/// Returns the blocks with the secrets of a bit of four leaves, of leaf `first` and of the three after it.
+#[inline(always)]
+pub fn blocks_of_leaves(key: &[u32; 8], stream: u64, first: u8, bit: usize) -> [u32x4; 16]
+    requires leaves { first + 3 < 256 }
+    requires bit { bit < DIGEST_BITS }
+    ensures { (j : ℕ) → j < 4
+        → HasBlock j result key.now stream (secret_block (first + j) bit) }
 {
-    let low = next_secret(words);
-    let high = next_secret(words);
-    if one { (high, low) } else { (low, high) }
+    let counters = [
+        block_of(first, bit),
+        block_of(first + 1, bit),
+        block_of(first + 2, bit),
+        block_of(first + 3, bit),
+    ];
+    four_blocks(key, stream, &counters)
+}
+
+/// Returns the blocks with the secrets of four bits of a leaf, of bit `first` and of the three after it.
+#[inline(always)]
+pub fn blocks_of_bits(key: &[u32; 8], stream: u64, leaf: u8, first: usize) -> [u32x4; 16]
+    requires { first + 3 < DIGEST_BITS }
+    ensures { (j : ℕ) → j < 4
+        → HasBlock j result key.now stream (secret_block leaf (first + j)) }
+{
+    let counters = [
+        block_of(leaf, first),
+        block_of(leaf, first + 1),
+        block_of(leaf, first + 2),
+        block_of(leaf, first + 3),
+    ];
+    four_blocks(key, stream, &counters)
+}
+
+/// Returns the secrets of side 0 that are in blocks.
+#[inline(always)]
+pub fn low_secrets(blocks: &[u32x4; 16]) -> [u32x4; 8]
+    ensures { (j : ℕ) → j < 4 → (key : List ℕ) → (stream counter : ℕ)
+        → HasBlock j blocks.now key stream counter
+        → lane_bytes j result ≡ secret_at key stream (16 * counter) }
+{
+    [
+        swap_bytes(blocks[0]),
+        swap_bytes(blocks[1]),
+        swap_bytes(blocks[2]),
+        swap_bytes(blocks[3]),
+        swap_bytes(blocks[4]),
+        swap_bytes(blocks[5]),
+        swap_bytes(blocks[6]),
+        swap_bytes(blocks[7]),
+    ]
+}
+
+/// Returns the secrets of side 1 that are in blocks.
+#[inline(always)]
+pub fn high_secrets(blocks: &[u32x4; 16]) -> [u32x4; 8]
+    ensures { (j : ℕ) → j < 4 → (key : List ℕ) → (stream counter : ℕ)
+        → HasBlock j blocks.now key stream counter
+        → lane_bytes j result ≡ secret_at key stream (16 * counter + 8) }
+{
+    [
+        swap_bytes(blocks[8]),
+        swap_bytes(blocks[9]),
+        swap_bytes(blocks[10]),
+        swap_bytes(blocks[11]),
+        swap_bytes(blocks[12]),
+        swap_bytes(blocks[13]),
+        swap_bytes(blocks[14]),
+        swap_bytes(blocks[15]),
+    ]
 }

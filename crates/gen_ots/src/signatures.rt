@@ -1,16 +1,18 @@
 //! One-time signatures, and the room that they are written into.
-ghost use Rattle.std.specs.Prelude.{◌≡◌, ◌<◌, ◌≤◌, ◌+◌, ◌++◌, length, vec_len, vec_capacity, IfOk};
+ghost use Rattle.std.specs.Prelude.{◌≡◌, ◌<◌, ◌≤◌, ◌+◌, ◌∷◌, ◌++◌, length, vec_len, vec_capacity, IfOk};
 ghost use Rattle.std.specs.Cmp.{partial_equiv_from_equiv};
 ghost use Rattle.std.specs.Cmp.Lexicographic.{pointwise};
 ghost use Rattle.std.specs.Bool.{nat_eq};
 ghost use Rattle.std.proofs.lemmas.Cmp.{nat_list_eq_equiv};
-ghost use Rattle.gen_ots.specs.Signatures.{other_at, shown_at, signed_leaf_value};
+ghost use Rattle.sha_lanes.specs.One.{HoldsOne};
+ghost use Rattle.gen_ots.specs.OneTime.{leaf_prefix};
+ghost use Rattle.gen_ots.specs.Signatures.{given_images, other_at, shown_at, signed_leaf_value};
 
-use crate::hashing::{absorb, four_images, is_one, leaf_hasher};
+use crate::hashing::{LEAF_PREFIX, are_ones, chosen_in_lanes, images_in_lanes};
 use crate::sharing::SigBytes;
 use crate::sizes::{DIGEST_BITS, HASH_BYTES, OTS_BYTES, PAIR_BYTES};
 use gen_types::TreeHeight;
-use sha2::Digest;
+use sha_lanes::{OneHasher, to_words};
 use std::alloc::{AllocError, Global};
 use std::marker::Model;
 
@@ -158,42 +160,37 @@ pub fn image_of(signature: &OtsSig, digest: &[u8; 32]) -> [u8; 32]
     ensures { result ≡ signed_leaf_value signature.now digest.now }
 {
     let pairs = signature.as_bytes();
-    let mut hasher = leaf_hasher();
+    let mut hasher = OneHasher::new(LEAF_PREFIX);
     // Four bits a turn, so that four secrets are hashed side by side.
     'turns: for turn in 0..DIGEST_BITS / 4 {
-        let bit = 4 * turn;
-        let images = four_images(&[
-            shown_at(pairs, bit),
-            shown_at(pairs, bit + 1),
-            shown_at(pairs, bit + 2),
-            shown_at(pairs, bit + 3),
-        ]);
-        absorb(
-            &mut hasher,
-            is_one(digest, bit),
-            &images[0],
-            other_at(pairs, bit),
-        );
-        absorb(
-            &mut hasher,
-            is_one(digest, bit + 1),
-            &images[1],
-            other_at(pairs, bit + 1),
-        );
-        absorb(
-            &mut hasher,
-            is_one(digest, bit + 2),
-            &images[2],
-            other_at(pairs, bit + 2),
-        );
-        absorb(
-            &mut hasher,
-            is_one(digest, bit + 3),
-            &images[3],
-            other_at(pairs, bit + 3),
-        );
+        absorb(&mut hasher, pairs, digest, 4 * turn);
     }
     hasher.finalize()
+}
+
+// Feeds the hasher of a leaf value with the images of four bits, from `bit` on.
+fn absorb(hasher: &mut OneHasher, pairs: &[u8], digest: &[u8; 32], bit: usize)
+    requires length { length pairs.now ≡ OTS_BYTES }
+    requires bits { bit + 3 < DIGEST_BITS }
+    ensures { HoldsOne hasher.old (leaf_prefix ∷ given_images pairs.now digest.now bit)
+        → HoldsOne hasher.new (leaf_prefix ∷ given_images pairs.now digest.now (bit + 4)) }
+{
+    let images = images_in_lanes(&to_words(&[
+        shown_at(pairs, bit),
+        shown_at(pairs, bit + 1),
+        shown_at(pairs, bit + 2),
+        shown_at(pairs, bit + 3),
+    ]));
+    let others = to_words(&[
+        other_at(pairs, bit),
+        other_at(pairs, bit + 1),
+        other_at(pairs, bit + 2),
+        other_at(pairs, bit + 3),
+    ]);
+    let ones = are_ones(digest, bit);
+    let zeroth = chosen_in_lanes(&ones, &images, &others);
+    let first = chosen_in_lanes(&ones, &others, &images);
+    hasher.update(&zeroth, &first);
 }
 
 // The secret that the pairs show for a bit.
@@ -209,14 +206,15 @@ fn shown_at(pairs: &[u8], bit: usize) -> [u8; 32]
 }
 
 // The image that the pairs give for a bit.
-fn other_at(pairs: &[u8], bit: usize) -> &[u8]
+fn other_at(pairs: &[u8], bit: usize) -> [u8; 32]
     requires length { length pairs.now ≡ OTS_BYTES }
     requires bit { bit < DIGEST_BITS }
-    ensures value { result.now ≡ other_at pairs.now bit }
-    ensures width { length result.now ≡ HASH_BYTES }
+    ensures { result ≡ other_at pairs.now bit }
 {
     let at = PAIR_BYTES * bit + HASH_BYTES;
-    &pairs[at..at + HASH_BYTES]
+    let mut image = [0; HASH_BYTES];
+    image.copy_from_slice(&pairs[at..at + HASH_BYTES]);
+    image
 }
 
 // Appends a secret that is shown, and an image.

@@ -1,4 +1,7 @@
-mod BlockBytes
+mod BlockWords
+mod HalfBytes
 pub mod LaneFacts
+mod OneTaken
 mod Scheduled
+mod Sigmas
 mod Taken

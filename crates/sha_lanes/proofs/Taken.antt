@@ -19,7 +19,7 @@ filled ini h c after m f s one len held =
     IsAbsorbed_fill ini h (c ∷ []) after m d (c ∷ d) held (omega arith) front
 
 -- two halves fill the block and leave one byte
-halves_taken : (ini h : List ℕ) (c : ℕ) (m f s : List ℕ) → length m % 64 ≡ 1
+pub halves_taken : (ini h : List ℕ) (c : ℕ) (m f s : List ℕ) → length m % 64 ≡ 1
     → length f ≡ 32 → length s ≡ 32 → IsAbsorbed ini h (c ∷ []) m
     → IsAbsorbed ini (compress h (block c f s)) (slice_index s 31 ∷ []) (m ++ (f ++ s))
 halves_taken ini h c m f s one wide_first wide_second held =
@@ -50,20 +50,20 @@ padding_taken ini h c m f s one pads len held =
     full.0 ∙ ap (λ (t : List ℕ). hash_after ini t (length t / 64)) whole
 
 pub lane_new : (s : FourHashers) (j p : ℕ) → s.total ≡ 1 → state_of j s ≡ initial_hash_256
-    → slice_index s.carry j ≡ p → HoldsLane j s (p ∷ [])
+    → slice_index s.carry j % 2 ^ 8 ≡ p → HoldsLane j s (p ∷ [])
 unfolding HoldsLane hash_after
 lane_new s j p t h c = (t, refl, (h, rw c refl))
 
 pub lane_more : (s n : FourHashers) (j : ℕ) (m f g : List ℕ) → length f ≡ 32 → length g ≡ 32
     → n.total ≡ (s.total + 64) % 2 ^ 64
-    → state_of j n ≡ compress (state_of j s) (block (slice_index s.carry j) f g)
-    → slice_index n.carry j ≡ slice_index g 31 → HoldsLane j s m → HoldsLane j n (m ++ (f ++ g))
+    → state_of j n ≡ compress (state_of j s) (block (slice_index s.carry j % 2 ^ 8) f g)
+    → slice_index n.carry j % 2 ^ 8 ≡ slice_index g 31 → HoldsLane j s m → HoldsLane j n (m ++ (f ++ g))
 unfolding HoldsLane
 lane_more s n j m f g lf lg t h c held =
     let one : length m % 64 ≡ 1 = held.1 in
     let len : length (m ++ (f ++ g)) ≡ length m + 64 = omega (arith, length-append m (f ++ g), length-append f g) in
     let total : s.total ≡ length m % 2 ^ 64 = held.0 in
-    let taken = halves_taken initial_hash_256 (state_of j s) (slice_index s.carry j) m f g one lf lg held.2 in
+    let taken = halves_taken initial_hash_256 (state_of j s) (slice_index s.carry j % 2 ^ 8) m f g one lf lg held.2 in
     (omega arith, omega arith, rw (h, c) taken)
 
 -- the two halves that pad a message of n bits
@@ -71,7 +71,7 @@ abbrev pub pads : List ℕ → List ℕ → ℕ → Type 0
 pads f s n = f ++ take 31 s ≡ 0x80 ∷ replicate 54 0 ++ to_be_bytes w64 n
 
 pub lane_digest : (s : FourHashers) (j : ℕ) (m f g v d : List ℕ) → pads f g (s.total * 8 % 2 ^ 64)
-    → v ≡ compress (state_of j s) (block (slice_index s.carry j) f g) → d ≡ digest_bytes v 8
+    → v ≡ compress (state_of j s) (block (slice_index s.carry j % 2 ^ 8) f g) → d ≡ digest_bytes v 8
     → HoldsLane j s m → d ≡ sha256 m
 unfolding HoldsLane sha256
 lane_digest s j m f g v d e ev ed held =
@@ -82,4 +82,4 @@ lane_digest s j m f g v d e ev ed held =
     let padded : f ++ take 31 g ≡ padding (length m) = e ∙ rw (zeros, bits) refl in
     let len : length (f ++ take 31 g) ≡ 63 = ap length e in
     ed ∙ ap (λ (x : List ℕ). digest_bytes x 8)
-    (ev ∙ padding_taken initial_hash_256 (state_of j s) (slice_index s.carry j) m f g one padded len held.2)
+    (ev ∙ padding_taken initial_hash_256 (state_of j s) (slice_index s.carry j % 2 ^ 8) m f g one padded len held.2)

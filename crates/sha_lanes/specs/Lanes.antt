@@ -1,6 +1,7 @@
 -- Four messages side by side: each word is a vector, with one lane for each message.
 use Rattle.std.specs.Prelude.{◌≡◌, ℕ, List, [], ◌∷◌, ◌++◌, map, take, slice_index, slice_index_or}
-use Rattle.sha2.specs.Sha256.{first_words}
+use Rattle.std.specs.Int.{w32, byte_at, from_be_bytes}
+use Rattle.sha2.specs.Sha256.{digest_bytes, first_words}
 
 -- lane j of vector k
 abbrev pub lane_at : List (List ℕ) → ℕ → ℕ → ℕ
@@ -16,6 +17,10 @@ state j x =
     lane_at x 0 j ∷ lane_at x 1 j ∷ lane_at x 2 j ∷ lane_at x 3 j
     ∷ lane_at x 4 j ∷ lane_at x 5 j ∷ lane_at x 6 j ∷ lane_at x 7 j ∷ []
 
+-- the 32 bytes that lane j of eight vectors stands for: its eight words, each with its high byte first
+abbrev pub lane_bytes : ℕ → List (List ℕ) → List ℕ
+lane_bytes j v = digest_bytes (state j v) 8
+
 -- lane j of the vectors x has the sixteen words of the block b
 abbrev pub HasWords : ℕ → List (List ℕ) → List ℕ → Type 0
 HasWords j x b = lane j x ≡ first_words b 16
@@ -24,3 +29,8 @@ HasWords j x b = lane j x ≡ first_words b 16
 -- block
 unfoldable pub block : ℕ → List ℕ → List ℕ → List ℕ
 block c first second = c ∷ (first ++ take 31 second)
+
+-- the word of the low byte of a word and the three high bytes of the word after it
+abbrev pub seam : ℕ → ℕ → ℕ
+seam before after =
+    from_be_bytes w32 (byte_at 0 before ∷ byte_at 3 after ∷ byte_at 2 after ∷ byte_at 1 after ∷ [])

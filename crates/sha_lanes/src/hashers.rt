@@ -1,12 +1,12 @@
 //! Four messages that are hashed side by side, 64 bytes a turn.
-ghost use Rattle.std.specs.Prelude.{◌≡◌, ℕ, ◌<◌, List, [], ◌∷◌, ◌++◌, length, replicate, slice_index, slice_index_or};
+ghost use Rattle.std.specs.Prelude.{◌≡◌, ℕ, ◌<◌, ◌%◌, ◌^◌, List, [], ◌∷◌, ◌++◌, replicate, slice_index, slice_index_or};
 ghost use Rattle.std.specs.Int.{w64, to_be_bytes};
 ghost use Rattle.sha2.specs.Sha256.{compress, sha256};
-ghost use Rattle.sha_lanes.specs.Lanes.{block, state};
+ghost use Rattle.sha_lanes.specs.Lanes.{block, lane_bytes, state};
 ghost use Rattle.sha_lanes.specs.Hashers.{HoldsLane, state_of};
 
-use crate::blocks::{blocks, last_bytes};
-use crate::digests::digests;
+use crate::blocks::blocks;
+use crate::halves::{to_bytes, to_words};
 use crate::rounds::{compress, initial_states};
 use std::simd::u32x4;
 
@@ -32,8 +32,8 @@ pub struct FourHashers {
     f: u32x4,
     g: u32x4,
     h: u32x4,
-    // The last byte of each message, which is in no whole block yet.
-    carry: [u8; 4],
+    // Words whose low bytes are the last bytes of the messages, which are in no whole block yet.
+    carry: u32x4,
     // The length of each message so far, in bytes modulo 2^64.
     total: u64,
 }
@@ -53,29 +53,50 @@ impl FourHashers {
             f,
             g,
             h,
-            carry: [byte; 4],
+            carry: u32x4::splat(u32::from(byte)),
             total: 1,
+        }
+    }
+
+    /// Returns the hashers of four messages that have this hash value, the low byte of this word after it, and
+    /// this length.
+    pub(crate) fn alike(hash: &[u32; 8], carry: u32, total: u64) -> FourHashers
+        ensures state { (j : ℕ) → j < 4 → state_of j result ≡ hash.now }
+        ensures carry { (j : ℕ) → j < 4 → slice_index result.carry j ≡ carry }
+        ensures total { result.total ≡ total }
+    {
+        let [a, b, c, d, e, f, g, h] = *hash;
+        FourHashers {
+            a: u32x4::splat(a),
+            b: u32x4::splat(b),
+            c: u32x4::splat(c),
+            d: u32x4::splat(d),
+            e: u32x4::splat(e),
+            f: u32x4::splat(f),
+            g: u32x4::splat(g),
+            h: u32x4::splat(h),
+            carry: u32x4::splat(carry),
+            total,
         }
     }
 
     // The hash values, once 64 bytes more are taken in.
     #[inline(always)]
-    fn hashed(&self, first: &[[u8; 32]; 4], second: &[[u8; 32]; 4]) -> [u32x4; 8]
-        ensures width { (j : ℕ) → j < 4 → length (slice_index_or first.now j []) ≡ 32 }
-        ensures value { (j : ℕ) → j < 4 → state j result
-            ≡ compress (state_of j self.now) (block (slice_index self.now.carry j)
-            (slice_index_or first.now j []) (slice_index_or second.now j [])) }
+    fn hashed(&self, first: &[u32x4; 8], second: &[u32x4; 8]) -> [u32x4; 8]
+        ensures { (j : ℕ) → j < 4 → state j result
+            ≡ compress (state_of j self.now) (block (slice_index self.now.carry j % 2 ^ 8)
+            (lane_bytes j first.now) (lane_bytes j second.now)) }
     {
         let start = [
             self.a, self.b, self.c, self.d, self.e, self.f, self.g, self.h,
         ];
-        compress(start, &blocks(&self.carry, first, second))
+        compress(start, &blocks(self.carry, first, second))
     }
 
-    /// Adds 64 bytes to each message, in two halves.
-    pub fn update(&mut self, first: &[[u8; 32]; 4], second: &[[u8; 32]; 4])
+    /// Adds 64 bytes to each message, in two halves of eight words each.
+    pub fn update(&mut self, first: &[u32x4; 8], second: &[u32x4; 8])
         ensures { (j : ℕ) → j < 4 → (m : List ℕ) → HoldsLane j self.old m → HoldsLane j self.new
-            (m ++ (slice_index_or first.now j [] ++ slice_index_or second.now j [])) }
+            (m ++ (lane_bytes j first.now ++ lane_bytes j second.now)) }
     {
         let [a, b, c, d, e, f, g, h] = self.hashed(first, second);
         self.a = a;
@@ -86,7 +107,7 @@ impl FourHashers {
         self.f = f;
         self.g = g;
         self.h = h;
-        self.carry = last_bytes(second);
+        self.carry = second[7];
         self.total = self.total.wrapping_add(BLOCK_BYTES);
     }
 
@@ -96,7 +117,9 @@ impl FourHashers {
             → slice_index_or result j [] ≡ sha256 m }
     {
         let bits = self.total.wrapping_mul(8);
-        digests(&self.hashed(&[PADDING_START; 4], &[length_half(bits); 4]))
+        let first = to_words(&[PADDING_START; 4]);
+        let second = to_words(&[length_half(bits); 4]);
+        to_bytes(&self.hashed(&first, &second))
     }
 }
 

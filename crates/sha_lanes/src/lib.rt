@@ -10,34 +10,56 @@
 //! where code that uses them is faster.
 #![tactic(auto)]
 
-ghost use Rattle.std.specs.Prelude.{◌≡◌, ◌∷◌, map};
-ghost use Rattle.sha2.specs.Sha256.{sha256};
+ghost use Rattle.std.specs.Prelude.{◌≡◌, ℕ, ◌<◌, ◌∷◌, take};
+ghost use Rattle.sha2.specs.Sha256.{padding, sha256};
+ghost use Rattle.sha_lanes.specs.Lanes.{lane_bytes};
 
 mod blocks;
-mod digests;
+mod halves;
 mod hashers;
+mod one;
+mod plain;
 mod rounds;
 #[cfg(test)]
 mod tests;
 mod words;
 
 use blocks::blocks;
-use digests::digests;
+pub use halves::{to_bytes, to_words};
 pub use hashers::FourHashers;
+pub use one::OneHasher;
 use rounds::{compress, initial_states};
+use std::simd::u32x4;
 
-/// What pads a message of 33 bytes, and a byte that is carried on to no block.
+// The words that pad a message of 33 bytes, and in the last one a low byte that is in no block.
 #[rattlefmt::skip]
-const PADDING_OF_33: [u8; 32] = [
-    0x80, 0, 0, 0, 0, 0, 0, 0, 0, 0, 0, 0, 0, 0, 0, 0,
-    0, 0, 0, 0, 0, 0, 0, 0, 0, 0, 0, 0, 0, 0x01, 0x08, 0,
+const PADDING_OF_33: [u32; 8] = [
+    0x8000_0000, 0, 0, 0, 0, 0, 0, 0x0001_0800,
 ];
 
-/// Returns the digests of four messages, each of the byte `prefix` and then 32 bytes, in the messages'
-/// order.
-pub fn images(prefix: u8, messages: &[[u8; 32]; 4]) -> [[u8; 32]; 4]
-    ensures { result ≡ map (λ m. sha256 (prefix ∷ m)) messages.now }
+/// Returns the digests of four messages, each of the byte `prefix` and then the 32 bytes of its lane.
+pub fn images(prefix: u8, messages: &[u32x4; 8]) -> [u32x4; 8]
+    ensures { (j : ℕ) → j < 4
+        → lane_bytes j result ≡ sha256 (prefix ∷ lane_bytes j messages.now) }
 {
-    let block = blocks(&[prefix; 4], messages, &[PADDING_OF_33; 4]);
-    digests(&compress(initial_states(), &block))
+    let block = blocks(u32x4::splat(u32::from(prefix)), messages, &padding_of_33());
+    compress(initial_states(), &block)
+}
+
+// What pads a message of 33 bytes, in each lane.
+#[inline(always)]
+fn padding_of_33() -> [u32x4; 8]
+    ensures { (j : ℕ) → j < 4 → take 31 (lane_bytes j result) ≡ padding 33 }
+{
+    let [a, b, c, d, e, f, g, h] = PADDING_OF_33;
+    [
+        u32x4::splat(a),
+        u32x4::splat(b),
+        u32x4::splat(c),
+        u32x4::splat(d),
+        u32x4::splat(e),
+        u32x4::splat(f),
+        u32x4::splat(g),
+        u32x4::splat(h),
+    ]
 }

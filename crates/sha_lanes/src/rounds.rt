@@ -7,14 +7,14 @@ use crate::words::{add, big_sigma0, big_sigma1, ch, maj, small_sigma0, small_sig
 use std::simd::u32x4;
 
 /// The words of a block.
-const BLOCK_WORDS: usize = 16;
+pub const BLOCK_WORDS: usize = 16;
 
 /// The rounds over a block, each of which has a word of its own.
-const ROUNDS: usize = 64;
+pub const ROUNDS: usize = 64;
 
 /// K: the first 32 bits of the fractional parts of the cube roots of the first 64 primes (4.2.2).
 #[rattlefmt::skip]
-const ROUND_CONSTANTS: [u32; ROUNDS] = [
+pub const ROUND_CONSTANTS: [u32; ROUNDS] = [
     0x428a_2f98, 0x7137_4491, 0xb5c0_fbcf, 0xe9b5_dba5,
     0x3956_c25b, 0x59f1_11f1, 0x923f_82a4, 0xab1c_5ed5,
     0xd807_aa98, 0x1283_5b01, 0x2431_85be, 0x550c_7dc3,
@@ -34,7 +34,7 @@ const ROUND_CONSTANTS: [u32; ROUNDS] = [
 ];
 
 /// H: the first 32 bits of the fractional parts of the square roots of the first eight primes (5.3.3).
-const INITIAL_HASH: [u32; 8] = [
+pub const INITIAL_HASH: [u32; 8] = [
     0x6a09_e667,
     0xbb67_ae85,
     0x3c6e_f372,
@@ -74,10 +74,10 @@ fn next_word(words: &[u32x4; ROUNDS], t: usize) -> u32x4
     add(add(near, small_sigma0(words[t - 15])), words[t - 16])
 }
 
-// Makes `words` those of all rounds, from those of the block. They stay in the caller's array, since
-// an array that is handed out is copied.
+/// Makes `words` those of all rounds, from those of the block. They stay in the caller's array, since
+/// an array that is handed out is copied.
 #[inline(always)]
-fn schedule(words: &mut [u32x4; ROUNDS], block: &[u32x4; BLOCK_WORDS])
+pub fn schedule(words: &mut [u32x4; ROUNDS], block: &[u32x4; BLOCK_WORDS])
     ensures { (j : ℕ) → j < 4 → (b : List ℕ) → HasWords j block.now b
         → lane j words.new ≡ schedule b 48 }
 {

@@ -72,31 +72,40 @@ const VALIDATED_DIGEST: [u8; 32] = [
 
 #[test]
 fn a_vector_of_the_standards_validation_holds(rt: HostRuntime) {
-    assert!(rt; images(5, &[VALIDATED; 4]) == [VALIDATED_DIGEST; 4]);
+    let messages = to_words(&[VALIDATED; 4]);
+    assert!(rt; to_bytes(&images(5, &messages)) == [VALIDATED_DIGEST; 4]);
 }
 
 #[test]
 fn images_are_those_of_another_program(rt: HostRuntime) {
-    assert!(rt; images(0, &FIRST) == IMAGES);
+    assert!(rt; to_bytes(&images(0, &to_words(&FIRST))) == IMAGES);
 }
 
 #[test]
 fn longer_messages_are_those_of_another_program(rt: HostRuntime) {
     let mut hashers = FourHashers::new(1);
-    hashers.update(&FIRST, &SECOND);
-    hashers.update(&THIRD, &FOURTH);
+    hashers.update(&to_words(&FIRST), &to_words(&SECOND));
+    hashers.update(&to_words(&THIRD), &to_words(&FOURTH));
     assert!(rt; hashers.finalize() == LONGER);
 }
 
 #[test]
 fn lanes_are_those_of_one_message_after_another(rt: HostRuntime) {
-    let found = images(0xff, &FOURTH);
+    let found = to_bytes(&images(0xff, &to_words(&FOURTH)));
     for lane in 0..4 {
         let mut hasher = Sha256::new();
         hasher.update([0xff]);
         hasher.update(FOURTH[lane]);
         assert!(rt; found[lane] == hasher.finalize());
     }
+}
+
+#[test]
+fn words_have_their_high_bytes_first(rt: HostRuntime) {
+    let words = to_words(&[[0; 32], VALIDATED, [1; 32], [2; 32]]);
+    assert!(rt; words[0].to_array() == [0, 0x46f7_b868, 0x0101_0101, 0x0202_0202]);
+    assert!(rt; words[7].to_array() == [0, 0xaab3_88a7, 0x0101_0101, 0x0202_0202]);
+    assert!(rt; to_bytes(&words) == [[0; 32], VALIDATED, [1; 32], [2; 32]]);
 }
 
 #[test]

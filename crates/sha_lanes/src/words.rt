@@ -1,5 +1,5 @@
 //! Operations on four words side by side, and the functions of FIPS 180-4, section 4.1.2, made of them.
-ghost use Rattle.std.specs.Prelude.{◌≡◌, ℕ, ◌<◌, ◌/◌, ◌^◌, bit_and, bit_xor, slice_index};
+ghost use Rattle.std.specs.Prelude.{◌≡◌, ℕ, ◌<◌, ◌*◌, ◌/◌, ◌%◌, ◌^◌, bit_and, bit_or, bit_xor, slice_index};
 ghost use Rattle.std.specs.Int.{w32, bit_not, rotate_right};
 ghost use Rattle.sha2.specs.Sha256.{add32, big_sigma0, big_sigma1, ch, maj, small_sigma0, small_sigma1};
 
@@ -27,6 +27,14 @@ fn and(x: u32x4, y: u32x4) -> u32x4
     x & y
 }
 
+/// Returns the bits that either word has.
+#[inline(always)]
+pub fn or(x: u32x4, y: u32x4) -> u32x4
+    ensures { (j : ℕ) → j < 4 → slice_index result j ≡ bit_or (slice_index x j) (slice_index y j) }
+{
+    x | y
+}
+
 #[inline(always)]
 fn not(x: u32x4) -> u32x4
     ensures { (j : ℕ) → j < 4 → slice_index result j ≡ bit_not w32 (slice_index x j) }
@@ -34,13 +42,22 @@ fn not(x: u32x4) -> u32x4
     !x
 }
 
-// Each word, shifted towards its low end by `count` bits.
+/// Returns the words shifted towards their low end by `count` bits.
 #[inline(always)]
-fn shift_right(x: u32x4, count: u32) -> u32x4
+pub fn shift_right(x: u32x4, count: u32) -> u32x4
     requires { count < 32 }
     ensures { (j : ℕ) → j < 4 → slice_index result j ≡ slice_index x j / 2 ^ count }
 {
     x >> u32x4::splat(count)
+}
+
+/// Returns the words shifted towards their high end by `count` bits, of which the highest are dropped.
+#[inline(always)]
+pub fn shift_left(x: u32x4, count: u32) -> u32x4
+    requires { count < 32 }
+    ensures { (j : ℕ) → j < 4 → slice_index result j ≡ slice_index x j * 2 ^ count % 2 ^ 32 }
+{
+    x << u32x4::splat(count)
 }
 
 // Each word, with the `count` bits that leave it at the low end put in at the high end.

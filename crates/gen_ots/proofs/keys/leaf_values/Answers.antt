@@ -1,61 +1,32 @@
-use Rattle.std.proofs.Common.{◌≡◌, ◌+◌, ◌∷◌, [], arith, ℕ, ◌<◌}
-use Rattle.sha_lanes.proofs.LaneFacts.{each_lane}
+use Rattle.std.proofs.Common.{◌≡◌, ◌+◌, ◌∷◌, arith, refl, ap, ◌∙◌}
+use Rattle.sha_lanes.specs.Lanes.{lane_bytes}
 use Rattle.gen_ots.specs.OneTime.{image, first_images, key_leaf_value}
 use Rattle.gen_ots.specs.Secrets.{KeyName, secret_of}
 use Rattle.gen_ots.proofs.Pairs.{first_images-both}
-use Rattle.gen_ots.proofs.Words.{pair-read, secrets-begin}
+use Rattle.gen_ots.proofs.Words.{IsOf, low-of, high-of}
 use Rattle.gen_ots.proofs.keys.leaf_values.Goals as goal
 
 pub bits-init : goal.bits-init
 unfolding first_images
-bits-init c =
-    let k : ℕ → KeyName = λ j. record { seed = c.args.seed.now; height = c.args.height; leaf = c.args.first + j } in (
-      secrets-begin (k 0) c.secrets_of-words0.result c.secrets_of-words0.ensures.key c.secrets_of-words0.ensures.stream (omega (arith, c.secrets_of-words0.ensures.place)),
-      secrets-begin (k 1) c.secrets_of-words1.result c.secrets_of-words1.ensures.key c.secrets_of-words1.ensures.stream c.secrets_of-words1.ensures.place,
-      secrets-begin (k 2) c.secrets_of-words2.result c.secrets_of-words2.ensures.key c.secrets_of-words2.ensures.stream c.secrets_of-words2.ensures.place,
-      secrets-begin (k 3) c.secrets_of-words3.result c.secrets_of-words3.ensures.key c.secrets_of-words3.ensures.stream c.secrets_of-words3.ensures.place,
-      c.new-hashers.ensures,
-    )
+bits-init c = c.new-hashers.ensures
 
 pub bits-preserved : goal.bits-preserved
-bits-preserved c =
-    let k : ℕ → KeyName = λ j. record { seed = c.args.seed.now; height = c.args.height; leaf = c.args.first + j } in
-    let n = c.bits._bit in
-    let r0 = pair-read (k 0) n (n + 1) c.bits.words0 c.next_secret-low0.new.words c.next_secret-high0.new.words
-    c.next_secret-low0.result c.next_secret-high0.result (omega arith) c.bits.invariant.0
-    c.next_secret-low0.ensures.secret c.next_secret-low0.ensures.moved
-    c.next_secret-high0.ensures.secret c.next_secret-high0.ensures.moved in
-    let r1 = pair-read (k 1) n (n + 1) c.bits.words1 c.next_secret-low1.new.words c.next_secret-high1.new.words
-    c.next_secret-low1.result c.next_secret-high1.result (omega arith) c.bits.invariant.1
-    c.next_secret-low1.ensures.secret c.next_secret-low1.ensures.moved
-    c.next_secret-high1.ensures.secret c.next_secret-high1.ensures.moved in
-    let r2 = pair-read (k 2) n (n + 1) c.bits.words2 c.next_secret-low2.new.words c.next_secret-high2.new.words
-    c.next_secret-low2.result c.next_secret-high2.result (omega arith) c.bits.invariant.2
-    c.next_secret-low2.ensures.secret c.next_secret-low2.ensures.moved
-    c.next_secret-high2.ensures.secret c.next_secret-high2.ensures.moved in
-    let r3 = pair-read (k 3) n (n + 1) c.bits.words3 c.next_secret-low3.new.words c.next_secret-high3.new.words
-    c.next_secret-low3.result c.next_secret-high3.result (omega arith) c.bits.invariant.3
-    c.next_secret-low3.ensures.secret c.next_secret-low3.ensures.moved
-    c.next_secret-high3.ensures.secret c.next_secret-high3.ensures.moved in
-    let low : c.four_images-low.result ≡ image (secret_of (k 0) n 0) ∷ image (secret_of (k 1) n 0) ∷ image (secret_of (k 2) n 0) ∷ image (secret_of (k 3) n 0) ∷ []
-    = rw (r0.0, r1.0, r2.0, r3.0) at c.four_images-low.ensures in
-    let high : c.four_images-high.result ≡ image (secret_of (k 0) n 1) ∷ image (secret_of (k 1) n 1) ∷ image (secret_of (k 2) n 1) ∷ image (secret_of (k 3) n 1) ∷ []
-    = rw (r0.1, r1.1, r2.1, r3.1) at c.four_images-high.ensures in
-    let held = λ (j : ℕ) (h : j < 4). rw (low, high) at (c.update.ensures j h (1 ∷ first_images (k j) n) (c.bits.invariant.4 j h)) in (
-      r0.2,
-      r1.2,
-      r2.2,
-      r3.2,
-      each_lane _
-          (rw first_images-both (held 0 (omega arith)))
-          (rw first_images-both (held 1 (omega arith)))
-          (rw first_images-both (held 2 (omega arith)))
-          (rw first_images-both (held 3 (omega arith))),
-    )
+bits-preserved c j below =
+    let k : KeyName = record { seed = c.args.seed.now; height = c.args.height; leaf = c.args.first + j } in
+    let n = c.bits.bit in
+    let same : IsOf k c.key_of-key.result c.stream_of-stream.result k.leaf = (c.key_of-key.ensures, c.stream_of-stream.ensures, refl) in
+    let has = c.blocks_of_leaves-blocks.ensures j below in
+    let low : lane_bytes j c.images_in_lanes-low.result ≡ image (secret_of k n 0)
+    = c.images_in_lanes-low.ensures j below ∙ ap image (c.low_secrets.ensures j below _ _ _ has
+    ∙ low-of k n _ _ _ same) in
+    let high : lane_bytes j c.images_in_lanes-high.result ≡ image (secret_of k n 1)
+    = c.images_in_lanes-high.ensures j below ∙ ap image (c.high_secrets.ensures j below _ _ _ has
+    ∙ high-of k n _ _ _ same) in
+    rw (low, high, ← first_images-both k n) at (c.update.ensures j below (1 ∷ first_images k n) (c.bits.invariant j below))
 
 pub returns : goal.returns
 unfolding key_leaf_value
 returns c j below =
-    let all : c.bits._bit ≡ 256 = omega arith in
+    let all : c.bits.bit ≡ 256 = omega arith in
     c.finalize.ensures j below (1 ∷ first_images (record { seed = c.args.seed.now; height = c.args.height; leaf = c.args.first + j }) 256)
-    (rw all at (c.bits.invariant.4 j below))
+    (rw all at (c.bits.invariant j below))

@@ -1,10 +1,7 @@
-use Rattle.std.proofs.Common.{◌≡◌, ◌*◌, ◌∷◌}
-use Rattle.sha2.specs.Hashers.{Holds256}
+use Rattle.std.proofs.Common.{◌*◌, ◌∷◌}
+use Rattle.sha_lanes.specs.One.{HoldsOne}
 use Rattle.gen_ots.specs.OneTime.{first_images}
-use Rattle.gen_ots.proofs.Words.{secrets_at}
 use Rattle.gen_ots.proofs.keys.OneTimeKey.leaf_value.Given as goal
 
 abbrev pub invariant-turns : goal.invariant-turns
-invariant-turns l =
-    (l.words ≡ secrets_at l.self.name (2 * l._turn) 0)
-    × Holds256 l.hasher (1 ∷ first_images l.self.name (2 * l._turn))
+invariant-turns l = HoldsOne l.hasher (1 ∷ first_images l.self.name (4 * l.turn))

@@ -1,11 +1,9 @@
 use Rattle.std.proofs.Common.{◌≡◌, ◌≤◌, ◌*◌, vec_len, vec_capacity}
 use Rattle.gen_ots.specs.Signatures.{first_pairs}
-use Rattle.gen_ots.proofs.Words.{secrets_at}
 use Rattle.gen_ots.proofs.keys.OneTimeKey.sign.Given as goal
 
 abbrev pub invariant-turns : goal.invariant-turns
 invariant-turns l =
-    (l.words ≡ secrets_at l.fn.self.name (4 * l.turn) 0)
-    × (l.bytes.items ≡ first_pairs l.fn.self.name l.digest (4 * l.turn))
+    (l.bytes.items ≡ first_pairs l.fn.self.name l.digest (4 * l.turn))
     × (vec_len l.bytes ≡ 256 * l.turn)
     × (16384 ≤ vec_capacity l.bytes)

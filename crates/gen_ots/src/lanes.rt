@@ -1,0 +1,77 @@
+//! Operations on four words side by side, each in a lane of its own.
+ghost use Rattle.std.specs.Prelude.{◌≡◌, ℕ, ◌<◌, ◌*◌, ◌/◌, ◌%◌, ◌^◌, false, if◌then◌else◌, bit_xor, slice_index, slice_index_or};
+ghost use Rattle.std.specs.Int.{w32, rotate_left, swap_bytes};
+ghost use Rattle.rand_chacha.specs.Block.{add32};
+
+use std::simd::u32x4;
+
+/// Returns the sums, each with the carry out of its word dropped.
+#[inline(always)]
+pub fn add(x: u32x4, y: u32x4) -> u32x4
+    ensures { (j : ℕ) → j < 4 → slice_index result j ≡ add32 (slice_index x j) (slice_index y j) }
+{
+    x + y
+}
+
+/// Returns the bits in which the words differ.
+#[inline(always)]
+pub fn xor(x: u32x4, y: u32x4) -> u32x4
+    ensures { (j : ℕ) → j < 4 → slice_index result j ≡ bit_xor (slice_index x j) (slice_index y j) }
+{
+    x ^ y
+}
+
+// The words shifted towards their high end by `count` bits, of which the highest are dropped.
+#[inline(always)]
+fn shift_left(x: u32x4, count: u32) -> u32x4
+    requires { count < 32 }
+    ensures { (j : ℕ) → j < 4 → slice_index result j ≡ slice_index x j * 2 ^ count % 2 ^ 32 }
+{
+    x << u32x4::splat(count)
+}
+
+// The words shifted towards their low end by `count` bits.
+#[inline(always)]
+fn shift_right(x: u32x4, count: u32) -> u32x4
+    requires { count < 32 }
+    ensures { (j : ℕ) → j < 4 → slice_index result j ≡ slice_index x j / 2 ^ count }
+{
+    x >> u32x4::splat(count)
+}
+
+/// Returns the words, each with the `count` bits that leave it at the high end put in at the low end.
+#[inline(always)]
+pub fn rotate_left(x: u32x4, count: u32) -> u32x4
+    requires some { 0 < count }
+    requires fits { count < 32 }
+    ensures { (j : ℕ) → j < 4 → slice_index result j ≡ rotate_left w32 (slice_index x j) count }
+{
+    (x << u32x4::splat(count)) | (x >> u32x4::splat(32 - count))
+}
+
+/// Returns the words with the bytes of each in the other order.
+#[inline(always)]
+pub fn swap_bytes(x: u32x4) -> u32x4
+    ensures { (j : ℕ) → j < 4 → slice_index result j ≡ swap_bytes w32 (slice_index x j) }
+{
+    let lowest = shift_left(x, 24);
+    let second = shift_right(shift_left(shift_right(x, 8), 24), 8);
+    let third = shift_right(shift_left(shift_right(x, 16), 24), 16);
+    let highest = shift_right(x, 24);
+    add(add(lowest, second), add(third, highest))
+}
+
+/// Returns the words of `first` in the lanes where `ones` has `true`, and those of `zeroth` in the others.
+#[inline(always)]
+pub fn select(ones: &[bool; 4], zeroth: u32x4, first: u32x4) -> u32x4
+    ensures { (j : ℕ) → j < 4 → slice_index result j
+        ≡ (if slice_index_or ones.now j false then slice_index first j else slice_index zeroth j) }
+{
+    let bits = u32x4::from_array([
+        u32::from(ones[0]),
+        u32::from(ones[1]),
+        u32::from(ones[2]),
+        u32::from(ones[3]),
+    ]);
+    bits.simd_eq(u32x4::splat(1)).select(first, zeroth)
+}

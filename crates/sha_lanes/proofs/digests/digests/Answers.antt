@@ -1,6 +1,0 @@
-use Rattle.sha_lanes.proofs.LaneFacts.{each_lane}
-use Rattle.sha_lanes.proofs.digests.digests.Goals as goal
-
-pub returns-clause-value : goal.returns-clause-value
-returns-clause-value c =
-    each_lane _ c.digest.ensures c.digest-2.ensures c.digest-3.ensures c.digest-4.ensures
