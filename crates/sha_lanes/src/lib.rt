@@ -14,15 +14,19 @@ ghost use Rattle.std.specs.Prelude.{◌≡◌, ◌∷◌, map};
 ghost use Rattle.sha2.specs.Sha256.{sha256};
 
 mod blocks;
+mod chain_blocks;
+mod chains;
 mod digests;
 mod hashers;
 mod rounds;
 #[cfg(test)]
 mod tests;
+mod walks;
 mod words;
 
 use blocks::blocks;
 use digests::digests;
+pub use chains::{Chain, last_links};
 pub use hashers::FourHashers;
 use rounds::{compress, initial_states};
 
