@@ -15,6 +15,8 @@ ghost use Rattle.sha2.specs.Sha256.{sha256};
 
 mod blocks;
 mod chain_blocks;
+#[cfg(test)]
+mod chain_tests;
 mod chains;
 mod digests;
 mod hashers;
@@ -25,8 +27,8 @@ mod walks;
 mod words;
 
 use blocks::blocks;
-use digests::digests;
 pub use chains::{Chain, last_links};
+use digests::digests;
 pub use hashers::FourHashers;
 use rounds::{compress, initial_states};
 
