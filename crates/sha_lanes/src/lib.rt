@@ -1,13 +1,18 @@
 //! SHA-256 (FIPS 180-4) of four messages side by side, each in one lane of vectors of four words.
 //!
-//! It is for many messages of one length, as the secrets of one-time signatures are: four of them take
-//! about two and a quarter times as long as one. There are two shapes, a byte and 32 bytes
-//! (`images`), and a byte and then 64 bytes a turn (`FourHashers`). Each lane's digest is what `sha2`
-//! gives for that lane's message.
+//! It is for many messages, as the secrets of one-time signatures are: four blocks side by side take
+//! about one and a half times as long as one. There are three shapes: a byte and 32 bytes (`images`), a
+//! byte and then 64 bytes a turn (`FourHashers`), and chains in which each message begins with the
+//! digest of the one before (`last_links`), whose lanes may be of different lengths. The first two take
+//! and give words, so that what comes out of one goes into the next without being taken out of its
+//! lane; `to_words` and `to_bytes` lead there and back. Each lane's digest is what `sha2` gives for that
+//! lane's message.
 //!
-//! It doesn't pay for fewer than three messages, for messages of different lengths, or for bytes that
-//! aren't at hand together: `sha2` serves those. Nor does it on a processor with instructions for SHA,
-//! where code that uses them is faster.
+//! `OneHasher` is for one long message that comes 256 bytes a turn: the schedules of four of its blocks
+//! are made side by side, and the rounds go over one block after another.
+//!
+//! It doesn't pay for fewer than three messages or for bytes that aren't at hand together: `sha2` serves
+//! those. Nor does it on a processor with instructions for SHA, where code that uses them is faster.
 #![tactic(auto)]
 
 ghost use Rattle.std.specs.Prelude.{◌≡◌, ℕ, ◌<◌, ◌∷◌, take};
@@ -15,6 +20,10 @@ ghost use Rattle.sha2.specs.Sha256.{padding, sha256};
 ghost use Rattle.sha_lanes.specs.Lanes.{lane_bytes};
 
 mod blocks;
+mod chain_blocks;
+#[cfg(test)]
+mod chain_tests;
+mod chains;
 mod halves;
 mod hashers;
 mod one;
@@ -22,9 +31,11 @@ mod plain;
 mod rounds;
 #[cfg(test)]
 mod tests;
+mod walks;
 mod words;
 
 use blocks::blocks;
+pub use chains::{Chain, last_links};
 pub use halves::{to_bytes, to_words};
 pub use hashers::FourHashers;
 pub use one::OneHasher;
