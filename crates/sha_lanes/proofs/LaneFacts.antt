@@ -55,3 +55,13 @@ lane-word w k j = get_or-map-default (λ (v : List ℕ). slice_index v j) w k []
 
 pub length-lane : (w : List (List ℕ)) (j : ℕ) → length (lane j w) ≡ length w
 length-lane w j = length-map w (λ (v : List ℕ). slice_index v j)
+
+-- four lists, one by one
+pub four_lists : (xs : List (List ℕ)) → length xs ≡ 4
+    → slice_index_or xs 0 [] ∷ slice_index_or xs 1 [] ∷ slice_index_or xs 2 [] ∷ slice_index_or xs 3 [] ∷ [] ≡ xs
+four_lists (a ∷ b ∷ c ∷ d ∷ []) four = refl
+four_lists [] four = absurd (omega arith)
+four_lists (a ∷ []) four = absurd (omega arith)
+four_lists (a ∷ b ∷ []) four = absurd (omega arith)
+four_lists (a ∷ b ∷ c ∷ []) four = absurd (omega arith)
+four_lists (a ∷ b ∷ c ∷ d ∷ e ∷ xs) four = absurd (omega arith)
