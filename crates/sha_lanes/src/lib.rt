@@ -5,9 +5,13 @@
 //! (`images`), and a byte and then 64 bytes a turn (`FourHashers`). Each lane's digest is what `sha2`
 //! gives for that lane's message.
 //!
-//! It doesn't pay for fewer than three messages, for messages of different lengths, or for bytes that
-//! aren't at hand together: `sha2` serves those. Nor does it on a processor with instructions for SHA,
-//! where code that uses them is faster.
+//! Besides, four chains of hashes are hashed side by side (`last_links`), as the links of four logs are.
+//! Their pieces may have any lengths: a lane that is through with a message begins the next of its chain.
+//! Four equal chains take less than half as long as one after another; the longest decides.
+//!
+//! It doesn't pay for fewer than three messages, for single messages of different lengths, or for bytes
+//! that aren't at hand together: `sha2` serves those. Nor does it on a processor with instructions for
+//! SHA, where code that uses them is faster.
 #![tactic(auto)]
 
 ghost use Rattle.std.specs.Prelude.{◌≡◌, ◌∷◌, map};
