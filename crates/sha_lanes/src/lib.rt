@@ -2,11 +2,11 @@
 //!
 //! It is for many messages, as the secrets of one-time signatures are: four blocks side by side take
 //! about one and a half times as long as one. There are three shapes: a byte and 32 bytes (`images`), a
-//! byte and then 64 bytes a turn (`FourHashers`), and chains in which each message begins with the
-//! digest of the one before (`last_links`), whose lanes may be of different lengths. The first two take
-//! and give words, so that what comes out of one goes into the next without being taken out of its
-//! lane; `to_words` and `to_bytes` lead there and back. Each lane's digest is what `sha2` gives for that
-//! lane's message.
+//! byte and then 64 bytes a turn (`FourHashers`), and chains of hashes, as the links of a log are
+//! (`last_links`). The first two take and give words, so that what comes out of one goes into the next
+//! without being taken out of its lane; `to_words` and `to_bytes` lead there and back. The pieces of
+//! chains may have any lengths: a lane that is through with a message begins the next of its chain, and
+//! the longest chain decides. Each lane's digest is what `sha2` gives for that lane's message.
 //!
 //! `OneHasher` is for one long message that comes 256 bytes a turn: the schedules of four of its blocks
 //! are made side by side, and the rounds go over one block after another.
