@@ -1,7 +1,7 @@
 //! The 64 rounds over one block of each message (FIPS 180-4, section 6.2.2).
-ghost use Rattle.std.specs.Prelude.{◌≡◌, ℕ, ◌<◌, ◌≤◌, ◌+◌, ◌*◌, List, slice_index};
+ghost use Rattle.std.specs.Prelude.{◌≡◌, ℕ, ◌<◌, ◌≤◌, ◌+◌, ◌-◌, ◌*◌, List, slice_index};
 ghost use Rattle.sha2.specs.Sha256.{compress, initial_hash_256, next_word, round, rounds, schedule};
-ghost use Rattle.sha_lanes.specs.Lanes.{HasWords, lane, state};
+ghost use Rattle.sha_lanes.specs.Lanes.{HasWords, lane, lane_at, state};
 
 use crate::words::{add, big_sigma0, big_sigma1, ch, maj, small_sigma0, small_sigma1};
 use std::simd::u32x4;
@@ -63,27 +63,34 @@ pub fn initial_states() -> [u32x4; 8]
     ]
 }
 
-// Word `t` of the schedule, from the words before it.
+// Word `t` of the schedule, from the words before it, of which word `t - 2` is given.
 #[inline(always)]
-fn next_word(words: &[u32x4; ROUNDS], t: usize) -> u32x4
+fn next_word(words: &[u32x4; ROUNDS], t: usize, second_last: u32x4) -> u32x4
     requires block { BLOCK_WORDS ≤ t }
     requires below { t < ROUNDS }
-    ensures { (j : ℕ) → j < 4 → slice_index result j ≡ next_word (lane j words.now) t }
+    ensures { (j : ℕ) → j < 4 → slice_index second_last j ≡ lane_at words.now (t - 2) j
+        → slice_index result j ≡ next_word (lane j words.now) t }
 {
-    let near = add(small_sigma1(words[t - 2]), words[t - 7]);
+    let near = add(small_sigma1(second_last), words[t - 7]);
     add(add(near, small_sigma0(words[t - 15])), words[t - 16])
 }
 
 /// Makes `words` those of all rounds, from those of the block. They stay in the caller's array, since
-/// an array that is handed out is copied.
+/// an array that is handed out is copied. Two words a turn: the last two are at hand for the next two.
 #[inline(always)]
 pub fn schedule(words: &mut [u32x4; ROUNDS], block: &[u32x4; BLOCK_WORDS])
     ensures { (j : ℕ) → j < 4 → (b : List ℕ) → HasWords j block.now b
         → lane j words.new ≡ schedule b 48 }
 {
     words[..BLOCK_WORDS].copy_from_slice(block);
-    'next: for t in BLOCK_WORDS..ROUNDS {
-        words[t] = next_word(words, t);
+    let mut even = block[BLOCK_WORDS - 2];
+    let mut odd = block[BLOCK_WORDS - 1];
+    'pairs: for pair in BLOCK_WORDS / 2..ROUNDS / 2 {
+        let t = 2 * pair;
+        even = next_word(words, t, even);
+        words[t] = even;
+        odd = next_word(words, t + 1, odd);
+        words[t + 1] = odd;
     }
 }
 

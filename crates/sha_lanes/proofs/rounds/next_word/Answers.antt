@@ -3,7 +3,7 @@ use Rattle.sha_lanes.proofs.LaneFacts.{lane-word}
 use Rattle.sha_lanes.proofs.rounds.next_word.Goals as goal
 
 pub returns : goal.returns
-returns c j below =
+returns c j below = λ given.
     let w = c.args.words.now in
     let t = c.args.t in
     rw (
@@ -16,4 +16,5 @@ returns c j below =
       c.add-near.ensures j below,
       c.small_sigma1.ensures j below,
       c.small_sigma0.ensures j below,
+      given,
     ) refl
