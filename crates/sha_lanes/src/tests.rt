@@ -58,6 +58,13 @@ const THIRD: [[u8; 32]; 4] = [[20; 32], [21; 32], [22; 32], [23; 32]];
 
 const FOURTH: [[u8; 32]; 4] = [[30; 32], [31; 32], [32; 32], [33; 32]];
 
+// Of one message: the byte 1 and then, lane after lane, 32 bytes each of the values n and n + 10, and so again of the
+// values n + 20 and n + 30.
+const IN_ONE: [u8; 32] = [
+    0x2b, 0x62, 0xb0, 0xf4, 0x80, 0x26, 0xe9, 0xa8, 0x03, 0x08, 0x90, 0x71, 0xdc, 0x62, 0x51, 0x78,
+    0x62, 0x1b, 0x25, 0xde, 0x04, 0x6f, 0xca, 0xb7, 0x0b, 0xf5, 0x6a, 0xbc, 0x20, 0x2d, 0xce, 0xf1,
+];
+
 // A message of 33 bytes but for its first, which is 5, and its digest: the vector of 264 bits among the short
 // messages of NIST's Cryptographic Algorithm Validation Program for FIPS 180-4.
 const VALIDATED: [u8; 32] = [
@@ -111,4 +118,12 @@ fn words_have_their_high_bytes_first(rt: HostRuntime) {
 #[test]
 fn one_byte_is_hashed_alone(rt: HostRuntime) {
     assert!(rt; FourHashers::new(7).finalize() == [Sha256::digest([7]); 4]);
+}
+
+#[test]
+fn one_message_is_that_of_another_program(rt: HostRuntime) {
+    let mut hasher = OneHasher::new(1);
+    hasher.update(&to_words(&FIRST), &to_words(&SECOND));
+    hasher.update(&to_words(&THIRD), &to_words(&FOURTH));
+    assert!(rt; hasher.finalize() == IN_ONE);
 }
