@@ -14,7 +14,6 @@ ghost use Rattle.std.specs.Prelude.{◌≡◌, ◌∷◌, map};
 ghost use Rattle.sha2.specs.Sha256.{sha256};
 
 mod blocks;
-mod chains;
 mod digests;
 mod hashers;
 mod rounds;
@@ -23,7 +22,6 @@ mod tests;
 mod words;
 
 use blocks::blocks;
-pub use chains::{Chain, last_links};
 use digests::digests;
 pub use hashers::FourHashers;
 use rounds::{compress, initial_states};
