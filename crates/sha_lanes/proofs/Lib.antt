@@ -1,4 +1,6 @@
 mod BlockBytes
 pub mod LaneFacts
+mod PaddedBytes
 mod Scheduled
 mod Taken
+mod WalkFacts

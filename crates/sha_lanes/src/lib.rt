@@ -14,14 +14,20 @@ ghost use Rattle.std.specs.Prelude.{◌≡◌, ◌∷◌, map};
 ghost use Rattle.sha2.specs.Sha256.{sha256};
 
 mod blocks;
+mod chain_blocks;
+#[cfg(test)]
+mod chain_tests;
+mod chains;
 mod digests;
 mod hashers;
 mod rounds;
 #[cfg(test)]
 mod tests;
+mod walks;
 mod words;
 
 use blocks::blocks;
+pub use chains::{Chain, last_links};
 use digests::digests;
 pub use hashers::FourHashers;
 use rounds::{compress, initial_states};
