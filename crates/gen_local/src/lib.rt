@@ -43,6 +43,8 @@ pub use texts::{SignedText, Text};
 pub use walking::departs_from;
 
 #[cfg(test)]
+mod group_tests;
+#[cfg(test)]
 mod report_tests;
 #[cfg(test)]
 mod tests;

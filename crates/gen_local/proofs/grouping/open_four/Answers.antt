@@ -9,8 +9,8 @@ returns-in_err-fourth-clause-grows c = λ t answer kept. c.open_first-4.ensures.
 
 pub returns-clause-shown : goal.returns-clause-shown
 returns-clause-shown c =
-  rw (c.in_ok-first.ensures.first, c.in_ok-second.ensures.first, c.in_ok-third.ensures.first, c.in_ok-fourth.ensures.first, c.in_ok-third.ensures.rest, c.in_ok-second.ensures.rest, c.in_ok-first.ensures.rest) (four_taken c.args.exhibits.now)
+    rw (c.in_ok-first.ensures.first, c.in_ok-second.ensures.first, c.in_ok-third.ensures.first, c.in_ok-fourth.ensures.first, c.in_ok-third.ensures.rest, c.in_ok-second.ensures.rest, c.in_ok-first.ensures.rest) (four_taken c.args.exhibits.now)
 
 pub returns-clause-rest : goal.returns-clause-rest
 returns-clause-rest c =
-  rw (c.in_ok-fourth.ensures.rest, c.in_ok-third.ensures.rest, c.in_ok-second.ensures.rest, c.in_ok-first.ensures.rest) (four_dropped c.args.exhibits.now)
+    rw (c.in_ok-fourth.ensures.rest, c.in_ok-third.ensures.rest, c.in_ok-second.ensures.rest, c.in_ok-first.ensures.rest) (four_dropped c.args.exhibits.now)

@@ -10,9 +10,9 @@ returns-in_err-put_report-2-clause-grows c = λ t answer kept. c.put_report-2.en
 
 pub returns-clause-put : goal.returns-clause-put
 returns-clause-put c = λ before are.
-  let g = c.args.group in
-  let one = c.in_ok-put_report.ensures.put before are in
-  let two = c.in_ok-put_report-2.ensures.put (before ++ exhibits_in g.first) one in
-  let three = c.in_ok-put_report-3.ensures.put ((before ++ exhibits_in g.first) ++ exhibits_in g.second) two in
-  let four = c.put_report-4.ensures.put (((before ++ exhibits_in g.first) ++ exhibits_in g.second) ++ exhibits_in g.third) three in
-  subst (λ (xs : List ShownLog). OnOk c.put_report-4.result (AreReportsOf c.args.header.now xs c.put_report-4.new.reports.items)) (one_behind_another before (exhibits_in g.first) (exhibits_in g.second) (exhibits_in g.third) (exhibits_in g.fourth)) four
+    let g = c.args.group in
+    let one = c.in_ok-put_report.ensures.put before are in
+    let two = c.in_ok-put_report-2.ensures.put (before ++ exhibits_in g.first) one in
+    let three = c.in_ok-put_report-3.ensures.put ((before ++ exhibits_in g.first) ++ exhibits_in g.second) two in
+    let four = c.put_report-4.ensures.put (((before ++ exhibits_in g.first) ++ exhibits_in g.second) ++ exhibits_in g.third) three in
+    subst (λ (xs : List ShownLog). OnOk c.put_report-4.result (AreReportsOf c.args.header.now xs c.put_report-4.new.reports.items)) (one_behind_another before (exhibits_in g.first) (exhibits_in g.second) (exhibits_in g.third) (exhibits_in g.fourth)) four
