@@ -179,13 +179,3 @@ module _ (b : LogBundle) (rest : List ℕ) (of_rest : IsListOf rest (IsOfRest b)
 
   pub all_found : (f : Finding) → Contains all f ↔ IsFinding b f
   all_found f = (are_found f, are_in f)
-
--- ---- the reports, one by one
-
-pub exhibits_more : (reports : List Report) (r : Report) (exhibits : List ShownLog) (i : ℕ) (x : ShownLog) → i < length exhibits → map (λ (s : Report). s.exhibit) reports ≡ take i exhibits → x ≡ get_or exhibits i x → r.exhibit ≡ x → map (λ (s : Report). s.exhibit) (reports ++ r ∷ []) ≡ take (i + 1) exhibits
-exhibits_more reports r exhibits i x below so_far is mine =
-    mapped reports r ∙ ap (λ xs. xs ++ r.exhibit ∷ []) so_far ∙ ap (λ y. take i exhibits ++ y ∷ []) (mine ∙ is) ∙ sym (take_more exhibits i x below)
-  where
-    mapped : (rs : List Report) (r : Report) → map (λ (s : Report). s.exhibit) (rs ++ r ∷ []) ≡ map (λ (s : Report). s.exhibit) rs ++ r.exhibit ∷ []
-    mapped [] r = refl
-    mapped (s ∷ rs) r = ap (λ xs. s.exhibit ∷ xs) (mapped rs r)

@@ -2,6 +2,7 @@
 use Rattle.std.proofs.Common.{◌≡◌, ℕ, inl, inr, List, [], ◌∷◌, map, Contains, Some, None, Result, Ok, Err, if◌then◌else◌, refl, sym, ap, ◌∙◌, subst}
 use Rattle.std.specs.Bool.{nat_eq}
 use Rattle.std.proofs.lemmas.Bool.{eqb-true}
+use Rattle.std.proofs.lemmas.List.Elements.{All-contains}
 use Rattle.gen_types.specs.Members.{bool_cases}
 use Rattle.gen_types.proofs.Lists.{Contains_here, Contains_filtered}
 use Rattle.gen_net.specs.Header.{RunHeader}
@@ -12,10 +13,10 @@ use Rattle.gen_log.specs.Verifying.{SaysItIsOf}
 use Rattle.gen_local.specs.declared.reading.Reading.{Reading}
 use Rattle.gen_local.specs.declared.reading.Reading.TheVariants.{Unreadable, Foreign, Own}
 use Rattle.gen_local.specs.Erased.{erased}
-use Rattle.gen_local.specs.Report.{Report, IsReading}
+use Rattle.gen_local.specs.Report.{Report, IsReading, IsReport, AreReportsOf}
 use Rattle.gen_match.specs.Reports.{entries_told, sole_told, reports_of}
-use Rattle.gen_audit.specs.Bundle.{exhibits_of, says_it_is_of, counted, sole_log}
-use Rattle.gen_audit.specs.Telling.{ReportsTellLogs}
+use Rattle.gen_audit.specs.Bundle.{LogBundle, exhibits_of, says_it_is_of, counted, sole_log}
+use Rattle.gen_audit.specs.Telling.{AreReports, ReportsTellLogs}
 use Rattle.gen_audit.proofs.Supporting.{own_of, own_is}
 
 -- what a reading tells is what counts
@@ -52,3 +53,11 @@ reports_tell_logs b reports are g =
     let of_bundle : IsReading b.header r.exhibit.general (log_of b.header r.exhibit.bytes) r.reading = subst (λ x. IsReading x r.exhibit.general (log_of x r.exhibit.bytes) r.reading) (are.header r k.0) is in
     told_is b.header g (log_of b.header r.exhibit.bytes) r.reading (subst (λ x. IsReading b.header x (log_of b.header r.exhibit.bytes) r.reading) his of_bundle))
     ∙ ap (sole_log b.header g) (of_his g reports ∙ ap (λ xs. exhibits_of xs g) are.exhibits)
+
+-- reports of a bundle's exhibits, under its header
+pub are_reports : (b : LogBundle) (reports : List Report) → AreReportsOf b.header b.exhibits reports → AreReports b reports
+are_reports b reports are = record {
+  exhibits = are.exhibits;
+  header = λ r inside. All-contains (λ (s : Report). s.header ≡ b.header) reports r are.header inside;
+  each = λ r inside. All-contains IsReport reports r are.each inside;
+}

@@ -17,7 +17,7 @@ use crate::findings_collected::{findings_in, rest_of};
 use crate::verdicts::{Decisions, Findings, Judgement, Verdict};
 use gen_chain::VerifyStore;
 use gen_convict::{Evidence, find_evidence};
-use gen_local::{LocalReport, Reading, local_report_with};
+use gen_local::{LocalReport, Reading, local_reports};
 use gen_types::{GeneralNo, GeneralSet, OrderNo};
 use gen_world::Decision;
 use std::alloc::{AllocError, Global};
@@ -30,14 +30,8 @@ use std::alloc::{AllocError, Global};
 pub(crate) fn reports_of_all(alloc: Global, bundle: &Bundle) -> Result<Vec<LocalReport>, AllocError>
     ensures { IfOk result (λ reports. AreReports bundle.now reports.items) }
 {
-    let header = bundle.header();
     let mut store = VerifyStore::new(alloc)?;
-    let mut reports = Vec::new(alloc);
-    for exhibit in bundle.exhibits() {
-        let report = local_report_with(alloc, header, exhibit, &mut store)?;
-        reports.push(report)?;
-    }
-    Ok(reports)
+    local_reports(alloc, bundle.header(), bundle.exhibits(), &mut store)
 }
 
 /// Returns what a general decided by a report, if it is of his log.

@@ -3,6 +3,7 @@ pub mod Commanding
 pub mod FirstRefusal
 pub mod GatheredTexts
 pub mod GoodLogs
+pub mod Grouped
 pub mod KeyOrder
 pub mod Neighbouring
 pub mod Next

@@ -2,7 +2,9 @@ pub mod Erased
 pub mod Following
 pub mod FollowingLaws
 pub mod FoundLog
+pub mod Grouped
 pub mod Keys
+pub mod Opened
 pub mod Recvs
 pub mod Report
 pub mod ReportLaws

@@ -1,5 +1,5 @@
 -- What the report of an exhibit is. An exhibit is a general, and bytes that are said to be his log of a run.
-use Rattle.std.specs.Prelude.{ℕ, ◌≡◌, List, Result, Ok, Err}
+use Rattle.std.specs.Prelude.{ℕ, ◌≡◌, List, map, All, Result, Ok, Err}
 use Rattle.gen_net.specs.Header.{RunHeader}
 use Rattle.gen_log.specs.declared.fault.LogFault.{LogFault}
 use Rattle.gen_log.specs.Log.{RunLog}
@@ -28,3 +28,9 @@ pub record Report : Type 0 where
 abbrev pub IsReport : Report → Type 0
 IsReport r =
     IsReading r.header r.exhibit.general (log_of r.header r.exhibit.bytes) r.reading
+
+-- each is the report of one of the exhibits, under the header, in their order
+pub record AreReportsOf (h : RunHeader) (shown : List ShownLog) (reports : List Report) : Type 0 where
+  pub exhibits : map (λ r. r.exhibit) reports ≡ shown
+  pub header : All (λ r. r.header ≡ h) reports
+  pub each : All IsReport reports

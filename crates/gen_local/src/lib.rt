@@ -17,8 +17,10 @@ mod deciding;
 mod departing;
 mod exhibits;
 mod gathering;
+mod grouping;
 mod judging;
 pub mod laws;
+mod opening;
 mod own_log;
 mod places;
 mod progress;
@@ -33,12 +35,15 @@ mod walking;
 
 pub use departing::departs;
 pub use exhibits::Exhibit;
+pub use grouping::local_reports;
 pub use own_log::OwnLog;
 pub use reading::Reading;
 pub use reports::{LocalReport, local_report, local_report_with};
 pub use texts::{SignedText, Text};
 pub use walking::departs_from;
 
+#[cfg(test)]
+mod group_tests;
 #[cfg(test)]
 mod report_tests;
 #[cfg(test)]

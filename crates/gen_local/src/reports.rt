@@ -1,9 +1,11 @@
 //! Reports of exhibits.
 ghost use Rattle.std.specs.Prelude.{◌≡◌, IfOk};
 ghost use Rattle.gen_chain.specs.Store.{Serves, KeepsAll};
+ghost use Rattle.gen_local.specs.Opened.{IsOpened, IsLinkOf};
 ghost use Rattle.gen_local.specs.Report.{IsReport};
 
 use crate::exhibits::Exhibit;
+use crate::opening::{Opened, link_of, open};
 use crate::reading::Reading;
 use crate::reporting::reading_of;
 use gen_chain::VerifyStore;
@@ -56,6 +58,38 @@ impl LocalReport {
     }
 }
 
+/// Returns the report of an exhibit that was opened under the header, over whose log, if it is one, this is
+/// the last link.
+///
+/// # Errors
+///
+/// `AllocError` where memory is refused.
+pub(crate) fn report_of(
+    alloc: Global,
+    header: &Header,
+    opened: Opened,
+    last_link: &[u8; 32],
+    store: &mut VerifyStore,
+) -> Result<LocalReport, AllocError>
+    requires opened { IsOpened header.now opened }
+    requires link { IsLinkOf header.now opened.exhibit.general opened.opening last_link.now }
+    requires serves { Serves header.now store.old }
+    ensures header { IfOk result (λ report. report.header ≡ header.now) }
+    ensures exhibit { IfOk result (λ report. report.exhibit ≡ opened.exhibit) }
+    ensures report { IfOk result IsReport }
+    ensures grows { KeepsAll store.old store.new }
+    ensures serves { Serves header.now store.new }
+{
+    let Opened { exhibit, opening } = opened;
+    let reading = reading_of(alloc, header, &exhibit, opening, last_link, store)?;
+    let header = header.clone()?;
+    Ok(LocalReport {
+        header,
+        exhibit,
+        reading,
+    })
+}
+
 /// Returns the report of an exhibit, a general and bytes that are said to be his log, under a header. No
 /// signature is verified twice.
 ///
@@ -98,12 +132,7 @@ pub fn local_report_with(
     ensures grows { KeepsAll store.old store.new }
     ensures serves { Serves header.now store.new }
 {
-    let reading = reading_of(alloc, header, exhibit.general(), exhibit.log(), store)?;
-    let header = header.clone()?;
-    let exhibit = exhibit.share()?;
-    Ok(LocalReport {
-        header,
-        exhibit,
-        reading,
-    })
+    let opened = open(alloc, header, exhibit, store)?;
+    let link = link_of(header, &opened);
+    report_of(alloc, header, opened, &link, store)
 }

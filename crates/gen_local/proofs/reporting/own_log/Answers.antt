@@ -3,7 +3,8 @@ use Rattle.gen_local.proofs.reporting.own_log.Goals as goal
 
 pub returns-clause-found : goal.returns-clause-found
 returns-clause-found c =
-    let sealed = rw (c.head_of-head.ensures, c.head.ensures) at c.is_sealed-verifies.ensures in
+    let head = c.head_of-head.ensures c.args.header.now c.requires.link in
+    let sealed = rw (head, c.head.ensures) at c.is_sealed-verifies.ensures in
     record {
       log_of_run = c.requires.log;
       says = c.requires.says;
@@ -11,5 +12,5 @@ returns-clause-found c =
       sealed = sealed;
       departs = c.departs-departure.ensures.departs c.args.general c.requires.says.starts;
       follows = c.departs-departure.ensures.follows c.args.general c.requires.says.starts;
-      texts = with_head c.args.header.now c.args.general c.args.log _ _ c.is_sealed-verifies.result (rw (c.new-texts.ensures.items, c.entries.ensures) at c.in_ok-unsigned.ensures.texts) sealed (rw (c.head_of-head.ensures, c.head-2.ensures) at c.in_ok-put_if.ensures);
+      texts = with_head c.args.header.now c.args.general c.args.log _ _ c.is_sealed-verifies.result (rw (c.new-texts.ensures.items, c.entries.ensures) at c.in_ok-unsigned.ensures.texts) sealed (rw (head, c.head-2.ensures) at c.in_ok-put_if.ensures);
     }

@@ -1,6 +1,6 @@
 use Rattle.std.proofs.Common.{refl}
 use Rattle.gen_local.proofs.Starters.{told_start, no_start}
-use Rattle.gen_local.proofs.reporting.starts_as.Goals as goal
+use Rattle.gen_local.proofs.opening.starts_as.Goals as goal
 
 pub returns-in-Some : goal.returns-in-Some
 returns-in-Some c = told_start c.in-Some.first c.args.general c.eq.result c.args.entries.now c.eq.ensures ((c.in-Some.ensures c.in-Some.first).0 refl)

@@ -1,0 +1,66 @@
+-- Reports of exhibits that are opened four at a time.
+use Rattle.std.proofs.Common.{◌≡◌, ℕ, suc, List, [], ◌∷◌, ◌++◌, map, take, drop, Contains, Option, Some, None, Result, Ok, Err, IfOk, slice_index_or, refl, sym, ap, ◌∙◌, subst, append_assoc}
+use Rattle.std.proofs.lemmas.List.{map_push}
+use Rattle.std.proofs.lemmas.List.Elements.{All-push}
+use Rattle.gen_net.specs.Header.{RunHeader}
+use Rattle.gen_chain.specs.Store.{Store, KeepsAll}
+use Rattle.gen_log.specs.Texts.{GeneralsLog, IsLaneOf}
+use Rattle.gen_local.specs.declared.grouping.Group.{Group}
+use Rattle.gen_local.specs.Grouped.{HasLinks}
+use Rattle.gen_local.specs.declared.opening.Opened.{Opened}
+use Rattle.gen_local.specs.declared.opening.Opening.{Opening}
+use Rattle.gen_local.specs.declared.opening.Opening.TheVariants.{Unreadable, Foreign, Own}
+use Rattle.gen_local.specs.Opened.{AreLinksOf, IsLinkOf, log_in, own_log}
+use Rattle.gen_local.specs.Report.{Report, IsReport, AreReportsOf}
+use Rattle.gen_local.specs.Shown.{ShownLog}
+
+-- what is kept from one store to a second and to a third is kept from the first to the third
+pub keeps_on : (a b c : Store) → KeepsAll a b → KeepsAll b c → KeepsAll a c
+keeps_on a b c one two t answer kept = two t answer (one t answer kept)
+
+-- one report more
+pub one_report_more : (h : RunHeader) (before : List ShownLog) (reports : List Report) (r : Report) (x : ShownLog) → AreReportsOf h before reports → r.header ≡ h → r.exhibit ≡ x → IsReport r → AreReportsOf h (before ++ x ∷ []) (reports ++ r ∷ [])
+one_report_more h before reports r x are header exhibit is = record {
+  exhibits = map_push (λ (s : Report). s.exhibit) reports r ∙ ap (λ (xs : List ShownLog). xs ++ r.exhibit ∷ []) are.exhibits ∙ ap (λ (y : ShownLog). before ++ y ∷ []) exhibit;
+  header = All-push (λ (s : Report). s.header ≡ h) reports r are.header header;
+  each = All-push IsReport reports r are.each is;
+}
+
+-- the first four, one by one
+pub four_taken : (xs : List ShownLog) → take 1 xs ++ (take 1 (drop 1 xs) ++ (take 1 (drop 1 (drop 1 xs)) ++ take 1 (drop 1 (drop 1 (drop 1 xs))))) ≡ take 4 xs
+four_taken [] = refl
+four_taken (a ∷ []) = refl
+four_taken (a ∷ b ∷ []) = refl
+four_taken (a ∷ b ∷ c ∷ []) = refl
+four_taken (a ∷ b ∷ c ∷ d ∷ xs) = refl
+
+pub four_dropped : (xs : List ShownLog) → drop 1 (drop 1 (drop 1 (drop 1 xs))) ≡ drop 4 xs
+four_dropped [] = refl
+four_dropped (a ∷ []) = refl
+four_dropped (a ∷ b ∷ []) = refl
+four_dropped (a ∷ b ∷ c ∷ []) = refl
+four_dropped (a ∷ b ∷ c ∷ d ∷ xs) = refl
+
+-- a link over the log of an exhibit
+link_at : (h : RunHeader) (general : ℕ) (opening : Opening) (link : List ℕ) → IsLaneOf h (own_log general opening) link → IsLinkOf h general opening link
+link_at h general (Unreadable fault) link is = tt
+link_at h general Foreign link is = tt
+link_at h general (Own log) link is = is
+
+pub link_found : (h : RunHeader) (o : Option Opened) (link : List ℕ) → IsLaneOf h (log_in o) link → AreLinksOf h o link
+link_found h None link is = tt
+link_found h (Some o) link is = link_at h o.exhibit.general o.opening link is
+
+pub links_found : {E : Type 0} (h : RunHeader) (g : Group) (r : Result (List (List ℕ)) E) (a b c d : Option GeneralsLog) → a ≡ log_in g.first → b ≡ log_in g.second → c ≡ log_in g.third → d ≡ log_in g.fourth
+    → IfOk r (λ links. IsLaneOf h a (slice_index_or links 0 [])) → IfOk r (λ links. IsLaneOf h b (slice_index_or links 1 [])) → IfOk r (λ links. IsLaneOf h c (slice_index_or links 2 [])) → IfOk r (λ links. IsLaneOf h d (slice_index_or links 3 []))
+    → IfOk r (HasLinks h g)
+links_found h g (Ok links) a b c d first second third fourth one two three four = record {
+  first = link_found h g.first (slice_index_or links 0 []) (rw first at one);
+  second = link_found h g.second (slice_index_or links 1 []) (rw second at two);
+  third = link_found h g.third (slice_index_or links 2 []) (rw third at three);
+  fourth = link_found h g.fourth (slice_index_or links 3 []) (rw fourth at four);
+}
+links_found h g (Err e) a b c d first second third fourth one two three four = tt
+
+pub one_behind_another : (a b c d e : List ShownLog) → (((a ++ b) ++ c) ++ d) ++ e ≡ a ++ (b ++ (c ++ (d ++ e)))
+one_behind_another a b c d e = simp append_assoc

@@ -1,0 +1,63 @@
+-- Exhibits that were opened: what their bytes are, before signatures and links are looked at.
+use Rattle.std.specs.Prelude.{ℕ, ◌≡◌, List, [], ◌∷◌, Option, Some, None, Ok, Err}
+use Rattle.gen_net.specs.Header.{RunHeader}
+use Rattle.gen_log.specs.Links.{link_over}
+use Rattle.gen_log.specs.Log.{RunLog, IsLog, log_spelling}
+use Rattle.gen_log.specs.LogReading.{log_of}
+use Rattle.gen_log.specs.Texts.{GeneralsLog}
+use Rattle.gen_log.specs.Verifying.{SaysItIsOf}
+use Rattle.gen_local.specs.declared.opening.Opening.{Opening}
+use Rattle.gen_local.specs.declared.opening.Opening.TheVariants.{Unreadable, Foreign, Own}
+use Rattle.gen_local.specs.declared.opening.Opened.{Opened}
+use Rattle.gen_local.specs.Shown.{ShownLog}
+
+-- the bytes are this log, which says that it is the general's of this run
+pub record IsOwnLog (h : RunHeader) (general : ℕ) (bytes : List ℕ) (log : RunLog) : Type 0 where
+  pub read : log_of h bytes ≡ Ok log
+  pub log_of_run : IsLog h log
+  pub spelled : bytes ≡ log_spelling log
+  pub says : SaysItIsOf h general log
+
+-- the bytes are a log that doesn't
+pub record IsForeign (h : RunHeader) (general : ℕ) (bytes : List ℕ) : Type 0 where
+  pub log : RunLog
+  pub read : log_of h bytes ≡ Ok log
+  pub other : SaysItIsOf h general log → ⊥
+
+-- what the bytes are
+abbrev pub IsOpening : RunHeader → ℕ → List ℕ → Opening → Type 0
+IsOpening h general bytes (Unreadable fault) = log_of h bytes ≡ Err fault
+IsOpening h general bytes Foreign = IsForeign h general bytes
+IsOpening h general bytes (Own log) = IsOwnLog h general bytes log
+
+-- what the bytes of the exhibit are
+abbrev pub IsOpened : RunHeader → Opened → Type 0
+IsOpened h o = IsOpening h o.exhibit.general o.exhibit.bytes o.opening
+
+-- the same of one that may be missing
+abbrev pub AreOpened : RunHeader → Option Opened → Type 0
+AreOpened h None = Unit {0}
+AreOpened h (Some o) = IsOpened h o
+
+-- the exhibit, if it isn't missing
+abbrev pub exhibits_in : Option Opened → List ShownLog
+exhibits_in None = []
+exhibits_in (Some o) = o.exhibit ∷ []
+
+-- the log with its general, if the bytes are one
+abbrev pub own_log : ℕ → Opening → Option GeneralsLog
+own_log general (Own log) = Some (record { general = general; log = log })
+own_log general _ = None
+
+abbrev pub log_in : Option Opened → Option GeneralsLog
+log_in None = None
+log_in (Some o) = own_log o.exhibit.general o.opening
+
+-- the link is the last one over the log, if the bytes are one
+abbrev pub IsLinkOf : RunHeader → ℕ → Opening → List ℕ → Type 0
+IsLinkOf h general (Own log) link = link ≡ link_over h general log.entries
+IsLinkOf h general _ link = Unit {0}
+
+abbrev pub AreLinksOf : RunHeader → Option Opened → List ℕ → Type 0
+AreLinksOf h None link = Unit {0}
+AreLinksOf h (Some o) link = IsLinkOf h o.exhibit.general o.opening link
