@@ -31,3 +31,5 @@ mod early_end_tests;
 mod own_threads_tests;
 #[cfg(test)]
 mod tests;
+#[cfg(test)]
+mod tree_tests;

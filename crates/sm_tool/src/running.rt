@@ -17,8 +17,10 @@ use gen_audit::{Bundle, write_bundle};
 use gen_local::Exhibit;
 use gen_log::SealedLog;
 use gen_net::Net;
-use gen_report::{LineFault, ScenarioFault, ScenarioText, read_scenario};
-use gen_threads::{Gate, run_threads};
+use gen_report::{
+    LineFault, ScenarioFault, ScenarioParts, ScenarioText, SignedText, read_scenario,
+};
+use gen_threads::{Gate, make_trees, run_threads};
 use gen_types::{GeneralNo, GeneralSet};
 use gen_walks::{WalkFault, Walks, make_walks};
 use gen_world::{PlainScenario, Scenario};
@@ -42,6 +44,25 @@ fn missing_seed(plain: &PlainScenario) -> JobFault
         kind: LineFault::BadSeed,
         line: plain.net().edges().len() + 7,
     })
+}
+
+/// Makes the scenario that a text says. The trees of the generals' keys are made by threads.
+fn make_scenario<R: Threads + Sync>(
+    rt: &R,
+    alloc: Global,
+    signed: SignedText,
+) -> Result<Scenario, AllocError>
+    ensures { IfOk result (λ scenario. scenario ≡ signed) }
+{
+    let ScenarioParts {
+        version,
+        net,
+        master,
+        order,
+        scripts,
+    } = signed.into_parts();
+    let trees = make_trees(rt, alloc, &master, version.height(), net.generals())?;
+    Scenario::of_trees(alloc, version, net, order, &master, scripts, trees)
 }
 
 /// Returns the generals of a network but these.
@@ -117,7 +138,7 @@ fn run<T: Threads + Wait + Sync>(
     match read_scenario(alloc, input)? {
         ScenarioText::Plain(plain) => Err(missing_seed(&plain)),
         ScenarioText::Signed(signed) => {
-            let scenario = signed.into_scenario(alloc)?;
+            let scenario = make_scenario(rt, alloc, signed)?;
             let bundle = bundle_of_run(rt, alloc, capacity, &scenario)?;
             let text = write_bundle(alloc, &bundle)?;
             Ok(Output {
@@ -128,8 +149,8 @@ fn run<T: Threads + Wait + Sync>(
     }
 }
 
-/// Reads a scenario text with a seed to its end, runs it, each general in a thread of his own over edges that hold so
-/// many frames each, at least one, and writes the bundle of the run: the generals who have scripts are held for
+/// Reads a scenario text with a seed to its end, makes the trees of keys by threads, runs it, each general in a thread
+/// of his own over edges that hold so many frames each, at least one, and writes the bundle of the run: the generals who have scripts are held for
 /// faulty, all logs are shown, and the walks are the best ones between the others, or none where two of them have no
 /// short one.
 ///

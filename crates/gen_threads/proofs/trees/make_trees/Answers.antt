@@ -21,4 +21,4 @@ returns g c =
     let numbers = chain.1 ∙ (λ i. nat_range (ends.0 i) (ends.1 i)) ∙ ap (range_with_len 0) whole in
     let tree = general_tree c.args.master.now c.args.height in
     ok_of_match c.in_ok-collect.field-0 _ _ _ made.2 (λ trees is.
-      is.2 ∙ oks_are_map _ tree chain.0 is.0 (rw is.1 at chain.2) ∙ ap (map tree) numbers)
+    is.2 ∙ oks_are_map _ tree chain.0 is.0 (rw is.1 at chain.2) ∙ ap (map tree) numbers)
