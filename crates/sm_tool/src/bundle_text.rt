@@ -1,9 +1,12 @@
 //! The text of a bundle, kept in pieces so that its logs need no copy.
-ghost use Rattle.std.specs.Prelude.{◌≡◌, ◌<◌, ◌^◌, All, length, IfOk, OnOk};
+ghost use Rattle.std.specs.Prelude.{◌≡◌, ◌<◌, ◌^◌, false, All, length, IfOk, OnOk};
 ghost use Rattle.std.specs.List.{flat_map};
 ghost use Rattle.std.specs.Io.KnownBytes.{Appends};
 ghost use Rattle.gen_audit.specs.BundleSpelling.{bundle_spelling, exhibit_spelling};
+ghost use Rattle.sm_tool.specs.Answering.{DeliversText};
+ghost use Rattle.sm_tool.specs.Ends.{IsWritten};
 
+use crate::ends::{JobEnd, JobFault};
 use gen_audit::{Bundle, bundle_front, exhibit_front};
 use gen_local::Exhibit;
 use std::alloc::{AllocError, Global};
@@ -65,5 +68,25 @@ impl BundleText {
         let _lawful = self.bundle.header();
         writer.write_all(&self.front)?;
         write_exhibits(writer, self.bundle.exhibits())
+    }
+}
+
+/// Writes the whole text of a bundle, and returns how the job ends by it.
+fn write_text<W: Write>(writer: &mut W, text: &BundleText) -> JobEnd
+    ensures { IsWritten text.now false (W.contents writer.old) (W.contents writer.new) result }
+{
+    if text.write_to(writer).is_err() || writer.flush().is_err() {
+        return JobEnd::Failed(JobFault::Write);
+    }
+    JobEnd::Done
+}
+
+/// Writes the bundle that answers the input, and returns how the job ends: so, or by the fault in its place.
+pub fn deliver_bundle<W: Write>(writer: &mut W, answer: Result<BundleText, JobFault>) -> JobEnd
+    ensures { DeliversText answer (W.contents writer.old) (W.contents writer.new) result }
+{
+    match answer {
+        Ok(text) => write_text(writer, &text),
+        Err(fault) => JobEnd::Failed(fault),
     }
 }

@@ -1,5 +1,5 @@
 //! The job `run`.
-ghost use Rattle.std.specs.Prelude.{◌≡◌, ◌<◌, IfErr, IfOk, IfSome, map};
+ghost use Rattle.std.specs.Prelude.{◌≡◌, ◌<◌, false, IfErr, IfOk, IfSome, map};
 ghost use Rattle.gen_types.specs.Ascending.{IsListOf};
 ghost use Rattle.gen_net.specs.Network.{IsLoyal};
 ghost use Rattle.gen_audit.specs.WorldBundle.{shown_as};
@@ -10,10 +10,11 @@ ghost use Rattle.sm_tool.specs.Ends.{IsTaken, KeepsUntilWhole};
 ghost use Rattle.sm_tool.specs.Run.{AreWalksOfRun, IsRun, IsRunFault, MakesBundle, line_after_order};
 ghost use Rattle.sm_tool.specs.declared.ends.JobFault.TheVariants as faults;
 
-use crate::ends::{JobEnd, JobFault, Output};
-use crate::transfer::{deliver, read_all};
+use crate::bundle_text::{BundleText, deliver_bundle};
+use crate::ends::{JobEnd, JobFault};
+use crate::transfer::read_all;
+use gen_audit::Bundle;
 use gen_audit::laws::own_runs_are_accepted;
-use gen_audit::{Bundle, write_bundle};
 use gen_local::Exhibit;
 use gen_log::SealedLog;
 use gen_net::Net;
@@ -124,15 +125,15 @@ fn bundle_of_run<T: Threads + Wait + Sync>(
     }
 }
 
-/// Returns the bytes of the bundle of the run of the scenario that the input spells.
+/// Returns the text of the bundle of the run of the scenario that the input spells.
 fn run<T: Threads + Wait + Sync>(
     rt: &T,
     alloc: Global,
     capacity: u8,
     input: &[u8],
-) -> Result<Output, JobFault>
+) -> Result<BundleText, JobFault>
     requires { 0 < capacity }
-    ensures answer { IfOk result (λ o. IsRun input.now o.text.items o.negative) }
+    ensures answer { IfOk result (λ text. IsRun input.now text false) }
     ensures fault { IfErr result (IsRunFault input.now) }
 {
     match read_scenario(alloc, input)? {
@@ -140,11 +141,8 @@ fn run<T: Threads + Wait + Sync>(
         ScenarioText::Signed(signed) => {
             let scenario = make_scenario(rt, alloc, signed)?;
             let bundle = bundle_of_run(rt, alloc, capacity, &scenario)?;
-            let text = write_bundle(alloc, &bundle)?;
-            Ok(Output {
-                text,
-                negative: false,
-            })
+            let text = BundleText::new(alloc, bundle)?;
+            Ok(text)
         }
     }
 }
@@ -156,7 +154,7 @@ fn run<T: Threads + Wait + Sync>(
 ///
 /// A fault of the input is looked for once it was read whole, and nothing is written before the output
 /// is whole. Where a read, a write, memory or a thread fails the job ends so.
-#[tactic(auto, using(crate::proofs::Known::taken, crate::proofs::Delivering::answered, crate::proofs::Delivering::late, crate::proofs::Delivering::unread_answers, crate::proofs::Delivering::unread_taken, crate::proofs::Delivering::unread_late))]
+#[tactic(auto, using(crate::proofs::Known::taken, crate::proofs::Delivering::answered_text, crate::proofs::Delivering::late_text, crate::proofs::Delivering::unread_answers, crate::proofs::Delivering::unread_taken, crate::proofs::Delivering::unread_late))]
 pub fn run_engine<T: Threads + Wait + Sync, R: Read, W: Write>(
     rt: &T,
     alloc: Global,
@@ -175,7 +173,7 @@ pub fn run_engine<T: Threads + Wait + Sync, R: Read, W: Write>(
     ensures late { KeepsUntilWhole (W.contents writer.old) (W.contents writer.new) result }
 {
     match read_all(alloc, reader) {
-        Ok(input) => deliver(writer, run(rt, alloc, capacity, &input)),
+        Ok(input) => deliver_bundle(writer, run(rt, alloc, capacity, &input)),
         Err(fault) => JobEnd::Failed(fault),
     }
 }
