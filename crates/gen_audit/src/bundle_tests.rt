@@ -99,6 +99,27 @@ fn fault_of(
     Ok(made.err())
 }
 
+/// What stands before the log of the first exhibit.
+fn first_front(bundle: &Bundle) -> Option<[u8; 5]> {
+    let exhibit = bundle.exhibits().first()?;
+    if exhibit.log().len() < 10 {
+        Some(exhibit_front(exhibit))
+    } else {
+        None
+    }
+}
+
+#[test]
+fn written_in_pieces(rt: HostRuntime) -> Result<(), Fail> {
+    let alloc = rt.alloc();
+    let bytes = bundle_bytes(alloc, &FRONT)?;
+    let bundle = read_bundle(alloc, &bytes).map_err(|_| "no bundle")?;
+    let front = bundle_front(alloc, &bundle)?;
+    assert!(rt; front.len() == 84 && bytes.starts_with(&front));
+    assert!(rt; first_front(&bundle) == Some([1, 0, 0, 0, 3]));
+    Ok(())
+}
+
 #[test]
 fn read_and_written_again(rt: HostRuntime) -> Result<(), Fail> {
     let alloc = rt.alloc();

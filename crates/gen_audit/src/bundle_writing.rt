@@ -43,15 +43,23 @@ fn put_each_walk(out: &mut Vec<u8>, walks: &[Walk]) -> Result<(), AllocError>
     Ok(())
 }
 
+/// Returns what stands before the bytes of an exhibit's log in a bundle: the general, and the log's length in four
+/// bytes. The log must be shorter than 2^32 bytes, as those of a bundle are.
+pub fn exhibit_front(exhibit: &Exhibit) -> [u8; 5]
+    requires { length exhibit.now.bytes < 2 ^ 32 }
+    ensures { result ++ exhibit.now.bytes ≡ exhibit_spelling exhibit.now }
+{
+    let [a, b, c, d] = (exhibit.log().len() as u32).to_be_bytes();
+    [exhibit.general().get(), a, b, c, d]
+}
+
 /// Appends an exhibit.
 fn put_exhibit(out: &mut Vec<u8>, exhibit: &Exhibit) -> Result<(), AllocError>
     requires { length exhibit.now.bytes < 2 ^ 32 }
     ensures { OnOk result (out.new.items ≡ out.old.items ++ exhibit_spelling exhibit.now) }
 {
-    let log = exhibit.log();
-    out.push(exhibit.general().get())?;
-    out.extend_from_slice(&(log.len() as u32).to_be_bytes())?;
-    out.extend_from_slice(log)
+    out.extend_from_slice(&exhibit_front(exhibit))?;
+    out.extend_from_slice(exhibit.log())
 }
 
 /// Appends exhibits.
@@ -65,18 +73,32 @@ fn put_each_exhibit(out: &mut Vec<u8>, exhibits: &[Exhibit]) -> Result<(), Alloc
     Ok(())
 }
 
-/// Returns the one spelling of a bundle, as `read_bundle` reads it. It fails only where memory was refused.
-pub fn write_bundle(alloc: Global, bundle: &Bundle) -> Result<Vec<u8>, AllocError>
-    ensures { IfOk result (λ bytes. bytes.items ≡ bundle_spelling bundle.now) }
+/// Returns what stands before the exhibits in the one spelling of a bundle: with it and `exhibit_front` a bundle is
+/// written without a copy of its logs.
+///
+/// # Errors
+///
+/// `AllocError` where memory is refused.
+pub fn bundle_front(alloc: Global, bundle: &Bundle) -> Result<Vec<u8>, AllocError>
+    ensures { IfOk result (λ bytes.
+        bytes.items ++ flat_map exhibit_spelling bundle.now.exhibits ≡ bundle_spelling bundle.now) }
 {
     let header = bundle.header();
     let walks = bundle.walks().as_slice();
-    let exhibits = bundle.exhibits();
     let mut out = front_bytes(alloc, BUNDLE_MARKS, header)?;
     out.extend_from_slice(&bundle.faulty().bits().to_be_bytes())?;
     out.push(walks.len() as u8)?;
     put_each_walk(&mut out, walks)?;
-    out.push(exhibits.len() as u8)?;
-    put_each_exhibit(&mut out, exhibits)?;
+    out.push(bundle.exhibits().len() as u8)?;
+    Ok(out)
+}
+
+/// Returns the one spelling of a bundle, as `read_bundle` reads it. It fails only where memory was refused.
+pub fn write_bundle(alloc: Global, bundle: &Bundle) -> Result<Vec<u8>, AllocError>
+    ensures { IfOk result (λ bytes. bytes.items ≡ bundle_spelling bundle.now) }
+{
+    let _lawful = bundle.header();
+    let mut out = bundle_front(alloc, bundle)?;
+    put_each_exhibit(&mut out, bundle.exhibits())?;
     Ok(out)
 }

@@ -7,5 +7,6 @@ pub mod Nears
 pub mod Passing
 pub mod Rings
 pub mod Started
+pub mod TreesMade
 pub mod Turning
 pub mod Zips

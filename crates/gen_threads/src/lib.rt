@@ -13,6 +13,7 @@ mod running;
 mod starting;
 mod stopping;
 mod together;
+mod trees;
 mod waiting;
 mod works;
 
@@ -22,6 +23,7 @@ pub use gates::Gate;
 pub use run_parts::RunPart;
 pub use running::run_general;
 pub use together::run_threads;
+pub use trees::make_trees;
 
 #[cfg(test)]
 mod early_end_tests;
@@ -29,3 +31,5 @@ mod early_end_tests;
 mod own_threads_tests;
 #[cfg(test)]
 mod tests;
+#[cfg(test)]
+mod tree_tests;

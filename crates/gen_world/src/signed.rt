@@ -74,7 +74,7 @@ impl Model for Scenario {
 }
 
 /// The trees of the first generals under a master seed, in their order.
-fn general_trees(
+pub(crate) fn general_trees(
     alloc: Global,
     master: &[u8; 32],
     height: TreeHeight,
@@ -229,6 +229,41 @@ impl Scenario {
         }) }
     {
         let trees = general_trees(alloc, master, version.height(), net.generals())?;
+        Scenario::of_trees(alloc, version, net, order, master, scripts, trees)
+    }
+
+    /// Returns the same scenario as `of_version`, over trees that were made before: those of all generals under the
+    /// master seed, of the version's height, in their order. So whoever makes the trees says how, as in several threads.
+    ///
+    /// # Errors
+    ///
+    /// `AllocError` where memory is refused.
+    pub fn of_trees(
+        alloc: Global,
+        version: Version,
+        net: Net,
+        order: OrderNo,
+        master: &[u8; 32],
+        scripts: Vec<Script>,
+        trees: Vec<KeyTree>,
+    ) -> Result<Scenario, AllocError>
+        requires lawful { IsScenario (record {
+          version = version;
+          net = net;
+          master = master.now;
+          order = order;
+          scripts = scripts.items;
+        }) }
+        requires trees { trees.items
+            ≡ map (general_tree master.now (height_in version)) (range_with_len 0 net.generals) }
+        ensures { IfOk result (λ scenario. scenario ≡ record {
+          version = version;
+          net = net;
+          master = master.now;
+          order = order;
+          scripts = scripts.items;
+        }) }
+    {
         let roots = roots_of(alloc, trees.as_slice())?;
         let header = header_over(version, net, roots);
         Ok(Scenario {

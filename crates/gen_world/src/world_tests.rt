@@ -1,8 +1,12 @@
 //! Runs of scenarios: their frames, and the logs of all. The lengths of the logs are counted by hand, from
 //! those of the entries.
+ghost use Rattle.std.specs.Prelude.{◌≤◌};
+ghost use Rattle.gen_net.specs.Version.{greatest_slot, slot_in};
+
 use super::*;
 use crate::scripted_tests::scenario_with;
-use gen_net::Net;
+use crate::signed::general_trees;
+use gen_net::{Net, Version};
 use gen_types::OrderNo;
 use std::alloc::Global;
 use std::test::Fail;
@@ -18,6 +22,17 @@ fn without_scripts(
     let net = Net::new(alloc, n, edges, m, d, 2, 0)?;
     let _few = net.generals();
     Ok(Scenario::new(alloc, net, OrderNo::at(1), &[0; 32], Vec::new(alloc))?)
+}
+
+/// The scenario with order 1 in which two neighbours have no scripts, over trees that were made before.
+#[tactic(auto, using(crate::proofs::ScriptPairs::no_scripts))]
+fn over_trees(alloc: Global, version: Version) -> Result<Scenario, Fail>
+    requires { slot_in version ≤ greatest_slot }
+{
+    let net = Net::new(alloc, 2, &[(0, 1)], 0, 1, 2, 0)?;
+    let trees = general_trees(alloc, &[0; 32], version.height(), net.generals())?;
+    let (order, none) = (OrderNo::at(1), Vec::new(alloc));
+    Ok(Scenario::of_trees(alloc, version, net, order, &[0; 32], none, trees)?)
 }
 
 /// Whose each log of a run is, and how many bytes it has.
@@ -39,6 +54,17 @@ fn each_general_has_a_log(rt: HostRuntime) -> Result<(), Fail> {
     let line = log_lengths(alloc, &without_scripts(alloc, 4, &edges, (0, 3))?)?;
     let expected = [(0, 33_080), (1, 49_599), (2, 66_114), (3, 66_102)];
     assert!(rt; line.as_slice() == expected.as_slice());
+    Ok(())
+}
+
+#[test]
+fn trees_that_were_made_before(rt: HostRuntime) -> Result<(), Fail> {
+    let alloc = rt.alloc();
+    let pair = log_lengths(alloc, &over_trees(alloc, Version::One)?)?;
+    assert!(rt; pair.as_slice() == [(0, 33_080), (1, 33_076)].as_slice());
+    // Two signatures stand in each log, and each has two siblings more.
+    let tall = log_lengths(alloc, &over_trees(alloc, Version::Two { slot: 3 })?)?;
+    assert!(rt; tall.as_slice() == [(0, 33_208), (1, 33_204)].as_slice());
     Ok(())
 }
 

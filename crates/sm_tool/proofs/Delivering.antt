@@ -1,5 +1,5 @@
 -- How a job ends, by what answers its input or by the fault in its place.
-use Rattle.std.proofs.Common.{◌≡◌, ℕ, Bool, List, Option, Some, None, Result, Ok, Err, subst}
+use Rattle.std.proofs.Common.{◌≡◌, ℕ, Bool, false, List, Option, Some, None, Result, Ok, Err, subst}
 use Rattle.std.specs.Prelude.{IfSome, IfOk, IfErr}
 use Rattle.std.specs.Io.KnownBytes.{Keeps}
 use Rattle.sm_tool.specs.declared.ends.JobEnd.{JobEnd}
@@ -8,7 +8,7 @@ use Rattle.sm_tool.specs.declared.ends.JobFault.{JobFault}
 use Rattle.sm_tool.specs.declared.ends.JobFault.TheVariants as faults
 use Rattle.sm_tool.specs.declared.ends.Output.{Output}
 use Rattle.sm_tool.proofs.Known.{kept}
-use Rattle.sm_tool.specs.Answering.{Answers, Delivers}
+use Rattle.sm_tool.specs.Answering.{Answers, Delivers, DeliversText}
 use Rattle.sm_tool.specs.Ends.{IsReadFault, IsTaken, IsWritten, KeepsUntilWhole}
 
 by_fault : (A : List ℕ → Bool → Type 0) (F : JobFault → Type 0) (old new : Option (List ℕ)) (f : JobFault) → (F faults.Write → ⊥) → F f → Answers A F old new (Failed f)
@@ -37,6 +37,15 @@ pub answered : (A : List ℕ → List ℕ → Bool → Type 0) (F : List ℕ →
 answered A F None old new all answer end never whole a f d = tt
 answered A F (Some input) old new all answer end never whole a f d = subst (λ (xs : List ℕ). Answers (A xs) (F xs) old new end) whole (by_delivery (A all) (F all) old new answer end never a f d)
 
+by_text : (A : List ℕ → Bool → Type 0) (F : JobFault → Type 0) (old new : Option (List ℕ)) (answer : Result (List ℕ) JobFault) (end : JobEnd) → (F faults.Write → ⊥) → IfOk answer (λ text. A text false) → IfErr answer F → DeliversText answer old new end → Answers A F old new end
+by_text A F old new (Ok text) end never a f d = by_output A F old new text false end a d
+by_text A F old new (Err fault) end never a f d = rw d.0 (by_fault A F old new fault never f)
+
+-- the same of a text that never says no
+pub answered_text : (A : List ℕ → List ℕ → Bool → Type 0) (F : List ℕ → JobFault → Type 0) (remaining old new : Option (List ℕ)) (all : List ℕ) (answer : Result (List ℕ) JobFault) (end : JobEnd) → (F all faults.Write → ⊥) → IfSome remaining (λ input. all ≡ input) → IfOk answer (λ text. A all text false) → IfErr answer (F all) → DeliversText answer old new end → IfSome remaining (λ input. Answers (A input) (F input) old new end)
+answered_text A F None old new all answer end never whole a f d = tt
+answered_text A F (Some input) old new all answer end never whole a f d = subst (λ (xs : List ℕ). Answers (A xs) (F xs) old new end) whole (by_text (A all) (F all) old new answer end never a f d)
+
 kept_at : (old new : Option (List ℕ)) (f : JobFault) → Keeps old new → KeepsUntilWhole old new (Failed f)
 kept_at old new faults.Memory k = k
 kept_at old new faults.Read k = k
@@ -55,6 +64,11 @@ late_output old new text negative (Failed f) w = rw w tt
 pub late : (old new : Option (List ℕ)) (answer : Result Output JobFault) (end : JobEnd) → Delivers answer old new end → KeepsUntilWhole old new end
 late old new (Ok output) end d = late_output old new output.text.items output.negative end d
 late old new (Err fault) end d = rw d.0 (kept_at old new fault d.1)
+
+-- the same of a text that never says no
+pub late_text : (old new : Option (List ℕ)) (answer : Result (List ℕ) JobFault) (end : JobEnd) → DeliversText answer old new end → KeepsUntilWhole old new end
+late_text old new (Ok text) end d = late_output old new text false end d
+late_text old new (Err fault) end d = rw d.0 (kept_at old new fault d.1)
 
 unread : (A : List ℕ → Bool → Type 0) (F : JobFault → Type 0) (old new : Option (List ℕ)) (f : JobFault) → IsReadFault f → Answers A F old new (Failed f)
 unread A F old new faults.Memory h = tt

@@ -23,3 +23,8 @@ Answers IsAnswer IsFault old new (Failed f) = IsFault f
 abbrev pub Delivers : Result Output JobFault → Option (List ℕ) → Option (List ℕ) → JobEnd → Type 0
 Delivers (Ok output) old new end = IsWritten output.text.items output.negative old new end
 Delivers (Err fault) old new end = (end ≡ Failed fault) × Keeps old new
+
+-- the text was written, which never says no, or the write failed; or there was a fault in its place, and nothing was written
+abbrev pub DeliversText : Result (List ℕ) JobFault → Option (List ℕ) → Option (List ℕ) → JobEnd → Type 0
+DeliversText (Ok text) old new end = IsWritten text false old new end
+DeliversText (Err fault) old new end = (end ≡ Failed fault) × Keeps old new

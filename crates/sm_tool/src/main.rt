@@ -2,6 +2,7 @@
 #![tactic(auto)]
 
 mod accusing;
+mod bundle_text;
 mod checking;
 mod command_line;
 mod ends;

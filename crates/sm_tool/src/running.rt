@@ -1,5 +1,5 @@
 //! The job `run`.
-ghost use Rattle.std.specs.Prelude.{◌≡◌, ◌<◌, IfErr, IfOk, IfSome, map};
+ghost use Rattle.std.specs.Prelude.{◌≡◌, ◌<◌, false, IfErr, IfOk, IfSome, map};
 ghost use Rattle.gen_types.specs.Ascending.{IsListOf};
 ghost use Rattle.gen_net.specs.Network.{IsLoyal};
 ghost use Rattle.gen_audit.specs.WorldBundle.{shown_as};
@@ -10,15 +10,18 @@ ghost use Rattle.sm_tool.specs.Ends.{IsTaken, KeepsUntilWhole};
 ghost use Rattle.sm_tool.specs.Run.{AreWalksOfRun, IsRun, IsRunFault, MakesBundle, line_after_order};
 ghost use Rattle.sm_tool.specs.declared.ends.JobFault.TheVariants as faults;
 
-use crate::ends::{JobEnd, JobFault, Output};
-use crate::transfer::{deliver, read_all};
+use crate::bundle_text::{BundleText, deliver_bundle};
+use crate::ends::{JobEnd, JobFault};
+use crate::transfer::read_all;
+use gen_audit::Bundle;
 use gen_audit::laws::own_runs_are_accepted;
-use gen_audit::{Bundle, write_bundle};
 use gen_local::Exhibit;
 use gen_log::SealedLog;
 use gen_net::Net;
-use gen_report::{LineFault, ScenarioFault, ScenarioText, read_scenario};
-use gen_threads::{Gate, run_threads};
+use gen_report::{
+    LineFault, ScenarioFault, ScenarioParts, ScenarioText, SignedText, read_scenario,
+};
+use gen_threads::{Gate, make_trees, run_threads};
 use gen_types::{GeneralNo, GeneralSet};
 use gen_walks::{WalkFault, Walks, make_walks};
 use gen_world::{PlainScenario, Scenario};
@@ -42,6 +45,25 @@ fn missing_seed(plain: &PlainScenario) -> JobFault
         kind: LineFault::BadSeed,
         line: plain.net().edges().len() + 7,
     })
+}
+
+/// Makes the scenario that a text says. The trees of the generals' keys are made by threads.
+fn make_scenario<R: Threads + Sync>(
+    rt: &R,
+    alloc: Global,
+    signed: SignedText,
+) -> Result<Scenario, AllocError>
+    ensures { IfOk result (λ scenario. scenario ≡ signed) }
+{
+    let ScenarioParts {
+        version,
+        net,
+        master,
+        order,
+        scripts,
+    } = signed.into_parts();
+    let trees = make_trees(rt, alloc, &master, version.height(), net.generals())?;
+    Scenario::of_trees(alloc, version, net, order, &master, scripts, trees)
 }
 
 /// Returns the generals of a network but these.
@@ -103,39 +125,36 @@ fn bundle_of_run<T: Threads + Wait + Sync>(
     }
 }
 
-/// Returns the bytes of the bundle of the run of the scenario that the input spells.
+/// Returns the text of the bundle of the run of the scenario that the input spells.
 fn run<T: Threads + Wait + Sync>(
     rt: &T,
     alloc: Global,
     capacity: u8,
     input: &[u8],
-) -> Result<Output, JobFault>
+) -> Result<BundleText, JobFault>
     requires { 0 < capacity }
-    ensures answer { IfOk result (λ o. IsRun input.now o.text.items o.negative) }
+    ensures answer { IfOk result (λ text. IsRun input.now text false) }
     ensures fault { IfErr result (IsRunFault input.now) }
 {
     match read_scenario(alloc, input)? {
         ScenarioText::Plain(plain) => Err(missing_seed(&plain)),
         ScenarioText::Signed(signed) => {
-            let scenario = signed.into_scenario(alloc)?;
+            let scenario = make_scenario(rt, alloc, signed)?;
             let bundle = bundle_of_run(rt, alloc, capacity, &scenario)?;
-            let text = write_bundle(alloc, &bundle)?;
-            Ok(Output {
-                text,
-                negative: false,
-            })
+            let text = BundleText::new(alloc, bundle)?;
+            Ok(text)
         }
     }
 }
 
-/// Reads a scenario text with a seed to its end, runs it, each general in a thread of his own over edges that hold so
-/// many frames each, at least one, and writes the bundle of the run: the generals who have scripts are held for
+/// Reads a scenario text with a seed to its end, makes the trees of keys by threads, runs it, each general in a thread
+/// of his own over edges that hold so many frames each, at least one, and writes the bundle of the run: the generals who have scripts are held for
 /// faulty, all logs are shown, and the walks are the best ones between the others, or none where two of them have no
 /// short one.
 ///
 /// A fault of the input is looked for once it was read whole, and nothing is written before the output
 /// is whole. Where a read, a write, memory or a thread fails the job ends so.
-#[tactic(auto, using(crate::proofs::Known::taken, crate::proofs::Delivering::answered, crate::proofs::Delivering::late, crate::proofs::Delivering::unread_answers, crate::proofs::Delivering::unread_taken, crate::proofs::Delivering::unread_late))]
+#[tactic(auto, using(crate::proofs::Known::taken, crate::proofs::Delivering::answered_text, crate::proofs::Delivering::late_text, crate::proofs::Delivering::unread_answers, crate::proofs::Delivering::unread_taken, crate::proofs::Delivering::unread_late))]
 pub fn run_engine<T: Threads + Wait + Sync, R: Read, W: Write>(
     rt: &T,
     alloc: Global,
@@ -154,7 +173,7 @@ pub fn run_engine<T: Threads + Wait + Sync, R: Read, W: Write>(
     ensures late { KeepsUntilWhole (W.contents writer.old) (W.contents writer.new) result }
 {
     match read_all(alloc, reader) {
-        Ok(input) => deliver(writer, run(rt, alloc, capacity, &input)),
+        Ok(input) => deliver_bundle(writer, run(rt, alloc, capacity, &input)),
         Err(fault) => JobEnd::Failed(fault),
     }
 }
