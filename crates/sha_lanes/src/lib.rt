@@ -5,6 +5,9 @@
 //! (`images`), and a byte and then 64 bytes a turn (`FourHashers`). Each lane's digest is what `sha2`
 //! gives for that lane's message.
 //!
+//! One long message can gain by lanes too (`OneHasher`: a byte and then 256 bytes a turn): the words that
+//! the rounds add are made for four blocks side by side, and it takes about four fifths of `sha2`'s time.
+//!
 //! It doesn't pay for fewer than three messages, for messages of different lengths, or for bytes that
 //! aren't at hand together: `sha2` serves those. Nor does it on a processor with instructions for SHA,
 //! where code that uses them is faster.
