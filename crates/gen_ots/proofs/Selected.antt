@@ -4,7 +4,7 @@ use Rattle.std.proofs.lemmas.Simd.{get_or-sel_l}
 use Rattle.std.specs.Int.{from_bool}
 use Rattle.std.specs.Simd.Lanes.{sel_l, top}
 use Rattle.sha2.specs.Sha256.{digest_bytes}
-use Rattle.sha_lanes.specs.Lanes.{lane_at, lane_bytes, state}
+use Rattle.sha_lanes.specs.Lanes.{lane_at, lane_bytes}
 use Rattle.sha_lanes.proofs.LaneFacts.{each_lane}
 use Rattle.gen_ots.specs.OneTime.{on_side}
 

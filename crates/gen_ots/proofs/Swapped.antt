@@ -2,7 +2,6 @@
 use Rattle.std.proofs.Common.{◌≡◌, ℕ, zero, suc, ◌<◌, ◌≤◌, ◌+◌, ◌*◌, ◌/◌, ◌%◌, ◌^◌, List, [], ◌∷◌, ◌++◌, slice_index, w32, arith, refl, ap, ◌∙◌}
 use Rattle.std.proofs.lemmas.Nat.{be_bytes_4}
 use Rattle.std.specs.Int.{swap_bytes, to_be_bytes, to_le_bytes}
-use Rattle.std.specs.List.{flat_map}
 use Rattle.byteorder.specs.Endian.{little_bytes}
 use Rattle.rand_chacha.specs.Block.{add32, block_word}
 use Rattle.sha2.specs.Sha256.{digest_bytes}

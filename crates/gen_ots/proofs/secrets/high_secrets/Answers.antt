@@ -1,6 +1,5 @@
 use Rattle.std.proofs.Common.{◌≡◌, ◌<◌, ◌+◌, ◌*◌, ℕ, List, w32, slice_index, ap, ◌∙◌, arith}
 use Rattle.std.specs.Int.{swap_bytes}
-use Rattle.rand_chacha.specs.Block.{block_word}
 use Rattle.sha_lanes.specs.Lanes.{lane_at}
 use Rattle.gen_ots.proofs.Swapped.{secret_bytes}
 use Rattle.gen_ots.proofs.secrets.high_secrets.Goals as goal

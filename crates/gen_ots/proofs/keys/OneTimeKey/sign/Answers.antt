@@ -1,4 +1,4 @@
-use Rattle.std.proofs.Common.{rules, ◌≡◌, ◌<◌, ℕ, List, ◌+◌, ◌*◌, [], slice_index_or, arith, ap, ◌∙◌}
+use Rattle.std.proofs.Common.{rules, ◌≡◌, ◌<◌, ℕ, ◌+◌, ◌*◌, [], slice_index_or, arith, ap, ◌∙◌}
 use Rattle.gen_ots.specs.OneTime.{on_side, bit_of, image}
 use Rattle.gen_ots.specs.Signatures.{first_pairs, signature_of}
 use Rattle.gen_ots.specs.Secrets.{secret_of}
