@@ -1,11 +1,11 @@
 -- The words of all rounds in one lane.
-use Rattle.std.proofs.Common.{◌≡◌, ◌≢◌, ℕ, ◌<◌, ◌≤◌, ◌+◌, ◌-◌, List, [], length, slice_index, slice_index_or, slice_set, arith, refl, ap, sym, ◌∙◌, inl, inr}
-use Rattle.std.proofs.lemmas.List.{get_or-set_same, get_or-set_other, ext_get_or, length-set}
+use Rattle.std.proofs.Common.{◌≡◌, ◌≢◌, ℕ, ◌<◌, ◌≤◌, ◌+◌, ◌-◌, List, [], ◌∷◌, map, length, slice_index, slice_index_or, slice_set, arith, refl, ap, sym, ◌∙◌, inl, inr}
+use Rattle.std.proofs.lemmas.List.{get_or-set_same, get_or-map, get_or-set_other, ext_get_or, length-set}
 use Rattle.std.proofs.lemmas.Bool.{cases_lt}
-use Rattle.sha2.specs.Sha256.{next_word, schedule, rounds}
+use Rattle.sha2.specs.Sha256.{next_word, round_constants, schedule, rounds}
 use Rattle.sha2.proofs.Schedule256.{length-schedule, slice_index-first_words, slice_index-schedule_first, slice_index-schedule_next}
 use Rattle.sha_lanes.specs.Lanes.{HasWords, lane, lane_at}
-use Rattle.sha_lanes.proofs.LaneFacts.{lane-word, length-lane}
+use Rattle.sha_lanes.proofs.LaneFacts.{lane-word, lane_of_splat, length-lane}
 
 -- the first t words of a lane are those of the block's schedule
 abbrev pub IsScheduled : ℕ → List ℕ → List (List ℕ) → ℕ → Type 0
@@ -91,3 +91,10 @@ scheduled_all j b w len all =
 -- the same number of rounds, spelled another way
 pub rounds_at : (h w v : List ℕ) (n k : ℕ) → n ≡ k → v ≡ rounds h w n → v ≡ rounds h w k
 rounds_at h w v n k e held = rw (← e) held
+
+-- the round constants, each once for each lane
+pub constant_in_lane : (t j : ℕ) → t < 64 → j < 4
+    → slice_index (slice_index_or (map (λ (k : ℕ). k ∷ k ∷ k ∷ k ∷ []) round_constants) t []) j ≡ slice_index round_constants t
+constant_in_lane t j below lane =
+    ap (λ (v : List ℕ). slice_index v j) (get_or-map (λ (k : ℕ). k ∷ k ∷ k ∷ k ∷ []) round_constants t 0 [] below)
+    ∙ lane_of_splat (slice_index round_constants t) j lane

@@ -1,9 +1,13 @@
 //! SHA-256 (FIPS 180-4) of four messages side by side, each in one lane of vectors of four words.
 //!
 //! It is for many messages of one length, as the secrets of one-time signatures are: four of them take
-//! about two and a quarter times as long as one. There are two shapes, a byte and 32 bytes
+//! about one and two thirds times as long as one. There are two shapes, a byte and 32 bytes
 //! (`images`), and a byte and then 64 bytes a turn (`FourHashers`). Each lane's digest is what `sha2`
 //! gives for that lane's message.
+//!
+//! Both take 32 bytes of each message as eight vectors of words, and `images` gives its digests so: what is
+//! hashed again stays in lanes. `to_words` takes bytes into lanes and `to_bytes` takes them out: neither is
+//! needed between two hashes.
 //!
 //! One long message can gain by lanes too (`OneHasher`: a byte and then 256 bytes a turn): the words that
 //! the rounds add are made for four blocks side by side, and it takes about four fifths of `sha2`'s time.

@@ -12,25 +12,26 @@ pub const BLOCK_WORDS: usize = 16;
 /// The rounds over a block, each of which has a word of its own.
 pub const ROUNDS: usize = 64;
 
-/// K: the first 32 bits of the fractional parts of the cube roots of the first 64 primes (4.2.2).
+/// K: the first 32 bits of the fractional parts of the cube roots of the first 64 primes (4.2.2), each once
+/// for each lane, so that a round adds it as it is read.
 #[rattlefmt::skip]
-pub const ROUND_CONSTANTS: [u32; ROUNDS] = [
-    0x428a_2f98, 0x7137_4491, 0xb5c0_fbcf, 0xe9b5_dba5,
-    0x3956_c25b, 0x59f1_11f1, 0x923f_82a4, 0xab1c_5ed5,
-    0xd807_aa98, 0x1283_5b01, 0x2431_85be, 0x550c_7dc3,
-    0x72be_5d74, 0x80de_b1fe, 0x9bdc_06a7, 0xc19b_f174,
-    0xe49b_69c1, 0xefbe_4786, 0x0fc1_9dc6, 0x240c_a1cc,
-    0x2de9_2c6f, 0x4a74_84aa, 0x5cb0_a9dc, 0x76f9_88da,
-    0x983e_5152, 0xa831_c66d, 0xb003_27c8, 0xbf59_7fc7,
-    0xc6e0_0bf3, 0xd5a7_9147, 0x06ca_6351, 0x1429_2967,
-    0x27b7_0a85, 0x2e1b_2138, 0x4d2c_6dfc, 0x5338_0d13,
-    0x650a_7354, 0x766a_0abb, 0x81c2_c92e, 0x9272_2c85,
-    0xa2bf_e8a1, 0xa81a_664b, 0xc24b_8b70, 0xc76c_51a3,
-    0xd192_e819, 0xd699_0624, 0xf40e_3585, 0x106a_a070,
-    0x19a4_c116, 0x1e37_6c08, 0x2748_774c, 0x34b0_bcb5,
-    0x391c_0cb3, 0x4ed8_aa4a, 0x5b9c_ca4f, 0x682e_6ff3,
-    0x748f_82ee, 0x78a5_636f, 0x84c8_7814, 0x8cc7_0208,
-    0x90be_fffa, 0xa450_6ceb, 0xbef9_a3f7, 0xc671_78f2,
+pub static ROUND_CONSTANTS: [[u32; 4]; ROUNDS] = [
+    [0x428a_2f98; 4], [0x7137_4491; 4], [0xb5c0_fbcf; 4], [0xe9b5_dba5; 4],
+    [0x3956_c25b; 4], [0x59f1_11f1; 4], [0x923f_82a4; 4], [0xab1c_5ed5; 4],
+    [0xd807_aa98; 4], [0x1283_5b01; 4], [0x2431_85be; 4], [0x550c_7dc3; 4],
+    [0x72be_5d74; 4], [0x80de_b1fe; 4], [0x9bdc_06a7; 4], [0xc19b_f174; 4],
+    [0xe49b_69c1; 4], [0xefbe_4786; 4], [0x0fc1_9dc6; 4], [0x240c_a1cc; 4],
+    [0x2de9_2c6f; 4], [0x4a74_84aa; 4], [0x5cb0_a9dc; 4], [0x76f9_88da; 4],
+    [0x983e_5152; 4], [0xa831_c66d; 4], [0xb003_27c8; 4], [0xbf59_7fc7; 4],
+    [0xc6e0_0bf3; 4], [0xd5a7_9147; 4], [0x06ca_6351; 4], [0x1429_2967; 4],
+    [0x27b7_0a85; 4], [0x2e1b_2138; 4], [0x4d2c_6dfc; 4], [0x5338_0d13; 4],
+    [0x650a_7354; 4], [0x766a_0abb; 4], [0x81c2_c92e; 4], [0x9272_2c85; 4],
+    [0xa2bf_e8a1; 4], [0xa81a_664b; 4], [0xc24b_8b70; 4], [0xc76c_51a3; 4],
+    [0xd192_e819; 4], [0xd699_0624; 4], [0xf40e_3585; 4], [0x106a_a070; 4],
+    [0x19a4_c116; 4], [0x1e37_6c08; 4], [0x2748_774c; 4], [0x34b0_bcb5; 4],
+    [0x391c_0cb3; 4], [0x4ed8_aa4a; 4], [0x5b9c_ca4f; 4], [0x682e_6ff3; 4],
+    [0x748f_82ee; 4], [0x78a5_636f; 4], [0x84c8_7814; 4], [0x8cc7_0208; 4],
+    [0x90be_fffa; 4], [0xa450_6ceb; 4], [0xbef9_a3f7; 4], [0xc671_78f2; 4],
 ];
 
 /// H: the first 32 bits of the fractional parts of the square roots of the first eight primes (5.3.3).
@@ -96,12 +97,13 @@ pub fn schedule(words: &mut [u32x4; ROUNDS], block: &[u32x4; BLOCK_WORDS])
 
 // One round on the working variables.
 #[inline(always)]
-fn round(v: [u32x4; 8], constant: u32, word: u32x4) -> [u32x4; 8]
-    ensures { (j : ℕ) → j < 4 → state j result ≡ round (state j v) constant (slice_index word j) }
+fn round(v: [u32x4; 8], constant: u32x4, word: u32x4) -> [u32x4; 8]
+    ensures { (j : ℕ) → j < 4 → state j result
+        ≡ round (state j v) (slice_index constant j) (slice_index word j) }
 {
     let [a, b, c, d, e, f, g, h] = v;
     let mixed = add(add(h, big_sigma1(e)), ch(e, f, g));
-    let temp1 = add(add(mixed, u32x4::splat(constant)), word);
+    let temp1 = add(add(mixed, constant), word);
     let temp2 = add(big_sigma0(a), maj(a, b, c));
     [add(temp1, temp2), a, b, c, add(d, temp1), e, f, g]
 }
@@ -113,7 +115,7 @@ fn round_at(words: &[u32x4; ROUNDS], v: [u32x4; 8], t: usize) -> [u32x4; 8]
     ensures { (j : ℕ) → j < 4 → (h : List ℕ) → state j v ≡ rounds h (lane j words.now) t
         → state j result ≡ rounds h (lane j words.now) (t + 1) }
 {
-    round(v, ROUND_CONSTANTS[t], words[t])
+    round(v, u32x4::from_array(ROUND_CONSTANTS[t]), words[t])
 }
 
 // Eight rounds from `t` on, after which each working variable is in its place again.

@@ -2,7 +2,8 @@ use Rattle.std.proofs.Common.{◌≡◌, ◌≢◌, ℕ, List, [], slice_index, 
 use Rattle.std.proofs.lemmas.Bool.{cases_lt}
 use Rattle.std.proofs.lemmas.List.{get_or-set_other, get_or-set_same, length-set}
 use Rattle.sha2.specs.Sha256.{add32, round_constants}
-use Rattle.sha_lanes.proofs.LaneFacts.{lane-word, lane_of_splat}
+use Rattle.sha_lanes.proofs.LaneFacts.{lane-word}
+use Rattle.sha_lanes.proofs.Scheduled.{constant_in_lane}
 use Rattle.sha_lanes.proofs.plain.add_constants.Goals as goal
 
 pub constants-init : goal.constants-init
@@ -23,7 +24,7 @@ constants-preserved c =
             let here : i ≡ t = omega arith in
             let k = slice_index round_constants t in
             rw here (ap (at j) (get_or-set_same w t x [] (omega arith)) ∙ c.add.ensures j below
-            ∙ (λ s. add32 (c.constants.invariant.2 j t (omega arith) s) (lane_of_splat k j below s)))
+            ∙ (λ s. add32 (c.constants.invariant.2 j t (omega arith) s) (constant_in_lane t j (omega arith) below s)))
       ],
       λ j i above.
           let apart : i ≢ t = omega arith in
