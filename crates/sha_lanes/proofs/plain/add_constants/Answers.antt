@@ -22,7 +22,6 @@ constants-preserved c =
             ap (at j) (get_or-set_other w t i x [] apart) ∙ c.constants.invariant.1 j i below lt
         | inr ge ↦
             let here : i ≡ t = omega arith in
-            let k = slice_index round_constants t in
             rw here (ap (at j) (get_or-set_same w t x [] (omega arith)) ∙ c.add.ensures j below
             ∙ (λ s. add32 (c.constants.invariant.2 j t (omega arith) s) (constant_in_lane t j (omega arith) below s)))
       ],
