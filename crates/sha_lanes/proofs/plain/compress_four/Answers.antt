@@ -1,23 +1,19 @@
-use Rattle.std.proofs.Common.{◌≡◌, ℕ, List, ap, ◌∙◌, arith}
-use Rattle.sha2.specs.Sha256.{add_state, compress, rounds, schedule}
+use Rattle.std.proofs.Common.{ℕ, ◌<◌, List, ap, subst, ◌∙◌, arith}
+use Rattle.sha2.specs.Sha256.{compress, schedule}
+use Rattle.sha_lanes.specs.Lanes.{HasWords}
+use Rattle.sha_lanes.specs.One.{HasSums}
 use Rattle.sha_lanes.proofs.plain.compress_four.Goals as goal
 
--- the rounds over a block, from the words of all rounds
-compressed : (h r w b : List ℕ) → r ≡ add_state h (rounds h w 64) → w ≡ schedule b 48 → r ≡ compress h b
-unfolding compress
-compressed h r w b e words = e ∙ ap (λ (x : List ℕ). add_state h (rounds h x 64)) words
-
--- and after another block
-compressed_next : (g h r w b : List ℕ) → r ≡ add_state h (rounds h w 64) → w ≡ schedule b 48 → h ≡ g → r ≡ compress g b
-compressed_next g h r w b e words same = compressed h r w b e words ∙ ap (λ (x : List ℕ). compress x b) same
-
 pub returns : goal.returns
+unfolding compress
 returns c = λ b0 b1 b2 b3 w0 w1 w2 w3.
-    let s0 = c.schedule.ensures 0 (omega arith) b0 w0 in
-    let s1 = c.schedule.ensures 1 (omega arith) b1 w1 in
-    let s2 = c.schedule.ensures 2 (omega arith) b2 w2 in
-    let s3 = c.schedule.ensures 3 (omega arith) b3 w3 in
-    let h0 = compressed _ _ _ b0 c.compress_lane-hash.ensures s0 in
-    let h1 = compressed_next _ _ _ _ b1 c.compress_lane-hash-2.ensures s1 h0 in
-    let h2 = compressed_next _ _ _ _ b2 c.compress_lane-hash-3.ensures s2 h1 in
-    compressed_next _ _ _ _ b3 c.compress_lane.ensures s3 h2
+    let sums : (j : ℕ) (b : List ℕ) → j < 4 → HasWords j c.args.blocks.now b → HasSums j c.add_constants.new.words (schedule b 48) =
+    λ j b below words. subst (HasSums j c.add_constants.new.words) (c.schedule.ensures j below b words) (c.add_constants.ensures j below) in
+    let l0 : 0 < 4 = omega arith in
+    let l1 : 1 < 4 = omega arith in
+    let l2 : 2 < 4 = omega arith in
+    let l3 : 3 < 4 = omega arith in
+    let h0 = c.compress_lane-hash.ensures _ (sums 0 b0 l0 w0) in
+    let h1 = c.compress_lane-hash-2.ensures _ (sums 1 b1 l1 w1) ∙ ap (λ (h : List ℕ). compress h b1) h0 in
+    let h2 = c.compress_lane-hash-3.ensures _ (sums 2 b2 l2 w2) ∙ ap (λ (h : List ℕ). compress h b2) h1 in
+    c.compress_lane.ensures _ (sums 3 b3 l3 w3) ∙ ap (λ (h : List ℕ). compress h b3) h2
