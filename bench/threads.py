@@ -4,8 +4,8 @@
 With the word `load`, `refused` or `time`, only that. Load: 16 generals who are all neighbours, in 16 rounds, over
 queues of one frame and of 16, on two cores and on four: each run has to end, and all bundles have to be equal.
 Refused: the same with each of the first allocations refused in turn, by an allocator that is loaded before: each run
-ends, with the full bundle or with status 4. Time: one such run beside the hashing that it needs, where the trees are
-made on one core and all else is spread over those that it may use, up to four.
+ends, with the full bundle or with status 4. Time: one such run beside the hashing that it needs, spread over the
+cores that it may use, up to four.
 """
 import hashlib
 import os
@@ -113,10 +113,11 @@ def busy(program, cores):
 
 
 def spread(kernels, size):
-    """What a run needs in milliseconds that can be spread over cores: each lieutenant verifies the commander's order and what
-    14 others made of it, each general signs it and a head, and each log is hashed once for its links."""
+    """What a run needs in milliseconds, which can be spread over cores: each general's ring is made, each lieutenant verifies
+    the commander's order and what 14 others made of it, each general signs it and a head, and each log is hashed once
+    for its links."""
     block = kernels["sha2_blocks"] / 12334
-    return (15 * 15 * kernels["verify"] + 32 * kernels["sign"] + size / 64 * block) / 1e6
+    return (16 * kernels["ring"] + 15 * 15 * kernels["verify"] + 32 * kernels["sign"] + size / 64 * block) / 1e6
 
 
 def timed(text):
@@ -140,9 +141,8 @@ def timed(text):
         if child.returncode != 0:
             sys.exit(f"status {child.returncode} where 0 was expected")
         best, peak = taken if best is None else min(best, taken), max(peak, used.ru_maxrss / 1024)
-    trees = 16 * alone["ring"] / 1e6
     for name, kernels in (("cores as fast together as alone", alone), (f"{cores} cores at once", together)):
-        print(f"{name}: {taken_line(best, trees + spread(kernels, size) / cores)}")
+        print(f"{name}: {taken_line(best, spread(kernels, size) / cores)}")
     print(f"{peak:.1f} MiB, of which the bundle is {size / (1 << 20):.1f} (goal: 64 more)")
 
 

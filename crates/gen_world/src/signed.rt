@@ -233,7 +233,7 @@ impl Scenario {
     }
 
     /// Returns the same scenario as `of_version`, over trees that were made before: those of all generals under the
-    /// master seed, of the version's height, in their order. So whoever makes the trees says how, as in several threads.
+    /// master seed, of the version's height, in their order. So whoever makes the trees can do so by threads.
     ///
     /// # Errors
     ///

@@ -148,9 +148,9 @@ fn run<T: Threads + Wait + Sync>(
 }
 
 /// Reads a scenario text with a seed to its end, makes the trees of keys by threads, runs it, each general in a thread
-/// of his own over edges that hold so many frames each, at least one, and writes the bundle of the run: the generals who have scripts are held for
-/// faulty, all logs are shown, and the walks are the best ones between the others, or none where two of them have no
-/// short one.
+/// of his own over edges that hold so many frames each, at least one, and writes the bundle of the run: the generals
+/// who have scripts are held for faulty, all logs are shown, and the walks are the best ones between the others, or
+/// none where two of them have no short one.
 ///
 /// A fault of the input is looked for once it was read whole, and nothing is written before the output
 /// is whole. Where a read, a write, memory or a thread fails the job ends so.
