@@ -51,8 +51,10 @@ int main(void) {
 }
 """
 
-# What keeps OpenSSL from using a processor's instructions for SHA, which nothing here uses.
+# What keeps OpenSSL from using a processor's instructions for SHA, which nothing here uses; and from AVX and AVX2 too, for
+# which the kit doesn't build.
 WITHOUT_SHA = {"OPENSSL_ia32cap": ":~0x20000000"}
+WITHOUT_AVX = {"OPENSSL_ia32cap": "~0x1000000000000000:~0x20000020"}
 
 RUNS = 10
 
@@ -88,7 +90,7 @@ def least(program):
 
 
 def openssl(scratch):
-    """OpenSSL's times with what the processor has and without instructions for SHA; None without it."""
+    """OpenSSL's times without instructions for SHA, without AVX either, and with what the processor has; None without it."""
     source, program = os.path.join(scratch, "beside.c"), os.path.join(scratch, "beside")
     with open(source, "w") as written:
         written.write(BESIDE)
@@ -99,7 +101,7 @@ def openssl(scratch):
     if made.returncode != 0:
         return None
     found = []
-    for setting in (WITHOUT_SHA, {}):
+    for setting in (WITHOUT_SHA, WITHOUT_AVX, {}):
         runs = [
             subprocess.run([program], check=True, capture_output=True, text=True, env={**os.environ, **setting})
             for _ in range(RUNS)
@@ -125,13 +127,13 @@ def keys():
         ("verifying", "verify", 256, 257 + 8, None, 0.85),
         ("taking and signing", "sign", 256, 0, None, 1.05),
     ]
-    print(f"{'kernel':20} {'us':>9} {'to sha2':>8} {'goal':>5} {'to OpenSSL':>11} {'goal':>5} {'with SHA instructions':>22}")
+    print(f"{'kernel':20} {'us':>9} {'to sha2':>8} {'goal':>5} {'to OpenSSL':>11} {'goal':>5} {'without AVX':>12} {'with SHA instructions':>22}")
     for name, kernel, messages, blocks, to_own, to_plain in rows:
         own = times["sha2_blocks"] / 12334 * (messages + blocks)
         line = f"{name:20} {times[kernel] / 1000:9.1f} {times[kernel] / own:8.2f} {shown(to_own)}"
         if beside:
-            plain, best = (times[kernel] / (messages * m + blocks * b) for m, b in beside)
-            line += f" {plain:11.2f} {shown(to_plain)} {best:22.2f}"
+            plain, held, best = (times[kernel] / (messages * m + blocks * b) for m, b in beside)
+            line += f" {plain:11.2f} {shown(to_plain)} {held:12.2f} {best:22.2f}"
         print(line.rstrip())
 
 
