@@ -1,7 +1,6 @@
 -- The groups of findings are all that is found in a bundle.
-use Rattle.std.proofs.Common.{◌≡◌, ℕ, ◌+◌, ◌<◌, ◌↔◌, inl, inr, List, [], ◌∷◌, ◌++◌, length, take, map, get_or, Contains, refl, sym, ap, ◌∙◌, subst}
+use Rattle.std.proofs.Common.{◌≡◌, ℕ, ◌↔◌, inl, inr, List, [], ◌∷◌, length, Contains, refl, sym, subst}
 use Rattle.std.specs.List.{flat_map}
-use Rattle.std.proofs.lemmas.List.{take_more}
 use Rattle.gen_types.specs.Ascending.{IsListOf}
 use Rattle.gen_types.proofs.Lists.{Contains_here, Contains_cases, Contains_nil, Contains_flat_mapped}
 use Rattle.gen_core.proofs.OrderedLists.{in_flat_map, one_list}
