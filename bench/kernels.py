@@ -79,6 +79,23 @@ def built(scratch, source, crates, stands_on, proofs=()):
     return os.path.join(speed, "out", "speed")
 
 
+def rebuilt(program, level):
+    """The same program, built for processors of this level."""
+    speed = os.path.dirname(os.path.dirname(program))
+    subprocess.run(["rt", "run", f"--cpu={level}"], cwd=speed, check=True, capture_output=True)
+    return program
+
+
+def has_level_3():
+    """Whether this processor is of the level x86-64-v3, which has AVX2."""
+    try:
+        with open("/proc/cpuinfo") as told:
+            flags = next((line.split() for line in told if line.startswith("flags")), [])
+    except OSError:
+        return False
+    return {"avx2", "bmi1", "bmi2", "fma", "f16c", "movbe"} <= set(flags)
+
+
 def least(program):
     """The least time of each kernel over several runs, in nanoseconds."""
     times = {}
@@ -118,22 +135,29 @@ def shown(goal):
 def keys():
     """Rings and signatures, to the same number of compressions."""
     with tempfile.TemporaryDirectory() as scratch:
-        times = least(built(scratch, "keys.txt", KEY_CRATES, KEYS_ON))
+        program = built(scratch, "keys.txt", KEY_CRATES, KEYS_ON)
+        times = least(program)
+        wide = least(rebuilt(program, "x86-64-v3")) if has_level_3() else None
         beside = openssl(scratch)
     # Messages of 33 bytes, other blocks, and the goals to sha2 and to OpenSSL.
     rows = [
         ("a ring of 16", "ring", 16 * 512, 16 * 257 + 30, None, 0.65),
         ("a ring of 64", "ring_of_64", 64 * 512, 64 * 257 + 126, 1.25, None),
         ("verifying", "verify", 256, 257 + 8, None, 0.85),
+        ("verifying, four at once", "verify_four", 256, 257 + 8, None, 0.85),
         ("taking and signing", "sign", 256, 0, None, 1.05),
     ]
-    print(f"{'kernel':20} {'us':>9} {'to sha2':>8} {'goal':>5} {'to OpenSSL':>11} {'goal':>5} {'without AVX':>12} {'with SHA instructions':>22}")
+    print(f"{'':23} {'':9} {'':8} {'':5} {'to OpenSSL':>20} {'for x86-64-v3':>31}")
+    titles = f"{'us':>9} {'to sha2':>8} {'goal':>5} {'with AVX':>9} {'without':>10}"
+    print(f"{'kernel':23} {titles} {'us':>9} {'to OpenSSL with AVX':>21} {'goal':>5} {'with SHA instructions':>22}")
     for name, kernel, messages, blocks, to_own, to_plain in rows:
         own = times["sha2_blocks"] / 12334 * (messages + blocks)
-        line = f"{name:20} {times[kernel] / 1000:9.1f} {times[kernel] / own:8.2f} {shown(to_own)}"
+        line = f"{name:23} {times[kernel] / 1000:9.1f} {times[kernel] / own:8.2f} {shown(to_own)}"
         if beside:
-            plain, held, best = (times[kernel] / (messages * m + blocks * b) for m, b in beside)
-            line += f" {plain:11.2f} {shown(to_plain)} {held:12.2f} {best:22.2f}"
+            plain, held, best = (messages * m + blocks * b for m, b in beside)
+            line += f" {times[kernel] / plain:9.2f} {times[kernel] / held:10.2f}"
+            line += f" {wide[kernel] / 1000:9.1f} {wide[kernel] / plain:21.2f}" if wide else " " * 32
+            line += f" {shown(to_plain)} {times[kernel] / best:22.2f}"
         print(line.rstrip())
 
 

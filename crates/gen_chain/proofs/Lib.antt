@@ -4,7 +4,9 @@ pub mod KeptAnswers
 pub mod LongerChains
 pub mod Parts
 mod Room
+mod SignedFour
 pub mod SignedSoFar
+mod StoredFour
 mod StoredSoFar
 pub mod Storing
 pub mod TestedChains

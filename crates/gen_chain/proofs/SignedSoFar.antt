@@ -47,12 +47,18 @@ goes_on h order signers rest others path longer s e pushed signed so_far =
       signed = signed-push h order so_far.front s so_far.signed (subst (λ (p : List ℕ). HasSigned h s.general (record { order = order; path = p }) s.signature) is signed);
     }
 
+-- where all have signed, so has the next
+pub next_signed : (h : RunHeader) (order : ℕ) (signers rest others : List Signer) (path longer : List ℕ) (s : Signer) → rest ≡ s ∷ others → longer ≡ path ++ s.general ∷ [] → SignedSoFar h order signers rest path → AreSigned h order signers
+    → HasSigned h s.general (record { order = order; path = longer }) s.signature
+next_signed h order signers rest others path longer s e pushed so_far all =
+    let is = behind h order signers rest path longer s so_far pushed in
+    let signed = all so_far.front others s (so_far.parts ∙ ap (λ (r : List Signer). so_far.front ++ r) e) in
+    subst (λ (p : List ℕ). HasSigned h s.general (record { order = order; path = p }) s.signature) (sym is) signed
+
 pub stops : (h : RunHeader) (order : ℕ) (signers rest others : List Signer) (path longer : List ℕ) (s : Signer) → rest ≡ s ∷ others → longer ≡ path ++ s.general ∷ [] → (HasSigned h s.general (record { order = order; path = longer }) s.signature → ⊥)
     → SignedSoFar h order signers rest path → AreSigned h order signers → ⊥
 stops h order signers rest others path longer s e pushed unsigned so_far all =
-    let is = behind h order signers rest path longer s so_far pushed in
-    let signed = all so_far.front others s (so_far.parts ∙ ap (λ (r : List Signer). so_far.front ++ r) e) in
-    unsigned (subst (λ (p : List ℕ). HasSigned h s.general (record { order = order; path = p }) s.signature) (sym is) signed)
+    unsigned (next_signed h order signers rest others path longer s e pushed so_far all)
 
 pub at_last : (h : RunHeader) (order : ℕ) (signers rest : List Signer) (path : List ℕ) → rest ≡ [] → SignedSoFar h order signers rest path → AreSigned h order signers
 at_last h order signers rest path e so_far =

@@ -1,14 +1,15 @@
 -- Signers one by one, as a store checks them: what it keeps of those who were looked at.
-use Rattle.std.proofs.Common.{arith, ◌≡◌, ℕ, Bool, inl, inr, List, [], ◌∷◌, ◌++◌, Option, Some, None, refl, sym, ap, subst, ◌∙◌, append_assoc}
-use Rattle.std.specs.Prelude.{◌⊎◌, ◌≤◌, ◌+◌, length, IsSome, is_some}
-use Rattle.std.proofs.lemmas.List.{append-nil, map-append}
+use Rattle.std.proofs.Common.{arith, ◌≡◌, ℕ, zero, suc, Bool, inl, inr, List, [], ◌∷◌, ◌++◌, Option, Some, None, refl, sym, ap, subst, ◌∙◌, append_assoc, slice_index_or, take, drop}
+use Rattle.std.specs.Prelude.{◌⊎◌, ◌≤◌, ◌<◌, ◌+◌, ◌-◌, length, IsSome, is_some}
+use Rattle.std.proofs.lemmas.List.{append-nil, map-append, length-take-le, take-append-drop}
 use Rattle.gen_types.proofs.Lists.{not_nil, split_longer}
 use Rattle.gen_net.specs.Header.{RunHeader}
 use Rattle.gen_chain.specs.declared.chains.Signer.{Signer}
 use Rattle.gen_chain.specs.Chain.{signed_path}
 use Rattle.gen_chain.specs.Verifying.{HasSigned, AreSigned}
+use Rattle.gen_chain.specs.Signings.{triple_next, next_triples}
 use Rattle.gen_chain.specs.Store.{Store, Triple, answer_of, IsAfter, Serves, KeepsAll}
-use Rattle.gen_chain.specs.StoredChain.{KeepsSigners, triple_behind}
+use Rattle.gen_chain.specs.StoredChain.{KeepsSigners, KeepsNext, triple_behind}
 use Rattle.gen_chain.proofs.Storing.{runs_after}
 use Rattle.gen_chain.proofs.SignedSoFar.{SignedSoFar, none_signed, signed-push}
 
@@ -16,9 +17,9 @@ use Rattle.gen_chain.proofs.SignedSoFar.{SignedSoFar, none_signed, signed-push}
 abbrev pub KeepsFront : Store → ℕ → List Signer → Type 0
 KeepsFront store order front = (a b : List Signer) (s : Signer) → front ≡ a ++ s ∷ b → IsSome (answer_of store (triple_behind order a s))
 
--- How far a store has come: those in front of the rest have signed, it keeps their signatures, beside what it kept before, and is
--- as it was where it kept all that.
-pub record StoredSoFar (h : RunHeader) (order : ℕ) (signers rest : List Signer) (path : List ℕ) (old store : Store) : Type 0 where
+-- How far a store has come: those in front of the rest have signed, it keeps their signatures and so many of those ahead, beside
+-- what it kept before, and is as it was where it kept all that.
+pub record StoredSoFar (h : RunHeader) (order : ℕ) (signers rest : List Signer) (path : List ℕ) (ahead : ℕ) (old store : Store) : Type 0 where
   pub front : List Signer
   pub parts : signers ≡ front ++ rest
   pub path_is : path ≡ signed_path front
@@ -27,9 +28,10 @@ pub record StoredSoFar (h : RunHeader) (order : ℕ) (signers rest : List Signer
   pub serves : Serves h store
   pub grows : KeepsAll old store
   pub known : KeepsSigners h old order signers → store ≡ old
-  pub runs : store.runs + length rest ≤ old.runs + length signers
+  pub next : KeepsNext store order ahead path rest
+  pub runs : store.runs + length rest ≤ old.runs + length signers + ahead
 
-pub stored_first : (h : RunHeader) (order : ℕ) (signers : List Signer) (store : Store) → Serves h store → StoredSoFar h order signers signers [] store store
+pub stored_first : (h : RunHeader) (order : ℕ) (signers : List Signer) (store : Store) → Serves h store → StoredSoFar h order signers signers [] 0 store store
 stored_first h order signers store serves = record {
   front = [];
   parts = refl;
@@ -39,15 +41,72 @@ stored_first h order signers store serves = record {
   serves = serves;
   grows = λ t answer e. e;
   known = λ all. refl;
+  next = tt;
   runs = omega arith;
 }
 
-some_stays : (old new : Store) (t : Triple) → KeepsAll old new → IsSome (answer_of old t) → IsSome (answer_of new t)
+pub some_stays : (old new : Store) (t : Triple) → KeepsAll old new → IsSome (answer_of old t) → IsSome (answer_of new t)
 some_stays old new t grows is = by (answer_of old t) refl is
   where
     by : (o : Option Bool) → answer_of old t ≡ o → IsSome o → IsSome (answer_of new t)
     by None e none = absurd cc
     by (Some answer) e some = ap is_some (grows t answer e)
+
+-- ---- signatures ahead
+
+zero_or_more : (n : ℕ) → (n ≡ 0) ⊎ (0 < n)
+zero_or_more zero = inl refl
+zero_or_more (suc n) = inr (omega arith)
+
+next_stays : (old new : Store) (order n : ℕ) (path : List ℕ) (rest : List Signer) → KeepsAll old new → KeepsNext old order n path rest → KeepsNext new order n path rest
+next_stays old new order zero path rest grows next = tt
+next_stays old new order (suc n) path [] grows next = absurd next
+next_stays old new order (suc n) path (s ∷ rest) grows next =
+    (some_stays old new (triple_next order path s) grows next.0, next_stays old new order n (path ++ s.general ∷ []) rest grows next.1)
+
+pub next_few : (store : Store) (order n : ℕ) (path : List ℕ) (rest : List Signer) → KeepsNext store order n path rest → n ≤ length rest
+next_few store order zero path rest next = omega arith
+next_few store order (suc n) path [] next = absurd next
+next_few store order (suc n) path (s ∷ rest) next = omega (arith, next_few store order n (path ++ s.general ∷ []) rest next.1)
+
+-- one signer on
+next_on : (store : Store) (order n left : ℕ) (path : List ℕ) (s : Signer) (rest : List Signer) → left ≡ n - 1 → KeepsNext store order n path (s ∷ rest) → KeepsNext store order left (path ++ s.general ∷ []) rest
+next_on store order zero left path s rest e next = let none : left ≡ 0 = omega (arith, e) in subst (λ k. KeepsNext store order k (path ++ s.general ∷ []) rest) (sym none) tt
+next_on store order (suc n) left path s rest e next = let one : left ≡ n = omega (arith, e) in subst (λ k. KeepsNext store order k (path ++ s.general ∷ []) rest) (sym one) next.1
+
+-- of one ahead the signature is kept
+next_is : (store : Store) (order n : ℕ) (path : List ℕ) (s : Signer) (rest : List Signer) → 0 < n → KeepsNext store order n path (s ∷ rest) → IsSome (answer_of store (triple_next order path s))
+next_is store order zero path s rest some next = absurd (omega (arith, some))
+next_is store order (suc n) path s rest some next = next.0
+
+-- each of some signers
+pub keeps_next : (store : Store) (order : ℕ) (path : List ℕ) (some others : List Signer)
+    → ((j : ℕ) → j < length some → (other : Triple) → IsSome (answer_of store (slice_index_or (next_triples order path some) j other)))
+    → KeepsNext store order (length some) path (some ++ others)
+unfolding next_triples
+keeps_next store order path [] others all = tt
+keeps_next store order path (s ∷ some) others all =
+    (all 0 (omega arith) (triple_next order path s), keeps_next store order (path ++ s.general ∷ []) some others (λ j below other. all (suc j) (omega (arith, below)) other))
+
+-- the next four
+pub keeps_four : (store : Store) (order : ℕ) (path : List ℕ) (rest : List Signer) (triples : List Triple) → 4 ≤ length rest → triples ≡ next_triples order path (take 4 rest)
+    → ((j : ℕ) → j < 4 → (other : Triple) → IsSome (answer_of store (slice_index_or triples j other)))
+    → KeepsNext store order 4 path rest
+keeps_four store order path rest triples many are all =
+    let count : length (take 4 rest) ≡ 4 = length-take-le 4 rest many in
+    let kept = keeps_next store order path (take 4 rest) (drop 4 rest) (λ j below other.
+    subst (λ ts. IsSome (answer_of store (slice_index_or ts j other))) are (all j (omega (arith, below, count)) other)) in
+    subst (λ n. KeepsNext store order n path rest) count (subst (λ r. KeepsNext store order (length (take 4 rest)) path r) (take-append-drop 4 rest) kept)
+
+-- where no answer is kept for the first of the next four, none is kept for the next signer
+pub first_unknown : (store : Store) (order : ℕ) (path : List ℕ) (rest others : List Signer) (s : Signer) (triples : List Triple) → triples ≡ next_triples order path (take 4 rest)
+    → ((other : Triple) → answer_of store (slice_index_or triples 0 other) ≡ None) → rest ≡ s ∷ others → IsSome (answer_of store (triple_next order path s)) → ⊥
+unfolding next_triples
+first_unknown store order path rest others s triples are none e is =
+    let first : triples ≡ triple_next order path s ∷ next_triples order (path ++ s.general ∷ []) (take 3 others) = are ∙ ap (λ r. next_triples order path (take 4 r)) e in
+    let absent : answer_of store (triple_next order path s) ≡ None = subst (λ ts. answer_of store (slice_index_or ts 0 (triple_next order path s)) ≡ None) first (none (triple_next order path s)) in
+    let no : is_some (answer_of store (triple_next order path s)) ≡ is_some {T = Bool} None = ap is_some absent in
+    absurd cc
 
 -- the store has the next signature too
 front_push : (store : Store) (order : ℕ) (front : List Signer) (s : Signer) → KeepsFront store order front → IsSome (answer_of store (triple_behind order front s)) → KeepsFront store order (front ++ s ∷ [])
@@ -81,7 +140,7 @@ module _ (h : RunHeader) (order : ℕ) (longer : List ℕ) (store : Store) (s : 
     pub known : IsSome (answer_of store next_triple) → new ≡ store
     pub runs : new.runs ≤ store.runs + 1
 
-  module _ (signers rest others : List Signer) (path : List ℕ) (old : Store) (so_far : StoredSoFar h order signers rest path old store) (e : rest ≡ s ∷ others) (pushed : longer ≡ path ++ s.general ∷ []) where
+  module _ (signers rest others : List Signer) (path : List ℕ) (ahead : ℕ) (old : Store) (so_far : StoredSoFar h order signers rest path ahead old store) (e : rest ≡ s ∷ others) (pushed : longer ≡ path ++ s.general ∷ []) where
     parts_next : signers ≡ so_far.front ++ s ∷ others
     parts_next = so_far.parts ∙ ap (λ (r : List Signer). so_far.front ++ r) e
 
@@ -109,11 +168,34 @@ module _ (h : RunHeader) (order : ℕ) (longer : List ℕ) (store : Store) (s : 
       pub known_next : KeepsSigners h old order signers → new ≡ old
       known_next all = checks.known (next_known all) ∙ so_far.known all
 
-      pub runs_next : new.runs + length others ≤ old.runs + length signers
-      runs_next = omega (arith, so_far.runs, checks.runs, ap length e)
+      next_kept : KeepsNext store order ahead path (s ∷ others)
+      next_kept = subst (KeepsNext store order ahead path) e so_far.next
 
-      pub stored_on : HasSigned h s.general (record { order = order; path = longer }) s.signature → StoredSoFar h order signers others longer old new
-      stored_on signed = record {
+      -- what is ahead is not verified again
+      is_known : 0 < ahead → new.runs ≡ store.runs
+      is_known some =
+          let is = next_is store order ahead path s others some next_kept in
+          let here : triple_next order path s ≡ next_triple = λ i. record { signer = s.general; statement = record { order = order; path = sym pushed i }; signature = s.signature } in
+          ap (λ (x : Store). x.runs) (checks.known (subst (λ (t : Triple). IsSome (answer_of store t)) here is))
+
+      pub runs_next : (left : ℕ) → left ≡ ahead - 1 → new.runs + length others ≤ old.runs + length signers + left
+      runs_next left less = elim (zero_or_more ahead) [
+        | inl none ↦ omega (arith, so_far.runs, checks.runs, ap length e, less, none)
+        | inr some ↦ omega (arith, so_far.runs, is_known some, ap length e, less, some)
+      ]
+
+      next_left : (left : ℕ) → left ≡ ahead - 1 → KeepsNext new order left longer others
+      next_left left less =
+          let on = next_on store order ahead left path s others less next_kept in
+          next_stays store new order left longer others checks.grows (subst (λ (p : List ℕ). KeepsNext store order left p others) (sym pushed) on)
+
+      pub runs_stop : new.runs ≤ old.runs + length signers
+      runs_stop =
+          let left : (k : ℕ) × (k ≡ ahead - 1) = (ahead - 1, refl) in
+          omega (arith, runs_next left.0 left.1, next_few new order left.0 longer others (next_left left.0 left.1))
+
+      pub stored_on : (left : ℕ) → left ≡ ahead - 1 → HasSigned h s.general (record { order = order; path = longer }) s.signature → StoredSoFar h order signers others longer left old new
+      stored_on left less signed = record {
         front = so_far.front ++ s ∷ [];
         parts = parts_next ∙ sym (append_assoc so_far.front (s ∷ []) others);
         path_is = path_next ∙ sym (map-append (λ (t : Signer). t.general) so_far.front (s ∷ []));
@@ -122,7 +204,8 @@ module _ (h : RunHeader) (order : ℕ) (longer : List ℕ) (store : Store) (s : 
         serves = checks.serves;
         grows = grown_next;
         known = known_next;
-        runs = runs_next;
+        next = next_left left less;
+        runs = runs_next left less;
       }
 
       module _ (unsigned : HasSigned h s.general (record { order = order; path = longer }) s.signature → ⊥) where
@@ -138,13 +221,36 @@ module _ (h : RunHeader) (order : ℕ) (longer : List ℕ) (store : Store) (s : 
               | inr j ↦ absurd (fails_behind a j.0 (j.1 ∙ append_assoc so_far.front (s ∷ []) j.0) signed)
             ]
 
-pub stored_last : (h : RunHeader) (order : ℕ) (signers rest : List Signer) (path : List ℕ) (old store : Store) → rest ≡ [] → StoredSoFar h order signers rest path old store → AreSigned h order signers × KeepsSigners h store order signers
-stored_last h order signers rest path old store e so_far =
+pub stored_last : (h : RunHeader) (order : ℕ) (signers rest : List Signer) (path : List ℕ) (ahead : ℕ) (old store : Store) → rest ≡ [] → StoredSoFar h order signers rest path ahead old store → AreSigned h order signers × KeepsSigners h store order signers
+stored_last h order signers rest path ahead old store e so_far =
     let whole : signers ≡ so_far.front = so_far.parts ∙ ap (λ (r : List Signer). so_far.front ++ r) e ∙ append-nil so_far.front in
     (subst (AreSigned h order) (sym whole) so_far.signed, λ a b s split signed. so_far.kept a b s (sym whole ∙ split))
 
-pub signed_so_far : (h : RunHeader) (order : ℕ) (signers rest : List Signer) (path : List ℕ) (old store : Store) → StoredSoFar h order signers rest path old store → SignedSoFar h order signers rest path
-signed_so_far h order signers rest path old store so_far = record { front = so_far.front; parts = so_far.parts; path_is = so_far.path_is; signed = so_far.signed }
+pub stored_runs : (h : RunHeader) (order : ℕ) (signers rest : List Signer) (path : List ℕ) (ahead : ℕ) (old store : Store) → StoredSoFar h order signers rest path ahead old store → store.runs ≤ old.runs + length signers
+stored_runs h order signers rest path ahead old store so_far = omega (arith, so_far.runs, next_few store order ahead path rest so_far.next)
+
+-- The store after it has looked ahead, which changes nothing where it knows the next signature.
+module _ (h : RunHeader) (order : ℕ) (signers rest others : List Signer) (path : List ℕ) (ahead : ℕ) (old store : Store) (s : Signer) (so_far : StoredSoFar h order signers rest path ahead old store) (e : rest ≡ s ∷ others)
+    (new : Store) (stays : IsSome (answer_of store (triple_next order path s)) → new ≡ store) where
+  pub ahead_known : KeepsSigners h old order signers → IsSome (answer_of store (triple_next order path s))
+  ahead_known = next_known h order (path ++ s.general ∷ []) store s signers rest others path ahead old so_far e refl
+
+  pub stored_ahead : (next : ℕ) → KeepsNext new order next path rest × (new.runs + ahead ≤ store.runs + next) → KeepsAll store new → Serves h new → StoredSoFar h order signers rest path next old new
+  stored_ahead next is grows serves = record {
+    front = so_far.front;
+    parts = so_far.parts;
+    path_is = so_far.path_is;
+    signed = so_far.signed;
+    kept = λ a b t p. some_stays store new (triple_behind order a t) grows (so_far.kept a b t p);
+    serves = serves;
+    grows = λ t answer kept. grows t answer (so_far.grows t answer kept);
+    known = λ all. stays (ahead_known all) ∙ so_far.known all;
+    next = is.0;
+    runs = omega (arith, so_far.runs, is.1);
+  }
+
+pub signed_so_far : (h : RunHeader) (order : ℕ) (signers rest : List Signer) (path : List ℕ) (ahead : ℕ) (old store : Store) → StoredSoFar h order signers rest path ahead old store → SignedSoFar h order signers rest path
+signed_so_far h order signers rest path ahead old store so_far = record { front = so_far.front; parts = so_far.parts; path_is = so_far.path_is; signed = so_far.signed }
 
 pub with_some : {X : Type 0} (o : Option X) (P : Type 0) → ((x : X) → o ≡ Some x → P) → IsSome o → P
 with_some None P f is = absurd cc

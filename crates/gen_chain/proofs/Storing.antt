@@ -1,6 +1,6 @@
 -- A store after one check.
-use Rattle.std.proofs.Common.{arith, ◌≡◌, ℕ, Bool, true, false, cond, eq-eqb, inl, inr, List, [], ◌∷◌, ◌++◌, None, Some, refl, sym, ap, subst, ◌∙◌}
-use Rattle.std.specs.Prelude.{◌≢◌, ◌≤◌, ◌+◌, is_some, nat_eq, ◌==◌, ◌&&◌, ◌↔◌}
+use Rattle.std.proofs.Common.{arith, ◌≡◌, ℕ, Bool, true, false, cond, eq-eqb, inl, inr, List, [], ◌∷◌, ◌++◌, None, Some, Result, Ok, Err, refl, sym, ap, subst, ◌∙◌}
+use Rattle.std.specs.Prelude.{OnOk, OnErr, ◌≢◌, ◌≤◌, ◌+◌, is_some, nat_eq, ◌==◌, ◌&&◌, ◌↔◌}
 use Rattle.std.proofs.lemmas.Bool.{eqb-true}
 use Rattle.std.specs.Cmp.Lexicographic.{pointwise, same_text}
 use Rattle.gen_types.proofs.Lists.{bool_cases}
@@ -119,3 +119,8 @@ one_more_least false runs after e = omega (arith, e)
 
 pub runs_after : (old new : Store) (t : Triple) (answer : Bool) → IsAfter old t answer new → new.runs ≤ old.runs + 1
 runs_after old new t answer after = one_more_least (is_some (answer_of old t)) old.runs new.runs after.runs
+
+-- what comes of both is so either way
+pub either_way : {T E : Type 0} (r : Result T E) (A B P : Type 0) → OnOk r A → OnErr r B → (A → P) → (B → P) → P
+either_way (Ok x) A B P a b good bad = good a
+either_way (Err e) A B P a b good bad = bad b

@@ -5,6 +5,7 @@ pub mod Leaves
 pub mod Making
 pub mod Pooled
 pub mod Prefixes
+pub mod Signings
 pub mod Store
 pub mod StoredChain
 pub mod Texts

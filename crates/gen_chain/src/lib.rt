@@ -22,6 +22,7 @@ mod leaves;
 mod making;
 mod prefixes;
 mod reading;
+mod signings;
 pub mod sizes;
 mod statements;
 mod store;
@@ -40,6 +41,8 @@ pub use store::VerifyStore;
 pub use verifying::{chain_verifies, has_signed};
 pub use writing::write_chain;
 
+#[cfg(test)]
+mod four_tests;
 #[cfg(test)]
 mod store_tests;
 #[cfg(test)]

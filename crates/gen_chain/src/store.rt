@@ -1,18 +1,21 @@
 //! Verifications that are kept, so that none is made twice.
-ghost use Rattle.std.specs.Prelude.{IsTrue, Bool, ℕ, List, ◌≡◌, ◌≢◌, ◌≤◌, ◌+◌, ◌↔◌, ◌++◌, ◌∷◌, [], AllPairs, length, false, Ok, None, Some, IfOk, IsOk, OnOk, OnErr, map};
+ghost use Rattle.std.specs.Prelude.{IsTrue, Bool, ℕ, List, ◌≡◌, ◌≢◌, ◌≤◌, ◌+◌, ◌↔◌, ◌++◌, ◌∷◌, [], AllPairs, length, false, Ok, None, Some, IfOk, IsOk, IsSome, OnOk, OnErr, ◌<◌, is_some, map, slice_index_or};
 ghost use Rattle.gen_net.specs.Header.{RunHeader};
 ghost use Rattle.gen_chain.specs.Chain.{signed_path};
+ghost use Rattle.gen_chain.specs.declared.chains.Signer.{Signer};
 ghost use Rattle.gen_chain.specs.Verifying.{HasSigned, AreSigned, ChainVerifies};
 ghost use Rattle.gen_chain.specs.declared.kept.Claim.{Claim};
 ghost use Rattle.gen_chain.specs.declared.kept.Kept.{Kept};
 ghost use Rattle.gen_chain.specs.Keeping.{items_of};
 ghost use Rattle.gen_chain.specs.Store.{Triple, answer_in, answer_of, is_claim, kept_at, IsAfter, KeepsAll, Serves};
-ghost use Rattle.gen_chain.specs.StoredChain.{KeepsSigners, KeepsChain};
+ghost use Rattle.gen_chain.specs.Signings.{IsSigned, triple_next, triple_of};
+ghost use Rattle.gen_chain.specs.StoredChain.{KeepsSigners, KeepsChain, KeepsNext};
 ghost use Rattle.gen_chain.specs.Pooled.{LendsPool};
 ghost use Rattle.std.specs.Borrow.{sem};
 
 use crate::chains::{SignedChain, Signer};
 use crate::kept::{Claim, Kept};
+use crate::signings::{Signing, have_signed, next_four};
 use crate::sizes::MOST_SIGNERS;
 use crate::statements::Statement;
 use crate::verifying::has_signed;
@@ -125,6 +128,127 @@ impl VerifyStore {
         }
     }
 
+    /// Keeps the answer of a verification that was made, where none is kept.
+    fn keep_answer(
+        &mut self,
+        claim: Claim,
+        signature: &Signature,
+        answer: bool,
+    ) -> Result<(), AllocError>
+        requires { answer_of self.old (record {
+          signer = claim.signer;
+          statement = claim.statement;
+          signature = signature.now;
+        }) ≡ None }
+        ensures kept { OnOk result (IsAfter self.old
+            (record { signer = claim.signer; statement = claim.statement; signature = signature.now })
+            answer self.new) }
+        ensures err { OnErr result (self.new ≡ self.old) }
+    {
+        let last = Kept {
+            signature: signature.share(self.alloc)?,
+            answer,
+        };
+        keep(self.alloc, &mut self.kept, claim, last)?;
+        self.runs = self.runs.saturating_add(1);
+        Ok(())
+    }
+
+    /// Keeps the answer of a verification that was made, unless one is kept already.
+    fn add_answer(&mut self, signing: &Signing<'_>, answer: bool) -> Result<(), AllocError>
+        ensures kept { OnOk result (IsSome (answer_of self.new (triple_of signing.now))) }
+        ensures runs { self.new.runs ≤ self.old.runs + 1 }
+        ensures serves { (h : RunHeader) → Serves h self.old
+            → IsTrue answer ↔ IsSigned h (triple_of signing.now)
+            → Serves h self.new × KeepsAll self.old self.new }
+    {
+        if self.keeps(signing) {
+            return Ok(());
+        }
+        let Signing {
+            signer,
+            statement,
+            signature,
+        } = *signing;
+        self.keep_answer(Claim { signer, statement }, signature, answer)
+    }
+
+    /// Whether an answer is kept.
+    fn keeps(&self, signing: &Signing<'_>) -> bool
+        ensures { result ≡ is_some (answer_of self.now (triple_of signing.now)) }
+    {
+        let Signing {
+            signer,
+            statement,
+            signature,
+        } = *signing;
+        self.answer_of(&Claim { signer, statement }, signature)
+            .is_some()
+    }
+
+    /// Whether no answer is kept for any of the four. The contract says it of the first alone.
+    fn keeps_none(&self, signings: &[Signing<'_>; 4]) -> bool
+        ensures { IsTrue result → (other : Triple)
+            → answer_of self.now (slice_index_or (map triple_of signings.now) 0 other) ≡ None }
+    {
+        let [a, b, c, d] = signings;
+        !self.keeps(a) && !self.keeps(b) && !self.keeps(c) && !self.keeps(d)
+    }
+
+    /// Verifies four signatures side by side, and keeps the answers.
+    fn verify_four(
+        &mut self,
+        header: &Header,
+        signings: &[Signing<'_>; 4],
+    ) -> Result<(), AllocError>
+        requires serves { Serves header.now self.old }
+        ensures kept { OnOk result ((j : ℕ) → j < 4 → (other : Triple)
+            → IsSome (answer_of self.new (slice_index_or (map triple_of signings.now) j other))) }
+        ensures runs { self.new.runs ≤ self.old.runs + 4 }
+        ensures grows { KeepsAll self.old self.new }
+        ensures serves { Serves header.now self.new }
+    {
+        let answers = have_signed(header, signings);
+        'places: for place in 0..4usize {
+            self.add_answer(&signings[place], answers[place])?;
+        }
+        Ok(())
+    }
+
+    /// Verifies the signatures of the next four signers side by side, unless an answer is kept for one of them.
+    /// `ahead` is how many of the next signers' answers are known to be kept before, and the result, how many then.
+    fn look_ahead(
+        &mut self,
+        header: &Header,
+        order: OrderNo,
+        path: &Path,
+        rest: &[Signer],
+        ahead: usize,
+    ) -> Result<usize, AllocError>
+        requires few { length path.now + length rest.now ≤ MOST_SIGNERS }
+        requires distinct { AllPairs (λ g h. g ≢ h) (path.now ++ signed_path rest.now) }
+        requires serves { Serves header.now self.old }
+        requires ahead { KeepsNext self.old order ahead path.now rest.now }
+        ensures ahead { IfOk result (λ next. KeepsNext self.new order next path.now rest.now
+            × (self.new.runs + ahead ≤ self.old.runs + next)) }
+        ensures runs { self.new.runs + ahead ≤ self.old.runs + length rest.now }
+        ensures known { (s : Signer) (others : List Signer) → rest.now ≡ s ∷ others
+            → IsSome (answer_of self.old (triple_next order path.now s)) → IsOk result × (self.new ≡ self.old) }
+        ensures grows { KeepsAll self.old self.new }
+        ensures serves { Serves header.now self.new }
+    {
+        if ahead > 0 || rest.len() < 4 {
+            return Ok(ahead);
+        }
+        let mut path = *path;
+        let signings = next_four(order, &mut path, rest);
+        if !self.keeps_none(&signings) {
+            return Ok(0);
+        }
+        self.verify_four(header, &signings)?;
+        Ok(4)
+    }
+
     /// Returns whether a general signed a statement in the run of this header, as `has_signed` does.
     /// The answer is kept: what is kept is not verified again, and takes no memory.
     ///
@@ -161,12 +285,7 @@ impl VerifyStore {
             return Ok(answer);
         }
         let answer = has_signed(header, signer, statement, signature);
-        let last = Kept {
-            signature: signature.share(self.alloc)?,
-            answer,
-        };
-        keep(self.alloc, &mut self.kept, claim, last)?;
-        self.runs = self.runs.saturating_add(1);
+        self.keep_answer(claim, signature, answer)?;
         Ok(answer)
     }
 
@@ -190,7 +309,9 @@ impl VerifyStore {
     {
         let mut path = Path::new();
         let mut rest = signers;
+        let mut ahead = 0;
         while let Some((signer, others)) = rest.split_first() {
+            let next = self.look_ahead(header, order, &path, rest, ahead)?;
             path.push_new(signer.general);
             let statement = Statement { order, path };
             let signed = self.check(header, signer.general, &statement, &signer.signature)?;
@@ -198,6 +319,7 @@ impl VerifyStore {
                 return Ok(false);
             }
             rest = others;
+            ahead = next.saturating_sub(1);
         }
         Ok(true)
     }
@@ -205,6 +327,7 @@ impl VerifyStore {
     /// Returns whether a chain verifies in the run of this header, as `gen_chain::chain_verifies` does.
     /// Its signatures are checked from the first signer's on, up to the first that fails, and their
     /// answers are kept: a chain of which all those are kept takes no memory, and adds no verification.
+    /// Where no answer is kept for the next four signers, the four are verified side by side.
     ///
     /// # Errors
     ///

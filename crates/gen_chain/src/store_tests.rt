@@ -31,7 +31,7 @@ fn runs_of_two(
 type Check<'a> = (u8, u8, &'a Signature, bool, u64);
 
 // A chain that a store is asked for, what it answers, and how many verifications were made by then.
-type ChainCheck<'a> = (&'a SignedChain, bool, u64);
+pub(crate) type ChainCheck<'a> = (&'a SignedChain, bool, u64);
 
 // Whether the store answers a check as its row says.
 fn checks(store: &mut VerifyStore, header: &Header, row: &Check<'_>) -> Result<bool, Fail>
@@ -75,7 +75,7 @@ fn verifies(
 }
 
 // The first row of chains that a new store answers otherwise.
-fn first_wrong_chain(
+pub(crate) fn first_wrong_chain(
     alloc: Global,
     header: &Header,
     rows: &[ChainCheck<'_>],

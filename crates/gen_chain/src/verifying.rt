@@ -5,6 +5,7 @@ ghost use Rattle.gen_chain.specs.Verifying.{HasSigned, AreSigned, ChainVerifies}
 
 use crate::chains::{SignedChain, Signer};
 use crate::leaves::leaf_of_order;
+use crate::signings::{all_true, have_signed, next_four};
 use crate::sizes::MOST_SIGNERS;
 use crate::statements::{Statement, statement_digest};
 use gen_net::Header;
@@ -38,7 +39,16 @@ fn are_signed(header: &Header, order: OrderNo, signers: &[Signer]) -> bool
 {
     let mut path = Path::new();
     let mut rest = signers;
-    while let Some((signer, others)) = rest.split_first() {
+    'fours: while rest.len() >= 4 {
+        let signings = next_four(order, &mut path, rest);
+        let answers = have_signed(header, &signings);
+        if !all_true(&answers) {
+            return false;
+        }
+        let (_, others) = rest.split_at(4);
+        rest = others;
+    }
+    'ones: while let Some((signer, others)) = rest.split_first() {
         path.push_new(signer.general);
         let statement = Statement { order, path };
         let signed = has_signed(header, signer.general, &statement, &signer.signature);

@@ -3,9 +3,9 @@
 //! Each word of a state is a vector, with one lane for each block. Blocks have one key and one stream, and
 //! each has a counter of its own.
 ghost use Rattle.std.specs.Prelude.{◌≡◌, ℕ, ◌<◌, ◌/◌, ◌%◌, ◌^◌, slice_index};
-ghost use Rattle.rand_chacha.specs.Block.{add32, column_round, diagonal_round, initial_state, quarter_round, xor_rotate};
+ghost use Rattle.rand_chacha.specs.Block.{add32, column_round, diagonal_round, initial_state, xor_rotate};
 ghost use Rattle.rand_chacha.specs.Lanes.{lane, lane_at};
-ghost use Rattle.gen_ots.specs.Blocks.{HasBlock};
+ghost use Rattle.gen_ots.specs.Blocks.{HasBlock, half_rounds};
 
 use crate::lanes::{add, rotate_left, xor};
 use std::simd::u32x4;
@@ -24,34 +24,55 @@ fn xor_rotate(x: u32x4, y: u32x4, count: u32) -> u32x4
     rotate_left(xor(x, y), count)
 }
 
-// The quarter round (section 2.1).
-#[inline(always)]
-fn quarter_round(a: u32x4, b: u32x4, c: u32x4, d: u32x4) -> (u32x4, u32x4, u32x4, u32x4)
-    ensures { (j : ℕ) → j < 4 → (
-      slice_index result.0 j,
-      slice_index result.1 j,
-      slice_index result.2 j,
-      slice_index result.3 j,
-    )
-        ≡ quarter_round (slice_index a j) (slice_index b j) (slice_index c j) (slice_index d j) }
-{
-    let a_half = add(a, b);
-    let d_half = xor_rotate(d, a_half, 16);
-    let c_half = add(c, d_half);
-    let b_half = xor_rotate(b, c_half, 12);
-    let a_whole = add(a_half, b_half);
-    let d_whole = xor_rotate(d_half, a_whole, 8);
-    let c_whole = add(c_half, d_whole);
-    let b_whole = xor_rotate(b_half, c_whole, 7);
-    (a_whole, b_whole, c_whole, d_whole)
-}
-
-// A round on the columns of a state of four rows, and then one on its diagonals (section 2.3).
+// Half of the quarter round (section 2.1) on each column of a state of four rows, the columns side by side: with
+// rotations by 16 and 12 its first half, by 8 and 7 its second.
 #[rattlefmt::skip]
 #[inline(always)]
-fn double_round(state: [u32x4; 16]) -> [u32x4; 16]
+fn half_rounds(state: [u32x4; 16], first: u32, second: u32) -> [u32x4; 16]
+    requires some { (0 < first) × (0 < second) }
+    requires fit { (first < 32) × (second < 32) }
     ensures { (j : ℕ) → j < 4
-        → lane j result ≡ diagonal_round (column_round (lane j state)) }
+        → lane j result ≡ half_rounds first second (lane j state) }
+{
+    let [
+        a0, a1, a2, a3,
+        b0, b1, b2, b3,
+        c0, c1, c2, c3,
+        d0, d1, d2, d3,
+    ] = state;
+    let (a0, a1, a2, a3) = (add(a0, b0), add(a1, b1), add(a2, b2), add(a3, b3));
+    let d0 = xor_rotate(d0, a0, first);
+    let d1 = xor_rotate(d1, a1, first);
+    let d2 = xor_rotate(d2, a2, first);
+    let d3 = xor_rotate(d3, a3, first);
+    let (c0, c1, c2, c3) = (add(c0, d0), add(c1, d1), add(c2, d2), add(c3, d3));
+    let b0 = xor_rotate(b0, c0, second);
+    let b1 = xor_rotate(b1, c1, second);
+    let b2 = xor_rotate(b2, c2, second);
+    let b3 = xor_rotate(b3, c3, second);
+    [
+        a0, a1, a2, a3,
+        b0, b1, b2, b3,
+        c0, c1, c2, c3,
+        d0, d1, d2, d3,
+    ]
+}
+
+// The quarter round on each column (section 2.3).
+#[inline(always)]
+fn column_round(state: [u32x4; 16]) -> [u32x4; 16]
+    ensures { (j : ℕ) → j < 4 → lane j result ≡ column_round (lane j state) }
+{
+    let half = half_rounds(state, 16, 12);
+    half_rounds(half, 8, 7)
+}
+
+// The quarter round on each diagonal (section 2.3): the rows are turned, so that the diagonals are columns, and
+// turned back.
+#[rattlefmt::skip]
+#[inline(always)]
+fn diagonal_round(state: [u32x4; 16]) -> [u32x4; 16]
+    ensures { (j : ℕ) → j < 4 → lane j result ≡ diagonal_round (lane j state) }
 {
     let [
         x0, x1, x2, x3,
@@ -59,19 +80,22 @@ fn double_round(state: [u32x4; 16]) -> [u32x4; 16]
         x8, x9, x10, x11,
         x12, x13, x14, x15,
     ] = state;
-    let (x0, x4, x8, x12) = quarter_round(x0, x4, x8, x12);
-    let (x1, x5, x9, x13) = quarter_round(x1, x5, x9, x13);
-    let (x2, x6, x10, x14) = quarter_round(x2, x6, x10, x14);
-    let (x3, x7, x11, x15) = quarter_round(x3, x7, x11, x15);
-    let (x0, x5, x10, x15) = quarter_round(x0, x5, x10, x15);
-    let (x1, x6, x11, x12) = quarter_round(x1, x6, x11, x12);
-    let (x2, x7, x8, x13) = quarter_round(x2, x7, x8, x13);
-    let (x3, x4, x9, x14) = quarter_round(x3, x4, x9, x14);
-    [
+    let [
+        a0, a1, a2, a3,
+        b0, b1, b2, b3,
+        c0, c1, c2, c3,
+        d0, d1, d2, d3,
+    ] = column_round([
         x0, x1, x2, x3,
-        x4, x5, x6, x7,
-        x8, x9, x10, x11,
-        x12, x13, x14, x15,
+        x5, x6, x7, x4,
+        x10, x11, x8, x9,
+        x15, x12, x13, x14,
+    ]);
+    [
+        a0, a1, a2, a3,
+        b3, b0, b1, b2,
+        c2, c3, c0, c1,
+        d1, d2, d3, d0,
     ]
 }
 
@@ -140,7 +164,7 @@ pub fn four_blocks(key: &[u32; 8], stream: u64, counters: &[u64; 4]) -> [u32x4; 
     let first = initial_states(key, stream, counters);
     let mut state = first;
     'rounds: for _done in 0..DOUBLE_ROUNDS {
-        state = double_round(state);
+        state = diagonal_round(column_round(state));
     }
     sums(&state, &first)
 }

@@ -5,7 +5,7 @@ ghost use Rattle.gen_ots.specs.OneTime.{image, leaf_prefix, bit_of, on_side};
 
 use crate::lanes::select;
 use crate::sizes::{DIGEST_BITS, HASH_BYTES};
-use sha_lanes::images;
+use sha_lanes::{Schedules, images};
 use std::simd::u32x4;
 
 /// The byte before a secret, where its image is hashed.
@@ -16,10 +16,10 @@ pub const LEAF_PREFIX: u8 = 0x01;
 
 /// Returns the images of four secrets, which are hashed side by side.
 #[inline(always)]
-pub fn images_in_lanes(secrets: &[u32x4; 8]) -> [u32x4; 8]
+pub fn images_in_lanes(schedules: &mut Schedules, secrets: &[u32x4; 8]) -> [u32x4; 8]
     ensures { (j : ℕ) → j < 4 → lane_bytes j result ≡ image (lane_bytes j secrets.now) }
 {
-    images(IMAGE_PREFIX, secrets)
+    images(schedules, IMAGE_PREFIX, secrets)
 }
 
 /// Returns whether a bit of a digest is 1, counted from the most significant bit of byte 0.

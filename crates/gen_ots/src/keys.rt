@@ -11,7 +11,7 @@ use crate::secrets::{
 use crate::signatures::{OtsSig, SigRoom, push_pair};
 use crate::sizes::{DIGEST_BITS, OTS_BYTES};
 use gen_types::TreeHeight;
-use sha_lanes::{FourHashers, OneHasher, to_bytes};
+use sha_lanes::{FourHashers, OneHasher, Schedules, to_bytes};
 use std::marker::Model;
 
 /// A one-time key, which signs one digest or is retired.
@@ -86,12 +86,13 @@ impl OneTimeKey {
     {
         let key = key_of(&self.seed);
         let stream = stream_of(self.height);
+        let mut schedules = Schedules::new();
         let mut hasher = OneHasher::new(LEAF_PREFIX);
         // Four bits a turn, so that four secrets are hashed side by side.
         'turns: for turn in 0..DIGEST_BITS / 4 {
             let blocks = blocks_of_bits(&key, stream, self.leaf, 4 * turn);
-            let low = images_in_lanes(&low_secrets(&blocks));
-            let high = images_in_lanes(&high_secrets(&blocks));
+            let low = images_in_lanes(&mut schedules, &low_secrets(&blocks));
+            let high = images_in_lanes(&mut schedules, &high_secrets(&blocks));
             hasher.update(&low, &high);
         }
         hasher.finalize()
@@ -109,6 +110,7 @@ impl OneTimeKey {
         this.live = false;
         let key = key_of(&this.seed);
         let stream = stream_of(this.height);
+        let mut schedules = Schedules::new();
         let mut bytes = room.bytes;
         // Four bits a turn, so that four secrets are hashed side by side.
         'turns: for turn in 0..DIGEST_BITS / 4 {
@@ -117,7 +119,8 @@ impl OneTimeKey {
             let low = low_secrets(&blocks);
             let high = high_secrets(&blocks);
             let shown = to_bytes(&chosen_in_lanes(&ones, &low, &high));
-            let images = to_bytes(&images_in_lanes(&chosen_in_lanes(&ones, &high, &low)));
+            let hidden = chosen_in_lanes(&ones, &high, &low);
+            let images = to_bytes(&images_in_lanes(&mut schedules, &hidden));
             push_pair(&mut bytes, &shown[0], &images[0]);
             push_pair(&mut bytes, &shown[1], &images[1]);
             push_pair(&mut bytes, &shown[2], &images[2]);
@@ -145,12 +148,13 @@ pub fn leaf_values(seed: &[u8; 32], height: TreeHeight, first: u8) -> [[u8; 32];
 {
     let key = key_of(seed);
     let stream = stream_of(height);
+    let mut schedules = Schedules::new();
     let mut hashers = FourHashers::new(LEAF_PREFIX);
     'bits: for bit in 0..DIGEST_BITS {
         let blocks = blocks_of_leaves(&key, stream, first, bit);
-        let low = images_in_lanes(&low_secrets(&blocks));
-        let high = images_in_lanes(&high_secrets(&blocks));
-        hashers.update(&low, &high);
+        let low = images_in_lanes(&mut schedules, &low_secrets(&blocks));
+        let high = images_in_lanes(&mut schedules, &high_secrets(&blocks));
+        hashers.update(&mut schedules, &low, &high);
     }
-    hashers.finalize()
+    hashers.finalize(&mut schedules)
 }

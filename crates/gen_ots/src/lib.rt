@@ -16,6 +16,7 @@
 #![tactic(auto)]
 
 mod chacha;
+mod four;
 mod hashing;
 mod keys;
 mod lanes;
@@ -24,6 +25,7 @@ mod sharing;
 mod signatures;
 pub mod sizes;
 
+pub use four::{SignedDigest, images_of_four};
 pub use keys::{OneTimeKey, leaf_values};
 pub use signatures::{OtsSig, SigRoom, image_of};
 

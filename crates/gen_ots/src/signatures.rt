@@ -12,7 +12,7 @@ use crate::hashing::{LEAF_PREFIX, are_ones, chosen_in_lanes, images_in_lanes};
 use crate::sharing::SigBytes;
 use crate::sizes::{DIGEST_BITS, HASH_BYTES, OTS_BYTES, PAIR_BYTES};
 use gen_types::TreeHeight;
-use sha_lanes::{OneHasher, to_words};
+use sha_lanes::{OneHasher, Schedules, to_words};
 use std::alloc::{AllocError, Global};
 use std::marker::Model;
 
@@ -160,27 +160,35 @@ pub fn image_of(signature: &OtsSig, digest: &[u8; 32]) -> [u8; 32]
     ensures { result ≡ signed_leaf_value signature.now digest.now }
 {
     let pairs = signature.as_bytes();
+    let mut schedules = Schedules::new();
     let mut hasher = OneHasher::new(LEAF_PREFIX);
     // Four bits a turn, so that four secrets are hashed side by side.
     'turns: for turn in 0..DIGEST_BITS / 4 {
-        absorb(&mut hasher, pairs, digest, 4 * turn);
+        absorb(&mut schedules, &mut hasher, pairs, digest, 4 * turn);
     }
     hasher.finalize()
 }
 
 // Feeds the hasher of a leaf value with the images of four bits, from `bit` on.
-fn absorb(hasher: &mut OneHasher, pairs: &[u8], digest: &[u8; 32], bit: usize)
+fn absorb(
+    schedules: &mut Schedules,
+    hasher: &mut OneHasher,
+    pairs: &[u8],
+    digest: &[u8; 32],
+    bit: usize,
+)
     requires length { length pairs.now ≡ OTS_BYTES }
     requires bits { bit + 3 < DIGEST_BITS }
     ensures { HoldsOne hasher.old (leaf_prefix ∷ given_images pairs.now digest.now bit)
         → HoldsOne hasher.new (leaf_prefix ∷ given_images pairs.now digest.now (bit + 4)) }
 {
-    let images = images_in_lanes(&to_words(&[
+    let shown = to_words(&[
         shown_at(pairs, bit),
         shown_at(pairs, bit + 1),
         shown_at(pairs, bit + 2),
         shown_at(pairs, bit + 3),
-    ]));
+    ]);
+    let images = images_in_lanes(schedules, &shown);
     let others = to_words(&[
         other_at(pairs, bit),
         other_at(pairs, bit + 1),
@@ -194,7 +202,7 @@ fn absorb(hasher: &mut OneHasher, pairs: &[u8], digest: &[u8; 32], bit: usize)
 }
 
 // The secret that the pairs show for a bit.
-fn shown_at(pairs: &[u8], bit: usize) -> [u8; 32]
+pub(crate) fn shown_at(pairs: &[u8], bit: usize) -> [u8; 32]
     requires length { length pairs.now ≡ OTS_BYTES }
     requires bit { bit < DIGEST_BITS }
     ensures { result ≡ shown_at pairs.now bit }
@@ -206,7 +214,7 @@ fn shown_at(pairs: &[u8], bit: usize) -> [u8; 32]
 }
 
 // The image that the pairs give for a bit.
-fn other_at(pairs: &[u8], bit: usize) -> [u8; 32]
+pub(crate) fn other_at(pairs: &[u8], bit: usize) -> [u8; 32]
     requires length { length pairs.now ≡ OTS_BYTES }
     requires bit { bit < DIGEST_BITS }
     ensures { result ≡ other_at pairs.now bit }

@@ -1,6 +1,6 @@
 //! Scenarios with signatures, as texts say them.
 ghost use Rattle.std.specs.Prelude.{◌≡◌, IfOk};
-ghost use Rattle.gen_world.specs.Scenario.{IsScenario};
+ghost use Rattle.gen_world.specs.Scenario.{IsScenario, scenario_of};
 
 use gen_net::{Net, Version};
 use gen_script::Script;
@@ -39,44 +39,20 @@ pub struct ScenarioParts {
 }
 
 impl Model for SignedText {
-    ghost use Rattle.gen_world.specs.Scenario.{Scenario, IsScenario};
+    ghost use Rattle.gen_world.specs.Scenario.{Scenario, IsScenario, scenario_of};
 
     ghost Value = { Scenario };
 
-    ghost view = { λ s. record {
-      version = s.version;
-      net = s.net;
-      master = s.master;
-      order = s.order;
-      scripts = s.scripts.items;
-    } };
+    ghost view = { λ s. scenario_of s.version s.net s.master s.order s.scripts.items };
 
-    ghost invariant = { λ s. IsScenario (record {
-      version = s.version;
-      net = s.net;
-      master = s.master;
-      order = s.order;
-      scripts = s.scripts.items;
-    }) };
+    ghost invariant = { λ s. IsScenario (scenario_of s.version s.net s.master s.order s.scripts.items) };
 }
 
 impl SignedText {
     /// Returns the scenario of these parts, which must be lawful.
     pub(crate) fn new(parts: ScenarioParts) -> SignedText
-        requires { IsScenario (record {
-          version = parts.version;
-          net = parts.net;
-          master = parts.master;
-          order = parts.order;
-          scripts = parts.scripts.items;
-        }) }
-        ensures { result ≡ record {
-          version = parts.version;
-          net = parts.net;
-          master = parts.master;
-          order = parts.order;
-          scripts = parts.scripts.items;
-        } }
+        requires { IsScenario (scenario_of parts.version parts.net parts.master parts.order parts.scripts.items) }
+        ensures { result ≡ scenario_of parts.version parts.net parts.master parts.order parts.scripts.items }
     {
         let master = parts.master;
         SignedText {
@@ -127,13 +103,7 @@ impl SignedText {
 
     /// Returns the parts, of which a scenario can be made without a fault.
     pub fn into_parts(self) -> ScenarioParts
-        ensures parts { record {
-          version = result.version;
-          net = result.net;
-          master = result.master;
-          order = result.order;
-          scripts = result.scripts.items;
-        } ≡ self }
+        ensures parts { scenario_of result.version result.net result.master result.order result.scripts.items ≡ self }
         ensures lawful { IsScenario self }
     {
         let master = self.master;

@@ -8,9 +8,9 @@ use Rattle.gen_world.specs.Scenario.{Scenario, IsScenario}
 use Rattle.gen_world.specs.SignedWorld.{frame_at, neighbours_of}
 use Rattle.gen_world.specs.Rows.{Row, rows_in}
 use Rattle.gen_world.specs.Recording.{Recorded, StandBefore, hear_act, with_recvs}
-use Rattle.gen_world.specs.Loops.Records.{RecordsAfter, HasHeard, AllRecord, AllHear, senders_to}
+use Rattle.gen_world.specs.Loops.Records.{HasHeard, AllRecord, AllHear, senders_to}
 use Rattle.gen_world.proofs.Having.{true_false}
-use Rattle.gen_world.proofs.Worlds.{at_same, at_other, eqb_not}
+use Rattle.gen_world.proofs.Worlds.{at_same, at_other}
 use Rattle.gen_world.proofs.Recorders.{hears_from, round_ends}
 use Rattle.gen_world.proofs.LogPlaces.{may_hear}
 use Rattle.gen_world.proofs.RowSenders.{IsFrame, InTurn, frame_has, rows_in_turn, all_senders, senders_here, senders_past, senders_before}

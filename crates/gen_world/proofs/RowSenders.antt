@@ -1,12 +1,12 @@
 -- Who sends the frames of a round, and who hears them.
-use Rattle.std.proofs.Common.{◌≡◌, ◌≢◌, ◌<◌, ◌+◌, inl, inr, ℕ, List, [], ◌∷◌, ◌++◌, map, filter, take, length, get_or, slice_index_or, slice_set, Contains, AllPairs, refl, sym, ap, subst, ◌∙◌, eqb, true, false, arith}
-use Rattle.std.specs.List.{range_with_len, flat_map, list_any}
+use Rattle.std.proofs.Common.{◌≡◌, ◌<◌, ◌+◌, ℕ, List, [], ◌∷◌, ◌++◌, map, filter, take, length, get_or, Contains, AllPairs, refl, sym, ap, subst, ◌∙◌, eqb, true, false, arith}
+use Rattle.std.specs.List.{range_with_len, list_any}
 use Rattle.std.proofs.lemmas.Bool.{eqb-true, eq-eqb}
 use Rattle.std.proofs.lemmas.List.{append-nil, map-append, take_more, get_or-take, get_or_default, length-take-le}
-use Rattle.std.proofs.lemmas.List.Elements.{filter-append, Contains-get_or}
+use Rattle.std.proofs.lemmas.List.Elements.{filter-append}
 use Rattle.std.proofs.lemmas.List.Kept.{AllPairs-filter}
 use Rattle.gen_types.specs.Members.{range_ascending, filter_range_has}
-use Rattle.gen_types.proofs.Lists.{bool_cases, ascending_one, Contains_mapped, Contains_flat_mapped, Contains_filtered, Contains_range, Contains_in_range}
+use Rattle.gen_types.proofs.Lists.{ascending_one, Contains_mapped, Contains_flat_mapped, Contains_filtered, Contains_range, Contains_in_range}
 use Rattle.gen_net.specs.Network.{IsNetwork}
 use Rattle.gen_net.specs.Edges.{joins}
 use Rattle.gen_world.specs.Scenario.{Scenario}

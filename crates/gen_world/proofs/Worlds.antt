@@ -1,5 +1,5 @@
 -- All generals together, step by step.
-use Rattle.std.proofs.Common.{◌≡◌, ◌≢◌, ◌↔◌, ℕ, Bool, true, false, not, List, [], ◌∷◌, ◌++◌, map, filter, refl, sym, ap, subst, ◌∙◌, eqb, Contains, Option, Some, None, inl, inr, ◌≤◌, ◌<◌, ◌+◌, arith, length, drop, slice_index_or, slice_set, append_assoc, zero-add}
+use Rattle.std.proofs.Common.{◌≡◌, ◌≢◌, ◌↔◌, ℕ, Bool, true, false, not, List, [], ◌∷◌, ◌++◌, map, filter, refl, sym, ap, subst, ◌∙◌, eqb, Option, Some, None, inl, inr, ◌≤◌, ◌<◌, ◌+◌, arith, length, drop, slice_index_or, slice_set, append_assoc, zero-add}
 use Rattle.std.specs.Prelude.{IsTrue}
 use Rattle.std.specs.List.{range_with_len, flat_map, list_any}
 use Rattle.std.proofs.lemmas.Bool.{eqb-true, eq-eqb}
@@ -10,23 +10,21 @@ use Rattle.std.proofs.lemmas.List.Elements.{filter-append}
 use Rattle.gen_types.specs.Members.{range_more}
 use Rattle.gen_types.proofs.Lists.{bool_cases}
 use Rattle.gen_tree.specs.Rings.{Ring}
-use Rattle.gen_net.specs.Header.{RunHeader}
 use Rattle.gen_net.specs.Network.{Network, AreNeighbours, rounds}
 use Rattle.gen_net.specs.Edges.{joins}
 use Rattle.gen_script.proofs.Joining.{joined_found, joined_again}
 use Rattle.gen_world.specs.declared.hearing.Heard.{Heard}
 use Rattle.gen_world.specs.declared.scenario.Decision.{Decision}
-use Rattle.gen_world.specs.Scenario.{Scenario, header_of, has_script}
+use Rattle.gen_world.specs.Scenario.{Scenario, has_script}
 use Rattle.gen_world.specs.Signing.{Keys}
 use Rattle.gen_world.specs.Frames.{frame_of}
-use Rattle.gen_world.specs.SignedWorld.{part_of, own_order, heard_by, heard_in, heard_of}
+use Rattle.gen_world.specs.SignedWorld.{part_of, heard_by}
 use Rattle.gen_world.specs.Deciding.{decided_by, decision_of, decisions_of}
 use Rattle.gen_world.specs.Known.{Known, own_keys}
 use Rattle.gen_world.specs.KnownLaws.{ActAlike}
 use Rattle.gen_world.specs.Rows.{Row, row_at, rows_by, rows_in, rows_of}
-use Rattle.gen_world.specs.Seat.{Seat, RingAfter, HasBegun, keys_at, part_at, sends, hears, with_frame}
-use Rattle.gen_world.specs.SeatLaws.{IsPartOf, IsIn, BeginsAsHe, HearsAsHe, SendsFrames, HearsFrames, DecidesAsHe}
-use Rattle.gen_world.specs.Recording.{Recorded}
+use Rattle.gen_world.specs.Seat.{Seat, RingAfter, HasBegun, keys_at, part_at, sends, with_frame}
+use Rattle.gen_world.specs.SeatLaws.{IsIn, BeginsAsHe, HearsAsHe, SendsFrames, HearsFrames, DecidesAsHe}
 use Rattle.gen_world.specs.Loops.Worlds.{StandsAfter, near_of, rows_for, rows_first, rows_until, decided_of}
 use Rattle.gen_world.proofs.Having.{true_false}
 use Rattle.gen_world.proofs.Stepping.{frame_after}

@@ -26,6 +26,10 @@ pub record Scenario : Type 0 where
   pub order : ℕ
   pub scripts : List Script
 
+-- the scenario of these parts
+abbrev pub scenario_of : Version → Network → List ℕ → ℕ → List Script → Scenario
+scenario_of v n m o s = record { version = v; net = n; master = m; order = o; scripts = s }
+
 -- the header of the run: the root of each general is that of the ring of his seed
 abbrev pub header_of : Scenario → RunHeader
 header_of s = record {

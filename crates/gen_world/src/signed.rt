@@ -8,7 +8,7 @@ ghost use Rattle.gen_net.specs.declared.fault.HeaderFault.TheVariants.{SlotRange
 ghost use Rattle.gen_net.specs.declared.version.Version.TheVariants.{One, Two};
 ghost use Rattle.gen_net.specs.Version.{greatest_slot, height_in, slot_in};
 ghost use Rattle.gen_world.specs.Scenario as scenarios;
-ghost use Rattle.gen_world.specs.Scenario.{IsScenario, header_of};
+ghost use Rattle.gen_world.specs.Scenario.{IsScenario, header_of, scenario_of};
 ghost use Rattle.gen_world.specs.Trees.{general_tree, root_over};
 
 use gen_net::{GREATEST_SLOT, Header, HeaderFault, Net, Version};
@@ -35,41 +35,17 @@ pub struct Scenario {
 
 impl Model for Scenario {
     ghost use Rattle.std.specs.Prelude.{◌≡◌};
-    ghost use Rattle.gen_world.specs.Scenario.{Scenario, IsScenario, header_of};
+    ghost use Rattle.gen_world.specs.Scenario.{Scenario, IsScenario, header_of, scenario_of};
     ghost use Rattle.gen_world.specs.Trees.{trees_of};
 
     ghost Value = { Scenario };
 
-    ghost view = { λ s. record {
-      version = s.header.version;
-      net = s.header.network;
-      master = s.master;
-      order = s.order;
-      scripts = s.scripts.items;
-    } };
+    ghost view = { λ s. scenario_of s.header.version s.header.network s.master s.order s.scripts.items };
 
     ghost invariant = { λ s. record {
-      lawful : IsScenario (record {
-        version = s.header.version;
-        net = s.header.network;
-        master = s.master;
-        order = s.order;
-        scripts = s.scripts.items;
-      });
-      header : s.header ≡ header_of (record {
-        version = s.header.version;
-        net = s.header.network;
-        master = s.master;
-        order = s.order;
-        scripts = s.scripts.items;
-      });
-      trees : s.trees.items ≡ trees_of (record {
-        version = s.header.version;
-        net = s.header.network;
-        master = s.master;
-        order = s.order;
-        scripts = s.scripts.items;
-      });
+      lawful : IsScenario (scenario_of s.header.version s.header.network s.master s.order s.scripts.items);
+      header : s.header ≡ header_of (scenario_of s.header.version s.header.network s.master s.order s.scripts.items);
+      trees : s.trees.items ≡ trees_of (scenario_of s.header.version s.header.network s.master s.order s.scripts.items);
     } };
 }
 
@@ -142,20 +118,8 @@ impl Scenario {
         master: &[u8; 32],
         scripts: Vec<Script>,
     ) -> Result<Scenario, AllocError>
-        requires { IsScenario (record {
-          version = One;
-          net = net;
-          master = master.now;
-          order = order;
-          scripts = scripts.items;
-        }) }
-        ensures { IfOk result (λ scenario. scenario ≡ record {
-          version = One;
-          net = net;
-          master = master.now;
-          order = order;
-          scripts = scripts.items;
-        }) }
+        requires { IsScenario (scenario_of One net master.now order scripts.items) }
+        ensures { IfOk result (λ scenario. scenario ≡ scenario_of One net master.now order scripts.items) }
     {
         Scenario::of_version(alloc, Version::One, net, order, master, scripts)
     }
@@ -175,22 +139,10 @@ impl Scenario {
         master: &[u8; 32],
         scripts: Vec<Script>,
     ) -> Result<Scenario, ReadError<HeaderFault>>
-        requires { slot ≤ greatest_slot → IsScenario (record {
-          version = Two slot;
-          net = net;
-          master = master.now;
-          order = order;
-          scripts = scripts.items;
-        }) }
+        requires { slot ≤ greatest_slot → IsScenario (scenario_of (Two slot) net master.now order scripts.items) }
         ensures slot { (result ≡ Err (Fault SlotRange)) ↔ (greatest_slot < slot) }
         ensures only { (fault : Broken) → result ≡ Err (Fault fault) → fault ≡ SlotRange }
-        ensures value { IfOk result (λ scenario. scenario ≡ record {
-          version = Two slot;
-          net = net;
-          master = master.now;
-          order = order;
-          scripts = scripts.items;
-        }) }
+        ensures value { IfOk result (λ scenario. scenario ≡ scenario_of (Two slot) net master.now order scripts.items) }
     {
         if slot > GREATEST_SLOT {
             return Err(ReadError::Fault(HeaderFault::SlotRange));
@@ -213,20 +165,8 @@ impl Scenario {
         master: &[u8; 32],
         scripts: Vec<Script>,
     ) -> Result<Scenario, AllocError>
-        requires { IsScenario (record {
-          version = version;
-          net = net;
-          master = master.now;
-          order = order;
-          scripts = scripts.items;
-        }) }
-        ensures { IfOk result (λ scenario. scenario ≡ record {
-          version = version;
-          net = net;
-          master = master.now;
-          order = order;
-          scripts = scripts.items;
-        }) }
+        requires { IsScenario (scenario_of version net master.now order scripts.items) }
+        ensures { IfOk result (λ scenario. scenario ≡ scenario_of version net master.now order scripts.items) }
     {
         let trees = general_trees(alloc, master, version.height(), net.generals())?;
         Scenario::of_trees(alloc, version, net, order, master, scripts, trees)
@@ -247,22 +187,10 @@ impl Scenario {
         scripts: Vec<Script>,
         trees: Vec<KeyTree>,
     ) -> Result<Scenario, AllocError>
-        requires lawful { IsScenario (record {
-          version = version;
-          net = net;
-          master = master.now;
-          order = order;
-          scripts = scripts.items;
-        }) }
+        requires lawful { IsScenario (scenario_of version net master.now order scripts.items) }
         requires trees { trees.items
             ≡ map (general_tree master.now (height_in version)) (range_with_len 0 net.generals) }
-        ensures { IfOk result (λ scenario. scenario ≡ record {
-          version = version;
-          net = net;
-          master = master.now;
-          order = order;
-          scripts = scripts.items;
-        }) }
+        ensures { IfOk result (λ scenario. scenario ≡ scenario_of version net master.now order scripts.items) }
     {
         let roots = roots_of(alloc, trees.as_slice())?;
         let header = header_over(version, net, roots);

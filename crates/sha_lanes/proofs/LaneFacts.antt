@@ -1,9 +1,9 @@
 -- What an operation on vectors does in each lane.
-use Rattle.std.proofs.Common.{◌≡◌, ℕ, zero, suc, ◌<◌, ◌-◌, ◌*◌, ◌/◌, ◌%◌, ◌^◌, List, [], ◌∷◌, length, slice_index, slice_index_or, bit_or, w32, arith, refl, ap, ◌∙◌, replicate}
+use Rattle.std.proofs.Common.{◌≡◌, ℕ, zero, suc, ◌<◌, ◌-◌, ◌*◌, ◌/◌, ◌%◌, ◌^◌, List, [], ◌∷◌, length, slice_index, slice_index_or, bit_or, w32, Fits, arith, refl, ap, ◌∙◌, replicate}
 use Rattle.std.proofs.lemmas.List.{length-map, get_or-map}
 use Rattle.std.proofs.Math.ListN.{get_or-map as get_or-map-default}
-use Rattle.std.proofs.lemmas.Simd.{zip2_splat, zip2_of_maps}
-use Rattle.std.specs.Simd.Lanes.{zip2}
+use Rattle.std.proofs.lemmas.Simd.{Each1-get_or, below_from_Fits, zip2_splat, zip2_of_maps}
+use Rattle.std.specs.Simd.Lanes.{Each1, zip2}
 use Rattle.std.specs.Int.{rotate_right}
 use Rattle.sha_lanes.specs.Lanes.{lane, lane_at}
 
@@ -22,6 +22,11 @@ lane_of_splat x = each_lane _ refl refl refl refl
 -- the same bytes in each lane
 pub lane_of_copies : (x : List ℕ) (j : ℕ) → j < 4 → slice_index_or (x ∷ x ∷ x ∷ x ∷ []) j [] ≡ x
 lane_of_copies x = each_lane _ refl refl refl refl
+
+-- each lane has a word of 32 bits
+pub lane_below : (x : List ℕ) (j : ℕ) → length x ≡ 4 → Each1 (Fits w32) x → j < 4 → slice_index x j < 2 ^ 32
+lane_below x j four fit below =
+    Each1-get_or (λ (y : ℕ). y < 2 ^ 32) x j 0 (omega arith) (below_from_Fits w32 x fit)
 
 -- a vector and a splat
 pub lane_with_splat : (f : ℕ → ℕ → ℕ) (x : List ℕ) (k j : ℕ) → length x ≡ 4 → j < 4

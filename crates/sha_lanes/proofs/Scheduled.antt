@@ -11,6 +11,18 @@ use Rattle.sha_lanes.proofs.LaneFacts.{lane-word, lane_of_splat, length-lane}
 abbrev pub IsScheduled : ℕ → List ℕ → List (List ℕ) → ℕ → Type 0
 IsScheduled j b w t = (i : ℕ) → i < t → lane_at w i j ≡ slice_index (schedule b 48) i
 
+-- one word more of those of a block
+pub set_next : (w x : List (List ℕ)) (t : ℕ) → t < length w → ((i : ℕ) → i < t → slice_index_or w i [] ≡ slice_index_or x i [])
+    → (i : ℕ) → i < t + 1 → slice_index_or (slice_set w t (slice_index_or x t [])) i [] ≡ slice_index_or x i []
+set_next w x t inside before i below = elim (cases_lt i t) [
+  | inl lt ↦
+      let apart : i ≢ t = omega arith in
+      get_or-set_other w t i (slice_index_or x t []) [] apart ∙ before i lt
+  | inr ge ↦
+      let here : i ≡ t = omega arith in
+      rw here (get_or-set_same w t (slice_index_or x t []) [] inside)
+]
+
 -- x has word i of the schedule in lane j
 abbrev pub IsWord : ℕ → List ℕ → List ℕ → ℕ → Type 0
 IsWord j b x i = slice_index x j ≡ slice_index (schedule b 48) i

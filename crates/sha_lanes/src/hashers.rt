@@ -8,6 +8,7 @@ ghost use Rattle.sha_lanes.specs.Hashers.{HoldsLane, state_of};
 use crate::blocks::blocks;
 use crate::halves::{to_bytes, to_words};
 use crate::rounds::{compress, initial_states};
+use crate::scheduling::Schedules;
 use std::simd::u32x4;
 
 /// The bytes of two halves of a block.
@@ -82,7 +83,12 @@ impl FourHashers {
 
     // The hash values, once 64 bytes more are taken in.
     #[inline(always)]
-    fn hashed(&self, first: &[u32x4; 8], second: &[u32x4; 8]) -> [u32x4; 8]
+    fn hashed(
+        &self,
+        schedules: &mut Schedules,
+        first: &[u32x4; 8],
+        second: &[u32x4; 8],
+    ) -> [u32x4; 8]
         ensures { (j : ℕ) → j < 4 → state j result
             ≡ compress (state_of j self.now) (block (slice_index self.now.carry j % 2 ^ 8)
             (lane_bytes j first.now) (lane_bytes j second.now)) }
@@ -90,15 +96,16 @@ impl FourHashers {
         let start = [
             self.a, self.b, self.c, self.d, self.e, self.f, self.g, self.h,
         ];
-        compress(start, &blocks(self.carry, first, second))
+        schedules.begin(&blocks(self.carry, first, second));
+        compress(start, schedules)
     }
 
     /// Adds 64 bytes to each message, in two halves of eight words each.
-    pub fn update(&mut self, first: &[u32x4; 8], second: &[u32x4; 8])
+    pub fn update(&mut self, schedules: &mut Schedules, first: &[u32x4; 8], second: &[u32x4; 8])
         ensures { (j : ℕ) → j < 4 → (m : List ℕ) → HoldsLane j self.old m → HoldsLane j self.new
             (m ++ (lane_bytes j first.now ++ lane_bytes j second.now)) }
     {
-        let [a, b, c, d, e, f, g, h] = self.hashed(first, second);
+        let [a, b, c, d, e, f, g, h] = self.hashed(schedules, first, second);
         self.a = a;
         self.b = b;
         self.c = c;
@@ -112,14 +119,14 @@ impl FourHashers {
     }
 
     /// Returns the digests of the four messages.
-    pub fn finalize(self) -> [[u8; 32]; 4]
+    pub fn finalize(self, schedules: &mut Schedules) -> [[u8; 32]; 4]
         ensures { (j : ℕ) → j < 4 → (m : List ℕ) → HoldsLane j self m
             → slice_index_or result j [] ≡ sha256 m }
     {
         let bits = self.total.wrapping_mul(8);
         let first = to_words(&[PADDING_START; 4]);
         let second = to_words(&[length_half(bits); 4]);
-        to_bytes(&self.hashed(&first, &second))
+        to_bytes(&self.hashed(schedules, &first, &second))
     }
 }
 

@@ -6,7 +6,8 @@
 //! (`last_links`). The first two take and give words, so that what comes out of one goes into the next
 //! without being taken out of its lane; `to_words` and `to_bytes` lead there and back. The pieces of
 //! chains may have any lengths: a lane that is through with a message begins the next of its chain, and
-//! the longest chain decides. Each lane's digest is what `sha2` gives for that lane's message.
+//! the longest chain decides. Each lane's digest is what `sha2` gives for that lane's message. The first
+//! two write the words of all rounds into a caller's room, `Schedules`, which one call after another can use.
 //!
 //! `OneHasher` is for one long message that comes 256 bytes a turn: the schedules of four of its blocks
 //! are made side by side, and the rounds go over one block after another. It takes about four fifths of
@@ -29,10 +30,11 @@ mod halves;
 mod hashers;
 mod one;
 mod plain;
+mod progress;
 mod rounds;
+mod scheduling;
 #[cfg(test)]
 mod tests;
-mod walks;
 mod words;
 
 use blocks::blocks;
@@ -41,6 +43,7 @@ pub use halves::{to_bytes, to_words};
 pub use hashers::FourHashers;
 pub use one::OneHasher;
 use rounds::{compress, initial_states};
+pub use scheduling::Schedules;
 use std::simd::u32x4;
 
 // The words that pad a message of 33 bytes, and in the last one a low byte that is in no block.
@@ -50,12 +53,14 @@ const PADDING_OF_33: [u32; 8] = [
 ];
 
 /// Returns the digests of four messages, each of the byte `prefix` and then the 32 bytes of its lane.
-pub fn images(prefix: u8, messages: &[u32x4; 8]) -> [u32x4; 8]
+/// What stood in the room doesn't matter.
+pub fn images(schedules: &mut Schedules, prefix: u8, messages: &[u32x4; 8]) -> [u32x4; 8]
     ensures { (j : ℕ) → j < 4
         → lane_bytes j result ≡ sha256 (prefix ∷ lane_bytes j messages.now) }
 {
     let block = blocks(u32x4::splat(u32::from(prefix)), messages, &padding_of_33());
-    compress(initial_states(), &block)
+    schedules.begin(&block);
+    compress(initial_states(), schedules)
 }
 
 // What pads a message of 33 bytes, in each lane.

@@ -11,6 +11,7 @@ use crate::blocks::blocks;
 use crate::hashers::FourHashers;
 use crate::plain::compress_four;
 use crate::rounds::INITIAL_HASH;
+use crate::scheduling::Schedules;
 use std::simd::u32x4;
 
 /// The bytes of two halves of four blocks.
@@ -56,6 +57,6 @@ impl OneHasher {
         ensures { (m : List ℕ) → HoldsOne self m → result ≡ sha256 m }
     {
         let alike = FourHashers::alike(&self.hash, self.carry, self.total);
-        alike.finalize()[0]
+        alike.finalize(&mut Schedules::new())[0]
     }
 }

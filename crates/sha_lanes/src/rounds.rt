@@ -1,9 +1,10 @@
 //! The 64 rounds over one block of each message (FIPS 180-4, section 6.2.2).
-ghost use Rattle.std.specs.Prelude.{◌≡◌, ℕ, ◌<◌, ◌≤◌, ◌+◌, ◌-◌, ◌*◌, List, slice_index};
-ghost use Rattle.sha2.specs.Sha256.{compress, initial_hash_256, next_word, round, rounds, schedule};
-ghost use Rattle.sha_lanes.specs.Lanes.{HasWords, lane, lane_at, state};
+ghost use Rattle.std.specs.Prelude.{◌≡◌, ℕ, ◌<◌, ◌≤◌, ◌+◌, List, slice_index, take};
+ghost use Rattle.sha2.specs.Sha256.{compress, initial_hash_256, round, round_constants, rounds};
+ghost use Rattle.sha_lanes.specs.Lanes.{HasWords, lane, state};
 
-use crate::words::{add, big_sigma0, big_sigma1, ch, maj, small_sigma0, small_sigma1};
+use crate::scheduling::Schedules;
+use crate::words::{add, big_sigma0, big_sigma1, ch, maj};
 use std::simd::u32x4;
 
 /// The words of a block.
@@ -12,10 +13,17 @@ pub const BLOCK_WORDS: usize = 16;
 /// The rounds over a block, each of which has a word of its own.
 pub const ROUNDS: usize = 64;
 
-/// K: the first 32 bits of the fractional parts of the cube roots of the first 64 primes (4.2.2), each once
-/// for each lane, so that a round adds it as it is read.
+// A row of constants for each round.
+struct RoundConstants {
+    // It says nothing: with it the rows are aligned to 16 bytes, so that none lies on two lines of a cache.
+    alignment: u128,
+    rows: [[u32; 4]; ROUNDS],
+}
+
+// K: the first 32 bits of the fractional parts of the cube roots of the first 64 primes (4.2.2), each once
+// for each lane, so that a round adds it as it is read.
 #[rattlefmt::skip]
-pub static ROUND_CONSTANTS: [[u32; 4]; ROUNDS] = [
+static ROUND_CONSTANTS: RoundConstants = RoundConstants { alignment: 0, rows: [
     [0x428a_2f98; 4], [0x7137_4491; 4], [0xb5c0_fbcf; 4], [0xe9b5_dba5; 4],
     [0x3956_c25b; 4], [0x59f1_11f1; 4], [0x923f_82a4; 4], [0xab1c_5ed5; 4],
     [0xd807_aa98; 4], [0x1283_5b01; 4], [0x2431_85be; 4], [0x550c_7dc3; 4],
@@ -32,7 +40,7 @@ pub static ROUND_CONSTANTS: [[u32; 4]; ROUNDS] = [
     [0x391c_0cb3; 4], [0x4ed8_aa4a; 4], [0x5b9c_ca4f; 4], [0x682e_6ff3; 4],
     [0x748f_82ee; 4], [0x78a5_636f; 4], [0x84c8_7814; 4], [0x8cc7_0208; 4],
     [0x90be_fffa; 4], [0xa450_6ceb; 4], [0xbef9_a3f7; 4], [0xc671_78f2; 4],
-];
+]};
 
 /// H: the first 32 bits of the fractional parts of the square roots of the first eight primes (5.3.3).
 pub const INITIAL_HASH: [u32; 8] = [
@@ -64,35 +72,13 @@ pub fn initial_states() -> [u32x4; 8]
     ]
 }
 
-// Word `t` of the schedule, from the words before it, of which word `t - 2` is given.
+/// Returns the constant of round `t`, in each lane.
 #[inline(always)]
-fn next_word(words: &[u32x4; ROUNDS], t: usize, second_last: u32x4) -> u32x4
-    requires block { BLOCK_WORDS ≤ t }
-    requires below { t < ROUNDS }
-    ensures { (j : ℕ) → j < 4 → slice_index second_last j ≡ lane_at words.now (t - 2) j
-        → slice_index result j ≡ next_word (lane j words.now) t }
+pub fn constant_at(t: usize) -> u32x4
+    requires { t < ROUNDS }
+    ensures { (j : ℕ) → j < 4 → slice_index result j ≡ slice_index round_constants t }
 {
-    let near = add(small_sigma1(second_last), words[t - 7]);
-    add(add(near, small_sigma0(words[t - 15])), words[t - 16])
-}
-
-/// Makes `words` those of all rounds, from those of the block. They stay in the caller's array, since
-/// an array that is handed out is copied. Two words a turn: the last two are at hand for the next two.
-#[inline(always)]
-pub fn schedule(words: &mut [u32x4; ROUNDS], block: &[u32x4; BLOCK_WORDS])
-    ensures { (j : ℕ) → j < 4 → (b : List ℕ) → HasWords j block.now b
-        → lane j words.new ≡ schedule b 48 }
-{
-    words[..BLOCK_WORDS].copy_from_slice(block);
-    let mut even = block[BLOCK_WORDS - 2];
-    let mut odd = block[BLOCK_WORDS - 1];
-    'pairs: for pair in BLOCK_WORDS / 2..ROUNDS / 2 {
-        let t = 2 * pair;
-        even = next_word(words, t, even);
-        words[t] = even;
-        odd = next_word(words, t + 1, odd);
-        words[t + 1] = odd;
-    }
+    u32x4::from_array(ROUND_CONSTANTS.rows[t])
 }
 
 // One round on the working variables.
@@ -110,44 +96,43 @@ fn round(v: [u32x4; 8], constant: u32x4, word: u32x4) -> [u32x4; 8]
 
 // Round `t`, with its constant and its word.
 #[inline(always)]
-fn round_at(words: &[u32x4; ROUNDS], v: [u32x4; 8], t: usize) -> [u32x4; 8]
+fn round_at(schedules: &Schedules, v: [u32x4; 8], t: usize) -> [u32x4; 8]
     requires { t < ROUNDS }
-    ensures { (j : ℕ) → j < 4 → (h : List ℕ) → state j v ≡ rounds h (lane j words.now) t
-        → state j result ≡ rounds h (lane j words.now) (t + 1) }
+    ensures { (j : ℕ) → j < 4 → (h : List ℕ) → state j v ≡ rounds h (lane j schedules.now) t
+        → state j result ≡ rounds h (lane j schedules.now) (t + 1) }
 {
-    round(v, u32x4::from_array(ROUND_CONSTANTS[t]), words[t])
+    round(v, constant_at(t), schedules.word(t))
 }
 
 // Eight rounds from `t` on, after which each working variable is in its place again.
 #[inline(always)]
-fn eight_rounds(words: &[u32x4; ROUNDS], v: [u32x4; 8], t: usize) -> [u32x4; 8]
+fn eight_rounds(schedules: &Schedules, v: [u32x4; 8], t: usize) -> [u32x4; 8]
     requires { t + 8 ≤ ROUNDS }
-    ensures { (j : ℕ) → j < 4 → (h : List ℕ) → state j v ≡ rounds h (lane j words.now) t
-        → state j result ≡ rounds h (lane j words.now) (t + 8) }
+    ensures { (j : ℕ) → j < 4 → (h : List ℕ) → state j v ≡ rounds h (lane j schedules.now) t
+        → state j result ≡ rounds h (lane j schedules.now) (t + 8) }
 {
-    let v = round_at(words, v, t);
-    let v = round_at(words, v, t + 1);
-    let v = round_at(words, v, t + 2);
-    let v = round_at(words, v, t + 3);
-    let v = round_at(words, v, t + 4);
-    let v = round_at(words, v, t + 5);
-    let v = round_at(words, v, t + 6);
-    round_at(words, v, t + 7)
+    let v = round_at(schedules, v, t);
+    let v = round_at(schedules, v, t + 1);
+    let v = round_at(schedules, v, t + 2);
+    let v = round_at(schedules, v, t + 3);
+    let v = round_at(schedules, v, t + 4);
+    let v = round_at(schedules, v, t + 5);
+    let v = round_at(schedules, v, t + 6);
+    round_at(schedules, v, t + 7)
 }
 
-/// Returns the hash values after one block more of each message, whose words are given.
+/// Returns the hash values after one block more of each message, with whose words the schedules are begun.
 ///
 /// It is one copy for all its callers, so that it stays in the processor's caches.
 #[inline(never)]
-pub fn compress(start: [u32x4; 8], block: &[u32x4; BLOCK_WORDS]) -> [u32x4; 8]
-    ensures { (j : ℕ) → j < 4 → (b : List ℕ) → HasWords j block.now b
+pub fn compress(start: [u32x4; 8], schedules: &mut Schedules) -> [u32x4; 8]
+    ensures { (j : ℕ) → j < 4 → (b : List ℕ) → HasWords j (take 16 schedules.old) b
         → state j result ≡ compress (state j start) b }
 {
-    let mut words = [u32x4::splat(0); ROUNDS];
-    schedule(&mut words, block);
+    schedules.extend();
     let mut v = start;
     'rounds: for turn in 0..ROUNDS / 8 {
-        v = eight_rounds(&words, v, 8 * turn);
+        v = eight_rounds(schedules, v, 8 * turn);
     }
     [
         add(start[0], v[0]),

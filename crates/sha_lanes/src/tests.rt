@@ -80,25 +80,26 @@ const VALIDATED_DIGEST: [u8; 32] = [
 #[test]
 fn a_vector_of_the_standards_validation_holds(rt: HostRuntime) {
     let messages = to_words(&[VALIDATED; 4]);
-    assert!(rt; to_bytes(&images(5, &messages)) == [VALIDATED_DIGEST; 4]);
+    assert!(rt; to_bytes(&images(&mut Schedules::new(), 5, &messages)) == [VALIDATED_DIGEST; 4]);
 }
 
 #[test]
 fn images_are_those_of_another_program(rt: HostRuntime) {
-    assert!(rt; to_bytes(&images(0, &to_words(&FIRST))) == IMAGES);
+    assert!(rt; to_bytes(&images(&mut Schedules::new(), 0, &to_words(&FIRST))) == IMAGES);
 }
 
 #[test]
 fn longer_messages_are_those_of_another_program(rt: HostRuntime) {
+    let mut schedules = Schedules::new();
     let mut hashers = FourHashers::new(1);
-    hashers.update(&to_words(&FIRST), &to_words(&SECOND));
-    hashers.update(&to_words(&THIRD), &to_words(&FOURTH));
-    assert!(rt; hashers.finalize() == LONGER);
+    hashers.update(&mut schedules, &to_words(&FIRST), &to_words(&SECOND));
+    hashers.update(&mut schedules, &to_words(&THIRD), &to_words(&FOURTH));
+    assert!(rt; hashers.finalize(&mut schedules) == LONGER);
 }
 
 #[test]
 fn lanes_are_those_of_one_message_after_another(rt: HostRuntime) {
-    let found = to_bytes(&images(0xff, &to_words(&FOURTH)));
+    let found = to_bytes(&images(&mut Schedules::new(), 0xff, &to_words(&FOURTH)));
     for lane in 0..4 {
         let mut hasher = Sha256::new();
         hasher.update([0xff]);
@@ -117,7 +118,7 @@ fn words_have_their_high_bytes_first(rt: HostRuntime) {
 
 #[test]
 fn one_byte_is_hashed_alone(rt: HostRuntime) {
-    assert!(rt; FourHashers::new(7).finalize() == [Sha256::digest([7]); 4]);
+    assert!(rt; FourHashers::new(7).finalize(&mut Schedules::new()) == [Sha256::digest([7]); 4]);
 }
 
 #[test]

@@ -1,6 +1,6 @@
 //! Operations on four words side by side, and the functions of FIPS 180-4, section 4.1.2, made of them.
 ghost use Rattle.std.specs.Prelude.{◌≡◌, ℕ, ◌<◌, ◌*◌, ◌/◌, ◌%◌, ◌^◌, bit_and, bit_or, bit_xor, slice_index};
-ghost use Rattle.std.specs.Int.{w32, bit_not, rotate_right};
+ghost use Rattle.std.specs.Int.{w32, rotate_right};
 ghost use Rattle.sha2.specs.Sha256.{add32, big_sigma0, big_sigma1, ch, maj, small_sigma0, small_sigma1};
 
 use std::simd::u32x4;
@@ -35,13 +35,6 @@ pub fn or(x: u32x4, y: u32x4) -> u32x4
     x | y
 }
 
-#[inline(always)]
-fn not(x: u32x4) -> u32x4
-    ensures { (j : ℕ) → j < 4 → slice_index result j ≡ bit_not w32 (slice_index x j) }
-{
-    !x
-}
-
 /// Returns the words shifted towards their low end by `count` bits.
 #[inline(always)]
 pub fn shift_right(x: u32x4, count: u32) -> u32x4
@@ -70,22 +63,24 @@ fn rotate_right(x: u32x4, count: u32) -> u32x4
     (x >> u32x4::splat(count)) | (x << u32x4::splat(32 - count))
 }
 
-/// Returns Ch: of each bit of `x`, the bit of `y` where it is 1, and of `z` where it is 0.
+/// Returns Ch: of each bit of `x`, the bit of `y` where it is 1, and of `z` where it is 0. This form takes
+/// one operation less than the standard's.
 #[inline(always)]
 pub fn ch(x: u32x4, y: u32x4, z: u32x4) -> u32x4
     ensures { (j : ℕ) → j < 4
         → slice_index result j ≡ ch (slice_index x j) (slice_index y j) (slice_index z j) }
 {
-    xor(and(x, y), and(not(x), z))
+    xor(z, and(x, xor(y, z)))
 }
 
-/// Returns Maj: the bits that two of the three words have.
+/// Returns Maj: the bits that two of the three words have. The `x ^ y` of one round is the `y ^ z` of the
+/// next, so it is computed once.
 #[inline(always)]
 pub fn maj(x: u32x4, y: u32x4, z: u32x4) -> u32x4
     ensures { (j : ℕ) → j < 4
         → slice_index result j ≡ maj (slice_index x j) (slice_index y j) (slice_index z j) }
 {
-    xor(xor(and(x, y), and(x, z)), and(y, z))
+    xor(y, and(xor(x, y), xor(y, z)))
 }
 
 /// Returns the upper case Σ 0.

@@ -1,25 +1,44 @@
+use Rattle.std.proofs.Common.{arith}
 use Rattle.std.proofs.lemmas.List.{nil_from_length}
 use Rattle.gen_chain.proofs.DistinctPaths.{next_fits, next_is_new}
 use Rattle.gen_chain.proofs.SignedSoFar.{at_first, joined, goes_on, stops, at_last}
+use Rattle.gen_chain.proofs.SignedFour.{four_apart, four_next, four_on, true_all, all_are_true}
 use Rattle.gen_chain.proofs.verifying.are_signed.Goals as goal
 
-pub loop-signer-init : goal.loop-signer-init
-loop-signer-init c = rw c.new-path.ensures (at_first c.args.header.now c.args.order c.args.signers.now)
+pub fours-init : goal.fours-init
+fours-init c = rw c.new-path.ensures (at_first c.args.header.now c.args.order c.args.signers.now)
+
+pub next_four-signings-requires-clause-distinct : goal.next_four-signings-requires-clause-distinct
+next_four-signings-requires-clause-distinct c = four_apart c.fours.path c.fours.rest.now c.args.signers.now c.requires.distinct (joined _ _ _ _ _ c.fours.invariant)
+
+pub returns-then-not-all_true : goal.returns-then-not-all_true
+returns-then-not-all_true c = (
+  λ t. absurd cc,
+  λ all.
+      let four = four_next _ _ _ _ _ c.fours.invariant all in
+      let t = c.all_true.ensures.1 (all_are_true _ _ _ _ _ c.fours.rest.now (omega arith) c.next_four-signings.ensures.value c.have_signed-answers.ensures four) in
+      absurd cc,
+)
+
+pub fours-preserved : goal.fours-preserved
+fours-preserved c =
+    let four = true_all _ _ _ _ _ c.fours.rest.now (omega arith) c.next_four-signings.ensures.value c.have_signed-answers.ensures (c.all_true.ensures.0 c.if-not-all_true.false) in
+    rw c.split_at.ensures.back (four_on _ _ _ _ _ c.fours.invariant _ c.next_four-signings.ensures.path four)
 
 pub push_new-requires-clause-room : goal.push_new-requires-clause-room
-push_new-requires-clause-room c = next_fits c.loop-signer.path c.loop-signer.rest.now c.in-Some.others.now c.args.signers.now c.in-Some.signer.now c.requires.few c.in-Some.ensures.cases.0 (joined _ _ _ _ _ c.loop-signer.invariant)
+push_new-requires-clause-room c = next_fits c.ones.path c.ones.rest.now c.in-Some.others.now c.args.signers.now c.in-Some.signer.now c.requires.few c.in-Some.ensures.cases.0 (joined _ _ _ _ _ c.ones.invariant)
 
 pub push_new-requires-clause-new : goal.push_new-requires-clause-new
-push_new-requires-clause-new c = next_is_new c.loop-signer.path c.loop-signer.rest.now c.in-Some.others.now c.args.signers.now c.in-Some.signer.now c.requires.distinct c.in-Some.ensures.cases.0 (joined _ _ _ _ _ c.loop-signer.invariant)
+push_new-requires-clause-new c = next_is_new c.ones.path c.ones.rest.now c.in-Some.others.now c.args.signers.now c.in-Some.signer.now c.requires.distinct c.in-Some.ensures.cases.0 (joined _ _ _ _ _ c.ones.invariant)
 
 pub returns-then-not-signed : goal.returns-then-not-signed
 returns-then-not-signed c = (
   λ t. absurd cc,
-  λ all. absurd (stops _ _ _ _ _ _ _ _ c.in-Some.ensures.cases.0 c.push_new.ensures (λ h. let t = c.has_signed-signed.ensures.1 h in absurd cc) c.loop-signer.invariant all),
+  λ all. absurd (stops _ _ _ _ _ _ _ _ c.in-Some.ensures.cases.0 c.push_new.ensures (λ h. let t = c.has_signed-signed.ensures.1 h in absurd cc) c.ones.invariant all),
 )
 
-pub loop-signer-preserved : goal.loop-signer-preserved
-loop-signer-preserved c = goes_on _ _ _ _ _ _ _ _ c.in-Some.ensures.cases.0 c.push_new.ensures (c.has_signed-signed.ensures.0 c.if-not-signed.false) c.loop-signer.invariant
+pub ones-preserved : goal.ones-preserved
+ones-preserved c = goes_on _ _ _ _ _ _ _ _ c.in-Some.ensures.cases.0 c.push_new.ensures (c.has_signed-signed.ensures.0 c.if-not-signed.false) c.ones.invariant
 
 pub returns : goal.returns
-returns c = (λ t. at_last _ _ _ _ _ (nil_from_length _ c.in_default.ensures.cases) c.loop-signer.invariant, λ all. cc)
+returns c = (λ t. at_last _ _ _ _ _ (nil_from_length _ c.in_default.ensures.cases) c.ones.invariant, λ all. cc)

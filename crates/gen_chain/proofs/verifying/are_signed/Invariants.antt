@@ -2,8 +2,14 @@ use Rattle.std.proofs.Common.{length}
 use Rattle.gen_chain.proofs.SignedSoFar.{SignedSoFar}
 use Rattle.gen_chain.proofs.verifying.are_signed.Given as goal
 
-abbrev pub invariant-loop-signer : goal.invariant-loop-signer
-invariant-loop-signer l = SignedSoFar l.header l.order l.signers l.rest l.path
+abbrev pub invariant-fours : goal.invariant-fours
+invariant-fours l = SignedSoFar l.header l.order l.signers l.rest l.path
 
-abbrev pub decreases-loop-signer : goal.decreases-loop-signer
-decreases-loop-signer l = length l.rest
+abbrev pub decreases-fours : goal.decreases-fours
+decreases-fours l = length l.rest
+
+abbrev pub invariant-ones : goal.invariant-ones
+invariant-ones l = SignedSoFar l.header l.order l.signers l.rest l.path
+
+abbrev pub decreases-ones : goal.decreases-ones
+decreases-ones l = length l.rest

@@ -1,4 +1,4 @@
-use Rattle.std.proofs.Common.{◌≡◌, List, ℕ, refl, ap, ◌∙◌, add-one, arith, slice_index}
+use Rattle.std.proofs.Common.{◌≡◌, refl, ap, ◌∙◌, add-one, arith, slice_index}
 use Rattle.rand_chacha.specs.Block.{column_round, diagonal_round, double_rounds}
 use Rattle.gen_ots.proofs.Blocks.{block-sum}
 use Rattle.gen_ots.proofs.chacha.four_blocks.Goals as goal
@@ -10,8 +10,8 @@ rounds-init c j below = refl
 pub rounds-preserved : goal.rounds-preserved
 unfolding double_rounds
 rounds-preserved c j below =
-    rw add-one (c.double_round-state.ensures j below
-    ∙ ap (λ (s : List ℕ). diagonal_round (column_round s)) (c.rounds.invariant j below))
+    rw add-one (c.diagonal_round-state.ensures j below
+    ∙ ap diagonal_round (c.column_round.ensures j below ∙ ap column_round (c.rounds.invariant j below)))
 
 pub returns : goal.returns
 returns c j below k word =

@@ -35,7 +35,7 @@ returns c = λ held.
     let z = c.chosen_in_lanes-zeroth.result in
     let f = c.chosen_in_lanes-first.result in
     let shown : (j : ℕ) → j < 4 → lane_bytes j c.images_in_lanes-images.result ≡ image (shown_at pairs (n + j)) = λ j below.
-    c.images_in_lanes-images.ensures j below ∙ ap image (c.to_words.ensures j below
+    c.images_in_lanes-images.ensures j below ∙ ap image (c.to_words-shown.ensures j below
     ∙ each_lane (λ (k : ℕ). slice_index_or secrets k [] ≡ shown_at pairs (n + k)) (rw none c.shown_at.ensures) c.shown_at-2.ensures c.shown_at-3.ensures c.shown_at-4.ensures j below) in
     let other : (j : ℕ) → j < 4 → lane_bytes j c.to_words-others.result ≡ other_at pairs (n + j) = λ j below.
     c.to_words-others.ensures j below

@@ -1,7 +1,5 @@
-use Rattle.std.proofs.Common.{◌≡◌, ◌∙◌, refl, sym, ap, reverse, length, arith}
+use Rattle.std.proofs.Common.{◌≡◌, ◌∙◌, refl, ap, reverse, length, arith}
 use Rattle.std.proofs.lemmas.List.{reverse-reverse}
-use Rattle.std.specs.List.{flat_map}
-use Rattle.gen_world.specs.Recording.{logs_written}
 use Rattle.gen_world.proofs.Recorders.{none_left}
 use Rattle.gen_world.proofs.world.finish_all.Goals as goal
 

@@ -1,4 +1,4 @@
-use Rattle.std.proofs.Common.{◌≡◌, ◌∙◌, ap, arith}
+use Rattle.std.proofs.Common.{arith}
 use Rattle.gen_world.specs.Loops.Records.{RecordsAfter}
 use Rattle.gen_world.proofs.Worlds.{pushed_each, length_pushed}
 use Rattle.gen_world.proofs.world.make_all.Goals as goal

@@ -1,4 +1,4 @@
-use Rattle.std.proofs.Common.{◌≡◌, ◌+◌, ◌≤◌, ◌<◌, ℕ, length, slice_index_or, vec_capacity, vec_len}
+use Rattle.std.proofs.Common.{◌≡◌, ◌≤◌, ◌<◌, ℕ, length, slice_index_or, vec_capacity, vec_len}
 use Rattle.gen_world.specs.Recording.{Recorded}
 use Rattle.gen_world.specs.Loops.Records.{RecordsAfter}
 use Rattle.gen_world.proofs.world.make_all.Given as goal

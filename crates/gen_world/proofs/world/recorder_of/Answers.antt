@@ -1,7 +1,4 @@
-use Rattle.std.proofs.Common.{◌≡◌, ◌∙◌, sym, ap, subst}
 use Rattle.std.proofs.lemmas.Result.{IfOk-at_ok}
-use Rattle.gen_world.specs.Recording.{Recorded}
-use Rattle.gen_world.specs.Loops.Records.{RecordsAfter}
 use Rattle.gen_world.proofs.Starting.{may_start, records}
 use Rattle.gen_world.proofs.world.recorder_of.Goals as goal
 

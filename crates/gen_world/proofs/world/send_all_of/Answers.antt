@@ -1,4 +1,4 @@
-use Rattle.std.proofs.Common.{◌≡◌, ◌∙◌, [], sym, ap, arith}
+use Rattle.std.proofs.Common.{◌≡◌, sym, ap, arith}
 use Rattle.std.proofs.lemmas.List.{append-nil}
 use Rattle.gen_world.proofs.Worlds.{grows, rows_more}
 use Rattle.gen_world.proofs.Recorders.{begins, sent_to_last}

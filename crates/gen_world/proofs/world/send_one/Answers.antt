@@ -1,4 +1,4 @@
-use Rattle.std.proofs.Common.{◌≡◌, ◌∷◌, [], ◌<◌, ◌++◌, ◌∙◌, sym, ap, subst, ℕ, true, false, arith, inl, inr, Contains}
+use Rattle.std.proofs.Common.{◌≡◌, ◌<◌, ◌∙◌, ℕ, true, false, arith, inl, inr, Contains}
 use Rattle.std.specs.List.{list_any, range_with_len}
 use Rattle.gen_types.specs.Members.{filter_range_has}
 use Rattle.gen_types.proofs.Lists.{bool_cases}

@@ -1,14 +1,14 @@
 use Rattle.std.proofs.Common.{ℕ, ◌<◌, List, ap, subst, ◌∙◌, arith}
 use Rattle.sha2.specs.Sha256.{compress, schedule}
-use Rattle.sha_lanes.specs.Lanes.{HasWords}
+use Rattle.sha_lanes.specs.Lanes.{HasWords, lane}
 use Rattle.sha_lanes.specs.One.{HasSums}
 use Rattle.sha_lanes.proofs.plain.compress_four.Goals as goal
 
 pub returns : goal.returns
 unfolding compress
 returns c = λ b0 b1 b2 b3 w0 w1 w2 w3.
-    let sums : (j : ℕ) (b : List ℕ) → j < 4 → HasWords j c.args.blocks.now b → HasSums j c.add_constants.new.words (schedule b 48) =
-    λ j b below words. subst (HasSums j c.add_constants.new.words) (c.schedule.ensures j below b words) (c.add_constants.ensures j below) in
+    let sums : (j : ℕ) (b : List ℕ) → j < 4 → HasWords j c.args.blocks.now b → HasSums j c.add_constants.new.schedules (schedule b 48) =
+    λ j b below words. subst (HasSums j c.add_constants.new.schedules) (c.extend.ensures j below b (ap (lane j) c.begin.ensures ∙ words)) (c.add_constants.ensures j below) in
     let l0 : 0 < 4 = omega arith in
     let l1 : 1 < 4 = omega arith in
     let l2 : 2 < 4 = omega arith in

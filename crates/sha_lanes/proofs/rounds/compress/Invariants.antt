@@ -5,4 +5,4 @@ use Rattle.sha_lanes.proofs.rounds.compress.Given as goal
 
 abbrev pub invariant-rounds : goal.invariant-rounds
 invariant-rounds l =
-    (j : ℕ) → j < 4 → state j l.v ≡ rounds (state j l.start) (lane j l.words) (8 * l.turn)
+    (j : ℕ) → j < 4 → state j l.v ≡ rounds (state j l.start) (lane j l.schedules) (8 * l.turn)

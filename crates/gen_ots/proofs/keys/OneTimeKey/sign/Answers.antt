@@ -28,7 +28,7 @@ turns-preserved c =
     ∙ ap shown e in
     let h : (j m : ℕ) → j < 4 → n + j ≡ m → slice_index_or c.to_bytes-images.result j [] ≡ hidden m = λ j m below e.
     c.to_bytes-images.ensures.value j below ∙ c.images_in_lanes.ensures j below
-    ∙ ap image (c.chosen_in_lanes-in-turns.ensures j below
+    ∙ ap image (c.chosen_in_lanes-hidden.ensures j below
     ∙ (λ i. on_side (c.are_ones-ones.ensures j below i) (high j below i) (low j below i)))
     ∙ ap hidden e in
     let p0 : c.push_pair.new.bytes.items ≡ first_pairs k digest (n + 1)

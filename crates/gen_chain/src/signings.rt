@@ -1,0 +1,123 @@
+//! Four signatures of statements that are verified side by side.
+ghost use Rattle.std.specs.Prelude.{IsTrue, ℕ, ◌≡◌, ◌≢◌, ◌≤◌, ◌<◌, ◌+◌, ◌↔◌, ◌++◌, ◌∷◌, [], AllPairs, Contains, false, length, map, slice_index_or, take};
+ghost use Rattle.gen_tree.specs.Claims.{Stands};
+ghost use Rattle.gen_chain.specs.Chain.{signed_path};
+ghost use Rattle.gen_chain.specs.Signings.{triple_of, next_triples, IsSigned};
+ghost use Rattle.gen_chain.specs.Store.{Triple};
+
+use crate::chains::Signer;
+use crate::leaves::leaf_of_order;
+use crate::sizes::MOST_SIGNERS;
+use crate::statements::{Statement, statement_digest};
+use crate::verifying::has_signed;
+use gen_net::Header;
+use gen_tree::{Signature, SignatureClaim, verify_four};
+use gen_types::{GeneralNo, OrderNo, Path};
+
+/// That a general signed a statement with this signature.
+#[derive(Clone, Copy)]
+pub(crate) struct Signing<'a> {
+    /// The general.
+    pub(crate) signer: GeneralNo,
+    /// The statement.
+    pub(crate) statement: Statement,
+    /// The signature.
+    pub(crate) signature: &'a Signature,
+}
+
+impl<'a> Signing<'a> {
+    /// What the next signer of an order is to have signed, who is put at the end of the path.
+    fn next(order: OrderNo, path: &mut Path, signer: &'a Signer) -> Signing<'a>
+        requires room { length path.old < MOST_SIGNERS }
+        requires new { ¬ Contains path.old signer.now.general }
+        ensures path { path.new ≡ path.old ++ signer.now.general ∷ [] }
+        ensures value { triple_of result ≡ record {
+          signer = signer.now.general;
+          statement = record { order = order; path = path.old ++ signer.now.general ∷ [] };
+          signature = signer.now.signature;
+        } }
+    {
+        path.push_new(signer.general);
+        Signing {
+            signer: signer.general,
+            statement: Statement { order, path: *path },
+            signature: &signer.signature,
+        }
+    }
+
+    /// The claim that is to be verified, of a general below n.
+    fn claim<'b>(&'b self, header: &'b Header) -> SignatureClaim<'b>
+        requires { self.now.signer < header.now.network.generals }
+        ensures { Stands result ↔ IsSigned header.now (triple_of self.now) }
+    {
+        SignatureClaim {
+            root: header.root(self.signer),
+            height: header.height(),
+            leaf: leaf_of_order(header, self.statement.order),
+            digest: statement_digest(header, &self.statement),
+            signature: self.signature,
+        }
+    }
+
+    /// Whether it is true.
+    fn is_true(&self, header: &Header) -> bool
+        ensures { IsTrue result ↔ IsSigned header.now (triple_of self.now) }
+    {
+        has_signed(header, self.signer, &self.statement, self.signature)
+    }
+
+    /// Whether the general is below n.
+    fn is_of(&self, header: &Header) -> bool
+        ensures { IsTrue result ↔ (self.now.signer < header.now.network.generals) }
+    {
+        self.signer.get() < header.net().generals()
+    }
+}
+
+/// What the next four signers of an order are to have signed, who are put at the end of the path.
+pub(crate) fn next_four<'a>(order: OrderNo, path: &mut Path, rest: &'a [Signer]) -> [Signing<'a>; 4]
+    requires many { 4 ≤ length rest.now }
+    requires few { length path.old + 4 ≤ MOST_SIGNERS }
+    requires distinct { AllPairs (λ g h. g ≢ h) (path.old ++ signed_path (take 4 rest.now)) }
+    ensures path { path.new ≡ path.old ++ signed_path (take 4 rest.now) }
+    ensures value { map triple_of result ≡ next_triples order path.old (take 4 rest.now) }
+{
+    let (a, b, c, d) = (&rest[0], &rest[1], &rest[2], &rest[3]);
+    [
+        Signing::next(order, path, a),
+        Signing::next(order, path, b),
+        Signing::next(order, path, c),
+        Signing::next(order, path, d),
+    ]
+}
+
+/// Returns of each of four generals whether he signed his statement, as `has_signed` does of one. It takes no
+/// memory.
+pub(crate) fn have_signed(header: &Header, signings: &[Signing<'_>; 4]) -> [bool; 4]
+    ensures { (j : ℕ) → j < 4 → (other : Triple) → IsTrue (slice_index_or result j false)
+        ↔ IsSigned header.now (slice_index_or (map triple_of signings.now) j other) }
+{
+    let [a, b, c, d] = signings;
+    if a.is_of(header) && b.is_of(header) && c.is_of(header) && d.is_of(header) {
+        verify_four(&[
+            a.claim(header),
+            b.claim(header),
+            c.claim(header),
+            d.claim(header),
+        ])
+    } else {
+        [
+            a.is_true(header),
+            b.is_true(header),
+            c.is_true(header),
+            d.is_true(header),
+        ]
+    }
+}
+
+/// Whether all four answers are true.
+pub(crate) fn all_true(answers: &[bool; 4]) -> bool
+    ensures { IsTrue result ↔ ((j : ℕ) → j < 4 → IsTrue (slice_index_or answers.now j false)) }
+{
+    answers[0] && answers[1] && answers[2] && answers[3]
+}

@@ -1,0 +1,112 @@
+//! The message schedules of four blocks side by side (FIPS 180-4, section 6.2.2, step 1).
+ghost use Rattle.std.specs.Prelude.{◌≡◌, ℕ, ◌<◌, ◌≤◌, ◌-◌, List, [], length, slice_index, slice_index_or, slice_set, take};
+ghost use Rattle.sha2.specs.Sha256.{next_word, schedule};
+ghost use Rattle.sha_lanes.specs.Lanes.{HasWords, lane, lane_at};
+
+use crate::rounds::{BLOCK_WORDS, ROUNDS};
+use crate::words::{add, small_sigma0, small_sigma1};
+use std::marker::Model;
+use std::simd::u32x4;
+
+// The words of one round.
+#[derive(Clone, Copy)]
+struct Row {
+    lanes: u32x4,
+}
+
+/// Room for the message schedules of four blocks side by side: a word of each for each round.
+///
+/// What stands in it between two calls has no meaning, since each call writes a word before it reads it. It is
+/// zeroed as it is made: whoever hashes many messages makes it once and lends it to each call.
+#[derive(Drop)]
+pub struct Schedules {
+    // It says nothing: with it the rows are aligned to 16 bytes, so that none lies on two lines of a cache.
+    alignment: u128,
+    rows: [Row; ROUNDS],
+}
+
+impl Model for Schedules {
+    ghost use Rattle.std.specs.Prelude.{◌≡◌, List, ℕ, length, map};
+    ghost use Rattle.sha_lanes.specs.declared.scheduling.Row.{Row};
+
+    ghost Value = { List (List ℕ) };
+
+    ghost view = { λ s. map (λ (row : Row). row.lanes) s.rows };
+
+    ghost invariant = { λ s. length s.rows ≡ 64 };
+}
+
+impl Schedules {
+    /// Returns room, zeroed.
+    pub fn new() -> Schedules {
+        Schedules {
+            alignment: 0,
+            rows: [Row {
+                lanes: u32x4::splat(0),
+            }; ROUNDS],
+        }
+    }
+
+    /// Returns the words of round `t`.
+    #[inline(always)]
+    pub(crate) fn word(&self, t: usize) -> u32x4
+        requires { t < ROUNDS }
+        ensures width { length self.now ≡ ROUNDS }
+        ensures value { result ≡ slice_index_or self.now t [] }
+    {
+        self.rows[t].lanes
+    }
+
+    /// Makes these words those of round `t`.
+    #[inline(always)]
+    pub(crate) fn set_word(&mut self, t: usize, word: u32x4)
+        requires { t < ROUNDS }
+        ensures { self.new ≡ slice_set self.old t word }
+    {
+        self.rows[t].lanes = word;
+    }
+
+    /// Makes the words of a block those of the first rounds.
+    #[inline(always)]
+    pub(crate) fn begin(&mut self, block: &[u32x4; BLOCK_WORDS])
+        ensures { take 16 self.new ≡ block.now }
+    {
+        let _ = &self.rows;
+        'block: for t in 0..BLOCK_WORDS {
+            self.set_word(t, block[t]);
+        }
+    }
+
+    // Word `t` of the schedule, from the words before it, of which word `t - 2` is given.
+    #[inline(always)]
+    fn next_word(&self, t: usize, second_last: u32x4) -> u32x4
+        requires block { BLOCK_WORDS ≤ t }
+        requires below { t < ROUNDS }
+        ensures { (j : ℕ) → j < 4 → slice_index second_last j ≡ lane_at self.now (t - 2) j
+            → slice_index result j ≡ next_word (lane j self.now) t }
+    {
+        let near = add(small_sigma1(second_last), self.word(t - 7));
+        add(
+            add(near, small_sigma0(self.word(t - 15))),
+            self.word(t - 16),
+        )
+    }
+
+    /// Makes the words of all rounds from those of the block, with which it was begun. Two words a turn: the last
+    /// two are at hand for the next two.
+    #[inline(always)]
+    pub(crate) fn extend(&mut self)
+        ensures { (j : ℕ) → j < 4 → (b : List ℕ) → HasWords j (take 16 self.old) b
+            → lane j self.new ≡ schedule b 48 }
+    {
+        let mut even = self.word(BLOCK_WORDS - 2);
+        let mut odd = self.word(BLOCK_WORDS - 1);
+        'pairs: for pair in BLOCK_WORDS / 2..ROUNDS / 2 {
+            let t = 2 * pair;
+            even = self.next_word(t, even);
+            self.set_word(t, even);
+            odd = self.next_word(t + 1, odd);
+            self.set_word(t + 1, odd);
+        }
+    }
+}
