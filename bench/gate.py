@@ -1,12 +1,13 @@
 #!/usr/bin/env python3
 """Runs the gate, `rt ci`, and prints where its processor minutes went.
 
-    python3 bench/gate.py          at the top of the repository, with the kit's rt on the path
+    python3 bench/gate.py [LOG]    at the top of the repository, with the kit's rt on the path
 
 The gate runs as ever, in this process, and its last lines are its own. Behind them stands a table: for each crate the
 processor seconds (user and system) of its proof, of its tests (which prove the crate again, and run) and of its must-fail
 edits, with the number of edits; then each edit that took more than 40 seconds. Seconds are those that the system counted for
-each program that the gate started, so other work on the machine changes them little; wall time depends on the cores.
+each program that the gate started, so other work on the machine changes them little; wall time depends on the cores. With a
+LOG a line for each of these programs is written there when it ends: seconds since the start, crate, kind, its seconds.
 """
 import collections
 import importlib.machinery
@@ -49,6 +50,8 @@ def crate_of(words, folder):
 def main():
     spent = collections.defaultdict(float)
     edits = collections.defaultdict(list)
+    started = time.time()
+    log = open(sys.argv[1], "w", buffering=1) if len(sys.argv) > 1 else None
 
     class Counted(subprocess.Popen):
         """A program whose processor time is counted when it has ended."""
@@ -65,6 +68,8 @@ def main():
                 spent[crate, kind] += seconds
                 if kind == "edits":
                     edits[crate].append(seconds)
+                if log:
+                    print(f"{time.time() - started:.0f} {crate} {kind} {seconds:.1f}", file=log)
             return pid, status
 
         def __init__(self, *given, **named):
@@ -72,7 +77,6 @@ def main():
             super().__init__(*given, **named)
 
     subprocess.Popen = Counted
-    started = time.time()
     gate = load_gate()
     status = gate.main(["ci"])
     sys.stdout.flush()

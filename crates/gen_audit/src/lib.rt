@@ -29,10 +29,3 @@ pub use bundle_reading::read_bundle;
 pub use bundle_writing::{bundle_front, exhibit_front, write_bundle};
 pub use bundles::Bundle;
 pub use verdicts::{Decisions, Findings, Judgement, Verdict};
-
-#[cfg(test)]
-mod audit_tests;
-#[cfg(test)]
-mod bundle_tests;
-#[cfg(test)]
-mod tests;

@@ -40,10 +40,3 @@ pub use statements::{
 pub use store::VerifyStore;
 pub use verifying::{chain_verifies, has_signed};
 pub use writing::write_chain;
-
-#[cfg(test)]
-mod four_tests;
-#[cfg(test)]
-mod store_tests;
-#[cfg(test)]
-mod tests;

@@ -37,12 +37,3 @@ pub use finding::find_evidence;
 pub use own_logs::is_own_log;
 pub use refutations::Refutation;
 pub use refuting::refute;
-
-#[cfg(test)]
-mod evidence_tests;
-#[cfg(test)]
-mod finding_tests;
-#[cfg(test)]
-mod refuting_tests;
-#[cfg(test)]
-mod tests;

@@ -18,6 +18,3 @@ pub use commanding::Commander;
 pub use lieutenants::Lieutenant;
 pub use picks::Adds;
 pub use sending::{Outgoing, sends};
-
-#[cfg(test)]
-mod tests;

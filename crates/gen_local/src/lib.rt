@@ -41,10 +41,3 @@ pub use reading::Reading;
 pub use reports::{LocalReport, local_report, local_report_with};
 pub use texts::{SignedText, Text};
 pub use walking::departs_from;
-
-#[cfg(test)]
-mod group_tests;
-#[cfg(test)]
-mod report_tests;
-#[cfg(test)]
-mod tests;

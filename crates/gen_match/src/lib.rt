@@ -19,10 +19,3 @@ mod telling;
 pub use derived::check_derived;
 pub use edges::match_edges;
 pub use finding::Finding;
-
-#[cfg(test)]
-mod derived_tests;
-#[cfg(test)]
-mod edge_tests;
-#[cfg(test)]
-mod tests;

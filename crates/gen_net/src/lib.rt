@@ -31,10 +31,3 @@ pub use numbers::NetNumbers;
 pub use reading::read_header;
 pub use version::{GREATEST_SLOT, Version};
 pub use writing::header_bytes;
-
-#[cfg(test)]
-mod front_tests;
-#[cfg(test)]
-mod header_tests;
-#[cfg(test)]
-mod tests;

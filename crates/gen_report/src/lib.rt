@@ -26,10 +26,3 @@ pub use scenario::{one_scenario, read_scenario};
 pub use scenario_text::ScenarioText;
 pub use signed_text::{ScenarioParts, SignedText};
 pub use verdict_text::print_verdict;
-
-#[cfg(test)]
-mod signed_tests;
-#[cfg(test)]
-mod tests;
-#[cfg(test)]
-mod verdict_tests;

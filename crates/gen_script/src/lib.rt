@@ -17,6 +17,3 @@ pub use fault::ScriptFault;
 pub use lines::{Parcel, ScriptLine};
 pub use reading::{one_script_line, read_script_bytes, read_script_line};
 pub use scripts::Script;
-
-#[cfg(test)]
-mod tests;

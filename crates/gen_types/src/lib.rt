@@ -24,6 +24,3 @@ pub use paths::{Path, PathFault};
 pub use reading::{ReadError, check};
 pub use sets::{GeneralMembers, GeneralSet, Members, NumberSet, OrderMembers, OrderSet};
 pub use texts::{decimal_number, split_fields};
-
-#[cfg(test)]
-mod tests;

@@ -20,6 +20,3 @@ pub use fault::{BadPair, WalkFault};
 pub use levels::{LevelRow, UNREACHED, check_levels};
 pub use lists::{Walk, Walks};
 pub use make::make_walks;
-
-#[cfg(test)]
-mod tests;

@@ -38,16 +38,3 @@ pub use signed::Scenario;
 pub use signer_trees::SignerTree;
 pub use world::{recorder_of, run_world};
 pub use world_decisions::decide_world;
-
-#[cfg(test)]
-mod counting_tests;
-#[cfg(test)]
-mod recording_tests;
-#[cfg(test)]
-mod scripted_tests;
-#[cfg(test)]
-mod tests;
-#[cfg(test)]
-mod two_generals_tests;
-#[cfg(test)]
-mod world_tests;

@@ -1,0 +1,212 @@
+//! Evidence: bytes laid out by hand, each kind, each fault, and cuts. Signatures are of the right length and nobody's.
+use gen_convict::laws::one_evidence_spelling;
+use gen_convict::*;
+use gen_net::HeaderFault;
+use gen_types::ReadError;
+use std::alloc::{AllocError, Global};
+use std::test::Fail;
+
+/// The mark, and a header of version 1 up to its roots: n = 3, m = 1, d = 1, q = 2, choice 0, each edge.
+const FRONT: [u8; 17] = [
+    b'S', b'M', b'E', b'1', 1, 3, 1, 1, 2, 0, 3, 0, 1, 0, 2, 1, 2,
+];
+
+/// The same in slot 2 of version 2.
+const FRONT_IN_SLOT: [u8; 18] = [
+    b'S', b'M', b'E', b'2', 2, 2, 3, 1, 1, 2, 0, 3, 0, 1, 0, 2, 1, 2,
+];
+
+/// Two texts of general 1: the order 0 that he relayed, and the head of a log of 3 entries.
+const TEXTS: [&[u8]; 2] = [
+    &[1, 1, 1, 0, 2, 0, 1],
+    &[
+        2, 0, 0, 0, 0, 0, 0, 0, 3, 9, 9, 9, 9, 9, 9, 9, 9, 9, 9, 9, 9, 9, 9, 9, 9, 9, 9, 9, 9, 9,
+        9, 9, 9, 9, 9, 9, 9, 9, 9, 9, 9,
+    ],
+];
+
+/// The orders 0 and 1 of the commander.
+const ORDERS: [&[u8]; 2] = [&[0, 2, 0], &[1]];
+
+/// A log of two bytes, and the order 0 that general 1 relayed.
+const MISSING: [&[u8]; 1] = [&[1, 3, 0, 0, 0, 2, 0xaa, 0xbb, 1, 0, 2, 0, 1]];
+
+/// The same log, and its entry 9.
+const DEPARTING: [&[u8]; 1] = [&[1, 4, 0, 0, 0, 2, 0xaa, 0xbb, 0, 0, 0, 9]];
+
+/// Evidence that begins with the front and three roots, and has a signature behind each of the parts.
+fn evidence_bytes(
+    alloc: Global,
+    front: &[u8],
+    parts: &[&[u8]],
+    signature: &[u8],
+) -> Result<Vec<u8>, AllocError> {
+    let mut bytes = Vec::new(alloc);
+    bytes.extend_from_slice(front)?;
+    bytes.extend_from_slice(&[7; 96])?;
+    for part in parts {
+        bytes.extend_from_slice(part)?;
+        bytes.extend_from_slice(signature)?;
+    }
+    Ok(bytes)
+}
+
+/// The same of version 1.
+fn evidence_of(alloc: Global, parts: &[&[u8]]) -> Result<Vec<u8>, AllocError> {
+    evidence_bytes(alloc, &FRONT, parts, &[7; 16_512])
+}
+
+/// Evidence of version 1 by a log that departs.
+fn departing(alloc: Global) -> Result<Vec<u8>, AllocError> {
+    evidence_bytes(alloc, &FRONT, &DEPARTING, &[])
+}
+
+/// The number of the accused and the slot, where these bytes are evidence of this length which is written again so.
+fn accused_and_slot(alloc: Global, bytes: &[u8], length: usize) -> Result<(u8, u8), Fail> {
+    let (header, evidence) = read_evidence(alloc, bytes).map_err(|_| "no evidence")?;
+    let again = write_evidence(alloc, &header, &evidence)?;
+    if again.as_slice() != bytes || bytes.len() != length {
+        return Err("another spelling".into());
+    }
+    Ok((evidence.accused.get(), header.slot()))
+}
+
+/// The fault of bytes.
+fn fault_of(alloc: Global, bytes: &[u8]) -> Option<ReadError<EvidenceFault>> {
+    read_evidence(alloc, bytes).err()
+}
+
+/// The place in the list of the first case that is not so: the byte at a place is changed to this one, and the
+/// evidence has this fault then.
+fn first_wrong(
+    alloc: Global,
+    evidence: &[u8],
+    cases: &[(usize, u8, EvidenceFault)],
+) -> Result<Option<usize>, AllocError> {
+    for (place, (index, byte, fault)) in cases.iter().enumerate() {
+        let mut bytes = Vec::from_slice(alloc, evidence)?;
+        if let Some(changed) = bytes.get_mut(*index) {
+            *changed = *byte;
+        }
+        if fault_of(alloc, &bytes) != Some(ReadError::Fault(*fault)) {
+            return Ok(Some(place));
+        }
+    }
+    Ok(None)
+}
+
+/// Whether the bytes up to each of these ends are too short.
+fn cuts_are_short(alloc: Global, bytes: &[u8], first: usize, last: usize) -> bool {
+    for end in first..last {
+        let cut = bytes.get(..end).unwrap_or(bytes);
+        if fault_of(alloc, cut) != Some(ReadError::Fault(EvidenceFault::Truncated)) {
+            return false;
+        }
+    }
+    true
+}
+
+#[test]
+fn each_kind_is_read_and_written_again(rt: HostRuntime) -> Result<(), Fail> {
+    let alloc = rt.alloc();
+    let texts = evidence_of(alloc, &TEXTS)?;
+    let orders = evidence_of(alloc, &ORDERS)?;
+    let missing = evidence_of(alloc, &MISSING)?;
+    let departs = departing(alloc)?;
+    assert_eq!(rt; accused_and_slot(alloc, &texts, 33_185)?, (1, 0));
+    assert_eq!(rt; accused_and_slot(alloc, &orders, 33_141)?, (0, 0));
+    assert_eq!(rt; accused_and_slot(alloc, &missing, 16_638)?, (1, 0));
+    assert_eq!(rt; accused_and_slot(alloc, &departs, 125)?, (1, 0));
+    Ok(())
+}
+
+#[test]
+fn cuts_of_orders(rt: HostRuntime) -> Result<(), Fail> {
+    let alloc = rt.alloc();
+    let orders = evidence_of(alloc, &ORDERS)?;
+    assert!(rt; cuts_are_short(alloc, &orders, 0, 120));
+    assert!(rt; cuts_are_short(alloc, &orders, 16_620, 16_640));
+    assert!(rt; cuts_are_short(alloc, &orders, 33_130, 33_141));
+    Ok(())
+}
+
+#[test]
+fn one_byte_more(rt: HostRuntime) -> Result<(), Fail> {
+    let alloc = rt.alloc();
+    let mut orders = evidence_of(alloc, &ORDERS)?;
+    orders.push(0)?;
+    let fault = fault_of(alloc, &orders);
+    assert!(rt; fault == Some(ReadError::Fault(EvidenceFault::LeftOver)));
+    Ok(())
+}
+
+#[test]
+fn faults_of_the_front_and_of_orders(rt: HostRuntime) -> Result<(), Fail> {
+    let other_version = EvidenceFault::BadHeader(HeaderFault::UnknownVersion);
+    let cases = [
+        (0, b'T', EvidenceFault::UnknownMark),
+        (2, b'B', EvidenceFault::UnknownMark),
+        (3, b'3', EvidenceFault::UnknownMark),
+        (3, b'2', other_version),
+        (4, 2, other_version),
+        (4, 3, other_version),
+        (8, 1, EvidenceFault::BadHeader(HeaderFault::OrderCount)),
+        (113, 3, EvidenceFault::OutOfRange),
+        (114, 0, EvidenceFault::OutOfRange),
+        (114, 5, EvidenceFault::OutOfRange),
+        (115, 2, EvidenceFault::OutOfRange),
+        (16_628, 2, EvidenceFault::OutOfRange),
+    ];
+    let orders = evidence_of(rt.alloc(), &ORDERS)?;
+    let wrong = first_wrong(rt.alloc(), &orders, &cases)?;
+    assert!(rt; wrong.is_none());
+    Ok(())
+}
+
+#[test]
+fn faults_of_texts(rt: HostRuntime) -> Result<(), Fail> {
+    let cases = [
+        (115, 0, EvidenceFault::OutOfRange),
+        (115, 3, EvidenceFault::OutOfRange),
+        (116, 2, EvidenceFault::OutOfRange),
+        (117, 0, EvidenceFault::OutOfRange),
+        (117, 3, EvidenceFault::OutOfRange),
+        (118, 1, EvidenceFault::OutOfRange),
+        (119, 0, EvidenceFault::OutOfRange),
+        (119, 3, EvidenceFault::OutOfRange),
+        (16_632, 0, EvidenceFault::OutOfRange),
+    ];
+    let texts = evidence_of(rt.alloc(), &TEXTS)?;
+    let wrong = first_wrong(rt.alloc(), &texts, &cases)?;
+    assert!(rt; wrong.is_none());
+    Ok(())
+}
+
+#[test]
+fn faults_of_a_log_and_a_statement(rt: HostRuntime) -> Result<(), Fail> {
+    let cases = [
+        (115, 1, EvidenceFault::Truncated),
+        (121, 2, EvidenceFault::OutOfRange),
+        (122, 2, EvidenceFault::OutOfRange),
+        (125, 0, EvidenceFault::OutOfRange),
+    ];
+    let missing = evidence_of(rt.alloc(), &MISSING)?;
+    let wrong = first_wrong(rt.alloc(), &missing, &cases)?;
+    assert!(rt; wrong.is_none());
+    Ok(())
+}
+
+#[test]
+fn texts_of_faults(rt: HostRuntime) -> Result<(), Fail> {
+    let alloc = rt.alloc();
+    let header = EvidenceFault::BadHeader(HeaderFault::OrderCount);
+    let range = EvidenceFault::OutOfRange;
+    assert!(rt; format!(in alloc; "{header}")?.as_str() == "V3 H6");
+    assert!(rt; format!(in alloc; "{range}")?.as_str() == "V4");
+    Ok(())
+}
+
+#[test]
+fn law() {
+    one_evidence_spelling();
+}

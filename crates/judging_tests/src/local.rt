@@ -1,0 +1,159 @@
+//! Worked logs.
+ghost use Rattle.std.specs.Prelude.{IfOk};
+ghost use Rattle.gen_log.specs.Log.{IsLog};
+
+use gen_local::*;
+use gen_log::{Log, read_log};
+use gen_net::{Header, Net};
+use std::alloc::Global;
+use std::test::Fail;
+
+// A case: the number of entries of a log, its bytes behind that in pieces, of which an empty one stands
+// for a signature of zeros, without the head's; and where it departs.
+type Case<'a> = (u64, &'a [&'a [u8]], Option<usize>);
+
+// The header of these edges with roots of zeros, two orders and choice 0.
+fn header_of(alloc: Global, n: u8, edges: &[(u8, u8)], m: u8, d: u8) -> Result<Header, Fail> {
+    let Ok(net) = Net::new(alloc, n, edges, m, d, 2, 0) else {
+        return Err("no net".into());
+    };
+    let mut roots = Vec::new(alloc);
+    for _ in 0..n {
+        roots.push([0u8; 32])?;
+    }
+    Header::new(net, roots).map_err(|_| "no header".into())
+}
+
+// The bytes of the log of these pieces.
+fn bytes_of(alloc: Global, count: u64, pieces: &[&[u8]]) -> Result<Vec<u8>, Fail> {
+    let mut bytes = Vec::new(alloc);
+    bytes.extend_from_slice(&[0; 32])?;
+    bytes.extend_from_slice(&count.to_be_bytes())?;
+    for piece in pieces {
+        if piece.is_empty() {
+            bytes.extend_from_slice(&[0; 16_512])?;
+        } else {
+            bytes.extend_from_slice(piece)?;
+        }
+    }
+    bytes.extend_from_slice(&[0; 16_512])?;
+    Ok(bytes)
+}
+
+// The log of these pieces.
+fn log_of(alloc: Global, header: &Header, count: u64, pieces: &[&[u8]]) -> Result<Log, Fail>
+    ensures { IfOk result (λ log. IsLog header.now log) }
+{
+    let bytes = bytes_of(alloc, count, pieces)?;
+    match read_log(alloc, header, bytes.as_slice()) {
+        Ok(log) => Ok(log),
+        Err(_) => Err("no log".into()),
+    }
+}
+
+// The place of the first case that departs elsewhere.
+fn first_wrong(alloc: Global, header: &Header, cases: &[Case<'_>]) -> Result<Option<usize>, Fail> {
+    for (place, (count, pieces, expected)) in cases.iter().enumerate() {
+        let log = log_of(alloc, header, *count, pieces)?;
+        if departs(header, &log) != *expected {
+            return Ok(Some(place));
+        }
+    }
+    Ok(None)
+}
+
+// A signature of zeros.
+const SIG: &[u8] = &[];
+
+const DECIDE_1: &[u8] = &[5, 0, 2, 1];
+
+// The edges of four generals who are all neighbours.
+const COMPLETE_4: [(u8, u8); 6] = [(0, 1), (0, 2), (0, 3), (1, 2), (1, 3), (2, 3)];
+
+#[test]
+fn silent_on_a_ring(rt: HostRuntime) -> Result<(), Fail> {
+    let edges = [(0, 1), (1, 2), (2, 3), (3, 4), (4, 5), (5, 0)];
+    let header = header_of(rt.alloc(), 6, &edges, 1, 4)?;
+    let silent: &[&[u8]] = &[
+        &[1, 3, 255],
+        &[4, 2, 1, 3, 0],
+        SIG,
+        &[1],
+        SIG,
+        &[2],
+        SIG,
+        &[4, 4, 1, 3, 0],
+        SIG,
+        &[5],
+        SIG,
+        &[4],
+        SIG,
+        DECIDE_1,
+    ];
+    assert_eq!(rt;
+        first_wrong(rt.alloc(), &header, &[(4, silent, Some(3))])?,
+        None
+    );
+    Ok(())
+}
+
+const START_0: &[u8] = &[1, 0, 1];
+
+const SIGN: &[u8] = &[2, 1, 1, 0];
+
+const SEND: &[u8] = &[3, 1, 1, 1, 0];
+
+const RECV: &[u8] = &[4, 0, 1, 1, 0];
+
+#[test]
+fn smallest_run(rt: HostRuntime) -> Result<(), Fail> {
+    let header = header_of(rt.alloc(), 2, &[(0, 1)], 0, 1)?;
+    let cases: &[Case<'_>] = &[
+        (4, &[START_0, SIGN, SIG, SEND, DECIDE_1], None),
+        (3, &[START_0, SIGN, SIG, DECIDE_1], Some(2)),
+        (3, &[START_0, SEND, DECIDE_1], Some(1)),
+        (4, &[START_0, SIGN, SIG, SEND, &[5, 0, 1, 0]], Some(3)),
+        (4, &[START_0, SIGN, SIG, SEND, &[5, 0, 2, 0]], Some(3)),
+        (3, &[START_0, RECV, SIG, DECIDE_1], Some(1)),
+        (3, &[&[1, 1, 255], RECV, SIG, DECIDE_1], None),
+        (2, &[&[1, 1, 255], DECIDE_1], Some(1)),
+        (3, &[&[1, 1, 255], RECV, SIG, &[5, 0, 0, 0]], Some(2)),
+    ];
+    assert_eq!(rt; first_wrong(rt.alloc(), &header, cases)?, None);
+    Ok(())
+}
+
+#[test]
+fn two_rounds(rt: HostRuntime) -> Result<(), Fail> {
+    let header = header_of(rt.alloc(), 4, &COMPLETE_4, 1, 1)?;
+    let stolen: &[&[u8]] = &[
+        &[1, 2, 255],
+        RECV,
+        SIG,
+        &[2, 1, 2, 0, 2],
+        SIG,
+        &[3, 1, 1, 2, 0, 2],
+        &[3, 3, 1, 2, 0, 2],
+        &[4, 1, 1, 2, 0],
+        SIG,
+        &[1],
+        SIG,
+        &[4, 3, 0, 2, 0],
+        SIG,
+        &[3],
+        SIG,
+        &[5, 0, 3, 0],
+    ];
+    let skipped: &[&[u8]] = &[
+        &[1, 2, 255],
+        RECV,
+        SIG,
+        &[2, 1, 2, 0, 2],
+        SIG,
+        &[3, 3, 1, 2, 0, 2],
+        DECIDE_1,
+    ];
+    let cases: &[Case<'_>] = &[(8, stolen, None), (5, skipped, Some(3))];
+    assert_eq!(rt; first_wrong(rt.alloc(), &header, cases)?, None);
+    Ok(())
+}

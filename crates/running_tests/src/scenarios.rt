@@ -1,0 +1,71 @@
+//! Scenarios with scripts, and what each general knows of them.
+use gen_net::{HeaderFault, Net};
+use gen_report::{ScenarioText, read_scenario};
+use gen_script::Script;
+use gen_types::{GeneralNo, OrderNo, ReadError};
+use gen_world::*;
+use std::alloc::Global;
+use std::test::Fail;
+
+/// Four generals, all neighbours, with three rounds, in which general 0 sends order 1 to general 1 alone, who
+/// lengthens it for general 2, and both seal two logs.
+pub(crate) const TWO_SCRIPTS: &[u8] =
+    b"generals 4\nedge 0 1\nedge 0 2\nedge 0 3\nedge 1 2\nedge 1 3\nedge 2 3\ntraitors 2\ndiameter 1\norders 2\nchoice 0\norder 1\nseed 0000000000000000000000000000000000000000000000000000000000000000\nscript 0\nmake 1 1 1 0\ntwohead\nscript 1\nmake 2 2 1 0,1\ntwohead\nend\n";
+
+/// The scenario of a text.
+pub(crate) fn scenario_of(alloc: Global, text: &[u8]) -> Result<Scenario, Fail> {
+    match read_scenario(alloc, text)? {
+        ScenarioText::Signed(text) => Ok(text.into_scenario(alloc)?),
+        ScenarioText::Plain(_) => Err("no seed".into()),
+    }
+}
+
+/// What a general of the scenario knows.
+pub(crate) fn part_of(alloc: Global, scenario: &Scenario, general: u8) -> Result<Part, Fail> {
+    if general >= scenario.header().net().generals() {
+        return Err("no general".into());
+    }
+    Ok(scenario.part(alloc, GeneralNo::at(general))?)
+}
+
+/// The scenario of version 2 on a network, in which nobody has a script.
+#[tactic(auto, using(gen_world::proofs::ScriptPairs::no_scripts))]
+pub(crate) fn without_scripts(
+    alloc: Global,
+    net: Net,
+    slot: u8,
+) -> Result<Scenario, ReadError<HeaderFault>> {
+    let _few = net.generals();
+    let scripts: Vec<Script> = Vec::new(alloc);
+    Scenario::new_in_slot(alloc, net, slot, OrderNo::at(1), &[0; 32], scripts)
+}
+
+#[test]
+fn what_each_general_knows(rt: HostRuntime) -> Result<(), Fail> {
+    let alloc = rt.alloc();
+    let scenario = scenario_of(alloc, TWO_SCRIPTS)?;
+    for (general, scripted, trees) in [(0, true, 2), (1, true, 2), (2, false, 0), (3, false, 0)] {
+        let part = part_of(alloc, &scenario, general)?;
+        let me = GeneralNo::new(general).ok_or("no general")?;
+        assert!(rt;
+            scenario.has_script(me) == scripted && scenario.scripted().contains(me) == scripted
+        );
+        assert!(rt; part.lines().is_some() == scripted && part.own().is_some() == (general == 0));
+        assert_eq!(rt; part.clone()?.trees().len(), trees);
+    }
+    Ok(())
+}
+
+#[test]
+fn slots_of_scenarios(rt: HostRuntime) -> Result<(), Fail> {
+    let alloc = rt.alloc();
+    for (slot, known) in [(0, true), (3, true), (4, false), (255, false)] {
+        let net = Net::new(alloc, 2, &[(0, 1)], 0, 1, 2, 0)?;
+        match without_scripts(alloc, net, slot) {
+            Ok(scenario) => assert!(rt; known && scenario.header().slot() == slot),
+            Err(ReadError::Fault(fault)) => assert!(rt; !known && fault == HeaderFault::SlotRange),
+            Err(ReadError::Memory) => return Err("memory".into()),
+        }
+    }
+    Ok(())
+}

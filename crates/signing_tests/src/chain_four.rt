@@ -1,0 +1,96 @@
+//! Chains of more than four signers, of which one signature is another one.
+use crate::chain::{chain_of_one, header_of, longer};
+use crate::chain_store::first_wrong_chain;
+use gen_chain::*;
+use gen_net::Header;
+use gen_types::{GeneralNo, OrderNo, TreeHeight};
+use std::alloc::Global;
+use std::test::Fail;
+
+// The bytes before the first signature of a chain, and those of a signer.
+const FRONT_BYTES: usize = 3;
+
+const SIGNER_BYTES: usize = 16_513;
+
+// The chains of order 1 that the first five generals have signed, and the first nine.
+fn five_and_nine(alloc: Global, header: &Header) -> Result<(SignedChain, SignedChain), Fail> {
+    let mut five = chain_of_one(alloc, header, OrderNo::at(1))?;
+    for number in 1..5u8 {
+        five = longer(alloc, header, GeneralNo::at(number), &five)?;
+    }
+    let mut nine = five.clone()?;
+    for number in 5..9u8 {
+        nine = longer(alloc, header, GeneralNo::at(number), &nine)?;
+    }
+    Ok((five, nine))
+}
+
+// A chain with another signature in this place.
+fn spoiled(alloc: Global, chain: &SignedChain, place: usize) -> Result<SignedChain, Fail> {
+    let mut bytes = write_chain(alloc, chain)?;
+    if chain.signers().len() > 16 || place > 16 {
+        return Err("no place".into());
+    }
+    if let Some(byte) = bytes.get_mut(FRONT_BYTES + SIGNER_BYTES * place) {
+        *byte ^= 1;
+    }
+    let (spoiled, _) = read_chain(alloc, TreeHeight::Four, bytes.as_slice()).map_err(|_| "none")?;
+    Ok(spoiled)
+}
+
+// The first of these places in which another signature goes unseen.
+fn first_unseen(
+    alloc: Global,
+    header: &Header,
+    chain: &SignedChain,
+    places: &[usize],
+) -> Result<Option<usize>, Fail> {
+    for place in places {
+        if chain_verifies(header, &spoiled(alloc, chain, *place)?) {
+            return Ok(Some(*place));
+        }
+    }
+    Ok(None)
+}
+
+#[test]
+fn chains_of_five_and_of_nine(rt: HostRuntime) -> Result<(), Fail> {
+    let header = header_of(rt.alloc(), 9)?;
+    let (five, nine) = five_and_nine(rt.alloc(), &header)?;
+    assert!(rt; chain_verifies(&header, &five) && chain_verifies(&header, &nine));
+    assert_eq!(rt; first_unseen(rt.alloc(), &header, &five, &[3, 4])?, None);
+    assert_eq!(rt; first_unseen(rt.alloc(), &header, &nine, &[3, 4, 8])?, None);
+    Ok(())
+}
+
+// The first of these places in which a new store sees another signature otherwise than by so many verifications,
+// or verifies some again when it is asked again.
+fn first_wrong_place(
+    alloc: Global,
+    header: &Header,
+    chain: &SignedChain,
+    places: &[(usize, u64)],
+) -> Result<Option<usize>, Fail> {
+    for (place, runs) in places {
+        let spoiled = spoiled(alloc, chain, *place)?;
+        let rows = [(&spoiled, false, *runs), (&spoiled, false, *runs)];
+        if first_wrong_chain(alloc, header, &rows)?.is_some() {
+            return Ok(Some(*place));
+        }
+    }
+    Ok(None)
+}
+
+#[test]
+fn a_store_of_chains_of_nine(rt: HostRuntime) -> Result<(), Fail> {
+    let header = header_of(rt.alloc(), 9)?;
+    let (five, nine) = five_and_nine(rt.alloc(), &header)?;
+    let rows = [(&five, true, 5), (&nine, true, 9)];
+    assert_eq!(rt; first_wrong_chain(rt.alloc(), &header, &rows)?, None);
+    let places = [(3, 4), (4, 8), (8, 9)];
+    assert_eq!(rt;
+        first_wrong_place(rt.alloc(), &header, &nine, &places)?,
+        None
+    );
+    Ok(())
+}
