@@ -63,7 +63,9 @@ fn departing(alloc: Global) -> Result<Vec<u8>, AllocError> {
 
 /// The number of the accused and the slot, where these bytes are evidence of this length which is written again so.
 fn accused_and_slot(alloc: Global, bytes: &[u8], length: usize) -> Result<(u8, u8), Fail> {
-    let (header, evidence) = read_evidence(alloc, bytes).map_err(|_| "no evidence")?;
+    let Ok((header, evidence)) = read_evidence(alloc, bytes) else {
+        return Err("no evidence".into());
+    };
     let again = write_evidence(alloc, &header, &evidence)?;
     if again.as_slice() != bytes || bytes.len() != length {
         return Err("another spelling".into());

@@ -8,11 +8,11 @@ mod audit_cases;
 #[cfg(test)]
 mod audit_laws;
 #[cfg(test)]
-mod convict;
-#[cfg(test)]
 mod convict_evidence;
 #[cfg(test)]
 mod convict_finding;
+#[cfg(test)]
+mod convict_laws;
 #[cfg(test)]
 mod convict_refuting;
 #[cfg(test)]

@@ -2,27 +2,16 @@
 ghost use Rattle.std.specs.Prelude.{IfOk};
 ghost use Rattle.gen_log.specs.Log.{IsLog};
 
+use crate::signed_logs::header_of;
 use gen_local::*;
 use gen_log::{Log, read_log};
-use gen_net::{Header, Net};
+use gen_net::Header;
 use std::alloc::Global;
 use std::test::Fail;
 
 // A case: the number of entries of a log, its bytes behind that in pieces, of which an empty one stands
 // for a signature of zeros, without the head's; and where it departs.
 type Case<'a> = (u64, &'a [&'a [u8]], Option<usize>);
-
-// The header of these edges with roots of zeros, two orders and choice 0.
-fn header_of(alloc: Global, n: u8, edges: &[(u8, u8)], m: u8, d: u8) -> Result<Header, Fail> {
-    let Ok(net) = Net::new(alloc, n, edges, m, d, 2, 0) else {
-        return Err("no net".into());
-    };
-    let mut roots = Vec::new(alloc);
-    for _ in 0..n {
-        roots.push([0u8; 32])?;
-    }
-    Header::new(net, roots).map_err(|_| "no header".into())
-}
 
 // The bytes of the log of these pieces.
 fn bytes_of(alloc: Global, count: u64, pieces: &[&[u8]]) -> Result<Vec<u8>, Fail> {

@@ -2,9 +2,10 @@
 ghost use Rattle.std.specs.Prelude.{IfOk};
 ghost use Rattle.gen_match.specs.Reports.{AreUnder};
 
+use crate::signed_logs::header_of;
 use gen_local::{LocalReport, local_report};
 use gen_match::*;
-use gen_net::{Header, Net};
+use gen_net::Header;
 use gen_types::{GeneralNo, GeneralSet};
 use std::alloc::Global;
 use std::test::Fail;
@@ -20,15 +21,6 @@ type Message = (u8, u8, u8, u8);
 
 // The logs that are shown, the bits of the generals who are held for faulty, and the messages that are found.
 type Case<'a> = (&'a [Shown<'a>], u16, &'a [Message]);
-
-// The header of three generals, each of whom is joined to each, of two rounds and two orders.
-fn header_of_three(alloc: Global) -> Result<Header, Fail> {
-    let Ok(net) = Net::new(alloc, 3, &[(0, 1), (0, 2), (1, 2)], 1, 1, 2, 0) else {
-        return Err("no net".into());
-    };
-    let roots = vec![in alloc; [0; 32]; 3]?;
-    Header::new(net, roots).map_err(|_| "no header".into())
-}
 
 // The bytes of a log of these pieces.
 fn log_of(
@@ -160,7 +152,7 @@ const CASES: &[Case<'_>] = &[
 #[test]
 fn messages_of_one_log(rt: HostRuntime) -> Result<(), Fail> {
     let alloc = rt.alloc();
-    let header = header_of_three(alloc)?;
+    let header = header_of(alloc, 3, &[(0, 1), (0, 2), (1, 2)], 1, 1)?;
     for case in CASES {
         assert!(rt; finds(alloc, &header, case)?);
     }

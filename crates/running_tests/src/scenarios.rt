@@ -40,19 +40,23 @@ pub(crate) fn without_scripts(
     Scenario::new_in_slot(alloc, net, slot, OrderNo::at(1), &[0; 32], scripts)
 }
 
+/// Of a general whether he knows lines, whether he knows the order, and how many trees he knows.
+fn known_by(alloc: Global, scenario: &Scenario, general: u8) -> Result<(bool, bool, usize), Fail> {
+    let part = part_of(alloc, scenario, general)?;
+    Ok((
+        part.lines().is_some(),
+        part.own().is_some(),
+        part.trees().len(),
+    ))
+}
+
 #[test]
 fn what_each_general_knows(rt: HostRuntime) -> Result<(), Fail> {
-    let alloc = rt.alloc();
-    let scenario = scenario_of(alloc, TWO_SCRIPTS)?;
-    for (general, scripted, trees) in [(0, true, 2), (1, true, 2), (2, false, 0), (3, false, 0)] {
-        let part = part_of(alloc, &scenario, general)?;
-        let me = GeneralNo::new(general).ok_or("no general")?;
-        assert!(rt;
-            scenario.has_script(me) == scripted && scenario.scripted().contains(me) == scripted
-        );
-        assert!(rt; part.lines().is_some() == scripted && part.own().is_some() == (general == 0));
-        assert_eq!(rt; part.clone()?.trees().len(), trees);
-    }
+    let scenario = scenario_of(rt.alloc(), TWO_SCRIPTS)?;
+    assert_eq!(rt; known_by(rt.alloc(), &scenario, 0)?, (true, true, 2));
+    assert_eq!(rt; known_by(rt.alloc(), &scenario, 1)?, (true, false, 2));
+    assert_eq!(rt; known_by(rt.alloc(), &scenario, 2)?, (false, false, 0));
+    assert!(rt; scenario.has_script(GeneralNo::at(1)) && scenario.scripted().len() == 2);
     Ok(())
 }
 

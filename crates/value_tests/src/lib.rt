@@ -2,7 +2,7 @@
 #![tactic(auto)]
 
 #[cfg(test)]
-mod core;
+mod algorithm;
 #[cfg(test)]
 mod net;
 #[cfg(test)]
