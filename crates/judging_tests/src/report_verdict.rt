@@ -18,8 +18,13 @@ use std::test::*;
 const RUN: &str = "run cab3aefd27d37b8946963079046411c929f1050a128365a7d3d53ce8c6965abf\n";
 
 /// The lines of what is found below.
-const LINES: &str =
-    "verdict no\nN1 general 0\nN2 general 15\nN3 general 1 L1\nN3 general 1 L2\nN3 general 1 L3\nN3 general 1 L4\nN3 general 1 L5 C1\nN3 general 1 L5 C2\nN3 general 1 L5 C3\nN3 general 1 L5 C4\nN3 general 1 L5 C5\nN3 general 1 L6\nN4 general 2\nN5 general 3 entry 1000\nN6 general 4\nN7 general 5 entry 18446744073709551615\nN8 from 6 to 10 round 16 order 1\nN9 from 11 to 7 round 2 order 14\nN10 pair 8 12\nN11\n";
+const LINES: &str = "\
+    verdict no\nN1 general 0\nN2 general 15\nN3 general 1 L1\nN3 general 1 L2\n\
+    N3 general 1 L3\nN3 general 1 L4\nN3 general 1 L5 C1\nN3 general 1 L5 C2\n\
+    N3 general 1 L5 C3\nN3 general 1 L5 C4\nN3 general 1 L5 C5\nN3 general 1 L6\n\
+    N4 general 2\nN5 general 3 entry 1000\nN6 general 4\n\
+    N7 general 5 entry 18446744073709551615\nN8 from 6 to 10 round 16 order 1\n\
+    N9 from 11 to 7 round 2 order 14\nN10 pair 8 12\nN11\n";
 
 /// Each kind of finding, and each fault of a log and of a chain.
 fn found() -> [Finding; 20] {

@@ -19,8 +19,10 @@ const RING_ACTS: u32 = 120;
 const DRAWS: u32 = 4000;
 
 /// The ring with order 1 in which 3 sends nothing.
-const RING: &[u8] =
-    b"generals 6\nedge 0 1\nedge 1 2\nedge 2 3\nedge 3 4\nedge 4 5\nedge 0 5\ntraitors 1\ndiameter 4\norders 2\nchoice 0\norder 1\nseed 0000000000000000000000000000000000000000000000000000000000000000\nscript 3\nend\n";
+const RING: &[u8] = b"\
+    generals 6\nedge 0 1\nedge 1 2\nedge 2 3\nedge 3 4\nedge 4 5\nedge 0 5\ntraitors 1\n\
+    diameter 4\norders 2\nchoice 0\norder 1\n\
+    seed 0000000000000000000000000000000000000000000000000000000000000000\nscript 3\nend\n";
 
 /// Lets generals act who are drawn from a seed. How many acts moved.
 fn moves_by_lot(alloc: Global, machine: &mut Machine, seed: u8) -> Result<u32, AllocError> {

@@ -27,8 +27,10 @@ fn ring_of(alloc: Global, general: GeneralNo, height: TreeHeight) -> Result<KeyR
 }
 
 /// Four generals who are all neighbours, with three rounds and two orders, under that seed.
-const FOUR: &[u8] =
-    b"generals 4\nedge 0 1\nedge 0 2\nedge 0 3\nedge 1 2\nedge 1 3\nedge 2 3\ntraitors 2\ndiameter 1\norders 2\nchoice 0\norder 1\nseed 0707070707070707070707070707070707070707070707070707070707070707\nend\n";
+const FOUR: &[u8] = b"\
+    generals 4\nedge 0 1\nedge 0 2\nedge 0 3\nedge 1 2\nedge 1 3\nedge 2 3\ntraitors 2\n\
+    diameter 1\norders 2\nchoice 0\norder 1\n\
+    seed 0707070707070707070707070707070707070707070707070707070707070707\nend\n";
 
 /// Their header.
 fn header_of_four(alloc: Global) -> Result<Header, Fail> {
