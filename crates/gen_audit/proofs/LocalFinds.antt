@@ -18,7 +18,7 @@ use Rattle.gen_local.specs.Erased.{erased}
 use Rattle.gen_local.specs.FoundLog.{FoundLog, IsFound}
 use Rattle.gen_local.specs.Report.{Report, IsReading}
 use Rattle.gen_local.specs.Shown.{ShownLog}
-use Rattle.gen_world.proofs.Having.{in_filtered, in_mapped}
+use Rattle.gen_scenario.proofs.Having.{in_filtered, in_mapped}
 use Rattle.gen_match.specs.declared.finding.Finding.{Finding}
 use Rattle.gen_match.specs.declared.finding.Finding.TheVariants.{Missing, Several, Unreadable, Foreign, Unsigned, Unsealed, Departs, Unmatched, Underivable, Unjoined, Nobody}
 use Rattle.gen_audit.specs.Bundle.{LogBundle, exhibits_of}

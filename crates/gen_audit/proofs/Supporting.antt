@@ -13,7 +13,7 @@ use Rattle.gen_net.specs.Log.{LogEntry}
 use Rattle.gen_net.specs.Departs.{IsFollowersLog, DepartsAt}
 use Rattle.gen_core.proofs.Decisions.{list_below}
 use Rattle.gen_walks.specs.Walks.{BoundsDiameter}
-use Rattle.gen_world.proofs.Agree.{decide_loyal}
+use Rattle.gen_scenario.proofs.Agree.{decide_loyal}
 use Rattle.gen_log.specs.declared.entries.Entry.{Entry}
 use Rattle.gen_log.specs.declared.entries.Entry.TheVariants.{Start, Sign, Send, Recv, Decide}
 use Rattle.gen_log.specs.declared.fault.LogFault.{LogFault}

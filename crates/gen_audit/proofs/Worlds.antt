@@ -15,13 +15,13 @@ use Rattle.gen_log.specs.Verifying.{LogVerifies}
 use Rattle.gen_log.proofs.LogLaws.{log_only}
 use Rattle.gen_local.specs.Erased.{erased}
 use Rattle.gen_local.specs.Shown.{ShownLog}
-use Rattle.gen_world.specs.Scenario.{Scenario, header_of, scripted}
-use Rattle.gen_world.specs.SignedWorld.{messages_of}
-use Rattle.gen_world.specs.WorldLaws.{conduct_of}
-use Rattle.gen_world.specs.WorldLogs as worlds
-use Rattle.gen_world.proofs.LogEntries.{followers_keep}
-use Rattle.gen_world.proofs.TraitorFrames.{no_raw_is_signed}
-use Rattle.gen_world.proofs.VerifiedLogs.{all_verify}
+use Rattle.gen_scenario.specs.Scenario.{Scenario, header_of, scripted}
+use Rattle.gen_scenario.specs.SignedWorld.{messages_of}
+use Rattle.gen_scenario.specs.WorldLaws.{conduct_of}
+use Rattle.gen_scenario.specs.WorldLogs as worlds
+use Rattle.gen_scenario.proofs.LogEntries.{followers_keep}
+use Rattle.gen_scenario.proofs.TraitorFrames.{no_raw_is_signed}
+use Rattle.gen_scenario.proofs.VerifiedLogs.{all_verify}
 use Rattle.gen_audit.specs.Bundle.{exhibits_of, logs_of}
 use Rattle.gen_audit.specs.Supported.{HasSoleLog, IsSupported}
 use Rattle.gen_audit.specs.declared.verdicts.Verdict.{Verdict}
@@ -29,8 +29,8 @@ use Rattle.gen_audit.specs.declared.verdicts.Verdict.TheVariants.{Agreed, Explai
 use Rattle.gen_audit.specs.Verdict.{IsVerdict}
 use Rattle.gen_audit.specs.Headline.{IsYes}
 use Rattle.gen_audit.specs.WorldBundle.{shown_by, bundle_of, IsAcceptable, WorldIsSupported, WorldIsAccepted, ShownAreLogs, SealedAreShown, shown_as}
-use Rattle.gen_world.specs.Recording.{log_bytes}
-use Rattle.gen_world.specs.Rows.{logs_of_all}
+use Rattle.gen_scenario.specs.WorldLogs.{log_bytes}
+use Rattle.gen_scenario.specs.Rows.{logs_of_all}
 use Rattle.gen_audit.proofs.Supporting.{counts, supported_is_clean}
 use Rattle.gen_audit.proofs.Answering.{unclean}
 

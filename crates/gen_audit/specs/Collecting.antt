@@ -8,7 +8,7 @@ use Rattle.gen_local.specs.declared.reading.Reading.TheVariants.{Own}
 use Rattle.gen_local.specs.FoundLog.{FoundLog}
 use Rattle.gen_local.specs.Report.{Report}
 use Rattle.gen_local.specs.Shown.{ShownLog}
-use Rattle.gen_world.specs.declared.scenario.Decision.{Decision}
+use Rattle.gen_scenario.specs.declared.scenario.Decision.{Decision}
 use Rattle.gen_match.specs.declared.finding.Finding.{Finding}
 use Rattle.gen_match.specs.declared.finding.Finding.TheVariants.{Missing, Several, Unjoined, Nobody}
 use Rattle.gen_match.specs.Matching.{Logs, FindsUnmatched, FindsUnderivable}

@@ -5,11 +5,11 @@ use Rattle.gen_types.specs.Ascending.{IsListOf}
 use Rattle.gen_net.specs.Network.{IsLoyal}
 use Rattle.gen_walks.specs.Walks.{BoundsDiameter}
 use Rattle.gen_log.specs.Log.{log_spelling}
-use Rattle.gen_world.specs.Scenario.{Scenario, IsScenario, header_of, scripted}
-use Rattle.gen_world.specs.SignedLaw.{HasNoRaw}
+use Rattle.gen_scenario.specs.Scenario.{Scenario, IsScenario, header_of, scripted}
+use Rattle.gen_scenario.specs.SignedLaw.{HasNoRaw}
 use Rattle.gen_log.specs.Writing.{LogBytes}
-use Rattle.gen_world.specs.Rows.{logs_of_all}
-use Rattle.gen_world.specs.WorldLogs as worlds
+use Rattle.gen_scenario.specs.Rows.{logs_of_all}
+use Rattle.gen_scenario.specs.WorldLogs as worlds
 use Rattle.gen_local.specs.Shown.{ShownLog}
 use Rattle.gen_audit.specs.Bundle.{LogBundle}
 use Rattle.gen_audit.specs.Supported.{IsSupported}

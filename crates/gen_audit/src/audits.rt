@@ -19,7 +19,7 @@ use gen_chain::VerifyStore;
 use gen_convict::{Evidence, find_evidence};
 use gen_local::{LocalReport, Reading, local_reports};
 use gen_types::{GeneralNo, GeneralSet, OrderNo};
-use gen_world::Decision;
+use gen_scenario::Decision;
 use std::alloc::{AllocError, Global};
 
 /// Returns the reports of all exhibits of a bundle, in their order. No signature is verified twice.

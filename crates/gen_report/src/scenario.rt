@@ -15,7 +15,7 @@ use crate::numbers::read_plain;
 use crate::scenario_text::ScenarioText;
 use crate::signed_text::{ScenarioParts, SignedText};
 use gen_types::ReadError;
-use gen_world::PlainScenario;
+use gen_scenario::PlainScenario;
 use std::alloc::Global;
 
 /// Passes where the line is the last of a text without a seed.

@@ -5,7 +5,7 @@ ghost use Rattle.gen_report.specs.Told.{net_of, order_of};
 use crate::signed_text::SignedText;
 use gen_net::Net;
 use gen_types::OrderNo;
-use gen_world::PlainScenario;
+use gen_scenario::PlainScenario;
 
 /// What a scenario text says.
 #[derive(Debug, Drop)]

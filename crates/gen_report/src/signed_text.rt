@@ -1,11 +1,11 @@
 //! Scenarios with signatures, as texts say them.
 ghost use Rattle.std.specs.Prelude.{◌≡◌, IfOk};
-ghost use Rattle.gen_world.specs.Scenario.{IsScenario, scenario_of};
+ghost use Rattle.gen_scenario.specs.Scenario.{IsScenario, scenario_of};
 
 use gen_net::{Net, Version};
 use gen_script::Script;
 use gen_types::OrderNo;
-use gen_world::Scenario;
+use gen_scenario::Scenario;
 use std::alloc::{AllocError, Global};
 use std::marker::Model;
 
@@ -39,7 +39,7 @@ pub struct ScenarioParts {
 }
 
 impl Model for SignedText {
-    ghost use Rattle.gen_world.specs.Scenario.{Scenario, IsScenario, scenario_of};
+    ghost use Rattle.gen_scenario.specs.Scenario.{Scenario, IsScenario, scenario_of};
 
     ghost Value = { Scenario };
 

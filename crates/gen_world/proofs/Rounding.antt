@@ -12,10 +12,10 @@ use Rattle.gen_net.specs.Run.{Run}
 use Rattle.gen_core.specs.Seeing.{State, HasSeen}
 use Rattle.gen_core.specs.Sending.{Appends}
 use Rattle.gen_net.specs.Follows.{LieutenantDecides}
-use Rattle.gen_world.specs.World.{IsDecision, IsRelay}
-use Rattle.gen_world.specs.declared.scenario.Decision.{Decision}
+use Rattle.gen_scenario.specs.World.{IsDecision, IsRelay}
+use Rattle.gen_scenario.specs.declared.scenario.Decision.{Decision}
 use Rattle.gen_world.specs.Loops.Rounds.{RelayedBy, AreRelays, IsReady, numbers_of}
-use Rattle.gen_world.proofs.Growing.{WorldTo, AreNext, seen_longer}
+use Rattle.gen_scenario.proofs.Growing.{WorldTo, AreNext, seen_longer}
 
 -- what holds of all from a place on holds at this place
 pub here_of_rest : (P : State → Type 0) (states : List State) (i : ℕ) (d : State) → i < length states → All P (drop i states) → P (get_or states i d)

@@ -32,7 +32,7 @@ pub(crate) fn part_of(alloc: Global, scenario: &Scenario, general: u8) -> Result
 }
 
 /// The scenario of version 2 on a network, in which nobody has a script.
-#[tactic(auto, using(gen_world::proofs::ScriptPairs::no_scripts))]
+#[tactic(auto, using(gen_scenario::proofs::ScriptPairs::no_scripts))]
 pub(crate) fn without_scripts(
     alloc: Global,
     net: Net,

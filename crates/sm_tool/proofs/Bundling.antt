@@ -4,7 +4,7 @@ use Rattle.gen_types.specs.Reading.{◌>>=◌, check}
 use Rattle.gen_types.proofs.Steps.{ok_is, after, after_check}
 use Rattle.gen_net.specs.Header.{RunHeader}
 use Rattle.gen_local.specs.Shown.{ShownLog}
-use Rattle.gen_world.specs.Scenario.{Scenario, header_of, scripted}
+use Rattle.gen_scenario.specs.Scenario.{Scenario, header_of, scripted}
 use Rattle.gen_audit.specs.declared.bundle_fault.BundleFault.{BundleFault}
 use Rattle.gen_audit.specs.declared.bundle_fault.BundleFault.TheVariants as faults
 use Rattle.gen_audit.specs.Bundle.{LogBundle}

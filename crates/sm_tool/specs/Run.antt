@@ -4,7 +4,7 @@ use Rattle.gen_types.specs.Ascending.{IsListOf}
 use Rattle.gen_net.specs.Network.{Network, IsLoyal}
 use Rattle.gen_walks.specs.BestWalks.{AreBestWalks}
 use Rattle.gen_walks.specs.Walks.{HasShortWalk, IsLeastBadPair}
-use Rattle.gen_world.specs.Scenario.{Plain, Scenario, header_of, scripted}
+use Rattle.gen_scenario.specs.Scenario.{Plain, Scenario, header_of, scripted}
 use Rattle.gen_audit.specs.BundleMaking.{bundle_with}
 use Rattle.gen_audit.specs.BundleSpelling.{bundle_spelling}
 use Rattle.gen_audit.specs.WorldBundle.{all_shown, bundle_of}

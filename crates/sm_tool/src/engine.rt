@@ -1,7 +1,7 @@
 //! The jobs of the program, over any reader and any writer.
 ghost use Rattle.std.specs.Prelude.{◌≡◌, IfOk, IfErr, IfSome};
 ghost use Rattle.gen_types.specs.Reading.{Fails};
-ghost use Rattle.gen_world.specs.Deciding as decisions;
+ghost use Rattle.gen_scenario.specs.Deciding as decisions;
 ghost use Rattle.gen_report.specs.Decisions.{decisions_text};
 ghost use Rattle.sm_tool.specs.Answering.{Answers};
 ghost use Rattle.sm_tool.specs.Audit.{IsAudited, IsAuditFault, is_no};

@@ -6,7 +6,7 @@ use Rattle.gen_net.specs.Run.{Run}
 use Rattle.gen_core.specs.Seeing.{State, HasSeen}
 use Rattle.gen_core.specs.declared.sending.Outgoing.{Outgoing}
 use Rattle.gen_core.specs.Sending.{outgoing}
-use Rattle.gen_world.specs.World.{IsRelay}
+use Rattle.gen_scenario.specs.World.{IsRelay}
 
 -- the message is one of these sends of this general
 abbrev pub IsAmong : ℕ → List Outgoing → Message → Type 0

@@ -1,7 +1,7 @@
 use Rattle.std.proofs.Common.{◌≡◌, ◌≢◌, ◌∙◌, get_or, sym, ap}
 use Rattle.std.proofs.lemmas.List.Elements.{All-push, All-get_or}
 use Rattle.gen_core.specs.Seeing.{State, HasSeen}
-use Rattle.gen_world.specs.World.{IsDecision}
+use Rattle.gen_scenario.specs.World.{IsDecision}
 use Rattle.gen_world.proofs.Rounding.{generals_pushed, lieutenants_decision}
 use Rattle.gen_world.proofs.running.decisions.Goals as goal
 

@@ -1,7 +1,7 @@
 use Rattle.std.proofs.Common.{rules, ◌≡◌, ◌∙◌, sym, ap, map, subst}
 use Rattle.gen_net.specs.Header.{RunHeader}
 use Rattle.gen_net.specs.Network.{Network}
-use Rattle.gen_world.specs.Scenario.{header_of, scripted}
+use Rattle.gen_scenario.specs.Scenario.{header_of, scripted}
 use Rattle.gen_audit.specs.WorldBundle.{all_shown, shown_as}
 use Rattle.sm_tool.specs.Run.{AreWalksOfRun, HasWalks}
 use Rattle.sm_tool.proofs.Bundling.{made_of, broken_by}
