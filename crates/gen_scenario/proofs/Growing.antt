@@ -8,7 +8,7 @@ use Rattle.gen_net.specs.Network.{Network, rounds, AreNeighbours, IsNetwork}
 use Rattle.gen_net.specs.declared.message.Message.{Message}
 use Rattle.gen_net.specs.Run.{Run, IsSent, IsWellFormed, IsRun}
 use Rattle.gen_net.specs.Follows.{CommanderFollows}
-use Rattle.gen_core.specs.Seeing.{State, HasSeen, IsFromLeast}
+use Rattle.gen_core.specs.Seeing.{Lieutenant, HasSeen, IsFromLeast}
 use Rattle.gen_scenario.specs.World.{IsRelay, IsWorld}
 use Rattle.gen_scenario.proofs.Same.{SameTo, turned, arrives_over, relay_over}
 
@@ -153,7 +153,7 @@ world_more net order run new n w next pos =
     }
 
 -- what he has seen he has seen of the longer run too
-pub seen_longer : (net : Network) (order : ℕ) (run new : Run) (n : ℕ) (state : State) → WorldTo net order run n → AreNext net run n new → 0 < n → state.gone ≡ n → HasSeen net run state → HasSeen net (run ++ new) state
+pub seen_longer : (net : Network) (order : ℕ) (run new : Run) (n : ℕ) (state : Lieutenant) → WorldTo net order run n → AreNext net run n new → 0 < n → state.gone ≡ n → HasSeen net run state → HasSeen net (run ++ new) state
 seen_longer net order run new n state w next pos gone saw =
     let same : SameTo run (run ++ new) n = same_before net run new n next in
     record {

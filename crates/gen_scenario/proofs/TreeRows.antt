@@ -6,7 +6,7 @@ use Rattle.std.proofs.lemmas.List.FromFn.{length-map-range_with_len}
 use Rattle.std.proofs.lemmas.Simd.{map-map}
 use Rattle.gen_types.specs.declared.heights.TreeHeight.{TreeHeight}
 use Rattle.gen_types.specs.Members.{range_more}
-use Rattle.gen_tree.specs.Rings.{SeedTree, ring_root, seed_of}
+use Rattle.gen_tree.specs.Rings.{KeyTree, ring_root, seed_of}
 use Rattle.gen_scenario.specs.Trees.{general_tree, root_over}
 
 -- one more number of a range from 0, mapped
@@ -21,10 +21,10 @@ trees_more {X} f n old new x before pushed is =
     pushed ∙ ap (λ (xs : List X). xs ++ x ∷ []) before ∙ ap (λ (y : X). map f (range_with_len 0 n) ++ y ∷ []) is ∙ sym (map_range_more f n)
 
 -- the roots of these trees
-pub roots_are : (master : List ℕ) (height : TreeHeight) (n : ℕ) (trees : List SeedTree) (roots : List (List ℕ)) → trees ≡ map (general_tree master height) (range_with_len 0 n) → roots ≡ map root_over trees → roots ≡ map (λ g. ring_root (seed_of master g) height) (range_with_len 0 n)
+pub roots_are : (master : List ℕ) (height : TreeHeight) (n : ℕ) (trees : List KeyTree) (roots : List (List ℕ)) → trees ≡ map (general_tree master height) (range_with_len 0 n) → roots ≡ map root_over trees → roots ≡ map (λ g. ring_root (seed_of master g) height) (range_with_len 0 n)
 roots_are master height n trees roots made is =
     is ∙ ap (map root_over) made ∙ map-map root_over (general_tree master height) (range_with_len 0 n)
 
-pub roots_count : (master : List ℕ) (height : TreeHeight) (n : ℕ) (trees : List SeedTree) (roots : List (List ℕ)) → trees ≡ map (general_tree master height) (range_with_len 0 n) → roots ≡ map root_over trees → length roots ≡ n
+pub roots_count : (master : List ℕ) (height : TreeHeight) (n : ℕ) (trees : List KeyTree) (roots : List (List ℕ)) → trees ≡ map (general_tree master height) (range_with_len 0 n) → roots ≡ map root_over trees → length roots ≡ n
 roots_count master height n trees roots made is =
     ap length (roots_are master height n trees roots made is) ∙ length-map-range_with_len (λ g. ring_root (seed_of master g) height) 0 n

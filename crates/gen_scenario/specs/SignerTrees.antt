@@ -1,6 +1,6 @@
 -- Generals whose trees of keys somebody knows, and what he signs with by them.
 use Rattle.std.specs.Prelude.{ℕ, ◌≡◌, ◌<◌, ◌==◌, if◌then◌else◌, List, [], ◌∷◌, Contains, Option, Some, None}
-use Rattle.gen_tree.specs.Rings.{SeedTree}
+use Rattle.gen_tree.specs.Rings.{KeyTree}
 use Rattle.gen_net.specs.Header.{RunHeader, height_of}
 use Rattle.gen_script.specs.declared.lines.ScriptLine.{ScriptLine}
 use Rattle.gen_script.specs.Line.{IsScriptLine}
@@ -9,11 +9,11 @@ use Rattle.gen_scenario.specs.declared.signer_trees.SignerTree.{SignerTree}
 use Rattle.gen_scenario.specs.Signing.{Keys}
 
 -- the tree of a general, if it is one of these
-unfoldable pub tree_in : List SignerTree → ℕ → Option SeedTree
+unfoldable pub tree_in : List SignerTree → ℕ → Option KeyTree
 tree_in [] g = None
 tree_in (signer ∷ others) g = if signer.general == g then Some signer.tree else tree_in others g
 
-abbrev pub seed_under : Option SeedTree → List ℕ
+abbrev pub seed_under : Option KeyTree → List ℕ
 seed_under None = []
 seed_under (Some tree) = tree.seed
 
@@ -28,7 +28,7 @@ keys_with h trees = record { header = h; seeds = seed_in trees }
 -- the signatures of a general can be made: he is one of the network, and his tree is there, of the run's height
 pub record CanSign (h : RunHeader) (trees : List SignerTree) (g : ℕ) : Type 0 where
   pub known : g < h.network.generals
-  pub tree : SeedTree
+  pub tree : KeyTree
   pub found : tree_in trees g ≡ Some tree
   pub height : tree.height ≡ height_of h
 

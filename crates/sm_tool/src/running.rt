@@ -1,8 +1,7 @@
 //! The job `run`.
-ghost use Rattle.std.specs.Prelude.{◌≡◌, ◌<◌, false, IfErr, IfOk, IfSome, map};
+ghost use Rattle.std.specs.Prelude.{◌≡◌, ◌<◌, false, IfErr, IfOk, IfSome};
 ghost use Rattle.gen_types.specs.Ascending.{IsListOf};
 ghost use Rattle.gen_net.specs.Network.{IsLoyal};
-ghost use Rattle.gen_audit.specs.WorldBundle.{shown_as};
 ghost use Rattle.gen_report.specs.LineReading.{fault_at};
 ghost use Rattle.gen_report.specs.declared.fault.LineFault.TheVariants.{BadSeed};
 ghost use Rattle.sm_tool.specs.Answering.{Answers};
@@ -14,7 +13,6 @@ use crate::bundle_text::{BundleText, deliver_bundle};
 use crate::ends::{JobEnd, JobFault};
 use crate::transfer::read_all;
 use gen_audit::Bundle;
-use gen_audit::laws::own_runs_are_accepted;
 use gen_local::Exhibit;
 use gen_log::SealedLog;
 use gen_net::Net;
@@ -93,7 +91,7 @@ fn walks_between(alloc: Global, net: &Net, rest: &GeneralSet) -> Result<Walks, A
 
 /// Shows sealed logs, each as its general's.
 fn exhibits_of(alloc: Global, logs: Vec<SealedLog>) -> Result<Vec<Exhibit>, AllocError>
-    ensures { IfOk result (λ exhibits. exhibits.items ≡ map shown_as logs.items) }
+    ensures { IfOk result (λ exhibits. exhibits.items ≡ logs.items) }
 {
     let mut exhibits = Vec::with_capacity(alloc, logs.len())?;
     for log in logs {
@@ -112,7 +110,6 @@ fn bundle_of_run<T: Threads + Wait + Sync>(
     requires { 0 < capacity }
     ensures { MakesBundle scenario.now result }
 {
-    own_runs_are_accepted();
     let logs = run_threads(rt, alloc, scenario, usize::from(capacity), &Open)?;
     let faulty = scenario.scripted();
     let header = scenario.header().clone()?;

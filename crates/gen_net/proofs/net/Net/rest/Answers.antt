@@ -1,8 +1,8 @@
 use Rattle.std.proofs.Common.{ℕ, ◌≡◌, ◌<◌, Contains, sym, ◌∙◌, subst, rules, true, false}
 use Rattle.gen_types.specs.Ascending.{IsListOf}
 use Rattle.gen_net.proofs.Neighbours.{one_more, passed}
-use Rattle.gen_audit.proofs.findings_collected.rest_of.Goals as goal
-use Rattle.gen_audit.proofs.findings_collected.rest_of.Goals.{then-not-contains, else-not-contains}
+use Rattle.gen_net.proofs.net.Net.rest.Goals as goal
+use Rattle.gen_net.proofs.net.Net.rest.Goals.{then-not-contains, else-not-contains}
 
 told_otherwise : false ≡ true → ⊥
 told_otherwise e = cc
@@ -17,5 +17,5 @@ loop-number-preserved c =
 
 pub returns : goal.returns
 returns c =
-    let all : c.loop-number.number ≡ c.args.net.now.generals = search rules in
+    let all : c.loop-number.number ≡ c.args.self.now.generals = search rules in
     subst (λ n. IsListOf c.loop-number.rest (λ v. (v < n) × (Contains c.args.faulty.now v → ⊥))) all c.loop-number.invariant
