@@ -11,7 +11,7 @@ pub mod JournalOrder
 pub mod JournalRecords
 pub mod JournalRecvs
 pub mod LogPlaces
-pub mod Participants
+pub mod Standing
 pub mod Plans
 pub mod Recorders
 pub mod Relaying

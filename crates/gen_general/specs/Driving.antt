@@ -10,6 +10,7 @@ use Rattle.gen_scenario.specs.declared.heard.Heard.{Heard}
 use Rattle.gen_scenario.specs.declared.scenario.Decision.{Decision}
 use Rattle.gen_scenario.specs.Scenario.{Scenario, has_script, script_of}
 use Rattle.gen_scenario.specs.SignedWorld.{heard_of, heard_by}
+use Rattle.gen_scenario.specs.AllAre.{AllAre}
 use Rattle.gen_scenario.specs.Deciding.{decision_of}
 use Rattle.gen_scenario.specs.Rows.{FrameRow, row_at, rows_by, rows_in}
 use Rattle.gen_general.specs.Participant.{Participant}

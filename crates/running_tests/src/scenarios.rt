@@ -18,7 +18,7 @@ pub(crate) const TWO_SCRIPTS: &[u8] = b"\
 /// The scenario of a text.
 pub(crate) fn scenario_of(alloc: Global, text: &[u8]) -> Result<Scenario, Fail> {
     match read_scenario(alloc, text)? {
-        ScenarioText::Signed(text) => Ok(text.into_scenario(alloc)?),
+        ScenarioText::Signed(text) => Ok(Scenario::of_plan(alloc, text)?),
         ScenarioText::Plain(_) => Err("no seed".into()),
     }
 }

@@ -1,6 +1,6 @@
 use Rattle.std.proofs.Common.{◌∙◌, ap, take}
 use Rattle.gen_general.specs.Loops.Journals.{chain_with, sends_at}
-use Rattle.gen_general.proofs.Participants.{role_sends_are}
+use Rattle.gen_general.proofs.Standing.{role_sends_are}
 use Rattle.gen_general.proofs.participants.Participant.first_sent.Goals as goal
 
 pub returns : goal.returns

@@ -1,6 +1,6 @@
 use Rattle.std.proofs.Common.{◌∙◌, ap, take}
 use Rattle.gen_general.specs.Loops.Journals.{chain_with, signs_at}
-use Rattle.gen_general.proofs.Participants.{role_signs_are}
+use Rattle.gen_general.proofs.Standing.{role_signs_are}
 use Rattle.gen_general.proofs.participants.Participant.first_signed.Goals as goal
 
 pub returns : goal.returns

@@ -1,7 +1,7 @@
 use Rattle.std.proofs.Common.{◌≡◌, ◌∙◌, subst, take}
 use Rattle.gen_general.specs.Participant.{sends}
 use Rattle.gen_general.proofs.IfOks.{if_ok}
-use Rattle.gen_general.proofs.Participants.{role_frames}
+use Rattle.gen_general.proofs.Standing.{role_frames}
 use Rattle.gen_general.proofs.participants.Participant.frame_for.Goals as goal
 
 pub returns : goal.returns

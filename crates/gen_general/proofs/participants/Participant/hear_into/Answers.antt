@@ -3,7 +3,7 @@ use Rattle.gen_chain.specs.Store.{Serves}
 use Rattle.gen_log.specs.declared.entries.Entry.{Entry}
 use Rattle.gen_general.specs.Loops.Journals.{Continues, recvs_at}
 use Rattle.gen_general.specs.Loops.Roles.{IsParticipant, ring_of}
-use Rattle.gen_general.proofs.Participants.{seat_heard}
+use Rattle.gen_general.proofs.Standing.{seat_heard}
 use Rattle.gen_general.proofs.JournalRecvs.{hear_entries}
 use Rattle.gen_general.proofs.participants.Participant.hear_into.Goals as goal
 

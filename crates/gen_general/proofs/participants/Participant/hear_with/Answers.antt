@@ -1,7 +1,7 @@
 use Rattle.std.proofs.Common.{◌∙◌, ap, subst, sym}
 use Rattle.gen_chain.specs.Store.{Serves}
 use Rattle.gen_general.specs.Participant.{Participant}
-use Rattle.gen_general.proofs.Participants.{seat_heard}
+use Rattle.gen_general.proofs.Standing.{seat_heard}
 use Rattle.gen_general.proofs.participants.Participant.hear_with.Goals as goal
 
 pub count_frame-requires : goal.count_frame-requires
