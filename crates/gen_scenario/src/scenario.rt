@@ -87,7 +87,7 @@ impl Model for PlainRun {
 
 impl PlainRun {
     /// Returns the run with these decisions.
-    pub(crate) fn new(decisions: Vec<Decision>) -> PlainRun
+    pub fn new(decisions: Vec<Decision>) -> PlainRun
         ensures { result ≡ decisions.items }
     {
         PlainRun { decisions }
