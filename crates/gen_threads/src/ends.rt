@@ -3,7 +3,7 @@ ghost use Rattle.std.specs.Prelude.{◌≡◌};
 
 use gen_edge::{PutPass, TakePass};
 use gen_log::SealedLog;
-use gen_tree::KeyRing;
+use gen_tree::{KeyRing, close_ring};
 use std::alloc::AllocError;
 use thiserror::Error;
 
@@ -43,13 +43,6 @@ pub struct GeneralEnd {
     pub puts: Vec<PutPass>,
     /// The passes by which he took.
     pub takes: Vec<TakePass>,
-}
-
-/// Closes a ring, if there is one.
-pub(crate) fn close_ring(ring: Option<KeyRing>) {
-    if let Some(ring) = ring {
-        ring.close();
-    }
 }
 
 impl GeneralEnd {

@@ -4,9 +4,9 @@ ghost use Rattle.gen_scenario.specs.Rings.{ring_at};
 ghost use Rattle.gen_threads.specs.Works.{AreParts, AreWorks};
 
 use crate::edges::{Edges, Passes};
-use crate::ends::{GeneralEnd, close_ring};
+use crate::ends::GeneralEnd;
 use crate::run_parts::RunPart;
-use gen_tree::KeyRing;
+use gen_tree::{KeyRing, close_ring};
 use gen_types::GeneralNo;
 use gen_scenario::Scenario;
 use std::alloc::{AllocError, Global};
@@ -78,18 +78,6 @@ pub(crate) fn make_parts(alloc: Global, scenario: &Scenario) -> Result<Vec<RunPa
     Ok(parts)
 }
 
-/// Opens a general's ring, if he has no script.
-fn ring_for(scenario: &Scenario, general: GeneralNo) -> Result<Option<KeyRing>, AllocError>
-    requires { general < scenario.now.net.generals }
-    ensures { IfOk result (λ ring. ring ≡ ring_at scenario.now general) }
-{
-    if scenario.has_script(general) {
-        return Ok(None);
-    }
-    let ring = scenario.ring(general)?;
-    Ok(Some(ring))
-}
-
 /// Makes the edges, each of which holds so many frames, and opens the rings of all who have no scripts.
 pub(crate) fn make_works(
     alloc: Global,
@@ -104,7 +92,7 @@ pub(crate) fn make_works(
     let mut works = Vec::with_capacity(alloc, all.len())?;
     let mut me = 0u8;
     'works: for passes in all {
-        let ring = ring_for(scenario, GeneralNo::at(me))?;
+        let ring = scenario.ring_if_loyal(GeneralNo::at(me))?;
         works.push_reserved(Work { ring, passes });
         me += 1;
     }
