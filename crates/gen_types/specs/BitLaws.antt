@@ -51,7 +51,8 @@ bits_below n (x ∷ xs) below =
 
 pub bits_of-members_of : (n : ℕ) → n < 2 ^ 16 → bits_of (members_of n) ≡ n
 bits_of-members_of n below =
-    same_from_bits_below 16 (bits_of (members_of n)) n (bits_below 16 (members_of n) (λ v h. (members_has n v h).0)) below (λ i low.
+    let small = bits_below 16 (members_of n) (λ v h. (members_has n v h).0) in
+    same_from_bits_below 16 (bits_of (members_of n)) n small below (λ i low.
     elim (cases_eq (bit_at n i) 1) [
       | inl set ↦ bits_in (members_of n) i (members_gives n i low set) ∙ sym set
       | inr clear ↦ let few = bit_at-lt n i in let zero : bit_at n i ≡ 0 = omega arith in bits_out (members_of n) i (λ h. clear (members_has n i h).1) ∙ sym zero
