@@ -3,7 +3,7 @@ use Rattle.std.proofs.Common.{◌≡◌, ℕ, ◌^◌, ◌<◌, ◌≤◌, List,
 use Rattle.std.specs.Int.{w16, to_be_bytes}
 use Rattle.std.proofs.lemmas.List.Elements.{All-contains}
 use Rattle.gen_types.specs.Bits.{members_of, bits_of}
-use Rattle.gen_types.specs.BitLaws.{bits_of-members_of, members_ascending}
+use Rattle.gen_types.specs.BitLaws.{bits_of-members_of, members_ascending, bits_below}
 use Rattle.gen_types.specs.Reading.{◌>>=◌, check}
 use Rattle.gen_types.specs.Bytes.{number_at}
 use Rattle.gen_types.proofs.Steps.{after, after_check, at_end}
@@ -15,7 +15,7 @@ use Rattle.gen_net.specs.FrontReading as marked
 use Rattle.gen_net.specs.Header.{IsHeader}
 use Rattle.gen_net.proofs.FrontLaws.{front_reads}
 use Rattle.gen_log.specs.Fields.{set_spelling}
-use Rattle.gen_log.proofs.Bits.{bits_below, members_back}
+use Rattle.gen_types.proofs.BitSteps.{members_back}
 use Rattle.gen_audit.specs.declared.bundle_fault.BundleFault.{BundleFault}
 use Rattle.gen_audit.specs.declared.bundle_fault.BundleFault.TheVariants as faults
 use Rattle.gen_audit.specs.BundleParts.{AreMembers}
@@ -45,7 +45,7 @@ faulty_again : (n : ℕ) → n ≤ 16 → (members rest : List ℕ) → AreMembe
 unfolding faulty_at
 faulty_again n few members rest is =
     let small : (v : ℕ) → Contains members v → v < 16 = λ v h. let lt = All-contains (λ w. w < n) members v is.below h in omega (arith, lt, few) in
-    let number = number_again faults.Truncated w16 (2 ^ 16) wide16 (bits_of members) rest (bits_below members small) in
+    let number = number_again faults.Truncated w16 (2 ^ 16) wide16 (bits_of members) rest (bits_below 16 members small) in
     let back = members_back members is.ascending small in
     let all = below_told n members is.below in
     rw (number, back, all) refl

@@ -1,7 +1,7 @@
 -- The parts of a bundle: what its tests say, and back.
-use Rattle.std.proofs.Common.{◌≡◌, ℕ, ◌<◌, ◌≤◌, ◌^◌, inl, inr, Bool, true, false, ◌&&◌, eqb, ltb, List, length, All, AllPairs, Ok, refl, ◌∙◌, arith}
+use Rattle.std.proofs.Common.{◌≡◌, ℕ, ◌<◌, ◌≤◌, ◌^◌, inl, inr, Bool, true, false, List, length, All, AllPairs, Ok, refl, arith}
 use Rattle.std.specs.Prelude.{nat_lt, nat_le}
-use Rattle.std.proofs.lemmas.Bool.{cases_lt, eqb-true, eq-eqb, ltb-true, lt-ltb, le-ltb, leb-true, le-leb}
+use Rattle.std.proofs.lemmas.Bool.{cases_lt, ltb-true, lt-ltb, leb-true, le-leb}
 use Rattle.std.proofs.lemmas.List.Elements.{All-contains, All-weaker}
 use Rattle.gen_types.specs.Reading.{◌>>=◌, check}
 use Rattle.gen_types.proofs.Lists.{All_of}
@@ -9,6 +9,7 @@ use Rattle.gen_types.proofs.Steps.{after_check}
 use Rattle.gen_net.specs.Edges.{goes_before}
 use Rattle.gen_net.specs.Header.{RunHeader, IsHeader}
 use Rattle.gen_net.specs.Network.{IsBefore}
+use Rattle.gen_net.proofs.PlacedEdges.{before_is, before_again, before_all}
 use Rattle.gen_log.specs.Fields.{AreBelow}
 use Rattle.gen_log.proofs.Holding.{two, all_hold, all_told}
 use Rattle.gen_log.specs.Writing.{LogBytes}
@@ -33,41 +34,13 @@ below_known n xs e = All_of (λ v. v < n) xs (λ v h. ltb-true v n (all_hold (λ
 pub below_told : (n : ℕ) (xs : List ℕ) → AreBelow n xs → are_below n xs ≡ true
 below_told n xs below = all_told (λ w. nat_lt w n) xs (λ v h. lt-ltb v n (All-contains (λ w. w < n) xs v below h))
 
--- ---- pairs
-
-before_known : (e f : ℕ × ℕ) → goes_before e f ≡ true → IsBefore e f
-before_known e f h = elim (cases_lt e.0 f.0) [
-  | inl lt ↦ inl lt
-  | inr le ↦
-      let past : ltb e.0 f.0 ≡ false = le-ltb _ _ le in
-      let same : (eqb e.0 f.0 && ltb e.1 f.1) ≡ true = rw past at h in
-      let both = two (eqb e.0 f.0) (ltb e.1 f.1) same in
-      inr (eqb-true _ _ both.0, ltb-true _ _ both.1)
-]
-
-before_told : (e f : ℕ × ℕ) → IsBefore e f → goes_before e f ≡ true
-before_told e f h = elim h [
-  | inl lt ↦ let l : ltb e.0 f.0 ≡ true = lt-ltb _ _ lt in rw l refl
-  | inr same ↦
-      let past : ltb e.0 f.0 ≡ false = le-ltb _ _ (omega (arith, same.0)) in
-      let here : eqb e.0 f.0 ≡ true = eq-eqb _ _ same.0 in
-      let l : ltb e.1 f.1 ≡ true = lt-ltb _ _ same.1 in
-      rw (past, here, l) refl
-]
-
-before_then : (e f g : ℕ × ℕ) → IsBefore e f → IsBefore f g → IsBefore e g
-before_then e f g h k = elim h [
-  | inl l ↦ elim k [ inl m ↦ inl (omega arith) | inr m ↦ inl (omega (arith, m.0)) ]
-  | inr l ↦ elim k [ inl m ↦ inl (omega (arith, l.0)) | inr m ↦ inr (l.0 ∙ m.0, omega (arith, l.1, m.1)) ]
-]
-
 -- ---- walks
 
 pub walk_known : (n : ℕ) (before : ℕ × ℕ) (walk : List ℕ) → is_walk_length (length walk) ≡ true → AreBelow n walk → may_follow before walk ≡ true → IsListedWalk n walk × IsBefore before (ends_of walk)
 walk_known n before walk size below follows =
     let s = two (nat_le fewest_in_walk (length walk)) (nat_le (length walk) most_in_walk) size in
     let f = two (nat_lt (ends_of walk).0 (ends_of walk).1) (goes_before before (ends_of walk)) follows in
-    (record { some = leb-true _ _ s.0; few = leb-true _ _ s.1; below = below; up = ltb-true _ _ f.0 }, before_known before (ends_of walk) f.1)
+    (record { some = leb-true _ _ s.0; few = leb-true _ _ s.1; below = below; up = ltb-true _ _ f.0 }, before_is before (ends_of walk) f.1)
 
 pub length_told : (n : ℕ) (walk : List ℕ) → IsListedWalk n walk → is_walk_length (length walk) ≡ true
 length_told n walk is =
@@ -78,7 +51,7 @@ length_told n walk is =
 pub follow_told : (n : ℕ) (before : ℕ × ℕ) (walk : List ℕ) → IsListedWalk n walk → IsBefore before (ends_of walk) → may_follow before walk ≡ true
 follow_told n before walk is behind =
     let a : nat_lt (ends_of walk).0 (ends_of walk).1 ≡ true = lt-ltb _ _ is.up in
-    let b = before_told before (ends_of walk) behind in
+    let b = before_again before (ends_of walk) behind in
     rw (a, b) refl
 
 abbrev pub WalksStand : ℕ → ℕ × ℕ → List (List ℕ) → Type 0
@@ -88,7 +61,7 @@ pub walks_known : (n : ℕ) (walks : List (List ℕ)) → length walks ≤ most_
 walks_known n walks few stand = record {
   few = few;
   each = stand_all (IsListedWalk n) IsBefore ends_of no_ends walks stand;
-  ascending = stand_ascends (IsListedWalk n) IsBefore ends_of before_then no_ends walks stand;
+  ascending = stand_ascends (IsListedWalk n) IsBefore ends_of before_all no_ends walks stand;
 }
 
 first_ends : (e : ℕ × ℕ) → e.0 < e.1 → IsBefore no_ends e

@@ -23,12 +23,12 @@ use Rattle.gen_log.specs.LogReading.{log_of}
 use Rattle.gen_log.specs.Links.{HeadVerifies}
 use Rattle.gen_log.proofs.LogLaws.{log_found}
 use Rattle.gen_log.proofs.NextEntries.{are_bytes}
-use Rattle.gen_log.specs.Verifying.{SaysItIsOf, EntryVerifies, LogVerifies}
+use Rattle.gen_log.specs.Verifying.{starts_as, says_it_is_of, SaysItIsOf, EntryVerifies, LogVerifies}
 use Rattle.gen_audit.specs.Explained.{NothingFound}
 use Rattle.gen_log.specs.Writing.{LogBytes}
 use Rattle.gen_match.specs.declared.finding.Finding.{Finding}
 use Rattle.gen_match.specs.declared.finding.Finding.TheVariants.{Missing, Several, Unreadable, Foreign, Unsigned, Unsealed, Departs, Unmatched, Underivable, Unjoined, Nobody}
-use Rattle.gen_audit.specs.Bundle.{LogBundle, IsBundle, exhibits_of, starts_as, says_it_is_of, counted, sole_log, logs_of}
+use Rattle.gen_audit.specs.Bundle.{LogBundle, IsBundle, exhibits_of, counted, sole_log, logs_of}
 use Rattle.gen_audit.specs.Findings.{Shows, ShowsOwn, IsFinding}
 use Rattle.gen_audit.specs.Supported.{HasSoleLog, IsSupported, IsClean, CleanIsSupported, SupportedIsClean, CleanAgrees, AgreeOn}
 use Rattle.gen_audit.proofs.Claims.{nothing_found_explains, explained_finds_nothing}

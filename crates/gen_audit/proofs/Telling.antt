@@ -9,13 +9,13 @@ use Rattle.gen_net.specs.Header.{RunHeader}
 use Rattle.gen_log.specs.declared.fault.LogFault.{LogFault}
 use Rattle.gen_log.specs.Log.{RunLog}
 use Rattle.gen_log.specs.LogReading.{log_of}
-use Rattle.gen_log.specs.Verifying.{SaysItIsOf}
+use Rattle.gen_log.specs.Verifying.{says_it_is_of, SaysItIsOf}
 use Rattle.gen_local.specs.declared.reading.Reading.{Reading}
 use Rattle.gen_local.specs.declared.reading.Reading.TheVariants.{Unreadable, Foreign, Own}
 use Rattle.gen_local.specs.Erased.{erased}
 use Rattle.gen_local.specs.Report.{Report, IsReading, IsReport, AreReportsOf}
 use Rattle.gen_match.specs.Reports.{entries_told, sole_told, reports_of}
-use Rattle.gen_audit.specs.Bundle.{LogBundle, exhibits_of, says_it_is_of, counted, sole_log}
+use Rattle.gen_audit.specs.Bundle.{LogBundle, exhibits_of, counted, sole_log}
 use Rattle.gen_audit.specs.Telling.{AreReports, ReportsTellLogs}
 use Rattle.gen_audit.proofs.Supporting.{own_of, own_is}
 

@@ -1,15 +1,12 @@
 -- Bundles of logs, and which log of a general counts.
-use Rattle.std.specs.Prelude.{ℕ, ◌==◌, ◌&&◌, Bool, false, if◌then◌else◌, List, [], ◌∷◌, filter, Contains, Option, Some, None, Result, Ok, Err}
-use Rattle.std.specs.Bool.{nat_eq}
-use Rattle.std.specs.Cmp.Lexicographic.{pointwise}
-use Rattle.gen_net.specs.Header.{RunHeader, IsHeader, run_id_of}
+use Rattle.std.specs.Prelude.{ℕ, ◌==◌, if◌then◌else◌, List, [], ◌∷◌, filter, Contains, Option, Some, None, Result, Ok, Err}
+use Rattle.gen_net.specs.Header.{RunHeader, IsHeader}
 use Rattle.gen_net.specs.Log.{LogEntry}
-use Rattle.gen_log.specs.declared.entries.Entry.{Entry}
-use Rattle.gen_log.specs.declared.entries.Entry.TheVariants.{Start}
 use Rattle.gen_log.specs.declared.fault.LogFault.{LogFault}
 use Rattle.gen_log.specs.Fields.{AreBelow}
 use Rattle.gen_log.specs.Log.{RunLog}
 use Rattle.gen_log.specs.LogReading.{log_of}
+use Rattle.gen_log.specs.Verifying.{says_it_is_of}
 use Rattle.gen_local.specs.Erased.{erased}
 use Rattle.gen_log.specs.Writing.{LogBytes}
 use Rattle.gen_match.specs.Matching.{Logs}
@@ -34,15 +31,7 @@ pub record IsBundle (b : LogBundle) : Type 0 where
 abbrev pub exhibits_of : List LogBytes → ℕ → List LogBytes
 exhibits_of exhibits g = filter (λ x. x.general == g) exhibits
 
--- whether a log says it is the general's of this run: it has the run id, and its first entry is a START that names him
-abbrev pub starts_as : ℕ → List Entry → Bool
-starts_as g (Start general own ∷ more) = general == g
-starts_as g _ = false
-
-abbrev pub says_it_is_of : RunHeader → ℕ → RunLog → Bool
-says_it_is_of h g log = pointwise nat_eq log.run_id (run_id_of h) && starts_as g log.entries
-
--- the entries of what was read, if it is such a log
+-- the entries of what was read, if it is a log that says it is the general's of this run
 abbrev pub counted : RunHeader → ℕ → Result RunLog LogFault → Option (List LogEntry)
 counted h g (Err fault) = None
 counted h g (Ok log) = if says_it_is_of h g log then Some (erased log.entries) else None

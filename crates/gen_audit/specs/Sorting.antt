@@ -2,14 +2,9 @@
 use Rattle.std.specs.Prelude.{ℕ, slice_index}
 use Rattle.std.specs.declared.cmp.Ordering.{Ordering}
 use Rattle.std.specs.Ordering.{nat_cmp, ordering_then}
-use Rattle.gen_log.specs.declared.fault.LogFault.{LogFault}
 use Rattle.gen_match.specs.declared.finding.Finding.{Finding}
-use Rattle.gen_match.specs.Findings.{finding_place, log_fault_numbers}
+use Rattle.gen_match.specs.Findings.{finding_place}
 use Rattle.gen_audit.specs.declared.sorting_places.SortingPlace.{SortingPlace}
-
--- the two numbers of a log's fault, the second 0 where it has one
-abbrev pub fault_numbers : LogFault → ℕ × ℕ
-fault_numbers fault = (slice_index (log_fault_numbers fault) 0, slice_index (log_fault_numbers fault) 1)
 
 -- the numbers of a finding's place, 0 for those that it hasn't
 abbrev pub sorting_place : Finding → SortingPlace

@@ -13,8 +13,8 @@ use Rattle.gen_audit.specs.declared.verdicts.Verdict.{Verdict}
 use Rattle.gen_audit.specs.Verdict.{IsVerdict}
 use Rattle.gen_audit.specs.Headline.{IsYes}
 
--- The bundle with the sealed logs of all, in the order of generals, a second log after the first. The generals who
--- have scripts are held for faulty.
+-- The bundle with the sealed logs of all, in the order of generals, a second log after the first. The
+-- generals who have scripts are held for faulty.
 abbrev pub bundle_of : Scenario → List (List ℕ) → LogBundle
 bundle_of s walks =
     record { header = header_of s; faulty = scripted s.scripts; walks = walks; exhibits = logs_of_all s }

@@ -75,10 +75,10 @@ pub fn reports_tell_logs()
     ensures { ReportsTellLogs }
 {}
 
-/// The bundle of a scenario's own run, in which the generals who have scripts are held for faulty, supports a yes
-/// (`supported`), and its verdict is one (`accepted`): where no script has a raw line, somebody has no script, and the
-/// walks bound the diameter of those who have none. It shows the sealed logs of the run, whoever made them: `run_world`,
-/// or a machine by any order of acts. These are the bytes of all logs (`shown`).
+/// The bundle of a scenario's own run, in which the generals who have scripts are held for faulty, supports a
+/// yes (`supported`), and its verdict is one (`accepted`): where no script has a raw line, somebody has no
+/// script, and the walks bound the diameter of those who have none. It shows the sealed logs of the run, whoever
+/// made them: `run_world`, or a machine by any order of acts. These are the bytes of all logs (`shown`).
 pub fn own_runs_are_accepted()
     ensures supported { WorldIsSupported }
     ensures accepted { WorldIsAccepted }

@@ -3,42 +3,13 @@ ghost use Rattle.std.specs.Prelude.{◌≡◌, ◌≢◌, ◌++◌, ◌∷◌, [
 ghost use Rattle.std.specs.Bool.{OnTrue, OnFalse};
 ghost use Rattle.std.specs.List.Sorted.{IsSortedByKey};
 ghost use Rattle.gen_match.specs.declared.finding.Finding.{Finding};
-ghost use Rattle.gen_match.specs.Findings.{AreFindings, chain_fault_number};
-ghost use Rattle.gen_audit.specs.Sorting.{sorting_place, place_cmp, fault_numbers};
+ghost use Rattle.gen_match.specs.Findings.{AreFindings};
+ghost use Rattle.gen_audit.specs.Sorting.{sorting_place, place_cmp};
 
 use crate::sorting_places::SortingPlace;
-use gen_chain::ChainFault;
-use gen_log::LogFault;
 use gen_match::Finding;
 use gen_types::GeneralNo;
 use std::alloc::{AllocError, Global};
-
-/// Returns the number of a chain's fault.
-fn number_of(fault: ChainFault) -> u8
-    ensures { result ≡ chain_fault_number fault }
-{
-    match fault {
-        ChainFault::Truncated => 1,
-        ChainFault::OrderRange => 2,
-        ChainFault::SignerCount => 3,
-        ChainFault::BadSigner => 4,
-        ChainFault::NotFromCommander => 5,
-    }
-}
-
-/// Returns the numbers of a log's fault.
-fn numbers_of(fault: LogFault) -> (u64, u8)
-    ensures { result ≡ fault_numbers fault }
-{
-    match fault {
-        LogFault::Truncated => (1, 0),
-        LogFault::UnknownKind => (2, 0),
-        LogFault::OutOfRange => (3, 0),
-        LogFault::OutOfPlace => (4, 0),
-        LogFault::Chain(inner) => (5, number_of(inner)),
-        LogFault::LeftOver => (6, 0),
-    }
-}
 
 /// Returns the place of a finding of one general.
 fn place_of_one(number: u8, general: GeneralNo, detail: u64, round: u8) -> SortingPlace
@@ -86,8 +57,8 @@ fn place_of(finding: &Finding) -> SortingPlace
         Finding::Missing { general } => place_of_one(1, general, 0, 0),
         Finding::Several { general } => place_of_one(2, general, 0, 0),
         Finding::Unreadable { general, fault } => {
-            let (log_number, chain_number) = numbers_of(fault);
-            place_of_one(3, general, log_number, chain_number)
+            let (log_number, chain_number) = fault.numbers();
+            place_of_one(3, general, u64::from(log_number), chain_number)
         }
         Finding::Foreign { general } => place_of_one(4, general, 0, 0),
         Finding::Unsigned { general, entry } => place_of_one(5, general, entry as u64, 0),

@@ -1,7 +1,7 @@
 -- Signers one by one, as a store checks them: what it keeps of those who were looked at.
 use Rattle.std.proofs.Common.{arith, ◌≡◌, ℕ, zero, suc, Bool, inl, inr, List, [], ◌∷◌, ◌++◌, Option, Some, None, refl, sym, ap, subst, ◌∙◌, append_assoc, slice_index_or, take, drop}
 use Rattle.std.specs.Prelude.{◌⊎◌, ◌≤◌, ◌<◌, ◌+◌, ◌-◌, length, IsSome, is_some}
-use Rattle.std.proofs.lemmas.List.{append-nil, map-append, length-take-le, take-append-drop}
+use Rattle.std.proofs.lemmas.List.{map-append, length-take-le, take-append-drop}
 use Rattle.gen_types.proofs.Lists.{not_nil, split_longer}
 use Rattle.gen_net.specs.Header.{RunHeader}
 use Rattle.gen_chain.specs.declared.chains.Signer.{Signer}
@@ -220,14 +220,6 @@ module _ (h : RunHeader) (order : ℕ) (longer : List ℕ) (store : Store) (s : 
               | inl i ↦ kept_next a i.0 t i.1
               | inr j ↦ absurd (fails_behind a j.0 (j.1 ∙ append_assoc so_far.front (s ∷ []) j.0) signed)
             ]
-
-pub stored_last : (h : RunHeader) (order : ℕ) (signers rest : List Signer) (path : List ℕ) (ahead : ℕ) (old store : Store) → rest ≡ [] → StoredSoFar h order signers rest path ahead old store → AreSigned h order signers × KeepsSigners h store order signers
-stored_last h order signers rest path ahead old store e so_far =
-    let whole : signers ≡ so_far.front = so_far.parts ∙ ap (λ (r : List Signer). so_far.front ++ r) e ∙ append-nil so_far.front in
-    (subst (AreSigned h order) (sym whole) so_far.signed, λ a b s split signed. so_far.kept a b s (sym whole ∙ split))
-
-pub stored_runs : (h : RunHeader) (order : ℕ) (signers rest : List Signer) (path : List ℕ) (ahead : ℕ) (old store : Store) → StoredSoFar h order signers rest path ahead old store → store.runs ≤ old.runs + length signers
-stored_runs h order signers rest path ahead old store so_far = omega (arith, so_far.runs, next_few store order ahead path rest so_far.next)
 
 -- The store after it has looked ahead, which changes nothing where it knows the next signature.
 module _ (h : RunHeader) (order : ℕ) (signers rest others : List Signer) (path : List ℕ) (ahead : ℕ) (old store : Store) (s : Signer) (so_far : StoredSoFar h order signers rest path ahead old store) (e : rest ≡ s ∷ others)

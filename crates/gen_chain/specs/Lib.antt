@@ -1,5 +1,6 @@
 pub mod Chain
 pub mod ChainReading
+pub mod FaultNumber
 pub mod Keeping
 pub mod Leaves
 pub mod Making

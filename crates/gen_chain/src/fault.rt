@@ -1,4 +1,7 @@
 //! Why bytes are no chain.
+ghost use Rattle.std.specs.Prelude.{◌≡◌};
+ghost use Rattle.gen_chain.specs.FaultNumber.{chain_fault_number};
+
 use thiserror::Error;
 
 /// Which rule the bytes of a chain break. The texts are `C1` to `C5`.
@@ -22,4 +25,19 @@ pub enum ChainFault {
     /// The first signer is not general 0, the commander.
     #[error("C5")]
     NotFromCommander,
+}
+
+impl ChainFault {
+    /// Returns the number of the rule, 1 to 5.
+    pub fn number(self) -> u8
+        ensures { result ≡ chain_fault_number self }
+    {
+        match self {
+            ChainFault::Truncated => 1,
+            ChainFault::OrderRange => 2,
+            ChainFault::SignerCount => 3,
+            ChainFault::BadSigner => 4,
+            ChainFault::NotFromCommander => 5,
+        }
+    }
 }

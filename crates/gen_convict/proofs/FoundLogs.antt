@@ -20,7 +20,7 @@ use Rattle.gen_log.specs.Fields.{AreBelow}
 use Rattle.gen_log.specs.Links.{head_over, HeadVerifies}
 use Rattle.gen_log.specs.Log.{RunLog}
 use Rattle.gen_log.specs.LogReading.{log_of}
-use Rattle.gen_log.specs.Verifying.{SaysItIsOf}
+use Rattle.gen_log.specs.Verifying.{starts_as, says_it_is_of, SaysItIsOf}
 use Rattle.gen_local.specs.declared.reading.Reading.{Reading}
 use Rattle.gen_local.specs.declared.reading.Reading.TheVariants.{Unreadable, Foreign, Own}
 use Rattle.gen_local.specs.declared.texts.SignedText.{SignedText}
@@ -29,7 +29,7 @@ use Rattle.gen_local.specs.FoundLog.{FoundLog, IsFound}
 use Rattle.gen_local.specs.Report.{Report, IsReading}
 use Rattle.gen_log.specs.Writing.{LogBytes}
 use Rattle.gen_convict.specs.Convictions.{shown_in}
-use Rattle.gen_convict.specs.Exhibits.{HeldLog, starts_as, says_it_is_of, held, logs_in, log_texts, texts_in, is_by, texts_of, is_his, logs_of}
+use Rattle.gen_convict.specs.Exhibits.{HeldLog, held, logs_in, log_texts, texts_in, is_by, texts_of, is_his, logs_of}
 use Rattle.gen_convict.specs.Finding.{read_texts, his_texts, is_unsaid}
 use Rattle.gen_convict.specs.FindingClaims.{unsaid_in, lacks, departure_in, departs}
 use Rattle.gen_convict.specs.First.{IsMissing, LacksSome, DepartsSomewhere}

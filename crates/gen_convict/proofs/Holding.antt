@@ -22,7 +22,7 @@ use Rattle.gen_log.specs.Fields.{AreBelow}
 use Rattle.gen_log.specs.Links.{HeadVerifies}
 use Rattle.gen_log.specs.Log.{RunLog, IsLog, BeginsWithStartOf, log_spelling}
 use Rattle.gen_log.specs.LogReading.{log_of}
-use Rattle.gen_log.specs.Verifying.{SaysItIsOf}
+use Rattle.gen_log.specs.Verifying.{starts_as, says_it_is_of, SaysItIsOf}
 use Rattle.gen_log.proofs.LogLaws.{log_found}
 use Rattle.gen_log.proofs.NextEntries.{are_bytes}
 use Rattle.gen_types.specs.Spelled.{Spells}
@@ -35,7 +35,7 @@ use Rattle.gen_local.specs.SignedTexts as signed
 use Rattle.gen_local.specs.SignedTexts.{stated, texts_behind, text_under, head_in, is_right, text_verifies}
 use Rattle.gen_convict.specs.Accused.{IsTextOf, HasSignedText, AreDifferent, command}
 use Rattle.gen_convict.specs.Contradictions.{IsSealedLogOf, Claim, TwoTexts, TwoOrders, MissingFromLog, DepartingLog, IsContradiction}
-use Rattle.gen_convict.specs.Exhibits.{AllBytes, HeldLog, starts_as, says_it_is_of, held, logs_in, log_texts, texts_in, is_by, texts_of, is_his, logs_of}
+use Rattle.gen_convict.specs.Exhibits.{AllBytes, HeldLog, held, logs_in, log_texts, texts_in, is_by, texts_of, is_his, logs_of}
 use Rattle.gen_convict.specs.First.{AreOrders, IsMissing, LacksSome, DepartsSomewhere, IsFirstOfKind}
 use Rattle.gen_convict.specs.Firsts.{IsFirst, IsFirstPair}
 use Rattle.gen_convict.specs.FirstLaws.{TextsVerify, FirstHolds}

@@ -1,33 +1,13 @@
 -- Whether a log has a SIGN of a statement, as a test.
-use Rattle.std.proofs.Common.{◌≡◌, ◌↔◌, ◌⊎◌, inl, inr, ℕ, Bool, true, false, ◌||◌, IsTrue, eqb, List, [], ◌∷◌, Contains, refl, sym, ap, subst, ◌∙◌}
-use Rattle.std.specs.Bool.{nat_eq}
+use Rattle.std.proofs.Common.{◌≡◌, ◌↔◌, ◌⊎◌, inl, inr, ℕ, Bool, true, false, ◌||◌, IsTrue, List, [], ◌∷◌, Contains, refl, sym, ap, subst, ◌∙◌}
 use Rattle.std.specs.List.{list_any}
-use Rattle.std.specs.Cmp.Lexicographic.{pointwise, same_text}
-use Rattle.std.proofs.lemmas.Bool.{eqb-true, eq-eqb}
 use Rattle.gen_types.proofs.Lists.{Contains_here, Contains_there, Contains_cases, Contains_nil}
-use Rattle.gen_chain.proofs.TestedChains.{both, and_so, same_list}
 use Rattle.gen_chain.specs.declared.statements.Statement.{Statement}
 use Rattle.gen_log.specs.declared.entries.Entry.{Entry}
-use Rattle.gen_log.specs.declared.entries.Entry.TheVariants.{Start, Sign, Send, Recv, Decide}
+use Rattle.gen_log.specs.declared.entries.Entry.TheVariants.{Sign}
 use Rattle.gen_log.specs.Log.{RunLog}
 use Rattle.gen_log.specs.Signing.{HasSign, is_sign_of}
-
-abbrev IsSignOf : Statement → Entry → Type 0
-IsSignOf s e = (signature : List ℕ) × (e ≡ Sign s.order s.path signature)
-
-is_sign : (s : Statement) (e : Entry) → is_sign_of s e ≡ true → IsSignOf s e
-is_sign s (Start general own) t = absurd cc
-is_sign s (Sign order path signature) t =
-    let p = both (eqb order s.order) (pointwise nat_eq path s.path) t in
-    let same : order ≡ s.order = eqb-true order s.order p.0 in
-    let path_same : path ≡ s.path = same_text path s.path (sym p.1) in
-    (signature, ap (λ (v : ℕ). Sign v path signature) same ∙ ap (λ (q : List ℕ). Sign s.order q signature) path_same)
-is_sign s (Send to order path) t = absurd cc
-is_sign s (Recv from chain) t = absurd cc
-is_sign s (Decide orders order) t = absurd cc
-
-sign_is : (s : Statement) (signature : List ℕ) → is_sign_of s (Sign s.order s.path signature) ≡ true
-sign_is s signature = and_so (eqb s.order s.order) (pointwise nat_eq s.path s.path) (eq-eqb s.order s.order refl) (same_list s.path)
+use Rattle.gen_log.proofs.SignedStatements.{is_sign, sign_is}
 
 either : (a b : Bool) → (a || b) ≡ true → (a ≡ true) ⊎ (b ≡ true)
 either true b e = inl refl

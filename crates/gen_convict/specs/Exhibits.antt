@@ -1,15 +1,12 @@
 -- The logs and the signed texts that exhibits hold, in their one order.
-use Rattle.std.specs.Prelude.{ℕ, Bool, false, ◌&&◌, ◌==◌, cond, List, [], ◌∷◌, filter, Result, Ok, Err, Contains}
-use Rattle.std.specs.Bool.{nat_eq}
+use Rattle.std.specs.Prelude.{ℕ, Bool, ◌==◌, cond, List, [], ◌∷◌, filter, Result, Ok, Err, Contains}
 use Rattle.std.specs.List.{flat_map}
-use Rattle.std.specs.Cmp.Lexicographic.{pointwise}
-use Rattle.gen_net.specs.Header.{RunHeader, run_id_of}
-use Rattle.gen_log.specs.declared.entries.Entry.{Entry}
-use Rattle.gen_log.specs.declared.entries.Entry.TheVariants.{Start}
+use Rattle.gen_net.specs.Header.{RunHeader}
 use Rattle.gen_log.specs.declared.fault.LogFault.{LogFault}
 use Rattle.gen_log.specs.Fields.{AreBelow}
 use Rattle.gen_log.specs.Log.{RunLog}
 use Rattle.gen_log.specs.LogReading.{log_of}
+use Rattle.gen_log.specs.Verifying.{says_it_is_of}
 use Rattle.gen_local.specs.declared.texts.SignedText.{SignedText}
 use Rattle.gen_log.specs.Writing.{LogBytes}
 use Rattle.gen_local.specs.SignedTexts as signed
@@ -23,16 +20,6 @@ pub record HeldLog : Type 0 where
   pub general : ℕ
   pub bytes : List ℕ
   pub log : RunLog
-
--- the first entry is START of this general
-abbrev pub starts_as : ℕ → List Entry → Bool
-starts_as general (Start g own ∷ more) = g == general
-starts_as general _ = false
-
--- the log says that it is this general's of this run
-abbrev pub says_it_is_of : RunHeader → ℕ → RunLog → Bool
-says_it_is_of h general log =
-    pointwise nat_eq log.run_id (run_id_of h) && starts_as general log.entries
 
 -- what an exhibit's bytes read to: the log, where it says that it is the exhibit's general's of this run, and else nothing
 abbrev pub held : RunHeader → LogBytes → Result RunLog LogFault → List HeldLog

@@ -7,13 +7,10 @@ ghost use Rattle.gen_log.specs.Links.{link_behind};
 ghost use Rattle.gen_convict.specs.Refuting.{AreColliding, link_text};
 
 use crate::laws::links_tell;
-use gen_log::{Entry, entry_bytes};
+use gen_log::{Entry, LINK_PREFIX, entry_bytes};
 use gen_net::Header;
 use sha2::{Digest, Sha256};
 use std::alloc::{AllocError, Global};
-
-/// The byte before each link but the first, where it is hashed.
-const LINK_PREFIX: u8 = 0x21;
 
 /// How far a walk over the entries of a log has come.
 #[derive(Drop)]

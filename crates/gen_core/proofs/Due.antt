@@ -88,9 +88,6 @@ more_rows net me adds n most old now new small so_far row x = (
 
 -- ---- order
 
-pub goes_up_to_none : GoesUpTo [] 0 0
-goes_up_to_none = record { in_order = λ i j d l m. absurd (omega arith); before = λ k d l. absurd (omega arith) }
-
 pub one_order_more : (out : List Outgoing) (to n : ℕ) → GoesUpTo out to n → GoesUpTo out to (n + 1)
 one_order_more out to n h = record {
   in_order = h.in_order;

@@ -5,7 +5,6 @@ pub mod Decisions
 pub mod Due
 pub mod KeptLogs
 pub mod OrderedLists
-pub mod OwnRun
 pub mod PickedPaths
 pub mod Rounds
 pub mod Seeing

@@ -176,15 +176,3 @@ module _ (net : Network) (faulty : List ℕ) (run : Run) (own : ℕ) (picks : �
           sym s.was_order ∙ every_order_own loyal bound s.was s.was_sent (omega (arith, s.next, s.was_length))
     ]
   ]
-
--- signed by a follower: in a run for a set of faulty generals, a lieutenant of the rest who stands in a path added the order in
--- the round of his place
-pub signed_by_follower : (net : Network) (faulty : List ℕ) (run : Run) (conducts : ℕ → Conduct) → IsSignedRun net faulty run conducts → (t : Message) → Contains run t → (front back : List ℕ) (y : ℕ) → t.path ≡ front ++ y ∷ back → IsLoyal net faulty y → y ≢ 0 → Adds run y (length front) t.order
-signed_by_follower net faulty run conducts signed t h front back y e loyal lieutenant =
-    (signer_added net faulty run (own_of (conducts 0)) (λ g. pick_of (conducts g)) (rest_follows net faulty run conducts signed) (length t.path) t h (omega arith) front back y e loyal lieutenant).added
-
--- relayed to a follower: what one lieutenant of the rest added before the last round, a neighbour of his in the rest has added
--- one round later
-pub relayed_to_follower : (net : Network) (faulty : List ℕ) (run : Run) (conducts : ℕ → Conduct) → IsSignedRun net faulty run conducts → (x y l v : ℕ) → IsLoyal net faulty x → x ≢ 0 → IsLoyal net faulty y → y ≢ 0 → AreNeighbours net x y → l < rounds net → Adds run x l v → (k : ℕ) × (k ≤ l + 1) × Adds run y k v
-relayed_to_follower net faulty run conducts signed =
-    neighbour_adds net faulty run (own_of (conducts 0)) (λ g. pick_of (conducts g)) (rest_follows net faulty run conducts signed)

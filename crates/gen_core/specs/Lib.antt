@@ -3,4 +3,3 @@ pub mod Loops
 pub mod Paths
 pub mod Seeing
 pub mod Sending
-pub mod Shown

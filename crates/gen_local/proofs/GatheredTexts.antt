@@ -1,6 +1,6 @@
 -- Texts that are gathered one by one, signer by signer and entry by entry.
-use Rattle.std.proofs.Common.{◌≡◌, ◌≢◌, ◌≤◌, ◌+◌, ℕ, Bool, true, false, ◌&&◌, not, cond, List, [], ◌∷◌, ◌++◌, length, AllPairs, Option, Some, None, filter, refl, sym, ap, subst, ◌∙◌, append_assoc, arith}
-use Rattle.std.specs.List.{list_all, flat_map, position_from}
+use Rattle.std.proofs.Common.{◌≡◌, ◌+◌, ℕ, Bool, true, false, ◌&&◌, List, [], ◌∷◌, ◌++◌, length, Option, refl, sym, ap, ◌∙◌, append_assoc, arith}
+use Rattle.std.specs.List.{list_all, flat_map}
 use Rattle.std.specs.Option.{option_or}
 use Rattle.std.proofs.lemmas.List.{append-nil}
 use Rattle.std.proofs.lemmas.List.Elements.{filter-append}
@@ -10,7 +10,7 @@ use Rattle.gen_chain.specs.Chain.{signed_path}
 use Rattle.gen_chain.proofs.DistinctPaths.{next_path}
 use Rattle.gen_log.specs.declared.entries.Entry.{Entry}
 use Rattle.gen_local.specs.declared.texts.SignedText.{SignedText}
-use Rattle.gen_local.specs.FoundLog.{is_signed, first_unsigned}
+use Rattle.gen_local.specs.FoundLog.{first_unsigned}
 use Rattle.gen_local.specs.SignedTexts.{stated, texts_behind, texts_in, text_verifies, verified}
 
 -- ---- signer by signer
@@ -20,9 +20,6 @@ pub record SignersSoFar (h : RunHeader) (order : ℕ) (signers rest : List Signe
   pub joined : path ++ signed_path rest ≡ signed_path signers
   pub gathered : texts ++ verified h (texts_behind order path rest) ≡ old ++ verified h (texts_behind order [] signers)
   pub told : (all && list_all (text_verifies h) (texts_behind order path rest)) ≡ list_all (text_verifies h) (texts_behind order [] signers)
-
-pub no_signer : (h : RunHeader) (order : ℕ) (signers : List Signer) (old : List SignedText) → SignersSoFar h order signers signers [] old old true
-no_signer h order signers old = record { joined = refl; gathered = refl; told = refl }
 
 and_assoc : (a b c : Bool) → ((a && b) && c) ≡ (a && (b && c))
 and_assoc true b c = refl
@@ -66,37 +63,3 @@ pub record EntriesSoFar (h : RunHeader) (entries rest : List Entry) (place : ℕ
   pub count : place + length rest ≡ length entries
   pub gathered : texts ++ verified h (flat_map texts_in rest) ≡ old ++ verified h (flat_map texts_in entries)
   pub told : option_or first (first_unsigned h place rest) ≡ first_unsigned h 0 entries
-
-pub no_entry : (h : RunHeader) (entries : List Entry) (old : List SignedText) → EntriesSoFar h entries entries 0 old old None
-no_entry h entries old = record { count = omega arith; gathered = refl; told = refl }
-
-or_first : (first : Option ℕ) (fails : Bool) (place : ℕ) (rest : Option ℕ) → option_or (option_or first (cond fails (Some place) None)) rest ≡ option_or first (cond fails (Some place) rest)
-or_first (Some k) fails place rest = refl
-or_first None true place rest = refl
-or_first None false place rest = refl
-
-pub one_entry_more : (h : RunHeader) (entries rest others : List Entry) (place : ℕ) (old texts new : List SignedText) (first : Option ℕ) (signed : Bool) (e : Entry) → rest ≡ e ∷ others
-    → signed ≡ is_signed h e → new ≡ texts ++ verified h (texts_in e) → EntriesSoFar h entries rest place old texts first
-    → EntriesSoFar h entries others (place + 1) old new (option_or first (cond (not signed) (Some place) None))
-one_entry_more h entries rest others place old texts new first signed e split is_told gathered so_far =
-    let texts_now : texts ++ verified h (texts_in e ++ flat_map texts_in others) ≡ old ++ verified h (flat_map texts_in entries) = rw split at so_far.gathered in
-    let first_now : option_or first (first_unsigned h place (e ∷ others)) ≡ first_unsigned h 0 entries = rw split at so_far.told in
-    record {
-      count = let n : place + length (e ∷ others) ≡ length entries = rw split at so_far.count in omega (arith, n);
-      gathered = ap (λ (x : List SignedText). x ++ verified h (flat_map texts_in others)) gathered ∙ append_assoc texts (verified h (texts_in e)) (verified h (flat_map texts_in others)) ∙ ap (λ (x : List SignedText). texts ++ x) (sym (filter-append (text_verifies h) (texts_in e) (flat_map texts_in others))) ∙ texts_now;
-      told = or_first first (not signed) place (first_unsigned h (place + 1) others) ∙ ap (λ (b : Bool). option_or first (cond (not b) (Some place) (first_unsigned h (place + 1) others))) is_told ∙ first_now;
-    }
-
-or_none : (first : Option ℕ) → option_or first None ≡ first
-or_none (Some k) = refl
-or_none None = refl
-
-pub first_is_told : (h : RunHeader) (entries rest : List Entry) (place : ℕ) (old texts : List SignedText) (first : Option ℕ) → rest ≡ [] → EntriesSoFar h entries rest place old texts first → first ≡ first_unsigned h 0 entries
-first_is_told h entries rest place old texts first e so_far =
-    let last : option_or first None ≡ first_unsigned h 0 entries = rw e at so_far.told in
-    sym (or_none first) ∙ last
-
-pub all_entries_gathered : (h : RunHeader) (entries rest : List Entry) (place : ℕ) (old texts : List SignedText) (first : Option ℕ) → rest ≡ [] → EntriesSoFar h entries rest place old texts first → texts ≡ old ++ verified h (flat_map texts_in entries)
-all_entries_gathered h entries rest place old texts first e so_far =
-    let last : texts ++ [] ≡ old ++ verified h (flat_map texts_in entries) = rw e at so_far.gathered in
-    sym (append-nil texts) ∙ last

@@ -3,7 +3,6 @@ use Rattle.std.proofs.Common.{◌≡◌, ℕ, List, [], ◌∷◌, ◌++◌, tak
 use Rattle.std.proofs.lemmas.List.{map_push}
 use Rattle.std.proofs.lemmas.List.Elements.{All-push}
 use Rattle.gen_net.specs.Header.{RunHeader}
-use Rattle.gen_chain.specs.Store.{Store, KeepsAll}
 use Rattle.gen_log.specs.Texts.{GeneralsLog, IsLaneOf}
 use Rattle.gen_local.specs.declared.grouping.Group.{Group}
 use Rattle.gen_local.specs.Grouped.{HasLinks}
@@ -13,10 +12,6 @@ use Rattle.gen_local.specs.declared.opening.Opening.TheVariants.{Unreadable, For
 use Rattle.gen_local.specs.Opened.{AreLinksOf, IsLinkOf, log_in, own_log}
 use Rattle.gen_local.specs.Report.{Report, IsReport, AreReportsOf}
 use Rattle.gen_log.specs.Writing.{LogBytes}
-
--- what is kept from one store to a second and to a third is kept from the first to the third
-pub keeps_on : (a b c : Store) → KeepsAll a b → KeepsAll b c → KeepsAll a c
-keeps_on a b c one two t answer kept = two t answer (one t answer kept)
 
 -- one report more
 pub one_report_more : (h : RunHeader) (before : List LogBytes) (reports : List Report) (r : Report) (x : LogBytes) → AreReportsOf h before reports → r.header ≡ h → r.exhibit ≡ x → IsReport r → AreReportsOf h (before ++ x ∷ []) (reports ++ r ∷ [])

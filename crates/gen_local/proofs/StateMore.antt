@@ -108,9 +108,6 @@ module _ (net : Network) (g : ℕ) (before : List LogEntry) (v : ℕ) where
     };
   }
 
-  not_of_recv : (e x : LogEntry) (path : List ℕ) → e ≡ Signed v path → Learns g (before ++ e ∷ []) v path → Unit {0}
-  not_of_recv e x path q l = tt
-
   learns_by_sign : (e : LogEntry) (path other : List ℕ) → e ≡ Signed v path → Learns g (before ++ e ∷ []) v other → Learns g before v other
   learns_by_sign e path other q (inl h) = elim (Contains-push_cases before e (Started g (Some v)) h.0) [ inl k ↦ inl (k, h.1) | inr r ↦ let s : Signed v path ≡ Started g (Some v) = sym q ∙ r in absurd (cc) ]
   learns_by_sign e path other q (inr h) = elim (Contains-push_cases before e (Received h.0 v other) h.1) [ inl k ↦ inr (h.0, k) | inr r ↦ let s : Signed v path ≡ Received h.0 v other = sym q ∙ r in absurd (cc) ]

@@ -1,28 +1,9 @@
 -- The one order of findings.
 use Rattle.std.specs.Prelude.{ℕ, ◌↔◌, List, [], ◌∷◌, Contains, AllPairs}
 use Rattle.gen_net.specs.Log.{Precedes}
-use Rattle.gen_chain.specs.declared.fault.ChainFault.{ChainFault}
-use Rattle.gen_chain.specs.declared.fault.ChainFault.TheVariants as chain_faults
-use Rattle.gen_log.specs.declared.fault.LogFault.{LogFault}
-use Rattle.gen_log.specs.declared.fault.LogFault.TheVariants as log_faults
+use Rattle.gen_log.specs.FaultNumbers.{log_fault_numbers}
 use Rattle.gen_match.specs.declared.finding.Finding.{Finding}
 use Rattle.gen_match.specs.declared.finding.Finding.TheVariants.{Missing, Several, Unreadable, Foreign, Unsigned, Unsealed, Departs, Unmatched, Underivable, Unjoined, Nobody}
-
--- the number of a chain's fault, and the numbers of a log's
-abbrev pub chain_fault_number : ChainFault → ℕ
-chain_fault_number chain_faults.Truncated = 1
-chain_fault_number chain_faults.OrderRange = 2
-chain_fault_number chain_faults.SignerCount = 3
-chain_fault_number chain_faults.BadSigner = 4
-chain_fault_number chain_faults.NotFromCommander = 5
-
-abbrev pub log_fault_numbers : LogFault → List ℕ
-log_fault_numbers log_faults.Truncated = 1 ∷ []
-log_fault_numbers log_faults.UnknownKind = 2 ∷ []
-log_fault_numbers log_faults.OutOfRange = 3 ∷ []
-log_fault_numbers log_faults.OutOfPlace = 4 ∷ []
-log_fault_numbers (log_faults.Chain fault) = 5 ∷ chain_fault_number fault ∷ []
-log_fault_numbers log_faults.LeftOver = 6 ∷ []
 
 -- where a finding stands: its number, its generals, its entry, round or fault, and its order
 abbrev pub finding_place : Finding → List ℕ

@@ -2,6 +2,6 @@ mod EdgeLists
 pub mod FrontLaws
 pub mod HeaderLaws
 pub mod Neighbours
-mod PlacedEdges
+pub mod PlacedEdges
 mod Ranges
 mod Rows

@@ -31,7 +31,7 @@ placed_back n e es up below first others =
     let two : ltb e.1 n ≡ true = lt-ltb _ _ below in
     rw (one, two, first, others) refl
 
-before_is : (e f : ℕ × ℕ) → goes_before e f ≡ true → IsBefore e f
+pub before_is : (e f : ℕ × ℕ) → goes_before e f ≡ true → IsBefore e f
 before_is e f h = elim (cases_lt e.0 f.0) [
   | inl lt ↦ inl lt
   | inr le ↦
@@ -41,7 +41,7 @@ before_is e f h = elim (cases_lt e.0 f.0) [
       inr (eqb-true _ _ both.0, ltb-true _ _ both.1)
 ]
 
-before_again : (e f : ℕ × ℕ) → IsBefore e f → goes_before e f ≡ true
+pub before_again : (e f : ℕ × ℕ) → IsBefore e f → goes_before e f ≡ true
 before_again e f h = elim h [
   | inl lt ↦ let l : ltb e.0 f.0 ≡ true = lt-ltb _ _ lt in rw l refl
   | inr same ↦
@@ -51,7 +51,7 @@ before_again e f h = elim h [
       rw (past, here, l) refl
 ]
 
-before_all : (e f g : ℕ × ℕ) → IsBefore e f → IsBefore f g → IsBefore e g
+pub before_all : (e f g : ℕ × ℕ) → IsBefore e f → IsBefore f g → IsBefore e g
 before_all e f g h k = elim h [
   | inl l ↦ elim k [ inl m ↦ inl (omega arith) | inr m ↦ inl (omega (arith, m.0)) ]
   | inr l ↦ elim k [ inl m ↦ inl (omega (arith, l.0)) | inr m ↦ inr (l.0 ∙ m.0, omega (arith, l.1, m.1)) ]

@@ -1,29 +1,20 @@
 -- The lines of findings.
-use Rattle.std.specs.Prelude.{ℕ, List, ◌++◌, codes}
+use Rattle.std.specs.Prelude.{ℕ, List, [], ◌∷◌, ◌++◌, codes}
 use Rattle.std.specs.Fmt.{decimal}
-use Rattle.gen_chain.specs.declared.fault.ChainFault.{ChainFault}
-use Rattle.gen_chain.specs.declared.fault.ChainFault.TheVariants as chain_faults
 use Rattle.gen_log.specs.declared.fault.LogFault.{LogFault}
-use Rattle.gen_log.specs.declared.fault.LogFault.TheVariants as log_faults
+use Rattle.gen_log.specs.FaultNumbers.{log_fault_numbers}
 use Rattle.gen_match.specs.declared.finding.Finding.{Finding}
 use Rattle.gen_match.specs.declared.finding.Finding.TheVariants.{Missing, Several, Unreadable, Foreign, Unsigned, Unsealed, Departs, Unmatched, Underivable, Unjoined, Nobody}
 
--- the name of a chain's fault
-abbrev pub chain_fault_name : ChainFault → List ℕ
-chain_fault_name chain_faults.Truncated = codes "C1"
-chain_fault_name chain_faults.OrderRange = codes "C2"
-chain_fault_name chain_faults.SignerCount = codes "C3"
-chain_fault_name chain_faults.BadSigner = codes "C4"
-chain_fault_name chain_faults.NotFromCommander = codes "C5"
+-- the numbers of a log's rule and of a chain's, as they are named
+abbrev pub rules_named : List ℕ → List ℕ
+rules_named [] = []
+rules_named (l ∷ []) = codes "L" ++ decimal l
+rules_named (l ∷ c ∷ _) = codes "L" ++ decimal l ++ codes " C" ++ decimal c
 
 -- the name of a log's fault, and behind it that of the chain's which it is
 abbrev pub log_fault_name : LogFault → List ℕ
-log_fault_name log_faults.Truncated = codes "L1"
-log_fault_name log_faults.UnknownKind = codes "L2"
-log_fault_name log_faults.OutOfRange = codes "L3"
-log_fault_name log_faults.OutOfPlace = codes "L4"
-log_fault_name (log_faults.Chain fault) = codes "L5 " ++ chain_fault_name fault
-log_fault_name log_faults.LeftOver = codes "L6"
+log_fault_name fault = rules_named (log_fault_numbers fault)
 
 -- a message: from whom to whom, its round, and its order
 abbrev pub message_named : ℕ → ℕ → ℕ → ℕ → List ℕ

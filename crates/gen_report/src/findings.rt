@@ -1,41 +1,21 @@
 //! Findings as text.
 ghost use Rattle.std.specs.Prelude.{◌≡◌, ◌++◌, OnOk, codes, string_bytes};
 ghost use Rattle.std.specs.Fmt.{decimal};
-ghost use Rattle.gen_report.specs.Findings.{chain_fault_name, log_fault_name, message_named, finding_named, finding_line};
+ghost use Rattle.gen_report.specs.Findings.{log_fault_name, message_named, finding_named, finding_line};
 
-use gen_chain::ChainFault;
 use gen_log::LogFault;
 use gen_match::Finding;
 use gen_types::{GeneralNo, OrderNo};
 use std::alloc::AllocError;
 
-/// Returns the name of a chain's fault.
-fn chain_fault(fault: ChainFault) -> &'static str
-    ensures { result.now ≡ chain_fault_name fault }
-{
-    match fault {
-        ChainFault::Truncated => "C1",
-        ChainFault::OrderRange => "C2",
-        ChainFault::SignerCount => "C3",
-        ChainFault::BadSigner => "C4",
-        ChainFault::NotFromCommander => "C5",
-    }
-}
-
 /// Appends the name of a log's fault, and behind it that of the chain's which it is.
 fn push_log_fault(out: &mut String, fault: LogFault) -> Result<(), AllocError>
     ensures { OnOk result (string_bytes out.new ≡ string_bytes out.old ++ log_fault_name fault) }
 {
+    let (of_log, of_chain) = fault.numbers();
     match fault {
-        LogFault::Truncated => out.push_str("L1"),
-        LogFault::UnknownKind => out.push_str("L2"),
-        LogFault::OutOfRange => out.push_str("L3"),
-        LogFault::OutOfPlace => out.push_str("L4"),
-        LogFault::Chain(inner) => {
-            out.push_str("L5 ")?;
-            out.push_str(chain_fault(inner))
-        }
-        LogFault::LeftOver => out.push_str("L6"),
+        LogFault::Chain(_) => write!(out, "L{of_log} C{of_chain}"),
+        _ => write!(out, "L{of_log}"),
     }
 }
 

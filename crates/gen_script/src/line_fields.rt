@@ -10,10 +10,10 @@ use gen_types::{GeneralNo, OrderNo, ReadError, check, decimal_number};
 use hex::FromHexError;
 use std::alloc::Global;
 
-/// Where a line stands: in the script of the general `me` of this network. What is kept of the line takes
-/// its memory from `alloc`.
+/// Reads the lines of the script of the general `me` of this network. What is kept of a line takes its
+/// memory from `alloc`.
 #[derive(Drop)]
-pub struct Place<'a> {
+pub struct Reader<'a> {
     /// Gives memory.
     pub alloc: Global,
     /// The network of the runs.
@@ -34,12 +34,12 @@ pub fn number_in(digits: &[u8]) -> Result<u8, ReadError<ScriptFault>>
 
 /// Returns a round of the network's runs, not before the first.
 #[tactic(auto, unfolding(crate::specs::FieldReading::round_in))]
-pub fn round_in(place: &Place<'_>, first: u8, digits: &[u8]) -> Result<u8, ReadError<ScriptFault>>
-    ensures { IsRead result (round_in place.now.net.now first digits.now) }
+pub fn round_in(reader: &Reader<'_>, first: u8, digits: &[u8]) -> Result<u8, ReadError<ScriptFault>>
+    ensures { IsRead result (round_in reader.now.net.now first digits.now) }
 {
     let round = number_in(digits)?;
     check(
-        first <= round && round <= place.net.rounds(),
+        first <= round && round <= reader.net.rounds(),
         ScriptFault::BadRound,
     )?;
     Ok(round)
@@ -47,16 +47,16 @@ pub fn round_in(place: &Place<'_>, first: u8, digits: &[u8]) -> Result<u8, ReadE
 
 /// Returns a neighbour of the general whose script it is.
 #[tactic(auto, unfolding(crate::specs::FieldReading::neighbour_in))]
-pub fn neighbour_in(place: &Place<'_>, digits: &[u8]) -> Result<GeneralNo, ReadError<ScriptFault>>
-    ensures { IsRead result (neighbour_in place.now.net.now place.now.me digits.now) }
+pub fn neighbour_in(reader: &Reader<'_>, digits: &[u8]) -> Result<GeneralNo, ReadError<ScriptFault>>
+    ensures { IsRead result (neighbour_in reader.now.net.now reader.now.me digits.now) }
 {
     let number = number_in(digits)?;
-    if number >= place.net.generals() {
+    if number >= reader.net.generals() {
         return Err(ReadError::Fault(ScriptFault::NoNeighbour));
     }
     let general = GeneralNo::at(number);
     check(
-        place.net.has_edge(place.me, general),
+        reader.net.has_edge(reader.me, general),
         ScriptFault::NoNeighbour,
     )?;
     Ok(general)
@@ -64,19 +64,19 @@ pub fn neighbour_in(place: &Place<'_>, digits: &[u8]) -> Result<GeneralNo, ReadE
 
 /// Returns an order of the network.
 #[tactic(auto, unfolding(crate::specs::FieldReading::order_in))]
-pub fn order_in(place: &Place<'_>, digits: &[u8]) -> Result<OrderNo, ReadError<ScriptFault>>
-    ensures { IsRead result (order_in place.now.net.now digits.now) }
+pub fn order_in(reader: &Reader<'_>, digits: &[u8]) -> Result<OrderNo, ReadError<ScriptFault>>
+    ensures { IsRead result (order_in reader.now.net.now digits.now) }
 {
     let order = number_in(digits)?;
-    check(order < place.net.orders(), ScriptFault::BadOrder)?;
+    check(order < reader.net.orders(), ScriptFault::BadOrder)?;
     Ok(OrderNo::at(order))
 }
 
 /// Returns the parcel of at least one byte that hexadecimal digits spell.
-pub fn parcel_in(place: &Place<'_>, digits: &[u8]) -> Result<Parcel, ReadError<ScriptFault>>
+pub fn parcel_in(reader: &Reader<'_>, digits: &[u8]) -> Result<Parcel, ReadError<ScriptFault>>
     ensures { IsRead result (parcel_in digits.now) }
 {
-    match hex::decode(place.alloc, digits) {
+    match hex::decode(reader.alloc, digits) {
         Ok(bytes) => {
             if bytes.is_empty() {
                 return Err(ReadError::Fault(ScriptFault::Number));

@@ -5,7 +5,7 @@ ghost use Rattle.gen_types.specs.Spelled.{IsRead};
 ghost use Rattle.gen_script.specs.PathReading.{fits_place, may_follow, longer_by, numbers_in, path_parts, ends_with, has_length, path_in};
 
 use crate::fault::ScriptFault;
-use crate::line_fields::{Place, number_in};
+use crate::line_fields::{Reader, number_in};
 use gen_net::Net;
 use gen_types::{GeneralNo, Path, ReadError, check};
 use std::alloc::{AllocError, Global};
@@ -106,17 +106,17 @@ fn has_length(kind: PathKind, round: u8, length: usize) -> bool
 /// Returns the path of a line of this round.
 #[tactic(auto, unfolding(crate::specs::PathReading::path_in))]
 pub fn path_in(
-    place: &Place<'_>,
+    reader: &Reader<'_>,
     kind: PathKind,
     round: u8,
     digits: &[u8],
 ) -> Result<Path, ReadError<ScriptFault>>
-    ensures { IsRead result (path_in place.now.net.now place.now.me kind round digits.now) }
+    ensures { IsRead result (path_in reader.now.net.now reader.now.me kind round digits.now) }
 {
-    let parts = path_parts(place.alloc, digits)?;
-    let path = numbers_in(place.net, kind, &parts)?;
+    let parts = path_parts(reader.alloc, digits)?;
+    let path = numbers_in(reader.net, kind, &parts)?;
     check(
-        ends_with(&path, place.me) && has_length(kind, round, path.len()),
+        ends_with(&path, reader.me) && has_length(kind, round, path.len()),
         ScriptFault::BadPath,
     )?;
     Ok(path)

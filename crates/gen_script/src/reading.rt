@@ -6,7 +6,7 @@ ghost use Rattle.gen_script.specs.Line.{SpellsLine, OneScriptLine};
 ghost use Rattle.gen_script.specs.declared.lines.ScriptLine.{ScriptLine as Said};
 
 use crate::fault::ScriptFault;
-use crate::line_fields::{Place, neighbour_in, order_in, parcel_in, round_in};
+use crate::line_fields::{Reader, neighbour_in, order_in, parcel_in, round_in};
 use crate::lines::ScriptLine;
 use crate::path_fields::{PathKind, path_in};
 use gen_net::Net;
@@ -16,19 +16,19 @@ use std::alloc::Global;
 /// Returns the `make` line of these fields: round, receiver, order and path.
 #[tactic(auto, unfolding(crate::specs::LineReading::make_in))]
 fn make_in(
-    place: &Place<'_>,
+    reader: &Reader<'_>,
     round: &[u8],
     to: &[u8],
     order: &[u8],
     path: &[u8],
 ) -> Result<ScriptLine, ReadError<ScriptFault>>
     ensures { IsRead result
-        (make_in place.now.net.now place.now.me round.now to.now order.now path.now) }
+        (make_in reader.now.net.now reader.now.me round.now to.now order.now path.now) }
 {
-    let round = round_in(place, 1, round)?;
-    let to = neighbour_in(place, to)?;
-    let order = order_in(place, order)?;
-    let path = path_in(place, PathKind::Whole, round, path)?;
+    let round = round_in(reader, 1, round)?;
+    let to = neighbour_in(reader, to)?;
+    let order = order_in(reader, order)?;
+    let path = path_in(reader, PathKind::Whole, round, path)?;
     Ok(ScriptLine::Make {
         round,
         to,
@@ -40,7 +40,7 @@ fn make_in(
 /// Returns the `pass` line of these fields: round, receiver, sender, order and path.
 #[tactic(auto, unfolding(crate::specs::LineReading::pass_in))]
 fn pass_in(
-    place: &Place<'_>,
+    reader: &Reader<'_>,
     round: &[u8],
     to: &[u8],
     from: &[u8],
@@ -48,13 +48,13 @@ fn pass_in(
     path: &[u8],
 ) -> Result<ScriptLine, ReadError<ScriptFault>>
     ensures { IsRead result
-        (pass_in place.now.net.now place.now.me round.now to.now from.now order.now path.now) }
+        (pass_in reader.now.net.now reader.now.me round.now to.now from.now order.now path.now) }
 {
-    let round = round_in(place, 1, round)?;
-    let to = neighbour_in(place, to)?;
-    let from = neighbour_in(place, from)?;
-    let order = order_in(place, order)?;
-    let path = path_in(place, PathKind::Added, round, path)?;
+    let round = round_in(reader, 1, round)?;
+    let to = neighbour_in(reader, to)?;
+    let from = neighbour_in(reader, from)?;
+    let order = order_in(reader, order)?;
+    let path = path_in(reader, PathKind::Added, round, path)?;
     Ok(ScriptLine::Pass {
         round,
         to,
@@ -67,19 +67,19 @@ fn pass_in(
 /// Returns the `bend` line of these fields: round, receiver, sender and order.
 #[tactic(auto, unfolding(crate::specs::LineReading::bend_in))]
 fn bend_in(
-    place: &Place<'_>,
+    reader: &Reader<'_>,
     round: &[u8],
     to: &[u8],
     from: &[u8],
     order: &[u8],
 ) -> Result<ScriptLine, ReadError<ScriptFault>>
     ensures { IsRead result
-        (bend_in place.now.net.now place.now.me round.now to.now from.now order.now) }
+        (bend_in reader.now.net.now reader.now.me round.now to.now from.now order.now) }
 {
-    let round = round_in(place, 2, round)?;
-    let to = neighbour_in(place, to)?;
-    let from = neighbour_in(place, from)?;
-    let order = order_in(place, order)?;
+    let round = round_in(reader, 2, round)?;
+    let to = neighbour_in(reader, to)?;
+    let from = neighbour_in(reader, from)?;
+    let order = order_in(reader, order)?;
     Ok(ScriptLine::Bend {
         round,
         to,
@@ -91,55 +91,55 @@ fn bend_in(
 /// Returns the `raw` line of these fields: round, receiver and the parcel's bytes.
 #[tactic(auto, unfolding(crate::specs::LineReading::raw_in))]
 fn raw_in(
-    place: &Place<'_>,
+    reader: &Reader<'_>,
     round: &[u8],
     to: &[u8],
     parcel: &[u8],
 ) -> Result<ScriptLine, ReadError<ScriptFault>>
-    ensures { IsRead result (raw_in place.now.net.now place.now.me round.now to.now parcel.now) }
+    ensures { IsRead result (raw_in reader.now.net.now reader.now.me round.now to.now parcel.now) }
 {
-    let round = round_in(place, 1, round)?;
-    let to = neighbour_in(place, to)?;
-    let parcel = parcel_in(place, parcel)?;
+    let round = round_in(reader, 1, round)?;
+    let to = neighbour_in(reader, to)?;
+    let parcel = parcel_in(reader, parcel)?;
     Ok(ScriptLine::Raw { round, to, parcel })
 }
 
 /// Returns the `hide` line of these fields: round, sender and order.
 #[tactic(auto, unfolding(crate::specs::LineReading::hide_in))]
 fn hide_in(
-    place: &Place<'_>,
+    reader: &Reader<'_>,
     round: &[u8],
     from: &[u8],
     order: &[u8],
 ) -> Result<ScriptLine, ReadError<ScriptFault>>
-    ensures { IsRead result (hide_in place.now.net.now place.now.me round.now from.now order.now) }
+    ensures { IsRead result (hide_in reader.now.net.now reader.now.me round.now from.now order.now) }
 {
-    let round = round_in(place, 1, round)?;
-    let from = neighbour_in(place, from)?;
-    let order = order_in(place, order)?;
+    let round = round_in(reader, 1, round)?;
+    let from = neighbour_in(reader, from)?;
+    let order = order_in(reader, order)?;
     Ok(ScriptLine::Hide { round, from, order })
 }
 
 /// Returns the script line of these fields.
 #[tactic(auto, unfolding(crate::specs::LineReading::line_in))]
-fn line_in(place: &Place<'_>, fields: &[&[u8]]) -> Result<ScriptLine, ReadError<ScriptFault>>
-    ensures { IsRead result (line_in place.now.net.now place.now.me (map (λ x. x.now) fields.now)) }
+fn line_in(reader: &Reader<'_>, fields: &[&[u8]]) -> Result<ScriptLine, ReadError<ScriptFault>>
+    ensures { IsRead result (line_in reader.now.net.now reader.now.me (map (λ x. x.now) fields.now)) }
 {
     match fields {
         [word, round, to, order, path] if *word == b"make".as_slice() => {
-            make_in(place, round, to, order, path)
+            make_in(reader, round, to, order, path)
         }
         [word, round, to, from, order, path] if *word == b"pass".as_slice() => {
-            pass_in(place, round, to, from, order, path)
+            pass_in(reader, round, to, from, order, path)
         }
         [word, round, to, from, order] if *word == b"bend".as_slice() => {
-            bend_in(place, round, to, from, order)
+            bend_in(reader, round, to, from, order)
         }
         [word, round, to, parcel] if *word == b"raw".as_slice() => {
-            raw_in(place, round, to, parcel)
+            raw_in(reader, round, to, parcel)
         }
         [word, round, from, order] if *word == b"hide".as_slice() => {
-            hide_in(place, round, from, order)
+            hide_in(reader, round, from, order)
         }
         [word] if *word == b"twohead".as_slice() => Ok(ScriptLine::TwoHeads),
         _ => Err(ReadError::Fault(ScriptFault::Shape)),
@@ -147,11 +147,11 @@ fn line_in(place: &Place<'_>, fields: &[&[u8]]) -> Result<ScriptLine, ReadError<
 }
 
 /// Returns the script line of a line's bytes.
-fn line_of(place: &Place<'_>, line: &[u8]) -> Result<ScriptLine, ReadError<ScriptFault>>
-    ensures { IsRead result (script_line_of place.now.net.now place.now.me line.now) }
+fn line_of(reader: &Reader<'_>, line: &[u8]) -> Result<ScriptLine, ReadError<ScriptFault>>
+    ensures { IsRead result (script_line_of reader.now.net.now reader.now.me line.now) }
 {
-    let fields = split_fields(place.alloc, line)?;
-    line_in(place, &fields)
+    let fields = split_fields(reader.alloc, line)?;
+    line_in(reader, &fields)
 }
 
 /// Returns what a line of the script of the general `me` says, who must be one of the network's. The line
@@ -200,7 +200,7 @@ pub fn read_script_bytes(
 {
     // The laws need what each network keeps, which a read of it tells.
     let _generals = net.generals();
-    line_of(&Place { alloc, net, me }, line)
+    line_of(&Reader { alloc, net, me }, line)
 }
 
 /// A line says at most one thing in the script of a general.

@@ -1,5 +1,5 @@
 -- What holds of both heights of trees.
-use Rattle.std.proofs.Common.{◌≡◌, ◌≤◌, ◌*◌, ◌/◌, ◌^◌, ◌++◌, ℕ, List, length, take, refl, arith, length-append}
+use Rattle.std.proofs.Common.{◌≡◌, ◌≤◌, ◌^◌, ◌++◌, ℕ, List, length, take, refl, arith, length-append}
 use Rattle.std.proofs.lemmas.List.{length-take-le}
 use Rattle.gen_types.specs.declared.heights.TreeHeight.{TreeHeight}
 use Rattle.gen_types.specs.declared.heights.TreeHeight.TheVariants.{Four, Six}
@@ -10,10 +10,6 @@ use Rattle.gen_tree.specs.Sizes.{signature_length, siblings_length, most_sibling
 pub leaves_pow : (height : TreeHeight) → leaves_of height ≡ 2 ^ levels_of height
 leaves_pow Four = refl
 leaves_pow Six = refl
-
-pub leaves_quarter : (height : TreeHeight) → 4 * (leaves_of height / 4) ≡ leaves_of height
-leaves_quarter Four = refl
-leaves_quarter Six = refl
 
 pub few_levels : (height : TreeHeight) → levels_of height ≤ 6
 few_levels Four = omega arith

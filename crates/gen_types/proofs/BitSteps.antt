@@ -1,5 +1,5 @@
 -- What the code does with bits, said of members.
-use Rattle.std.proofs.Common.{◌≡◌, ℕ, ◌+◌, ◌*◌, ◌/◌, ◌%◌, ◌^◌, ◌<◌, ◌↔◌, ◌⊎◌, inl, inr, Bool, true, false, cond, IsTrue, List, [], ◌∷◌, ◌++◌, length, filter, Contains, bit_and, bit_or, refl, sym, ap, ◌∙◌, subst, arith, eqb-true, eq-eqb, w16, length-append, zero, suc, add-zero, zero-add, Some, None, ◌-◌, ◌≤◌, slice_get}
+use Rattle.std.proofs.Common.{◌≡◌, ℕ, ◌+◌, ◌*◌, ◌/◌, ◌%◌, ◌^◌, ◌<◌, ◌↔◌, ◌⊎◌, inl, inr, Bool, true, false, cond, IsTrue, List, [], ◌∷◌, ◌++◌, length, filter, Contains, AllPairs, bit_and, bit_or, refl, sym, ap, ◌∙◌, subst, arith, eqb-true, eq-eqb, w16, length-append, zero, suc, add-zero, zero-add, Some, None, ◌-◌, ◌≤◌, slice_get}
 use Rattle.std.proofs.lemmas.Option.{slice_get_past}
 use Rattle.std.proofs.lemmas.List.Elements.{filter-append}
 use Rattle.std.specs.Bool.{nat_eq}
@@ -9,9 +9,10 @@ use Rattle.std.specs.Cmp.Lexicographic.{pointwise, same_text, other_text}
 use Rattle.std.proofs.lemmas.Bool.{cases_eq}
 use Rattle.std.proofs.lemmas.Nat.Bits.{shr_and_one, bit_at_set_same, bit_at_set_other}
 use Rattle.gen_types.specs.Bits.{has_bit, members_of, bits_of}
-use Rattle.gen_types.specs.BitLaws.{members_has, members_gives, members_ascending, bits_of-members_of}
+use Rattle.gen_types.specs.BitLaws.{members_has, members_gives, members_ascending, bits_in, bits_out, bits_of-members_of}
 use Rattle.gen_types.specs.Ascending.{IsListOf}
 use Rattle.gen_types.specs.Members.{bool_cases, filter_more}
+use Rattle.gen_types.proofs.Lists.{decide_contains, ascending_one}
 
 pub test-bit : (n v : ℕ) → nat_eq (bit_and (n / 2 ^ v) 1) 1 ≡ has_bit n v
 test-bit n v = ap (λ b. nat_eq b 1) (shr_and_one n v)
@@ -114,3 +115,13 @@ place_of n v place below holds so_far = place_in (has_bit n) 16 v place below ho
 pub place_past : (n i place count : ℕ) → 16 ≤ i → i ≤ 16 → count ≡ length (filter (has_bit n) (range_with_len 0 i)) → count ≤ place → slice_get (members_of n) place ≡ None
 unfolding members_of
 place_past n i place count low high so_far past = past_in (has_bit n) 16 i place count low high so_far past
+
+-- an ascending list of numbers below 16 is given back by its bits
+pub members_back : (xs : List ℕ) → AllPairs (λ v w. v < w) xs → ((v : ℕ) → Contains xs v → v < 16) → members_of (bits_of xs) ≡ xs
+members_back xs up below =
+    ascending_one (members_of (bits_of xs)) xs (members_ascending (bits_of xs)) up
+    (λ v h. elim (decide_contains xs v) [
+      | inl there ↦ there
+      | inr none ↦ let one = (members_has (bits_of xs) v h).1 in let zero = bits_out xs v none in absurd (omega (arith, one, zero))
+    ])
+    (λ v h. members_gives (bits_of xs) v (below v h) (bits_in xs v h))

@@ -19,9 +19,6 @@ two_digits n low high = decimal_step n low (omega arith) ∙ ap (λ (d : List �
 pub three_digits : (n : ℕ) → 100 ≤ n → n < 1000 → decimal n ≡ (48 + (n / 10) / 10) ∷ (48 + (n / 10) % 10) ∷ (48 + n % 10) ∷ []
 three_digits n low high = decimal_step n (omega arith) (omega arith) ∙ ap (λ (d : List ℕ). d ++ (48 + n % 10) ∷ []) (two_digits (n / 10) (omega arith) (omega arith))
 
-pub IsDigit : ℕ → Type 0
-IsDigit a = (48 ≤ a) × (a ≤ 57)
-
 digit_is : (a : ℕ) → is_digit a ≡ true → (48 ≤ a) × (a ≤ 57)
 digit_is a e = let h = both _ _ e in (leb-true _ _ h.0, leb-true _ _ h.1)
 

@@ -4,7 +4,7 @@ use Rattle.std.specs.Int.{bit_at}
 use Rattle.std.proofs.Common.{sym, ◌∙◌, subst, inl, inr, arith, eqb-true, eq-eqb}
 use Rattle.std.proofs.lemmas.Bool.{cases_eq}
 use Rattle.std.proofs.lemmas.Nat.Bits.{same_from_bits_below, bit_at_or, bit_at-pow_same, bit_at-pow_other, bit_at-zero, bit_at-lt}
-use Rattle.std.proofs.lemmas.Nat.{or_lt, pow_below}
+use Rattle.std.proofs.lemmas.Nat.{or_lt, pow_below, pow_pos}
 use Rattle.gen_types.specs.Bits.{has_bit, members_of, bits_of}
 use Rattle.gen_types.specs.Members.{Contains_here, Contains_there, Contains_cases, Contains_nil, filter_range_has, filter_range_gives, filter_range_ascending}
 
@@ -21,7 +21,7 @@ unfolding members_of
 members_ascending n = filter_range_ascending (has_bit n) 0 16
 
 -- the bits of the number of a list
-bits_in : (xs : List ℕ) (i : ℕ) → Contains xs i → bit_at (bits_of xs) i ≡ 1
+pub bits_in : (xs : List ℕ) (i : ℕ) → Contains xs i → bit_at (bits_of xs) i ≡ 1
 unfolding bits_of
 bits_in [] i h = absurd (Contains_nil i h)
 bits_in (x ∷ xs) i h =
@@ -33,7 +33,7 @@ bits_in (x ∷ xs) i h =
       | inr there ↦ let rest = bits_in xs i there in both ∙ (omega arith)
     ]
 
-bits_out : (xs : List ℕ) (i : ℕ) → (Contains xs i → ⊥) → bit_at (bits_of xs) i ≡ 0
+pub bits_out : (xs : List ℕ) (i : ℕ) → (Contains xs i → ⊥) → bit_at (bits_of xs) i ≡ 0
 unfolding bits_of
 bits_out [] i none = bit_at-zero i
 bits_out (x ∷ xs) i none =
@@ -42,15 +42,17 @@ bits_out (x ∷ xs) i none =
     let rest : bit_at (bits_of xs) i ≡ 0 = bits_out xs i (λ h. none (Contains_there x i xs h)) in
     both ∙ (omega arith)
 
-bits_below : (xs : List ℕ) → ((v : ℕ) → Contains xs v → v < 16) → bits_of xs < 2 ^ 16
+pub bits_below : (n : ℕ) (xs : List ℕ) → ((v : ℕ) → Contains xs v → v < n) → bits_of xs < 2 ^ n
 unfolding bits_of
-bits_below [] below = omega arith
-bits_below (x ∷ xs) below =
-    or_lt 16 (2 ^ x) (bits_of xs) (pow_below x 16 (below x (Contains_here x xs))) (bits_below xs (λ v h. below v (Contains_there x v xs h)))
+bits_below n [] below = pow_pos n
+bits_below n (x ∷ xs) below =
+    or_lt n (2 ^ x) (bits_of xs) (pow_below x n (below x (Contains_here x xs)))
+    (bits_below n xs (λ v h. below v (Contains_there x v xs h)))
 
 pub bits_of-members_of : (n : ℕ) → n < 2 ^ 16 → bits_of (members_of n) ≡ n
 bits_of-members_of n below =
-    same_from_bits_below 16 (bits_of (members_of n)) n (bits_below (members_of n) (λ v h. (members_has n v h).0)) below (λ i low.
+    let small = bits_below 16 (members_of n) (λ v h. (members_has n v h).0) in
+    same_from_bits_below 16 (bits_of (members_of n)) n small below (λ i low.
     elim (cases_eq (bit_at n i) 1) [
       | inl set ↦ bits_in (members_of n) i (members_gives n i low set) ∙ sym set
       | inr clear ↦ let few = bit_at-lt n i in let zero : bit_at n i ≡ 0 = omega arith in bits_out (members_of n) i (λ h. clear (members_has n i h).1) ∙ sym zero

@@ -133,8 +133,10 @@ impl Path {
 
     /// Puts the general at the end of the path.
     ///
-    /// It answers Full where the path has 16 generals, and else Repeated where the general stands in it.
-    /// The path is unchanged in both cases.
+    /// # Errors
+    ///
+    /// Full where the path has 16 generals, and else Repeated where the general stands in it. The path is
+    /// unchanged in both cases.
     pub fn push(&mut self, general: GeneralNo) -> Result<(), PathFault>
         ensures ok { OnOk result (self.new ≡ self.old ++ general ∷ []) }
         ensures err { OnErr result (self.new ≡ self.old) }

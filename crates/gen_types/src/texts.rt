@@ -27,8 +27,11 @@ pub fn decimal_number(digits: &[u8]) -> Option<u8>
 }
 
 /// Returns the fields of a line: what stands before, between and after its spaces. A line without a
-/// space is one field, and beside a space that has no byte on one side an empty field stands. It fails
-/// only where memory is refused.
+/// space is one field, and beside a space that has no byte on one side an empty field stands.
+///
+/// # Errors
+///
+/// `AllocError` where memory is refused.
 pub fn split_fields<'a>(alloc: Global, line: &'a [u8]) -> Result<Vec<&'a [u8]>, AllocError>
     ensures { IfOk result (λ v. map (λ x. x.now) v.items ≡ fields line.now) }
 {

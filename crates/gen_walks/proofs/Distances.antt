@@ -3,7 +3,6 @@ use Rattle.std.proofs.Common.{◌≡◌, ◌≢◌, ℕ, zero, suc, ◌+◌, ◌
 use Rattle.gen_net.specs.Network.{Network, IsNetwork}
 use Rattle.gen_walks.specs.Walks.{IsInside, AreJoined, Leads, IsWalkInside, HasShortWalk}
 use Rattle.gen_walks.specs.Levels.{level, IsDistance, IsDistanceRow}
-use Rattle.gen_walks.specs.BestWalks.{IsBestWalk}
 use Rattle.gen_walks.specs.Loops.Search.{AreLevels}
 use Rattle.gen_walks.proofs.Certificate.{shows}
 use Rattle.gen_walks.proofs.Greedy.{turned}
@@ -89,7 +88,3 @@ reaches_back net rest a b row walk ok levels h =
 -- where no walk is as short as d edges there is no short walk
 pub none_short : (net : Network) (rest : List ℕ) (a b edges : ℕ) → IsDistance net rest a b edges → net.diameter < edges → HasShortWalk net rest a b → ⊥
 none_short net rest a b edges far longer w = omega (arith, longer, far.long, far.shortest w.0 w.1.0, w.1.1)
-
--- the best walk is as short as any
-pub best_is_short : (net : Network) (rest : List ℕ) (a b edges : ℕ) (walk : List ℕ) → IsDistance net rest a b edges → edges ≤ net.diameter → IsBestWalk net rest a b walk → length walk ≤ net.diameter + 1
-best_is_short net rest a b edges walk near few best = omega (arith, few, near.long, best.shortest near.walk near.leads)

@@ -137,10 +137,14 @@ fn first_bad(net: &Net, rest: &GeneralSet, walks: &Walks, a: GeneralNo) -> Optio
 
 /// Returns a proof where the walks bound the diameter of a set, the rest, by d: for each pair a < b of
 /// the set one of them begins with a, ends with b, stays inside the set, steps along edges and has at
-/// most d of them. Else it returns the least pair for which none does.
+/// most d of them.
 ///
 /// Other walks may stand among them in any order. Members of the set that are no generals of the
 /// network count as absent. It takes no memory.
+///
+/// # Errors
+///
+/// The least pair for which none of the walks does.
 pub fn check_walks(net: &Net, rest: &GeneralSet, walks: &Walks) -> Result<DiameterProof, BadPair>
     ensures ok { OnOk result (BoundsDiameter net.now rest.now walks.now) }
     ensures proof { IfOk result (λ proof. (proof.network ≡ net.now) × (proof.rest ≡ rest.now)) }

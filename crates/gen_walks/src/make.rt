@@ -75,11 +75,13 @@ fn push_walks(
 
 /// Returns for each pair a < b of a set of generals, the rest, the lexicographically least among its
 /// shortest walks inside the set, in the order of the pairs. So they bound the set's diameter by d.
+/// Members of the set that are no generals of the network count as absent.
 ///
-/// A fault tells of the least pair that has no walk of at most d edges: NoWalk where none leads from a
-/// to b, TooLong where the shortest is longer, each with the distances from a. Memory where memory was
-/// refused before such a pair was reached. Members of the set that are no generals of the network count
-/// as absent.
+/// # Errors
+///
+/// The fault of the least pair that has no walk of at most d edges: NoWalk where none leads from a to b,
+/// TooLong where the shortest is longer, each with the distances from a. Memory where memory was refused
+/// before such a pair was reached.
 pub fn make_walks(alloc: Global, net: &Net, rest: &GeneralSet) -> Result<Walks, WalkFault>
     ensures best { IfOk result (AreBestWalks net.now rest.now) }
     ensures bound { IfOk result (BoundsDiameter net.now rest.now) }
