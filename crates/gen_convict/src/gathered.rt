@@ -4,7 +4,7 @@ ghost use Rattle.std.specs.List.{list_any};
 ghost use Rattle.gen_convict.specs.Exhibits.{is_by};
 ghost use Rattle.gen_convict.specs.Finding as finds;
 
-use crate::text_tests::is_like;
+use crate::text_likeness::is_like;
 use gen_local::{LocalReport, Reading, SignedText};
 use gen_types::GeneralNo;
 use std::alloc::{AllocError, Global};

@@ -132,7 +132,7 @@ fn are_scripted(scripts: &[Script], generals: &[GeneralNo]) -> bool
 
 /// Refuses the first line that names a path with a general who has no script.
 #[tactic(auto, unfolding(crate::specs::BlocksReading::all_scripted))]
-pub fn test_paths(scripts: &[Script], paths: &[PathLine]) -> Result<(), ReadError<ScenarioFault>>
+pub fn check_paths(scripts: &[Script], paths: &[PathLine]) -> Result<(), ReadError<ScenarioFault>>
     ensures { IsRead result (all_scripted (scripted scripts.now) paths.now) }
 {
     let mut rest = paths;

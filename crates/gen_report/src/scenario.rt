@@ -7,7 +7,7 @@ ghost use Rattle.gen_report.specs.ScenarioReading.{end_in, end_at, signed_at, to
 ghost use Rattle.gen_report.specs.Scenario.{OneScenario, SpellsScenario};
 ghost use Rattle.gen_report.specs.declared.scenario_text.ScenarioText.{ScenarioText as Told};
 
-use crate::blocks::{read_blocks, test_paths};
+use crate::blocks::{check_paths, read_blocks};
 use crate::cursor::Cursor;
 use crate::fault::{LineFault, ScenarioFault};
 use crate::keys::{read_seed, read_slot, version_with};
@@ -52,7 +52,7 @@ fn read_signed<'a>(
 {
     let (slot, rest) = read_slot(alloc, start)?;
     let blocks = read_blocks(alloc, plain.net(), rest)?;
-    test_paths(&blocks.scripts, &blocks.paths)?;
+    check_paths(&blocks.scripts, &blocks.paths)?;
     // That the scenario is lawful needs what each network keeps, which a read of it tells.
     let _generals = plain.net().generals();
     let (net, order) = plain.into_parts();

@@ -8,7 +8,7 @@ use Rattle.gen_world.specs.Scenario.{Scenario, header_of, scripted}
 use Rattle.gen_audit.specs.declared.bundle_fault.BundleFault.{BundleFault}
 use Rattle.gen_audit.specs.declared.bundle_fault.BundleFault.TheVariants as faults
 use Rattle.gen_audit.specs.Bundle.{LogBundle}
-use Rattle.gen_audit.specs.BundleMaking.{are_below, walks_test, exhibits_test, bundle_with}
+use Rattle.gen_audit.specs.BundleMaking.{are_below, walks_check, exhibits_check, bundle_with}
 use Rattle.gen_audit.specs.WorldBundle.{all_shown, bundle_of}
 
 -- a bundle of these parts has them
@@ -17,9 +17,9 @@ unfolding bundle_with
 made h faulty walks xs b e =
     let whole : LogBundle = record { header = h; faulty = faulty; walks = walks; exhibits = xs } in
     let n = h.network.generals in
-    after_check (are_below n faulty) faults.FaultyRange (λ members. walks_test n walks >>= (λ led. exhibits_test n xs >>= (λ shown. Ok whole))) b e (λ members e1.
-    after (walks_test n walks) (λ led. exhibits_test n xs >>= (λ shown. Ok whole)) b e1 (λ led is1 e2.
-    after (exhibits_test n xs) (λ shown. Ok whole) b e2 (λ shown is2 e3. sym (ok_is {F = BundleFault} whole b e3))))
+    after_check (are_below n faulty) faults.FaultyRange (λ members. walks_check n walks >>= (λ led. exhibits_check n xs >>= (λ shown. Ok whole))) b e (λ members e1.
+    after (walks_check n walks) (λ led. exhibits_check n xs >>= (λ shown. Ok whole)) b e1 (λ led is1 e2.
+    after (exhibits_check n xs) (λ shown. Ok whole) b e2 (λ shown is2 e3. sym (ok_is {F = BundleFault} whole b e3))))
 
 pub made_of : (s : Scenario) (h : RunHeader) (faulty : List ℕ) (walks : List (List ℕ)) (xs : List ShownLog) (b : LogBundle) → h ≡ header_of s → faulty ≡ scripted s.scripts → xs ≡ all_shown s
     → bundle_with h faulty walks xs ≡ Ok b → b ≡ bundle_of s walks
