@@ -4,7 +4,7 @@ use Rattle.gen_types.proofs.Lists.{Contains_here}
 use Rattle.gen_net.specs.Log.{Precedes}
 use Rattle.gen_core.proofs.OrderedLists.{same_members, Precedes-apart}
 use Rattle.gen_match.specs.declared.finding.Finding.{Finding}
-use Rattle.gen_match.specs.Findings.{finding_place, AreFindings}
+use Rattle.gen_match.specs.Findings.{finding_rank, AreFindings}
 use Rattle.gen_world.specs.declared.scenario.Decision.{Decision}
 use Rattle.gen_audit.specs.Bundle.{LogBundle, IsBundle}
 use Rattle.gen_audit.specs.Findings.{IsFinding}
@@ -46,7 +46,7 @@ module _ (b : LogBundle) (bundle : IsBundle b) where
   }
 
   same_findings : (xs ys : List Finding) → AreFindings (IsFinding b) xs → AreFindings (IsFinding b) ys → xs ≡ ys
-  same_findings xs ys one other = same_members (λ x y. Precedes (finding_place x) (finding_place y)) (λ x y. Precedes-apart (finding_place x) (finding_place y)) xs ys one.in_order other.in_order
+  same_findings xs ys one other = same_members (λ x y. Precedes (finding_rank x) (finding_rank y)) (λ x y. Precedes-apart (finding_rank x) (finding_rank y)) xs ys one.in_order other.in_order
       (λ f. ((λ h. (other.members f).1 ((one.members f).0 h)), (λ h. (one.members f).1 ((other.members f).0 h))))
 
   same_decisions : (xs ys : List Decision) → AreDecisions b xs → AreDecisions b ys → xs ≡ ys

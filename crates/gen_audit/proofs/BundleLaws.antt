@@ -66,14 +66,14 @@ WalkTaken n before bytes x = Takes bytes (walk_spelling x.0) x.1 × (IsListedWal
 walk_takes : (n : ℕ) (before : ℕ × ℕ) (bytes : List ℕ) (x : List ℕ × List ℕ) → IsBytes bytes → walk_at n before bytes ≡ Ok x → WalkTaken n before bytes x
 unfolding walk_at
 walk_takes n before bytes x fits e =
-    after (byte_at faults.Truncated bytes) (λ count. check (is_walk_length count.0) faults.WalkCount >>= λ size. many_at (general_at n) count.0 count.1 >>= λ walk. check (may_follow before walk.0) faults.BadWalk >>= λ placed. Ok walk) x e (λ count r0 e0.
-    after_check (is_walk_length count.0) faults.WalkCount (λ size. many_at (general_at n) count.0 count.1 >>= λ walk. check (may_follow before walk.0) faults.BadWalk >>= λ placed. Ok walk) x e0 (λ size e1.
-    after (many_at (general_at n) count.0 count.1) (λ walk. check (may_follow before walk.0) faults.BadWalk >>= λ placed. Ok walk) x e1 (λ walk r2 e2.
-    after_check (may_follow before walk.0) faults.BadWalk (λ placed. Ok walk) x e2 (λ placed e3.
+    after (byte_at faults.Truncated bytes) (λ count. check (is_walk_length count.0) faults.WalkCount >>= λ size. many_at (general_at n) count.0 count.1 >>= λ walk. check (may_follow before walk.0) faults.BadWalk >>= λ ordered. Ok walk) x e (λ count r0 e0.
+    after_check (is_walk_length count.0) faults.WalkCount (λ size. many_at (general_at n) count.0 count.1 >>= λ walk. check (may_follow before walk.0) faults.BadWalk >>= λ ordered. Ok walk) x e0 (λ size e1.
+    after (many_at (general_at n) count.0 count.1) (λ walk. check (may_follow before walk.0) faults.BadWalk >>= λ ordered. Ok walk) x e1 (λ walk r2 e2.
+    after_check (may_follow before walk.0) faults.BadWalk (λ ordered. Ok walk) x e2 (λ ordered e3.
     let t0 = byte_takes faults.Truncated bytes count.0 count.1 fits r0 in
     let t1 = many_take (general_at n) itself (λ g. g < n) (generals_read n) count.0 count.1 walk t0.0.rest_fits r2 in
     let sized : is_walk_length (length walk.0) ≡ true = rw t1.1 size in
-    let known = walk_known n before walk.0 sized (All-from_recursion (λ g. g < n) walk.0 t1.2) placed in
+    let known = walk_known n before walk.0 sized (All-from_recursion (λ g. g < n) walk.0 t1.2) ordered in
     let text : Takes count.1 walk.0 walk.1 = subst (λ (t : List ℕ). Takes count.1 t walk.1) (itself_all walk.0) t1.0 in
     let all : Takes bytes (count.0 ∷ walk.0) walk.1 = Takes-then bytes (count.0 ∷ []) count.1 walk.0 walk.1 t0.0 text in
     at_end {F = BundleFault} (WalkTaken n before bytes) walk x e3 (subst (λ (k : ℕ). Takes bytes (k ∷ walk.0) walk.1) (sym t1.1) all, known)))))
@@ -84,8 +84,8 @@ walk_again n before walk rest is =
     let size = length_told n walk is.0 in
     let below = recursion_from_All (λ g. g < n) walk is.0.below in
     let many : many_at (general_at n) (length walk) (walk ++ rest) ≡ Ok (walk, rest) = ap (λ (t : List ℕ). many_at (general_at n) (length walk) (t ++ rest)) (sym (itself_all walk)) ∙ many_again (general_at n) itself (λ g. g < n) (generals_read n) walk rest below in
-    let placed = follow_told n before walk is.0 is.1 in
-    rw (size, many, placed) refl
+    let ordered = follow_told n before walk is.0 is.1 in
+    rw (size, many, ordered) refl
 
 pub walk_reads : (n : ℕ) (before : ℕ × ℕ) → Reads (walk_at n before) walk_spelling (λ w. IsListedWalk n w × IsBefore before (ends_of w))
 walk_reads n before = record { takes = walk_takes n before; again = walk_again n before }
@@ -124,18 +124,18 @@ OwnerTaken n before bytes x = Takes bytes (itself x.0) x.1 × ((x.0 < n) × NotA
 owner_takes : (n before : ℕ) (bytes : List ℕ) (x : ℕ × List ℕ) → IsBytes bytes → owner_at n before bytes ≡ Ok x → OwnerTaken n before bytes x
 unfolding owner_at
 owner_takes n before bytes x fits e =
-    after (byte_at faults.Truncated bytes) (λ general. check (nat_lt general.0 n) faults.BadExhibit >>= λ known. check (nat_le before general.0) faults.OutOfOrder >>= λ placed. Ok general) x e (λ general r0 e0.
-    after_check (nat_lt general.0 n) faults.BadExhibit (λ known. check (nat_le before general.0) faults.OutOfOrder >>= λ placed. Ok general) x e0 (λ known e1.
-    after_check (nat_le before general.0) faults.OutOfOrder (λ placed. Ok general) x e1 (λ placed e2.
+    after (byte_at faults.Truncated bytes) (λ general. check (nat_lt general.0 n) faults.BadExhibit >>= λ known. check (nat_le before general.0) faults.OutOfOrder >>= λ ordered. Ok general) x e (λ general r0 e0.
+    after_check (nat_lt general.0 n) faults.BadExhibit (λ known. check (nat_le before general.0) faults.OutOfOrder >>= λ ordered. Ok general) x e0 (λ known e1.
+    after_check (nat_le before general.0) faults.OutOfOrder (λ ordered. Ok general) x e1 (λ ordered e2.
     let t = byte_takes faults.Truncated bytes general.0 general.1 fits r0 in
-    at_end {F = BundleFault} (OwnerTaken n before bytes) general x e2 (t.0, (ltb-true _ _ known, leb-true _ _ placed)))))
+    at_end {F = BundleFault} (OwnerTaken n before bytes) general x e2 (t.0, (ltb-true _ _ known, leb-true _ _ ordered)))))
 
 owner_again : (n before g : ℕ) (rest : List ℕ) → g < n → NotAfter before g → owner_at n before (g ∷ rest) ≡ Ok (g, rest)
 unfolding owner_at
 owner_again n before g rest lt le =
     let known : nat_lt g n ≡ true = lt-ltb _ _ lt in
-    let placed : nat_le before g ≡ true = le-leb _ _ le in
-    rw (known, placed) refl
+    let ordered : nat_le before g ≡ true = le-leb _ _ le in
+    rw (known, ordered) refl
 
 bytes_of : (bytes : List ℕ) → IsBytes bytes → AreBelow 256 bytes
 bytes_of bytes fits = All-from_get_or (λ b. b < 256) bytes 0 (λ i lt. fits i)

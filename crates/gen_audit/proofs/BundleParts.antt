@@ -123,10 +123,10 @@ NotAfter a b = a ≤ b
 exhibit_checked : (n before : ℕ) (x : ShownLog) → exhibit_check n before x ≡ Ok tt → IsExhibit n x × NotAfter before x.general
 unfolding exhibit_check
 exhibit_checked n before x e =
-    after_check (nat_lt x.general n) faults.BadExhibit (λ known. check (nat_le before x.general) faults.OutOfOrder >>= λ placed. check (nat_lt (length x.bytes) (2 ^ 32)) faults.LongLog) tt e (λ known e0.
-    after_check (nat_le before x.general) faults.OutOfOrder (λ placed. check (nat_lt (length x.bytes) (2 ^ 32)) faults.LongLog) tt e0 (λ placed e1.
+    after_check (nat_lt x.general n) faults.BadExhibit (λ known. check (nat_le before x.general) faults.OutOfOrder >>= λ ordered. check (nat_lt (length x.bytes) (2 ^ 32)) faults.LongLog) tt e (λ known e0.
+    after_check (nat_le before x.general) faults.OutOfOrder (λ ordered. check (nat_lt (length x.bytes) (2 ^ 32)) faults.LongLog) tt e0 (λ ordered e1.
     let short = check_known (nat_lt (length x.bytes) (2 ^ 32)) faults.LongLog e1 in
-    (record { known = ltb-true _ _ known; short = ltb-true _ _ short }, leb-true _ _ placed)))
+    (record { known = ltb-true _ _ known; short = ltb-true _ _ short }, leb-true _ _ ordered)))
 
 not_after_then : (a b c : ℕ) → NotAfter a b → NotAfter b c → NotAfter a c
 not_after_then a b c h k = omega (arith, h, k)
@@ -167,8 +167,8 @@ unfolding walk_check
 walk_passes n before walk is behind =
     let size = length_told n walk is in
     let known = below_told n walk is.below in
-    let placed = follow_told n before walk is behind in
-    rw (size, known, placed) refl
+    let ordered = follow_told n before walk is behind in
+    rw (size, known, ordered) refl
 
 walks_pass : (n : ℕ) (walks : List (List ℕ)) → AreListedWalks n walks → walks_check n walks ≡ Ok tt
 unfolding walks_check
@@ -181,9 +181,9 @@ exhibit_passes : (n before : ℕ) (x : ShownLog) → IsExhibit n x → NotAfter 
 unfolding exhibit_check
 exhibit_passes n before x is behind =
     let known : nat_lt x.general n ≡ true = lt-ltb _ _ is.known in
-    let placed : nat_le before x.general ≡ true = le-leb _ _ behind in
+    let ordered : nat_le before x.general ≡ true = le-leb _ _ behind in
     let short : nat_lt (length x.bytes) (2 ^ 32) ≡ true = lt-ltb _ _ is.short in
-    rw (known, placed, short) refl
+    rw (known, ordered, short) refl
 
 exhibits_pass : (n : ℕ) (xs : List ShownLog) → AreExhibits n xs → exhibits_check n xs ≡ Ok tt
 unfolding exhibits_check

@@ -47,7 +47,7 @@ shown_general x = x.general
 unfoldable pub exhibit_check : ℕ → ℕ → ShownLog → Result (Unit {0}) BundleFault
 exhibit_check n before x = do
   known ← check (nat_lt x.general n) faults.BadExhibit
-  placed ← check (nat_le before x.general) faults.OutOfOrder
+  ordered ← check (nat_le before x.general) faults.OutOfOrder
   check (nat_lt (length x.bytes) (2 ^ 32)) faults.LongLog
 
 unfoldable pub exhibits_check : ℕ → List ShownLog → Result (Unit {0}) BundleFault

@@ -25,7 +25,7 @@ walk_at n before bytes = do
   count ← byte_at faults.Truncated bytes
   size ← check (is_walk_length count.0) faults.WalkCount
   walk ← many_at (general_at n) count.0 count.1
-  placed ← check (may_follow before walk.0) faults.BadWalk
+  ordered ← check (may_follow before walk.0) faults.BadWalk
   Ok walk
 
 unfoldable pub walks_at : ℕ → List ℕ → Result (List (List ℕ) × List ℕ) BundleFault
@@ -39,7 +39,7 @@ unfoldable pub owner_at : ℕ → ℕ → List ℕ → Result (ℕ × List ℕ) 
 owner_at n before bytes = do
   general ← byte_at faults.Truncated bytes
   known ← check (nat_lt general.0 n) faults.BadExhibit
-  placed ← check (nat_le before general.0) faults.OutOfOrder
+  ordered ← check (nat_le before general.0) faults.OutOfOrder
   Ok general
 
 -- an exhibit, and all exhibits
