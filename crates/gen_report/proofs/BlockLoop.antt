@@ -35,7 +35,7 @@ in_front scripts block lines paths b = record {
 abbrev pub with_blocks : List Script → Option ℕ → List ScriptLine → List PathLine → Result Blocks ScenarioFault → Result Blocks ScenarioFault
 with_blocks scripts block lines paths read = read >>= λ b. Ok (in_front scripts block lines paths b)
 
--- the blocks from this place on
+-- the blocks from this cursor on
 abbrev pub blocks_from : Network → Option ℕ → Cursor → Result Blocks ScenarioFault
 blocks_from net block c = blocks_at net block c.line c.parts
 

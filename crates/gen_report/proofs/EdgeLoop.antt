@@ -13,7 +13,7 @@ use Rattle.gen_report.proofs.Stepping.{stepped}
 abbrev pub with_front : List (ℕ × ℕ) → Result EdgeLines ScenarioFault → Result EdgeLines ScenarioFault
 with_front front read = read >>= λ o. Ok (record o { found = front ++ o.found })
 
--- the edges from this place on
+-- the edges from this cursor on
 abbrev pub edges_from : Cursor → Result EdgeLines ScenarioFault
 edges_from c = edge_lines_at c.line c.parts
 

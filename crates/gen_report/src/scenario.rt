@@ -30,7 +30,7 @@ fn end_in(fields: &[&[u8]], line: usize) -> Result<(), ReadError<ScenarioFault>>
     }
 }
 
-/// Returns the place behind the last line of a text without a seed, which begins here.
+/// Returns the cursor behind the last line of a text without a seed, which begins here.
 #[tactic(auto, unfolding(crate::specs::ScenarioReading::end_at))]
 fn read_end<'a>(alloc: Global, start: &Cursor<'a>) -> Result<Cursor<'a>, ReadError<ScenarioFault>>
     ensures { IsRead result (end_at start.now) }
@@ -40,7 +40,7 @@ fn read_end<'a>(alloc: Global, start: &Cursor<'a>) -> Result<Cursor<'a>, ReadErr
     Ok(after)
 }
 
-/// Returns the scenario with this seed, and the place behind its scripts.
+/// Returns the scenario with this seed, and the cursor behind its scripts.
 #[tactic(auto, unfolding(crate::specs::ScenarioReading::signed_at))]
 fn read_signed<'a>(
     alloc: Global,
@@ -66,7 +66,7 @@ fn read_signed<'a>(
     Ok((signed, blocks.after))
 }
 
-/// Returns what the text says, whose seed is this or none, and the place behind it.
+/// Returns what the text says, whose seed is this or none, and the cursor behind it.
 #[tactic(auto, unfolding(crate::specs::ScenarioReading::told_at))]
 fn read_told<'a>(
     alloc: Global,
