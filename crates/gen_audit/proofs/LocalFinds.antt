@@ -64,8 +64,8 @@ module _ (h : RunHeader) (g : ℕ) where
     | inl u ↦
         let r = in_unsigned g found.unsigned f u in
         let fails = unsigned_fails h 0 found.log.entries r.0 is.log_of_run.entries (sym is.unsigned ∙ r.1) in
-        let place : fails.0 ≡ r.0 = omega (arith, fails.1) in
-        subst (IsOne h g (Ok found.log)) (sym r.2) (refl, (found.log, refl, is.says, subst (FailsAt h found.log.entries) place fails.2))
+        let index : fails.0 ≡ r.0 = omega (arith, fails.1) in
+        subst (IsOne h g (Ok found.log)) (sym r.2) (refl, (found.log, refl, is.says, subst (FailsAt h found.log.entries) index fails.2))
     | inr more ↦ elim (Contains-append_cases (unless_sealed g found.sealed) (departs_at g found.departure) f more) [
       | inl s ↦ let r = in_unsealed g found.sealed f s in subst (IsOne h g (Ok found.log)) (sym r.1) (refl, (found.log, refl, is.says, head_fails found is r.0))
       | inr d ↦ let r = in_departs g found.departure f d in subst (IsOne h g (Ok found.log)) (sym r.2) (refl, (found.log, refl, is.says, (is.departs r.0).0 r.1))

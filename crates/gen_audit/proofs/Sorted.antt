@@ -154,7 +154,7 @@ not_before a b h = elim (not_less b.number a.number _ h) [
         | inl l ↦ inl (inr (n, inr (g, inr (d, inl l))))
         | inr (r, h4) ↦ elim (not_less_last b.order a.order h4) [
           | inl l ↦ inl (inr (n, inr (g, inr (d, inr (r, inl l)))))
-          | inr v ↦ inr (λ i. rank (n i) (g i) (d i) (r i) (v i))
+          | inr v ↦ inr (λ i. rank_by (n i) (g i) (d i) (r i) (v i))
         ]
       ]
     ]

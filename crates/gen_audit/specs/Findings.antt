@@ -39,7 +39,7 @@ pub record FailsAt (h : RunHeader) (entries : List Entry) (p : ℕ) : Type 0 whe
   pub entry : Entry
   pub behind : List Entry
   pub parts : entries ≡ before ++ entry ∷ behind
-  pub place : length before ≡ p
+  pub index : length before ≡ p
   pub verified : AllByRecursion (EntryVerifies h) before
   pub fails : EntryVerifies h entry → ⊥
 

@@ -22,7 +22,7 @@ pub if_ok : {A E : Type 0} (P Q : A → Type 0) (r : Result A E) → ((x : A) �
 if_ok P Q (Ok x) f p = f x p
 if_ok P Q (Err e) f p = p
 
--- the claim by these texts is that by one of each place
+-- the claim by these texts is that by one of each subject
 pub claim_same : (general : ℕ) (firsts texts : List SignedText) (reports : List Report) → texts ≡ his_texts general reports → firsts ≡ one_each [] texts → claim_by general firsts texts reports ≡ claim_for reports general
 unfolding claim_for
 claim_same general firsts texts reports e f =

@@ -233,9 +233,9 @@ module _ (h : RunHeader) (general : ℕ) where
       let departing : DepartsSomewhere h (own_of exhibit found) = subst (DepartsSomewhere h) (sym own.1) some in
       let f = (found_is h exhibit.general read found is).0 in
       let sealed = head_sealed h exhibit.general found f departing.1.0 in
-      let place : departure_in (Own found) ≡ Some departing.0 = under_given found.sealed found.departure departing.0 sealed ((f.departs departing.0).1 departing.1.1) in
+      let index : departure_in (Own found) ≡ Some departing.0 = under_given found.sealed found.departure departing.0 sealed ((f.departs departing.0).1 departing.1.1) in
       let g : eqb exhibit.general general ≡ true = eq-eqb exhibit.general general own.0 in
-      let yes_it : (eqb exhibit.general general && is_some (departure_in (Own found))) ≡ true = and_so (eqb exhibit.general general) (is_some (departure_in (Own found))) g (is_one (departure_in (Own found)) departing.0 place) in
+      let yes_it : (eqb exhibit.general general && is_some (departure_in (Own found))) ≡ true = and_so (eqb exhibit.general general) (is_some (departure_in (Own found))) g (is_one (departure_in (Own found)) departing.0 index) in
       let clash : false ≡ true = sym e ∙ yes_it in
       absurd cc
 

@@ -41,10 +41,10 @@ departing_told h g bytes log p told ok sealed is = (
 )
 
 -- a number that is found, or none, has the property alone
-pub found_told : (D : ℕ → Type 0) (r : Option ℕ) (place entry : ℕ) → r ≡ Some place → ((p : ℕ) → (r ≡ Some p) ↔ D p) → IsTrue (nat_eq place entry) ↔ D entry
-found_told D r place entry e is = (
-  (λ t. subst D (eqb-true place entry t) ((is place).0 e)),
-  (λ d. let k : Some place ≡ Some entry = sym e ∙ (is entry).1 d in let same : place ≡ entry = cc in eq-eqb place entry same),
+pub found_told : (D : ℕ → Type 0) (r : Option ℕ) (index entry : ℕ) → r ≡ Some index → ((p : ℕ) → (r ≡ Some p) ↔ D p) → IsTrue (nat_eq index entry) ↔ D entry
+found_told D r index entry e is = (
+  (λ t. subst D (eqb-true index entry t) ((is index).0 e)),
+  (λ d. let k : Some index ≡ Some entry = sym e ∙ (is entry).1 d in let same : index ≡ entry = cc in eq-eqb index entry same),
 )
 
 pub none_told : (D : ℕ → Type 0) (r : Option ℕ) (entry : ℕ) → r ≡ None → ((p : ℕ) → (r ≡ Some p) ↔ D p) → D entry → ⊥

@@ -12,7 +12,7 @@ use Rattle.gen_convict.specs.Contradictions.{Claim, TwoTexts, TwoOrders, Missing
 use Rattle.gen_convict.specs.Evidence.{Accusation}
 use Rattle.gen_convict.specs.Finding.{his_texts, one_each, is_unlike, has_unlike, is_command, are_orders, is_unsaid}
 
--- the first text of a place that has an unlike one, with the first that is unlike it
+-- the first text of a subject that has an unlike one, with the first that is unlike it
 abbrev pub with_unlike : List SignedText → Option SignedText → Option Claim
 with_unlike texts None = None
 with_unlike texts (Some x) = option_map (TwoTexts x) (find (λ y. is_unlike x.text y.text) texts)
