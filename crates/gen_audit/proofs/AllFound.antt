@@ -5,7 +5,7 @@ use Rattle.gen_types.specs.Ascending.{IsListOf}
 use Rattle.gen_types.proofs.Lists.{Contains_here, Contains_cases, Contains_nil, Contains_flat_mapped}
 use Rattle.gen_core.proofs.OrderedLists.{in_flat_map, one_list}
 use Rattle.gen_walks.specs.Walks.{Bridges, IsLeastBadPair}
-use Rattle.gen_local.specs.Report.{Report}
+use Rattle.gen_local.specs.Report.{LocalReport}
 use Rattle.gen_local.specs.Shown.{ShownLog}
 use Rattle.gen_match.specs.declared.finding.Finding.{Finding}
 use Rattle.gen_match.specs.declared.finding.Finding.TheVariants.{Missing, Several, Unreadable, Foreign, Unsigned, Unsealed, Departs, Unmatched, Underivable, Unjoined, Nobody}
@@ -115,14 +115,14 @@ module _ (b : LogBundle) (logs : Logs) (same : logs ≡ logs_of b) where
 -- ---- all
 
 -- the groups, added one behind another
-pub record AddsAll (b : LogBundle) (rest : List ℕ) (reports : List Report) (amounts read between pair all : List Finding) : Type 0 where
+pub record AddsAll (b : LogBundle) (rest : List ℕ) (reports : List LocalReport) (amounts read between pair all : List Finding) : Type 0 where
   pub first : amounts ≡ flat_map (shown_found b.exhibits) rest
   pub second : Adds (FindsRead rest reports) amounts read
   pub third : Adds (FindsBetween b.header.network b.faulty (told_logs reports)) read between
   pub fourth : Adds (FindsPair b.header.network rest b.walks) between pair
   pub fifth : Adds (FindsEmpty rest) pair all
 
-module _ (b : LogBundle) (rest : List ℕ) (of_rest : IsListOf rest (IsOfRest b)) (reports : List Report) (are : AreReports b reports) (amounts read between pair all : List Finding) (adds : AddsAll b rest reports amounts read between pair all) where
+module _ (b : LogBundle) (rest : List ℕ) (of_rest : IsListOf rest (IsOfRest b)) (reports : List LocalReport) (are : AreReports b reports) (amounts read between pair all : List Finding) (adds : AddsAll b rest reports amounts read between pair all) where
   same_logs : told_logs reports ≡ logs_of b
   same_logs = λ i g. reports_tell_logs b reports are g i
 

@@ -10,7 +10,7 @@ use Rattle.gen_local.specs.declared.reading.Reading.TheVariants.{Unreadable, For
 use Rattle.gen_local.specs.declared.texts.SignedText.{SignedText}
 use Rattle.gen_local.specs.declared.texts.Text.{Text}
 use Rattle.gen_local.specs.declared.texts.Text.TheVariants.{OfStatement, OfHead}
-use Rattle.gen_local.specs.Report.{Report}
+use Rattle.gen_local.specs.Report.{LocalReport}
 use Rattle.gen_convict.specs.Exhibits.{is_by}
 
 -- the texts that verify, in what an exhibit reads to, and those of one general in all reports
@@ -19,7 +19,7 @@ read_texts (Own found) = found.texts
 read_texts (Unreadable fault) = []
 read_texts Foreign = []
 
-abbrev pub his_texts : ℕ → List Report → List SignedText
+abbrev pub his_texts : ℕ → List LocalReport → List SignedText
 his_texts general reports = flat_map (λ r. filter (is_by general) (read_texts r.reading)) reports
 
 -- the texts have one subject: two heads, or two statements of one order

@@ -7,7 +7,7 @@ use Rattle.gen_local.specs.declared.reading.Reading.TheVariants.{Unreadable, For
 use Rattle.gen_local.specs.declared.texts.SignedText.{SignedText}
 use Rattle.gen_local.specs.declared.texts.Text.{Text}
 use Rattle.gen_local.specs.declared.texts.Text.TheVariants.{OfStatement, OfHead}
-use Rattle.gen_local.specs.Report.{Report}
+use Rattle.gen_local.specs.Report.{LocalReport}
 use Rattle.gen_convict.specs.Contradictions.{Claim, TwoTexts, TwoOrders, MissingFromLog, DepartingLog}
 use Rattle.gen_convict.specs.Evidence.{Accusation}
 use Rattle.gen_convict.specs.Finding.{his_texts, one_each, is_unlike, has_unlike, is_command, are_orders, is_unsaid}
@@ -44,7 +44,7 @@ unsaid_in firsts (Own found) = cond found.sealed (find (λ t. is_unsaid found.lo
 unsaid_in firsts (Unreadable fault) = None
 unsaid_in firsts Foreign = None
 
-abbrev pub lacks : ℕ → List SignedText → Report → Bool
+abbrev pub lacks : ℕ → List SignedText → LocalReport → Bool
 lacks general firsts r = r.exhibit.general == general && is_some (unsaid_in firsts r.reading)
 
 abbrev pub missing_of : List ℕ → List ℕ → Text → Option Claim
@@ -55,11 +55,11 @@ abbrev pub missing_as : List ℕ → Option SignedText → Option Claim
 missing_as bytes None = None
 missing_as bytes (Some t) = missing_of bytes t.signature t.text
 
-abbrev pub missing_in : List SignedText → Option Report → Option Claim
+abbrev pub missing_in : List SignedText → Option LocalReport → Option Claim
 missing_in firsts None = None
 missing_in firsts (Some r) = missing_as r.exhibit.bytes (unsaid_in firsts r.reading)
 
-abbrev pub missing_claim : ℕ → List SignedText → List Report → Option Claim
+abbrev pub missing_claim : ℕ → List SignedText → List LocalReport → Option Claim
 missing_claim general firsts reports = missing_in firsts (find (lacks general firsts) reports)
 
 -- the first of his sealed logs that departs, and where, if the number has four bytes
@@ -68,34 +68,34 @@ departure_in (Own found) = cond found.sealed found.departure None
 departure_in (Unreadable fault) = None
 departure_in Foreign = None
 
-abbrev pub departs : ℕ → Report → Bool
+abbrev pub departs : ℕ → LocalReport → Bool
 departs general r = r.exhibit.general == general && is_some (departure_in r.reading)
 
 abbrev pub departing_at : List ℕ → Option ℕ → Option Claim
 departing_at bytes None = None
 departing_at bytes (Some p) = cond (nat_lt p (2 ^ 32)) (Some (DepartingLog bytes p)) None
 
-abbrev pub departing_in : Option Report → Option Claim
+abbrev pub departing_in : Option LocalReport → Option Claim
 departing_in None = None
 departing_in (Some r) = departing_at r.exhibit.bytes (departure_in r.reading)
 
-abbrev pub departing_claim : ℕ → List Report → Option Claim
+abbrev pub departing_claim : ℕ → List LocalReport → Option Claim
 departing_claim general reports = departing_in (find (departs general) reports)
 
 -- the claim of the least kind
-abbrev pub claim_by_log : ℕ → List SignedText → List Report → Option Claim
+abbrev pub claim_by_log : ℕ → List SignedText → List LocalReport → Option Claim
 claim_by_log general firsts reports =
     option_or (missing_claim general firsts reports) (departing_claim general reports)
 
-abbrev pub claim_behind_texts : ℕ → List SignedText → List SignedText → List Report → Option Claim
+abbrev pub claim_behind_texts : ℕ → List SignedText → List SignedText → List LocalReport → Option Claim
 claim_behind_texts general firsts texts reports =
     option_or (orders_claim general texts) (claim_by_log general firsts reports)
 
-abbrev pub claim_by : ℕ → List SignedText → List SignedText → List Report → Option Claim
+abbrev pub claim_by : ℕ → List SignedText → List SignedText → List LocalReport → Option Claim
 claim_by general firsts texts reports =
     option_or (texts_claim firsts texts) (claim_behind_texts general firsts texts reports)
 
-unfoldable pub claim_for : List Report → ℕ → Option Claim
+unfoldable pub claim_for : List LocalReport → ℕ → Option Claim
 claim_for reports general =
     claim_by general (one_each [] (his_texts general reports)) (his_texts general reports) reports
 
@@ -104,5 +104,5 @@ abbrev pub accusing : ℕ → Option Claim → List Accusation
 accusing general None = []
 accusing general (Some claim) = record { accused = general; claim = claim } ∷ []
 
-abbrev pub accusations : List Report → List ℕ → List Accusation
+abbrev pub accusations : List LocalReport → List ℕ → List Accusation
 accusations reports generals = flat_map (λ g. accusing g (claim_for reports g)) generals

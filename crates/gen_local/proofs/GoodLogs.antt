@@ -24,7 +24,7 @@ use Rattle.gen_local.specs.declared.reading.Reading.TheVariants.{Unreadable, For
 use Rattle.gen_local.specs.Erased.{erased}
 use Rattle.gen_local.specs.SignedTexts.{stated, texts_behind, text_under, texts_in, head_in, text_verifies}
 use Rattle.gen_local.specs.FoundLog.{FoundLog, IsFound, is_signed, first_unsigned}
-use Rattle.gen_local.specs.Report.{Report, IsReading, IsReport}
+use Rattle.gen_local.specs.Report.{LocalReport, IsReading, IsReport}
 use Rattle.gen_local.specs.ReportLaws.{IsFaultless, FindsNothing, IsGood, FindsNothingInGoodLogs}
 
 -- ---- an entry

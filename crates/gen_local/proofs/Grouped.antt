@@ -11,7 +11,7 @@ use Rattle.gen_local.specs.declared.opening.Opened.{Opened}
 use Rattle.gen_local.specs.declared.opening.Opening.{Opening}
 use Rattle.gen_local.specs.declared.opening.Opening.TheVariants.{Unreadable, Foreign, Own}
 use Rattle.gen_local.specs.Opened.{AreLinksOf, IsLinkOf, log_in, own_log}
-use Rattle.gen_local.specs.Report.{Report, IsReport, AreReportsOf}
+use Rattle.gen_local.specs.Report.{LocalReport, IsReport, AreReportsOf}
 use Rattle.gen_local.specs.Shown.{ShownLog}
 
 -- what is kept from one store to a second and to a third is kept from the first to the third
@@ -19,10 +19,10 @@ pub keeps_on : (a b c : Store) → KeepsAll a b → KeepsAll b c → KeepsAll a 
 keeps_on a b c one two t answer kept = two t answer (one t answer kept)
 
 -- one report more
-pub one_report_more : (h : RunHeader) (before : List ShownLog) (reports : List Report) (r : Report) (x : ShownLog) → AreReportsOf h before reports → r.header ≡ h → r.exhibit ≡ x → IsReport r → AreReportsOf h (before ++ x ∷ []) (reports ++ r ∷ [])
+pub one_report_more : (h : RunHeader) (before : List ShownLog) (reports : List LocalReport) (r : LocalReport) (x : ShownLog) → AreReportsOf h before reports → r.header ≡ h → r.exhibit ≡ x → IsReport r → AreReportsOf h (before ++ x ∷ []) (reports ++ r ∷ [])
 one_report_more h before reports r x are header exhibit is = record {
-  exhibits = map_push (λ (s : Report). s.exhibit) reports r ∙ ap (λ (xs : List ShownLog). xs ++ r.exhibit ∷ []) are.exhibits ∙ ap (λ (y : ShownLog). before ++ y ∷ []) exhibit;
-  header = All-push (λ (s : Report). s.header ≡ h) reports r are.header header;
+  exhibits = map_push (λ (s : LocalReport). s.exhibit) reports r ∙ ap (λ (xs : List ShownLog). xs ++ r.exhibit ∷ []) are.exhibits ∙ ap (λ (y : ShownLog). before ++ y ∷ []) exhibit;
+  header = All-push (λ (s : LocalReport). s.header ≡ h) reports r are.header header;
   each = All-push IsReport reports r are.each is;
 }
 
