@@ -6,7 +6,7 @@ use Rattle.gen_core.proofs.OrderedLists.{same_members, Precedes-apart}
 use Rattle.gen_match.specs.declared.finding.Finding.{Finding}
 use Rattle.gen_match.specs.Findings.{finding_rank, AreFindings}
 use Rattle.gen_world.specs.declared.scenario.Decision.{Decision}
-use Rattle.gen_audit.specs.Bundle.{LogBundle, IsBundle}
+use Rattle.gen_audit.specs.Bundle.{Bundle, IsBundle}
 use Rattle.gen_audit.specs.Findings.{IsFinding}
 use Rattle.gen_audit.specs.Supported.{IsClean, IsSupported, AgreeOn}
 use Rattle.gen_audit.specs.declared.verdicts.Verdict.{Verdict}
@@ -16,15 +16,15 @@ use Rattle.gen_audit.specs.Headline.{Headline, HeadlineHolds}
 use Rattle.gen_audit.proofs.Supporting.{clean_is_supported}
 
 -- where something is found, not nothing is
-pub unclean : (b : LogBundle) (findings : List Finding) → findings ≢ [] → AreFindings (IsFinding b) findings → IsClean b → ⊥
+pub unclean : (b : Bundle) (findings : List Finding) → findings ≢ [] → AreFindings (IsFinding b) findings → IsClean b → ⊥
 unclean b [] some are clean = some refl
 unclean b (f ∷ more) some are clean = clean f ((are.members f).0 (Contains_here f more))
 
 -- supported bundles agree on one order at most
-one_order : (b : LogBundle) → IsSupported b → (v w : ℕ) → AgreeOn b v → AgreeOn b w → v ≡ w
+one_order : (b : Bundle) → IsSupported b → (v w : ℕ) → AgreeOn b v → AgreeOn b w → v ≡ w
 one_order b s v w one other = let d = one.decided s.somebody.0 s.somebody.1 in other.alone s.somebody.0 s.somebody.1 d.0 v d.1
 
-module _ (b : LogBundle) (bundle : IsBundle b) where
+module _ (b : Bundle) (bundle : IsBundle b) where
   supports : IsClean b → IsSupported b
   supports = (clean_is_supported b bundle).0
 

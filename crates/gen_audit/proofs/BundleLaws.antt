@@ -21,7 +21,7 @@ use Rattle.gen_local.specs.Shown.{ShownLog}
 use Rattle.gen_audit.specs.declared.bundle_fault.BundleFault.{BundleFault}
 use Rattle.gen_audit.specs.declared.bundle_fault.BundleFault.TheVariants as faults
 use Rattle.gen_audit.specs.Behind.{many_behind}
-use Rattle.gen_audit.specs.Bundle.{LogBundle, IsBundle}
+use Rattle.gen_audit.specs.Bundle.{Bundle, IsBundle}
 use Rattle.gen_audit.specs.BundleParts.{most_walks, most_exhibits, ends_of, IsListedWalk, AreListedWalks, IsExhibit, AreExhibits}
 use Rattle.gen_audit.specs.BundleMaking.{is_walk_length, no_ends, may_follow, shown_general}
 use Rattle.gen_audit.specs.BundleSpelling.{bundle_marks, walk_spelling, walks_spelling, exhibit_spelling, exhibits_spelling, bundle_spelling}
@@ -215,10 +215,10 @@ exhibits_read n = record { takes = exhibits_take n; again = exhibits_again n }
 
 -- ---- the bundle
 
-abbrev BundleTaken : List ℕ → LogBundle × List ℕ → Type 0
+abbrev BundleTaken : List ℕ → Bundle × List ℕ → Type 0
 BundleTaken bytes x = Takes bytes (bundle_spelling x.0) x.1 × IsBundle x.0
 
-bundle_takes : (bytes : List ℕ) (x : LogBundle × List ℕ) → IsBytes bytes → bundle_at bytes ≡ Ok x → BundleTaken bytes x
+bundle_takes : (bytes : List ℕ) (x : Bundle × List ℕ) → IsBytes bytes → bundle_at bytes ≡ Ok x → BundleTaken bytes x
 unfolding bundle_at
 bundle_takes bytes x fits e =
     after (front_at bytes) (λ header. faulty_at header.0.network.generals header.1 >>= λ faulty. walks_at header.0.network.generals faulty.1 >>= λ walks. exhibits_at header.0.network.generals walks.1 >>= λ exhibits. Ok (record { header = header.0; faulty = faulty.0; walks = walks.0; exhibits = exhibits.0 }, exhibits.1)) x e (λ header r0 e0.
@@ -234,7 +234,7 @@ bundle_takes bytes x fits e =
     let behind = walks_spelling walks.0 ++ exhibits_spelling exhibits.0 in
     let t13 = Takes-then header.1 (set_spelling faulty.0) faulty.1 behind exhibits.1 t1.0 t23 in
     let t03 = Takes-then bytes (front_spelling bundle_marks header.0) header.1 (set_spelling faulty.0 ++ behind) exhibits.1 t0.0 t13 in
-    let b : LogBundle = record { header = header.0; faulty = faulty.0; walks = walks.0; exhibits = exhibits.0 } in
+    let b : Bundle = record { header = header.0; faulty = faulty.0; walks = walks.0; exhibits = exhibits.0 } in
     at_end {F = BundleFault} (BundleTaken bytes) (b, exhibits.1) x e3 (
       t03,
       record { header = t0.1; faulty = t1.1; walks = t2.1; exhibits = t3.1.exhibits; bytes = t3.1.bytes },
@@ -246,11 +246,11 @@ pub bundle_from : (bytes : List ℕ) (header : RunHeader × List ℕ) (faulty : 
     → IsBundle (record { header = header.0; faulty = faulty.0; walks = walks.0; exhibits = exhibits.0 })
 unfolding bundle_at
 bundle_from bytes header faulty walks exhibits fits r0 r1 r2 r3 =
-    let b : LogBundle = record { header = header.0; faulty = faulty.0; walks = walks.0; exhibits = exhibits.0 } in
+    let b : Bundle = record { header = header.0; faulty = faulty.0; walks = walks.0; exhibits = exhibits.0 } in
     let read : bundle_at bytes ≡ Ok (b, exhibits.1) = rw (r0, r1, r2, r3) refl in
     (bundle_takes bytes (b, exhibits.1) fits read).1
 
-bundle_again : (b : LogBundle) (rest : List ℕ) → IsBundle b → bundle_at (bundle_spelling b ++ rest) ≡ Ok (b, rest)
+bundle_again : (b : Bundle) (rest : List ℕ) → IsBundle b → bundle_at (bundle_spelling b ++ rest) ≡ Ok (b, rest)
 unfolding bundle_at
 bundle_again b rest is =
     let n = b.header.network.generals in
@@ -273,7 +273,7 @@ nothing_left : (rest : List ℕ) → eqb (length rest) 0 ≡ true → rest ≡ [
 nothing_left [] e = refl
 nothing_left (b ∷ rest) e = absurd (omega (arith, eqb-true (length (b ∷ rest)) 0 e))
 
-pub bundle_found : (bytes : List ℕ) (x : LogBundle) → IsBytes bytes → whole_bundle bytes ≡ Ok x → Spells IsBundle bundle_spelling bytes x
+pub bundle_found : (bytes : List ℕ) (x : Bundle) → IsBytes bytes → whole_bundle bytes ≡ Ok x → Spells IsBundle bundle_spelling bytes x
 unfolding whole_bundle
 bundle_found bytes x fits e =
     after (bundle_at bytes) (λ b. check (eqb (length b.1) 0) faults.LeftOver >>= λ all. Ok b.0) x e (λ b r0 e0.
@@ -285,7 +285,7 @@ bundle_found bytes x fits e =
       spelled = t.0.parts ∙ ap (λ (r : List ℕ). bundle_spelling b.0 ++ r) none ∙ append-nil (bundle_spelling b.0);
     })))
 
-pub bundle_only : (bytes : List ℕ) (b : LogBundle) → Spells IsBundle bundle_spelling bytes b → whole_bundle bytes ≡ Ok b
+pub bundle_only : (bytes : List ℕ) (b : Bundle) → Spells IsBundle bundle_spelling bytes b → whole_bundle bytes ≡ Ok b
 unfolding whole_bundle
 bundle_only bytes b s =
     let alone : bytes ≡ bundle_spelling b ++ [] = s.spelled ∙ sym (append-nil (bundle_spelling b)) in

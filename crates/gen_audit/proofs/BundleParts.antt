@@ -15,7 +15,7 @@ use Rattle.gen_local.specs.Shown.{ShownLog}
 use Rattle.gen_audit.specs.declared.bundle_fault.BundleFault.{BundleFault}
 use Rattle.gen_audit.specs.declared.bundle_fault.BundleFault.TheVariants as faults
 use Rattle.gen_audit.specs.Behind.{check_behind}
-use Rattle.gen_audit.specs.Bundle.{LogBundle, IsBundle}
+use Rattle.gen_audit.specs.Bundle.{Bundle, IsBundle}
 use Rattle.gen_audit.specs.BundleParts.{most_walks, fewest_in_walk, most_in_walk, most_exhibits, ends_of, IsListedWalk, AreListedWalks, IsExhibit, AreExhibits}
 use Rattle.gen_audit.specs.BundleMaking.{are_below, is_walk_length, no_ends, may_follow, walk_check, walks_check, shown_general, exhibit_check, exhibits_check, bundle_with}
 use Rattle.gen_audit.proofs.BundleBehind.{Stand, stand_all, stand_ascends, stand_told, check_stands, check_passes}
@@ -193,5 +193,5 @@ exhibits_pass n xs are =
     let each = check_passes (IsExhibit n) NotAfter (exhibit_check n) shown_general (exhibit_passes n) 0 xs stand in
     rw (few, each) refl
 
-pub bundle_told : (b : LogBundle) → IsBundle b → bundle_with b.header b.faulty b.walks b.exhibits ≡ Ok b
+pub bundle_told : (b : Bundle) → IsBundle b → bundle_with b.header b.faulty b.walks b.exhibits ≡ Ok b
 bundle_told b is = checks_told b.header b.faulty b.walks b.exhibits (below_told b.header.network.generals b.faulty is.faulty.below) (walks_pass b.header.network.generals b.walks is.walks) (exhibits_pass b.header.network.generals b.exhibits is.exhibits)

@@ -21,7 +21,7 @@ use Rattle.gen_world.specs.declared.scenario.Decision.{Decision}
 use Rattle.gen_world.proofs.Having.{in_filtered, in_mapped}
 use Rattle.gen_match.specs.Matching.{Logged}
 use Rattle.gen_match.specs.Reports.{entries_told, sole_told, reports_of}
-use Rattle.gen_audit.specs.Bundle.{LogBundle, IsBundle, logs_of}
+use Rattle.gen_audit.specs.Bundle.{Bundle, IsBundle, logs_of}
 use Rattle.gen_audit.specs.Collecting.{DecidesIn, IsOwnOf}
 use Rattle.gen_audit.specs.Findings.{IsOfRest}
 use Rattle.gen_audit.specs.Supported.{IsClean, IsSupported, HasFew, AgreeOn}
@@ -47,7 +47,7 @@ one_report (r ∷ s ∷ more) log e = absurd (cc)
 filtered : (reports : List LocalReport) (g : ℕ) (r : LocalReport) → Contains (reports_of reports g) r → Contains reports r × (r.exhibit.general ≡ g)
 filtered reports g r h = let k = Contains_filtered (λ (x : LocalReport). nat_eq x.exhibit.general g) reports r h in (k.0, eqb-true r.exhibit.general g k.1)
 
-module _ (b : LogBundle) (bundle : IsBundle b) (clean : IsClean b) (reports : List LocalReport) (are : AreReports b reports) where
+module _ (b : Bundle) (bundle : IsBundle b) (clean : IsClean b) (reports : List LocalReport) (are : AreReports b reports) where
   supported : IsSupported b
   supported = (clean_is_supported b bundle).0 clean
 
@@ -89,7 +89,7 @@ ascending (x ∷ ds) up = AllPairs-cons (λ (y : Decision) (z : Decision). y.gen
     (λ y h. AllPairs-head (λ v w. v < w) x.general (map (λ (d : Decision). d.general) ds) y.general up (in_mapped (λ (d : Decision). d.general) ds y h))
     (ascending ds (AllPairs-tail (λ v w. v < w) x.general (map (λ (d : Decision). d.general) ds) up))
 
-pub are_decisions : (b : LogBundle) → IsBundle b → IsClean b → (rest : List ℕ) → IsListOf rest (IsOfRest b) → (ds : List Decision) → map (λ (d : Decision). d.general) ds ≡ rest → All (IsDecision b) ds → AreDecisions b ds
+pub are_decisions : (b : Bundle) → IsBundle b → IsClean b → (rest : List ℕ) → IsListOf rest (IsOfRest b) → (ds : List Decision) → map (λ (d : Decision). d.general) ds ≡ rest → All (IsDecision b) ds → AreDecisions b ds
 are_decisions b bundle clean rest of_rest ds generals each = record {
   in_order = ascending ds (subst (λ gs. AllPairs (λ v w. v < w) gs) (sym generals) of_rest.ascending);
   members = λ d. (
@@ -102,7 +102,7 @@ are_decisions b bundle clean rest of_rest ds generals each = record {
   );
 }
 
-pub agree_on : (b : LogBundle) → IsBundle b → IsClean b → HasFew b → (d : Decision) → IsDecision b d → AgreeOn b d.order
+pub agree_on : (b : Bundle) → IsBundle b → IsClean b → HasFew b → (d : Decision) → IsDecision b d → AgreeOn b d.order
 agree_on b bundle clean few d is =
     let a = clean_agrees b bundle clean few in
     let e : d.order ≡ a.0 = a.1.alone d.general is.0 d.orders d.order is.1 in
@@ -118,7 +118,7 @@ none_is_in : (xs : List ℕ) → slice_get xs 0 ≡ None → xs ≡ []
 none_is_in [] e = refl
 none_is_in (y ∷ xs) e = absurd (cc)
 
-pub somebody_is : (b : LogBundle) → IsClean b → (rest : List ℕ) → IsListOf rest (IsOfRest b) → slice_get rest 0 ≡ None → ⊥
+pub somebody_is : (b : Bundle) → IsClean b → (rest : List ℕ) → IsListOf rest (IsOfRest b) → slice_get rest 0 ≡ None → ⊥
 somebody_is b clean rest of_rest e =
     clean Nobody (λ g h. Contains_nil g (subst (λ xs. Contains xs g) (none_is_in rest e) ((of_rest.members g).1 h)))
 

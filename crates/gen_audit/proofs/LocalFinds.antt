@@ -21,7 +21,7 @@ use Rattle.gen_local.specs.Shown.{ShownLog}
 use Rattle.gen_world.proofs.Having.{in_filtered, in_mapped}
 use Rattle.gen_match.specs.declared.finding.Finding.{Finding}
 use Rattle.gen_match.specs.declared.finding.Finding.TheVariants.{Missing, Several, Unreadable, Foreign, Unsigned, Unsealed, Departs, Unmatched, Underivable, Unjoined, Nobody}
-use Rattle.gen_audit.specs.Bundle.{LogBundle, exhibits_of}
+use Rattle.gen_audit.specs.Bundle.{Bundle, exhibits_of}
 use Rattle.gen_audit.specs.Findings.{IsOfRest, FailsAt, IsFinding}
 use Rattle.gen_audit.specs.Telling.{AreReports}
 use Rattle.gen_audit.specs.LocalFindings.{unsigned_at, unless_sealed, departs_at, finds, IsLocal, IsReported, ReportsFindLocal}
@@ -133,7 +133,7 @@ module _ (h : RunHeader) (g : ℕ) where
 
 -- ---- the bundle
 
-module _ (b : LogBundle) where
+module _ (b : Bundle) where
   -- it is found of an exhibit of one of the rest
   abbrev IsOfExhibit : Finding → Type 0
   IsOfExhibit f = (g : ℕ) × IsOfRest b g × ((x : ShownLog) × Contains (exhibits_of b.exhibits g) x × IsOne b.header g (log_of b.header x.bytes) f)

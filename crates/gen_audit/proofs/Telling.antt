@@ -15,7 +15,7 @@ use Rattle.gen_local.specs.declared.reading.Reading.TheVariants.{Unreadable, For
 use Rattle.gen_local.specs.Erased.{erased}
 use Rattle.gen_local.specs.Report.{LocalReport, IsReading, IsReport, AreReportsOf}
 use Rattle.gen_match.specs.Reports.{entries_told, sole_told, reports_of}
-use Rattle.gen_audit.specs.Bundle.{LogBundle, exhibits_of, says_it_is_of, counted, sole_log}
+use Rattle.gen_audit.specs.Bundle.{Bundle, exhibits_of, says_it_is_of, counted, sole_log}
 use Rattle.gen_audit.specs.Telling.{AreReports, ReportsTellLogs}
 use Rattle.gen_audit.proofs.Supporting.{own_of, own_is}
 
@@ -55,7 +55,7 @@ reports_tell_logs b reports are g =
     ∙ ap (sole_log b.header g) (of_his g reports ∙ ap (λ xs. exhibits_of xs g) are.exhibits)
 
 -- reports of a bundle's exhibits, under its header
-pub are_reports : (b : LogBundle) (reports : List LocalReport) → AreReportsOf b.header b.exhibits reports → AreReports b reports
+pub are_reports : (b : Bundle) (reports : List LocalReport) → AreReportsOf b.header b.exhibits reports → AreReports b reports
 are_reports b reports are = record {
   exhibits = are.exhibits;
   header = λ r inside. All-contains (λ (s : LocalReport). s.header ≡ b.header) reports r are.header inside;

@@ -9,7 +9,7 @@ use Rattle.gen_local.specs.Shown.{ShownLog}
 use Rattle.gen_audit.specs.declared.bundle_fault.BundleFault.{BundleFault}
 use Rattle.gen_audit.specs.declared.bundle_fault.BundleFault.TheVariants as faults
 use Rattle.gen_audit.specs.Behind.{check_behind}
-use Rattle.gen_audit.specs.Bundle.{LogBundle}
+use Rattle.gen_audit.specs.Bundle.{Bundle}
 use Rattle.gen_audit.specs.BundleParts.{most_walks, fewest_in_walk, most_in_walk, most_exhibits, ends_of}
 
 -- all are below n
@@ -56,7 +56,7 @@ exhibits_check n exhibits = do
   check_behind (exhibit_check n) shown_general 0 exhibits
 
 -- the bundle of these, or the first rule that they break
-unfoldable pub bundle_with : RunHeader → List ℕ → List (List ℕ) → List ShownLog → Result LogBundle BundleFault
+unfoldable pub bundle_with : RunHeader → List ℕ → List (List ℕ) → List ShownLog → Result Bundle BundleFault
 bundle_with h faulty walks exhibits = do
   members ← check (are_below h.network.generals faulty) faults.FaultyRange
   led ← walks_check h.network.generals walks

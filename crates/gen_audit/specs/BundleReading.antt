@@ -7,7 +7,7 @@ use Rattle.gen_local.specs.Shown.{ShownLog}
 use Rattle.gen_audit.specs.declared.bundle_fault.BundleFault.{BundleFault}
 use Rattle.gen_audit.specs.declared.bundle_fault.BundleFault.TheVariants as faults
 use Rattle.gen_audit.specs.Behind.{many_behind}
-use Rattle.gen_audit.specs.Bundle.{LogBundle}
+use Rattle.gen_audit.specs.Bundle.{Bundle}
 use Rattle.gen_audit.specs.BundleParts.{most_walks, most_exhibits, ends_of}
 use Rattle.gen_audit.specs.BundleMaking.{is_walk_length, no_ends, may_follow, shown_general}
 use Rattle.gen_audit.specs.BundleFields.{front_at, faulty_at}
@@ -57,7 +57,7 @@ exhibits_at n bytes = do
   many_behind (exhibit_at n) shown_general 0 count.0 count.1
 
 -- a bundle, and the bytes after it
-unfoldable pub bundle_at : List ℕ → Result (LogBundle × List ℕ) BundleFault
+unfoldable pub bundle_at : List ℕ → Result (Bundle × List ℕ) BundleFault
 bundle_at bytes = do
   header ← front_at bytes
   faulty ← faulty_at header.0.network.generals header.1
@@ -66,7 +66,7 @@ bundle_at bytes = do
   Ok (record { header = header.0; faulty = faulty.0; walks = walks.0; exhibits = exhibits.0 }, exhibits.1)
 
 -- the bundle that the whole of the bytes is
-unfoldable pub whole_bundle : List ℕ → Result LogBundle BundleFault
+unfoldable pub whole_bundle : List ℕ → Result Bundle BundleFault
 whole_bundle bytes = do
   bundle ← bundle_at bytes
   all ← check (length bundle.1 == 0) faults.LeftOver

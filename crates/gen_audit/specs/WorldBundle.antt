@@ -11,7 +11,7 @@ use Rattle.gen_log.specs.Writing.{LogBytes}
 use Rattle.gen_world.specs.Rows.{logs_of_all}
 use Rattle.gen_world.specs.WorldLogs as worlds
 use Rattle.gen_local.specs.Shown.{ShownLog}
-use Rattle.gen_audit.specs.Bundle.{LogBundle}
+use Rattle.gen_audit.specs.Bundle.{Bundle}
 use Rattle.gen_audit.specs.Supported.{IsSupported}
 use Rattle.gen_audit.specs.declared.verdicts.Verdict.{Verdict}
 use Rattle.gen_audit.specs.Verdict.{IsVerdict}
@@ -26,7 +26,7 @@ abbrev pub all_shown : Scenario → List ShownLog
 all_shown s = flat_map (shown_by s) (range_with_len 0 s.net.generals)
 
 -- the bundle with all logs, in which the generals who have scripts are held for faulty
-abbrev pub bundle_of : Scenario → List (List ℕ) → LogBundle
+abbrev pub bundle_of : Scenario → List (List ℕ) → Bundle
 bundle_of s walks =
     record { header = header_of s; faulty = scripted s.scripts; walks = walks; exhibits = all_shown s }
 

@@ -28,9 +28,9 @@ pub struct Bundle {
 }
 
 impl Model for Bundle {
-    ghost use Rattle.gen_audit.specs.Bundle.{LogBundle, IsBundle};
+    ghost use Rattle.gen_audit.specs.Bundle.{Bundle, IsBundle};
 
-    ghost Value = { LogBundle };
+    ghost Value = { Bundle };
 
     ghost view = { λ b. record {
       header = b.header;
