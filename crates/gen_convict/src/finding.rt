@@ -3,7 +3,7 @@ ghost use Rattle.std.specs.Prelude.{◌≡◌, ◌≤◌, ◌++◌, Contains, If
 ghost use Rattle.std.specs.Option.{option_map};
 ghost use Rattle.std.specs.List.{range_with_len};
 ghost use Rattle.gen_log.specs.Fields.{AreBelow};
-ghost use Rattle.gen_local.specs.Report.{IsReport, LocalReport as Told};
+ghost use Rattle.gen_local.specs.Report.{IsReport, LocalReport as Report};
 ghost use Rattle.gen_convict.specs.Convictions.{AreConvictions, AreEvidence, AreFirst, AreShort, AreUnderHeader, shown_in};
 ghost use Rattle.gen_convict.specs.Evidence.{told_of};
 ghost use Rattle.gen_convict.specs.FindingClaims as finds;
@@ -138,7 +138,7 @@ fn read_one(report: &LocalReport)
 
 /// Makes known what each report keeps.
 fn read_all(reports: &[LocalReport])
-    ensures { (r : Told) → Contains reports.now r → IsReport r × AreBelow 256 r.exhibit.bytes }
+    ensures { (r : Report) → Contains reports.now r → IsReport r × AreBelow 256 r.exhibit.bytes }
 {
     for report in reports {
         read_one(report);
