@@ -11,7 +11,7 @@ use Rattle.gen_local.specs.Report.{LocalReport, IsReport, IsReading}
 use Rattle.gen_convict.specs.Contradictions.{Claim}
 use Rattle.gen_convict.specs.Convictions.{AreConvictions, AreShort, AreUnderHeader, shown_in}
 use Rattle.gen_convict.specs.Evidence.{Accusation}
-use Rattle.gen_convict.specs.FindingClaims.{claim_by, claim_for, accusing, accusations}
+use Rattle.gen_convict.specs.FindingClaims.{least_claim, claim_for, accusing, accusations}
 use Rattle.gen_convict.specs.Finding.{his_texts, one_each}
 use Rattle.gen_convict.specs.First.{IsFirstClaim}
 use Rattle.gen_convict.proofs.FoundClaims.{claim_found, claim_none}
@@ -23,11 +23,11 @@ if_ok P Q (Ok x) f p = f x p
 if_ok P Q (Err e) f p = p
 
 -- the claim by these texts is that by one of each subject
-pub claim_same : (general : ℕ) (firsts texts : List SignedText) (reports : List LocalReport) → texts ≡ his_texts general reports → firsts ≡ one_each [] texts → claim_by general firsts texts reports ≡ claim_for reports general
+pub claim_same : (general : ℕ) (firsts texts : List SignedText) (reports : List LocalReport) → texts ≡ his_texts general reports → firsts ≡ one_each [] texts → least_claim general firsts texts reports ≡ claim_for reports general
 unfolding claim_for
 claim_same general firsts texts reports e f =
-    ap (λ fs. claim_by general fs texts reports) f
-    ∙ ap (λ ts. claim_by general (one_each [] ts) ts reports) e
+    ap (λ fs. least_claim general fs texts reports) f
+    ∙ ap (λ ts. least_claim general (one_each [] ts) ts reports) e
 
 -- the next general's claim behind those that were found
 pub one_more : (reports : List LocalReport) (done : List Accusation) (i n : ℕ) → i < n → done ++ accusations reports (range_with_len i (n - i)) ≡ (done ++ accusing i (claim_for reports i)) ++ accusations reports (range_with_len (i + 1) (n - (i + 1)))
