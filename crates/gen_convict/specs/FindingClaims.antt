@@ -1,5 +1,5 @@
--- The claim that is found against a general, as a function of the reports. Of his texts, firsts are the first of
--- each subject.
+-- The claim that is found against a general, as a function of the reports. Of his texts, firsts are the first
+-- of each subject.
 use Rattle.std.specs.Prelude.{ℕ, Bool, ◌&&◌, ◌==◌, ◌^◌, nat_lt, cond, List, [], ◌∷◌, Option, Some, None}
 use Rattle.std.specs.Option.{option_map, option_or, is_some}
 use Rattle.std.specs.List.{find, flat_map}
