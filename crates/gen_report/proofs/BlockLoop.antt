@@ -44,13 +44,6 @@ unfolding blocks_at next_line
 blocks_step net block k [] = refl
 blocks_step net block k (line ∷ more) = stepped k line more (λ l j ps. item_in net block l.0 >>= λ item. with_item item l (blocks_at net (block_after block item) j ps))
 
-pub blocks_begin : (net : Network) (c : Cursor) → with_blocks [] None [] [] (blocks_from net None c) ≡ blocks_from net None c
-blocks_begin net c = of_blocks (blocks_from net None c)
-  where
-    of_blocks : (r : Result Blocks ScenarioFault) → with_blocks [] None [] [] r ≡ r
-    of_blocks (Ok b) = refl
-    of_blocks (Err f) = refl
-
 -- ---- a line that begins a block
 
 begun : (scripts : List Script) (block : Option ℕ) (lines : List ScriptLine) (paths : List PathLine) (g : ℕ) (l : Line × Cursor) (r : Result Blocks ScenarioFault)

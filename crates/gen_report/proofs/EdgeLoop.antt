@@ -22,13 +22,6 @@ unfolding edge_lines_at next_line
 edges_step k [] = refl
 edges_step k (line ∷ more) = stepped k line more (λ l j ps. edge_in l.0.number l.0.fields >>= λ e. after_edge e l (edge_lines_at j ps))
 
-pub edges_begin : (c : Cursor) → with_front [] (edges_from c) ≡ edges_from c
-edges_begin c = of_edges (edges_from c)
-  where
-    of_edges : (r : Result EdgeLines ScenarioFault) → with_front [] r ≡ r
-    of_edges (Ok o) = refl
-    of_edges (Err f) = refl
-
 regroup : (front : List (ℕ × ℕ)) (e : ℕ × ℕ) (r : Result EdgeLines ScenarioFault) → with_front front (with_edge r e) ≡ with_front (front ++ e ∷ []) r
 regroup front e (Ok o) = ap (λ (es : List (ℕ × ℕ)). Ok (record o { found = es })) (sym (append_assoc front (e ∷ []) o.found))
 regroup front e (Err f) = refl

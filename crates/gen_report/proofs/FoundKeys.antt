@@ -51,10 +51,6 @@ seed_made k w digits seed word e =
     let width : length digits ≡ 2 * 32 = decode_sized-ok digits 32 seed read in
     record { digits = digits; fields_are = two w digits (codes "seed") digits word refl; width = width; spelled = decoded_found digits seed (sym (decode_sized-twice digits 32 width) ∙ read) }
 
-abbrev SeedOr : List (List ℕ) → Option (List ℕ) → Type 0
-SeedOr fs None = Unit {0}
-SeedOr fs (Some master) = SeedOf fs master
-
 seed_in_found : (k : ℕ) (fs : List (List ℕ)) (seed : List ℕ) → seed_in k fs ≡ Ok (Some seed) → SeedOf fs seed
 unfolding seed_in
 seed_in_found k [] seed e = absurd cc
