@@ -1,9 +1,8 @@
 -- An act keeps the machine as the places say.
-use Rattle.std.proofs.Common.{◌≡◌, ℕ, zero, suc, ◌+◌, ◌*◌, ◌<◌, ◌≤◌, inl, inr, List, [], ◌∷◌, ◌++◌, length, map, take, drop, find, replicate, Bool, true, false, ltb, slice_index, slice_set, slice_index_or, Option, Some, None, refl, sym, ap, subst, ◌∙◌, arith, zero-add}
+use Rattle.std.proofs.Common.{◌≡◌, ℕ, zero, suc, ◌+◌, ◌*◌, ◌<◌, ◌≤◌, inl, inr, List, [], ◌∷◌, ◌++◌, length, map, drop, find, replicate, Bool, true, false, ltb, slice_index, slice_set, slice_index_or, Option, Some, None, refl, sym, ap, subst, ◌∙◌, arith, zero-add}
 use Rattle.std.specs.List.{flat_map, range_with_len}
 use Rattle.std.proofs.lemmas.Bool.{cases_eq, cases_lt, cases_Bool, lt-ltb, le-ltb, cond-true, cond-false}
-use Rattle.std.proofs.lemmas.List.Sums.{fold_push}
-use Rattle.std.proofs.lemmas.List.{get_or-set_same, get_or-set_other, length-set, set-get_or, take_more, map-set, get_or-replicate, length-replicate}
+use Rattle.std.proofs.lemmas.List.{get_or-set_same, get_or-set_other, length-set, set-get_or, map-set, get_or-replicate, length-replicate}
 use Rattle.gen_net.specs.Network.{AreNeighbours}
 use Rattle.gen_net.proofs.Neighbours.{joined_below}
 use Rattle.gen_world.specs.Scenario.{Scenario, IsScenario}
@@ -11,15 +10,14 @@ use Rattle.gen_world.specs.SignedWorld.{frame_at}
 use Rattle.gen_world.specs.Loops.Worlds.{AllAre}
 use Rattle.gen_async.specs.declared.acts.Act.{Act}
 use Rattle.gen_async.specs.declared.acts.Act.TheVariants.{Puts, Takes}
-use Rattle.gen_async.specs.declared.acts.Moved.{Moved}
 use Rattle.gen_async.specs.declared.acts.Moved.TheVariants.{Put, Took, Blocked, Done}
 use Rattle.gen_log.specs.Entry.{entry_spelling}
 use Rattle.gen_async.specs.Actors.{ActorState, act_at, entries_at, one_more, undecided_by}
 use Rattle.gen_async.specs.Logs.{log_so_far}
 use Rattle.gen_async.specs.Frames.{queue}
 use Rattle.gen_async.specs.Laws.{MoverNames}
-use Rattle.gen_async.specs.Machine.{at_start, next_act, put, taken, queued, answer, step, after, mover, has_moved}
-use Rattle.gen_async.specs.Running.{MachineState, IsKept, Answers, RunsTo, places_of, queue_at, with_queue}
+use Rattle.gen_async.specs.Machine.{at_start, next_act, put, taken, queued, answer, after, mover, has_moved}
+use Rattle.gen_async.specs.Running.{MachineState, IsKept, Answers, places_of, queue_at, with_queue}
 use Rattle.gen_async.proofs.Answering.{says_put, says_full, says_took, says_empty, says_done}
 use Rattle.gen_async.proofs.Movers.{mover_law}
 use Rattle.gen_async.proofs.Running.{queue_length, queue_same, queue_longer, queue_shorter, put_here, taken_here, put_steps, put_stays, take_steps, take_stays, done_steps}
@@ -256,20 +254,6 @@ module _ (sc : Scenario) (capacity : ℕ) (places : List ℕ) (actors : List Act
         | inl free ↦ lt-ltb 0 n free ∙ sym (ap has_moved (says_took sc.net capacity places g l h next (omega (arith, take_length sc capacity places actors rows k g below l h next))))
         | inr is_empty ↦ le-ltb 0 n is_empty ∙ sym (ap has_moved (says_empty sc.net capacity places g l h next (omega (arith, take_length sc capacity places actors rows k g below l h next))))
       ])
-
--- attempts one after the other
-pub runs_more : (before middle later : MachineState) (acts : List ℕ) (i g : ℕ) (moved : Moved) → i < length acts → g ≡ slice_index_or acts i g → RunsTo before (take i acts) middle → Answers middle g moved later → RunsTo before (take (i + 1) acts) later
-runs_more before middle later acts i g moved short read r a =
-    let longer : take (i + 1) acts ≡ take i acts ++ g ∷ [] = take_more acts i g short ∙ ap (λ z. take i acts ++ z ∷ []) (sym read) in
-    let net_same : middle.scenario.net ≡ before.scenario.net = ap (λ (z : Scenario). z.net) r.scenario in
-    let room_same : middle.capacity ≡ before.capacity = r.capacity in
-    let one : later.places ≡ step before.scenario.net before.capacity (after before.scenario.net before.capacity before.places (take i acts)) g =
-    a.places ∙ ap (λ z. step z middle.capacity middle.places g) net_same ∙ ap (λ z. step before.scenario.net z middle.places g) room_same ∙ ap (λ z. step before.scenario.net before.capacity z g) r.places in
-    record {
-      places = one ∙ sym (fold_push (step before.scenario.net before.capacity) before.places (take i acts) g) ∙ ap (after before.scenario.net before.capacity before.places) (sym longer);
-      scenario = a.scenario ∙ r.scenario;
-      capacity = a.capacity ∙ r.capacity;
-    }
 
 -- the first that passes a test, looked for from the front
 pub find_first : (p : ℕ → Bool) (k n a : ℕ) → find p (range_with_len a k) ≡ None → k < n → p (a + k) ≡ true → find p (range_with_len a n) ≡ Some (a + k)
