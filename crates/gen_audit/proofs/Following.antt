@@ -205,7 +205,7 @@ module _ (net : Network) (g : ℕ) (before : List LogEntry) where
 begins : (net : Network) (g : ℕ) → IsNetwork net → g < net.generals → (entries : List LogEntry) → ((p : ℕ) → DepartsAt net g entries p → ⊥) → (before rest : List LogEntry) → entries ≡ before ++ rest → Begins net g before → Begins net g entries
 begins net g ok known entries none before [] q begun = subst (Begins net g) (sym (q ∙ append-nil before)) begun
 begins net g ok known entries none before (e ∷ rest) q begun =
-    let m : MayFollow net g before e = may_follow net g before e (λ refused. none (length before) ((departs_at_first net g ok known entries (length before)).1 (record { before = before; entry = e; after = rest; split = q; place = refl; begun = begun; refused = refused }))) in
+    let m : MayFollow net g before e = may_follow net g before e (λ refused. none (length before) ((departs_at_first net g ok known entries (length before)).1 (record { before = before; entry = e; after = rest; split = q; index = refl; begun = begun; refused = refused }))) in
     begins net g ok known entries none (before ++ e ∷ []) rest (q ∙ sym (append_assoc before (e ∷ []) rest)) ((begun_by_one_more net g ok known before e).1 (begun, m))
 
 -- a list that ends with DECIDE and departs nowhere is a follower's log
