@@ -186,22 +186,22 @@ all_acts net ok =
     let e3 = ap (λ s. 2 * s * k) (handshake net.generals net.edges ok.edges.inside ok.edges.ascending) in
     e1 ∙ e2 ∙ e3 ∙ omega arith
 
-moved_sum : (places : List ℕ) (g : ℕ) → g < length places → sum (slice_set places g (slice_index places g + 1)) ≡ sum places + 1
-moved_sum places g inside = omega (arith, sum_by-set (λ y. y) places g (slice_index places g + 1) 0 inside)
+moved_sum : (progress : List ℕ) (g : ℕ) → g < length progress → sum (slice_set progress g (slice_index progress g + 1)) ≡ sum progress + 1
+moved_sum progress g inside = omega (arith, sum_by-set (λ y. y) progress g (slice_index progress g + 1) 0 inside)
 
-counted : (net : Network) (capacity : ℕ) (acts places : List ℕ) → AreActs net acts → IsMachine net capacity places → sum (after net capacity places acts) ≡ sum places + moves_in net capacity places acts
-counted net capacity [] places all m = omega arith
-counted net capacity (g ∷ acts) places all m =
+counted : (net : Network) (capacity : ℕ) (acts progress : List ℕ) → AreActs net acts → IsMachine net capacity progress → sum (after net capacity progress acts) ≡ sum progress + moves_in net capacity progress acts
+counted net capacity [] progress all m = omega arith
+counted net capacity (g ∷ acts) progress all m =
     let below : g < net.generals = All-head (λ x. x < net.generals) g acts all in
-    let rest = counted net capacity acts (step net capacity places g) (All-tail (λ x. x < net.generals) g acts all) (machine_step net capacity places g below m) in
-    elim (moves_or_stays net capacity places g) [
+    let rest = counted net capacity acts (step net capacity progress g) (All-tail (λ x. x < net.generals) g acts all) (machine_step net capacity progress g below m) in
+    elim (moves_or_stays net capacity progress g) [
       | inl s ↦
-          let one : sum (step net capacity places g) ≡ sum places + 1 = ap sum s.stepped ∙ moved_sum places g (omega (arith, m.generals)) in
-          let test = bit_true (has_moved (answer net capacity places g)) s.moved in
+          let one : sum (step net capacity progress g) ≡ sum progress + 1 = ap sum s.stepped ∙ moved_sum progress g (omega (arith, m.generals)) in
+          let test = bit_true (has_moved (answer net capacity progress g)) s.moved in
           omega (arith, rest, one, test)
       | inr s ↦
-          let none : sum (step net capacity places g) ≡ sum places = ap sum s.stayed in
-          let test = bit_false (has_moved (answer net capacity places g)) s.unmoved in
+          let none : sum (step net capacity progress g) ≡ sum progress = ap sum s.stayed in
+          let test = bit_false (has_moved (answer net capacity progress g)) s.unmoved in
           omega (arith, rest, none, test)
     ]
 
@@ -211,18 +211,18 @@ sum_start (suc n) = omega (arith, sum_cons (λ y. y) 0 (replicate n 0), sum_star
 
 pub count_law : CountLaw
 count_law net capacity acts ok all =
-    let places = after net capacity (at_start net) acts in
+    let progress = after net capacity (at_start net) acts in
     let m : IsMachine net capacity (after net capacity (at_start net) acts) = machine_after net capacity acts (at_start net) all (machine_at_start net capacity) in
-    let long : length places ≡ net.generals = m.generals in
+    let long : length progress ≡ net.generals = m.generals in
     let total = all_acts net ok in
     let bounds : (k : ℕ) → k ≡ net.generals → sum_by (λ g. length (acts_of net g)) (range_with_len 0 k) ≡ 4 * length net.edges * rounds net = λ k e. ap (λ z. sum_by (λ g. length (acts_of net g)) (range_with_len 0 z)) e ∙ total in
     record {
       counted = omega (arith, counted net capacity acts (at_start net) all (machine_at_start net capacity), sum_start net.generals);
-      at_most = omega (arith, sum_below (λ g. length (acts_of net g)) places 0 (λ i l. rw zero-add (m.within i)), bounds (length places) long);
+      at_most = omega (arith, sum_below (λ g. length (acts_of net g)) progress 0 (λ i l. rw zero-add (m.within i)), bounds (length progress) long);
       in_all = λ done.
-          let low = sum_below (λ g. length (acts_of net g)) places 0 (λ i l. rw zero-add (m.within i)) in
-          let high = sum_above (λ g. length (acts_of net g)) places 0 (λ i l. rw zero-add (stands_at_end net ok places i (done i (omega (arith, long, l)))).all) in
-          omega (arith, low, high, bounds (length places) long);
+          let low = sum_below (λ g. length (acts_of net g)) progress 0 (λ i l. rw zero-add (m.within i)) in
+          let high = sum_above (λ g. length (acts_of net g)) progress 0 (λ i l. rw zero-add (stands_at_end net ok progress i (done i (omega (arith, long, l)))).all) in
+          omega (arith, low, high, bounds (length progress) long);
     }
 
 degree_small : (net : Network) → IsNetwork net → (g : ℕ) → degree (range_with_len 0 net.generals) net.edges g ≤ 16

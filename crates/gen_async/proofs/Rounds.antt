@@ -1,4 +1,4 @@
--- The acts of a general, round by round: where a place in their list stands, and what is counted before it.
+-- The acts of a general, round by round: where he stands after some of them, and what is counted before it.
 use Rattle.std.proofs.Common.{◌≡◌, ℕ, zero, suc, ◌+◌, ◌<◌, ◌≤◌, ◌⊎◌, inl, inr, cond, ◌==◌, List, [], ◌∷◌, ◌++◌, length, map, take, Contains, AllPairs, count_by, slice_get, Some, refl, sym, ap, subst, ◌∙◌, arith, append_assoc}
 use Rattle.gen_async.specs.declared.acts.Act.{Act}
 use Rattle.gen_async.specs.declared.acts.Act.TheVariants.{Puts, Takes}
@@ -38,7 +38,7 @@ pub takes_in_rounds : (x : ℕ) (near : List ℕ) → times x near ≡ 1 → (co
 takes_in_rounds x near once zero l = refl
 takes_in_rounds x near once (suc count) l = omega (arith, count_append (is_take_from x) (acts_of_round near l) (acts_of_rounds near (l + 1) count), takes_in_round x l near, takes_in_rounds x near once count (l + 1))
 
--- a place in the list of acts: so many whole rounds are behind it, and of its own round what stands before it
+-- after some of his acts: so many whole rounds are behind it, and of its own round what stands before it
 pub record Stands (near : List ℕ) (l count p : ℕ) (act : Act) : Type 0 where
   pub gone : ℕ
   pub in_time : gone < count

@@ -112,8 +112,8 @@ pub puts_frames : PutsFrames
 puts_frames s capacity acts lawful known = run_law s.net (puts_by s) (frame_at s) capacity acts lawful.network (made_by_all s) known
 
 pub begins_logs : BeginsLogs
-begins_logs s places g =
-    let law = log_law s.net (written_by s) places g in
+begins_logs s progress g =
+    let law = log_law s.net (written_by s) progress g in
     record {
       rest = law.0.0;
       begins = sym (writes_log s g) ∙ law.0.1;

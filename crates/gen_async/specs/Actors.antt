@@ -21,14 +21,14 @@ use Rattle.gen_async.specs.ScenarioRun.{written_by}
 pub record ActorState : Type 0 where
   pub scenario : Scenario
   pub me : ℕ
-  pub place : ℕ
+  pub progress : ℕ
 
 -- his next act
 abbrev pub act_at : ActorState → Option Act
-act_at a = slice_get (acts_of a.scenario.net a.me) a.place
+act_at a = slice_get (acts_of a.scenario.net a.me) a.progress
 
 abbrev pub one_more : ActorState → ActorState
-one_more a = record { scenario = a.scenario; me = a.me; place = a.place + 1 }
+one_more a = record { scenario = a.scenario; me = a.me; progress = a.progress + 1 }
 
 -- ---- what he has written
 
@@ -41,7 +41,7 @@ undecided_by s g Decides = []
 
 -- the entries of his log once so many acts have moved, without DECIDE
 unfoldable pub entries_at : Scenario → ℕ → ℕ → List Entry
-entries_at s g place = flat_map (undecided_by s g) (standing place (steps_of s.net g))
+entries_at s g progress = flat_map (undecided_by s g) (standing progress (steps_of s.net g))
 
 -- ---- how he stands
 
@@ -76,30 +76,30 @@ abbrev pub recorded_bytes : Recorder → List ℕ
 recorded_bytes r = flat_map entry_spelling (Start r.standing.known.me r.standing.known.own ∷ r.written)
 
 -- he has heard the last frame of a round already, and has yet to begin the next: so much of his log stood before
-pub record HasHeardLast (s : Scenario) (g place : ℕ) (r : Recorder) (shown : ℕ) : Type 0 where
+pub record HasHeardLast (s : Scenario) (g progress : ℕ) (r : Recorder) (shown : ℕ) : Type 0 where
   pub gone : ℕ
   pub in_time : gone < rounds s.net
   pub from : ℕ
   pub first : ℕ
   pub others : List ℕ
-  pub here : slice_get (acts_of s.net g) place ≡ Some (Takes gone from)
+  pub here : slice_get (acts_of s.net g) progress ≡ Some (Takes gone from)
   pub near : neighbours_of s.net g ≡ first ∷ others
-  pub next : slice_get (acts_of s.net g) (place + 1) ≡ Some (Puts (gone + 1) first)
+  pub next : slice_get (acts_of s.net g) (progress + 1) ≡ Some (Puts (gone + 1) first)
   pub records : RecordsAfter s gone g r
   pub fits : shown ≤ length (recorded_bytes r)
-  pub log : take shown (recorded_bytes r) ≡ flat_map entry_spelling (entries_at s g place)
+  pub log : take shown (recorded_bytes r) ≡ flat_map entry_spelling (entries_at s g progress)
 
 abbrev pub IsActing : Scenario → ℕ → ℕ → Recorder → Option ℕ → Type 0
-IsActing s g place r None = StandsBefore s g (slice_get (acts_of s.net g) place) r
-IsActing s g place r (Some shown) = HasHeardLast s g place r shown
+IsActing s g progress r None = StandsBefore s g (slice_get (acts_of s.net g) progress) r
+IsActing s g progress r (Some shown) = HasHeardLast s g progress r shown
 
 -- what the fields of a general keep
-pub record IsActor (s : Scenario) (g : ℕ) (acts : List Act) (place : ℕ) (r : Recorder) (waiting : Option ℕ) : Type 0 where
+pub record IsActor (s : Scenario) (g : ℕ) (acts : List Act) (progress : ℕ) (r : Recorder) (waiting : Option ℕ) : Type 0 where
   pub lawful : IsScenario s
   pub known : g < s.net.generals
   pub planned : acts ≡ acts_of s.net g
-  pub within : place ≤ length acts
-  pub acting : IsActing s g place r waiting
+  pub within : progress ≤ length acts
+  pub acting : IsActing s g progress r waiting
 
 -- the act puts
 abbrev pub is_put : Option Act → Bool

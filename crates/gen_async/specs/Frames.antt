@@ -10,7 +10,7 @@ use Rattle.gen_async.specs.Laws.{AreActs}
 
 -- the queue from a to b: the frames of this edge in the world, from the number taken plus one to the number put, in order
 unfoldable pub queue : {F : Type 0} → Network → (ℕ → ℕ → ℕ → F) → List ℕ → ℕ → ℕ → List F
-queue net world places a b = map (λ l. world l a b) (range_with_len (taken net places a b + 1) (queued net places a b))
+queue net world progress a b = map (λ l. world l a b) (range_with_len (taken net progress a b + 1) (queued net progress a b))
 
 -- a frame that a general took: in which round, from whom, and the frame
 pub record Arrival (F : Type 0) : Type 0 where
@@ -26,7 +26,7 @@ taken_by world g (Takes l h ∷ acts) = record { round = l; from = h; frame = wo
 
 -- what g has taken so far
 unfoldable pub took : {F : Type 0} → Network → (ℕ → ℕ → ℕ → F) → List ℕ → ℕ → List (Arrival F)
-took net world places g = taken_by world g (moved_acts net places g)
+took net world progress g = taken_by world g (moved_acts net progress g)
 
 -- what comes to g in so many rounds from round l on: the frames from his neighbours in ascending order, round by round
 abbrev pub heard_in : {F : Type 0} → Network → (ℕ → ℕ → ℕ → F) → ℕ → ℕ → ℕ → List (Arrival F)
@@ -40,13 +40,13 @@ IsMadeBy net says world =
     (g l h : ℕ) → 1 ≤ l → l ≤ rounds net → AreNeighbours net g h
     → world l g h ≡ says g (heard_in net world g 1 (l - 1)) l h
 
--- The machine with its frames: places, queues, and what each took.
+-- The machine with its frames: progress, queues, and what each took.
 pub record Running (F : Type 0) : Type 0 where
-  pub places : List ℕ
+  pub progress : List ℕ
   pub queues : ℕ → ℕ → List F
   pub taken : ℕ → List (Arrival F)
 
--- the table f with x at one place
+-- the table f with x in one cell
 abbrev pub with_pair : {X : Type 0} → (ℕ → ℕ → X) → ℕ → ℕ → X → ℕ → ℕ → X
 with_pair f a b x c d = if c == a && d == b then x else f c d
 
@@ -57,7 +57,7 @@ with_one f a x c = if c == a then x else f c
 abbrev pub run_take : {F : Type 0} → Running F → ℕ → ℕ → ℕ → List F → Running F
 run_take s g l h [] = s
 run_take s g l h (frame ∷ rest) = record {
-  places = slice_set s.places g (slice_index s.places g + 1);
+  progress = slice_set s.progress g (slice_index s.progress g + 1);
   queues = with_pair s.queues h g rest;
   taken = with_one s.taken g (s.taken g ++ record { round = l; from = h; frame = frame } ∷ []);
 }
@@ -69,7 +69,7 @@ run_act says capacity s g None = s
 run_act says capacity s g (Some (Puts l h)) =
     if nat_lt (length (s.queues g h)) capacity
     then record {
-      places = slice_set s.places g (slice_index s.places g + 1);
+      progress = slice_set s.progress g (slice_index s.progress g + 1);
       queues = with_pair s.queues g h (s.queues g h ++ says g (s.taken g) l h ∷ []);
       taken = s.taken;
     }
@@ -77,21 +77,21 @@ run_act says capacity s g (Some (Puts l h)) =
 run_act says capacity s g (Some (Takes l h)) = run_take s g l h (s.queues h g)
 
 unfoldable pub run_step : {F : Type 0} → Network → (ℕ → List (Arrival F) → ℕ → ℕ → F) → ℕ → Running F → ℕ → Running F
-run_step net says capacity s g = run_act says capacity s g (next_act net s.places g)
+run_step net says capacity s g = run_act says capacity s g (next_act net s.progress g)
 
 abbrev pub run_start : {F : Type 0} → Network → Running F
-run_start net = record { places = at_start net; queues = λ a b. []; taken = λ g. [] }
+run_start net = record { progress = at_start net; queues = λ a b. []; taken = λ g. [] }
 
 -- what runs is the world's: every queue, and what each took
 pub record IsOfWorld {F : Type 0} (net : Network) (world : ℕ → ℕ → ℕ → F) (s : Running F) : Type 0 where
-  pub queues_same : (a b : ℕ) → s.queues a b ≡ queue net world s.places a b
-  pub taken_same : (g : ℕ) → s.taken g ≡ took net world s.places g
+  pub queues_same : (a b : ℕ) → s.queues a b ≡ queue net world s.progress a b
+  pub taken_same : (g : ℕ) → s.taken g ≡ took net world s.progress g
 
 -- Whatever the acts, in a world that the participants make they put the world's frames: the queue of an edge holds them from the
 -- number taken plus one to the number put, in order.
 pub record RunsAsWorld {F : Type 0} (net : Network) (says : ℕ → List (Arrival F) → ℕ → ℕ → F)
     (world : ℕ → ℕ → ℕ → F) (capacity : ℕ) (acts : List ℕ) : Type 0 where
-  pub places : (fold (run_step net says capacity) (run_start net) acts).places ≡ after net capacity (at_start net) acts
+  pub progress : (fold (run_step net says capacity) (run_start net) acts).progress ≡ after net capacity (at_start net) acts
   pub world_holds : IsOfWorld net world (fold (run_step net says capacity) (run_start net) acts)
 
 abbrev pub RunLaw : Type 0 → Type 0
@@ -102,5 +102,5 @@ RunLaw F =
 -- What a general has taken before his put of round l is what comes to him in the rounds before.
 abbrev pub HeardLaw : Type 0 → Type 0
 HeardLaw F =
-    (net : Network) (world : ℕ → ℕ → ℕ → F) (places : List ℕ) (g l h : ℕ) → IsNetwork net
-    → next_act net places g ≡ Some (Puts l h) → took net world places g ≡ heard_in net world g 1 (l - 1)
+    (net : Network) (world : ℕ → ℕ → ℕ → F) (progress : List ℕ) (g l h : ℕ) → IsNetwork net
+    → next_act net progress g ≡ Some (Puts l h) → took net world progress g ≡ heard_in net world g 1 (l - 1)

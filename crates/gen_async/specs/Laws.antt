@@ -6,13 +6,13 @@ use Rattle.gen_async.specs.declared.acts.Act.TheVariants.{Puts, Takes}
 use Rattle.gen_async.specs.Acts.{acts_of}
 use Rattle.gen_async.specs.Machine.{at_start, next_act, put, taken, answer, has_moved, after, moves_in, mover}
 
--- What holds of a machine at all times: each general has a place in the list of his acts or at its end, and no queue holds less
+-- What holds of a machine at all times: each general has come some way along the list of his acts, at most to its end, and no queue holds less
 -- than nothing or more than the capacity.
-pub record IsMachine (net : Network) (capacity : ℕ) (places : List ℕ) : Type 0 where
-  pub generals : length places ≡ net.generals
-  pub within : (g : ℕ) → slice_index places g ≤ length (acts_of net g)
-  pub not_below : (a b : ℕ) → taken net places a b ≤ put net places a b
-  pub fits : (a b : ℕ) → put net places a b ≤ taken net places a b + capacity
+pub record IsMachine (net : Network) (capacity : ℕ) (progress : List ℕ) : Type 0 where
+  pub generals : length progress ≡ net.generals
+  pub within : (g : ℕ) → slice_index progress g ≤ length (acts_of net g)
+  pub not_below : (a b : ℕ) → taken net progress a b ≤ put net progress a b
+  pub fits : (a b : ℕ) → put net progress a b ≤ taken net progress a b + capacity
 
 -- the acts are of generals of the network
 abbrev pub AreActs : Network → List ℕ → Type 0
@@ -27,54 +27,54 @@ QueueLaw =
 -- Where g stands by his next act. Before his put of round l to h he has put l - 1 frames to h, taken all frames of the rounds before
 -- and put to each neighbour l - 1 or l frames. Before his take of round l from h he has put l frames to each neighbour, taken l - 1
 -- from h and l - 1 or l from each neighbour. Without a next act he has put and taken R.
-pub record IsAtPut (net : Network) (places : List ℕ) (g l h : ℕ) : Type 0 where
+pub record IsAtPut (net : Network) (progress : List ℕ) (g l h : ℕ) : Type 0 where
   pub joined : AreNeighbours net g h
   pub first : 1 ≤ l
   pub last : l ≤ rounds net
-  pub here : put net places g h + 1 ≡ l
-  pub others : (x : ℕ) → AreNeighbours net g x → (l ≤ put net places g x + 1) × (put net places g x ≤ l)
-  pub took : (x : ℕ) → AreNeighbours net g x → taken net places x g + 1 ≡ l
+  pub here : put net progress g h + 1 ≡ l
+  pub others : (x : ℕ) → AreNeighbours net g x → (l ≤ put net progress g x + 1) × (put net progress g x ≤ l)
+  pub took : (x : ℕ) → AreNeighbours net g x → taken net progress x g + 1 ≡ l
 
-pub record IsAtTake (net : Network) (places : List ℕ) (g l h : ℕ) : Type 0 where
+pub record IsAtTake (net : Network) (progress : List ℕ) (g l h : ℕ) : Type 0 where
   pub joined : AreNeighbours net g h
   pub first : 1 ≤ l
   pub last : l ≤ rounds net
-  pub here : taken net places h g + 1 ≡ l
-  pub others : (x : ℕ) → AreNeighbours net g x → (l ≤ taken net places x g + 1) × (taken net places x g ≤ l)
-  pub gave : (x : ℕ) → AreNeighbours net g x → put net places g x ≡ l
+  pub here : taken net progress h g + 1 ≡ l
+  pub others : (x : ℕ) → AreNeighbours net g x → (l ≤ taken net progress x g + 1) × (taken net progress x g ≤ l)
+  pub gave : (x : ℕ) → AreNeighbours net g x → put net progress g x ≡ l
 
-pub record IsAtEnd (net : Network) (places : List ℕ) (g : ℕ) : Type 0 where
-  pub all : length (acts_of net g) ≤ slice_index places g
-  pub gave : (x : ℕ) → AreNeighbours net g x → put net places g x ≡ rounds net
-  pub took : (x : ℕ) → AreNeighbours net g x → taken net places x g ≡ rounds net
+pub record IsAtEnd (net : Network) (progress : List ℕ) (g : ℕ) : Type 0 where
+  pub all : length (acts_of net g) ≤ slice_index progress g
+  pub gave : (x : ℕ) → AreNeighbours net g x → put net progress g x ≡ rounds net
+  pub took : (x : ℕ) → AreNeighbours net g x → taken net progress x g ≡ rounds net
 
 abbrev pub IsAt : Network → List ℕ → ℕ → Option Act → Type 0
-IsAt net places g None = IsAtEnd net places g
-IsAt net places g (Some (Puts l h)) = IsAtPut net places g l h
-IsAt net places g (Some (Takes l h)) = IsAtTake net places g l h
+IsAt net progress g None = IsAtEnd net progress g
+IsAt net progress g (Some (Puts l h)) = IsAtPut net progress g l h
+IsAt net progress g (Some (Takes l h)) = IsAtTake net progress g l h
 
-abbrev pub PlaceLaw : Type 0
-PlaceLaw = (net : Network) (places : List ℕ) (g : ℕ) → IsNetwork net → IsAt net places g (next_act net places g)
+abbrev pub ProgressLaw : Type 0
+ProgressLaw = (net : Network) (progress : List ℕ) (g : ℕ) → IsNetwork net → IsAt net progress g (next_act net progress g)
 
 -- nobody has an act left
 abbrev pub AllDone : Network → List ℕ → Type 0
-AllDone net places = (g : ℕ) → g < net.generals → next_act net places g ≡ None
+AllDone net progress = (g : ℕ) → g < net.generals → next_act net progress g ≡ None
 
 -- Whom mover names is a general whose next act moves, and it names nobody only where all are done.
-pub record MoverNames (net : Network) (capacity : ℕ) (places : List ℕ) (named : Option ℕ) : Type 0 where
-  pub moves : IfSome named (λ g. (g < net.generals) × (has_moved (answer net capacity places g) ≡ true))
-  pub done : (named ≡ None) ↔ AllDone net places
+pub record MoverNames (net : Network) (capacity : ℕ) (progress : List ℕ) (named : Option ℕ) : Type 0 where
+  pub moves : IfSome named (λ g. (g < net.generals) × (has_moved (answer net capacity progress g) ≡ true))
+  pub done : (named ≡ None) ↔ AllDone net progress
 
 abbrev pub MoverLaw : Type 0
 MoverLaw =
-    (net : Network) (capacity : ℕ) (places : List ℕ) → IsNetwork net → 1 ≤ capacity → IsMachine net capacity places
-    → MoverNames net capacity places (mover net capacity places)
+    (net : Network) (capacity : ℕ) (progress : List ℕ) → IsNetwork net → 1 ≤ capacity → IsMachine net capacity progress
+    → MoverNames net capacity progress (mover net capacity progress)
 
--- as many acts have moved as the places add up to, at most four times R for each edge, and just so many once all are done
-pub record CountsMoves (net : Network) (capacity : ℕ) (acts places : List ℕ) : Type 0 where
-  pub counted : moves_in net capacity (at_start net) acts ≡ sum places
-  pub at_most : sum places ≤ 4 * length net.edges * rounds net
-  pub in_all : AllDone net places → sum places ≡ 4 * length net.edges * rounds net
+-- as many acts have moved as the progress of all adds up to, at most four times R for each edge, and just so many once all are done
+pub record CountsMoves (net : Network) (capacity : ℕ) (acts progress : List ℕ) : Type 0 where
+  pub counted : moves_in net capacity (at_start net) acts ≡ sum progress
+  pub at_most : sum progress ≤ 4 * length net.edges * rounds net
+  pub in_all : AllDone net progress → sum progress ≡ 4 * length net.edges * rounds net
 
 abbrev pub CountLaw : Type 0
 CountLaw =

@@ -1,4 +1,4 @@
--- The machine: its state is one number for each general, his place in the list of his acts, which is how many of them have moved.
+-- The machine: its state is one number for each general, his progress: how many of his acts have moved.
 use Rattle.std.specs.Prelude.{ℕ, ◌+◌, ◌-◌, Bool, true, false, cond, List, [], ◌∷◌, take, replicate, fold, count_by, find, Option, Some, None, nat_lt, slice_get, slice_index, slice_set, if◌then◌else◌}
 use Rattle.std.specs.List.{range_with_len}
 use Rattle.gen_net.specs.Network.{Network}
@@ -14,30 +14,30 @@ at_start net = replicate net.generals 0
 
 -- the acts of g that have moved, and his next act
 unfoldable pub moved_acts : Network → List ℕ → ℕ → List Act
-moved_acts net places g = take (slice_index places g) (acts_of net g)
+moved_acts net progress g = take (slice_index progress g) (acts_of net g)
 
 unfoldable pub next_act : Network → List ℕ → ℕ → Option Act
-next_act net places g = slice_get (acts_of net g) (slice_index places g)
+next_act net progress g = slice_get (acts_of net g) (slice_index progress g)
 
 -- how many frames a has put for b, and how many b has taken from a
 unfoldable pub put : Network → List ℕ → ℕ → ℕ → ℕ
-put net places a b = count_by (is_put_to b) (moved_acts net places a)
+put net progress a b = count_by (is_put_to b) (moved_acts net progress a)
 
 unfoldable pub taken : Network → List ℕ → ℕ → ℕ → ℕ
-taken net places a b = count_by (is_take_from a) (moved_acts net places b)
+taken net progress a b = count_by (is_take_from a) (moved_acts net progress b)
 
 -- how many frames the queue from a to b holds
 abbrev pub queued : Network → List ℕ → ℕ → ℕ → ℕ
-queued net places a b = put net places a b - taken net places a b
+queued net progress a b = put net progress a b - taken net progress a b
 
 -- What becomes of an attempt of g at this act: a put moves where the queue isn't full, a take where it isn't empty.
 abbrev pub answer_to : Network → ℕ → List ℕ → ℕ → Option Act → Moved
-answer_to net capacity places g None = Done
-answer_to net capacity places g (Some (Puts l h)) = if nat_lt (queued net places g h) capacity then Put else Blocked
-answer_to net capacity places g (Some (Takes l h)) = if nat_lt 0 (queued net places h g) then Took else Blocked
+answer_to net capacity progress g None = Done
+answer_to net capacity progress g (Some (Puts l h)) = if nat_lt (queued net progress g h) capacity then Put else Blocked
+answer_to net capacity progress g (Some (Takes l h)) = if nat_lt 0 (queued net progress h g) then Took else Blocked
 
 unfoldable pub answer : Network → ℕ → List ℕ → ℕ → Moved
-answer net capacity places g = answer_to net capacity places g (next_act net places g)
+answer net capacity progress g = answer_to net capacity progress g (next_act net progress g)
 
 abbrev pub has_moved : Moved → Bool
 has_moved Put = true
@@ -47,19 +47,19 @@ has_moved Done = false
 
 -- one attempt of g at his next act
 unfoldable pub step : Network → ℕ → List ℕ → ℕ → List ℕ
-step net capacity places g =
-    if has_moved (answer net capacity places g) then slice_set places g (slice_index places g + 1) else places
+step net capacity progress g =
+    if has_moved (answer net capacity progress g) then slice_set progress g (slice_index progress g + 1) else progress
 
 -- the attempts of these generals, one after the other
 abbrev pub after : Network → ℕ → List ℕ → List ℕ → List ℕ
-after net capacity places generals = fold (step net capacity) places generals
+after net capacity progress generals = fold (step net capacity) progress generals
 
 -- how many of these attempts move
 abbrev pub moves_in : Network → ℕ → List ℕ → List ℕ → ℕ
-moves_in net capacity places [] = 0
-moves_in net capacity places (g ∷ more) =
-    cond (has_moved (answer net capacity places g)) 1 0 + moves_in net capacity (step net capacity places g) more
+moves_in net capacity progress [] = 0
+moves_in net capacity progress (g ∷ more) =
+    cond (has_moved (answer net capacity progress g)) 1 0 + moves_in net capacity (step net capacity progress g) more
 
 -- the first general whose next act moves
 unfoldable pub mover : Network → ℕ → List ℕ → Option ℕ
-mover net capacity places = find (λ g. has_moved (answer net capacity places g)) (range_with_len 0 net.generals)
+mover net capacity progress = find (λ g. has_moved (answer net capacity progress g)) (range_with_len 0 net.generals)

@@ -8,8 +8,8 @@ use Rattle.gen_async.specs.Machine.{at_start, answer, step, after, mover}
 
 -- what the attempts of these generals answer, one after the other
 abbrev pub answers : Network → ℕ → List ℕ → List ℕ → List Moved
-answers net capacity places [] = []
-answers net capacity places (g ∷ more) = answer net capacity places g ∷ answers net capacity (step net capacity places g) more
+answers net capacity progress [] = []
+answers net capacity progress (g ∷ more) = answer net capacity progress g ∷ answers net capacity (step net capacity progress g) more
 
 abbrev pub pair : Network
 pair = record { generals = 2; edges = (0, 1) ∷ []; traitors = 0; diameter = 1; orders = 2; choice = Only }

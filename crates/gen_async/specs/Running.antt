@@ -15,12 +15,12 @@ use Rattle.gen_async.specs.Machine.{answer, step, after}
 pub record MachineState : Type 0 where
   pub scenario : Scenario
   pub capacity : ℕ
-  pub places : List ℕ
+  pub progress : List ℕ
 
 -- ---- its fields
 
-abbrev pub places_of : List ActorState → List ℕ
-places_of actors = map (λ a. a.place) actors
+abbrev pub progress_of : List ActorState → List ℕ
+progress_of actors = map (λ a. a.progress) actors
 
 -- the queue from a to b in a table of 16 by 16
 abbrev pub queue_at : {F : Type 0} → List (List F) → ℕ → ℕ → List F
@@ -30,28 +30,28 @@ queue_at rows a b = slice_index_or rows (a * 16 + b) []
 abbrev pub with_queue : {F : Type 0} → List (List F) → ℕ → ℕ → List F → List (List F)
 with_queue rows a b held = slice_set rows (a * 16 + b) held
 
--- the generals are the scenario's, in order, and the queues are what the places say
-pub record IsKept (s : Scenario) (capacity : ℕ) (places : List ℕ) (actors : List ActorState) (rows : List (List (List (List ℕ)))) : Type 0 where
+-- the generals are the scenario's, in order, and the queues are what the progress of all says
+pub record IsKept (s : Scenario) (capacity : ℕ) (progress : List ℕ) (actors : List ActorState) (rows : List (List (List (List ℕ)))) : Type 0 where
   pub lawful : IsScenario s
-  pub machine : IsMachine s.net capacity places
+  pub machine : IsMachine s.net capacity progress
   pub all_actors : length actors ≡ s.net.generals
   pub all_rows : length rows ≡ 256
   pub acting : (g : ℕ) (d : ActorState) → g < s.net.generals
-      → ◌≡◌ {A = ActorState} (slice_index_or actors g d) (record { scenario = s; me = g; place = slice_index places g })
-  pub queued_up : (a b : ℕ) → a < 16 → b < 16 → queue_at rows a b ≡ queue s.net (frame_at s) places a b
+      → ◌≡◌ {A = ActorState} (slice_index_or actors g d) (record { scenario = s; me = g; progress = slice_index progress g })
+  pub queued_up : (a b : ℕ) → a < 16 → b < 16 → queue_at rows a b ≡ queue s.net (frame_at s) progress a b
 
 -- ---- attempts
 
 -- the attempt of g answers and changes what the definitions say
 pub record Answers (before : MachineState) (g : ℕ) (moved : Moved) (later : MachineState) : Type 0 where
-  pub said : moved ≡ answer before.scenario.net before.capacity before.places g
-  pub places : later.places ≡ step before.scenario.net before.capacity before.places g
+  pub said : moved ≡ answer before.scenario.net before.capacity before.progress g
+  pub progress : later.progress ≡ step before.scenario.net before.capacity before.progress g
   pub scenario : later.scenario ≡ before.scenario
   pub capacity : later.capacity ≡ before.capacity
 
 -- these attempts, one after the other
 pub record RunsTo (before : MachineState) (acts : List ℕ) (later : MachineState) : Type 0 where
-  pub places : later.places ≡ after before.scenario.net before.capacity before.places acts
+  pub progress : later.progress ≡ after before.scenario.net before.capacity before.progress acts
   pub scenario : later.scenario ≡ before.scenario
   pub capacity : later.capacity ≡ before.capacity
 

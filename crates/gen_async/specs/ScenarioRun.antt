@@ -49,12 +49,12 @@ written_by s g Decides = decide_entry s.net (own_order s g) (middle_of s g) ∷ 
 abbrev pub WritesLog : Type 0
 WritesLog = (s : Scenario) (g : ℕ) → whole_log s.net (written_by s) g ≡ entries_over (sender_of s g) (middle_of s g)
 
--- whatever the places, what he has written begins them, and is all of them once he is done
-pub record BeginsLog (s : Scenario) (places : List ℕ) (g : ℕ) : Type 0 where
+-- however far all have come, what he has written begins them, and is all of them once he is done
+pub record BeginsLog (s : Scenario) (progress : List ℕ) (g : ℕ) : Type 0 where
   pub rest : List Entry
-  pub begins : entries_over (sender_of s g) (middle_of s g) ≡ log_so_far s.net (written_by s) places g ++ rest
-  pub whole : length (acts_of s.net g) ≤ slice_index places g
-      → log_so_far s.net (written_by s) places g ≡ entries_over (sender_of s g) (middle_of s g)
+  pub begins : entries_over (sender_of s g) (middle_of s g) ≡ log_so_far s.net (written_by s) progress g ++ rest
+  pub whole : length (acts_of s.net g) ≤ slice_index progress g
+      → log_so_far s.net (written_by s) progress g ≡ entries_over (sender_of s g) (middle_of s g)
 
 abbrev pub BeginsLogs : Type 0
-BeginsLogs = (s : Scenario) (places : List ℕ) (g : ℕ) → BeginsLog s places g
+BeginsLogs = (s : Scenario) (progress : List ℕ) (g : ℕ) → BeginsLog s progress g

@@ -3,11 +3,11 @@ ghost use Rattle.gen_async.specs.Logs.{LogLaw, StandLaw};
 ghost use Rattle.gen_async.specs.Rows.{PairRow, PairEnds, TriangleRow, TriangleTwo};
 ghost use Rattle.gen_async.specs.Frames.{HeardLaw, RunLaw};
 ghost use Rattle.gen_async.specs.ScenarioRun.{BeginsLogs, PutsFrames, WritesLog};
-ghost use Rattle.gen_async.specs.Laws.{CountLaw, MoverLaw, PlaceLaw, QueueLaw};
+ghost use Rattle.gen_async.specs.Laws.{CountLaw, MoverLaw, ProgressLaw, QueueLaw};
 
 /// Where a general stands by his next act.
-pub fn places()
-    ensures { PlaceLaw }
+pub fn progress()
+    ensures { ProgressLaw }
 {}
 
 /// No queue holds less than nothing or more than the capacity.
@@ -20,7 +20,7 @@ pub fn movers()
     ensures { MoverLaw }
 {}
 
-/// As many acts have moved as the places add up to, and never more than four for each edge and round.
+/// As many acts have moved as the progress of all adds up to, and never more than four for each edge and round.
 pub fn counts()
     ensures { CountLaw }
 {}

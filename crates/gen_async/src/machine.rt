@@ -36,22 +36,22 @@ pub struct Machine {
 
 impl Model for Machine {
     ghost use Rattle.std.specs.Prelude.{map};
-    ghost use Rattle.gen_async.specs.Running.{MachineState, IsKept, places_of};
+    ghost use Rattle.gen_async.specs.Running.{MachineState, IsKept, progress_of};
 
     ghost Value = { MachineState };
 
     ghost view = { λ m. record {
       scenario = m.scenario.value;
       capacity = m.capacity;
-      places = places_of m.actors.items;
+      progress = progress_of m.actors.items;
     } };
 
-    ghost invariant = { λ m. IsKept m.scenario.value m.capacity (places_of m.actors.items) m.actors.items
+    ghost invariant = { λ m. IsKept m.scenario.value m.capacity (progress_of m.actors.items) m.actors.items
         (map (λ queue. queue.items) m.queues.items) };
 }
 
 /// Returns where a general stands in the list of generals.
-fn place_of(general: GeneralNo) -> usize
+fn index_of(general: GeneralNo) -> usize
     ensures { result ≡ general }
 {
     usize::from(general.get())
@@ -62,7 +62,7 @@ fn spot(from: GeneralNo, to: GeneralNo) -> usize
     ensures value { result ≡ from * 16 + to }
     ensures below { result < 256 }
 {
-    place_of(from) * 16 + place_of(to)
+    index_of(from) * 16 + index_of(to)
 }
 
 /// Makes all queues, empty.
@@ -79,7 +79,7 @@ fn empty_queues(alloc: Global) -> Result<Vec<VecDeque<Frame>>, AllocError>
 /// Makes all generals of a scenario, none of whose acts has moved.
 fn add_actors(alloc: Global, scenario: &Scenario, actors: &mut Vec<Actor>) -> Result<(), AllocError>
     requires { actors.old.items ≡ [] }
-    ensures { OnOk result (AllAre (λ g actor. actor ≡ record { scenario = scenario.now; me = g; place = 0 })
+    ensures { OnOk result (AllAre (λ g actor. actor ≡ record { scenario = scenario.now; me = g; progress = 0 })
         scenario.now.net.generals actors.new.items) }
 {
     let generals = scenario.header().net().generals();
@@ -120,7 +120,7 @@ impl Machine {
     /// `AllocError` where memory is refused.
     pub fn new(alloc: Global, scenario: &Scenario, capacity: usize) -> Result<Machine, AllocError>
         ensures { IfOk result (λ machine. machine
-            ≡ record { scenario = scenario.now; capacity = capacity; places = at_start scenario.now.net }) }
+            ≡ record { scenario = scenario.now; capacity = capacity; progress = at_start scenario.now.net }) }
     {
         let _lawful = scenario.header();
         let queues = empty_queues(alloc)?;
@@ -139,7 +139,7 @@ impl Machine {
 
     /// An attempt of a general at a put, which is his next act.
     fn put(&mut self, alloc: Global, me: GeneralNo, to: GeneralNo) -> Result<Moved, AllocError>
-        requires next { (l : ℕ) × (next_act self.old.scenario.net self.old.places me ≡ Some (Puts l to)) }
+        requires next { (l : ℕ) × (next_act self.old.scenario.net self.old.progress me ≡ Some (Puts l to)) }
         requires below { me < self.old.scenario.net.generals }
         ensures ok { IfOk result (λ moved. Answers self.old me moved self.new) }
         ensures err { OnErr result (self.new ≡ self.old) }
@@ -149,14 +149,14 @@ impl Machine {
             return Ok(Moved::Blocked);
         }
         queue.reserve(1)?;
-        let frame = self.actors[place_of(me)].put(alloc, to)?;
+        let frame = self.actors[index_of(me)].put(alloc, to)?;
         queue.push_back_reserved(frame);
         Ok(Moved::Put)
     }
 
     /// An attempt of a general at a take, which is his next act.
     fn take(&mut self, alloc: Global, me: GeneralNo, from: GeneralNo) -> Result<Moved, AllocError>
-        requires next { (l : ℕ) × (next_act self.old.scenario.net self.old.places me ≡ Some (Takes l from)) }
+        requires next { (l : ℕ) × (next_act self.old.scenario.net self.old.progress me ≡ Some (Takes l from)) }
         requires below { me < self.old.scenario.net.generals }
         ensures ok { IfOk result (λ moved. Answers self.old me moved self.new) }
         ensures err { OnErr result (self.new ≡ self.old) }
@@ -165,7 +165,7 @@ impl Machine {
         let Some(frame) = queue.front() else {
             return Ok(Moved::Blocked);
         };
-        self.actors[place_of(me)].take(alloc, from, frame)?;
+        self.actors[index_of(me)].take(alloc, from, frame)?;
         let _ = queue.pop_front();
         Ok(Moved::Took)
     }
@@ -181,7 +181,7 @@ impl Machine {
         ensures ok { IfOk result (λ moved. Answers self.old me moved self.new) }
         ensures err { OnErr result (self.new ≡ self.old) }
     {
-        let Some(next) = self.actors[place_of(me)].next() else {
+        let Some(next) = self.actors[index_of(me)].next() else {
             return Ok(Moved::Done);
         };
         match &next {
@@ -211,9 +211,9 @@ impl Machine {
     /// Returns whether the next act of a general would move.
     fn would_move(&self, me: GeneralNo) -> bool
         requires below { me < self.now.scenario.net.generals }
-        ensures { result ≡ has_moved (answer self.now.scenario.net self.now.capacity self.now.places me) }
+        ensures { result ≡ has_moved (answer self.now.scenario.net self.now.capacity self.now.progress me) }
     {
-        let Some(next) = self.actors[place_of(me)].next() else {
+        let Some(next) = self.actors[index_of(me)].next() else {
             return false;
         };
         match &next {
@@ -225,9 +225,9 @@ impl Machine {
     /// Returns the first general whose next act would move. There is one until all are done, unless the
     /// capacity is 0.
     pub fn mover(&self) -> Option<GeneralNo>
-        ensures first { result ≡ mover self.now.scenario.net self.now.capacity self.now.places }
+        ensures first { result ≡ mover self.now.scenario.net self.now.capacity self.now.progress }
         ensures names { 1 ≤ self.now.capacity
-            → MoverNames self.now.scenario.net self.now.capacity self.now.places result }
+            → MoverNames self.now.scenario.net self.now.capacity self.now.progress result }
     {
         'generals: for number in 0..self.actors.len() as u8 {
             let me = GeneralNo::at(number);
@@ -257,9 +257,9 @@ impl Machine {
     pub fn log_so_far(&self, me: GeneralNo) -> &[u8]
         requires below { me < self.now.scenario.net.generals }
         ensures { result.now ≡ flat_map entry_spelling
-            (log_so_far self.now.scenario.net (undecided_by self.now.scenario) self.now.places me) }
+            (log_so_far self.now.scenario.net (undecided_by self.now.scenario) self.now.progress me) }
     {
-        self.actors[place_of(me)].log_so_far()
+        self.actors[index_of(me)].log_so_far()
     }
 
     /// Ends a machine in which nobody has an act left, and returns the logs of the run: those of all
@@ -269,7 +269,7 @@ impl Machine {
     ///
     /// `AllocError` where memory is refused.
     pub fn finish(self, alloc: Global) -> Result<Vec<SealedLog>, AllocError>
-        requires done { AllDone self.scenario.net self.places }
+        requires done { AllDone self.scenario.net self.progress }
         ensures { IfOk result (λ logs. logs.items ≡ logs_of_all self.scenario) }
     {
         let Machine {

@@ -5,13 +5,13 @@ use Rattle.gen_types.specs.Ascending.{IsListOf}
 use Rattle.gen_types.proofs.Lists.{Contains_here, Contains_cases, Contains_nil, Contains_flat_mapped}
 use Rattle.gen_core.proofs.OrderedLists.{in_flat_map, one_list}
 use Rattle.gen_walks.specs.Walks.{Bridges, IsLeastBadPair}
-use Rattle.gen_local.specs.Report.{Report}
+use Rattle.gen_local.specs.Report.{LocalReport}
 use Rattle.gen_log.specs.Writing.{LogBytes}
 use Rattle.gen_match.specs.declared.finding.Finding.{Finding}
 use Rattle.gen_match.specs.declared.finding.Finding.TheVariants.{Missing, Several, Unreadable, Foreign, Unsigned, Unsealed, Departs, Unmatched, Underivable, Unjoined, Nobody}
 use Rattle.gen_match.specs.Matching.{Logs, FindsUnmatched, FindsUnderivable, IsUnmatched, IsUnderivable}
 use Rattle.gen_match.specs.Reports.{told_logs}
-use Rattle.gen_audit.specs.Bundle.{LogBundle, exhibits_of, logs_of}
+use Rattle.gen_audit.specs.Bundle.{Bundle, exhibits_of, logs_of}
 use Rattle.gen_audit.specs.Collecting.{Adds, amount_found, shown_found, FindsRead, FindsBetween, FindsPair, FindsEmpty}
 use Rattle.gen_audit.specs.Findings.{IsOfRest, IsFinding}
 use Rattle.gen_audit.specs.LocalFindings.{IsLocal, IsReported}
@@ -21,7 +21,7 @@ use Rattle.gen_audit.proofs.Telling.{reports_tell_logs}
 
 -- ---- how much is shown
 
-amount_is : (b : LogBundle) (g : ℕ) → IsOfRest b g → (xs : List LogBytes) → exhibits_of b.exhibits g ≡ xs → (f : Finding) → Contains (amount_found g (length xs)) f → IsFinding b f
+amount_is : (b : Bundle) (g : ℕ) → IsOfRest b g → (xs : List LogBytes) → exhibits_of b.exhibits g ≡ xs → (f : Finding) → Contains (amount_found g (length xs)) f → IsFinding b f
 amount_is b g of_rest [] e f h = elim (Contains_cases (Missing g) f [] h) [
   | inl q ↦ subst (IsFinding b) q (of_rest, e)
   | inr none ↦ absurd (Contains_nil f none)
@@ -32,7 +32,7 @@ amount_is b g of_rest (x ∷ y ∷ more) e f h = elim (Contains_cases (Several g
   | inr none ↦ absurd (Contains_nil f none)
 ]
 
-module _ (b : LogBundle) (rest : List ℕ) (of_rest : IsListOf rest (IsOfRest b)) where
+module _ (b : Bundle) (rest : List ℕ) (of_rest : IsListOf rest (IsOfRest b)) where
   amounts_are : (f : Finding) → Contains (flat_map (shown_found b.exhibits) rest) f → IsFinding b f
   amounts_are f h =
       let k = Contains_flat_mapped (shown_found b.exhibits) rest f h in
@@ -85,7 +85,7 @@ no_member (x ∷ xs) none = absurd (none x (Contains_here x xs))
 
 -- ---- between logs
 
-module _ (b : LogBundle) (logs : Logs) (same : logs ≡ logs_of b) where
+module _ (b : Bundle) (logs : Logs) (same : logs ≡ logs_of b) where
   unmatched_is : (f : Finding) → FindsUnmatched b.header.network b.faulty logs f → IsFinding b f
   unmatched_is (Unmatched x y l v) is = subst (λ ls. IsUnmatched b.header.network b.faulty ls x y l v) same is
   unmatched_is (Missing g) is = absurd is
@@ -115,14 +115,14 @@ module _ (b : LogBundle) (logs : Logs) (same : logs ≡ logs_of b) where
 -- ---- all
 
 -- the groups, added one behind another
-pub record AddsAll (b : LogBundle) (rest : List ℕ) (reports : List Report) (amounts read between pair all : List Finding) : Type 0 where
+pub record AddsAll (b : Bundle) (rest : List ℕ) (reports : List LocalReport) (amounts read between pair all : List Finding) : Type 0 where
   pub first : amounts ≡ flat_map (shown_found b.exhibits) rest
   pub second : Adds (FindsRead rest reports) amounts read
   pub third : Adds (FindsBetween b.header.network b.faulty (told_logs reports)) read between
   pub fourth : Adds (FindsPair b.header.network rest b.walks) between pair
   pub fifth : Adds (FindsEmpty rest) pair all
 
-module _ (b : LogBundle) (rest : List ℕ) (of_rest : IsListOf rest (IsOfRest b)) (reports : List Report) (are : AreReports b reports) (amounts read between pair all : List Finding) (adds : AddsAll b rest reports amounts read between pair all) where
+module _ (b : Bundle) (rest : List ℕ) (of_rest : IsListOf rest (IsOfRest b)) (reports : List LocalReport) (are : AreReports b reports) (amounts read between pair all : List Finding) (adds : AddsAll b rest reports amounts read between pair all) where
   same_logs : told_logs reports ≡ logs_of b
   same_logs = λ i g. reports_tell_logs b reports are g i
 

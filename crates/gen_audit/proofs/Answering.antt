@@ -4,9 +4,9 @@ use Rattle.gen_types.proofs.Lists.{Contains_here}
 use Rattle.gen_net.specs.Log.{Precedes}
 use Rattle.gen_core.proofs.OrderedLists.{same_members, Precedes-apart}
 use Rattle.gen_match.specs.declared.finding.Finding.{Finding}
-use Rattle.gen_match.specs.Findings.{finding_place, AreFindings}
+use Rattle.gen_match.specs.Findings.{finding_rank, AreFindings}
 use Rattle.gen_scenario.specs.declared.scenario.Decision.{Decision}
-use Rattle.gen_audit.specs.Bundle.{LogBundle, IsBundle}
+use Rattle.gen_audit.specs.Bundle.{Bundle, IsBundle}
 use Rattle.gen_audit.specs.Findings.{IsFinding}
 use Rattle.gen_audit.specs.Supported.{IsClean, IsSupported, AgreeOn}
 use Rattle.gen_audit.specs.declared.verdicts.Verdict.{Verdict}
@@ -16,15 +16,15 @@ use Rattle.gen_audit.specs.Headline.{Headline, HeadlineHolds}
 use Rattle.gen_audit.proofs.Supporting.{clean_is_supported}
 
 -- where something is found, not nothing is
-pub unclean : (b : LogBundle) (findings : List Finding) → findings ≢ [] → AreFindings (IsFinding b) findings → IsClean b → ⊥
+pub unclean : (b : Bundle) (findings : List Finding) → findings ≢ [] → AreFindings (IsFinding b) findings → IsClean b → ⊥
 unclean b [] some are clean = some refl
 unclean b (f ∷ more) some are clean = clean f ((are.members f).0 (Contains_here f more))
 
 -- supported bundles agree on one order at most
-one_order : (b : LogBundle) → IsSupported b → (v w : ℕ) → AgreeOn b v → AgreeOn b w → v ≡ w
+one_order : (b : Bundle) → IsSupported b → (v w : ℕ) → AgreeOn b v → AgreeOn b w → v ≡ w
 one_order b s v w one other = let d = one.decided s.somebody.0 s.somebody.1 in other.alone s.somebody.0 s.somebody.1 d.0 v d.1
 
-module _ (b : LogBundle) (bundle : IsBundle b) where
+module _ (b : Bundle) (bundle : IsBundle b) where
   supports : IsClean b → IsSupported b
   supports = (clean_is_supported b bundle).0
 
@@ -46,7 +46,7 @@ module _ (b : LogBundle) (bundle : IsBundle b) where
   }
 
   same_findings : (xs ys : List Finding) → AreFindings (IsFinding b) xs → AreFindings (IsFinding b) ys → xs ≡ ys
-  same_findings xs ys one other = same_members (λ x y. Precedes (finding_place x) (finding_place y)) (λ x y. Precedes-apart (finding_place x) (finding_place y)) xs ys one.in_order other.in_order
+  same_findings xs ys one other = same_members (λ x y. Precedes (finding_rank x) (finding_rank y)) (λ x y. Precedes-apart (finding_rank x) (finding_rank y)) xs ys one.in_order other.in_order
       (λ f. ((λ h. (other.members f).1 ((one.members f).0 h)), (λ h. (one.members f).1 ((other.members f).0 h))))
 
   same_decisions : (xs ys : List Decision) → AreDecisions b xs → AreDecisions b ys → xs ≡ ys

@@ -1,4 +1,4 @@
--- Lists whose members each are tested, or read, behind the one before it.
+-- Lists whose members each are checked, or read, behind the one before it.
 use Rattle.std.proofs.Common.{◌≡◌, ℕ, zero, suc, ◌+◌, ◌-◌, ◌<◌, ◌≤◌, List, [], ◌∷◌, ◌++◌, length, Contains, All, AllPairs, Result, Ok, Err, refl, sym, ap, subst, ◌∙◌, append_assoc, arith, inl, inr}
 use Rattle.std.specs.List.{flat_map}
 use Rattle.std.proofs.lemmas.List.{append-nil}
@@ -12,7 +12,7 @@ use Rattle.gen_types.proofs.Lists.{All_of, Contains_here, Contains_cases, Contai
 use Rattle.gen_types.proofs.Steps.{after, at_end}
 use Rattle.gen_types.proofs.ByteFields.{IsBytes, Takes, Takes-then}
 use Rattle.gen_types.proofs.ManyFields.{Reads, with_front}
-use Rattle.gen_audit.specs.Behind.{test_behind, many_behind}
+use Rattle.gen_audit.specs.Behind.{check_behind, many_behind}
 
 -- ---- members that stand behind one another
 
@@ -44,40 +44,40 @@ stand_told {A} P R mark before (x ∷ xs) all up first =
     let Up : A → A → Type 0 = λ a b. R (mark a) (mark b) in
     (All-head P x xs all, first x (Contains_here x xs), stand_told P R mark (mark x) xs (All-tail P x xs all) (AllPairs_tail Up x xs up) (λ y k. All-contains (Up x) xs y (AllPairs_head Up x xs up) k))
 
--- ---- tests
+-- ---- checks
 
-pub test_goes_on : {A S F : Type 0} (test : S → A → Result (Unit {0}) F) (mark : A → S) (before : S) (rest : List A) (x : A) (others : List A) (total : Result (Unit {0}) F) → rest ≡ x ∷ others → test before x ≡ Ok tt
-    → test_behind test mark before rest ≡ total → test_behind test mark (mark x) others ≡ total
-unfolding test_behind
-test_goes_on test mark before rest x others total parts passed so_far =
-    let one : test_behind test mark before (x ∷ others) ≡ test_behind test mark (mark x) others = rw passed refl in
-    sym one ∙ sym (ap (test_behind test mark before) parts) ∙ so_far
+pub check_goes_on : {A S F : Type 0} (rule : S → A → Result (Unit {0}) F) (mark : A → S) (before : S) (rest : List A) (x : A) (others : List A) (total : Result (Unit {0}) F) → rest ≡ x ∷ others → rule before x ≡ Ok tt
+    → check_behind rule mark before rest ≡ total → check_behind rule mark (mark x) others ≡ total
+unfolding check_behind
+check_goes_on rule mark before rest x others total parts passed so_far =
+    let one : check_behind rule mark before (x ∷ others) ≡ check_behind rule mark (mark x) others = rw passed refl in
+    sym one ∙ sym (ap (check_behind rule mark before) parts) ∙ so_far
 
-pub test_ends : {A S F : Type 0} (test : S → A → Result (Unit {0}) F) (mark : A → S) (before : S) (rest : List A) (x : A) (others : List A) (f : F) (total : Result (Unit {0}) F) → rest ≡ x ∷ others → test before x ≡ Err f
-    → test_behind test mark before rest ≡ total → Err f ≡ total
-unfolding test_behind
-test_ends test mark before rest x others f total parts failed so_far =
-    let one : test_behind test mark before (x ∷ others) ≡ Err f = rw failed refl in
-    sym one ∙ sym (ap (test_behind test mark before) parts) ∙ so_far
+pub check_ends : {A S F : Type 0} (rule : S → A → Result (Unit {0}) F) (mark : A → S) (before : S) (rest : List A) (x : A) (others : List A) (f : F) (total : Result (Unit {0}) F) → rest ≡ x ∷ others → rule before x ≡ Err f
+    → check_behind rule mark before rest ≡ total → Err f ≡ total
+unfolding check_behind
+check_ends rule mark before rest x others f total parts failed so_far =
+    let one : check_behind rule mark before (x ∷ others) ≡ Err f = rw failed refl in
+    sym one ∙ sym (ap (check_behind rule mark before) parts) ∙ so_far
 
-pub test_is_done : {A S F : Type 0} (test : S → A → Result (Unit {0}) F) (mark : A → S) (before : S) (rest : List A) (total : Result (Unit {0}) F) → rest ≡ [] → test_behind test mark before rest ≡ total → Ok tt ≡ total
-unfolding test_behind
-test_is_done test mark before rest total none so_far = sym (ap (test_behind test mark before) none) ∙ so_far
+pub check_is_done : {A S F : Type 0} (rule : S → A → Result (Unit {0}) F) (mark : A → S) (before : S) (rest : List A) (total : Result (Unit {0}) F) → rest ≡ [] → check_behind rule mark before rest ≡ total → Ok tt ≡ total
+unfolding check_behind
+check_is_done rule mark before rest total none so_far = sym (ap (check_behind rule mark before) none) ∙ so_far
 
-pub test_stands : {A S F : Type 0} (P : A → Type 0) (R : S → S → Type 0) (test : S → A → Result (Unit {0}) F) (mark : A → S) → ((before : S) (x : A) → test before x ≡ Ok tt → P x × R before (mark x))
-    → (before : S) (xs : List A) → test_behind test mark before xs ≡ Ok tt → Stand P R mark before xs
-unfolding test_behind
-test_stands P R test mark known before [] e = tt
-test_stands P R test mark known before (x ∷ xs) e =
-    after (test before x) (λ here. test_behind test mark (mark x) xs) tt e (λ here r0 e0.
+pub check_stands : {A S F : Type 0} (P : A → Type 0) (R : S → S → Type 0) (rule : S → A → Result (Unit {0}) F) (mark : A → S) → ((before : S) (x : A) → rule before x ≡ Ok tt → P x × R before (mark x))
+    → (before : S) (xs : List A) → check_behind rule mark before xs ≡ Ok tt → Stand P R mark before xs
+unfolding check_behind
+check_stands P R rule mark known before [] e = tt
+check_stands P R rule mark known before (x ∷ xs) e =
+    after (rule before x) (λ here. check_behind rule mark (mark x) xs) tt e (λ here r0 e0.
     let k = known before x r0 in
-    (k.0, k.1, test_stands P R test mark known (mark x) xs e0))
+    (k.0, k.1, check_stands P R rule mark known (mark x) xs e0))
 
-pub test_passes : {A S F : Type 0} (P : A → Type 0) (R : S → S → Type 0) (test : S → A → Result (Unit {0}) F) (mark : A → S) → ((before : S) (x : A) → P x → R before (mark x) → test before x ≡ Ok tt)
-    → (before : S) (xs : List A) → Stand P R mark before xs → test_behind test mark before xs ≡ Ok tt
-unfolding test_behind
-test_passes P R test mark told before [] s = refl
-test_passes P R test mark told before (x ∷ xs) s = rw (told before x s.0 s.1, test_passes P R test mark told (mark x) xs s.2) refl
+pub check_passes : {A S F : Type 0} (P : A → Type 0) (R : S → S → Type 0) (rule : S → A → Result (Unit {0}) F) (mark : A → S) → ((before : S) (x : A) → P x → R before (mark x) → rule before x ≡ Ok tt)
+    → (before : S) (xs : List A) → Stand P R mark before xs → check_behind rule mark before xs ≡ Ok tt
+unfolding check_behind
+check_passes P R rule mark told before [] s = refl
+check_passes P R rule mark told before (x ∷ xs) s = rw (told before x s.0 s.1, check_passes P R rule mark told (mark x) xs s.2) refl
 
 -- ---- reading
 

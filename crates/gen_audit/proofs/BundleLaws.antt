@@ -21,7 +21,7 @@ use Rattle.gen_log.specs.Writing.{LogBytes}
 use Rattle.gen_audit.specs.declared.bundle_fault.BundleFault.{BundleFault}
 use Rattle.gen_audit.specs.declared.bundle_fault.BundleFault.TheVariants as faults
 use Rattle.gen_audit.specs.Behind.{many_behind}
-use Rattle.gen_audit.specs.Bundle.{LogBundle, IsBundle}
+use Rattle.gen_audit.specs.Bundle.{Bundle, IsBundle}
 use Rattle.gen_audit.specs.BundleParts.{most_walks, most_exhibits, ends_of, IsListedWalk, AreListedWalks, IsExhibit, AreExhibits}
 use Rattle.gen_audit.specs.BundleMaking.{is_walk_length, no_ends, may_follow, shown_general}
 use Rattle.gen_audit.specs.BundleSpelling.{bundle_marks, walk_spelling, walks_spelling, exhibit_spelling, exhibits_spelling, bundle_spelling}
@@ -66,14 +66,14 @@ WalkTaken n before bytes x = Takes bytes (walk_spelling x.0) x.1 × (IsListedWal
 walk_takes : (n : ℕ) (before : ℕ × ℕ) (bytes : List ℕ) (x : List ℕ × List ℕ) → IsBytes bytes → walk_at n before bytes ≡ Ok x → WalkTaken n before bytes x
 unfolding walk_at
 walk_takes n before bytes x fits e =
-    after (byte_at faults.Truncated bytes) (λ count. check (is_walk_length count.0) faults.WalkCount >>= λ size. many_at (general_at n) count.0 count.1 >>= λ walk. check (may_follow before walk.0) faults.BadWalk >>= λ placed. Ok walk) x e (λ count r0 e0.
-    after_check (is_walk_length count.0) faults.WalkCount (λ size. many_at (general_at n) count.0 count.1 >>= λ walk. check (may_follow before walk.0) faults.BadWalk >>= λ placed. Ok walk) x e0 (λ size e1.
-    after (many_at (general_at n) count.0 count.1) (λ walk. check (may_follow before walk.0) faults.BadWalk >>= λ placed. Ok walk) x e1 (λ walk r2 e2.
-    after_check (may_follow before walk.0) faults.BadWalk (λ placed. Ok walk) x e2 (λ placed e3.
+    after (byte_at faults.Truncated bytes) (λ count. check (is_walk_length count.0) faults.WalkCount >>= λ size. many_at (general_at n) count.0 count.1 >>= λ walk. check (may_follow before walk.0) faults.BadWalk >>= λ ordered. Ok walk) x e (λ count r0 e0.
+    after_check (is_walk_length count.0) faults.WalkCount (λ size. many_at (general_at n) count.0 count.1 >>= λ walk. check (may_follow before walk.0) faults.BadWalk >>= λ ordered. Ok walk) x e0 (λ size e1.
+    after (many_at (general_at n) count.0 count.1) (λ walk. check (may_follow before walk.0) faults.BadWalk >>= λ ordered. Ok walk) x e1 (λ walk r2 e2.
+    after_check (may_follow before walk.0) faults.BadWalk (λ ordered. Ok walk) x e2 (λ ordered e3.
     let t0 = byte_takes faults.Truncated bytes count.0 count.1 fits r0 in
     let t1 = many_take (general_at n) itself (λ g. g < n) (generals_read n) count.0 count.1 walk t0.0.rest_fits r2 in
     let sized : is_walk_length (length walk.0) ≡ true = rw t1.1 size in
-    let known = walk_known n before walk.0 sized (All-from_recursion (λ g. g < n) walk.0 t1.2) placed in
+    let known = walk_known n before walk.0 sized (All-from_recursion (λ g. g < n) walk.0 t1.2) ordered in
     let text : Takes count.1 walk.0 walk.1 = subst (λ (t : List ℕ). Takes count.1 t walk.1) (itself_all walk.0) t1.0 in
     let all : Takes bytes (count.0 ∷ walk.0) walk.1 = Takes-then bytes (count.0 ∷ []) count.1 walk.0 walk.1 t0.0 text in
     at_end {F = BundleFault} (WalkTaken n before bytes) walk x e3 (subst (λ (k : ℕ). Takes bytes (k ∷ walk.0) walk.1) (sym t1.1) all, known)))))
@@ -84,8 +84,8 @@ walk_again n before walk rest is =
     let size = length_told n walk is.0 in
     let below = recursion_from_All (λ g. g < n) walk is.0.below in
     let many : many_at (general_at n) (length walk) (walk ++ rest) ≡ Ok (walk, rest) = ap (λ (t : List ℕ). many_at (general_at n) (length walk) (t ++ rest)) (sym (itself_all walk)) ∙ many_again (general_at n) itself (λ g. g < n) (generals_read n) walk rest below in
-    let placed = follow_told n before walk is.0 is.1 in
-    rw (size, many, placed) refl
+    let ordered = follow_told n before walk is.0 is.1 in
+    rw (size, many, ordered) refl
 
 pub walk_reads : (n : ℕ) (before : ℕ × ℕ) → Reads (walk_at n before) walk_spelling (λ w. IsListedWalk n w × IsBefore before (ends_of w))
 walk_reads n before = record { takes = walk_takes n before; again = walk_again n before }
@@ -124,18 +124,18 @@ OwnerTaken n before bytes x = Takes bytes (itself x.0) x.1 × ((x.0 < n) × NotA
 owner_takes : (n before : ℕ) (bytes : List ℕ) (x : ℕ × List ℕ) → IsBytes bytes → owner_at n before bytes ≡ Ok x → OwnerTaken n before bytes x
 unfolding owner_at
 owner_takes n before bytes x fits e =
-    after (byte_at faults.Truncated bytes) (λ general. check (nat_lt general.0 n) faults.BadExhibit >>= λ known. check (nat_le before general.0) faults.OutOfOrder >>= λ placed. Ok general) x e (λ general r0 e0.
-    after_check (nat_lt general.0 n) faults.BadExhibit (λ known. check (nat_le before general.0) faults.OutOfOrder >>= λ placed. Ok general) x e0 (λ known e1.
-    after_check (nat_le before general.0) faults.OutOfOrder (λ placed. Ok general) x e1 (λ placed e2.
+    after (byte_at faults.Truncated bytes) (λ general. check (nat_lt general.0 n) faults.BadExhibit >>= λ known. check (nat_le before general.0) faults.OutOfOrder >>= λ ordered. Ok general) x e (λ general r0 e0.
+    after_check (nat_lt general.0 n) faults.BadExhibit (λ known. check (nat_le before general.0) faults.OutOfOrder >>= λ ordered. Ok general) x e0 (λ known e1.
+    after_check (nat_le before general.0) faults.OutOfOrder (λ ordered. Ok general) x e1 (λ ordered e2.
     let t = byte_takes faults.Truncated bytes general.0 general.1 fits r0 in
-    at_end {F = BundleFault} (OwnerTaken n before bytes) general x e2 (t.0, (ltb-true _ _ known, leb-true _ _ placed)))))
+    at_end {F = BundleFault} (OwnerTaken n before bytes) general x e2 (t.0, (ltb-true _ _ known, leb-true _ _ ordered)))))
 
 owner_again : (n before g : ℕ) (rest : List ℕ) → g < n → NotAfter before g → owner_at n before (g ∷ rest) ≡ Ok (g, rest)
 unfolding owner_at
 owner_again n before g rest lt le =
     let known : nat_lt g n ≡ true = lt-ltb _ _ lt in
-    let placed : nat_le before g ≡ true = le-leb _ _ le in
-    rw (known, placed) refl
+    let ordered : nat_le before g ≡ true = le-leb _ _ le in
+    rw (known, ordered) refl
 
 bytes_of : (bytes : List ℕ) → IsBytes bytes → AreBelow 256 bytes
 bytes_of bytes fits = All-from_get_or (λ b. b < 256) bytes 0 (λ i lt. fits i)
@@ -215,10 +215,10 @@ exhibits_read n = record { takes = exhibits_take n; again = exhibits_again n }
 
 -- ---- the bundle
 
-abbrev BundleTaken : List ℕ → LogBundle × List ℕ → Type 0
+abbrev BundleTaken : List ℕ → Bundle × List ℕ → Type 0
 BundleTaken bytes x = Takes bytes (bundle_spelling x.0) x.1 × IsBundle x.0
 
-bundle_takes : (bytes : List ℕ) (x : LogBundle × List ℕ) → IsBytes bytes → bundle_at bytes ≡ Ok x → BundleTaken bytes x
+bundle_takes : (bytes : List ℕ) (x : Bundle × List ℕ) → IsBytes bytes → bundle_at bytes ≡ Ok x → BundleTaken bytes x
 unfolding bundle_at
 bundle_takes bytes x fits e =
     after (front_at bytes) (λ header. faulty_at header.0.network.generals header.1 >>= λ faulty. walks_at header.0.network.generals faulty.1 >>= λ walks. exhibits_at header.0.network.generals walks.1 >>= λ exhibits. Ok (record { header = header.0; faulty = faulty.0; walks = walks.0; exhibits = exhibits.0 }, exhibits.1)) x e (λ header r0 e0.
@@ -234,7 +234,7 @@ bundle_takes bytes x fits e =
     let behind = walks_spelling walks.0 ++ exhibits_spelling exhibits.0 in
     let t13 = Takes-then header.1 (set_spelling faulty.0) faulty.1 behind exhibits.1 t1.0 t23 in
     let t03 = Takes-then bytes (front_spelling bundle_marks header.0) header.1 (set_spelling faulty.0 ++ behind) exhibits.1 t0.0 t13 in
-    let b : LogBundle = record { header = header.0; faulty = faulty.0; walks = walks.0; exhibits = exhibits.0 } in
+    let b : Bundle = record { header = header.0; faulty = faulty.0; walks = walks.0; exhibits = exhibits.0 } in
     at_end {F = BundleFault} (BundleTaken bytes) (b, exhibits.1) x e3 (
       t03,
       record { header = t0.1; faulty = t1.1; walks = t2.1; exhibits = t3.1.exhibits; bytes = t3.1.bytes },
@@ -246,11 +246,11 @@ pub bundle_from : (bytes : List ℕ) (header : RunHeader × List ℕ) (faulty : 
     → IsBundle (record { header = header.0; faulty = faulty.0; walks = walks.0; exhibits = exhibits.0 })
 unfolding bundle_at
 bundle_from bytes header faulty walks exhibits fits r0 r1 r2 r3 =
-    let b : LogBundle = record { header = header.0; faulty = faulty.0; walks = walks.0; exhibits = exhibits.0 } in
+    let b : Bundle = record { header = header.0; faulty = faulty.0; walks = walks.0; exhibits = exhibits.0 } in
     let read : bundle_at bytes ≡ Ok (b, exhibits.1) = rw (r0, r1, r2, r3) refl in
     (bundle_takes bytes (b, exhibits.1) fits read).1
 
-bundle_again : (b : LogBundle) (rest : List ℕ) → IsBundle b → bundle_at (bundle_spelling b ++ rest) ≡ Ok (b, rest)
+bundle_again : (b : Bundle) (rest : List ℕ) → IsBundle b → bundle_at (bundle_spelling b ++ rest) ≡ Ok (b, rest)
 unfolding bundle_at
 bundle_again b rest is =
     let n = b.header.network.generals in
@@ -273,7 +273,7 @@ nothing_left : (rest : List ℕ) → eqb (length rest) 0 ≡ true → rest ≡ [
 nothing_left [] e = refl
 nothing_left (b ∷ rest) e = absurd (omega (arith, eqb-true (length (b ∷ rest)) 0 e))
 
-pub bundle_found : (bytes : List ℕ) (x : LogBundle) → IsBytes bytes → whole_bundle bytes ≡ Ok x → Spells IsBundle bundle_spelling bytes x
+pub bundle_found : (bytes : List ℕ) (x : Bundle) → IsBytes bytes → whole_bundle bytes ≡ Ok x → Spells IsBundle bundle_spelling bytes x
 unfolding whole_bundle
 bundle_found bytes x fits e =
     after (bundle_at bytes) (λ b. check (eqb (length b.1) 0) faults.LeftOver >>= λ all. Ok b.0) x e (λ b r0 e0.
@@ -285,7 +285,7 @@ bundle_found bytes x fits e =
       spelled = t.0.parts ∙ ap (λ (r : List ℕ). bundle_spelling b.0 ++ r) none ∙ append-nil (bundle_spelling b.0);
     })))
 
-pub bundle_only : (bytes : List ℕ) (b : LogBundle) → Spells IsBundle bundle_spelling bytes b → whole_bundle bytes ≡ Ok b
+pub bundle_only : (bytes : List ℕ) (b : Bundle) → Spells IsBundle bundle_spelling bytes b → whole_bundle bytes ≡ Ok b
 unfolding whole_bundle
 bundle_only bytes b s =
     let alone : bytes ≡ bundle_spelling b ++ [] = s.spelled ∙ sym (append-nil (bundle_spelling b)) in

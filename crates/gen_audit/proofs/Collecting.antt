@@ -6,7 +6,7 @@ use Rattle.std.proofs.lemmas.List.{take_more}
 use Rattle.gen_types.proofs.Lists.{Contains_here, Contains_cases, Contains_nil}
 use Rattle.gen_net.specs.Network.{Network}
 use Rattle.gen_walks.specs.Walks.{Bridges, IsLeastBadPair}
-use Rattle.gen_local.specs.Report.{Report}
+use Rattle.gen_local.specs.Report.{LocalReport}
 use Rattle.gen_match.specs.declared.finding.Finding.{Finding}
 use Rattle.gen_match.specs.declared.finding.Finding.TheVariants.{Missing, Several, Unreadable, Foreign, Unsigned, Unsealed, Departs, Unmatched, Underivable, Unjoined, Nobody}
 use Rattle.gen_audit.specs.Collecting.{Adds, FindsIn, FindsRead, FindsPair}
@@ -40,7 +40,7 @@ adds_as P Q old new same adds f = (
 
 -- ---- reports
 
-pub one_more_read : (rest : List ℕ) (reports : List Report) (i : ℕ) (d : Report) → i < length reports → (f : Finding) → (FindsRead rest (take i reports) f ⊎ FindsIn rest (get_or reports i d) f) ↔ FindsRead rest (take (i + 1) reports) f
+pub one_more_read : (rest : List ℕ) (reports : List LocalReport) (i : ℕ) (d : LocalReport) → i < length reports → (f : Finding) → (FindsRead rest (take i reports) f ⊎ FindsIn rest (get_or reports i d) f) ↔ FindsRead rest (take (i + 1) reports) f
 one_more_read rest reports i d below f = rw (take_more reports i d below) (
   (λ h. elim h [
     | inl (r, c, is) ↦ (r, Contains-append_left (take i reports) (get_or reports i d ∷ []) r c, is)
@@ -48,7 +48,7 @@ one_more_read rest reports i d below f = rw (take_more reports i d below) (
   ]),
   (λ h. elim (Contains-push_cases (take i reports) (get_or reports i d) h.0 h.1) [
     | inl c ↦ inl (h.0, c, h.2)
-    | inr e ↦ inr (subst (λ (r : Report). FindsIn rest r f) (sym e) h.2)
+    | inr e ↦ inr (subst (λ (r : LocalReport). FindsIn rest r f) (sym e) h.2)
   ]),
 )
 

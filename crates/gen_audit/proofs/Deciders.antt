@@ -9,7 +9,7 @@ use Rattle.gen_net.specs.Log.{Decided, IsEntry}
 use Rattle.gen_core.proofs.OrderedLists.{AllPairs-head, AllPairs-tail, AllPairs-cons}
 use Rattle.gen_scenario.specs.declared.scenario.Decision.{Decision}
 use Rattle.gen_match.specs.Matching.{Logged}
-use Rattle.gen_audit.specs.Bundle.{LogBundle, logs_of}
+use Rattle.gen_audit.specs.Bundle.{Bundle, logs_of}
 use Rattle.gen_audit.specs.Findings.{IsOfRest}
 use Rattle.gen_audit.specs.Supported.{IsClean, IsSupported}
 use Rattle.gen_audit.specs.declared.verdicts.Verdict.TheVariants.{Agreed, Explained, No}
@@ -50,12 +50,12 @@ each_decided_once b s g of_rest =
     )
 
 -- what so many of the rest decided
-record SomeDecisions (b : LogBundle) (generals : List ℕ) : Type 0 where
+record SomeDecisions (b : Bundle) (generals : List ℕ) : Type 0 where
   pub list : List Decision
   pub in_order : AllPairs (λ (x : Decision) (y : Decision). x.general < y.general) list
   pub members : (d : Decision) → Contains list d ↔ (Contains generals d.general × IsDecision b d)
 
-some_decisions : (b : LogBundle) (s : IsSupported b) (generals : List ℕ) → AllPairs (λ v w. v < w) generals → ((g : ℕ) → Contains generals g → IsOfRest b g) → SomeDecisions b generals
+some_decisions : (b : Bundle) (s : IsSupported b) (generals : List ℕ) → AllPairs (λ v w. v < w) generals → ((g : ℕ) → Contains generals g → IsOfRest b g) → SomeDecisions b generals
 some_decisions b s [] up of_rest = record {
   list = [];
   in_order = λ i j d l m. absurd (omega arith);
@@ -81,7 +81,7 @@ some_decisions b s (x ∷ generals) up of_rest =
       );
     }
 
-all_decisions : (b : LogBundle) → IsSupported b → (decisions : List Decision) × AreDecisions b decisions
+all_decisions : (b : Bundle) → IsSupported b → (decisions : List Decision) × AreDecisions b decisions
 all_decisions b s =
     let d = some_decisions b s s.rest s.of_rest.ascending (λ g h. (s.of_rest.members g).0 h) in (
       d.list,

@@ -100,29 +100,29 @@ pub not_dec : (P : Type 0) → Dec P → Dec (P → ⊥)
 not_dec P (inl p) = inr (λ none. none p)
 not_dec P (inr none) = inl none
 
--- whether some place of a list, with what stands before and behind it, is as asked
-pub record SomePlace {X : Type 0} (Q : List X → X → List X → Type 0) (xs : List X) : Type 0 where
+-- whether some position in a list, with what stands before and behind it, is as asked
+pub record SomePosition {X : Type 0} (Q : List X → X → List X → Type 0) (xs : List X) : Type 0 where
   pub front : List X
   pub here : X
   pub behind : List X
   pub parts : xs ≡ front ++ here ∷ behind
   pub holds : Q front here behind
 
-pub some_place : {X : Type 0} (Q : List X → X → List X → Type 0) → ((front : List X) (here : X) (behind : List X) → Dec (Q front here behind)) → (xs : List X) → Dec (SomePlace Q xs)
-some_place {X} Q dec [] = inr (λ s. none s.front s.here s.behind s.parts)
+pub some_position : {X : Type 0} (Q : List X → X → List X → Type 0) → ((front : List X) (here : X) (behind : List X) → Dec (Q front here behind)) → (xs : List X) → Dec (SomePosition Q xs)
+some_position {X} Q dec [] = inr (λ s. none s.front s.here s.behind s.parts)
   where
     none : (front : List X) (here : X) (behind : List X) → [] ≡ front ++ here ∷ behind → ⊥
     none [] here behind e = cc
     none (x ∷ front) here behind e = cc
-some_place {X} Q dec (x ∷ xs) = elim (dec [] x xs) [
+some_position {X} Q dec (x ∷ xs) = elim (dec [] x xs) [
   | inl q ↦ inl (record { front = []; here = x; behind = xs; parts = refl; holds = q })
-  | inr first ↦ elim (some_place (λ front here behind. Q (x ∷ front) here behind) (λ front here behind. dec (x ∷ front) here behind) xs) [
+  | inr first ↦ elim (some_position (λ front here behind. Q (x ∷ front) here behind) (λ front here behind. dec (x ∷ front) here behind) xs) [
     | inl s ↦ inl (record { front = x ∷ s.front; here = s.here; behind = s.behind; parts = ap (λ p. x ∷ p) s.parts; holds = s.holds })
     | inr later ↦ inr (λ s. apart first later s.front s.here s.behind s.parts s.holds)
   ]
 ]
   where
-    apart : (Q [] x xs → ⊥) → (SomePlace (λ front here behind. Q (x ∷ front) here behind) xs → ⊥) → (front : List X) (here : X) (behind : List X) → x ∷ xs ≡ front ++ here ∷ behind → Q front here behind → ⊥
+    apart : (Q [] x xs → ⊥) → (SomePosition (λ front here behind. Q (x ∷ front) here behind) xs → ⊥) → (front : List X) (here : X) (behind : List X) → x ∷ xs ≡ front ++ here ∷ behind → Q front here behind → ⊥
     apart first later [] here behind e q =
         let a : x ≡ here = cc in
         let b : xs ≡ behind = cc in
@@ -197,7 +197,7 @@ module _ (net : Network) (faulty : List ℕ) (logs : ℕ → List LogEntry) (v :
   pub is_derivable : Dec (All (λ g. IsLoyal net faulty g → ⊥) path ⊎ LogDerivation net faulty logs v path)
   is_derivable = elim (all_dec (λ g. IsLoyal net faulty g → ⊥) (λ g. not_dec (IsLoyal net faulty g) (decide_loyal net faulty g)) path) [
     | inl nobody ↦ inl (inl nobody)
-    | inr somebody ↦ elim (some_place IsForgedFrom is_forged_from path) [
+    | inr somebody ↦ elim (some_position IsForgedFrom is_forged_from path) [
       | inl s ↦ inl (inr (derivation_of s.front s.here s.behind s.parts s.holds.0 s.holds.1 s.holds.2.0 s.holds.2.1.0 s.holds.2.1.1.0 s.holds.2.1.1.1 s.holds.2.1.1.2))
       | inr none ↦ inr (λ d. elim d [
         | inl nobody ↦ somebody nobody

@@ -32,29 +32,29 @@ unsigned_fails h n [] p ok e = absurd cc
 unsigned_fails h n (x ∷ entries) p ok e = elim (bool_cases (is_signed h x)) [
   | inl t ↦
       let r = unsigned_fails h (n + 1) entries p ok.1 (here_or_later (is_signed h x) n (first_unsigned h (n + 1) entries) p t e) in
-      let place : p ≡ n + suc r.0 = omega (arith, r.1) in (
+      let index : p ≡ n + suc r.0 = omega (arith, r.1) in (
         suc r.0,
-        place,
+        index,
         record {
           before = x ∷ r.2.before;
           entry = r.2.entry;
           behind = r.2.behind;
           parts = ap (λ es. x ∷ es) r.2.parts;
-          place = ap suc r.2.place;
+          index = ap suc r.2.index;
           verified = (entry_verifies h x ok.0 t, r.2.verified);
           fails = r.2.fails;
         },
       )
   | inr f ↦
-      let place : p ≡ n + 0 = omega (arith, is_here (is_signed h x) n (first_unsigned h (n + 1) entries) p f e) in (
+      let index : p ≡ n + 0 = omega (arith, is_here (is_signed h x) n (first_unsigned h (n + 1) entries) p f e) in (
         0,
-        place,
+        index,
         record {
           before = [];
           entry = x;
           behind = entries;
           parts = refl;
-          place = refl;
+          index = refl;
           verified = tt;
           fails = λ v. let t : true ≡ false = sym (entry_signed h x v) ∙ f in cc;
         },
@@ -64,12 +64,12 @@ unsigned_fails h n (x ∷ entries) p ok e = elim (bool_cases (is_signed h x)) [
 found_behind : (h : RunHeader) (n : ℕ) (before behind : List Entry) (e : Entry) → IsEntryOf h e → AllByRecursion (EntryVerifies h) before → (EntryVerifies h e → ⊥) → first_unsigned h n (before ++ e ∷ behind) ≡ Some (n + length before)
 found_behind h n [] behind e ok good fails =
     let unsigned : is_signed h e ≡ false = elim (bool_cases (is_signed h e)) [ inl t ↦ absurd (fails (entry_verifies h e ok t)) | inr f ↦ f ] in
-    let place : n ≡ n + 0 = omega arith in
-    here (is_signed h e) n (first_unsigned h (n + 1) behind) unsigned ∙ ap Some place
+    let index : n ≡ n + 0 = omega arith in
+    here (is_signed h e) n (first_unsigned h (n + 1) behind) unsigned ∙ ap Some index
 found_behind h n (x ∷ before) behind e ok good fails =
-    let place : n + 1 + length before ≡ n + suc (length before) = omega arith in
+    let index : n + 1 + length before ≡ n + suc (length before) = omega arith in
     later (is_signed h x) n (first_unsigned h (n + 1) (before ++ e ∷ behind)) (entry_signed h x good.0)
-    ∙ found_behind h (n + 1) before behind e ok good.1 fails ∙ ap Some place
+    ∙ found_behind h (n + 1) before behind e ok good.1 fails ∙ ap Some index
 
 entry_of : (h : RunHeader) (before behind : List Entry) (e : Entry) → AllByRecursion (IsEntryOf h) (before ++ e ∷ behind) → IsEntryOf h e
 entry_of h [] behind e all = all.0
@@ -78,5 +78,5 @@ entry_of h (x ∷ before) behind e all = entry_of h before behind e all.1
 pub fails_unsigned : (h : RunHeader) (entries : List Entry) (p : ℕ) → AllByRecursion (IsEntryOf h) entries → FailsAt h entries p → first_unsigned h 0 entries ≡ Some p
 fails_unsigned h entries p ok f =
     let known = entry_of h f.before f.behind f.entry (subst (AllByRecursion (IsEntryOf h)) f.parts ok) in
-    let place : 0 + length f.before ≡ p = omega (arith, f.place) in
-    ap (first_unsigned h 0) f.parts ∙ found_behind h 0 f.before f.behind f.entry known f.verified f.fails ∙ ap Some place
+    let index : 0 + length f.before ≡ p = omega (arith, f.index) in
+    ap (first_unsigned h 0) f.parts ∙ found_behind h 0 f.before f.behind f.entry known f.verified f.fails ∙ ap Some index

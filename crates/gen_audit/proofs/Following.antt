@@ -12,7 +12,7 @@ use Rattle.gen_net.specs.Departs.{Begins, DepartsAt, IsFollowersLog}
 use Rattle.gen_local.specs.Following.{Learns, IsToSign, IsOwn, IsSound, MayFollow}
 use Rattle.gen_local.specs.FollowingLaws.{EndsDecided}
 use Rattle.gen_local.proofs.Whole.{begun_by_none, begun_by_one_more, departs_at_first, whole_logs}
-use Rattle.gen_audit.proofs.Deciding.{Dec, both, both3, not_dec, all_dec, same_path, begins_with, in_list, has_sent, some_place}
+use Rattle.gen_audit.proofs.Deciding.{Dec, both, both3, not_dec, all_dec, same_path, begins_with, in_list, has_sent, some_position}
 use Rattle.gen_audit.proofs.Walking.{less, at_most, either, are_neighbours}
 
 -- what isn't refused holds
@@ -30,7 +30,7 @@ precedes (x ∷ xs) [] = inr (λ h. h)
 precedes (x ∷ xs) (y ∷ ys) = either (x < y) ((x ≡ y) × Precedes xs ys) (less x y) (both (x ≡ y) (Precedes xs ys) (cases_eq x y) (precedes xs ys))
 
 ends_with : (path : List ℕ) (last : ℕ) → Dec (EndsWith path last)
-ends_with path last = elim (some_place (λ front here behind. (behind ≡ []) × (here ≡ last)) (λ front here behind. both (behind ≡ []) (here ≡ last) (same_path behind []) (cases_eq here last)) path) [
+ends_with path last = elim (some_position (λ front here behind. (behind ≡ []) × (here ≡ last)) (λ front here behind. both (behind ≡ []) (here ≡ last) (same_path behind []) (cases_eq here last)) path) [
   | inl p ↦ inl (p.front, p.parts ∙ ap (λ xs. p.front ++ p.here ∷ xs) p.holds.0 ∙ ap (λ x. p.front ++ x ∷ []) p.holds.1)
   | inr none ↦ inr (λ h. none (record { front = h.0; here = last; behind = []; parts = h.1; holds = (refl, refl) }))
 ]
@@ -205,7 +205,7 @@ module _ (net : Network) (g : ℕ) (before : List LogEntry) where
 begins : (net : Network) (g : ℕ) → IsNetwork net → g < net.generals → (entries : List LogEntry) → ((p : ℕ) → DepartsAt net g entries p → ⊥) → (before rest : List LogEntry) → entries ≡ before ++ rest → Begins net g before → Begins net g entries
 begins net g ok known entries none before [] q begun = subst (Begins net g) (sym (q ∙ append-nil before)) begun
 begins net g ok known entries none before (e ∷ rest) q begun =
-    let m : MayFollow net g before e = may_follow net g before e (λ refused. none (length before) ((departs_at_first net g ok known entries (length before)).1 (record { before = before; entry = e; after = rest; split = q; place = refl; begun = begun; refused = refused }))) in
+    let m : MayFollow net g before e = may_follow net g before e (λ refused. none (length before) ((departs_at_first net g ok known entries (length before)).1 (record { before = before; entry = e; after = rest; split = q; index = refl; begun = begun; refused = refused }))) in
     begins net g ok known entries none (before ++ e ∷ []) rest (q ∙ sym (append_assoc before (e ∷ []) rest)) ((begun_by_one_more net g ok known before e).1 (begun, m))
 
 -- a list that ends with DECIDE and departs nowhere is a follower's log

@@ -16,12 +16,12 @@ use Rattle.gen_local.specs.declared.reading.Reading.{Reading}
 use Rattle.gen_local.specs.declared.reading.Reading.TheVariants as readings
 use Rattle.gen_local.specs.Erased.{erased}
 use Rattle.gen_local.specs.FoundLog.{FoundLog, IsFound}
-use Rattle.gen_local.specs.Report.{Report, IsReading}
+use Rattle.gen_local.specs.Report.{LocalReport, IsReading}
 use Rattle.gen_log.specs.Writing.{LogBytes}
 use Rattle.gen_scenario.proofs.Having.{in_filtered, in_mapped}
 use Rattle.gen_match.specs.declared.finding.Finding.{Finding}
 use Rattle.gen_match.specs.declared.finding.Finding.TheVariants.{Missing, Several, Unreadable, Foreign, Unsigned, Unsealed, Departs, Unmatched, Underivable, Unjoined, Nobody}
-use Rattle.gen_audit.specs.Bundle.{LogBundle, exhibits_of}
+use Rattle.gen_audit.specs.Bundle.{Bundle, exhibits_of}
 use Rattle.gen_audit.specs.Findings.{IsOfRest, FailsAt, IsFinding}
 use Rattle.gen_audit.specs.Telling.{AreReports}
 use Rattle.gen_audit.specs.LocalFindings.{unsigned_at, unless_sealed, departs_at, finds, IsLocal, IsReported, ReportsFindLocal}
@@ -64,8 +64,8 @@ module _ (h : RunHeader) (g : ℕ) where
     | inl u ↦
         let r = in_unsigned g found.unsigned f u in
         let fails = unsigned_fails h 0 found.log.entries r.0 is.log_of_run.entries (sym is.unsigned ∙ r.1) in
-        let place : fails.0 ≡ r.0 = omega (arith, fails.1) in
-        subst (IsOne h g (Ok found.log)) (sym r.2) (refl, (found.log, refl, is.says, subst (FailsAt h found.log.entries) place fails.2))
+        let index : fails.0 ≡ r.0 = omega (arith, fails.1) in
+        subst (IsOne h g (Ok found.log)) (sym r.2) (refl, (found.log, refl, is.says, subst (FailsAt h found.log.entries) index fails.2))
     | inr more ↦ elim (Contains-append_cases (unless_sealed g found.sealed) (departs_at g found.departure) f more) [
       | inl s ↦ let r = in_unsealed g found.sealed f s in subst (IsOne h g (Ok found.log)) (sym r.1) (refl, (found.log, refl, is.says, head_fails found is r.0))
       | inr d ↦ let r = in_departs g found.departure f d in subst (IsOne h g (Ok found.log)) (sym r.2) (refl, (found.log, refl, is.says, (is.departs r.0).0 r.1))
@@ -133,7 +133,7 @@ module _ (h : RunHeader) (g : ℕ) where
 
 -- ---- the bundle
 
-module _ (b : LogBundle) where
+module _ (b : Bundle) where
   -- it is found of an exhibit of one of the rest
   abbrev IsOfExhibit : Finding → Type 0
   IsOfExhibit f = (g : ℕ) × IsOfRest b g × ((x : LogBytes) × Contains (exhibits_of b.exhibits g) x × IsOne b.header g (log_of b.header x.bytes) f)
@@ -164,9 +164,9 @@ module _ (b : LogBundle) where
   from_exhibit (Unjoined a c) g of_rest x his one = absurd one
   from_exhibit Nobody g of_rest x his one = absurd one
 
-  module _ (reports : List Report) (are : AreReports b reports) where
+  module _ (reports : List LocalReport) (are : AreReports b reports) where
     -- what a report of the bundle reads, under the bundle's header
-    reads : (r : Report) → Contains reports r → IsReading b.header r.exhibit.general (log_of b.header r.exhibit.bytes) r.reading
+    reads : (r : LocalReport) → Contains reports r → IsReading b.header r.exhibit.general (log_of b.header r.exhibit.bytes) r.reading
     reads r h =
         let is : IsReading r.header r.exhibit.general (log_of r.header r.exhibit.bytes) r.reading = are.each r h in
         subst (λ x. IsReading x r.exhibit.general (log_of x r.exhibit.bytes) r.reading) (are.header r h) is
@@ -175,14 +175,14 @@ module _ (b : LogBundle) where
     forth f (g, of_rest, (x, his, one)) =
         let k = Contains_filtered (λ (y : LogBytes). nat_eq y.general g) b.exhibits x his in
         let general : x.general ≡ g = eqb-true x.general g k.1 in
-        let m = Contains_mapped (λ (r : Report). r.exhibit) reports x (subst (λ xs. Contains xs x) (sym are.exhibits) k.0) in
+        let m = Contains_mapped (λ (r : LocalReport). r.exhibit) reports x (subst (λ xs. Contains xs x) (sym are.exhibits) k.0) in
         let whose : g ≡ m.0.exhibit.general = sym general ∙ ap (λ (y : LogBytes). y.general) (sym m.2) in
         let mine : IsOne b.header m.0.exhibit.general (log_of b.header m.0.exhibit.bytes) f = subst (λ n. IsOne b.header n (log_of b.header m.0.exhibit.bytes) f) whose (subst (λ (y : LogBytes). IsOne b.header g (log_of b.header y.bytes) f) (sym m.2) one) in
         (m.0, m.1, subst (IsOfRest b) whose of_rest, reported b.header m.0.exhibit.general (log_of b.header m.0.exhibit.bytes) m.0.reading (reads m.0 m.1) f mine)
 
     pub back : (f : Finding) → IsReported b reports f → IsFinding b f
     back f (r, h, of_rest, c) =
-        let inside : Contains b.exhibits r.exhibit = subst (λ xs. Contains xs r.exhibit) are.exhibits (in_mapped (λ (s : Report). s.exhibit) reports r h) in
+        let inside : Contains b.exhibits r.exhibit = subst (λ xs. Contains xs r.exhibit) are.exhibits (in_mapped (λ (s : LocalReport). s.exhibit) reports r h) in
         let his = in_filtered (λ (y : LogBytes). nat_eq y.general r.exhibit.general) b.exhibits r.exhibit inside (eq-eqb r.exhibit.general r.exhibit.general refl) in
         from_exhibit f r.exhibit.general of_rest r.exhibit his (told b.header r.exhibit.general (log_of b.header r.exhibit.bytes) r.reading (reads r h) f c)
 

@@ -1,4 +1,4 @@
--- Findings sorted by their places, each once.
+-- Findings sorted by their ranks, each once.
 use Rattle.std.proofs.Common.{◌≡◌, ℕ, zero, suc, ◌+◌, ◌<◌, ◌≤◌, ◌⊎◌, ◌↔◌, ◌==◌, false, inl, inr, if◌then◌else◌, List, [], ◌∷◌, ◌++◌, get_or, length, take, Contains, AllPairs, refl, sym, ap, ◌∙◌, subst, arith, rules}
 use Rattle.std.specs.declared.cmp.Ordering.{Ordering}
 use Rattle.std.specs.Ordering.{is_lt, nat_cmp, ordering_then}
@@ -15,14 +15,14 @@ use Rattle.gen_log.specs.declared.fault.LogFault.{LogFault}
 use Rattle.gen_log.specs.declared.fault.LogFault.TheVariants as log_faults
 use Rattle.gen_match.specs.declared.finding.Finding.{Finding}
 use Rattle.gen_match.specs.declared.finding.Finding.TheVariants.{Missing, Several, Unreadable, Foreign, Unsigned, Unsealed, Departs, Unmatched, Underivable, Unjoined, Nobody}
-use Rattle.gen_match.specs.Findings.{finding_place, AreFindings}
-use Rattle.gen_audit.specs.declared.sorting_places.SortingPlace.{SortingPlace}
-use Rattle.gen_audit.specs.Sorting.{sorting_place, place_cmp}
+use Rattle.gen_match.specs.Findings.{finding_rank, AreFindings}
+use Rattle.gen_audit.specs.declared.ranks.Rank.{Rank}
+use Rattle.gen_audit.specs.Sorting.{sorting_rank, rank_cmp}
 
--- ---- places
+-- ---- ranks
 
--- the numbers of a place
-abbrev numbers : SortingPlace → List ℕ
+-- the numbers of a rank
+abbrev numbers : Rank → List ℕ
 numbers p = p.number ∷ p.general ∷ p.detail ∷ p.round ∷ p.order ∷ []
 
 -- a list written over zeros
@@ -59,7 +59,7 @@ uncovered (z ∷ zs) (x ∷ xs) [] are h = absurd (none_lower (z ∷ zs) (x ∷ 
 uncovered (z ∷ zs) (x ∷ xs) (y ∷ ys) are (inl h) = inl h
 uncovered (z ∷ zs) (x ∷ xs) (y ∷ ys) are (inr h) = inr (h.0, uncovered zs xs ys are.1 h.1)
 
-numbers_are : (f : Finding) → numbers (sorting_place f) ≡ over zeros (finding_place f)
+numbers_are : (f : Finding) → numbers (sorting_rank f) ≡ over zeros (finding_rank f)
 numbers_are (Missing g) = refl
 numbers_are (Several g) = refl
 numbers_are (Unreadable g log_faults.Truncated) = refl
@@ -77,7 +77,7 @@ numbers_are (Underivable a b l v) = refl
 numbers_are (Unjoined a b) = refl
 numbers_are Nobody = refl
 
--- ---- a place gives back its finding
+-- ---- a rank gives back its finding
 
 abbrev chain_fault_of : ℕ → ChainFault
 chain_fault_of c =
@@ -89,7 +89,7 @@ log_fault_of d c =
     if d == 1 then log_faults.Truncated else if d == 2 then log_faults.UnknownKind else if d == 3 then log_faults.OutOfRange
     else if d == 4 then log_faults.OutOfPlace else if d == 5 then log_faults.Chain (chain_fault_of c) else log_faults.LeftOver
 
-abbrev finding_of : SortingPlace → Finding
+abbrev finding_of : Rank → Finding
 finding_of p =
     if p.number == 1 then Missing p.general else if p.number == 2 then Several p.general
     else if p.number == 3 then Unreadable p.general (log_fault_of p.detail p.round) else if p.number == 4 then Foreign p.general
@@ -98,7 +98,7 @@ finding_of p =
     else if p.number == 9 then Underivable p.general p.detail p.round p.order
     else if p.number == 10 then Unjoined p.general p.detail else Nobody
 
-given_back : (f : Finding) → finding_of (sorting_place f) ≡ f
+given_back : (f : Finding) → finding_of (sorting_rank f) ≡ f
 given_back (Missing g) = refl
 given_back (Several g) = refl
 given_back (Unreadable g log_faults.Truncated) = refl
@@ -120,10 +120,10 @@ given_back (Underivable a b l v) = refl
 given_back (Unjoined a b) = refl
 given_back Nobody = refl
 
-pub one_finding : (f g : Finding) → sorting_place f ≡ sorting_place g → f ≡ g
+pub one_finding : (f g : Finding) → sorting_rank f ≡ sorting_rank g → f ≡ g
 one_finding f g e = sym (given_back f) ∙ ap finding_of e ∙ given_back g
 
--- ---- the order of places
+-- ---- the order of ranks
 
 not_less : (x y : ℕ) (o : Ordering) → is_lt (ordering_then (nat_cmp x y) o) ≡ false → (y < x) ⊎ ((y ≡ x) × (is_lt o ≡ false))
 not_less x y o h = elim (cases_order x y) [
@@ -139,11 +139,11 @@ not_less_last x y h = elim (cases_order x y) [
   | inr (inr l) ↦ inl l
 ]
 
-abbrev place : ℕ → ℕ → ℕ → ℕ → ℕ → SortingPlace
-place n g d l v = record { number = n; general = g; detail = d; round = l; order = v }
+abbrev rank_by : ℕ → ℕ → ℕ → ℕ → ℕ → Rank
+rank_by n g d l v = record { number = n; general = g; detail = d; round = l; order = v }
 
--- a place that is not before another is behind it, or the same
-not_before : (a b : SortingPlace) → is_lt (place_cmp b a) ≡ false → Precedes (numbers a) (numbers b) ⊎ (a ≡ b)
+-- a rank that is not before another is behind it, or the same
+not_before : (a b : Rank) → is_lt (rank_cmp b a) ≡ false → Precedes (numbers a) (numbers b) ⊎ (a ≡ b)
 not_before a b h = elim (not_less b.number a.number _ h) [
   | inl l ↦ inl (inl l)
   | inr (n, h1) ↦ elim (not_less b.general a.general _ h1) [
@@ -154,7 +154,7 @@ not_before a b h = elim (not_less b.number a.number _ h) [
         | inl l ↦ inl (inr (n, inr (g, inr (d, inl l))))
         | inr (r, h4) ↦ elim (not_less_last b.order a.order h4) [
           | inl l ↦ inl (inr (n, inr (g, inr (d, inr (r, inl l)))))
-          | inr v ↦ inr (λ i. place (n i) (g i) (d i) (r i) (v i))
+          | inr v ↦ inr (λ i. rank_by (n i) (g i) (d i) (r i) (v i))
         ]
       ]
     ]
@@ -162,11 +162,11 @@ not_before a b h = elim (not_less b.number a.number _ h) [
 ]
 
 abbrev pub Stands : Finding → Finding → Type 0
-Stands x y = Precedes (finding_place x) (finding_place y)
+Stands x y = Precedes (finding_rank x) (finding_rank y)
 
-pub next_finding : (x y : Finding) → is_lt (place_cmp (sorting_place y) (sorting_place x)) ≡ false → Stands x y ⊎ (x ≡ y)
-next_finding x y h = elim (not_before (sorting_place x) (sorting_place y) h) [
-  | inl l ↦ inl (uncovered zeros (finding_place x) (finding_place y) (refl, (refl, (refl, (refl, (refl, tt))))) (subst (λ ns. Precedes ns (over zeros (finding_place y))) (numbers_are x) (subst (λ ns. Precedes (numbers (sorting_place x)) ns) (numbers_are y) l)))
+pub next_finding : (x y : Finding) → is_lt (rank_cmp (sorting_rank y) (sorting_rank x)) ≡ false → Stands x y ⊎ (x ≡ y)
+next_finding x y h = elim (not_before (sorting_rank x) (sorting_rank y) h) [
+  | inl l ↦ inl (uncovered zeros (finding_rank x) (finding_rank y) (refl, (refl, (refl, (refl, (refl, tt))))) (subst (λ ns. Precedes ns (over zeros (finding_rank y))) (numbers_are x) (subst (λ ns. Precedes (numbers (sorting_rank x)) ns) (numbers_are y) l)))
   | inr e ↦ inr (one_finding x y e)
 ]
 
@@ -189,16 +189,16 @@ before_last (x ∷ front) y z all h = elim (Contains_cases x z front h) [
 one_alone : (x : Finding) → AllPairs Stands (x ∷ [])
 one_alone x i j d l m = absurd (omega arith)
 
-module _ (sorted : List Finding) (rises : IsSortedByKey sorting_place place_cmp sorted) where
+module _ (sorted : List Finding) (rises : IsSortedByKey sorting_rank rank_cmp sorted) where
   -- the one before this one is the same, or stands before it
   one_before : (j : ℕ) (x : Finding) → j + 1 < length sorted → x ≡ get_or sorted (j + 1) x → Stands (get_or sorted j x) x ⊎ (get_or sorted j x ≡ x)
   one_before j x below is =
-      let h : is_lt (place_cmp (sorting_place (get_or sorted (j + 1) x)) (sorting_place (get_or sorted j x))) ≡ false = rises j x (omega arith) below in
+      let h : is_lt (rank_cmp (sorting_rank (get_or sorted (j + 1) x)) (sorting_rank (get_or sorted j x))) ≡ false = rises j x (omega arith) below in
       subst (λ (y : Finding). Stands (get_or sorted j x) y ⊎ (get_or sorted j x ≡ y)) (sym is) (next_finding (get_or sorted j x) (get_or sorted (j + 1) x) h)
 
   before_all : (out front : List Finding) (y x : Finding) → AllPairs Stands out → out ≡ front ++ y ∷ [] → Stands y x → (z : Finding) → Contains out z → Stands z x
   before_all out front y x all is l z h = elim (Contains-push_cases front y z (subst (λ fs. Contains fs z) is h)) [
-    | inl k ↦ Precedes-trans (finding_place z) (finding_place y) (finding_place x) (before_last front y z (subst (AllPairs Stands) is all) k) l
+    | inl k ↦ Precedes-trans (finding_rank z) (finding_rank y) (finding_rank x) (before_last front y z (subst (AllPairs Stands) is all) k) l
     | inr e ↦ subst (λ (w : Finding). Stands w x) e l
   ]
 

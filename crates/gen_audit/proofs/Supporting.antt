@@ -28,7 +28,7 @@ use Rattle.gen_audit.specs.Explained.{NothingFound}
 use Rattle.gen_log.specs.Writing.{LogBytes}
 use Rattle.gen_match.specs.declared.finding.Finding.{Finding}
 use Rattle.gen_match.specs.declared.finding.Finding.TheVariants.{Missing, Several, Unreadable, Foreign, Unsigned, Unsealed, Departs, Unmatched, Underivable, Unjoined, Nobody}
-use Rattle.gen_audit.specs.Bundle.{LogBundle, IsBundle, exhibits_of, counted, sole_log, logs_of}
+use Rattle.gen_audit.specs.Bundle.{Bundle, IsBundle, exhibits_of, counted, sole_log, logs_of}
 use Rattle.gen_audit.specs.Findings.{Shows, ShowsOwn, IsFinding}
 use Rattle.gen_audit.specs.Supported.{HasSoleLog, IsSupported, IsClean, CleanIsSupported, SupportedIsClean, CleanAgrees, AgreeOn}
 use Rattle.gen_audit.proofs.Claims.{nothing_found_explains, explained_finds_nothing}
@@ -78,7 +78,7 @@ decide_own h g log = elim (bool_cases (says_it_is_of h g log)) [
 ]
 
 -- ---- the log that counts
-pub counts : (b : LogBundle) (g : ℕ) (x : LogBytes) (log : RunLog) → exhibits_of b.exhibits g ≡ x ∷ [] → log_of b.header x.bytes ≡ Ok log → SaysItIsOf b.header g log → logs_of b g ≡ Some (map erase log.entries)
+pub counts : (b : Bundle) (g : ℕ) (x : LogBytes) (log : RunLog) → exhibits_of b.exhibits g ≡ x ∷ [] → log_of b.header x.bytes ≡ Ok log → SaysItIsOf b.header g log → logs_of b g ≡ Some (map erase log.entries)
 counts b g x log sole reads own = ap (sole_log b.header g) sole ∙ (ap (counted b.header g) reads ∙ ap (λ t. if t then Some (map erase log.entries) else None) (own_is b.header g log own))
 
 -- ---- a follower's log departs nowhere
@@ -99,13 +99,13 @@ done l = Ok l
 one_result : (l m : RunLog) → done l ≡ done m → l ≡ m
 one_result l m q = cc
 
-same_result : (b : LogBundle) (x : LogBytes) (log other : RunLog) → log_of b.header x.bytes ≡ Ok log → log_of b.header x.bytes ≡ Ok other → log ≡ other
+same_result : (b : Bundle) (x : LogBytes) (log other : RunLog) → log_of b.header x.bytes ≡ Ok log → log_of b.header x.bytes ≡ Ok other → log ≡ other
 same_result b x log other e f = one_result log other (sym e ∙ f)
 
 not_fault : (r : Result RunLog LogFault) (log : RunLog) (fault : LogFault) → r ≡ Ok log → r ≡ Err fault → ⊥
 not_fault r log fault e f = absurd cc
 
-module _ (b : LogBundle) where
+module _ (b : Bundle) where
   abbrev net : Network
   net = b.header.network
 

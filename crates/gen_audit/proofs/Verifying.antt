@@ -19,7 +19,7 @@ use Rattle.gen_log.specs.Log.{RunLog}
 use Rattle.gen_log.specs.Links.{HeadVerifies, head_over}
 use Rattle.gen_log.specs.Verifying.{IsSignedByLast, EntryVerifies}
 use Rattle.gen_audit.specs.Findings.{FailsAt}
-use Rattle.gen_audit.proofs.Deciding.{Dec, both, same_path, some_place, not_dec}
+use Rattle.gen_audit.proofs.Deciding.{Dec, both, same_path, some_position, not_dec}
 
 pub less : (a b : ℕ) → Dec (a < b)
 less a b = elim (cases_lt a b) [ inl l ↦ inl l | inr m ↦ inr (λ l. omega arith) ]
@@ -44,7 +44,7 @@ has_signed h g statement signature = both (g < h.network.generals) (Verifies (ro
     (less g h.network.generals) (verifies (root_of h g) (height_of h) (leaf_of_order h statement.order) (statement_digest h statement) signature)
 
 are_signed : (h : RunHeader) (order : ℕ) (signers : List Signer) → Dec (AreSigned h order signers)
-are_signed h order signers = elim (some_place Unsigned (λ front s back. not_dec (HasSignedBehind h order front s) (signs front s)) signers) [
+are_signed h order signers = elim (some_position Unsigned (λ front s back. not_dec (HasSignedBehind h order front s) (signs front s)) signers) [
   | inl p ↦ inr (λ all. p.holds (all p.front p.behind p.here p.parts))
   | inr none ↦ inl (λ front back s parts. elim (signs front s) [
     | inl h ↦ h
@@ -65,7 +65,7 @@ abbrev Last : RunHeader → ℕ → List ℕ → List ℕ → List ℕ → ℕ �
 Last h order path signature front last behind = (behind ≡ []) × HasSigned h last (record { order = order; path = path }) signature
 
 signed_by_last : (h : RunHeader) (order : ℕ) (path signature : List ℕ) → Dec (IsSignedByLast h order path signature)
-signed_by_last h order path signature = elim (some_place (Last h order path signature) (λ front last behind. both (behind ≡ []) (HasSigned h last (record { order = order; path = path }) signature) (same_path behind []) (has_signed h last (record { order = order; path = path }) signature)) path) [
+signed_by_last h order path signature = elim (some_position (Last h order path signature) (λ front last behind. both (behind ≡ []) (HasSigned h last (record { order = order; path = path }) signature) (same_path behind []) (has_signed h last (record { order = order; path = path }) signature)) path) [
   | inl p ↦ inl (p.here, (p.front, p.parts ∙ ap (λ xs. p.front ++ p.here ∷ xs) p.holds.0), p.holds.1)
   | inr none ↦ inr (λ s. none (record { front = s.1.0; here = s.0; behind = []; parts = s.1.1; holds = (refl, s.2) }))
 ]
@@ -81,7 +81,7 @@ entry_verifies h (Decide orders order) = inl tt
 pub first_failing : (h : RunHeader) (entries : List Entry) → ((p : ℕ) × FailsAt h entries p) ⊎ AllByRecursion (EntryVerifies h) entries
 first_failing h [] = inr tt
 first_failing h (e ∷ entries) = elim (entry_verifies h e) [
-  | inr fails ↦ inl (0, record { before = []; entry = e; behind = entries; parts = refl; place = refl; verified = tt; fails = fails })
+  | inr fails ↦ inl (0, record { before = []; entry = e; behind = entries; parts = refl; index = refl; verified = tt; fails = fails })
   | inl good ↦ elim (first_failing h entries) [
     | inr all ↦ inr (good, all)
     | inl f ↦ inl (
@@ -91,7 +91,7 @@ first_failing h (e ∷ entries) = elim (entry_verifies h e) [
         entry = f.1.entry;
         behind = f.1.behind;
         parts = ap (λ es. e ∷ es) f.1.parts;
-        place = ap suc f.1.place;
+        index = ap suc f.1.index;
         verified = (good, f.1.verified);
         fails = f.1.fails;
       },

@@ -13,14 +13,14 @@ use Rattle.gen_match.specs.Matching.{Logs}
 use Rattle.gen_audit.specs.BundleParts.{AreMembers, AreListedWalks, AreExhibits}
 
 -- a header, the generals who are held for faulty, walks between the others, and what is shown as logs
-pub record LogBundle : Type 0 where
+pub record Bundle : Type 0 where
   pub header : RunHeader
   pub faulty : List ℕ
   pub walks : List (List ℕ)
   pub exhibits : List LogBytes
 
 -- what each bundle keeps: its header is one, its parts are about the header's network, and what is shown are bytes
-pub record IsBundle (b : LogBundle) : Type 0 where
+pub record IsBundle (b : Bundle) : Type 0 where
   pub header : IsHeader b.header
   pub faulty : AreMembers b.header.network.generals b.faulty
   pub walks : AreListedWalks b.header.network.generals b.walks
@@ -42,5 +42,5 @@ sole_log h g (x ∷ []) = counted h g (log_of h x.bytes)
 sole_log h g _ = None
 
 -- the logs of a bundle that count
-abbrev pub logs_of : LogBundle → Logs
+abbrev pub logs_of : Bundle → Logs
 logs_of b g = sole_log b.header g (exhibits_of b.exhibits g)

@@ -7,7 +7,7 @@ use Rattle.gen_log.specs.Writing.{LogBytes}
 use Rattle.gen_audit.specs.declared.bundle_fault.BundleFault.{BundleFault}
 use Rattle.gen_audit.specs.declared.bundle_fault.BundleFault.TheVariants as faults
 use Rattle.gen_audit.specs.Behind.{many_behind}
-use Rattle.gen_audit.specs.Bundle.{LogBundle}
+use Rattle.gen_audit.specs.Bundle.{Bundle}
 use Rattle.gen_audit.specs.BundleParts.{most_walks, most_exhibits, ends_of}
 use Rattle.gen_audit.specs.BundleMaking.{is_walk_length, no_ends, may_follow, shown_general}
 use Rattle.gen_audit.specs.BundleFields.{front_at, faulty_at}
@@ -25,7 +25,7 @@ walk_at n before bytes = do
   count ← byte_at faults.Truncated bytes
   size ← check (is_walk_length count.0) faults.WalkCount
   walk ← many_at (general_at n) count.0 count.1
-  placed ← check (may_follow before walk.0) faults.BadWalk
+  ordered ← check (may_follow before walk.0) faults.BadWalk
   Ok walk
 
 unfoldable pub walks_at : ℕ → List ℕ → Result (List (List ℕ) × List ℕ) BundleFault
@@ -39,7 +39,7 @@ unfoldable pub owner_at : ℕ → ℕ → List ℕ → Result (ℕ × List ℕ) 
 owner_at n before bytes = do
   general ← byte_at faults.Truncated bytes
   known ← check (nat_lt general.0 n) faults.BadExhibit
-  placed ← check (nat_le before general.0) faults.OutOfOrder
+  ordered ← check (nat_le before general.0) faults.OutOfOrder
   Ok general
 
 -- an exhibit, and all exhibits
@@ -57,7 +57,7 @@ exhibits_at n bytes = do
   many_behind (exhibit_at n) shown_general 0 count.0 count.1
 
 -- a bundle, and the bytes after it
-unfoldable pub bundle_at : List ℕ → Result (LogBundle × List ℕ) BundleFault
+unfoldable pub bundle_at : List ℕ → Result (Bundle × List ℕ) BundleFault
 bundle_at bytes = do
   header ← front_at bytes
   faulty ← faulty_at header.0.network.generals header.1
@@ -66,7 +66,7 @@ bundle_at bytes = do
   Ok (record { header = header.0; faulty = faulty.0; walks = walks.0; exhibits = exhibits.0 }, exhibits.1)
 
 -- the bundle that the whole of the bytes is
-unfoldable pub whole_bundle : List ℕ → Result LogBundle BundleFault
+unfoldable pub whole_bundle : List ℕ → Result Bundle BundleFault
 whole_bundle bytes = do
   bundle ← bundle_at bytes
   all ← check (length bundle.1 == 0) faults.LeftOver

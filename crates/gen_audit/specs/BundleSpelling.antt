@@ -6,7 +6,7 @@ use Rattle.gen_net.specs.declared.marks.Marks.{Marks}
 use Rattle.gen_net.specs.Front.{front_spelling}
 use Rattle.gen_log.specs.Fields.{set_spelling}
 use Rattle.gen_log.specs.Writing.{LogBytes}
-use Rattle.gen_audit.specs.Bundle.{LogBundle}
+use Rattle.gen_audit.specs.Bundle.{Bundle}
 
 -- the first four bytes as a number, big-endian: `SMB1` before a header of version 1, `SMB2` before one of version 2
 abbrev pub bundle_marks : Marks
@@ -29,7 +29,7 @@ abbrev pub exhibits_spelling : List LogBytes → List ℕ
 exhibits_spelling exhibits = length exhibits ∷ flat_map exhibit_spelling exhibits
 
 -- the mark and the header, F as a number of two bytes, the walks, and the exhibits
-abbrev pub bundle_spelling : LogBundle → List ℕ
+abbrev pub bundle_spelling : Bundle → List ℕ
 bundle_spelling b =
     front_spelling bundle_marks b.header
     ++ (set_spelling b.faulty

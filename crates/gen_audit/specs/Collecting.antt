@@ -6,7 +6,7 @@ use Rattle.gen_log.specs.declared.entries.Entry.{Entry}
 use Rattle.gen_log.specs.declared.entries.Entry.TheVariants.{Decide}
 use Rattle.gen_local.specs.declared.reading.Reading.TheVariants.{Own}
 use Rattle.gen_local.specs.FoundLog.{FoundLog}
-use Rattle.gen_local.specs.Report.{Report}
+use Rattle.gen_local.specs.Report.{LocalReport}
 use Rattle.gen_log.specs.Writing.{LogBytes}
 use Rattle.gen_scenario.specs.declared.scenario.Decision.{Decision}
 use Rattle.gen_match.specs.declared.finding.Finding.{Finding}
@@ -30,12 +30,12 @@ abbrev pub shown_found : List LogBytes → ℕ → List Finding
 shown_found exhibits g = amount_found g (length (exhibits_of exhibits g))
 
 -- the reading of a report finds it, and the report's general is in the set
-abbrev pub FindsIn : List ℕ → Report → Finding → Type 0
+abbrev pub FindsIn : List ℕ → LocalReport → Finding → Type 0
 FindsIn rest r f = Contains rest r.exhibit.general × Contains (finds r.exhibit.general r.reading) f
 
 -- one of the reports finds it, of a general of the set
-abbrev pub FindsRead : List ℕ → List Report → Finding → Type 0
-FindsRead rest reports f = (r : Report) × Contains reports r × FindsIn rest r f
+abbrev pub FindsRead : List ℕ → List LocalReport → Finding → Type 0
+FindsRead rest reports f = (r : LocalReport) × Contains reports r × FindsIn rest r f
 
 -- it is found between two of the logs, or in what the faulty sent
 abbrev pub FindsBetween : Network → List ℕ → Logs → Finding → Type 0
@@ -52,10 +52,10 @@ FindsEmpty rest Nobody = rest ≡ []
 FindsEmpty rest _ = ⊥
 
 -- the report is of a log that says it is g's of the run, and what that log decides
-abbrev pub IsOwnOf : Report → ℕ → Type 0
+abbrev pub IsOwnOf : LocalReport → ℕ → Type 0
 IsOwnOf r g = (r.exhibit.general ≡ g) × ((found : FoundLog) × (r.reading ≡ Own found))
 
-abbrev pub DecidesIn : Report → ℕ → Decision → Type 0
+abbrev pub DecidesIn : LocalReport → ℕ → Decision → Type 0
 DecidesIn r g d =
     (d.general ≡ g) × (r.exhibit.general ≡ g)
     × ((found : FoundLog) × (r.reading ≡ Own found)

@@ -16,20 +16,20 @@ use Rattle.gen_log.specs.Writing.{LogBytes}
 use Rattle.gen_match.specs.declared.finding.Finding.{Finding}
 use Rattle.gen_match.specs.declared.finding.Finding.TheVariants.{Missing, Several, Unreadable, Foreign, Unsigned, Unsealed, Departs, Unmatched, Underivable, Unjoined, Nobody}
 use Rattle.gen_match.specs.Matching.{IsUnmatched, IsUnderivable}
-use Rattle.gen_audit.specs.Bundle.{LogBundle, exhibits_of, logs_of}
+use Rattle.gen_audit.specs.Bundle.{Bundle, exhibits_of, logs_of}
 
 -- g is of the rest
-abbrev pub IsOfRest : LogBundle → ℕ → Type 0
+abbrev pub IsOfRest : Bundle → ℕ → Type 0
 IsOfRest b g = IsLoyal b.header.network b.faulty g
 
 -- g is of the rest, and a log is shown as his; and it says it is his of this run
-pub record Shows (b : LogBundle) (g : ℕ) (log : RunLog) : Type 0 where
+pub record Shows (b : Bundle) (g : ℕ) (log : RunLog) : Type 0 where
   pub of_rest : IsOfRest b g
   pub exhibit : LogBytes
   pub his : Contains (exhibits_of b.exhibits g) exhibit
   pub reads : log_of b.header exhibit.bytes ≡ Ok log
 
-pub record ShowsOwn (b : LogBundle) (g : ℕ) (log : RunLog) : Type 0 where
+pub record ShowsOwn (b : Bundle) (g : ℕ) (log : RunLog) : Type 0 where
   pub shows : Shows b g log
   pub says : SaysItIsOf b.header g log
 
@@ -39,18 +39,18 @@ pub record FailsAt (h : RunHeader) (entries : List Entry) (p : ℕ) : Type 0 whe
   pub entry : Entry
   pub behind : List Entry
   pub parts : entries ≡ before ++ entry ∷ behind
-  pub place : length before ≡ p
+  pub index : length before ≡ p
   pub verified : AllByRecursion (EntryVerifies h) before
   pub fails : EntryVerifies h entry → ⊥
 
 -- a and c are the least pair of the rest that no walk joins inside the rest by at most d edges
-abbrev pub IsUnjoined : LogBundle → ℕ → ℕ → Type 0
+abbrev pub IsUnjoined : Bundle → ℕ → ℕ → Type 0
 IsUnjoined b a c =
     (rest : List ℕ) × IsListOf rest (IsOfRest b)
     × IsLeastBadPair b.header.network rest (Bridges b.header.network rest b.walks) a c
 
 -- this is found in the bundle
-abbrev pub IsFinding : LogBundle → Finding → Type 0
+abbrev pub IsFinding : Bundle → Finding → Type 0
 IsFinding b (Missing g) = IsOfRest b g × (exhibits_of b.exhibits g ≡ [])
 IsFinding b (Several g) =
     IsOfRest b g × ((x y : LogBytes) × (more : List LogBytes) × (exhibits_of b.exhibits g ≡ x ∷ y ∷ more))

@@ -1,6 +1,6 @@
 -- The headline: what a yes of the auditor means.
 use Rattle.std.specs.Prelude.{ℕ, ◌≡◌, ◌↔◌}
-use Rattle.gen_audit.specs.Bundle.{LogBundle, IsBundle}
+use Rattle.gen_audit.specs.Bundle.{Bundle, IsBundle}
 use Rattle.gen_audit.specs.Supported.{IsSupported, HasFew, AgreeOn}
 use Rattle.gen_audit.specs.declared.verdicts.Verdict.{Verdict}
 use Rattle.gen_audit.specs.declared.verdicts.Verdict.TheVariants.{Agreed, Explained, No}
@@ -12,11 +12,14 @@ IsYes (Agreed order) = Unit {0}
 IsYes (Explained decisions) = Unit {0}
 IsYes (No findings) = ⊥
 
--- The verdict is a yes exactly where the bundle supports it. And where it does, and at most m are held for faulty, the verdict
--- is the one order that all of the rest decided, which is the commander's if he is of the rest.
-pub record Headline (b : LogBundle) (verdict : Verdict) : Type 0 where
+-- what a verdict on a bundle means
+pub record Headline (b : Bundle) (verdict : Verdict) : Type 0 where
+  -- it is a yes exactly where the bundle supports it
   pub exactly : IsYes verdict ↔ IsSupported b
+  -- where it does, and at most m are held for faulty, the verdict is the one order that all of the rest decided, which
+  -- is the commander's if he is of the rest
   pub agreed : IsSupported b → HasFew b → (order : ℕ) × (verdict ≡ Agreed order) × AgreeOn b order
 
+-- each verdict on a bundle means that
 abbrev pub HeadlineHolds : Type 0
-HeadlineHolds = (b : LogBundle) → IsBundle b → (verdict : Verdict) → IsVerdict b verdict → Headline b verdict
+HeadlineHolds = (b : Bundle) → IsBundle b → (verdict : Verdict) → IsVerdict b verdict → Headline b verdict

@@ -2,10 +2,10 @@
 use Rattle.std.specs.Prelude.{ℕ, ◌↔◌, Bool, true, false, List, [], ◌∷◌, ◌++◌, Contains, Option, Some, None}
 use Rattle.gen_local.specs.declared.reading.Reading.{Reading}
 use Rattle.gen_local.specs.declared.reading.Reading.TheVariants as readings
-use Rattle.gen_local.specs.Report.{Report}
+use Rattle.gen_local.specs.Report.{LocalReport}
 use Rattle.gen_match.specs.declared.finding.Finding.{Finding}
 use Rattle.gen_match.specs.declared.finding.Finding.TheVariants.{Unreadable, Foreign, Unsigned, Unsealed, Departs}
-use Rattle.gen_audit.specs.Bundle.{LogBundle}
+use Rattle.gen_audit.specs.Bundle.{Bundle}
 use Rattle.gen_audit.specs.Findings.{IsOfRest, IsFinding}
 use Rattle.gen_audit.specs.Telling.{AreReports}
 
@@ -41,13 +41,13 @@ IsLocal (Departs g p) = Unit {0}
 IsLocal _ = ⊥
 
 -- the report of an exhibit of one of the rest finds it
-abbrev pub IsReported : LogBundle → List Report → Finding → Type 0
+abbrev pub IsReported : Bundle → List LocalReport → Finding → Type 0
 IsReported b reports finding =
-    (r : Report) × Contains reports r × IsOfRest b r.exhibit.general
+    (r : LocalReport) × Contains reports r × IsOfRest b r.exhibit.general
     × Contains (finds r.exhibit.general r.reading) finding
 
 -- what is found against single logs is what the reports of the rest find
 abbrev pub ReportsFindLocal : Type 0
 ReportsFindLocal =
-    (b : LogBundle) (reports : List Report) → AreReports b reports → (finding : Finding) → IsLocal finding
+    (b : Bundle) (reports : List LocalReport) → AreReports b reports → (finding : Finding) → IsLocal finding
     → IsFinding b finding ↔ IsReported b reports finding

@@ -8,12 +8,12 @@ use Rattle.gen_log.specs.Verifying.{LogVerifies}
 use Rattle.gen_log.specs.Writing.{LogBytes}
 use Rattle.gen_match.specs.declared.finding.Finding.{Finding}
 use Rattle.gen_audit.specs.Agreement.{AgreesOn}
-use Rattle.gen_audit.specs.Bundle.{LogBundle, IsBundle, exhibits_of, logs_of}
+use Rattle.gen_audit.specs.Bundle.{Bundle, IsBundle, exhibits_of, logs_of}
 use Rattle.gen_audit.specs.Explained.{IsExplained}
 use Rattle.gen_audit.specs.Findings.{IsOfRest, IsFinding}
 
 -- a general has one exhibit, it reads, and the log verifies
-pub record HasSoleLog (b : LogBundle) (g : ℕ) : Type 0 where
+pub record HasSoleLog (b : Bundle) (g : ℕ) : Type 0 where
   pub exhibit : LogBytes
   pub sole : exhibits_of b.exhibits g ≡ exhibit ∷ []
   pub log : RunLog
@@ -22,7 +22,7 @@ pub record HasSoleLog (b : LogBundle) (g : ℕ) : Type 0 where
 
 -- Somebody is of the rest; each of the rest has one log, and it verifies; the walks bound the diameter of the rest; and a run
 -- explains the logs, in which everybody of the rest follows the algorithm and keeps exactly these logs.
-pub record IsSupported (b : LogBundle) : Type 0 where
+pub record IsSupported (b : Bundle) : Type 0 where
   pub somebody : (g : ℕ) × IsOfRest b g
   pub each : (g : ℕ) → IsOfRest b g → HasSoleLog b g
   pub rest : List ℕ
@@ -31,25 +31,25 @@ pub record IsSupported (b : LogBundle) : Type 0 where
   pub explained : IsExplained b.header.network b.faulty (logs_of b)
 
 -- nothing is found
-abbrev pub IsClean : LogBundle → Type 0
+abbrev pub IsClean : Bundle → Type 0
 IsClean b = (finding : Finding) → IsFinding b finding → ⊥
 
 -- nothing is found exactly where the bundle supports a yes
 abbrev pub CleanIsSupported : Type 0
-CleanIsSupported = (b : LogBundle) → IsBundle b → IsClean b ↔ IsSupported b
+CleanIsSupported = (b : Bundle) → IsBundle b → IsClean b ↔ IsSupported b
 
 -- the one direction asks nothing of the bundle
 abbrev pub SupportedIsClean : Type 0
-SupportedIsClean = (b : LogBundle) → IsSupported b → IsClean b
+SupportedIsClean = (b : Bundle) → IsSupported b → IsClean b
 
 -- the logs of a bundle agree on an order
-abbrev pub AgreeOn : LogBundle → ℕ → Type 0
+abbrev pub AgreeOn : Bundle → ℕ → Type 0
 AgreeOn b order = AgreesOn b.header.network b.faulty (logs_of b) order
 
 -- at most m are held for faulty
-abbrev pub HasFew : LogBundle → Type 0
+abbrev pub HasFew : Bundle → Type 0
 HasFew b = length b.faulty ≤ b.header.network.traitors
 
 -- with few faulty generals the logs of a bundle in which nothing is found agree on an order
 abbrev pub CleanAgrees : Type 0
-CleanAgrees = (b : LogBundle) → IsBundle b → IsClean b → HasFew b → (order : ℕ) × AgreeOn b order
+CleanAgrees = (b : Bundle) → IsBundle b → IsClean b → HasFew b → (order : ℕ) × AgreeOn b order

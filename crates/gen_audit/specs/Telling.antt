@@ -1,15 +1,15 @@
 -- The reports of a bundle's exhibits tell its logs, so the logs can be matched by their reports.
 use Rattle.std.specs.Prelude.{ℕ, ◌≡◌, List, map, Contains}
-use Rattle.gen_local.specs.Report.{Report, IsReport}
+use Rattle.gen_local.specs.Report.{LocalReport, IsReport}
 use Rattle.gen_match.specs.Reports.{told_logs}
-use Rattle.gen_audit.specs.Bundle.{LogBundle, logs_of}
+use Rattle.gen_audit.specs.Bundle.{Bundle, logs_of}
 
 -- each is the report of one of the exhibits, under the bundle's header, in their order
-pub record AreReports (b : LogBundle) (reports : List Report) : Type 0 where
+pub record AreReports (b : Bundle) (reports : List LocalReport) : Type 0 where
   pub exhibits : map (λ r. r.exhibit) reports ≡ b.exhibits
-  pub header : (r : Report) → Contains reports r → r.header ≡ b.header
-  pub each : (r : Report) → Contains reports r → IsReport r
+  pub header : (r : LocalReport) → Contains reports r → r.header ≡ b.header
+  pub each : (r : LocalReport) → Contains reports r → IsReport r
 
 abbrev pub ReportsTellLogs : Type 0
 ReportsTellLogs =
-    (b : LogBundle) (reports : List Report) → AreReports b reports → (g : ℕ) → told_logs reports g ≡ logs_of b g
+    (b : Bundle) (reports : List LocalReport) → AreReports b reports → (g : ℕ) → told_logs reports g ≡ logs_of b g

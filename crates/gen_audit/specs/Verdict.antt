@@ -7,38 +7,38 @@ use Rattle.gen_match.specs.Findings.{AreFindings}
 use Rattle.gen_match.specs.Matching.{Logged}
 use Rattle.gen_audit.specs.declared.verdicts.Verdict.{Verdict}
 use Rattle.gen_audit.specs.declared.verdicts.Verdict.TheVariants.{Agreed, Explained, No}
-use Rattle.gen_audit.specs.Bundle.{LogBundle, IsBundle, logs_of}
+use Rattle.gen_audit.specs.Bundle.{Bundle, IsBundle, logs_of}
 use Rattle.gen_audit.specs.Findings.{IsOfRest, IsFinding}
 use Rattle.gen_audit.specs.Supported.{IsClean, IsSupported, HasFew, AgreeOn}
 
 -- this is what a general of the rest decided, as the DECIDE of his log says
-abbrev pub IsDecision : LogBundle → Decision → Type 0
+abbrev pub IsDecision : Bundle → Decision → Type 0
 IsDecision b d = IsOfRest b d.general × Logged (logs_of b) d.general (Decided d.orders d.order)
 
 -- what each of the rest decided, by general
-pub record AreDecisions (b : LogBundle) (decisions : List Decision) : Type 0 where
+pub record AreDecisions (b : Bundle) (decisions : List Decision) : Type 0 where
   pub in_order : AllPairs (λ x y. x.general < y.general) decisions
   pub members : (d : Decision) → Contains decisions d ↔ IsDecision b d
 
 -- The verdict is the bundle's: no with all that is found, if anything is; else, with at most m held for faulty, the order on
 -- which the rest agree; else what each of them decided.
-abbrev pub IsVerdict : LogBundle → Verdict → Type 0
+abbrev pub IsVerdict : Bundle → Verdict → Type 0
 IsVerdict b (Agreed order) = IsClean b × HasFew b × AgreeOn b order
 IsVerdict b (Explained decisions) = IsClean b × (b.header.network.traitors < length b.faulty) × AreDecisions b decisions
 IsVerdict b (No findings) = (findings ≢ []) × AreFindings (IsFinding b) findings
 
 -- a bundle has one verdict
 abbrev pub OneVerdict : Type 0
-OneVerdict = (b : LogBundle) → IsBundle b → (one other : Verdict) → IsVerdict b one → IsVerdict b other → one ≡ other
+OneVerdict = (b : Bundle) → IsBundle b → (one other : Verdict) → IsVerdict b one → IsVerdict b other → one ≡ other
 
 -- whoever has all that is found has a verdict
 abbrev pub VerdictExists : Type 0
 VerdictExists =
-    (b : LogBundle) → IsBundle b → (findings : List Finding) → AreFindings (IsFinding b) findings
+    (b : Bundle) → IsBundle b → (findings : List Finding) → AreFindings (IsFinding b) findings
     → (verdict : Verdict) × IsVerdict b verdict
 
 -- what one of the rest decided: the DECIDE of his log says so, and none says otherwise
-pub record DecidesOnce (b : LogBundle) (g : ℕ) (d : Decision) : Type 0 where
+pub record DecidesOnce (b : Bundle) (g : ℕ) (d : Decision) : Type 0 where
   pub whose : d.general ≡ g
   pub decided : IsDecision b d
   pub alone : (other : Decision) → other.general ≡ g → IsDecision b other → other ≡ d
@@ -46,4 +46,4 @@ pub record DecidesOnce (b : LogBundle) (g : ℕ) (d : Decision) : Type 0 where
 -- in a supported bundle each of the rest decided once
 abbrev pub EachDecidedOnce : Type 0
 EachDecidedOnce =
-    (b : LogBundle) → IsSupported b → (g : ℕ) → IsOfRest b g → (d : Decision) × DecidesOnce b g d
+    (b : Bundle) → IsSupported b → (g : ℕ) → IsOfRest b g → (d : Decision) × DecidesOnce b g d

@@ -7,7 +7,7 @@ use Rattle.gen_scenario.specs.Scenario.{Scenario, IsScenario, header_of, scripte
 use Rattle.gen_scenario.specs.SignedLaw.{HasNoRaw}
 use Rattle.gen_scenario.specs.Rows.{logs_of_all}
 use Rattle.gen_scenario.specs.WorldLogs as worlds
-use Rattle.gen_audit.specs.Bundle.{LogBundle}
+use Rattle.gen_audit.specs.Bundle.{Bundle}
 use Rattle.gen_audit.specs.Supported.{IsSupported}
 use Rattle.gen_audit.specs.declared.verdicts.Verdict.{Verdict}
 use Rattle.gen_audit.specs.Verdict.{IsVerdict}
@@ -15,7 +15,7 @@ use Rattle.gen_audit.specs.Headline.{IsYes}
 
 -- The bundle with the sealed logs of all, in the order of generals, a second log after the first. The
 -- generals who have scripts are held for faulty.
-abbrev pub bundle_of : Scenario → List (List ℕ) → LogBundle
+abbrev pub bundle_of : Scenario → List (List ℕ) → Bundle
 bundle_of s walks =
     record { header = header_of s; faulty = scripted s.scripts; walks = walks; exhibits = logs_of_all s }
 

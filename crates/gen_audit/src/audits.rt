@@ -1,14 +1,13 @@
 //! The audit of a bundle.
-ghost use Rattle.std.specs.Prelude.{ℕ, ◌≡◌, ◌↔◌, IfOk, IfSome, IfNone, map};
+ghost use Rattle.std.specs.Prelude.{◌≡◌, IfOk, IfSome, IfNone, map};
 ghost use Rattle.gen_types.specs.Ascending.{IsListOf};
 ghost use Rattle.gen_convict.specs.Convictions.{AreConvictions, AreEvidence};
 ghost use Rattle.gen_convict.specs.Evidence.{told_of};
-ghost use Rattle.gen_audit.specs.declared.verdicts.Verdict.TheVariants.{Agreed};
 ghost use Rattle.gen_audit.specs.Bundle.{IsBundle};
 ghost use Rattle.gen_audit.specs.Collecting.{DecidesIn, IsOwnOf};
 ghost use Rattle.gen_audit.specs.Findings.{IsOfRest};
-ghost use Rattle.gen_audit.specs.Headline.{IsYes};
-ghost use Rattle.gen_audit.specs.Supported.{AgreeOn, HasFew, IsClean, IsSupported};
+ghost use Rattle.gen_audit.specs.Headline.{Headline};
+ghost use Rattle.gen_audit.specs.Supported.{AgreeOn, HasFew, IsClean};
 ghost use Rattle.gen_audit.specs.Telling.{AreReports};
 ghost use Rattle.gen_audit.specs.Verdict.{AreDecisions, IsDecision, IsVerdict};
 
@@ -148,9 +147,7 @@ fn verdict_by(
 ) -> Result<Verdict, AllocError>
     requires { AreReports bundle.now reports.now }
     ensures verdict { IfOk result (IsVerdict bundle.now) }
-    ensures exactly { IfOk result (λ verdict. IsYes verdict ↔ IsSupported bundle.now) }
-    ensures agreed { IfOk result (λ verdict. IsSupported bundle.now → HasFew bundle.now
-        → (order : ℕ) × (verdict ≡ Agreed order) × AgreeOn bundle.now order) }
+    ensures headline { IfOk result (Headline bundle.now) }
 {
     answer_by(alloc, bundle, reports)
 }
@@ -180,13 +177,10 @@ pub fn audit_plain(alloc: Global, bundle: &Bundle) -> Result<Judgement, AllocErr
     // faulty, the order on which the rest agree; else what each of the rest decided.
     ensures verdict { IfOk result (λ judgement. IsVerdict bundle.now judgement.verdict) }
     // It is a yes exactly where each log of the rest verifies, the walks bound the diameter of the rest, and a run
-    // of the algorithm exists in which all of the rest follow it and keep exactly these logs.
-    ensures exactly { IfOk result (λ judgement.
-        IsYes judgement.verdict ↔ IsSupported bundle.now) }
+    // of the algorithm exists in which all of the rest follow it and keep exactly these logs (its field `exactly`).
     // With at most m held for faulty, such a bundle's verdict is the one order that all of the rest decided, which
-    // is the commander's if he is of the rest.
-    ensures agreed { IfOk result (λ judgement. IsSupported bundle.now → HasFew bundle.now
-        → (order : ℕ) × (judgement.verdict ≡ Agreed order) × AgreeOn bundle.now order) }
+    // is the commander's if he is of the rest (its field `agreed`).
+    ensures headline { IfOk result (λ judgement. Headline bundle.now judgement.verdict) }
     // Each general against whom the exhibits hold a contradiction is convicted by the first one, and nobody else is.
     ensures convictions { IfOk result (λ judgement. AreConvictions bundle.now.header bundle.now.exhibits
         (map told_of judgement.convictions.items)) }

@@ -7,7 +7,7 @@ ghost use Rattle.gen_types.specs.Spelled.{IsRead, IsField, Spells};
 ghost use Rattle.gen_types.specs.Bits.{members_of};
 ghost use Rattle.gen_types.specs.Bytes.{many_at};
 ghost use Rattle.gen_audit.specs.Behind.{many_behind};
-ghost use Rattle.gen_audit.specs.Bundle.{LogBundle, IsBundle};
+ghost use Rattle.gen_audit.specs.Bundle.{Bundle as Told, IsBundle};
 ghost use Rattle.gen_audit.specs.BundleFields as fields;
 ghost use Rattle.gen_audit.specs.BundleMaking.{no_ends, shown_general};
 ghost use Rattle.gen_audit.specs.BundleParts as parts;
@@ -252,7 +252,7 @@ pub fn read_bundle(alloc: Global, bytes: &[u8]) -> Result<Bundle, ReadError<Bund
     // What is read is a bundle, and the bytes are its spelling.
     ensures found { IfOk result (Spells IsBundle bundle_spelling bytes.now) }
     // What the bytes spell is read, unless memory runs out.
-    ensures only { (b : LogBundle) → Spells IsBundle bundle_spelling bytes.now b → IsRead result (Ok b) }
+    ensures only { (b : Told) → Spells IsBundle bundle_spelling bytes.now b → IsRead result (Ok b) }
     // Which fault it is.
     ensures exact { IsRead result (whole_bundle bytes.now) }
 {

@@ -1,9 +1,9 @@
-//! The rules of a bundle's parts, as they are tested when a bundle is made.
+//! The rules of a bundle's parts, as they are checked when a bundle is made.
 ghost use Rattle.std.specs.Prelude.{◌≡◌, ◌<◌, All, AllPairs, OnOk};
 ghost use Rattle.gen_types.specs.Reading as steps;
 ghost use Rattle.gen_net.specs.Edges.{goes_before};
 ghost use Rattle.gen_log.specs.Fields.{AreBelow};
-ghost use Rattle.gen_audit.specs.Behind.{test_behind};
+ghost use Rattle.gen_audit.specs.Behind.{check_behind};
 ghost use Rattle.gen_audit.specs.BundleMaking as making;
 ghost use Rattle.gen_audit.specs.BundleParts as parts;
 
@@ -30,8 +30,8 @@ const TOO_LONG: usize = 1 << 32;
 /// The ends before those of the first walk.
 pub const NO_ENDS: (u8, u8) = (0, 0);
 
-/// Tests one rule.
-pub fn test(holds: bool, fault: BundleFault) -> Result<(), BundleFault>
+/// Checks one rule.
+pub fn check_rule(holds: bool, fault: BundleFault) -> Result<(), BundleFault>
     ensures { result ≡ steps.check holds fault }
 {
     if holds { Ok(()) } else { Err(fault) }
@@ -91,73 +91,73 @@ pub fn may_follow(before: (u8, u8), walk: &[GeneralNo]) -> bool
     ends.0 < ends.1 && is_before(before, ends)
 }
 
-/// Tests one walk behind the ends of the one before.
-#[tactic(auto, unfolding(crate::specs::BundleMaking::walk_test))]
-fn test_walk(n: u8, before: (u8, u8), walk: &[GeneralNo]) -> Result<(), BundleFault>
-    ensures { result ≡ making.walk_test n before walk.now }
+/// Checks one walk behind the ends of the one before.
+#[tactic(auto, unfolding(crate::specs::BundleMaking::walk_check))]
+fn check_walk(n: u8, before: (u8, u8), walk: &[GeneralNo]) -> Result<(), BundleFault>
+    ensures { result ≡ making.walk_check n before walk.now }
 {
-    test(is_walk_length(walk.len()), BundleFault::WalkCount)?;
-    test(are_below(walk, n), BundleFault::BadWalk)?;
-    test(may_follow(before, walk), BundleFault::BadWalk)
+    check_rule(is_walk_length(walk.len()), BundleFault::WalkCount)?;
+    check_rule(are_below(walk, n), BundleFault::BadWalk)?;
+    check_rule(may_follow(before, walk), BundleFault::BadWalk)
 }
 
-/// Tests walks, one behind the other.
-fn test_each_walk(n: u8, walks: &[Walk]) -> Result<(), BundleFault>
-    ensures { result ≡ test_behind (making.walk_test n) parts.ends_of making.no_ends walks.now }
+/// Checks walks, one behind the other.
+fn check_each_walk(n: u8, walks: &[Walk]) -> Result<(), BundleFault>
+    ensures { result ≡ check_behind (making.walk_check n) parts.ends_of making.no_ends walks.now }
 {
     let mut before = NO_ENDS;
     let mut rest = walks;
     while let Some((walk, others)) = rest.split_first() {
-        test_walk(n, before, walk.generals())?;
+        check_walk(n, before, walk.generals())?;
         before = ends_of(walk.generals());
         rest = others;
     }
     Ok(())
 }
 
-/// Tests all walks.
-#[tactic(auto, unfolding(crate::specs::BundleMaking::walks_test))]
-pub fn test_walks(n: u8, walks: &[Walk]) -> Result<(), BundleFault>
-    ensures { result ≡ making.walks_test n walks.now }
+/// Checks all walks.
+#[tactic(auto, unfolding(crate::specs::BundleMaking::walks_check))]
+pub fn check_all_walks(n: u8, walks: &[Walk]) -> Result<(), BundleFault>
+    ensures { result ≡ making.walks_check n walks.now }
 {
-    test(walks.len() <= MOST_WALKS, BundleFault::WalkCount)?;
-    test_each_walk(n, walks)
+    check_rule(walks.len() <= MOST_WALKS, BundleFault::WalkCount)?;
+    check_each_walk(n, walks)
 }
 
-/// Tests one exhibit behind the general of the one before.
-#[tactic(auto, unfolding(crate::specs::BundleMaking::exhibit_test))]
-fn test_exhibit(n: u8, before: u8, exhibit: &Exhibit) -> Result<(), BundleFault>
-    ensures value { result ≡ making.exhibit_test n before exhibit.now }
+/// Checks one exhibit behind the general of the one before.
+#[tactic(auto, unfolding(crate::specs::BundleMaking::exhibit_check))]
+fn check_exhibit(n: u8, before: u8, exhibit: &Exhibit) -> Result<(), BundleFault>
+    ensures value { result ≡ making.exhibit_check n before exhibit.now }
     ensures bytes { AreBelow 256 exhibit.now.bytes }
 {
     let general = exhibit.general().get();
     let log = exhibit.log();
-    test(general < n, BundleFault::BadExhibit)?;
-    test(before <= general, BundleFault::OutOfOrder)?;
-    test(log.len() < TOO_LONG, BundleFault::LongLog)
+    check_rule(general < n, BundleFault::BadExhibit)?;
+    check_rule(before <= general, BundleFault::OutOfOrder)?;
+    check_rule(log.len() < TOO_LONG, BundleFault::LongLog)
 }
 
-/// Tests exhibits, one behind the other.
-fn test_each_exhibit(n: u8, exhibits: &[Exhibit]) -> Result<(), BundleFault>
-    ensures value { result ≡ test_behind (making.exhibit_test n) making.shown_general 0 exhibits.now }
+/// Checks exhibits, one behind the other.
+fn check_each_exhibit(n: u8, exhibits: &[Exhibit]) -> Result<(), BundleFault>
+    ensures value { result ≡ check_behind (making.exhibit_check n) making.shown_general 0 exhibits.now }
     ensures bytes { OnOk result (All (λ x. AreBelow 256 x.bytes) exhibits.now) }
 {
     let mut before = 0;
     let mut rest = exhibits;
     while let Some((exhibit, others)) = rest.split_first() {
-        test_exhibit(n, before, exhibit)?;
+        check_exhibit(n, before, exhibit)?;
         before = exhibit.general().get();
         rest = others;
     }
     Ok(())
 }
 
-/// Tests all exhibits.
-#[tactic(auto, unfolding(crate::specs::BundleMaking::exhibits_test))]
-pub fn test_exhibits(n: u8, exhibits: &[Exhibit]) -> Result<(), BundleFault>
-    ensures value { result ≡ making.exhibits_test n exhibits.now }
+/// Checks all exhibits.
+#[tactic(auto, unfolding(crate::specs::BundleMaking::exhibits_check))]
+pub fn check_all_exhibits(n: u8, exhibits: &[Exhibit]) -> Result<(), BundleFault>
+    ensures value { result ≡ making.exhibits_check n exhibits.now }
     ensures bytes { OnOk result (All (λ x. AreBelow 256 x.bytes) exhibits.now) }
 {
-    test(exhibits.len() <= MOST_EXHIBITS, BundleFault::BadExhibit)?;
-    test_each_exhibit(n, exhibits)
+    check_rule(exhibits.len() <= MOST_EXHIBITS, BundleFault::BadExhibit)?;
+    check_each_exhibit(n, exhibits)
 }

@@ -4,7 +4,7 @@ ghost use Rattle.gen_audit.specs.Bundle.{IsBundle};
 ghost use Rattle.gen_audit.specs.BundleMaking.{bundle_with};
 
 use crate::bundle_fault::BundleFault;
-use crate::bundle_rules::{is_set_below, test, test_exhibits, test_walks};
+use crate::bundle_rules::{check_all_exhibits, check_all_walks, check_rule, is_set_below};
 use gen_local::Exhibit;
 use gen_net::{Header, Marks};
 use gen_types::GeneralSet;
@@ -28,9 +28,9 @@ pub struct Bundle {
 }
 
 impl Model for Bundle {
-    ghost use Rattle.gen_audit.specs.Bundle.{LogBundle, IsBundle};
+    ghost use Rattle.gen_audit.specs.Bundle.{Bundle, IsBundle};
 
-    ghost Value = { LogBundle };
+    ghost Value = { Bundle };
 
     ghost view = { λ b. record {
       header = b.header;
@@ -66,9 +66,9 @@ impl Bundle {
         ensures { result ≡ bundle_with header faulty walks exhibits.items }
     {
         let n = header.net().generals();
-        test(is_set_below(&faulty, n), BundleFault::FaultyRange)?;
-        test_walks(n, walks.as_slice())?;
-        test_exhibits(n, exhibits.as_slice())?;
+        check_rule(is_set_below(&faulty, n), BundleFault::FaultyRange)?;
+        check_all_walks(n, walks.as_slice())?;
+        check_all_exhibits(n, exhibits.as_slice())?;
         Ok(Bundle {
             header,
             faulty,

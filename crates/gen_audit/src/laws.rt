@@ -3,7 +3,7 @@
 ghost use Rattle.std.specs.Prelude.{◌≡◌, Ok};
 ghost use Rattle.gen_types.specs.Spelled.{HasOneSpelling};
 ghost use Rattle.gen_audit.specs.Agreement.{FewFaultyAgree};
-ghost use Rattle.gen_audit.specs.Bundle.{LogBundle, IsBundle};
+ghost use Rattle.gen_audit.specs.Bundle.{Bundle, IsBundle};
 ghost use Rattle.gen_audit.specs.BundleMaking.{bundle_with};
 ghost use Rattle.gen_audit.specs.BundleReading.{whole_bundle};
 ghost use Rattle.gen_audit.specs.BundleSpelling.{bundle_spelling};
@@ -94,10 +94,10 @@ pub fn reports_find_local()
 /// read again (`again`).
 pub fn one_bundle_spelling()
     ensures one { HasOneSpelling IsBundle bundle_spelling }
-    ensures again { (b : LogBundle) → IsBundle b → whole_bundle (bundle_spelling b) ≡ Ok b }
+    ensures again { (b : Bundle) → IsBundle b → whole_bundle (bundle_spelling b) ≡ Ok b }
 {}
 
 /// The parts of each bundle break no rule: `Bundle::new` makes it of them.
 pub fn parts_make_bundles()
-    ensures { (b : LogBundle) → IsBundle b → bundle_with b.header b.faulty b.walks b.exhibits ≡ Ok b }
+    ensures { (b : Bundle) → IsBundle b → bundle_with b.header b.faulty b.walks b.exhibits ≡ Ok b }
 {}

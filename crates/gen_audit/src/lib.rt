@@ -19,8 +19,8 @@ mod bundle_writing;
 mod bundles;
 mod findings_collected;
 pub mod laws;
+mod ranks;
 mod sorting;
-mod sorting_places;
 mod verdicts;
 
 pub use audits::audit_plain;

@@ -4,15 +4,15 @@ ghost use Rattle.std.specs.Bool.{OnTrue, OnFalse};
 ghost use Rattle.std.specs.List.Sorted.{IsSortedByKey};
 ghost use Rattle.gen_match.specs.declared.finding.Finding.{Finding};
 ghost use Rattle.gen_match.specs.Findings.{AreFindings};
-ghost use Rattle.gen_audit.specs.Sorting.{sorting_place, place_cmp};
+ghost use Rattle.gen_audit.specs.Sorting.{sorting_rank, rank_cmp};
 
-use crate::sorting_places::SortingPlace;
+use crate::ranks::Rank;
 use gen_match::Finding;
 use gen_types::GeneralNo;
 use std::alloc::{AllocError, Global};
 
-/// Returns the place of a finding of one general.
-fn place_of_one(number: u8, general: GeneralNo, detail: u64, round: u8) -> SortingPlace
+/// Returns the rank of a finding of one general.
+fn rank_of_one(number: u8, general: GeneralNo, detail: u64, round: u8) -> Rank
     ensures { result ≡ record {
       number = number;
       general = general;
@@ -21,7 +21,7 @@ fn place_of_one(number: u8, general: GeneralNo, detail: u64, round: u8) -> Sorti
       order = 0;
     } }
 {
-    SortingPlace {
+    Rank {
         number,
         general: general.get(),
         detail,
@@ -30,8 +30,8 @@ fn place_of_one(number: u8, general: GeneralNo, detail: u64, round: u8) -> Sorti
     }
 }
 
-/// Returns the place of a finding of two generals.
-fn place_of_two(number: u8, from: GeneralNo, to: GeneralNo, round: u8, order: u8) -> SortingPlace
+/// Returns the rank of a finding of two generals.
+fn rank_of_two(number: u8, from: GeneralNo, to: GeneralNo, round: u8, order: u8) -> Rank
     ensures { result ≡ record {
       number = number;
       general = from;
@@ -40,7 +40,7 @@ fn place_of_two(number: u8, from: GeneralNo, to: GeneralNo, round: u8, order: u8
       order = order;
     } }
 {
-    SortingPlace {
+    Rank {
         number,
         general: from.get(),
         detail: u64::from(to.get()),
@@ -49,44 +49,44 @@ fn place_of_two(number: u8, from: GeneralNo, to: GeneralNo, round: u8, order: u8
     }
 }
 
-/// Returns the place that a finding is sorted to.
-fn place_of(finding: &Finding) -> SortingPlace
-    ensures { result ≡ sorting_place finding.now }
+/// Returns the rank that a finding is sorted to.
+fn rank_of(finding: &Finding) -> Rank
+    ensures { result ≡ sorting_rank finding.now }
 {
     match *finding {
-        Finding::Missing { general } => place_of_one(1, general, 0, 0),
-        Finding::Several { general } => place_of_one(2, general, 0, 0),
+        Finding::Missing { general } => rank_of_one(1, general, 0, 0),
+        Finding::Several { general } => rank_of_one(2, general, 0, 0),
         Finding::Unreadable { general, fault } => {
             let (log_number, chain_number) = fault.numbers();
-            place_of_one(3, general, u64::from(log_number), chain_number)
+            rank_of_one(3, general, u64::from(log_number), chain_number)
         }
-        Finding::Foreign { general } => place_of_one(4, general, 0, 0),
-        Finding::Unsigned { general, entry } => place_of_one(5, general, entry as u64, 0),
-        Finding::Unsealed { general } => place_of_one(6, general, 0, 0),
-        Finding::Departs { general, entry } => place_of_one(7, general, entry as u64, 0),
+        Finding::Foreign { general } => rank_of_one(4, general, 0, 0),
+        Finding::Unsigned { general, entry } => rank_of_one(5, general, entry as u64, 0),
+        Finding::Unsealed { general } => rank_of_one(6, general, 0, 0),
+        Finding::Departs { general, entry } => rank_of_one(7, general, entry as u64, 0),
         Finding::Unmatched {
             from,
             to,
             round,
             order,
-        } => place_of_two(8, from, to, round, order.get()),
+        } => rank_of_two(8, from, to, round, order.get()),
         Finding::Underivable {
             from,
             to,
             round,
             order,
-        } => place_of_two(9, from, to, round, order.get()),
-        Finding::Unjoined { first, second } => place_of_two(10, first, second, 0, 0),
-        Finding::Nobody => place_of_one(11, GeneralNo::commander(), 0, 0),
+        } => rank_of_two(9, from, to, round, order.get()),
+        Finding::Unjoined { first, second } => rank_of_two(10, first, second, 0, 0),
+        Finding::Nobody => rank_of_one(11, GeneralNo::commander(), 0, 0),
     }
 }
 
-/// Returns whether two findings are the same, which they are if their places are.
+/// Returns whether two findings are the same, which they are if their ranks are.
 fn are_same(one: &Finding, other: &Finding) -> bool
     ensures yes { OnTrue result (one.now ≡ other.now) }
     ensures no { OnFalse result (one.now ≢ other.now) }
 {
-    place_of(one) == place_of(other)
+    rank_of(one) == rank_of(other)
 }
 
 /// Returns whether the finding is not the last of these.
@@ -102,9 +102,9 @@ fn is_new(findings: &[Finding], finding: &Finding) -> bool
     }
 }
 
-/// Returns findings that are sorted by their places, each once.
+/// Returns findings that are sorted by their ranks, each once.
 fn each_once(alloc: Global, sorted: &[Finding]) -> Result<Vec<Finding>, AllocError>
-    requires { IsSortedByKey sorting_place place_cmp sorted.now }
+    requires { IsSortedByKey sorting_rank rank_cmp sorted.now }
     ensures { IfOk result (λ findings. AreFindings (Contains sorted.now) findings.items) }
 {
     let mut findings = Vec::new(alloc);
@@ -127,6 +127,6 @@ pub(crate) fn in_order(
 ) -> Result<Vec<Finding>, AllocError>
     ensures { IfOk result (λ sorted. AreFindings (Contains findings.items) sorted.items) }
 {
-    findings.sort_by_key(|finding| place_of(finding))?;
+    findings.sort_by_key(|finding| rank_of(finding))?;
     each_once(alloc, findings.as_slice())
 }

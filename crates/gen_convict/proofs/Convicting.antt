@@ -7,11 +7,11 @@ use Rattle.gen_net.specs.Header.{RunHeader, IsHeader}
 use Rattle.gen_log.specs.Fields.{AreBelow}
 use Rattle.gen_log.specs.LogReading.{log_of}
 use Rattle.gen_local.specs.declared.texts.SignedText.{SignedText}
-use Rattle.gen_local.specs.Report.{Report, IsReport, IsReading}
+use Rattle.gen_local.specs.Report.{LocalReport, IsReport, IsReading}
 use Rattle.gen_convict.specs.Contradictions.{Claim}
 use Rattle.gen_convict.specs.Convictions.{AreConvictions, AreShort, AreUnderHeader, shown_in}
 use Rattle.gen_convict.specs.Evidence.{Accusation}
-use Rattle.gen_convict.specs.FindingClaims.{claim_by, claim_for, accusing, accusations}
+use Rattle.gen_convict.specs.FindingClaims.{least_claim, claim_for, accusing, accusations}
 use Rattle.gen_convict.specs.Finding.{his_texts, one_each}
 use Rattle.gen_convict.specs.First.{IsFirstClaim}
 use Rattle.gen_convict.proofs.FoundClaims.{claim_found, claim_none}
@@ -22,15 +22,15 @@ pub if_ok : {A E : Type 0} (P Q : A → Type 0) (r : Result A E) → ((x : A) �
 if_ok P Q (Ok x) f p = f x p
 if_ok P Q (Err e) f p = p
 
--- the claim by these texts is that by one of each place
-pub claim_same : (general : ℕ) (firsts texts : List SignedText) (reports : List Report) → texts ≡ his_texts general reports → firsts ≡ one_each [] texts → claim_by general firsts texts reports ≡ claim_for reports general
+-- the claim by these texts is that by one of each subject
+pub claim_same : (general : ℕ) (firsts texts : List SignedText) (reports : List LocalReport) → texts ≡ his_texts general reports → firsts ≡ one_each [] texts → least_claim general firsts texts reports ≡ claim_for reports general
 unfolding claim_for
 claim_same general firsts texts reports e f =
-    ap (λ fs. claim_by general fs texts reports) f
-    ∙ ap (λ ts. claim_by general (one_each [] ts) ts reports) e
+    ap (λ fs. least_claim general fs texts reports) f
+    ∙ ap (λ ts. least_claim general (one_each [] ts) ts reports) e
 
 -- the next general's claim behind those that were found
-pub one_more : (reports : List Report) (done : List Accusation) (i n : ℕ) → i < n → done ++ accusations reports (range_with_len i (n - i)) ≡ (done ++ accusing i (claim_for reports i)) ++ accusations reports (range_with_len (i + 1) (n - (i + 1)))
+pub one_more : (reports : List LocalReport) (done : List Accusation) (i n : ℕ) → i < n → done ++ accusations reports (range_with_len i (n - i)) ≡ (done ++ accusing i (claim_for reports i)) ++ accusations reports (range_with_len (i + 1) (n - (i + 1)))
 one_more reports done i n below =
     let e : n - i ≡ suc (n - (i + 1)) = omega (arith, below) in
     ap (λ k. done ++ accusations reports (range_with_len i k)) e
@@ -57,19 +57,19 @@ single : (g : ℕ) (o : Option Claim) → AllPairs Before (accusing g o)
 single g None = λ i j d l m. absurd (omega (arith, m))
 single g (Some claim) = λ i j d l m. absurd (omega (arith, l, m))
 
-accused_from : (reports : List Report) (a n : ℕ) (x : Accusation) → Contains (accusations reports (range_with_len a n)) x → a ≤ x.accused
+accused_from : (reports : List LocalReport) (a n : ℕ) (x : Accusation) → Contains (accusations reports (range_with_len a n)) x → a ≤ x.accused
 accused_from reports a n x c =
     let f = Contains_flat_mapped (λ g. accusing g (claim_for reports g)) (range_with_len a n) x c in
     let r = Contains_range a n f.0 f.1 in
     omega (arith, r.0, (accusing_in f.0 (claim_for reports f.0) x f.2).0)
 
-ascending : (reports : List Report) (a n : ℕ) → AllPairs Before (accusations reports (range_with_len a n))
+ascending : (reports : List LocalReport) (a n : ℕ) → AllPairs Before (accusations reports (range_with_len a n))
 ascending reports a zero = λ i j d l m. absurd (omega (arith, m))
 ascending reports a (suc n) =
     AllPairs-append Before (accusing a (claim_for reports a)) (accusations reports (range_with_len (a + 1) n)) (single a (claim_for reports a)) (ascending reports (a + 1) n)
     (λ x y c d. omega (arith, (accusing_in a (claim_for reports a) x c).0, accused_from reports (a + 1) n y d))
 
-module _ (h : RunHeader) (reports : List Report) (are : AreOf h reports) where
+module _ (h : RunHeader) (reports : List LocalReport) (are : AreOf h reports) where
   abbrev All : List Accusation
   All = accusations reports (range_with_len 0 h.network.generals)
 
@@ -94,7 +94,7 @@ module _ (h : RunHeader) (reports : List Report) (are : AreOf h reports) where
     each = λ general claim below made. flat_contains (λ g. accusing g (claim_for reports g)) (range_with_len 0 h.network.generals) general (record { accused = general; claim = claim }) (Contains_in_range 0 h.network.generals general (omega arith) (omega (arith, below))) (each_in ok short general claim made (claim_for reports general) refl);
   }
 
-pub are_of : (h : RunHeader) (reports : List Report) → AreUnderHeader h reports → ((r : Report) → Contains reports r → IsReport r × AreBelow 256 r.exhibit.bytes) → AreOf h reports
+pub are_of : (h : RunHeader) (reports : List LocalReport) → AreUnderHeader h reports → ((r : LocalReport) → Contains reports r → IsReport r × AreBelow 256 r.exhibit.bytes) → AreOf h reports
 are_of h reports under all = record {
   reads = λ r c. subst (λ x. IsReading x r.exhibit.general (log_of x r.exhibit.bytes) r.reading) (under r c) (all r c).0;
   bytes = λ r c. (all r c).1;

@@ -87,9 +87,6 @@ head_again h general head rest is =
     let link = bytes_again {F = EvidenceFault} faults.Truncated 32 head.last_link rest is.2 in
     ap (head_at general) regrouped ∙ rw (← is.0, entries, link) refl
 
-pub heads_read : (h : RunHeader) (general : ℕ) → Reads (head_at general) head_spelling (IsHeadFor h general)
-heads_read h general = record { takes = head_takes h general; again = head_again h general }
-
 -- ---- texts
 
 -- an if of which one side or the other was read

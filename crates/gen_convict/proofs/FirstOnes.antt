@@ -10,7 +10,7 @@ use Rattle.gen_local.specs.declared.texts.Text.TheVariants.{OfStatement, OfHead}
 use Rattle.gen_convict.specs.Accused.{AreUnlike, AreDifferent}
 use Rattle.gen_convict.specs.First.{DifferInOrder, AreOrders}
 use Rattle.gen_convict.specs.Firsts.{IsFirst, IsFirstPair}
-use Rattle.gen_convict.specs.PairLaws.{place_of, AreAlike, IsPlacePair, EarliestPlace, FirstOfPlace, FirstCommand, OneOfEach, IsByCommander, IsCommand, HasTwoTexts, OneFirstPair}
+use Rattle.gen_convict.specs.PairLaws.{subject_of, AreAlike, IsSubjectPair, EarliestSubject, FirstOfSubject, FirstCommand, OneOfEach, IsByCommander, IsCommand, HasTwoTexts, OneFirstPair}
 use Rattle.gen_convict.proofs.Linked.{same_or_not}
 use Rattle.gen_convict.proofs.Refuted.{statement_same, head_or_not}
 
@@ -88,18 +88,18 @@ pair_or_none R dec (z ∷ zs) = elim (first_or_none (R z) (dec z) zs) [
   ]
 ]
 
--- two places of one list: the same, or one before the other
-abbrev Places : {X : Type 0} → List X → X → List X → List X → X → List X → Type 0
-Places {X} a x us b y vs =
+-- two positions in one list: the same, or one before the other
+abbrev Positions : {X : Type 0} → List X → X → List X → List X → X → List X → Type 0
+Positions {X} a x us b y vs =
     ((a ≡ b) × (x ≡ y) × (us ≡ vs)) ⊎ (((rest : List X) × (b ≡ a ++ x ∷ rest) × (us ≡ rest ++ y ∷ vs)) ⊎ ((rest : List X) × (a ≡ b ++ y ∷ rest) × (vs ≡ rest ++ x ∷ us)))
 
-places : {X : Type 0} (a us b vs : List X) (x y : X) → a ++ x ∷ us ≡ b ++ y ∷ vs → Places a x us b y vs
-places [] us [] vs x y e = let s = tail_same x y us vs e in inl (refl, s.0, s.1)
-places [] us (c ∷ b) vs x y e = let s = tail_same x c us (b ++ y ∷ vs) e in inr (inl (b, ap (λ z. z ∷ b) (sym s.0), s.1))
-places (c ∷ a) us [] vs x y e = let s = tail_same c y (a ++ x ∷ us) vs e in inr (inr (a, ap (λ z. z ∷ a) s.0, sym s.1))
-places (c ∷ a) us (d ∷ b) vs x y e =
+positions : {X : Type 0} (a us b vs : List X) (x y : X) → a ++ x ∷ us ≡ b ++ y ∷ vs → Positions a x us b y vs
+positions [] us [] vs x y e = let s = tail_same x y us vs e in inl (refl, s.0, s.1)
+positions [] us (c ∷ b) vs x y e = let s = tail_same x c us (b ++ y ∷ vs) e in inr (inl (b, ap (λ z. z ∷ b) (sym s.0), s.1))
+positions (c ∷ a) us [] vs x y e = let s = tail_same c y (a ++ x ∷ us) vs e in inr (inr (a, ap (λ z. z ∷ a) s.0, sym s.1))
+positions (c ∷ a) us (d ∷ b) vs x y e =
     let s = tail_same c d (a ++ x ∷ us) (b ++ y ∷ vs) e in
-    elim (places a us b vs x y s.1) [
+    elim (positions a us b vs x y s.1) [
       | inl h ↦ inl (ap (λ z. z ∷ a) s.0 ∙ ap (λ zs. d ∷ zs) h.0, h.1, h.2)
       | inr k ↦ elim k [
         | inl h ↦ inr (inl (h.0, ap (λ z. z ∷ b) (sym s.0) ∙ ap (λ zs. c ∷ zs) h.1, h.2))
@@ -108,7 +108,7 @@ places (c ∷ a) us (d ∷ b) vs x y e =
     ]
 
 pub one_first : {X : Type 0} (P : X → Type 0) (xs : List X) (x y : X) → IsFirst P xs x → IsFirst P xs y → x ≡ y
-one_first P xs x y p q = elim (places p.before p.after q.before q.after x y (sym p.split ∙ q.split)) [
+one_first P xs x y p q = elim (positions p.before p.after q.before q.after x y (sym p.split ∙ q.split)) [
   | inl same ↦ same.1
   | inr k ↦ elim k [
     | inl h ↦ absurd (q.none_before x (subst (λ ys. Contains ys x) (sym h.1) (Contains-middle p.before x h.0)) p.holds)
@@ -117,7 +117,7 @@ one_first P xs x y p q = elim (places p.before p.after q.before q.after x y (sym
 ]
 
 pub one_pair : {X : Type 0} (R : X → X → Type 0) (xs : List X) (x y v w : X) → IsFirstPair R xs x y → IsFirstPair R xs v w → (x ≡ v) × (y ≡ w)
-one_pair R xs x y v w p q = elim (places p.before (p.between ++ y ∷ p.after) q.before (q.between ++ w ∷ q.after) x v (sym p.split ∙ q.split)) [
+one_pair R xs x y v w p q = elim (positions p.before (p.between ++ y ∷ p.after) q.before (q.between ++ w ∷ q.after) x v (sym p.split ∙ q.split)) [
   | inr k ↦ elim k [
     | inl h ↦
         let inside : Contains (h.0 ++ v ∷ (q.between ++ w ∷ q.after)) y = subst (λ ys. Contains ys y) h.2 (Contains-middle p.between y p.after) in
@@ -126,7 +126,7 @@ one_pair R xs x y v w p q = elim (places p.before (p.between ++ y ∷ p.after) q
         let inside : Contains (h.0 ++ x ∷ (p.between ++ y ∷ p.after)) w = subst (λ ys. Contains ys w) h.2 (Contains-middle q.between w q.after) in
         absurd (p.none_before q.before h.0 v w h.1 inside q.holds)
   ]
-  | inl same ↦ elim (places p.between p.after q.between q.after y w same.2) [
+  | inl same ↦ elim (positions p.between p.after q.between q.after y w same.2) [
     | inl h ↦ (same.1, h.1)
     | inr k ↦ elim k [
       | inl h ↦ absurd (q.none_between y (subst (λ ys. Contains ys y) (sym h.1) (Contains-middle p.between y h.0)) (subst (λ z. R z y) same.1 p.holds))
@@ -176,8 +176,8 @@ unlike_or_not (OfHead s) (OfHead t) = elim (head_or_not s t) [ inl e ↦ inr (λ
 pub differ_or_not : (x y : SignedText) → AreDifferent x y ⊎ (AreDifferent x y → ⊥)
 differ_or_not x y = unlike_or_not x.text y.text
 
--- two texts of one place are unlike or the same
-pub unlike_or_same : (x y : Text) → place_of x ≡ place_of y → AreUnlike x y ⊎ (x ≡ y)
+-- two texts of one subject are unlike or the same
+pub unlike_or_same : (x y : Text) → subject_of x ≡ subject_of y → AreUnlike x y ⊎ (x ≡ y)
 unlike_or_same (OfStatement s) (OfStatement t) e = elim (statement_or_not s t) [
   | inl same ↦ inr (ap OfStatement same)
   | inr ne ↦ let orders : s.order ≡ t.order = omega (arith, e) in inl (orders, ne)
@@ -196,14 +196,14 @@ pub not_itself : (x : Text) → AreUnlike x x → ⊥
 not_itself (OfStatement s) d = d.1 refl
 not_itself (OfHead s) d = d refl
 
-places_part : (x y z : SignedText) → AreDifferent x y → AreAlike x z → AreDifferent z x ⊎ AreDifferent z y
-places_part x y z d e = elim (unlike_or_same z.text x.text e) [
+positions_part : (x y z : SignedText) → AreDifferent x y → AreAlike x z → AreDifferent z x ⊎ AreDifferent z y
+positions_part x y z d e = elim (unlike_or_same z.text x.text e) [
   | inl ne ↦ inl ne
   | inr same ↦ inr (subst (λ (t : Text). AreUnlike t y.text) (sym same) d)
 ]
 
-pub first_of_place : FirstOfPlace
-first_of_place texts x y p = first_of_like (AreAlike x) AreDifferent texts x y refl (places_part x y) p
+pub first_of_subject : FirstOfSubject
+first_of_subject texts x y p = first_of_like (AreAlike x) AreDifferent texts x y refl (positions_part x y) p
 
 pub commands_part : (x y z : Text) → DifferInOrder x y → IsByCommander z → DifferInOrder z x ⊎ DifferInOrder z y
 commands_part (OfStatement s) (OfStatement t) (OfStatement u) d is = elim (cases_eq u.order s.order) [
@@ -250,14 +250,14 @@ one_pair_of_texts xs x y v w p q = one_pair AreDifferent xs x y v w p q
 
 -- ---- one pass
 
-place_pair : (texts : List SignedText) (u v : SignedText) → (p : IsFirstPair AreDifferent texts u v) → IsPlacePair texts u v
-place_pair texts u v p = record {
+subject_pair : (texts : List SignedText) (u v : SignedText) → (p : IsFirstPair AreDifferent texts u v) → IsSubjectPair texts u v
+subject_pair texts u v p = record {
   first = record {
     before = p.before;
     after = p.between ++ v ∷ p.after;
     split = p.split;
     holds = refl;
-    none_before = none_like (AreAlike u) AreDifferent texts u v (places_part u v) p;
+    none_before = none_like (AreAlike u) AreDifferent texts u v (positions_part u v) p;
   };
   second = record { before = p.between; after = p.after; split = refl; holds = p.holds; none_before = p.none_between };
 }
@@ -265,16 +265,16 @@ place_pair texts u v p = record {
 first_inside : {X : Type 0} (P : X → Type 0) (xs : List X) (x : X) → IsFirst P xs x → Contains xs x
 first_inside P xs x f = subst (λ ys. Contains ys x) (sym f.split) (Contains-middle f.before x f.after)
 
-pub earliest_place : EarliestPlace
-unfolding place_pair
-earliest_place texts x y s least = elim (has_two_texts texts) [
+pub earliest_subject : EarliestSubject
+unfolding subject_pair
+earliest_subject texts x y s least = elim (has_two_texts texts) [
   | inr none ↦ absurd (none s.first.before s.first.after x y s.first.split (first_inside (AreDifferent x) s.first.after y s.second) s.second.holds)
   | inl found ↦
       let u = found.0 in
       let v = found.1 in
       let p = found.2 in
-      let early : length s.first.before ≤ length p.before = least u v (place_pair texts u v p) in
-      elim (places s.first.before s.first.after p.before (p.between ++ v ∷ p.after) x u (sym s.first.split ∙ p.split)) [
+      let early : length s.first.before ≤ length p.before = least u v (subject_pair texts u v p) in
+      elim (positions s.first.before s.first.after p.before (p.between ++ v ∷ p.after) x u (sym s.first.split ∙ p.split)) [
         | inl same ↦
             let rest : IsFirst (AreDifferent x) (p.between ++ v ∷ p.after) y = subst (λ zs. IsFirst (AreDifferent x) zs y) same.2 s.second in
             let other : IsFirst (AreDifferent u) (p.between ++ v ∷ p.after) v = record { before = p.between; after = p.after; split = refl; holds = p.holds; none_before = p.none_between } in

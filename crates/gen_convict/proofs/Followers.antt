@@ -1,4 +1,4 @@
--- What a follower's log has: one statement of each order, and no place at which it departs.
+-- What a follower's log has: one statement of each order, and no entry at which it departs.
 use Rattle.std.proofs.Common.{◌≡◌, ℕ, ◌+◌, List, drop, refl, sym, subst, ◌∙◌}
 use Rattle.std.proofs.lemmas.List.{take-append-drop}
 use Rattle.gen_net.specs.Network.{Network}

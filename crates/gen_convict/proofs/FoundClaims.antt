@@ -22,7 +22,7 @@ use Rattle.gen_local.specs.declared.texts.SignedText.{SignedText}
 use Rattle.gen_local.specs.declared.texts.Text.{Text}
 use Rattle.gen_local.specs.declared.texts.Text.TheVariants.{OfStatement, OfHead}
 use Rattle.gen_local.specs.Erased.{erased}
-use Rattle.gen_local.specs.Report.{Report, IsReading}
+use Rattle.gen_local.specs.Report.{LocalReport, IsReading}
 use Rattle.gen_log.specs.Writing.{LogBytes}
 use Rattle.gen_local.specs.SignedTexts.{stated}
 use Rattle.gen_convict.specs.Accused.{AreDifferent, command}
@@ -46,11 +46,11 @@ unsaid_each texts none (Own found) = ap (λ o. cond found.sealed o None) (unsaid
 unsaid_each texts none (Unreadable fault) = refl
 unsaid_each texts none Foreign = refl
 
-missing_same : (texts : List SignedText) → NoTwoTexts texts → (o : Option Report) → missing_in (one_each [] texts) o ≡ missing_in texts o
+missing_same : (texts : List SignedText) → NoTwoTexts texts → (o : Option LocalReport) → missing_in (one_each [] texts) o ≡ missing_in texts o
 missing_same texts none None = refl
 missing_same texts none (Some r) = ap (missing_as r.exhibit.bytes) (unsaid_each texts none r.reading)
 
-missing_each : (general : ℕ) (texts : List SignedText) (reports : List Report) → NoTwoTexts texts → missing_claim general (one_each [] texts) reports ≡ missing_claim general texts reports
+missing_each : (general : ℕ) (texts : List SignedText) (reports : List LocalReport) → NoTwoTexts texts → missing_claim general (one_each [] texts) reports ≡ missing_claim general texts reports
 missing_each general texts reports none =
     ap (missing_in (one_each [] texts)) (find_same (lacks general (one_each [] texts)) (lacks general texts) (λ r. ap (λ o. eqb r.exhibit.general general && is_some o) (unsaid_each texts none r.reading)) reports)
     ∙ missing_same texts none (find (lacks general texts) reports)
@@ -95,14 +95,14 @@ must_be bytes texts (Own found) t u e =
     let inside = find_in (λ x. is_unsaid found.log x.text) texts t (unsaid_own texts found t u).1 in
     some_missing bytes texts found.log t t.text inside.1 e
 
-module _ (h : RunHeader) (reports : List Report) (general : ℕ) (are : AreOf h reports) (texts : List SignedText) (by : AreBy general texts) where
-  missing_found : (claim : Claim) (r : Option Report) → find (lacks general texts) reports ≡ r → missing_in texts r ≡ Some claim → IsMissingClaim h general texts (flat_map (his_log general) reports) claim
+module _ (h : RunHeader) (reports : List LocalReport) (general : ℕ) (are : AreOf h reports) (texts : List SignedText) (by : AreBy general texts) where
+  missing_found : (claim : Claim) (r : Option LocalReport) → find (lacks general texts) reports ≡ r → missing_in texts r ≡ Some claim → IsMissingClaim h general texts (flat_map (his_log general) reports) claim
   missing_found claim None found e = absurd cc
   missing_found claim (Some r) found e =
       let f = flat_first (LacksSome h texts) (lacks general texts) (his_log general) reports (λ x c. lack_singles h texts general x (are.reads x c)) r found in
       (f.0, f.2, missing_one general texts claim r.exhibit r.reading f.0 by f.1 (unsaid_in texts r.reading) refl e)
 
-  missing_none : (r : Option Report) → find (lacks general texts) reports ≡ r → missing_in texts r ≡ None → (l : HeldLog) → Contains (flat_map (his_log general) reports) l → LacksSome h texts l → ⊥
+  missing_none : (r : Option LocalReport) → find (lacks general texts) reports ≡ r → missing_in texts r ≡ None → (l : HeldLog) → Contains (flat_map (his_log general) reports) l → LacksSome h texts l → ⊥
   missing_none None found e = flat_none (LacksSome h texts) (lacks general texts) (his_log general) reports (λ x c. lack_singles h texts general x (are.reads x c)) found
   missing_none (Some r) found e =
       let inside = find_in (lacks general texts) reports r found in
@@ -167,7 +167,7 @@ mapped f (y ∷ ys) x c = elim (Contains_cases y x ys c) [
 ]
 
 -- in a short exhibit the entry's number has four bytes
-few_entries : (h : RunHeader) (r : Report) (reading : Reading) (p : ℕ) → IsHeader h → AreOf h (r ∷ []) → length r.exhibit.bytes < 2 ^ 32 → r.reading ≡ reading → departure_in reading ≡ Some p → p < 2 ^ 32
+few_entries : (h : RunHeader) (r : LocalReport) (reading : Reading) (p : ℕ) → IsHeader h → AreOf h (r ∷ []) → length r.exhibit.bytes < 2 ^ 32 → r.reading ≡ reading → departure_in reading ≡ Some p → p < 2 ^ 32
 few_entries h r (Unreadable fault) p ok are short is e = absurd cc
 few_entries h r Foreign p ok are short is e = absurd cc
 few_entries h r (Own found) p ok are short is e =
@@ -177,13 +177,13 @@ few_entries h r (Own found) p ok are short is e =
     let s = log_found h ok.network.ranges.few_orders r.exhibit.bytes found.log (are_bytes r.exhibit.bytes (are.bytes r (Contains_here r []))) f.1 in
     omega (arith, d.1.0, length_erased found.log.entries, log_longer found.log, ap length s.spelled, short)
 
-alone_of : (h : RunHeader) (reports : List Report) (r : Report) → AreOf h reports → Contains reports r → AreOf h (r ∷ [])
+alone_of : (h : RunHeader) (reports : List LocalReport) (r : LocalReport) → AreOf h reports → Contains reports r → AreOf h (r ∷ [])
 alone_of h reports r are c = record {
   reads = λ x k. are.reads x (inside x k);
   bytes = λ x k. are.bytes x (inside x k);
 }
   where
-    inside : (x : Report) → Contains (r ∷ []) x → Contains reports x
+    inside : (x : LocalReport) → Contains (r ∷ []) x → Contains reports x
     inside x k = elim (Contains_cases r x [] k) [ inl e ↦ subst (Contains reports) e c | inr none ↦ absurd (Contains_nil x none) ]
 
 none_at : (bytes : List ℕ) (p : ℕ) → p < 2 ^ 32 → departing_at bytes (Some p) ≡ None → ⊥
@@ -194,21 +194,21 @@ none_at bytes p l e =
     some_none : (a : Claim) → Some a ≡ None → ⊥
     some_none a e = absurd cc
 
-module _ (h : RunHeader) (reports : List Report) (general : ℕ) (are : AreOf h reports) where
-  departing_found : (claim : Claim) (r : Option Report) → find (departs general) reports ≡ r → departing_in r ≡ Some claim → IsDepartingClaim h (flat_map (his_log general) reports) claim
+module _ (h : RunHeader) (reports : List LocalReport) (general : ℕ) (are : AreOf h reports) where
+  departing_found : (claim : Claim) (r : Option LocalReport) → find (departs general) reports ≡ r → departing_in r ≡ Some claim → IsDepartingClaim h (flat_map (his_log general) reports) claim
   departing_found claim None found e = absurd cc
   departing_found claim (Some r) found e =
       let f = flat_first (DepartsSomewhere h) (departs general) (his_log general) reports (λ x c. depart_singles h general x (are.reads x c)) r found in
       let inside = find_in (departs general) reports r found in
       (f.0, f.2, departing_one h general claim r.exhibit (log_of h r.exhibit.bytes) r.reading f.0 (are.reads r inside.0) f.1 (departure_in r.reading) refl e)
 
-  departing_none : IsHeader h → AreShort (shown_in reports) → (r : Option Report) → find (departs general) reports ≡ r → departing_in r ≡ None → (l : HeldLog) → Contains (flat_map (his_log general) reports) l → DepartsSomewhere h l → ⊥
+  departing_none : IsHeader h → AreShort (shown_in reports) → (r : Option LocalReport) → find (departs general) reports ≡ r → departing_in r ≡ None → (l : HeldLog) → Contains (flat_map (his_log general) reports) l → DepartsSomewhere h l → ⊥
   departing_none ok short None found e = flat_none (DepartsSomewhere h) (departs general) (his_log general) reports (λ x c. depart_singles h general x (are.reads x c)) found
   departing_none ok short (Some r) found e =
       let inside = find_in (departs general) reports r found in
       let p = both (eqb r.exhibit.general general) (is_some (departure_in r.reading)) inside.1 in
       let s = some_of (departure_in r.reading) p.1 in
-      let few = few_entries h r r.reading s.0 ok (alone_of h reports r are inside.0) (short r.exhibit (mapped (λ (x : Report). x.exhibit) reports r inside.0)) refl s.1 in
+      let few = few_entries h r r.reading s.0 ok (alone_of h reports r are inside.0) (short r.exhibit (mapped (λ (x : LocalReport). x.exhibit) reports r inside.0)) refl s.1 in
       absurd (none_at r.exhibit.bytes s.0 few (sym (ap (departing_at r.exhibit.bytes) s.1) ∙ e))
 
 -- ---- the claim of the least kind
@@ -219,7 +219,7 @@ at_least_1 (TwoOrders v a w b) = omega arith
 at_least_1 (MissingFromLog bytes s a) = omega arith
 at_least_1 (DepartingLog bytes p) = omega arith
 
-module _ (h : RunHeader) (reports : List Report) (general : ℕ) (are : AreOf h reports) where
+module _ (h : RunHeader) (reports : List LocalReport) (general : ℕ) (are : AreOf h reports) where
   abbrev Texts : List SignedText
   Texts = his_texts general reports
 

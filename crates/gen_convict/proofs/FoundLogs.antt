@@ -26,7 +26,7 @@ use Rattle.gen_local.specs.declared.reading.Reading.TheVariants.{Unreadable, For
 use Rattle.gen_local.specs.declared.texts.SignedText.{SignedText}
 use Rattle.gen_local.specs.Erased.{erased}
 use Rattle.gen_local.specs.FoundLog.{FoundLog, IsFound}
-use Rattle.gen_local.specs.Report.{Report, IsReading}
+use Rattle.gen_local.specs.Report.{LocalReport, IsReading}
 use Rattle.gen_log.specs.Writing.{LogBytes}
 use Rattle.gen_convict.specs.Convictions.{shown_in}
 use Rattle.gen_convict.specs.Exhibits.{HeldLog, held, logs_in, log_texts, texts_in, is_by, texts_of, is_his, logs_of}
@@ -58,9 +58,9 @@ flat_mapped g f (x ∷ xs) = ap (λ ys. g (f x) ++ ys) (flat_mapped g f xs)
 -- ---- what a report has of an exhibit
 
 -- the reports are those of their exhibits, which are bytes, under the header
-pub record AreOf (h : RunHeader) (reports : List Report) : Type 0 where
-  pub reads : (r : Report) → Contains reports r → IsReading h r.exhibit.general (log_of h r.exhibit.bytes) r.reading
-  pub bytes : (r : Report) → Contains reports r → AreBelow 256 r.exhibit.bytes
+pub record AreOf (h : RunHeader) (reports : List LocalReport) : Type 0 where
+  pub reads : (r : LocalReport) → Contains reports r → IsReading h r.exhibit.general (log_of h r.exhibit.bytes) r.reading
+  pub bytes : (r : LocalReport) → Contains reports r → AreBelow 256 r.exhibit.bytes
 
 abbrev pub own_of : LogBytes → FoundLog → HeldLog
 own_of exhibit found = record { general = exhibit.general; bytes = exhibit.bytes; log = found.log }
@@ -104,31 +104,31 @@ texts_read h exhibit read (Own found) is = append-nil (log_texts h (own_of exhib
 
 -- ---- the lists of all exhibits
 
-abbrev pub log_of_report : Report → List HeldLog
+abbrev pub log_of_report : LocalReport → List HeldLog
 log_of_report r = log_in r.exhibit r.reading
 
-abbrev pub his_log : ℕ → Report → List HeldLog
+abbrev pub his_log : ℕ → LocalReport → List HeldLog
 his_log general r = filter (is_his general) (log_in r.exhibit r.reading)
 
-logs_are : (h : RunHeader) (reports : List Report) → AreOf h reports → logs_in h (shown_in reports) ≡ flat_map log_of_report reports
+logs_are : (h : RunHeader) (reports : List LocalReport) → AreOf h reports → logs_in h (shown_in reports) ≡ flat_map log_of_report reports
 unfolding logs_in
 logs_are h reports are =
-    flat_mapped (λ (x : LogBytes). held h x (log_of h x.bytes)) (λ (r : Report). r.exhibit) reports
-    ∙ flat_same (λ (r : Report). held h r.exhibit (log_of h r.exhibit.bytes)) log_of_report reports (λ r c. held_as h r.exhibit (log_of h r.exhibit.bytes) r.reading (are.reads r c))
+    flat_mapped (λ (x : LogBytes). held h x (log_of h x.bytes)) (λ (r : LocalReport). r.exhibit) reports
+    ∙ flat_same (λ (r : LocalReport). held h r.exhibit (log_of h r.exhibit.bytes)) log_of_report reports (λ r c. held_as h r.exhibit (log_of h r.exhibit.bytes) r.reading (are.reads r c))
 
-pub his_logs_are : (h : RunHeader) (reports : List Report) (general : ℕ) → AreOf h reports → logs_of h (shown_in reports) general ≡ flat_map (his_log general) reports
+pub his_logs_are : (h : RunHeader) (reports : List LocalReport) (general : ℕ) → AreOf h reports → logs_of h (shown_in reports) general ≡ flat_map (his_log general) reports
 unfolding logs_of
 his_logs_are h reports general are =
     ap (filter (is_his general)) (logs_are h reports are)
     ∙ filter_flat (is_his general) log_of_report reports
 
-pub his_texts_are : (h : RunHeader) (reports : List Report) (general : ℕ) → AreOf h reports → texts_of h (shown_in reports) general ≡ his_texts general reports
+pub his_texts_are : (h : RunHeader) (reports : List LocalReport) (general : ℕ) → AreOf h reports → texts_of h (shown_in reports) general ≡ his_texts general reports
 unfolding texts_of texts_in
 his_texts_are h reports general are =
     ap (λ ls. filter (is_by general) (flat_map (log_texts h) ls)) (logs_are h reports are)
     ∙ ap (filter (is_by general)) (flat_flat (log_texts h) log_of_report reports)
-    ∙ ap (filter (is_by general)) (flat_same (λ (r : Report). flat_map (log_texts h) (log_of_report r)) (λ (r : Report). read_texts r.reading) reports (λ r c. texts_read h r.exhibit (log_of h r.exhibit.bytes) r.reading (are.reads r c)))
-    ∙ filter_flat (is_by general) (λ (r : Report). read_texts r.reading) reports
+    ∙ ap (filter (is_by general)) (flat_same (λ (r : LocalReport). flat_map (log_texts h) (log_of_report r)) (λ (r : LocalReport). read_texts r.reading) reports (λ r c. texts_read h r.exhibit (log_of h r.exhibit.bytes) r.reading (are.reads r c)))
+    ∙ filter_flat (is_by general) (λ (r : LocalReport). read_texts r.reading) reports
 
 -- ---- tests of reports
 
@@ -204,7 +204,7 @@ module _ (h : RunHeader) (texts : List SignedText) (general : ℕ) where
       right_fails true b t e = e
       right_fails false b t e = absurd cc
 
-  pub lack_singles : (r : Report) → IsReading h r.exhibit.general (log_of h r.exhibit.bytes) r.reading → Singles (LacksSome h texts) (lacks general texts) (his_log general) r
+  pub lack_singles : (r : LocalReport) → IsReading h r.exhibit.general (log_of h r.exhibit.bytes) r.reading → Singles (LacksSome h texts) (lacks general texts) (his_log general) r
   lack_singles r is = record {
     one = lack_one r.exhibit (log_of h r.exhibit.bytes) r.reading is;
     none = lack_none r.exhibit (log_of h r.exhibit.bytes) r.reading is;
@@ -233,13 +233,13 @@ module _ (h : RunHeader) (general : ℕ) where
       let departing : DepartsSomewhere h (own_of exhibit found) = subst (DepartsSomewhere h) (sym own.1) some in
       let f = (found_is h exhibit.general read found is).0 in
       let sealed = head_sealed h exhibit.general found f departing.1.0 in
-      let place : departure_in (Own found) ≡ Some departing.0 = under_given found.sealed found.departure departing.0 sealed ((f.departs departing.0).1 departing.1.1) in
+      let index : departure_in (Own found) ≡ Some departing.0 = under_given found.sealed found.departure departing.0 sealed ((f.departs departing.0).1 departing.1.1) in
       let g : eqb exhibit.general general ≡ true = eq-eqb exhibit.general general own.0 in
-      let yes_it : (eqb exhibit.general general && is_some (departure_in (Own found))) ≡ true = and_so (eqb exhibit.general general) (is_some (departure_in (Own found))) g (is_one (departure_in (Own found)) departing.0 place) in
+      let yes_it : (eqb exhibit.general general && is_some (departure_in (Own found))) ≡ true = and_so (eqb exhibit.general general) (is_some (departure_in (Own found))) g (is_one (departure_in (Own found)) departing.0 index) in
       let clash : false ≡ true = sym e ∙ yes_it in
       absurd cc
 
-  pub depart_singles : (r : Report) → IsReading h r.exhibit.general (log_of h r.exhibit.bytes) r.reading → Singles (DepartsSomewhere h) (departs general) (his_log general) r
+  pub depart_singles : (r : LocalReport) → IsReading h r.exhibit.general (log_of h r.exhibit.bytes) r.reading → Singles (DepartsSomewhere h) (departs general) (his_log general) r
   depart_singles r is = record {
     one = depart_one r.exhibit (log_of h r.exhibit.bytes) r.reading is;
     none = depart_none r.exhibit (log_of h r.exhibit.bytes) r.reading is;

@@ -21,7 +21,7 @@ use Rattle.gen_convict.specs.Finding.{is_like, is_unlike, has_unlike, is_command
 use Rattle.gen_convict.specs.FindingClaims.{with_unlike, texts_claim, order_of, two_orders, with_order, first_order, orders_claim}
 use Rattle.gen_convict.specs.First.{DifferInOrder, AreOrders, IsUnsaid, IsMissing}
 use Rattle.gen_convict.specs.Firsts.{IsFirst, IsFirstPair}
-use Rattle.gen_convict.specs.PairLaws.{NoTwoTexts, place_of, IsByCommander, IsCommand}
+use Rattle.gen_convict.specs.PairLaws.{NoTwoTexts, subject_of, IsByCommander, IsCommand}
 use Rattle.gen_convict.proofs.FirstOnes.{unlike_or_same, commands_part, turned, not_itself, one_of_each}
 use Rattle.gen_convict.proofs.FindFirst.{Tests, find_first, find_none, find_in, pair_found}
 use Rattle.gen_convict.proofs.Signs.{any_found, any_told, one_test, sign_found, sign_told}
@@ -111,20 +111,20 @@ unsaid_told log (OfHead s) none = absurd none
 pub unsaid_tests : (log : RunLog) → Tests (IsMissing log) (λ t. is_unsaid log t.text)
 unsaid_tests log = record { gives = λ t e. unsaid_gives log t.text e; told = λ t m. unsaid_told log t.text m }
 
-like_gives : (x y : Text) → is_like x y ≡ true → place_of x ≡ place_of y
+like_gives : (x y : Text) → is_like x y ≡ true → subject_of x ≡ subject_of y
 like_gives (OfStatement s) (OfStatement t) e = let same : s.order ≡ t.order = eqb-true s.order t.order e in omega (arith, same)
 like_gives (OfStatement s) (OfHead t) e = absurd cc
 like_gives (OfHead s) (OfStatement t) e = absurd cc
 like_gives (OfHead s) (OfHead t) e = refl
 
--- ---- one text of each place is enough
+-- ---- one text of each subject is enough
 
--- a test says of all texts of one place the same
-abbrev pub SameOfPlace : List SignedText → (SignedText → Bool) → Type 0
-SameOfPlace all test =
-    (x y : SignedText) → Contains all x → Contains all y → place_of x.text ≡ place_of y.text → test x ≡ test y
+-- a test says of all texts of one subject the same
+abbrev pub SameOfSubject : List SignedText → (SignedText → Bool) → Type 0
+SameOfSubject all test =
+    (x y : SignedText) → Contains all x → Contains all y → subject_of x.text ≡ subject_of y.text → test x ≡ test y
 
-find_each : (all : List SignedText) (test : SignedText → Bool) → SameOfPlace all test → (before xs : List SignedText) → ((z : SignedText) → Contains before z → Contains all z × (test z ≡ false)) → ((z : SignedText) → Contains xs z → Contains all z) → find test (one_each before xs) ≡ find test xs
+find_each : (all : List SignedText) (test : SignedText → Bool) → SameOfSubject all test → (before xs : List SignedText) → ((z : SignedText) → Contains before z → Contains all z × (test z ≡ false)) → ((z : SignedText) → Contains xs z → Contains all z) → find test (one_each before xs) ≡ find test xs
 find_each all test same before [] b a = refl
 find_each all test same before (t ∷ ts) b a = elim (bool_cases (list_any (λ x. is_like x.text t.text) before)) [
   | inl old ↦
@@ -142,7 +142,7 @@ find_each all test same before (t ∷ ts) b a = elim (bool_cases (list_any (λ x
       ]
 ]
 
-pub find_of_each : (texts : List SignedText) (test : SignedText → Bool) → SameOfPlace texts test → find test (one_each [] texts) ≡ find test texts
+pub find_of_each : (texts : List SignedText) (test : SignedText → Bool) → SameOfSubject texts test → find test (one_each [] texts) ≡ find test texts
 find_of_each texts test same = find_each texts test same [] texts (λ z h. absurd (Contains_nil z h)) (λ z h. h)
 
 -- ---- two texts
@@ -156,14 +156,14 @@ different_tests texts = record {
   told = λ x d. any_told (λ y. is_unlike x.text y.text) texts d.0 d.1 (unlike_told x.text d.0.text d.2);
 }
 
-moved : (texts : List SignedText) (x y : SignedText) → Contains texts x → place_of y.text ≡ place_of x.text → HasDifferent texts x → HasDifferent texts y
+moved : (texts : List SignedText) (x y : SignedText) → Contains texts x → subject_of y.text ≡ subject_of x.text → HasDifferent texts x → HasDifferent texts y
 moved texts x y inside e d = elim (unlike_or_same y.text x.text e) [
   | inl ne ↦ (x, inside, ne)
   | inr same ↦ (d.0, d.1, subst (λ (t : Text). AreUnlike t d.0.text) (sym same) d.2)
 ]
 
-different_of_place : (texts : List SignedText) → SameOfPlace texts (has_unlike texts)
-different_of_place texts x y c d e =
+different_of_subject : (texts : List SignedText) → SameOfSubject texts (has_unlike texts)
+different_of_subject texts x y c d e =
     let t = different_tests texts in
     one_test (HasDifferent texts y) (has_unlike texts x) (has_unlike texts y)
     (λ p. moved texts x y c (sym e) (t.gives x p)) (λ h. t.told x (moved texts y x d e h)) (t.gives y) (t.told y)
@@ -186,7 +186,7 @@ first_found texts (Some x) found claim e =
 
 pub texts_found : (texts : List SignedText) (claim : Claim) → texts_claim (one_each [] texts) texts ≡ Some claim → IsTextsClaim texts claim
 texts_found texts claim e =
-    first_found texts (find (has_unlike texts) texts) refl claim (ap (with_unlike texts) (sym (find_of_each texts (has_unlike texts) (different_of_place texts))) ∙ e)
+    first_found texts (find (has_unlike texts) texts) refl claim (ap (with_unlike texts) (sym (find_of_each texts (has_unlike texts) (different_of_subject texts))) ∙ e)
 
 none_second : (texts : List SignedText) (x : SignedText) → HasDifferent texts x → (s : Option SignedText) → find (λ y. is_unlike x.text y.text) texts ≡ s → option_map (TwoTexts x) s ≡ None → ⊥
 none_second texts x d None found e = find_none (AreDifferent x) (λ y. is_unlike x.text y.text) (unlike_tests x) texts found d.0 d.1 d.2
@@ -205,9 +205,9 @@ none_first texts (Some x) found e =
 
 pub texts_none : (texts : List SignedText) → texts_claim (one_each [] texts) texts ≡ None → NoTwoTexts texts
 texts_none texts e =
-    none_first texts (find (has_unlike texts) texts) refl (ap (with_unlike texts) (sym (find_of_each texts (has_unlike texts) (different_of_place texts))) ∙ e)
+    none_first texts (find (has_unlike texts) texts) refl (ap (with_unlike texts) (sym (find_of_each texts (has_unlike texts) (different_of_subject texts))) ∙ e)
 
--- where no two texts differ, a statement is missing if the first of its place is
+-- where no two texts differ, a statement is missing if the first of its subject is
 pub unsaid_of_each : (texts : List SignedText) (log : RunLog) → NoTwoTexts texts → find (λ t. is_unsaid log t.text) (one_each [] texts) ≡ find (λ t. is_unsaid log t.text) texts
 unsaid_of_each texts log none = find_of_each texts (λ t. is_unsaid log t.text) (λ x y c d e. ap (is_unsaid log) (one_of_each texts none x y c d (sym e)))
 

@@ -35,8 +35,8 @@ use Rattle.gen_convict.proofs.FirstOnes.{first_or_none, NoPair, pair_or_none, di
 use Rattle.gen_convict.proofs.Holding.{logs_read, first_in, pair_in, kind_holds}
 
 -- two members that are related in both directions, and not the same, make a pair of the list
-two_places : {X : Type 0} (R : X → X → Type 0) (xs : List X) (x y : X) → NoPair R xs → Contains xs x → Contains xs y → R x y → R y x → (x ≡ y → ⊥) → ⊥
-two_places R xs x y none c d there back apart =
+two_positions : {X : Type 0} (R : X → X → Type 0) (xs : List X) (x y : X) → NoPair R xs → Contains xs x → Contains xs y → R x y → R y x → (x ≡ y → ⊥) → ⊥
+two_positions R xs x y none c d there back apart =
     let k = split xs x c in
     let d1 = subst (λ zs. Contains zs y) k.2 d in
     elim (Contains-append_cases k.0 (x ∷ k.1) y d1) [
@@ -118,7 +118,7 @@ module _ (h : RunHeader) (exhibits : List LogBytes) (general : ℕ) (ok : IsHead
   Searched k = ((claim : Claim) × IsFirstOfKind h exhibits general claim × (kind_of claim ≡ k)) ⊎ ((claim : Claim) → kind_of claim ≡ k → Holds claim → ⊥)
 
   no_texts : NoPair AreDifferent (texts_of h exhibits general) → (claim : Claim) → kind_of claim ≡ 1 → Holds claim → ⊥
-  no_texts none (TwoTexts x y) k s = two_places AreDifferent (texts_of h exhibits general) x y none s.0.0 s.0.1 s.1.different (turned x.text y.text s.1.different) (λ e. not_itself y.text (subst (λ z. AreDifferent z y) e s.1.different))
+  no_texts none (TwoTexts x y) k s = two_positions AreDifferent (texts_of h exhibits general) x y none s.0.0 s.0.1 s.1.different (turned x.text y.text s.1.different) (λ e. not_itself y.text (subst (λ z. AreDifferent z y) e s.1.different))
   no_texts none (TwoOrders v a w b) k s = absurd (omega (arith, k))
   no_texts none (MissingFromLog bytes t signature) k s = absurd (omega (arith, k))
   no_texts none (DepartingLog bytes p) k s = absurd (omega (arith, k))
@@ -132,7 +132,7 @@ module _ (h : RunHeader) (exhibits : List LogBytes) (general : ℕ) (ok : IsHead
   no_orders : NoPair AreOrders (texts_of h exhibits general) → (claim : Claim) → kind_of claim ≡ 2 → Holds claim → ⊥
   unfolding order_of
   no_orders none (TwoTexts x y) k s = absurd (omega (arith, k))
-  no_orders none (TwoOrders v a w b) k s = two_places AreOrders (texts_of h exhibits general) (command v a) (command w b) none s.0.0 s.0.1 (refl, refl, s.1.different) (refl, refl, λ e. s.1.different (sym e)) (λ e. s.1.different (ap (λ (t : SignedText). order_of t.text) e))
+  no_orders none (TwoOrders v a w b) k s = two_positions AreOrders (texts_of h exhibits general) (command v a) (command w b) none s.0.0 s.0.1 (refl, refl, s.1.different) (refl, refl, λ e. s.1.different (sym e)) (λ e. s.1.different (ap (λ (t : SignedText). order_of t.text) e))
   no_orders none (MissingFromLog bytes t signature) k s = absurd (omega (arith, k))
   no_orders none (DepartingLog bytes p) k s = absurd (omega (arith, k))
 

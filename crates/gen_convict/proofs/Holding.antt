@@ -98,8 +98,8 @@ chain_his order path (s ∷ others) t c =
 
 same_last : (y z : ℕ) (path : List ℕ) → slice_get (y ∷ z ∷ path) (length (y ∷ z ∷ path) - 1) ≡ slice_get (z ∷ path) (length (z ∷ path) - 1)
 same_last y z path =
-    let place : length (y ∷ z ∷ path) - 1 ≡ suc (length (z ∷ path) - 1) = omega arith in
-    ap (λ (n : ℕ). slice_get (y ∷ z ∷ path) n) place
+    let same : length (y ∷ z ∷ path) - 1 ≡ suc (length (z ∷ path) - 1) = omega arith in
+    ap (λ (n : ℕ). slice_get (y ∷ z ∷ path) n) same
 
 last_ends : (path : List ℕ) (x : ℕ) → slice_get path (length path - 1) ≡ Some x → EndsWith path x
 last_ends [] x e = absurd cc

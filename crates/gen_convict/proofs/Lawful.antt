@@ -22,7 +22,7 @@ use Rattle.gen_local.specs.declared.reading.Reading.TheVariants.{Unreadable, For
 use Rattle.gen_local.specs.declared.texts.SignedText.{SignedText}
 use Rattle.gen_local.specs.declared.texts.Text.{Text}
 use Rattle.gen_local.specs.declared.texts.Text.TheVariants.{OfStatement, OfHead}
-use Rattle.gen_local.specs.Report.{Report}
+use Rattle.gen_local.specs.Report.{LocalReport}
 use Rattle.gen_log.specs.Writing.{LogBytes}
 use Rattle.gen_local.specs.SignedTexts as signed
 use Rattle.gen_local.specs.SignedTexts.{stated, texts_behind, text_under, head_in, text_verifies}
@@ -146,10 +146,10 @@ text_fits h exhibits general t ok all c =
 
 -- ---- claims
 
-all_bytes : (h : RunHeader) (reports : List Report) → AreOf h reports → AllBytes (shown_in reports)
+all_bytes : (h : RunHeader) (reports : List LocalReport) → AreOf h reports → AllBytes (shown_in reports)
 all_bytes h reports are x c = let f = shown_by reports x c in subst (λ (y : LogBytes). AreBelow 256 y.bytes) f.2 (are.bytes f.0 f.1)
   where
-    shown_by : (reports : List Report) (x : LogBytes) → Contains (shown_in reports) x → (r : Report) × Contains reports r × (r.exhibit ≡ x)
+    shown_by : (reports : List LocalReport) (x : LogBytes) → Contains (shown_in reports) x → (r : LocalReport) × Contains reports r × (r.exhibit ≡ x)
     shown_by [] x c = absurd (Contains_nil x c)
     shown_by (r ∷ rs) x c = elim (Contains_cases r.exhibit x (shown_in rs) c) [
       | inl e ↦ (r, Contains_here r rs, e)
@@ -161,13 +161,13 @@ bytes_of general exhibit (Unreadable fault) l c = absurd (Contains_nil l c)
 bytes_of general exhibit Foreign l c = absurd (Contains_nil l c)
 bytes_of general exhibit (Own found) l c = ap (λ (m : HeldLog). m.bytes) (his_own general exhibit found l c).1
 
-module _ (h : RunHeader) (reports : List Report) (ok : IsHeader h) (are : AreOf h reports) (short : AreShort (shown_in reports)) (general : ℕ) where
+module _ (h : RunHeader) (reports : List LocalReport) (ok : IsHeader h) (are : AreOf h reports) (short : AreShort (shown_in reports)) (general : ℕ) where
   log_bytes : (l : HeldLog) → Contains (logs_of h (shown_in reports) general) l → IsLogBytes l.bytes
   log_bytes l c =
       let c1 : Contains (flat_map (his_log general) reports) l = subst (λ ls. Contains ls l) (his_logs_are h reports general are) c in
       let f = Contains_flat_mapped (his_log general) reports l c1 in
       let e = bytes_of general f.0.exhibit f.0.reading l f.2 in
-      subst IsLogBytes e (are.bytes f.0 f.1, short f.0.exhibit (mapped (λ (r : Report). r.exhibit) reports f.0 f.1))
+      subst IsLogBytes e (are.bytes f.0 f.1, short f.0.exhibit (mapped (λ (r : LocalReport). r.exhibit) reports f.0 f.1))
 
   read_as : (l : HeldLog) → Contains (logs_of h (shown_in reports) general) l → IsReadLog h l
   unfolding logs_of
@@ -197,5 +197,5 @@ module _ (h : RunHeader) (reports : List Report) (ok : IsHeader h) (are : AreOf 
       let few : p < 2 ^ 32 = omega (arith, made.3.1.0, length_erased made.0.log.entries, log_longer made.0.log, ap length r.reads.spelled, b.1) in
       (subst IsLogBytes (sym made.1) b, few)
 
-pub found_lawful : (h : RunHeader) (reports : List Report) → IsHeader h → AreOf h reports → AreShort (shown_in reports) → (x : Accusation) → (x.accused < h.network.generals) × IsFirstClaim h (shown_in reports) x.accused x.claim → IsEvidence h x
+pub found_lawful : (h : RunHeader) (reports : List LocalReport) → IsHeader h → AreOf h reports → AreShort (shown_in reports) → (x : Accusation) → (x.accused < h.network.generals) × IsFirstClaim h (shown_in reports) x.accused x.claim → IsEvidence h x
 found_lawful h reports ok are short x is = record { known = is.0; claim = claim_lawful h reports ok are short x.accused x.claim is.1.first }

@@ -7,11 +7,9 @@ use Rattle.gen_types.proofs.Front.{one_spelling_by}
 use Rattle.gen_net.specs.Departs.{DepartsAt}
 use Rattle.gen_net.specs.Header.{RunHeader, IsHeader}
 use Rattle.gen_chain.specs.declared.statements.Statement.{Statement}
-use Rattle.gen_log.specs.Links.{HeadVerifies}
 use Rattle.gen_log.specs.Log.{RunLog, IsLog, log_spelling}
 use Rattle.gen_log.specs.LogReading.{log_at}
 use Rattle.gen_log.specs.Signing.{HasSign}
-use Rattle.gen_log.specs.Verifying.{SaysItIsOf}
 use Rattle.gen_log.proofs.LogLaws.{logs_read}
 use Rattle.gen_local.specs.Erased.{erased}
 use Rattle.gen_local.specs.SignedTexts.{stated}
@@ -22,11 +20,6 @@ pub one_log : (h : RunHeader) (bytes : List ℕ) (a b : RunLog) → IsHeader h �
 one_log h bytes a b ok is_a is_b =
     let same : log_spelling a ≡ log_spelling b = sym is_a.spelled ∙ is_b.spelled in
     (one_spelling_by (log_at h) log_spelling (IsLog h) (logs_read h ok.network.ranges.few_orders) a b [] [] is_a.fits is_b.fits (ap (λ (t : List ℕ). t ++ []) same)).0
-
-pub none_sealed : (h : RunHeader) (g : ℕ) (bytes : List ℕ) (log : RunLog) → IsHeader h → Spells (IsLog h) log_spelling bytes log → (SaysItIsOf h g log × HeadVerifies h g log → ⊥) → (other : RunLog) → IsSealedLogOf h g bytes other → ⊥
-none_sealed h g bytes log ok is none other sealed =
-    let e : other ≡ log = one_log h bytes other log ok sealed.reads is in
-    none (subst (SaysItIsOf h g) e sealed.says, subst (HeadVerifies h g) e sealed.sealed)
 
 pub missing_told : (h : RunHeader) (g : ℕ) (bytes : List ℕ) (log : RunLog) (s : Statement) (signature : List ℕ) (told : Bool) → IsHeader h → IsSealedLogOf h g bytes log → IsTrue told ↔ (TextVerifies h g (stated s.order s.path g signature) × (HasSign log s → ⊥)) → IsTrue told ↔ IsMissingFrom h g bytes s signature
 missing_told h g bytes log s signature told ok sealed is = (
@@ -41,10 +34,10 @@ departing_told h g bytes log p told ok sealed is = (
 )
 
 -- a number that is found, or none, has the property alone
-pub found_told : (D : ℕ → Type 0) (r : Option ℕ) (place entry : ℕ) → r ≡ Some place → ((p : ℕ) → (r ≡ Some p) ↔ D p) → IsTrue (nat_eq place entry) ↔ D entry
-found_told D r place entry e is = (
-  (λ t. subst D (eqb-true place entry t) ((is place).0 e)),
-  (λ d. let k : Some place ≡ Some entry = sym e ∙ (is entry).1 d in let same : place ≡ entry = cc in eq-eqb place entry same),
+pub found_told : (D : ℕ → Type 0) (r : Option ℕ) (index entry : ℕ) → r ≡ Some index → ((p : ℕ) → (r ≡ Some p) ↔ D p) → IsTrue (nat_eq index entry) ↔ D entry
+found_told D r index entry e is = (
+  (λ t. subst D (eqb-true index entry t) ((is index).0 e)),
+  (λ d. let k : Some index ≡ Some entry = sym e ∙ (is entry).1 d in let same : index ≡ entry = cc in eq-eqb index entry same),
 )
 
 pub none_told : (D : ℕ → Type 0) (r : Option ℕ) (entry : ℕ) → r ≡ None → ((p : ℕ) → (r ≡ Some p) ↔ D p) → D entry → ⊥

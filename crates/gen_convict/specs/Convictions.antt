@@ -1,7 +1,7 @@
 -- The convictions that exhibits give: of each general the first claim, if there is one.
 use Rattle.std.specs.Prelude.{ℕ, ◌≡◌, ◌<◌, ◌^◌, List, length, map, Contains, AllPairs}
 use Rattle.gen_net.specs.Header.{RunHeader}
-use Rattle.gen_local.specs.Report.{Report}
+use Rattle.gen_local.specs.Report.{LocalReport}
 use Rattle.gen_log.specs.Writing.{LogBytes}
 use Rattle.gen_convict.specs.Contradictions.{Claim}
 use Rattle.gen_convict.specs.Evidence.{Accusation, IsEvidence}
@@ -17,12 +17,12 @@ pub record AreConvictions (h : RunHeader) (exhibits : List LogBytes) (conviction
       → Contains convictions (record { accused = general; claim = claim })
 
 -- the exhibits that reports are of
-abbrev pub shown_in : List Report → List LogBytes
+abbrev pub shown_in : List LocalReport → List LogBytes
 shown_in reports = map (λ r. r.exhibit) reports
 
 -- the reports are under this header
-abbrev pub AreUnderHeader : RunHeader → List Report → Type 0
-AreUnderHeader h reports = (r : Report) → Contains reports r → r.header ≡ h
+abbrev pub AreUnderHeader : RunHeader → List LocalReport → Type 0
+AreUnderHeader h reports = (r : LocalReport) → Contains reports r → r.header ≡ h
 
 -- each is the first claim against its general
 abbrev pub AreFirst : RunHeader → List LogBytes → List Accusation → Type 0

@@ -10,7 +10,7 @@ use Rattle.gen_local.specs.declared.reading.Reading.TheVariants.{Unreadable, For
 use Rattle.gen_local.specs.declared.texts.SignedText.{SignedText}
 use Rattle.gen_local.specs.declared.texts.Text.{Text}
 use Rattle.gen_local.specs.declared.texts.Text.TheVariants.{OfStatement, OfHead}
-use Rattle.gen_local.specs.Report.{Report}
+use Rattle.gen_local.specs.Report.{LocalReport}
 use Rattle.gen_convict.specs.Exhibits.{is_by}
 
 -- the texts that verify, in what an exhibit reads to, and those of one general in all reports
@@ -19,17 +19,17 @@ read_texts (Own found) = found.texts
 read_texts (Unreadable fault) = []
 read_texts Foreign = []
 
-abbrev pub his_texts : ℕ → List Report → List SignedText
+abbrev pub his_texts : ℕ → List LocalReport → List SignedText
 his_texts general reports = flat_map (λ r. filter (is_by general) (read_texts r.reading)) reports
 
--- the texts stand in one place: two heads, or two statements of one order
+-- the texts have one subject: two heads, or two statements of one order
 abbrev pub is_like : Text → Text → Bool
 is_like (OfStatement s) (OfStatement t) = s.order == t.order
 is_like (OfHead s) (OfHead t) = true
 is_like (OfStatement s) (OfHead t) = false
 is_like (OfHead s) (OfStatement t) = false
 
--- they are unlike: of one place, and not the same
+-- they are unlike: of one subject, and not the same
 abbrev pub is_unlike : Text → Text → Bool
 is_unlike (OfStatement s) (OfStatement t) = s.order == t.order && not (pointwise nat_eq s.path t.path)
 is_unlike (OfHead s) (OfHead t) =
@@ -53,11 +53,11 @@ are_orders (OfStatement s) (OfHead t) = false
 are_orders (OfHead s) (OfStatement t) = false
 are_orders (OfHead s) (OfHead t) = false
 
--- the text alone, unless it stands in a place of one of those before it
+-- the text alone, unless one of those before it has its subject
 abbrev pub new_one : List SignedText → SignedText → List SignedText
 new_one before t = cond (list_any (λ x. is_like x.text t.text) before) [] (t ∷ [])
 
--- of the texts that are left, the first of each place that none of those before them stands in
+-- of the texts that are left, the first of each subject that none of those before them has
 abbrev pub one_each : List SignedText → List SignedText → List SignedText
 one_each before [] = []
 one_each before (t ∷ texts) = new_one before t ++ one_each (before ++ new_one before t) texts

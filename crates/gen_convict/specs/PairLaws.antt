@@ -7,30 +7,30 @@ use Rattle.gen_convict.specs.Accused.{AreDifferent}
 use Rattle.gen_convict.specs.First.{AreOrders}
 use Rattle.gen_convict.specs.Firsts.{IsFirst, IsFirstPair}
 
--- where a text's like are kept: heads in place 0, statements of an order in the place behind the order's number
-abbrev pub place_of : Text → ℕ
-place_of (OfStatement s) = s.order + 1
-place_of (OfHead head) = 0
+-- the subject of a text, as a number: 0 of heads, one more than the order of statements
+abbrev pub subject_of : Text → ℕ
+subject_of (OfStatement s) = s.order + 1
+subject_of (OfHead head) = 0
 
 abbrev pub AreAlike : SignedText → SignedText → Type 0
-AreAlike x z = place_of z.text ≡ place_of x.text
+AreAlike x z = subject_of z.text ≡ subject_of x.text
 
--- the first pair of different texts begins with the first text of its place: so each need be compared with that one alone
-abbrev pub FirstOfPlace : Type 0
-FirstOfPlace =
+-- the first pair of different texts begins with the first text of its subject: so each need be compared with that one alone
+abbrev pub FirstOfSubject : Type 0
+FirstOfSubject =
     (texts : List SignedText) (x y : SignedText) → IsFirstPair AreDifferent texts x y
     → IsFirst (AreAlike x) texts x
 
--- x is the first text of its place, and y the first text behind it that differs: what one pass keeps for each place
-pub record IsPlacePair (texts : List SignedText) (x y : SignedText) : Type 0 where
+-- x is the first text of its subject, and y the first text behind it that differs: what one pass keeps for each subject
+pub record IsSubjectPair (texts : List SignedText) (x y : SignedText) : Type 0 where
   pub first : IsFirst (AreAlike x) texts x
   pub second : IsFirst (AreDifferent x) first.after y
 
--- the first pair of different texts is that place's pair that begins first
-abbrev pub EarliestPlace : Type 0
-EarliestPlace =
-    (texts : List SignedText) (x y : SignedText) (s : IsPlacePair texts x y)
-    → ((u v : SignedText) (t : IsPlacePair texts u v) → length s.first.before ≤ length t.first.before)
+-- the first pair of different texts is that subject's pair that begins first
+abbrev pub EarliestSubject : Type 0
+EarliestSubject =
+    (texts : List SignedText) (x y : SignedText) (s : IsSubjectPair texts x y)
+    → ((u v : SignedText) (t : IsSubjectPair texts u v) → length s.first.before ≤ length t.first.before)
     → IsFirstPair AreDifferent texts x y
 
 -- a statement of the commander alone
@@ -47,7 +47,7 @@ FirstCommand =
     (texts : List SignedText) (x y : SignedText) → IsFirstPair AreOrders texts x y
     → IsFirst IsCommand texts x
 
--- texts have a first pair that differ, or no two of them differ, in whichever places they stand
+-- texts have a first pair that differ, or no two of them differ, whichever subjects they have
 abbrev pub NoTwoTexts : List SignedText → Type 0
 NoTwoTexts texts =
     (front back : List SignedText) (u v : SignedText) → texts ≡ front ++ u ∷ back → Contains back v

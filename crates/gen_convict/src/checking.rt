@@ -249,7 +249,7 @@ fn departs_there(header: &Header, general: GeneralNo, log: &Log, entry: u32) -> 
     ensures { IsTrue result ↔ DepartsAt header.now.network general (erased log.now.entries) entry }
 {
     match departs(header, log) {
-        Some(place) => place == entry as usize,
+        Some(index) => index == entry as usize,
         None => false,
     }
 }

@@ -60,8 +60,8 @@ fn have_met(left: &Side, right: &Side) -> bool
 /// Returns two strings of bytes that are not the same and have one hash of SHA-256. It asks for two lists of as
 /// many entries, which are not the same, with equal last links over them from one first link.
 ///
-/// The strings are what was hashed at the first place where that differs and the links behind it agree. There
-/// is such a place: where what is hashed is equal, so are the entries and the links before them. Which of the
+/// The strings are what was hashed at the first entry where that differs and the links behind it agree. There
+/// is such an entry: where what is hashed is equal, so are the entries and the links before them. Which of the
 /// two comes first plays no part.
 ///
 /// # Errors
@@ -92,7 +92,7 @@ pub fn collide(
         link: *first,
         text: Vec::new(alloc),
     };
-    'places: for i in 0..own.len() {
+    'entries: for i in 0..own.len() {
         walk_on(alloc, &mut left, &own[i])?;
         walk_on(alloc, &mut right, &other[i])?;
         if have_met(&left, &right) {

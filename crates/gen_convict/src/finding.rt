@@ -3,7 +3,7 @@ ghost use Rattle.std.specs.Prelude.{◌≡◌, ◌≤◌, ◌++◌, Contains, If
 ghost use Rattle.std.specs.Option.{option_map};
 ghost use Rattle.std.specs.List.{range_with_len};
 ghost use Rattle.gen_log.specs.Fields.{AreBelow};
-ghost use Rattle.gen_local.specs.Report.{Report, IsReport};
+ghost use Rattle.gen_local.specs.Report.{IsReport, LocalReport as Report};
 ghost use Rattle.gen_convict.specs.Convictions.{AreConvictions, AreEvidence, AreFirst, AreShort, AreUnderHeader, shown_in};
 ghost use Rattle.gen_convict.specs.Evidence.{told_of};
 ghost use Rattle.gen_convict.specs.FindingClaims as finds;
@@ -19,15 +19,15 @@ use gen_net::Header;
 use gen_types::GeneralNo;
 use std::alloc::{AllocError, Global};
 
-/// The claim against a general by a log of his.
-fn claim_by_log(
+/// The claim from one of a general's logs: that it lacks what he signed, or else that it departs.
+fn claim_from_logs(
     alloc: Global,
     general: GeneralNo,
     firsts: &[&SignedText],
     reports: &[LocalReport],
 ) -> Result<Option<Claim>, AllocError>
     ensures { IfOk result (λ claim. option_map told claim
-        ≡ finds.claim_by_log general (map (λ t. t.now) firsts.now) reports.now) }
+        ≡ finds.claim_from_logs general (map (λ t. t.now) firsts.now) reports.now) }
 {
     match missing_claim(alloc, general, firsts, reports)? {
         Some(claim) => Ok(Some(claim)),
@@ -35,37 +35,37 @@ fn claim_by_log(
     }
 }
 
-/// The claim against the commander by two orders, and else that against the general by a log of his.
-fn claim_behind_texts(
+/// The claim from two orders, if the general is the commander, or else from one of his logs.
+fn claim_from_orders_or_logs(
     alloc: Global,
     general: GeneralNo,
     firsts: &[&SignedText],
     texts: &[&SignedText],
     reports: &[LocalReport],
 ) -> Result<Option<Claim>, AllocError>
-    ensures { IfOk result (λ claim. option_map told claim ≡ finds.claim_behind_texts general
+    ensures { IfOk result (λ claim. option_map told claim ≡ finds.claim_from_orders_or_logs general
         (map (λ t. t.now) firsts.now) (map (λ t. t.now) texts.now) reports.now) }
 {
     match orders_claim(alloc, general, texts)? {
         Some(claim) => Ok(Some(claim)),
-        None => claim_by_log(alloc, general, firsts, reports),
+        None => claim_from_logs(alloc, general, firsts, reports),
     }
 }
 
-/// The claim of the least kind against a general, by these texts of his or by a log of his.
-fn claim_by(
+/// The claim of the least kind against a general, from these texts of his or from one of his logs.
+fn least_claim(
     alloc: Global,
     general: GeneralNo,
     firsts: &[&SignedText],
     texts: &[&SignedText],
     reports: &[LocalReport],
 ) -> Result<Option<Claim>, AllocError>
-    ensures { IfOk result (λ claim. option_map told claim ≡ finds.claim_by general
+    ensures { IfOk result (λ claim. option_map told claim ≡ finds.least_claim general
         (map (λ t. t.now) firsts.now) (map (λ t. t.now) texts.now) reports.now) }
 {
     match texts_claim(alloc, firsts, texts)? {
         Some(claim) => Ok(Some(claim)),
-        None => claim_behind_texts(alloc, general, firsts, texts, reports),
+        None => claim_from_orders_or_logs(alloc, general, firsts, texts, reports),
     }
 }
 
@@ -79,7 +79,7 @@ fn claim_against(
 {
     let texts = texts_by(alloc, general, reports)?;
     let firsts = one_of_each(alloc, texts.as_slice())?;
-    claim_by(alloc, general, firsts.as_slice(), texts.as_slice(), reports)
+    least_claim(alloc, general, firsts.as_slice(), texts.as_slice(), reports)
 }
 
 /// Puts what is held against a general behind the others.

@@ -4,7 +4,7 @@ ghost use Rattle.std.specs.Option.{option_map};
 ghost use Rattle.std.specs.List.{find};
 ghost use Rattle.gen_convict.specs.Finding as finds;
 
-use crate::text_tests::{are_orders, is_command, is_unlike, is_unsaid};
+use crate::text_likeness::{are_orders, is_command, is_unlike, is_unsaid};
 use gen_local::SignedText;
 use gen_log::Log;
 

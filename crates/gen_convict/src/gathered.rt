@@ -1,10 +1,10 @@
-//! The texts of one general in all reports, and one of each place.
+//! The texts of one general in all reports, and one of each subject.
 ghost use Rattle.std.specs.Prelude.{◌≡◌, [], ◌∷◌, ◌++◌, IfOk, OnOk, map, filter};
 ghost use Rattle.std.specs.List.{list_any};
 ghost use Rattle.gen_convict.specs.Exhibits.{is_by};
 ghost use Rattle.gen_convict.specs.Finding as finds;
 
-use crate::text_tests::is_like;
+use crate::text_likeness::is_like;
 use gen_local::{LocalReport, Reading, SignedText};
 use gen_types::GeneralNo;
 use std::alloc::{AllocError, Global};
@@ -65,7 +65,7 @@ pub fn texts_by<'a>(
     Ok(texts)
 }
 
-/// Whether one of the texts stands in the place of this one.
+/// Whether one of the texts has the subject of this one.
 fn has_like(texts: &[&SignedText], text: &SignedText) -> bool
     ensures { result
         ≡ list_any (λ x. finds.is_like x.text text.now.text) (map (λ t. t.now) texts.now) }
@@ -78,7 +78,7 @@ fn has_like(texts: &[&SignedText], text: &SignedText) -> bool
     false
 }
 
-/// Puts a text behind the others, unless one of them stands in its place.
+/// Puts a text behind the others, unless one of them has its subject.
 fn put_new<'a>(text: &'a SignedText, firsts: &mut Vec<&'a SignedText>) -> Result<(), AllocError>
     ensures { OnOk result (map (λ t. t.now) firsts.new.items
         ≡ map (λ t. t.now) firsts.old.items ++ finds.new_one (map (λ t. t.now) firsts.old.items) text.now) }
@@ -89,7 +89,7 @@ fn put_new<'a>(text: &'a SignedText, firsts: &mut Vec<&'a SignedText>) -> Result
     Ok(())
 }
 
-/// Returns the first text of each place, in their order.
+/// Returns the first text of each subject, in their order.
 pub fn one_of_each<'a>(
     alloc: Global,
     texts: &[&'a SignedText],

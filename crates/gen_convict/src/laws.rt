@@ -5,7 +5,7 @@ ghost use Rattle.gen_types.specs.Spelled.{HasOneSpelling};
 ghost use Rattle.gen_convict.specs.EvidenceReading.{IsWhole, whole_evidence};
 ghost use Rattle.gen_convict.specs.EvidenceSpelling.{HeaderAndEvidence, whole_spelling};
 ghost use Rattle.gen_convict.specs.Laws.{OneStatementOfEach, OneOrderOfCommander, NowhereDeparts, OneLinkText, LinksTell, Refutes};
-ghost use Rattle.gen_convict.specs.PairLaws.{FirstOfPlace, EarliestPlace, FirstCommand, OneOfEach, HasTwoTexts, OneFirstPair};
+ghost use Rattle.gen_convict.specs.PairLaws.{FirstOfSubject, EarliestSubject, FirstCommand, OneOfEach, HasTwoTexts, OneFirstPair};
 ghost use Rattle.gen_convict.specs.FirstLaws.{TextsVerify, FirstHolds, GivenWhereHeld, OneClaim};
 
 use gen_log::laws::one_entry_spelling;
@@ -35,10 +35,10 @@ pub fn claims_are_refuted()
     links_tell();
 }
 
-/// A list has at most one first pair of different texts, and it begins with the first text of its place.
+/// A list has at most one first pair of different texts, and it begins with the first text of its subject.
 pub fn first_pairs()
-    ensures place { FirstOfPlace }
-    ensures earliest { EarliestPlace }
+    ensures subject { FirstOfSubject }
+    ensures earliest { EarliestSubject }
     ensures command { FirstCommand }
     ensures each { OneOfEach }
     ensures found { HasTwoTexts }

@@ -25,7 +25,7 @@ mod own_logs;
 mod refutations;
 mod refuting;
 mod text_claims;
-mod text_tests;
+mod text_likeness;
 
 pub use checking::check_evidence;
 pub use claims::Claim;

@@ -125,15 +125,15 @@ fn first_departing<'a>(general: GeneralNo, reports: &'a [LocalReport]) -> Option
 }
 
 /// The claim that a log departs at an entry, if the entry's number has four bytes.
-fn departing_at(alloc: Global, log: &[u8], place: usize) -> Result<Option<Claim>, AllocError>
+fn departing_at(alloc: Global, log: &[u8], index: usize) -> Result<Option<Claim>, AllocError>
     ensures { IfOk result (λ claim. option_map told claim
-        ≡ finds.departing_at log.now (Some place)) }
+        ≡ finds.departing_at log.now (Some index)) }
 {
-    if place > u32::MAX as usize {
+    if index > u32::MAX as usize {
         return Ok(None);
     }
     let log = Vec::from_slice(alloc, log)?;
-    let entry = place as u32;
+    let entry = index as u32;
     Ok(Some(Claim::Departing { log, entry }))
 }
 
@@ -151,6 +151,6 @@ pub fn departing_claim(
     };
     match departure_in(report.reading()) {
         None => Ok(None),
-        Some(place) => departing_at(alloc, report.exhibit().log(), place),
+        Some(index) => departing_at(alloc, report.exhibit().log(), index),
     }
 }

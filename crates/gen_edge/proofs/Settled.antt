@@ -18,9 +18,6 @@ pub record Drained (v w : Seen) (frames : List Frame) : Type 0 where
   pub gone_put : w.gone_put ≡ v.gone_put
   pub taken : row v.world w.taken w.gone_taken ≡ row v.world v.taken v.gone_taken ++ map carried frames
 
-pub drained_none : (v : Seen) → v.puts ≡ true → v.takes ≡ true → Drained v v []
-drained_none v a b = record { puts = a; takes = b; world = refl; put = refl; gone_put = refl; taken = sym (append-nil (row v.world v.taken v.gone_taken)) }
-
 taken_row : (v : Seen) (x : Frame) (w : Seen) → TakesNext v x w → row v.world w.taken w.gone_taken ≡ row v.world v.taken v.gone_taken ++ carried x ∷ []
 taken_row v (Round number parcels) w t =
     let p = parcels.items in

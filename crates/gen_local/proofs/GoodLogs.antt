@@ -24,7 +24,7 @@ use Rattle.gen_local.specs.declared.reading.Reading.TheVariants.{Unreadable, For
 use Rattle.gen_local.specs.Erased.{erased}
 use Rattle.gen_local.specs.SignedTexts.{stated, texts_behind, text_under, texts_in, head_in, text_verifies}
 use Rattle.gen_local.specs.FoundLog.{FoundLog, IsFound, is_signed, first_unsigned}
-use Rattle.gen_local.specs.Report.{Report, IsReading, IsReport}
+use Rattle.gen_local.specs.Report.{LocalReport, IsReading, IsReport}
 use Rattle.gen_local.specs.ReportLaws.{IsFaultless, FindsNothing, IsGood, FindsNothingInGoodLogs}
 
 -- ---- an entry
@@ -37,8 +37,8 @@ behind_is h order path (s ∷ others) = ap (λ (b : Bool). text_verifies h (stat
 -- the last of a path
 same_last : (y z : ℕ) (path : List ℕ) → slice_get (y ∷ z ∷ path) (length (y ∷ z ∷ path) - 1) ≡ slice_get (z ∷ path) (length (z ∷ path) - 1)
 same_last y z path =
-    let place : length (y ∷ z ∷ path) - 1 ≡ suc (length (z ∷ path) - 1) = omega arith in
-    ap (λ (n : ℕ). slice_get (y ∷ z ∷ path) n) place
+    let same : length (y ∷ z ∷ path) - 1 ≡ suc (length (z ∷ path) - 1) = omega arith in
+    ap (λ (n : ℕ). slice_get (y ∷ z ∷ path) n) same
 
 last_ends : (path : List ℕ) (x : ℕ) → slice_get path (length path - 1) ≡ Some x → EndsWith path x
 last_ends [] x e = absurd cc

@@ -10,26 +10,36 @@ use Rattle.gen_local.specs.declared.opening.Opened.{Opened}
 use Rattle.gen_local.specs.declared.opening.Opening.{Opening}
 use Rattle.gen_local.specs.declared.opening.Opening.TheVariants.{Unreadable, Foreign, Own}
 use Rattle.gen_local.specs.Opened.{AreLinksOf, IsLinkOf, log_in, own_log}
-use Rattle.gen_local.specs.Report.{Report, IsReport, AreReportsOf}
+use Rattle.gen_local.specs.Report.{LocalReport, IsReport, AreReportsOf}
 use Rattle.gen_log.specs.Writing.{LogBytes}
 
 -- one report more
-pub one_report_more : (h : RunHeader) (before : List LogBytes) (reports : List Report) (r : Report) (x : LogBytes) → AreReportsOf h before reports → r.header ≡ h → r.exhibit ≡ x → IsReport r → AreReportsOf h (before ++ x ∷ []) (reports ++ r ∷ [])
+pub one_report_more : (h : RunHeader) (before : List LogBytes) (reports : List LocalReport) (r : LocalReport) (x : LogBytes) → AreReportsOf h before reports → r.header ≡ h → r.exhibit ≡ x → IsReport r → AreReportsOf h (before ++ x ∷ []) (reports ++ r ∷ [])
 one_report_more h before reports r x are header exhibit is = record {
-  exhibits = map_push (λ (s : Report). s.exhibit) reports r ∙ ap (λ (xs : List LogBytes). xs ++ r.exhibit ∷ []) are.exhibits ∙ ap (λ (y : LogBytes). before ++ y ∷ []) exhibit;
-  header = All-push (λ (s : Report). s.header ≡ h) reports r are.header header;
+  exhibits = map_push (λ (s : LocalReport). s.exhibit) reports r ∙ ap (λ (xs : List LogBytes). xs ++ r.exhibit ∷ []) are.exhibits ∙ ap (λ (y : LogBytes). before ++ y ∷ []) exhibit;
+  header = All-push (λ (s : LocalReport). s.header ≡ h) reports r are.header header;
   each = All-push IsReport reports r are.each is;
 }
 
--- the first four, one by one
-pub four_taken : (xs : List LogBytes) → take 1 xs ++ (take 1 (drop 1 xs) ++ (take 1 (drop 1 (drop 1 xs)) ++ take 1 (drop 1 (drop 1 (drop 1 xs))))) ≡ take 4 xs
+-- the first two, one by one, and the first four, two by two
+pub two_taken : (xs : List LogBytes) → take 1 xs ++ take 1 (drop 1 xs) ≡ take 2 xs
+two_taken [] = refl
+two_taken (a ∷ []) = refl
+two_taken (a ∷ b ∷ xs) = refl
+
+pub two_dropped : (xs : List LogBytes) → drop 1 (drop 1 xs) ≡ drop 2 xs
+two_dropped [] = refl
+two_dropped (a ∷ []) = refl
+two_dropped (a ∷ b ∷ xs) = refl
+
+pub four_taken : (xs : List LogBytes) → take 2 xs ++ take 2 (drop 2 xs) ≡ take 4 xs
 four_taken [] = refl
 four_taken (a ∷ []) = refl
 four_taken (a ∷ b ∷ []) = refl
 four_taken (a ∷ b ∷ c ∷ []) = refl
 four_taken (a ∷ b ∷ c ∷ d ∷ xs) = refl
 
-pub four_dropped : (xs : List LogBytes) → drop 1 (drop 1 (drop 1 (drop 1 xs))) ≡ drop 4 xs
+pub four_dropped : (xs : List LogBytes) → drop 2 (drop 2 xs) ≡ drop 4 xs
 four_dropped [] = refl
 four_dropped (a ∷ []) = refl
 four_dropped (a ∷ b ∷ []) = refl
@@ -46,16 +56,17 @@ pub link_found : (h : RunHeader) (o : Option Opened) (link : List ℕ) → IsLan
 link_found h None link is = tt
 link_found h (Some o) link is = link_at h o.exhibit.general o.opening link is
 
-pub links_found : {E : Type 0} (h : RunHeader) (g : Group) (r : Result (List (List ℕ)) E) (a b c d : Option GeneralsLog) → a ≡ log_in g.first → b ≡ log_in g.second → c ≡ log_in g.third → d ≡ log_in g.fourth
+pub links_found : {E : Type 0} (h : RunHeader) (g : Group) (r : Result (List (List ℕ)) E) (a b c d : Option GeneralsLog) → a ≡ log_in g.front.first → b ≡ log_in g.front.second → c ≡ log_in g.back.first → d ≡ log_in g.back.second
     → IfOk r (λ links. IsLaneOf h a (slice_index_or links 0 [])) → IfOk r (λ links. IsLaneOf h b (slice_index_or links 1 [])) → IfOk r (λ links. IsLaneOf h c (slice_index_or links 2 [])) → IfOk r (λ links. IsLaneOf h d (slice_index_or links 3 []))
     → IfOk r (HasLinks h g)
 links_found h g (Ok links) a b c d first second third fourth one two three four = record {
-  first = link_found h g.first (slice_index_or links 0 []) (rw first at one);
-  second = link_found h g.second (slice_index_or links 1 []) (rw second at two);
-  third = link_found h g.third (slice_index_or links 2 []) (rw third at three);
-  fourth = link_found h g.fourth (slice_index_or links 3 []) (rw fourth at four);
+  front = record {
+    first = link_found h g.front.first (slice_index_or links 0 []) (rw first at one);
+    second = link_found h g.front.second (slice_index_or links 1 []) (rw second at two);
+  };
+  back = record {
+    first = link_found h g.back.first (slice_index_or links 2 []) (rw third at three);
+    second = link_found h g.back.second (slice_index_or links 3 []) (rw fourth at four);
+  };
 }
 links_found h g (Err e) a b c d first second third fourth one two three four = tt
-
-pub one_behind_another : (a b c d e : List LogBytes) → (((a ++ b) ++ c) ++ d) ++ e ≡ a ++ (b ++ (c ++ (d ++ e)))
-one_behind_another a b c d e = simp append_assoc

@@ -11,7 +11,7 @@ use Rattle.gen_local.specs.declared.reading.Reading.TheVariants.{Unreadable, For
 use Rattle.gen_local.specs.Erased.{erased}
 use Rattle.gen_local.specs.SignedTexts.{head_in, text_verifies, texts_of}
 use Rattle.gen_local.specs.FoundLog.{FoundLog, IsFound, first_unsigned}
-use Rattle.gen_local.specs.Report.{Report, IsReading, IsReport}
+use Rattle.gen_local.specs.Report.{LocalReport, IsReading, IsReport}
 use Rattle.gen_local.specs.ReportLaws.{OneReport}
 
 -- what names the same numbers is the same

@@ -51,10 +51,10 @@ take_front : {X : Type 0} (front back : List X) → take (length front) (front +
 take_front [] back = refl
 take_front (x ∷ front) back = ap (λ xs. x ∷ xs) (take_front front back)
 
-place_split : {X : Type 0} (xs : List X) (p : ℕ) → p < length xs → (before : List X) × (x : X) × (after : List X) × (xs ≡ before ++ x ∷ after) × (length before ≡ p)
-place_split [] p l = absurd (omega arith)
-place_split (x ∷ xs) zero l = ([], x, xs, refl, refl)
-place_split (x ∷ xs) (suc p) l = let r = place_split xs p (omega arith) in (x ∷ r.0, r.1, r.2, ap (λ ys. x ∷ ys) r.3, ap suc r.4)
+index_split : {X : Type 0} (xs : List X) (p : ℕ) → p < length xs → (before : List X) × (x : X) × (after : List X) × (xs ≡ before ++ x ∷ after) × (length before ≡ p)
+index_split [] p l = absurd (omega arith)
+index_split (x ∷ xs) zero l = ([], x, xs, refl, refl)
+index_split (x ∷ xs) (suc p) l = let r = index_split xs p (omega arith) in (x ∷ r.0, r.1, r.2, ap (λ ys. x ∷ ys) r.3, ap suc r.4)
 
 take_at : {X : Type 0} (xs before after : List X) (x : X) (p : ℕ) → xs ≡ before ++ x ∷ after → length before ≡ p → take p xs ≡ before
 take_at xs before after x p q len = ap (λ ys. take p ys) q ∙ ap (λ n. take n (before ++ x ∷ after)) (sym len) ∙ take_front before (x ∷ after)
@@ -70,7 +70,7 @@ take_behind xs before after x p q len = take_at' (xs) (q ∙ sym (append_assoc b
 pub departs_at_first : DepartsAtFirst
 departs_at_first net g ok known entries p = (
   (λ d.
-      let s = place_split entries p d.0 in
+      let s = index_split entries p d.0 in
       let front = take_at entries s.0 s.2 s.1 p s.3 s.4 in
       let behind = take_behind entries s.0 s.2 s.1 p s.3 s.4 in
       let begun : Begins net g s.0 = subst (Begins net g) front d.1 in
@@ -79,14 +79,14 @@ departs_at_first net g ok known entries p = (
         entry = s.1;
         after = s.2;
         split = s.3;
-        place = s.4;
+        index = s.4;
         begun = begun;
         refused = λ m. d.2 (subst (Begins net g) (sym behind) ((begun_by_one_more net g ok known s.0 s.1).1 (begun, m)));
       }),
   (λ f. (
-    omega (arith, ap length f.split, length-append f.before (f.entry ∷ f.after), f.place),
-    subst (Begins net g) (sym (take_at entries f.before f.after f.entry p f.split f.place)) f.begun,
-    λ b. f.refused ((begun_by_one_more net g ok known f.before f.entry).0 (subst (Begins net g) (take_behind entries f.before f.after f.entry p f.split f.place) b)).1,
+    omega (arith, ap length f.split, length-append f.before (f.entry ∷ f.after), f.index),
+    subst (Begins net g) (sym (take_at entries f.before f.after f.entry p f.split f.index)) f.begun,
+    λ b. f.refused ((begun_by_one_more net g ok known f.before f.entry).0 (subst (Begins net g) (take_behind entries f.before f.after f.entry p f.split f.index) b)).1,
   )),
 )
 

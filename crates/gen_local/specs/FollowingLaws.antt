@@ -26,7 +26,7 @@ pub record FirstRefused (net : Network) (g : ℕ) (entries : List LogEntry) (p :
   pub entry : LogEntry
   pub after : List LogEntry
   pub split : entries ≡ before ++ entry ∷ after
-  pub place : length before ≡ p
+  pub index : length before ≡ p
   pub begun : Begins net g before
   pub refused : MayFollow net g before entry → ⊥
 

@@ -19,18 +19,18 @@ IsReading h general (Ok log) Foreign = SaysItIsOf h general log → ⊥
 IsReading h general (Ok log) (Own found) = (found.log ≡ log) × IsFound h general found
 
 -- the header of the run, the exhibit, and its reading
-pub record Report : Type 0 where
+pub record LocalReport : Type 0 where
   pub header : RunHeader
   pub exhibit : LogBytes
   pub reading : Reading
 
 -- the report is that of the exhibit that it names, under the header that it names
-abbrev pub IsReport : Report → Type 0
+abbrev pub IsReport : LocalReport → Type 0
 IsReport r =
     IsReading r.header r.exhibit.general (log_of r.header r.exhibit.bytes) r.reading
 
 -- each is the report of one of the exhibits, under the header, in their order
-pub record AreReportsOf (h : RunHeader) (shown : List LogBytes) (reports : List Report) : Type 0 where
+pub record AreReportsOf (h : RunHeader) (shown : List LogBytes) (reports : List LocalReport) : Type 0 where
   pub exhibits : map (λ r. r.exhibit) reports ≡ shown
   pub header : All (λ r. r.header ≡ h) reports
   pub each : All IsReport reports

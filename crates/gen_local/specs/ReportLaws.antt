@@ -8,12 +8,12 @@ use Rattle.gen_log.specs.Verifying.{LogVerifies}
 use Rattle.gen_local.specs.declared.reading.Reading.TheVariants.{Own}
 use Rattle.gen_local.specs.Erased.{erased}
 use Rattle.gen_local.specs.FoundLog.{FoundLog}
-use Rattle.gen_local.specs.Report.{Report, IsReport}
+use Rattle.gen_local.specs.Report.{LocalReport, IsReport}
 
 -- an exhibit has one report
 abbrev pub OneReport : Type 0
 OneReport =
-    (r s : Report) → IsReport r → IsReport s → r.header ≡ s.header → r.exhibit ≡ s.exhibit → r ≡ s
+    (r s : LocalReport) → IsReport r → IsReport s → r.header ≡ s.header → r.exhibit ≡ s.exhibit → r ≡ s
 
 -- nothing is found against the log
 pub record IsFaultless (found : FoundLog) : Type 0 where
@@ -22,7 +22,7 @@ pub record IsFaultless (found : FoundLog) : Type 0 where
   pub follows : found.departure ≡ None
 
 -- nothing is found against the exhibit
-abbrev pub FindsNothing : Report → Type 0
+abbrev pub FindsNothing : LocalReport → Type 0
 FindsNothing r = (found : FoundLog) × (r.reading ≡ Own found) × IsFaultless found
 
 -- the bytes are a log that verifies for the general, and it is one that he could keep
@@ -33,7 +33,7 @@ pub record IsGood (h : RunHeader) (general : ℕ) (log : RunLog) : Type 0 where
 -- nothing is found against an exhibit exactly where it is such a log
 abbrev pub FindsNothingInGoodLogs : Type 0
 FindsNothingInGoodLogs =
-    (r : Report) → IsReport r
+    (r : LocalReport) → IsReport r
     → FindsNothing r
     ↔ ((log : RunLog) × (log_of r.header r.exhibit.bytes ≡ Ok log)
     × IsGood r.header r.exhibit.general log)

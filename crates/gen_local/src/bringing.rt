@@ -63,7 +63,7 @@ pub fn bring(net: &Net, general: GeneralNo, orders: &mut [Progress; 16], entry: 
     ensures { AreBrought net.now general orders.old (erase entry.now) orders.new }
 {
     if let Some(order) = order_of(entry) {
-        let place = usize::from(order.get());
-        orders[place] = brought(net, general, orders[place], entry);
+        let index = usize::from(order.get());
+        orders[index] = brought(net, general, orders[index], entry);
     }
 }

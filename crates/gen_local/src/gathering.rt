@@ -159,12 +159,12 @@ fn gather_entry(
 }
 
 /// The first of two numbers, where there is one.
-fn first_of(number: Option<usize>, fails: bool, place: usize) -> Option<usize>
-    ensures { result ≡ option_or number (cond fails (Some place) None) }
+fn first_of(number: Option<usize>, fails: bool, index: usize) -> Option<usize>
+    ensures { result ≡ option_or number (cond fails (Some index) None) }
 {
     match number {
         Some(_) => number,
-        None => { if fails { Some(place) } else { None } }
+        None => { if fails { Some(index) } else { None } }
     }
 }
 
@@ -185,11 +185,11 @@ pub fn gather_entries(
 {
     let mut unsigned = None;
     let mut rest = entries;
-    let mut place = 0usize;
+    let mut index = 0usize;
     while let Some((entry, others)) = rest.split_first() {
         let signed = gather_entry(alloc, header, entry, store, texts)?;
-        unsigned = first_of(unsigned, !signed, place);
-        place += 1;
+        unsigned = first_of(unsigned, !signed, index);
+        index += 1;
         rest = others;
     }
     Ok(unsigned)

@@ -2,7 +2,7 @@
 ghost use Rattle.std.specs.Prelude.{◌≡◌, ◌++◌, List, IfOk, OnOk, take, drop};
 ghost use Rattle.gen_chain.specs.Store.{Serves, KeepsAll};
 ghost use Rattle.gen_local.specs.Opened.{AreOpened, AreLinksOf, exhibits_in};
-ghost use Rattle.gen_local.specs.Grouped.{IsGroup, HasLinks, exhibits_of};
+ghost use Rattle.gen_local.specs.Grouped.{IsGroup, IsPair, HasLinks, PairHasLinks, exhibits_of, exhibits_of_pair};
 ghost use Rattle.gen_local.specs.Report.{AreReportsOf};
 ghost use Rattle.gen_log.specs.Writing.{LogBytes};
 
@@ -14,13 +14,37 @@ use gen_log::last_links;
 use gen_net::Header;
 use std::alloc::{AllocError, Global};
 
+/// Two exhibits that were opened, each of which may be missing.
+#[derive(Drop)]
+struct Pair {
+    first: Option<Opened>,
+    second: Option<Opened>,
+}
+
 /// Four exhibits that were opened, each of which may be missing.
 #[derive(Drop)]
 struct Group {
-    first: Option<Opened>,
-    second: Option<Opened>,
-    third: Option<Opened>,
-    fourth: Option<Opened>,
+    front: Pair,
+    back: Pair,
+}
+
+/// Opens the first two exhibits, or all where they are fewer, and returns those that are left.
+fn open_two<'a>(
+    alloc: Global,
+    header: &Header,
+    exhibits: &'a [Exhibit],
+    store: &mut VerifyStore,
+) -> Result<(Pair, &'a [Exhibit]), AllocError>
+    requires { Serves header.now store.old }
+    ensures shown { IfOk result (λ x. exhibits_of_pair x.0 ≡ take 2 exhibits.now) }
+    ensures rest { IfOk result (λ x. x.1.now ≡ drop 2 exhibits.now) }
+    ensures opened { IfOk result (λ x. IsPair header.now x.0) }
+    ensures grows { KeepsAll store.old store.new }
+    ensures serves { Serves header.now store.new }
+{
+    let (first, rest) = open_first(alloc, header, exhibits, store)?;
+    let (second, rest) = open_first(alloc, header, rest, store)?;
+    Ok((Pair { first, second }, rest))
 }
 
 /// Opens the first four exhibits, or all where they are fewer, and returns those that are left.
@@ -37,17 +61,9 @@ fn open_four<'a>(
     ensures grows { KeepsAll store.old store.new }
     ensures serves { Serves header.now store.new }
 {
-    let (first, rest) = open_first(alloc, header, exhibits, store)?;
-    let (second, rest) = open_first(alloc, header, rest, store)?;
-    let (third, rest) = open_first(alloc, header, rest, store)?;
-    let (fourth, rest) = open_first(alloc, header, rest, store)?;
-    let group = Group {
-        first,
-        second,
-        third,
-        fourth,
-    };
-    Ok((group, rest))
+    let (front, rest) = open_two(alloc, header, exhibits, store)?;
+    let (back, rest) = open_two(alloc, header, rest, store)?;
+    Ok((Group { front, back }, rest))
 }
 
 /// The last links over the logs of opened exhibits, hashed side by side.
@@ -58,10 +74,10 @@ fn links_of(alloc: Global, header: &Header, group: &Group) -> Result<[[u8; 32]; 
     last_links(
         alloc,
         header,
-        &text_of(&group.first),
-        &text_of(&group.second),
-        &text_of(&group.third),
-        &text_of(&group.fourth),
+        &text_of(&group.front.first),
+        &text_of(&group.front.second),
+        &text_of(&group.back.first),
+        &text_of(&group.back.second),
     )
 }
 
@@ -89,6 +105,29 @@ fn put_report(
     Ok(())
 }
 
+/// Puts the reports of two opened exhibits, over whose logs these are the last links, behind the others.
+fn put_pair(
+    alloc: Global,
+    header: &Header,
+    pair: Pair,
+    first_link: &[u8; 32],
+    second_link: &[u8; 32],
+    store: &mut VerifyStore,
+    reports: &mut Vec<LocalReport>,
+) -> Result<(), AllocError>
+    requires opened { IsPair header.now pair }
+    requires links { PairHasLinks header.now pair first_link.now second_link.now }
+    requires serves { Serves header.now store.old }
+    ensures put { (before : List LogBytes) → AreReportsOf header.now before reports.old.items
+        → OnOk result (AreReportsOf header.now (before ++ exhibits_of_pair pair) reports.new.items) }
+    ensures grows { KeepsAll store.old store.new }
+    ensures serves { Serves header.now store.new }
+{
+    let Pair { first, second } = pair;
+    put_report(alloc, header, first, first_link, store, reports)?;
+    put_report(alloc, header, second, second_link, store, reports)
+}
+
 /// Puts the reports of opened exhibits, over whose logs these are the last links, behind the others.
 fn put_group(
     alloc: Global,
@@ -106,16 +145,9 @@ fn put_group(
     ensures grows { KeepsAll store.old store.new }
     ensures serves { Serves header.now store.new }
 {
-    let Group {
-        first,
-        second,
-        third,
-        fourth,
-    } = group;
-    put_report(alloc, header, first, &links[0], store, reports)?;
-    put_report(alloc, header, second, &links[1], store, reports)?;
-    put_report(alloc, header, third, &links[2], store, reports)?;
-    put_report(alloc, header, fourth, &links[3], store, reports)
+    let Group { front, back } = group;
+    put_pair(alloc, header, front, &links[0], &links[1], store, reports)?;
+    put_pair(alloc, header, back, &links[2], &links[3], store, reports)
 }
 
 /// Puts the reports of the first four exhibits behind the others, or of all where they are fewer, and

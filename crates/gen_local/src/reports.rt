@@ -24,9 +24,9 @@ pub struct LocalReport {
 }
 
 impl Model for LocalReport {
-    ghost use Rattle.gen_local.specs.Report.{Report, IsReport};
+    ghost use Rattle.gen_local.specs.Report.{IsReport, LocalReport};
 
-    ghost Value = { Report };
+    ghost Value = { LocalReport };
 
     ghost view = { λ r. record { header = r.header; exhibit = r.exhibit; reading = r.reading } };
 

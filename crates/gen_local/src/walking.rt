@@ -44,11 +44,11 @@ pub fn departs_from(net: &Net, general: GeneralNo, entries: &[Entry]) -> Option<
     let _orders = net.orders();
     let mut least = 0u32;
     let mut orders = [Progress::Unlearnt; 16];
-    for place in 0..entries.len() {
-        let before = &entries[..place];
-        let entry = &entries[place];
+    for index in 0..entries.len() {
+        let before = &entries[..index];
+        let entry = &entries[index];
         if !may_follow(net, general, before, least, &orders, entry) {
-            return Some(place);
+            return Some(index);
         }
         know_small(entry);
         bring(net, general, &mut orders, entry);

@@ -7,7 +7,7 @@ use Rattle.gen_net.specs.Log.{Precedes}
 use Rattle.gen_types.proofs.Lists.{AllPairs-append, Contains_here, Contains_cases, Contains_nil}
 use Rattle.gen_match.specs.declared.finding.Finding.{Finding}
 use Rattle.gen_match.specs.declared.finding.Finding.TheVariants.{Unmatched}
-use Rattle.gen_match.specs.Findings.{finding_place, AreFindings}
+use Rattle.gen_match.specs.Findings.{finding_rank, AreFindings}
 use Rattle.gen_match.specs.EdgeCells.{Table, cell_of, IsCell, finding_cell, TablesDiffer}
 
 -- what the tables differ in, in cells before this one
@@ -51,7 +51,7 @@ cells_ascend a b l v c d m w i j lt =
     )
 
 -- a finding in an earlier cell is an earlier finding
-found_in_order : (counted : List ℕ) (sent received : Table) (f g : Finding) → TablesDiffer counted sent received f → TablesDiffer counted sent received g → finding_cell f < finding_cell g → Precedes (finding_place f) (finding_place g)
+found_in_order : (counted : List ℕ) (sent received : Table) (f g : Finding) → TablesDiffer counted sent received f → TablesDiffer counted sent received g → finding_cell f < finding_cell g → Precedes (finding_rank f) (finding_rank g)
 found_in_order counted sent received (Unmatched a b l v) (Unmatched c d m w) p q lt = cells_ascend a b l v c d m w p.0 q.0 lt
 found_in_order counted sent received (Unmatched a b l v) _ p q lt = absurd q
 found_in_order counted sent received _ g p q lt = absurd p
@@ -74,9 +74,9 @@ none_before counted sent received = record {
 
 pub found_more : (counted : List ℕ) (sent received : Table) (cell : ℕ) (findings : List Finding) (f : Finding) → AreFindings (DifferBefore counted sent received cell) findings → TablesDiffer counted sent received f → finding_cell f ≡ cell → AreFindings (DifferBefore counted sent received (cell + 1)) (findings ++ f ∷ [])
 found_more counted sent received cell findings f before p e = record {
-  in_order = AllPairs-append (λ x y. Precedes (finding_place x) (finding_place y)) findings (f ∷ []) before.in_order (λ i j d l m. absurd (omega (arith, l, m)))
+  in_order = AllPairs-append (λ x y. Precedes (finding_rank x) (finding_rank y)) findings (f ∷ []) before.in_order (λ i j d l m. absurd (omega (arith, l, m)))
       (λ x y hx hy. elim (Contains_cases f y [] hy) [
-        | inl same ↦ let q = (before.members x).0 hx in subst (λ z. Precedes (finding_place x) (finding_place z)) same (found_in_order counted sent received x f q.0 p (subst (λ n. finding_cell x < n) (sym e) q.1))
+        | inl same ↦ let q = (before.members x).0 hx in subst (λ z. Precedes (finding_rank x) (finding_rank z)) same (found_in_order counted sent received x f q.0 p (subst (λ n. finding_cell x < n) (sym e) q.1))
         | inr none ↦ absurd (Contains_nil y none)
       ]);
   members = λ x. (

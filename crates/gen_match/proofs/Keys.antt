@@ -150,14 +150,14 @@ rises xs up i j le l = elim (cases_eq i j) [
   | inr ne ↦ let r : get_or xs i 0 < get_or xs j 0 = up i j 0 (omega (arith, le, ne)) l in omega (arith, r)
 ]
 
--- what a search found of the place where a number would stand
-record IsPlaceOf (xs : List ℕ) (low next : ℕ) : Type 0 where
+-- what a search found of the index at which a number would stand
+record IsIndexOf (xs : List ℕ) (low next : ℕ) : Type 0 where
   pub within : next ≤ length xs
   pub below : (k : ℕ) → k < next → get_or xs k 0 < low
   pub above : (k : ℕ) → next ≤ k → k < length xs → low < get_or xs k 0
 
-place_found : (xs : List ℕ) (low next : ℕ) → AllPairs (λ a b. a < b) xs → IsBinarySearchResult (λ y. nat_cmp y low) xs (Err next) → IsPlaceOf xs low next
-place_found xs low next up found =
+index_found : (xs : List ℕ) (low next : ℕ) → AllPairs (λ a b. a < b) xs → IsBinarySearchResult (λ y. nat_cmp y low) xs (Err next) → IsIndexOf xs low next
+index_found xs low next up found =
     let r = searched xs low (Err next) found (rises xs up) in
     record { within = r.0; below = r.1; above = r.2 }
 
@@ -173,12 +173,12 @@ too_high low high k more = rw (le-ltb k high more) (and_false (nat_le low k))
 
 pub none_behind : (xs : List ℕ) (low high next : ℕ) → AllPairs (λ a b. a < b) xs → IsBinarySearchResult (λ y. nat_cmp y low) xs (Err next) → length xs ≤ next → has_between xs low high ≡ false
 none_behind xs low high next up found past =
-    let r = place_found xs low next up found in
+    let r = index_found xs low next up found in
     list_any_none (λ k. nat_le low k && nat_lt k high) xs (All-from_get_or (λ k. (nat_le low k && nat_lt k high) ≡ false) xs 0 (λ i l. too_low low high (get_or xs i 0) (r.below i (omega (arith, l, past)))))
 
 pub one_behind : (xs : List ℕ) (low high next x : ℕ) → AllPairs (λ a b. a < b) xs → IsBinarySearchResult (λ y. nat_cmp y low) xs (Err next) → next < length xs → x ≡ get_or xs next 0 → nat_lt x high ≡ has_between xs low high
 one_behind xs low high next x up found within is =
-    let r = place_found xs low next up found in
+    let r = index_found xs low next up found in
     elim (bool_cases (nat_lt x high)) [
       | inl less ↦
           let l : low < x = rw is (r.above next (omega arith) within) in

@@ -14,10 +14,10 @@ use Rattle.gen_net.specs.Network.{Network, IsLoyal}
 use Rattle.gen_net.specs.Log.{LogEntry, Started, Signed, Sent, Received, Decided, Precedes}
 use Rattle.gen_match.specs.declared.finding.Finding.{Finding}
 use Rattle.gen_match.specs.declared.finding.Finding.TheVariants.{Missing, Several, Unreadable, Foreign, Unsigned, Unsealed, Departs, Unmatched, Underivable, Unjoined, Nobody}
-use Rattle.gen_match.specs.Findings.{AreFindings, finding_place}
+use Rattle.gen_match.specs.Findings.{AreFindings, finding_rank}
 use Rattle.gen_match.specs.Matching.{Logs, Logged, IsDerivableFromLogs, IsUnderivable, FindsUnderivable}
 use Rattle.gen_match.specs.Prefixes.{number_behind, path_number, source_key, has_between}
-use Rattle.gen_match.specs.Underivables.{is_rest, rest_entries, rest_keys, rest_begin, derives, derives_from, place_number, found_at, found_places, finding_at, IsSmall, AreSmall}
+use Rattle.gen_match.specs.Underivables.{is_rest, rest_entries, rest_keys, rest_begin, derives, derives_from, rank_number, found_at, found_ranks, finding_at, IsSmall, AreSmall}
 use Rattle.gen_match.proofs.Keys.{one_path, key_inside, between_in, between_out}
 use Rattle.gen_match.proofs.Rest.{same_test, loyal_from, rest_from, logged_in, logged_out, key_in, key_out}
 use Rattle.gen_match.proofs.Sourcing.{derivable_at_last}
@@ -131,23 +131,23 @@ derived_out keys net faulty logs v path are small small_v short digits d = elim 
       })
 ]
 
--- ---- places of what doesn't
+-- ---- ranks of what doesn't
 
 false_and : (b c : Bool) → c ≡ true → (b && not c) ≡ false
 false_and true c e = ap not e
 false_and false c e = refl
 
-pub no_place : (keys : List ℕ) (net : Network) (faulty : List ℕ) (to from v : ℕ) (path xs : List ℕ) (e : LogEntry) → e ≡ Received from v path → (is_among faulty from && not (derives keys net faulty v path)) ≡ false → xs ≡ xs ++ found_at keys net faulty to e
-no_place keys net faulty to from v path xs e is f =
-    sym (append-nil xs) ∙ ap (λ b. xs ++ cond b (place_number from to (length path) v ∷ []) []) (sym f) ∙ ap (λ x. xs ++ found_at keys net faulty to x) (sym is)
+pub no_rank : (keys : List ℕ) (net : Network) (faulty : List ℕ) (to from v : ℕ) (path xs : List ℕ) (e : LogEntry) → e ≡ Received from v path → (is_among faulty from && not (derives keys net faulty v path)) ≡ false → xs ≡ xs ++ found_at keys net faulty to e
+no_rank keys net faulty to from v path xs e is f =
+    sym (append-nil xs) ∙ ap (λ b. xs ++ cond b (rank_number from to (length path) v ∷ []) []) (sym f) ∙ ap (λ x. xs ++ found_at keys net faulty to x) (sym is)
 
-pub derived_no_place : (keys : List ℕ) (net : Network) (faulty : List ℕ) (to from v : ℕ) (path xs : List ℕ) (e : LogEntry) (d : Bool) → e ≡ Received from v path → d ≡ derives keys net faulty v path → d ≡ true → xs ≡ xs ++ found_at keys net faulty to e
-derived_no_place keys net faulty to from v path xs e d is told f =
-    no_place keys net faulty to from v path xs e is (false_and (is_among faulty from) (derives keys net faulty v path) (sym told ∙ f))
+pub derived_no_rank : (keys : List ℕ) (net : Network) (faulty : List ℕ) (to from v : ℕ) (path xs : List ℕ) (e : LogEntry) (d : Bool) → e ≡ Received from v path → d ≡ derives keys net faulty v path → d ≡ true → xs ≡ xs ++ found_at keys net faulty to e
+derived_no_rank keys net faulty to from v path xs e d is told f =
+    no_rank keys net faulty to from v path xs e is (false_and (is_among faulty from) (derives keys net faulty v path) (sym told ∙ f))
 
-pub loyal_no_place : (keys : List ℕ) (net : Network) (faulty : List ℕ) (to from v : ℕ) (path xs : List ℕ) (e : LogEntry) (b : Bool) → e ≡ Received from v path → (IsTrue b ↔ Contains faulty from) → b ≡ false → xs ≡ xs ++ found_at keys net faulty to e
-loyal_no_place keys net faulty to from v path xs e b is told f =
-    no_place keys net faulty to from v path xs e is (ap (λ t. t && not (derives keys net faulty v path)) (sym (same_test b faulty from told) ∙ f))
+pub loyal_no_rank : (keys : List ℕ) (net : Network) (faulty : List ℕ) (to from v : ℕ) (path xs : List ℕ) (e : LogEntry) (b : Bool) → e ≡ Received from v path → (IsTrue b ↔ Contains faulty from) → b ≡ false → xs ≡ xs ++ found_at keys net faulty to e
+loyal_no_rank keys net faulty to from v path xs e b is told f =
+    no_rank keys net faulty to from v path xs e is (ap (λ t. t && not (derives keys net faulty v path)) (sym (same_test b faulty from told) ∙ f))
 
 record IsFoundAt (keys : List ℕ) (net : Network) (faulty : List ℕ) (to : ℕ) (e : LogEntry) (k : ℕ) : Type 0 where
   pub from : ℕ
@@ -156,7 +156,7 @@ record IsFoundAt (keys : List ℕ) (net : Network) (faulty : List ℕ) (to : ℕ
   pub is : e ≡ Received from v path
   pub bad : Contains faulty from
   pub stray : derives keys net faulty v path ≡ false
-  pub place : k ≡ place_number from to (length path) v
+  pub rank : k ≡ rank_number from to (length path) v
 
 and_not : (b c : Bool) → (b && not c) ≡ true → (b ≡ true) × (c ≡ false)
 and_not true true e = absurd cc
@@ -170,13 +170,13 @@ found_out keys net faulty to (Sent whom v path) k h = absurd (Contains_nil k h)
 found_out keys net faulty to (Received from v path) k h = elim (bool_cases (is_among faulty from && not (derives keys net faulty v path))) [
   | inl t ↦
       let r = and_not (is_among faulty from) (derives keys net faulty v path) t in
-      let here : Contains (place_number from to (length path) v ∷ []) k = subst (λ b. Contains (cond b (place_number from to (length path) v ∷ []) []) k) t h in
-      record { from = from; v = v; path = path; is = refl; bad = among_in faulty from r.0; stray = r.1; place = sym (only (place_number from to (length path) v) k here) }
-  | inr f ↦ absurd (Contains_nil k (subst (λ b. Contains (cond b (place_number from to (length path) v ∷ []) []) k) f h))
+      let here : Contains (rank_number from to (length path) v ∷ []) k = subst (λ b. Contains (cond b (rank_number from to (length path) v ∷ []) []) k) t h in
+      record { from = from; v = v; path = path; is = refl; bad = among_in faulty from r.0; stray = r.1; rank = sym (only (rank_number from to (length path) v) k here) }
+  | inr f ↦ absurd (Contains_nil k (subst (λ b. Contains (cond b (rank_number from to (length path) v ∷ []) []) k) f h))
 ]
 found_out keys net faulty to (Decided vs v) k h = absurd (Contains_nil k h)
 
-record IsFoundPlace (keys : List ℕ) (net : Network) (faulty : List ℕ) (logs : Logs) (k : ℕ) : Type 0 where
+record IsFoundRank (keys : List ℕ) (net : Network) (faulty : List ℕ) (logs : Logs) (k : ℕ) : Type 0 where
   pub from : ℕ
   pub to : ℕ
   pub v : ℕ
@@ -185,11 +185,11 @@ record IsFoundPlace (keys : List ℕ) (net : Network) (faulty : List ℕ) (logs 
   pub to_rest : IsLoyal net faulty to
   pub received : Logged logs to (Received from v path)
   pub stray : derives keys net faulty v path ≡ false
-  pub place : k ≡ place_number from to (length path) v
+  pub rank : k ≡ rank_number from to (length path) v
   pub small : IsSmall (Received from v path)
 
-place_out : (keys : List ℕ) (net : Network) (faulty : List ℕ) (logs : Logs) (k : ℕ) → AreSmall net faulty logs net.generals → Contains (found_places keys net faulty logs) k → IsFoundPlace keys net faulty logs k
-place_out keys net faulty logs k small h =
+rank_out : (keys : List ℕ) (net : Network) (faulty : List ℕ) (logs : Logs) (k : ℕ) → AreSmall net faulty logs net.generals → Contains (found_ranks keys net faulty logs) k → IsFoundRank keys net faulty logs k
+rank_out keys net faulty logs k small h =
     let r = Contains_flat_mapped (λ g. flat_map (found_at keys net faulty g) (rest_entries net faulty logs g)) (range_with_len 0 net.generals) k h in
     let s = Contains_flat_mapped (found_at keys net faulty r.0) (rest_entries net faulty logs r.0) k r.2 in
     let t = found_out keys net faulty r.0 s.0 k s.2 in
@@ -204,22 +204,22 @@ place_out keys net faulty logs k small h =
       to_rest = u.0;
       received = u.1;
       stray = t.stray;
-      place = t.place;
+      rank = t.rank;
       small = small r.0 (Received t.from t.v t.path) u.0.0 here;
     }
 
-place_in : (keys : List ℕ) (net : Network) (faulty : List ℕ) (logs : Logs) (from to v : ℕ) (path : List ℕ) → Contains faulty from → IsLoyal net faulty to → Logged logs to (Received from v path) → derives keys net faulty v path ≡ false
-    → Contains (found_places keys net faulty logs) (place_number from to (length path) v)
-place_in keys net faulty logs from to v path bad loyal received stray =
+rank_in : (keys : List ℕ) (net : Network) (faulty : List ℕ) (logs : Logs) (from to v : ℕ) (path : List ℕ) → Contains faulty from → IsLoyal net faulty to → Logged logs to (Received from v path) → derives keys net faulty v path ≡ false
+    → Contains (found_ranks keys net faulty logs) (rank_number from to (length path) v)
+rank_in keys net faulty logs from to v path bad loyal received stray =
     let t : (is_among faulty from && not (derives keys net faulty v path)) ≡ true = rw (in_among faulty from bad, stray) refl in
-    let here : Contains (found_at keys net faulty to (Received from v path)) (place_number from to (length path) v) = subst (λ b. Contains (cond b (place_number from to (length path) v ∷ []) []) (place_number from to (length path) v)) (sym t) (Contains_here (place_number from to (length path) v) []) in
-    in_flat_map (λ g. flat_map (found_at keys net faulty g) (rest_entries net faulty logs g)) (range_with_len 0 net.generals) to (place_number from to (length path) v)
+    let here : Contains (found_at keys net faulty to (Received from v path)) (rank_number from to (length path) v) = subst (λ b. Contains (cond b (rank_number from to (length path) v ∷ []) []) (rank_number from to (length path) v)) (sym t) (Contains_here (rank_number from to (length path) v) []) in
+    in_flat_map (λ g. flat_map (found_at keys net faulty g) (rest_entries net faulty logs g)) (range_with_len 0 net.generals) to (rank_number from to (length path) v)
     (Contains_in_range 0 net.generals to (omega arith) (omega (arith, loyal.0)))
-    (in_flat_map (found_at keys net faulty to) (rest_entries net faulty logs to) (Received from v path) (place_number from to (length path) v) (logged_in net faulty logs to (Received from v path) loyal received) here)
+    (in_flat_map (found_at keys net faulty to) (rest_entries net faulty logs to) (Received from v path) (rank_number from to (length path) v) (logged_in net faulty logs to (Received from v path) loyal received) here)
 
--- ---- a place and its number
+-- ---- a rank and its number
 
-pub record IsPlace (from to round order : ℕ) : Type 0 where
+pub record IsRank (from to round order : ℕ) : Type 0 where
   pub from_small : from < 16
   pub to_small : to < 16
   pub round_small : round < 32
@@ -228,20 +228,20 @@ pub record IsPlace (from to round order : ℕ) : Type 0 where
 same_finding : (a a' b b' l l' v v' : ℕ) → a ≡ a' → b ≡ b' → l ≡ l' → v ≡ v' → Underivable a b l v ≡ Underivable a' b' l' v'
 same_finding a a' b b' l l' v v' p q r s = rw (p, q, r, s) refl
 
-finding_back : (a b l v : ℕ) → IsPlace a b l v → finding_at (place_number a b l v) ≡ Underivable a b l v
+finding_back : (a b l v : ℕ) → IsRank a b l v → finding_at (rank_number a b l v) ≡ Underivable a b l v
 finding_back a b l v p =
     let small_a : a < 16 = p.from_small in
     let small_b : b < 16 = p.to_small in
     let small_l : l < 32 = p.round_small in
     let small_v : v < 16 = p.order_small in
-    let a1 : place_number a b l v / 8192 ≡ a = omega (arith, small_a, small_b, small_l, small_v) in
+    let a1 : rank_number a b l v / 8192 ≡ a = omega (arith, small_a, small_b, small_l, small_v) in
     let a2 : a % 16 ≡ a = omega (arith, small_a) in
-    let b1 : place_number a b l v / 512 ≡ a * 16 + b = omega (arith, small_a, small_b, small_l, small_v) in
+    let b1 : rank_number a b l v / 512 ≡ a * 16 + b = omega (arith, small_a, small_b, small_l, small_v) in
     let b2 : (a * 16 + b) % 16 ≡ b = omega (arith, small_b) in
-    let l1 : place_number a b l v / 16 ≡ (a * 16 + b) * 32 + l = omega (arith, small_l, small_v) in
+    let l1 : rank_number a b l v / 16 ≡ (a * 16 + b) * 32 + l = omega (arith, small_l, small_v) in
     let l2 : ((a * 16 + b) * 32 + l) % 32 ≡ l = omega (arith, small_l) in
-    let v1 : place_number a b l v % 16 ≡ v = omega (arith, small_v) in
-    same_finding (place_number a b l v / 8192 % 16) a (place_number a b l v / 512 % 16) b (place_number a b l v / 16 % 32) l (place_number a b l v % 16) v
+    let v1 : rank_number a b l v % 16 ≡ v = omega (arith, small_v) in
+    same_finding (rank_number a b l v / 8192 % 16) a (rank_number a b l v / 512 % 16) b (rank_number a b l v / 16 % 32) l (rank_number a b l v % 16) v
     (ap (λ x. x % 16) a1 ∙ a2) (ap (λ x. x % 16) b1 ∙ b2) (ap (λ x. x % 32) l1 ∙ l2) v1
 
 digit16 : (x v y w : ℕ) → x * 16 + v < y * 16 + w → v < 16 → w < 16 → (x < y) ⊎ ((x ≡ y) × (v < w))
@@ -256,8 +256,8 @@ digit32 x v y w h a b = elim (bool_cases (ltb x y)) [
   | inr more ↦ let m : y ≤ x = ltb-false x y more in inr (omega (arith, m, h, b), omega (arith, m, h))
 ]
 
-places_rise : (a b l v a' b' l' v' : ℕ) → IsPlace a b l v → IsPlace a' b' l' v' → place_number a b l v < place_number a' b' l' v' → Precedes (9 ∷ a ∷ b ∷ l ∷ v ∷ []) (9 ∷ a' ∷ b' ∷ l' ∷ v' ∷ [])
-places_rise a b l v a' b' l' v' p q h = inr (
+ranks_rise : (a b l v a' b' l' v' : ℕ) → IsRank a b l v → IsRank a' b' l' v' → rank_number a b l v < rank_number a' b' l' v' → Precedes (9 ∷ a ∷ b ∷ l ∷ v ∷ []) (9 ∷ a' ∷ b' ∷ l' ∷ v' ∷ [])
+ranks_rise a b l v a' b' l' v' p q h = inr (
   refl,
   elim (digit16 ((a * 16 + b) * 32 + l) v ((a' * 16 + b') * 32 + l') v' h p.order_small q.order_small) [
     | inl less ↦ elim (digit32 (a * 16 + b) l (a' * 16 + b') l' less p.round_small q.round_small) [
@@ -278,8 +278,8 @@ places_rise a b l v a' b' l' v' p q h = inr (
 
 -- ---- the findings
 
-place_of : (keys : List ℕ) (net : Network) (faulty : List ℕ) (logs : Logs) (k : ℕ) → net.generals ≤ 16 → (f : IsFoundPlace keys net faulty logs k) → IsPlace f.from f.to (length f.path) f.v
-place_of keys net faulty logs k few f =
+rank_of : (keys : List ℕ) (net : Network) (faulty : List ℕ) (logs : Logs) (k : ℕ) → net.generals ≤ 16 → (f : IsFoundRank keys net faulty logs k) → IsRank f.from f.to (length f.path) f.v
+rank_of keys net faulty logs k few f =
     let small : (f.from < 16) × (f.v < 16) × (length f.path ≤ 16) × All (λ g. g < 16) f.path = f.small in
     record { from_small = small.0; to_small = omega (arith, f.to_rest.0, few); round_small = omega (arith, small.2); order_small = small.1 }
 
@@ -297,10 +297,10 @@ pairs_mapped f P R up (x ∷ xs) are rise =
     (λ y h. let r = Contains_mapped f xs y h in subst (R (f x)) r.2 (up x r.0 (are x (Contains_here x xs)) (are r.0 (Contains_there x r.0 xs r.1)) (AllPairs-head (λ a b. a < b) x xs r.0 rise r.1)))
     (pairs_mapped f P R up xs (λ y h. are y (Contains_there x y xs h)) (AllPairs-tail (λ a b. a < b) x xs rise))
 
--- the finding at a place is one
-finds : (keys : List ℕ) (net : Network) (faulty : List ℕ) (logs : Logs) (k : ℕ) → IsListOf keys (Contains (rest_keys net faulty logs)) → net.generals ≤ 16 → IsFoundPlace keys net faulty logs k → FindsUnderivable net faulty logs (finding_at k)
+-- the finding of a rank is one
+finds : (keys : List ℕ) (net : Network) (faulty : List ℕ) (logs : Logs) (k : ℕ) → IsListOf keys (Contains (rest_keys net faulty logs)) → net.generals ≤ 16 → IsFoundRank keys net faulty logs k → FindsUnderivable net faulty logs (finding_at k)
 finds keys net faulty logs k are few f =
-    let is : finding_at k ≡ Underivable f.from f.to (length f.path) f.v = ap finding_at f.place ∙ finding_back f.from f.to (length f.path) f.v (place_of keys net faulty logs k few f) in
+    let is : finding_at k ≡ Underivable f.from f.to (length f.path) f.v = ap finding_at f.rank ∙ finding_back f.from f.to (length f.path) f.v (rank_of keys net faulty logs k few f) in
     let it : IsUnderivable net faulty logs f.from f.to (length f.path) f.v = record {
       from_faulty = f.from_faulty;
       to_rest = f.to_rest;
@@ -332,9 +332,9 @@ which net faulty logs (Underivable from to round order) h = record { from = from
 which net faulty logs (Unjoined first second) h = absurd h
 which net faulty logs Nobody h = absurd h
 
-found : (keys places : List ℕ) (net : Network) (faulty : List ℕ) (logs : Logs) (f : Finding) → IsListOf keys (Contains (rest_keys net faulty logs)) → AreSmall net faulty logs net.generals → net.generals ≤ 16 → IsListOf places (Contains (found_places keys net faulty logs))
-    → FindsUnderivable net faulty logs f → Contains (map finding_at places) f
-found keys places net faulty logs f are small few placed h =
+found : (keys ranks : List ℕ) (net : Network) (faulty : List ℕ) (logs : Logs) (f : Finding) → IsListOf keys (Contains (rest_keys net faulty logs)) → AreSmall net faulty logs net.generals → net.generals ≤ 16 → IsListOf ranks (Contains (found_ranks keys net faulty logs))
+    → FindsUnderivable net faulty logs f → Contains (map finding_at ranks) f
+found keys ranks net faulty logs f are small few ranked h =
     let w = which net faulty logs f h in
     let u = w.it in
     let here = logged_in net faulty logs w.to (Received w.from w.order u.path) u.to_rest u.received in
@@ -343,27 +343,27 @@ found keys places net faulty logs f are small few placed h =
       | inl t ↦ absurd (u.forged (derived_out keys net faulty logs w.order u.path are small ranges.1 ranges.2 ranges.3 t))
       | inr f ↦ f
     ] in
-    let at : Contains places (place_number w.from w.to (length u.path) w.order) = (placed.members (place_number w.from w.to (length u.path) w.order)).1 (place_in keys net faulty logs w.from w.to w.order u.path u.from_faulty u.to_rest u.received stray) in
-    let back : finding_at (place_number w.from w.to (length u.path) w.order) ≡ f =
+    let at : Contains ranks (rank_number w.from w.to (length u.path) w.order) = (ranked.members (rank_number w.from w.to (length u.path) w.order)).1 (rank_in keys net faulty logs w.from w.to w.order u.path u.from_faulty u.to_rest u.received stray) in
+    let back : finding_at (rank_number w.from w.to (length u.path) w.order) ≡ f =
     finding_back w.from w.to (length u.path) w.order (record { from_small = ranges.0; to_small = omega (arith, u.to_rest.0, few); round_small = omega (arith, ranges.2); order_small = ranges.1 })
     ∙ ap (λ l. Underivable w.from w.to l w.order) u.round ∙ sym w.is in
-    subst (λ g. Contains (map finding_at places) g) back (in_mapped finding_at places (place_number w.from w.to (length u.path) w.order) at)
+    subst (λ g. Contains (map finding_at ranks) g) back (in_mapped finding_at ranks (rank_number w.from w.to (length u.path) w.order) at)
 
-pub strays_found : (keys places : List ℕ) (net : Network) (faulty : List ℕ) (logs : Logs) → IsListOf keys (Contains (rest_keys net faulty logs)) → AreSmall net faulty logs net.generals → net.generals ≤ 16 → IsListOf places (Contains (found_places keys net faulty logs))
-    → AreFindings (FindsUnderivable net faulty logs) (map finding_at places)
-strays_found keys places net faulty logs are small few placed = record {
-  in_order = pairs_mapped finding_at (IsFoundPlace keys net faulty logs) (λ x y. Precedes (finding_place x) (finding_place y))
+pub strays_found : (keys ranks : List ℕ) (net : Network) (faulty : List ℕ) (logs : Logs) → IsListOf keys (Contains (rest_keys net faulty logs)) → AreSmall net faulty logs net.generals → net.generals ≤ 16 → IsListOf ranks (Contains (found_ranks keys net faulty logs))
+    → AreFindings (FindsUnderivable net faulty logs) (map finding_at ranks)
+strays_found keys ranks net faulty logs are small few ranked = record {
+  in_order = pairs_mapped finding_at (IsFoundRank keys net faulty logs) (λ x y. Precedes (finding_rank x) (finding_rank y))
       (λ a b f g less.
-      let p = place_of keys net faulty logs a few f in
-      let q = place_of keys net faulty logs b few g in
-      let is_f : Underivable f.from f.to (length f.path) f.v ≡ finding_at a = sym (ap finding_at f.place ∙ finding_back f.from f.to (length f.path) f.v p) in
-      let is_g : Underivable g.from g.to (length g.path) g.v ≡ finding_at b = sym (ap finding_at g.place ∙ finding_back g.from g.to (length g.path) g.v q) in
-      let rise = places_rise f.from f.to (length f.path) f.v g.from g.to (length g.path) g.v p q (subst (λ k. place_number f.from f.to (length f.path) f.v < k) g.place (subst (λ k. k < b) f.place less)) in
-      subst (λ x. Precedes (finding_place x) (finding_place (finding_at b))) is_f (subst (λ y. Precedes (finding_place (Underivable f.from f.to (length f.path) f.v)) (finding_place y)) is_g rise))
-      places (λ x h. place_out keys net faulty logs x small ((placed.members x).0 h)) placed.ascending;
+      let p = rank_of keys net faulty logs a few f in
+      let q = rank_of keys net faulty logs b few g in
+      let is_f : Underivable f.from f.to (length f.path) f.v ≡ finding_at a = sym (ap finding_at f.rank ∙ finding_back f.from f.to (length f.path) f.v p) in
+      let is_g : Underivable g.from g.to (length g.path) g.v ≡ finding_at b = sym (ap finding_at g.rank ∙ finding_back g.from g.to (length g.path) g.v q) in
+      let rise = ranks_rise f.from f.to (length f.path) f.v g.from g.to (length g.path) g.v p q (subst (λ k. rank_number f.from f.to (length f.path) f.v < k) g.rank (subst (λ k. k < b) f.rank less)) in
+      subst (λ x. Precedes (finding_rank x) (finding_rank (finding_at b))) is_f (subst (λ y. Precedes (finding_rank (Underivable f.from f.to (length f.path) f.v)) (finding_rank y)) is_g rise))
+      ranks (λ x h. rank_out keys net faulty logs x small ((ranked.members x).0 h)) ranked.ascending;
   members = λ f. (
-    (λ h. let r = Contains_mapped finding_at places f h in subst (FindsUnderivable net faulty logs) r.2 (finds keys net faulty logs r.0 are few (place_out keys net faulty logs r.0 small ((placed.members r.0).0 r.1)))),
-    (λ h. found keys places net faulty logs f are small few placed h),
+    (λ h. let r = Contains_mapped finding_at ranks f h in subst (FindsUnderivable net faulty logs) r.2 (finds keys net faulty logs r.0 are few (rank_out keys net faulty logs r.0 small ((ranked.members r.0).0 r.1)))),
+    (λ h. found keys ranks net faulty logs f are small few ranked h),
   );
 }
 

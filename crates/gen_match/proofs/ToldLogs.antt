@@ -16,7 +16,7 @@ use Rattle.gen_log.specs.LogReading.{log_of}
 use Rattle.gen_local.specs.declared.reading.Reading.{Reading}
 use Rattle.gen_local.specs.declared.reading.Reading.TheVariants.{Unreadable, Foreign, Own}
 use Rattle.gen_local.specs.Erased.{erased}
-use Rattle.gen_local.specs.Report.{Report, IsReading, IsReport}
+use Rattle.gen_local.specs.Report.{LocalReport, IsReading, IsReport}
 use Rattle.gen_match.specs.Reports.{AreUnder, told_logs, sole_told, entries_told, reports_of}
 use Rattle.gen_match.proofs.ToldTables.{IsBounded, IsToldLog, AreToldLogs}
 
@@ -52,12 +52,12 @@ entries_are h general (Ok log) (Unreadable fault) entries is e = absurd is
 entries_are h general (Ok log) Foreign entries is e = absurd (cc)
 entries_are h general (Ok log) (Own found) entries is e = (found.log, is.1.log_of_run, cc)
 
-sole : (reports : List Report) (entries : List LogEntry) → sole_told reports ≡ Some entries → (r : Report) × Contains reports r × (entries_told r.reading ≡ Some entries)
+sole : (reports : List LocalReport) (entries : List LogEntry) → sole_told reports ≡ Some entries → (r : LocalReport) × Contains reports r × (entries_told r.reading ≡ Some entries)
 sole [] entries e = absurd (cc)
 sole (r ∷ []) entries e = (r, Contains_here r [], e)
 sole (r ∷ s ∷ more) entries e = absurd (cc)
 
-pub are_told : (h : RunHeader) (reports : List Report) → IsNetwork h.network → AreUnder h reports → ((r : Report) → Contains reports r → IsReport r) → AreToldLogs h.network (told_logs reports)
+pub are_told : (h : RunHeader) (reports : List LocalReport) → IsNetwork h.network → AreUnder h reports → ((r : LocalReport) → Contains reports r → IsReport r) → AreToldLogs h.network (told_logs reports)
 are_told h reports ok under are g log e =
     let s = sole (reports_of reports g) log e in
     let inside = Contains_filtered (λ r. r.exhibit.general == g) reports s.0 s.1 in

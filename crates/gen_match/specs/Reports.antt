@@ -5,7 +5,7 @@ use Rattle.gen_net.specs.Log.{LogEntry}
 use Rattle.gen_local.specs.declared.reading.Reading.{Reading}
 use Rattle.gen_local.specs.declared.reading.Reading.TheVariants.{Unreadable, Foreign, Own}
 use Rattle.gen_local.specs.Erased.{erased}
-use Rattle.gen_local.specs.Report.{Report}
+use Rattle.gen_local.specs.Report.{LocalReport}
 use Rattle.gen_match.specs.Matching.{Logs}
 
 -- the entries of an exhibit that is a log of its general and this run
@@ -15,18 +15,18 @@ entries_told Foreign = None
 entries_told (Own found) = Some (erased found.log.entries)
 
 -- those of a general's one report
-abbrev pub sole_told : List Report → Option (List LogEntry)
+abbrev pub sole_told : List LocalReport → Option (List LogEntry)
 sole_told (r ∷ []) = entries_told r.reading
 sole_told _ = None
 
 -- the reports that name a general
-abbrev pub reports_of : List Report → ℕ → List Report
+abbrev pub reports_of : List LocalReport → ℕ → List LocalReport
 reports_of reports g = filter (λ r. r.exhibit.general == g) reports
 
 -- the logs that reports tell
-abbrev pub told_logs : List Report → Logs
+abbrev pub told_logs : List LocalReport → Logs
 told_logs reports g = sole_told (reports_of reports g)
 
 -- each report is made under this header
-abbrev pub AreUnder : RunHeader → List Report → Type 0
-AreUnder header reports = (r : Report) → Contains reports r → r.header ≡ header
+abbrev pub AreUnder : RunHeader → List LocalReport → Type 0
+AreUnder header reports = (r : LocalReport) → Contains reports r → r.header ≡ header

@@ -46,24 +46,24 @@ abbrev pub derives : List ℕ → Network → List ℕ → ℕ → List ℕ → 
 derives keys net faulty order path =
     derives_from keys order (length path) (rest_begin net faulty 1 None path)
 
--- the number of a finding's place
-abbrev pub place_number : ℕ → ℕ → ℕ → ℕ → ℕ
-place_number from to round order = ((from * 16 + to) * 32 + round) * 16 + order
+-- the number of a finding's rank
+abbrev pub rank_number : ℕ → ℕ → ℕ → ℕ → ℕ
+rank_number from to round order = ((from * 16 + to) * 32 + round) * 16 + order
 
--- the place of an entry of a general that doesn't derive
+-- the rank of an entry of a general that doesn't derive
 abbrev pub found_at : List ℕ → Network → List ℕ → ℕ → LogEntry → List ℕ
 found_at keys net faulty to (Received from v path) =
     cond (is_among faulty from && not (derives keys net faulty v path))
-    (place_number from to (length path) v ∷ []) []
+    (rank_number from to (length path) v ∷ []) []
 found_at keys net faulty to _ = []
 
--- the places of all that don't
-abbrev pub found_places : List ℕ → Network → List ℕ → Logs → List ℕ
-found_places keys net faulty logs =
+-- the ranks of all that don't
+abbrev pub found_ranks : List ℕ → Network → List ℕ → Logs → List ℕ
+found_ranks keys net faulty logs =
     flat_map (λ g. flat_map (found_at keys net faulty g) (rest_entries net faulty logs g))
     (range_with_len 0 net.generals)
 
--- the finding at a place
+-- the finding of a rank
 abbrev pub finding_at : ℕ → Finding
 finding_at k = Underivable (k / 8192 % 16) (k / 512 % 16) (k / 16 % 32) (k % 16)
 

@@ -67,24 +67,24 @@ fn derives(
     }
 }
 
-/// The number of a finding's place.
-fn place_number(from: GeneralNo, to: GeneralNo, round: usize, order: OrderNo) -> u128
+/// The number of a finding's rank.
+fn rank_number(from: GeneralNo, to: GeneralNo, round: usize, order: OrderNo) -> u128
     requires { round ≤ 16 }
-    ensures { result ≡ finding.place_number from to round order }
+    ensures { result ≡ finding.rank_number from to round order }
 {
     let generals = u128::from(from.get()) * 16 + u128::from(to.get());
     (generals * 32 + round as u128) * 16 + u128::from(order.get())
 }
 
-/// The finding at a place.
-fn finding_at(place: u128) -> Finding
-    ensures { result ≡ finding.finding_at place }
+/// The finding of a rank.
+fn finding_at(rank: u128) -> Finding
+    ensures { result ≡ finding.finding_at rank }
 {
     Finding::Underivable {
-        from: GeneralNo::at((place / 8192 % 16) as u8),
-        to: GeneralNo::at((place / 512 % 16) as u8),
-        round: (place / 16 % 32) as u8,
-        order: OrderNo::at((place % 16) as u8),
+        from: GeneralNo::at((rank / 8192 % 16) as u8),
+        to: GeneralNo::at((rank / 512 % 16) as u8),
+        round: (rank / 16 % 32) as u8,
+        order: OrderNo::at((rank % 16) as u8),
     }
 }
 
@@ -106,17 +106,17 @@ fn learn_ranges(entry: &Entry)
     }
 }
 
-/// Puts the place of a general's entry behind others, where it is a chain from somebody faulty that doesn't derive.
+/// Puts the rank of a general's entry behind others, where it is a chain from somebody faulty that doesn't derive.
 fn find_entry(
     sources: &[u128],
     header: &Header,
     faulty: &GeneralSet,
     to: GeneralNo,
     entry: &Entry,
-    places: &mut Vec<u128>,
+    ranks: &mut Vec<u128>,
 ) -> Result<(), AllocError>
     requires { AllPairs (λ a b. a < b) sources.now }
-    ensures { OnOk result (places.new.items ≡ places.old.items
+    ensures { OnOk result (ranks.new.items ≡ ranks.old.items
         ++ finding.found_at sources.now header.now.network faulty.now to (erase entry.now)) }
 {
     match entry {
@@ -124,7 +124,7 @@ fn find_entry(
             let path = chain.path();
             let order = chain.order();
             if faulty.contains(*from) && !derives(sources, header, faulty, order, &path) {
-                places.push(place_number(*from, to, path.len(), order))?;
+                ranks.push(rank_number(*from, to, path.len(), order))?;
             }
             Ok(())
         }
@@ -132,7 +132,7 @@ fn find_entry(
     }
 }
 
-/// Puts the places of a general's entries behind others, where they are chains from somebody faulty that don't
+/// Puts the ranks of a general's entries behind others, where they are chains from somebody faulty that don't
 /// derive.
 fn find_entries(
     sources: &[u128],
@@ -140,24 +140,24 @@ fn find_entries(
     faulty: &GeneralSet,
     to: GeneralNo,
     entries: &[Entry],
-    places: &mut Vec<u128>,
+    ranks: &mut Vec<u128>,
 ) -> Result<(), AllocError>
     requires { AllPairs (λ a b. a < b) sources.now }
-    ensures places { OnOk result (places.new.items ≡ places.old.items
+    ensures ranks { OnOk result (ranks.new.items ≡ ranks.old.items
         ++ flat_map (finding.found_at sources.now header.now.network faulty.now to) (erased entries.now)) }
     ensures small { OnOk result (AllByRecursion finding.IsSmall (erased entries.now)) }
 {
     let mut rest = entries;
     while let Some((entry, others)) = rest.split_first() {
         learn_ranges(entry);
-        find_entry(sources, header, faulty, to, entry, places)?;
+        find_entry(sources, header, faulty, to, entry, ranks)?;
         rest = others;
     }
     Ok(())
 }
 
-/// The places, ascending, of all received chains from somebody faulty that don't derive.
-fn find_places(
+/// The ranks, ascending, of all received chains from somebody faulty that don't derive.
+fn find_ranks(
     alloc: Global,
     sources: &[u128],
     header: &Header,
@@ -165,28 +165,28 @@ fn find_places(
     reports: &[LocalReport],
 ) -> Result<Vec<u128>, AllocError>
     requires { AllPairs (λ a b. a < b) sources.now }
-    ensures places { IfOk result (λ places. IsListOf places.items (Contains
-        (finding.found_places sources.now header.now.network faulty.now (told_logs reports.now)))) }
+    ensures ranks { IfOk result (λ ranks. IsListOf ranks.items (Contains
+        (finding.found_ranks sources.now header.now.network faulty.now (told_logs reports.now)))) }
     ensures small { OnOk result (finding.AreSmall header.now.network faulty.now
         (told_logs reports.now) header.now.network.generals) }
 {
-    let mut places = Vec::new(alloc);
+    let mut ranks = Vec::new(alloc);
     for number in 0..header.net().generals() {
         let general = GeneralNo::at(number);
         let entries = rest_entries(header, faulty, reports, general);
-        find_entries(sources, header, faulty, general, entries, &mut places)?;
+        find_entries(sources, header, faulty, general, entries, &mut ranks)?;
     }
-    sort_apart(&mut places)?;
-    Ok(places)
+    sort_apart(&mut ranks)?;
+    Ok(ranks)
 }
 
-/// The findings at these places.
-fn findings_at(alloc: Global, places: &[u128]) -> Result<Vec<Finding>, AllocError>
-    ensures { IfOk result (λ findings. findings.items ≡ map finding.finding_at places.now) }
+/// The findings of these ranks.
+fn findings_at(alloc: Global, ranks: &[u128]) -> Result<Vec<Finding>, AllocError>
+    ensures { IfOk result (λ findings. findings.items ≡ map finding.finding_at ranks.now) }
 {
     let mut findings = Vec::new(alloc);
-    for place in places {
-        findings.push(finding_at(*place))?;
+    for rank in ranks {
+        findings.push(finding_at(*rank))?;
     }
     Ok(findings)
 }
@@ -211,6 +211,6 @@ pub fn check_derived(
     // The header makes known that the network has at most 16 generals.
     let _known = header.net();
     let sources = find_sources(alloc, header, faulty, reports)?;
-    let places = find_places(alloc, sources.as_slice(), header, faulty, reports)?;
-    findings_at(alloc, places.as_slice())
+    let ranks = find_ranks(alloc, sources.as_slice(), header, faulty, reports)?;
+    findings_at(alloc, ranks.as_slice())
 }

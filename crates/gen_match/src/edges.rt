@@ -1,7 +1,7 @@
 //! Messages that only one of two logs has.
 ghost use Rattle.std.specs.Prelude.{IsTrue, ℕ, ◌≡◌, ◌≢◌, ◌<◌, ◌≤◌, ◌↔◌, None, length, get_or, Contains, IfOk, IfSome, IfNone};
 ghost use Rattle.gen_types.specs.Ascending.{IsListOf};
-ghost use Rattle.gen_local.specs.Report.{Report, IsReport};
+ghost use Rattle.gen_local.specs.Report.{IsReport, LocalReport as Report};
 ghost use Rattle.gen_match.specs.declared.finding.Finding.{Finding};
 ghost use Rattle.gen_match.specs.EdgeCells.{cell_of, cells_of, Counts, IsCell, finding_cell, TablesDiffer};
 ghost use Rattle.gen_match.specs.Findings.{AreFindings};

@@ -96,9 +96,6 @@ slot_read (Two u) k ps known f = record {
   version_is = refl;
 }
 
-abbrev scenario_by : Plain → List ℕ → Option ℕ → List Script → Scenario
-scenario_by plain master slot scripts = record { version = version_with slot; net = plain.net; master = master; order = plain.order; scripts = scripts }
-
 record SignedRead (plain : Plain) (s : Scenario) (k : ℕ) (ps : List (List ℕ)) : Type 0 where
   line : ℕ
   is_read : signed_at plain s.master (record { line = k; parts = ps }) ≡ Ok (s, record { line = line; parts = [] ∷ [] })

@@ -35,7 +35,7 @@ in_front scripts block lines paths b = record {
 abbrev pub with_blocks : List Script → Option ℕ → List ScriptLine → List PathLine → Result Blocks ScenarioFault → Result Blocks ScenarioFault
 with_blocks scripts block lines paths read = read >>= λ b. Ok (in_front scripts block lines paths b)
 
--- the blocks from this place on
+-- the blocks from this cursor on
 abbrev pub blocks_from : Network → Option ℕ → Cursor → Result Blocks ScenarioFault
 blocks_from net block c = blocks_at net block c.line c.parts
 
@@ -43,13 +43,6 @@ blocks_step : (net : Network) (block : Option ℕ) (k : ℕ) (ps : List (List �
 unfolding blocks_at next_line
 blocks_step net block k [] = refl
 blocks_step net block k (line ∷ more) = stepped k line more (λ l j ps. item_in net block l.0 >>= λ item. with_item item l (blocks_at net (block_after block item) j ps))
-
-pub blocks_begin : (net : Network) (c : Cursor) → with_blocks [] None [] [] (blocks_from net None c) ≡ blocks_from net None c
-blocks_begin net c = of_blocks (blocks_from net None c)
-  where
-    of_blocks : (r : Result Blocks ScenarioFault) → with_blocks [] None [] [] r ≡ r
-    of_blocks (Ok b) = refl
-    of_blocks (Err f) = refl
 
 -- ---- a line that begins a block
 

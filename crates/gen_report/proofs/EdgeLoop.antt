@@ -13,7 +13,7 @@ use Rattle.gen_report.proofs.Stepping.{stepped}
 abbrev pub with_front : List (ℕ × ℕ) → Result EdgeLines ScenarioFault → Result EdgeLines ScenarioFault
 with_front front read = read >>= λ o. Ok (record o { found = front ++ o.found })
 
--- the edges from this place on
+-- the edges from this cursor on
 abbrev pub edges_from : Cursor → Result EdgeLines ScenarioFault
 edges_from c = edge_lines_at c.line c.parts
 
@@ -21,13 +21,6 @@ edges_step : (k : ℕ) (ps : List (List ℕ)) → edge_lines_at k ps ≡ (next_l
 unfolding edge_lines_at next_line
 edges_step k [] = refl
 edges_step k (line ∷ more) = stepped k line more (λ l j ps. edge_in l.0.number l.0.fields >>= λ e. after_edge e l (edge_lines_at j ps))
-
-pub edges_begin : (c : Cursor) → with_front [] (edges_from c) ≡ edges_from c
-edges_begin c = of_edges (edges_from c)
-  where
-    of_edges : (r : Result EdgeLines ScenarioFault) → with_front [] r ≡ r
-    of_edges (Ok o) = refl
-    of_edges (Err f) = refl
 
 regroup : (front : List (ℕ × ℕ)) (e : ℕ × ℕ) (r : Result EdgeLines ScenarioFault) → with_front front (with_edge r e) ≡ with_front (front ++ e ∷ []) r
 regroup front e (Ok o) = ap (λ (es : List (ℕ × ℕ)). Ok (record o { found = es })) (sym (append_assoc front (e ∷ []) o.found))

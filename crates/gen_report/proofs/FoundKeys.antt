@@ -51,10 +51,6 @@ seed_made k w digits seed word e =
     let width : length digits ≡ 2 * 32 = decode_sized-ok digits 32 seed read in
     record { digits = digits; fields_are = two w digits (codes "seed") digits word refl; width = width; spelled = decoded_found digits seed (sym (decode_sized-twice digits 32 width) ∙ read) }
 
-abbrev SeedOr : List (List ℕ) → Option (List ℕ) → Type 0
-SeedOr fs None = Unit {0}
-SeedOr fs (Some master) = SeedOf fs master
-
 seed_in_found : (k : ℕ) (fs : List (List ℕ)) (seed : List ℕ) → seed_in k fs ≡ Ok (Some seed) → SeedOf fs seed
 unfolding seed_in
 seed_in_found k [] seed e = absurd cc
@@ -66,7 +62,7 @@ seed_in_found k (w ∷ x ∷ []) seed e =
     seed_made k w x seed ((bytes_eq-Decides w (codes "seed")).0 word) (r0 ∙ ap (λ (y : List ℕ). Ok y) same)))
 seed_in_found k (w ∷ x ∷ y ∷ more) seed e = absurd cc
 
--- the place behind the seed, where there is one
+-- the cursor behind the seed, where there is one
 abbrev pub SeedAt : Cursor → Option (List ℕ) × Cursor → Type 0
 SeedAt c (None, after) = after ≡ c
 SeedAt c (Some master, after) = (digits : List ℕ) × (c.parts ≡ line_of (codes "seed" ∷ digits ∷ []) ∷ after.parts) × (length digits ≡ 64) × SpellsBytes digits master
@@ -106,7 +102,7 @@ slot_in_found k (w ∷ x ∷ []) slot e =
     rw (← same) (record { fields_are = two w x (codes "slot") (decimal u) ((bytes_eq-Decides w (codes "slot")).0 word) d.0; known = leb-true _ _ below }))))
 slot_in_found k (w ∷ x ∷ y ∷ more) slot e = absurd cc
 
--- the place behind the slot, where there is one
+-- the cursor behind the slot, where there is one
 abbrev pub SlotAt : Cursor → Option ℕ × Cursor → Type 0
 SlotAt c (None, after) = after ≡ c
 SlotAt c (Some slot, after) = (c.parts ≡ line_of (said (codes "slot") slot) ∷ after.parts) × (slot ≤ greatest_slot)

@@ -1,4 +1,4 @@
--- From the place where a line begins to the place behind it.
+-- From the cursor where a line begins to the cursor behind it.
 use Rattle.std.proofs.Common.{◌≡◌, ℕ, ◌+◌, ltb, eqb, List, ◌∷◌, length, Result, Ok, Err, refl, sym, ap}
 use Rattle.std.specs.List.{list_any}
 use Rattle.gen_types.specs.Reading.{◌>>=◌}
@@ -33,7 +33,7 @@ behind_line k line more l e =
     at_end {F = ScenarioFault} (IsBehind k more) (record { number = k; bytes = x.0; fields = fields x.0 }, record { line = k + 1; parts = x.1 }) l e0
     (ap (λ (ps : List (List ℕ)). record { line = k + 1; parts = ps }) (sym rest)))
 
--- what is done behind a line is done at the place behind it
+-- what is done behind a line is done at the cursor behind it
 pub stepped : {A : Type 0} (k : ℕ) (line : List ℕ) (more : List (List ℕ)) (f : Line × Cursor → ℕ → List (List ℕ) → Result A ScenarioFault)
     → (next_line (record { line = k; parts = line ∷ more }) >>= λ l. f l (k + 1) more) ≡ (next_line (record { line = k; parts = line ∷ more }) >>= λ l. f l l.1.line l.1.parts)
 stepped k line more f = of_line (next_line (record { line = k; parts = line ∷ more })) refl

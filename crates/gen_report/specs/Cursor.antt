@@ -1,13 +1,13 @@
--- Places in a text, and lines.
+-- Cursors in a text, and lines.
 use Rattle.std.specs.Prelude.{ℕ, List}
 use Rattle.gen_report.specs.Text.{parts}
 
--- a place in a text: the number of a line, counted from 1, and the parts of the text from that line on
+-- a cursor in a text: the number of a line, counted from 1, and the parts of the text from that line on
 pub record Cursor : Type 0 where
   pub line : ℕ
   pub parts : List (List ℕ)
 
--- the place where a text begins
+-- the cursor at the beginning of a text
 abbrev pub start_of : List ℕ → Cursor
 start_of text = record { line = 1; parts = parts text }
 

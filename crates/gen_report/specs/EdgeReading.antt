@@ -16,7 +16,7 @@ edge_in k (w ∷ x ∷ y ∷ []) = if bytes_eq w (codes "edge") then (do
   Ok (Some (a, b))) else Ok None
 edge_in k _ = Ok None
 
--- the edges of some lines, the first line that has none, and the place after it
+-- the edges of some lines, the first line that has none, and the cursor behind it
 pub record EdgeLines : Type 0 where
   pub found : List (ℕ × ℕ)
   pub next : Line

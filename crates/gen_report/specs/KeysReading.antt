@@ -33,12 +33,12 @@ slot_in k (w ∷ digits ∷ []) = if bytes_eq w (codes "slot") then (do
   Ok (Some slot)) else Ok None
 slot_in k _ = Ok None
 
--- the place behind a line that may be absent: before, where it is
+-- the cursor behind a line that may be absent: before, where it is
 abbrev pub behind : {A : Type 0} → Option A → Cursor → Cursor → Option A × Cursor
 behind None before after = (None, before)
 behind (Some x) before after = (Some x, after)
 
--- the seed, if it stands at this place, and the place behind it
+-- the seed, if it stands at this cursor, and the cursor behind it
 unfoldable pub seed_at : Cursor → Result (Option (List ℕ) × Cursor) ScenarioFault
 seed_at c = do
   l ← next_line c

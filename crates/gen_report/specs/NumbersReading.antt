@@ -13,7 +13,7 @@ use Rattle.gen_report.specs.LineReading.{fault_at, number_behind}
 use Rattle.gen_report.specs.CursorReading.{numbered}
 use Rattle.gen_report.specs.EdgeReading.{edge_lines_at}
 
--- what the lines up to that of the traitors say, and the place after them
+-- what the lines up to that of the traitors say, and the cursor behind them
 pub record Opening : Type 0 where
   pub generals : ℕ
   pub edges : List (ℕ × ℕ)
@@ -27,7 +27,7 @@ opening_at c = do
   m ← number_behind edges.next.number (codes "traitors") edges.next.fields
   Ok (record { generals = n.0.value; edges = edges.found; traitors = m; after = edges.after })
 
--- what the three lines after that of the traitors say, the number of the last of them, and the place after them
+-- what the three lines after that of the traitors say, the number of the last of them, and the cursor behind them
 pub record Settings : Type 0 where
   pub diameter : ℕ
   pub orders : ℕ
@@ -58,7 +58,7 @@ order_at net c = do
   known ← check (nat_lt v.0.value net.orders) (fault_at faults.UnknownOrder v.0.line)
   Ok (record { net = net; order = v.0.value }, v.1)
 
--- the network and the order of a text, and the place after their lines
+-- the network and the order of a text, and the cursor behind their lines
 unfoldable pub plain_at : Cursor → Result (Plain × Cursor) ScenarioFault
 plain_at c = do
   o ← opening_at c

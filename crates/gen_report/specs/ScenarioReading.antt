@@ -20,14 +20,14 @@ end_in k (w ∷ []) = check (bytes_eq w (codes "end")) (fault_at Shape k)
 end_in k (w ∷ x ∷ []) = if bytes_eq w (codes "script") then Err (fault_at Unseeded k) else Err (fault_at Shape k)
 end_in k _ = Err (fault_at Shape k)
 
--- the place behind `end`
+-- the cursor behind `end`
 unfoldable pub end_at : Cursor → Result Cursor ScenarioFault
 end_at c = do
   l ← next_line c
   ended ← end_in l.0.number l.0.fields
   Ok l.1
 
--- the scenario with this seed, and the place behind its scripts
+-- the scenario with this seed, and the cursor behind its scripts
 unfoldable pub signed_at : Plain → List ℕ → Cursor → Result (Scenario × Cursor) ScenarioFault
 signed_at plain master c = do
   slot ← slot_at c
@@ -44,7 +44,7 @@ signed_at plain master c = do
     b.after,
   )
 
--- what the text says, whose seed is this or none, and the place behind it
+-- what the text says, whose seed is this or none, and the cursor behind it
 unfoldable pub told_at : Plain → Option (List ℕ) → Cursor → Result (ScenarioText × Cursor) ScenarioFault
 told_at plain None c = do
   after ← end_at c

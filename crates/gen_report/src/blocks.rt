@@ -18,14 +18,14 @@ use gen_types::{GeneralNo, ReadError};
 use std::alloc::Global;
 use std::mem;
 
-/// The scripts of a text, the paths that their lines name, and the place behind the last line.
+/// The scripts of a text, the paths that their lines name, and the cursor behind the last line.
 #[derive(Drop)]
 pub struct Blocks<'a> {
     /// The scripts, ascending.
     pub scripts: Vec<Script>,
     /// The paths, in the order of the lines.
     pub paths: Vec<PathLine>,
-    /// The place behind the last line.
+    /// The cursor behind the last line.
     pub after: Cursor<'a>,
 }
 
@@ -80,9 +80,9 @@ pub fn read_blocks<'a>(
     let mut paths = Vec::new(alloc);
     let mut block = None;
     let mut lines = Vec::new(alloc);
-    let mut place = start;
+    let mut cursor = start;
     'lines: loop {
-        let (line, after) = place.next_line(alloc)?;
+        let (line, after) = cursor.next_line(alloc)?;
         let current = block;
         match item_in(alloc, net, current, &line)? {
             Item::End => {
@@ -102,7 +102,7 @@ pub fn read_blocks<'a>(
                 lines.push(said)?;
             }
         }
-        place = after;
+        cursor = after;
     }
 }
 
@@ -132,7 +132,7 @@ fn are_scripted(scripts: &[Script], generals: &[GeneralNo]) -> bool
 
 /// Refuses the first line that names a path with a general who has no script.
 #[tactic(auto, unfolding(crate::specs::BlocksReading::all_scripted))]
-pub fn test_paths(scripts: &[Script], paths: &[PathLine]) -> Result<(), ReadError<ScenarioFault>>
+pub fn check_paths(scripts: &[Script], paths: &[PathLine]) -> Result<(), ReadError<ScenarioFault>>
     ensures { IsRead result (all_scripted (scripted scripts.now) paths.now) }
 {
     let mut rest = paths;

@@ -1,4 +1,4 @@
-//! Places in a text: what is still to be read, and the number of its first line.
+//! Cursors in a text: what is still to be read, and the number of its first line.
 ghost use Rattle.std.specs.Prelude.{◌≡◌, ◌<◌, length, map, IfOk};
 ghost use Rattle.gen_types.specs.Reading.{Gives};
 ghost use Rattle.gen_types.specs.Spelled.{IsRead};
@@ -31,7 +31,7 @@ pub struct Numbered {
     pub value: u8,
 }
 
-/// A place behind the first line of a text. A contract sees the number of the line that begins there, and
+/// A cursor, behind the first line of a text. A contract sees the number of the line that begins there, and
 /// what stands between the line feeds from there on. That number always fits, since each line before has a
 /// line feed and the first line has more.
 #[derive(Drop)]
@@ -53,7 +53,7 @@ impl<'a> Model for Cursor<'a> {
 }
 
 impl<'a> Cursor<'a> {
-    /// Returns the number behind a word in the first line of a text, and the place after it.
+    /// Returns the number behind a word in the first line of a text, and the cursor behind it.
     #[tactic(auto, unfolding(crate::specs::CursorReading::numbered, crate::specs::CursorReading::next_line))]
     pub fn behind_first(
         alloc: Global,
@@ -68,7 +68,7 @@ impl<'a> Cursor<'a> {
         Ok((Numbered { line: 1, value }, Cursor { rest, line: 2 }))
     }
 
-    /// Returns the line that begins here, and the place after it.
+    /// Returns the line that begins here, and the cursor behind it.
     #[tactic(auto, unfolding(crate::specs::CursorReading::next_line))]
     pub fn next_line(
         &self,
@@ -98,7 +98,7 @@ impl<'a> Cursor<'a> {
         Ok((line, after))
     }
 
-    /// Returns the number behind a word in the line that begins here, and the place after it.
+    /// Returns the number behind a word in the line that begins here, and the cursor behind it.
     #[tactic(auto, unfolding(crate::specs::CursorReading::numbered))]
     pub fn numbered(
         &self,

@@ -45,7 +45,7 @@ fn slot_in(fields: &[&[u8]], line: usize) -> Result<Option<u8>, ReadError<Scenar
     }
 }
 
-/// Returns the seed, if its line begins here, and the place behind it.
+/// Returns the seed, if its line begins here, and the cursor behind it.
 #[tactic(auto, unfolding(crate::specs::KeysReading::seed_at))]
 pub fn read_seed<'a>(
     alloc: Global,
@@ -60,7 +60,7 @@ pub fn read_seed<'a>(
     }
 }
 
-/// Returns the slot, if its line begins here, and the place behind it.
+/// Returns the slot, if its line begins here, and the cursor behind it.
 #[tactic(auto, unfolding(crate::specs::KeysReading::slot_at))]
 pub fn read_slot<'a>(
     alloc: Global,

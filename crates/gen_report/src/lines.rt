@@ -13,7 +13,7 @@ use gen_types::{ReadError, decimal_number};
 /// The most bytes of a line, its line feed not counted.
 const LONGEST_LINE: usize = 600_000;
 
-/// Returns the place of the first line feed.
+/// Returns the index of the first line feed.
 fn line_feed(text: &[u8]) -> Option<usize>
     ensures { result ≡ position (λ b. b == 10) text.now }
 {

@@ -15,7 +15,7 @@ use gen_types::{OrderNo, ReadError};
 use gen_scenario::PlainScenario;
 use std::alloc::Global;
 
-/// The edges of some lines, the first line that has none, and the place after it.
+/// The edges of some lines, the first line that has none, and the cursor behind it.
 #[derive(Drop)]
 struct EdgeLines<'a> {
     found: Vec<(u8, u8)>,
@@ -39,9 +39,9 @@ fn edge_lines<'a>(
     }) result (edge_lines_at start.entry.line start.entry.parts) }
 {
     let mut found = Vec::new(alloc);
-    let mut place = start;
+    let mut cursor = start;
     'lines: loop {
-        let (line, after) = place.next_line(alloc)?;
+        let (line, after) = cursor.next_line(alloc)?;
         match edge_in(&line.fields, line.number)? {
             None => {
                 return Ok(EdgeLines {
@@ -52,11 +52,11 @@ fn edge_lines<'a>(
             }
             Some(edge) => found.push(edge)?,
         }
-        place = after;
+        cursor = after;
     }
 }
 
-/// What the lines up to that of the traitors say, and the place after them.
+/// What the lines up to that of the traitors say, and the cursor behind them.
 #[derive(Drop)]
 struct Opening<'a> {
     generals: u8,
@@ -87,8 +87,8 @@ fn read_opening(alloc: Global, text: &[u8]) -> Result<Opening<'_>, ReadError<Sce
     })
 }
 
-/// What the three lines after that of the traitors say, the number of the last of them, and the place
-/// after them.
+/// What the three lines after that of the traitors say, the number of the last of them, and the cursor
+/// behind them.
 #[derive(Drop)]
 struct Settings<'a> {
     diameter: u8,
@@ -149,7 +149,7 @@ fn make_network(
     }
 }
 
-/// Returns the scenario on this network with the order of the line that begins here, and the place after it.
+/// Returns the scenario on this network with the order of the line that begins here, and the cursor behind it.
 #[tactic(auto, unfolding(crate::specs::NumbersReading::order_at))]
 fn read_order<'a>(
     alloc: Global,
@@ -165,7 +165,7 @@ fn read_order<'a>(
     Ok((PlainScenario::new(net, OrderNo::at(order.value)), after))
 }
 
-/// Returns the network and the order of a text, and the place after their lines.
+/// Returns the network and the order of a text, and the cursor behind their lines.
 #[tactic(auto, unfolding(crate::specs::NumbersReading::plain_at))]
 pub fn read_plain(
     alloc: Global,

@@ -7,7 +7,7 @@ ghost use Rattle.gen_report.specs.ScenarioReading.{end_in, end_at, signed_at, to
 ghost use Rattle.gen_report.specs.Scenario.{OneScenario, SpellsScenario};
 ghost use Rattle.gen_report.specs.declared.scenario_text.ScenarioText.{ScenarioText as Told};
 
-use crate::blocks::{read_blocks, test_paths};
+use crate::blocks::{check_paths, read_blocks};
 use crate::cursor::Cursor;
 use crate::fault::{LineFault, ScenarioFault};
 use crate::keys::{read_seed, read_slot, version_with};
@@ -29,7 +29,7 @@ fn end_in(fields: &[&[u8]], line: usize) -> Result<(), ReadError<ScenarioFault>>
     }
 }
 
-/// Returns the place behind the last line of a text without a seed, which begins here.
+/// Returns the cursor behind the last line of a text without a seed, which begins here.
 #[tactic(auto, unfolding(crate::specs::ScenarioReading::end_at))]
 fn read_end<'a>(alloc: Global, start: &Cursor<'a>) -> Result<Cursor<'a>, ReadError<ScenarioFault>>
     ensures { IsRead result (end_at start.now) }
@@ -39,7 +39,7 @@ fn read_end<'a>(alloc: Global, start: &Cursor<'a>) -> Result<Cursor<'a>, ReadErr
     Ok(after)
 }
 
-/// Returns the scenario with this seed, and the place behind its scripts.
+/// Returns the scenario with this seed, and the cursor behind its scripts.
 #[tactic(auto, unfolding(crate::specs::ScenarioReading::signed_at))]
 fn read_signed<'a>(
     alloc: Global,
@@ -51,7 +51,7 @@ fn read_signed<'a>(
 {
     let (slot, rest) = read_slot(alloc, start)?;
     let blocks = read_blocks(alloc, plain.net(), rest)?;
-    test_paths(&blocks.scripts, &blocks.paths)?;
+    check_paths(&blocks.scripts, &blocks.paths)?;
     // That the scenario is lawful needs what each network keeps, which a read of it tells.
     let _generals = plain.net().generals();
     let (net, order) = plain.into_parts();
@@ -59,7 +59,7 @@ fn read_signed<'a>(
     Ok((signed, blocks.after))
 }
 
-/// Returns what the text says, whose seed is this or none, and the place behind it.
+/// Returns what the text says, whose seed is this or none, and the cursor behind it.
 #[tactic(auto, unfolding(crate::specs::ScenarioReading::told_at))]
 fn read_told<'a>(
     alloc: Global,

@@ -1,8 +1,6 @@
 -- Facts of each element of a list, by its place from a number on.
-use Rattle.std.proofs.Common.{◌≡◌, ℕ, zero, suc, ◌+◌, ◌<◌, List, [], ◌∷◌, ◌++◌, length, get_or, sym, refl, subst, arith, slice_set}
-use Rattle.std.proofs.lemmas.List.{length-set}
+use Rattle.std.proofs.Common.{◌≡◌, ℕ, zero, suc, ◌+◌, ◌<◌, List, [], ◌∷◌, ◌++◌, length, get_or, sym, refl, subst, arith}
 use Rattle.gen_scenario.specs.AllAre.{AllAre}
-use Rattle.gen_general.proofs.Worlds.{set_all}
 
 module _ {X : Type 0} (P : ℕ → X → Type 0) where
   abbrev pub From : ℕ → List X → Type 0
@@ -28,16 +26,6 @@ module _ {X : Type 0} (P : ℕ → X → Type 0) where
   pub from_push : (from n : ℕ) (xs ys : List X) (x : X) → ys ≡ xs ++ x ∷ [] → n ≡ from + length xs → From from xs → P n x → From from ys
   from_push from n xs ys x e m h last = subst (From from) (sym e) (from_snoc from xs x h (subst (λ k. P k x) m last))
 
-  -- one place is changed
-  pub from_set : (from : ℕ) (xs : List X) (i : ℕ) (x : X) → i < length xs → P (from + i) x → From from xs → From from (slice_set xs i x)
-  from_set from xs i x low one h k d below = set_all (λ j y. P (from + j) y) xs i (length xs) x low one h k d (subst (λ n. k < n) (length-set xs i x) below)
-
   -- all of them, from the first on
   pub from_all : (n : ℕ) (xs : List X) → AllAre P n xs → From 0 xs
   from_all n xs all k d low = let z : k ≡ 0 + k = omega arith in subst (λ j. P j (get_or xs k d)) z (all.each k d (subst (λ m. k < m) all.count low))
-
-  pub all_from : (n : ℕ) (xs : List X) → length xs ≡ n → From 0 xs → AllAre P n xs
-  all_from n xs count h = record {
-    count = count;
-    each = λ k d low. let z : 0 + k ≡ k = omega arith in subst (λ j. P j (get_or xs k d)) z (h k d (subst (λ m. k < m) (sym count) low));
-  }

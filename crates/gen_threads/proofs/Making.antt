@@ -1,5 +1,5 @@
 -- The edges of a run and their passes, while they are made.
-use Rattle.std.proofs.Common.{◌≡◌, ◌≢◌, ◌↔◌, ℕ, zero, suc, ◌+◌, ◌*◌, ◌<◌, Bool, true, false, List, [], ◌∷◌, ◌++◌, length, Option, Some, None, refl, sym, ap, subst, ◌∙◌, eqb, inl, inr, if◌then◌else◌, nat_lt, slice_index_or, arith, append-nil, length-append}
+use Rattle.std.proofs.Common.{◌≡◌, ◌≢◌, ◌↔◌, ℕ, zero, suc, ◌+◌, ◌*◌, ◌<◌, Bool, true, false, List, [], ◌∷◌, ◌++◌, length, Option, Some, None, refl, sym, ap, subst, ◌∙◌, eqb, inl, inr, nat_lt, slice_index_or, arith, append-nil, length-append}
 use Rattle.std.specs.List.{range_with_len, list_any, AllZip}
 use Rattle.std.proofs.lemmas.Bool.{eqb-true, lt-ltb, le-ltb, ltb-true, ltb-false}
 use Rattle.gen_types.proofs.Lists.{bool_cases}
@@ -17,8 +17,8 @@ use Rattle.gen_scenario.specs.SignedWorld.{near_of}
 use Rattle.gen_general.proofs.Worlds.{eqb_not, near_more, near_in, near_out}
 use Rattle.gen_threads.specs.declared.edges.Edges.{Edges}
 use Rattle.gen_threads.specs.declared.edges.Passes.{Passes}
-use Rattle.gen_threads.specs.Building.{puts_below, takes_below, ArePutsBelow, AreTakesBelow, AreMade, HasMore, HasMorePuts, HasMoreTakes, AreEmpty}
-use Rattle.gen_threads.specs.Edges.{edge_at, HasPut, HasTaken, HasTakenBy, AllHavePasses}
+use Rattle.gen_threads.specs.Building.{puts_below, takes_below, ArePutsBelow, AreTakesBelow, AreMade, HasMore, HasMorePuts, HasMoreTakes}
+use Rattle.gen_threads.specs.Edges.{edge_at, HasPut, HasTaken, HasTakenBy}
 
 -- ---- lists side by side
 
@@ -47,9 +47,6 @@ kept_at (y ∷ ys) x (suc k) e h = kept_at ys x k e h
 at_end : (xs : List (Option Edge)) (x : Option Edge) → slice_index_or (xs ++ x ∷ []) (length xs) None ≡ x
 at_end [] x = refl
 at_end (y ∷ ys) x = at_end ys x
-
-at_in : Option Edge → ℕ → ℕ → List (Option Edge) → ℕ → Option Edge
-at_in d b n table place = if nat_lt b n then slice_index_or table place d else d
 
 edge_kept : (x : Option Edge) (old new : Edges) (a b : ℕ) (e : Edge) → HasMore x old new → edge_at old a b ≡ Some e → edge_at new a b ≡ Some e
 edge_kept x old new a b e more h = elim (bool_cases (nat_lt b old.generals)) [
@@ -124,43 +121,6 @@ takes_before from to = let f : nat_lt to to ≡ false = le-ltb to to (omega arit
 
 takes_after : (from to : ℕ) → takes_below from (to + 1) to ≡ from + 1
 takes_after from to = let t : nat_lt to (to + 1) ≡ true = lt-ltb to (to + 1) (omega arith) in rw t refl
-
--- a row is done
-puts_row : (n from g : ℕ) → g < n → puts_below n from n g ≡ puts_below n (from + 1) 0 g
-puts_row n from g low = elim (bool_cases (nat_lt g from)) [
-  | inl t ↦
-      let u : nat_lt g (from + 1) ≡ true = lt-ltb g (from + 1) (omega (arith, ltb-true g from t)) in
-      rw (t, u) refl
-  | inr f ↦ elim (bool_cases (nat_lt from g)) [
-    | inl t ↦
-        let u : nat_lt g (from + 1) ≡ false = le-ltb g (from + 1) (omega (arith, ltb-true from g t)) in
-        elim (bool_cases (nat_lt (from + 1) g)) [
-          | inl v ↦ rw (f, t, u, v) refl
-          | inr v ↦ rw (f, t, u, v) refl
-        ]
-    | inr f2 ↦
-        let u : nat_lt g (from + 1) ≡ true = lt-ltb g (from + 1) (omega (arith, ltb-false from g f2)) in
-        rw (f, f2, u) refl
-  ]
-]
-
-takes_row : (n from g : ℕ) → g < n → takes_below from n g ≡ takes_below (from + 1) 0 g
-takes_row n from g low =
-    let t : nat_lt g n ≡ true = lt-ltb g n low in
-    let f : nat_lt g 0 ≡ false = le-ltb g 0 (omega arith) in
-    rw (t, f) refl
-
-pub row_made : (s : Scenario) (from : ℕ) (edges : Edges) (all : List Passes) → AreMade s from s.net.generals edges all → AreMade s (from + 1) 0 edges all
-row_made s from edges all made = record {
-  generals = made.generals;
-  count = made.count ∙ more s.net.generals from;
-  passes = made.passes;
-  puts = λ g d low. subst (λ below. ArePutsBelow edges s g below (slice_index_or all g d).puts.items) (puts_row s.net.generals from g low) (made.puts g d low);
-  takes = λ g d low. subst (λ below. AreTakesBelow edges s g below (slice_index_or all g d).takes.items) (takes_row s.net.generals from g low) (made.takes g d low);
-}
-  where
-    more : (n k : ℕ) → k * n + n ≡ (k + 1) * n + 0
-    more n k = omega arith
 
 -- ---- a place of the table
 
@@ -288,32 +248,3 @@ new_take s a b old new edge take more low place of_edge view = record {
 }
 
 -- ---- the start and the end
-
-pub none_made : (s : Scenario) (edges : Edges) (all : List Passes) → edges.generals ≡ s.net.generals → edges.table.items ≡ [] → AreEmpty s.net.generals all → AreMade s 0 0 edges all
-none_made s edges all generals table empty = record {
-  generals = generals;
-  count = ap length table ∙ nothing s.net.generals;
-  passes = empty.count;
-  puts = λ g d low.
-      let none : puts_below s.net.generals 0 0 g ≡ 0 = elim (bool_cases (nat_lt 0 g)) [ inl t ↦ rw (le-ltb g 0 (omega arith), t) refl | inr f ↦ rw (le-ltb g 0 (omega arith), f) refl ] in
-      rw (none, (empty.each g d low).0) tt;
-  takes = λ g d low.
-      let none : takes_below 0 0 g ≡ 0 = rw (le-ltb g 0 (omega arith)) refl in
-      rw (none, (empty.each g d low).1) tt;
-}
-  where
-    nothing : (n : ℕ) → 0 ≡ 0 * n + 0
-    nothing n = omega arith
-
-pub all_made : (s : Scenario) (edges : Edges) (all : List Passes) → AreMade s s.net.generals 0 edges all → AllHavePasses edges s all
-all_made s edges all made = record {
-  count = made.passes;
-  each = λ g d low. record {
-    putting =
-        let whole : puts_below s.net.generals s.net.generals 0 g ≡ s.net.generals = rw (lt-ltb g s.net.generals low) refl in
-        subst (λ below. ArePutsBelow edges s g below (slice_index_or all g d).puts.items) whole (made.puts g d low);
-    taking =
-        let whole : takes_below s.net.generals 0 g ≡ s.net.generals = rw (le-ltb g 0 (omega arith)) refl in
-        subst (λ below. AreTakesBelow edges s g below (slice_index_or all g d).takes.items) whole (made.takes g d low);
-  };
-}

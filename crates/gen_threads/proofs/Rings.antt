@@ -1,5 +1,5 @@
 -- His ring comes back.
-use Rattle.std.proofs.Common.{◌≡◌, inl, inr, Option, Some, None, refl, ap, ◌∙◌, arith}
+use Rattle.std.proofs.Common.{◌≡◌, inl, inr, Option, Some, None, ap, ◌∙◌, arith}
 use Rattle.gen_tree.specs.Rings.{Ring}
 use Rattle.gen_net.specs.Header.{RunHeader}
 use Rattle.gen_chain.specs.Leaves.{leaf_of_order}
@@ -7,10 +7,6 @@ use Rattle.gen_scenario.specs.Scenario.{Scenario, IsScenario, header_of}
 use Rattle.gen_general.specs.Participant.{Participant, RingAfter}
 use Rattle.gen_general.specs.Recording.{RingSealed}
 use Rattle.gen_threads.specs.Ending.{RingComesBack}
-
-pub ring_same : (h : RunHeader) (ring : Option Ring) → RingComesBack h ring ring
-ring_same h None = tt
-ring_same h (Some ring) = record { seed = refl; height = refl; kept = λ leaf m. m; of_run = λ leaf m. inl m }
 
 pub ring_then : (h : RunHeader) (a b c : Option Ring) → RingComesBack h a b → RingComesBack h b c → RingComesBack h a c
 ring_then h None None None x y = tt

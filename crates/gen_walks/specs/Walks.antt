@@ -59,6 +59,6 @@ pub record IsLeastBadPair (net : Network) (rest : List ℕ) (Good : ℕ → ℕ 
   pub least : (x y : ℕ) → IsPairBefore net rest a b x y → Good x y
 
 -- the network and the set of which a proof speaks
-pub record Shown : Type 0 where
+pub record DiameterProof : Type 0 where
   pub network : Network
   pub rest : List ℕ

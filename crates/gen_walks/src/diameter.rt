@@ -26,9 +26,9 @@ pub struct DiameterProof {
 }
 
 impl Model for DiameterProof {
-    ghost use Rattle.gen_walks.specs.Walks.{Shown, IsWithinDiameter};
+    ghost use Rattle.gen_walks.specs.Walks.{DiameterProof, IsWithinDiameter};
 
-    ghost Value = { Shown };
+    ghost Value = { DiameterProof };
 
     ghost view = { λ proof. record {
       network = proof.net.value;

@@ -4,7 +4,7 @@ use std::test::Fail;
 
 #[test]
 fn the_laws_are_there_to_be_called(_rt: HostRuntime) -> Result<(), Fail> {
-    laws::places();
+    laws::progress();
     laws::queues();
     laws::movers();
     laws::counts();

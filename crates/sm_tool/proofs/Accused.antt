@@ -3,7 +3,7 @@ use Rattle.std.proofs.Common.{◌≡◌, ℕ, Bool, true, false, List, [], ◌�
 use Rattle.std.specs.Prelude.{Contains}
 use Rattle.std.proofs.lemmas.Bool.{cases_Bool, eq-eqb, eqb-true}
 use Rattle.gen_types.proofs.Lists.{Contains_here, Contains_there, Contains_cases, Contains_nil}
-use Rattle.gen_audit.specs.Bundle.{LogBundle}
+use Rattle.gen_audit.specs.Bundle.{Bundle}
 use Rattle.gen_convict.specs.declared.evidence.Evidence.{Evidence}
 use Rattle.gen_convict.specs.Convictions.{AreConvictions}
 use Rattle.gen_convict.specs.Evidence.{Accusation, told_of}
@@ -40,7 +40,7 @@ unconvicted g (x ∷ es) is a inside whose = elim (cases_Bool (x.accused == g)) 
 ]
 
 -- the text of one of a bundle's convictions is that of the first claim
-pub accuses : (bundle : LogBundle) (convictions : List Accusation) (g : ℕ) (text : List ℕ) (negative : Bool) → AreConvictions bundle.header bundle.exhibits convictions → TellsOf bundle.header convictions g text negative → Accuses bundle g text negative
+pub accuses : (bundle : Bundle) (convictions : List Accusation) (g : ℕ) (text : List ℕ) (negative : Bool) → AreConvictions bundle.header bundle.exhibits convictions → TellsOf bundle.header convictions g text negative → Accuses bundle g text negative
 accuses bundle convictions g text false are (x, inside, whose, is) =
     let first = are.first x inside in
     (x.claim, subst (λ (n : ℕ). IsClaimOn bundle n x.claim) whose first, is ∙ ap (λ (n : ℕ). evidence_spelling bundle.header (record { accused = n; claim = x.claim })) whose)

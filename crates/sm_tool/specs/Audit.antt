@@ -1,7 +1,7 @@
 -- What the job audit makes of its input.
 use Rattle.std.specs.Prelude.{◌≡◌, ℕ, Bool, true, false, List, Err}
 use Rattle.gen_types.specs.Spelled.{Spells}
-use Rattle.gen_audit.specs.Bundle.{LogBundle, IsBundle}
+use Rattle.gen_audit.specs.Bundle.{Bundle, IsBundle}
 use Rattle.gen_audit.specs.Verdict.{IsVerdict}
 use Rattle.gen_audit.specs.declared.verdicts.Verdict.{Verdict}
 use Rattle.gen_audit.specs.declared.verdicts.Verdict.TheVariants.{Agreed, Explained, No}
@@ -22,7 +22,7 @@ is_no (No findings) = true
 -- The text is that of the judgement on the bundle that the input spells: its verdict, and the convictions that its exhibits give.
 -- It says no where the verdict does.
 pub record IsAudited (input text : List ℕ) (negative : Bool) : Type 0 where
-  pub bundle : LogBundle
+  pub bundle : Bundle
   pub spelled : Spells IsBundle bundle_spelling input bundle
   pub verdict : Verdict
   pub judged : IsVerdict bundle verdict

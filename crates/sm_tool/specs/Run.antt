@@ -9,7 +9,7 @@ use Rattle.gen_scenario.specs.Scenario.{Plain, Scenario, header_of, scripted}
 use Rattle.gen_audit.specs.BundleMaking.{bundle_with}
 use Rattle.gen_audit.specs.BundleSpelling.{bundle_spelling}
 use Rattle.gen_audit.specs.WorldBundle.{bundle_of}
-use Rattle.gen_audit.specs.Bundle.{LogBundle}
+use Rattle.gen_audit.specs.Bundle.{Bundle}
 use Rattle.gen_audit.specs.declared.bundle_fault.BundleFault.{BundleFault}
 use Rattle.gen_report.specs.declared.fault.LineFault.TheVariants.{BadSeed}
 use Rattle.gen_report.specs.declared.fault.ScenarioFault.{ScenarioFault}
@@ -53,7 +53,7 @@ pub record MissesSeed (input : List ℕ) (fault : ScenarioFault) : Type 0 where
   pub fault_is : fault ≡ fault_at BadSeed (line_after_order plain.net)
 
 -- the run of the scenario has this bundle, or the fault is the rule of bundles that it breaks, or want of memory or of a thread
-abbrev pub MakesBundle : Scenario → Result LogBundle JobFault → Type 0
+abbrev pub MakesBundle : Scenario → Result Bundle JobFault → Type 0
 MakesBundle s (Ok bundle) = (walks : List (List ℕ)) × HasWalks s walks × (bundle ≡ bundle_of s walks)
 MakesBundle s (Err faults.Memory) = Unit {0}
 MakesBundle s (Err faults.Thread) = Unit {0}

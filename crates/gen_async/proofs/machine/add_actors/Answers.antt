@@ -14,5 +14,5 @@ generals-preserved c =
       count = length_pushed c.generals.actors.items c.push.new.self.items n c.in_ok-actor.actor c.generals.invariant.count items;
       len = omega (arith, len, c.generals.invariant.len);
       room = omega (arith, c.push.ensures.capacity, c.generals.invariant.room);
-      each = pushed_each (λ (g : ℕ) (a : ActorState). ◌≡◌ {A = ActorState} a (record { scenario = s; me = g; place = 0 })) c.generals.actors.items c.push.new.self.items n c.in_ok-actor.actor c.generals.invariant.count items c.generals.invariant.each made;
+      each = pushed_each (λ (g : ℕ) (a : ActorState). ◌≡◌ {A = ActorState} a (record { scenario = s; me = g; progress = 0 })) c.generals.actors.items c.push.new.self.items n c.in_ok-actor.actor c.generals.invariant.count items c.generals.invariant.each made;
     }

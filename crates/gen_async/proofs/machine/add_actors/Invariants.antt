@@ -7,5 +7,5 @@ invariant-generals l = record {
   count : length l.actors.items ≡ l.number;
   len : vec_len l.actors ≡ l.number;
   room : l.generals ≤ vec_capacity l.actors;
-  each : (g : ℕ) (d : ActorState) → g < l.number → ◌≡◌ {A = ActorState} (slice_index_or l.actors.items g d) (record { scenario = l.scenario; me = g; place = 0 });
+  each : (g : ℕ) (d : ActorState) → g < l.number → ◌≡◌ {A = ActorState} (slice_index_or l.actors.items g d) (record { scenario = l.scenario; me = g; progress = 0 });
 }

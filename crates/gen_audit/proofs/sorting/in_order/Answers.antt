@@ -3,12 +3,12 @@ use Rattle.std.proofs.lemmas.Result.{IfOk-weaker}
 use Rattle.std.proofs.lemmas.List.Sorted.{answers_always, Contains-permutation, IsPermutation-sym}
 use Rattle.gen_match.specs.declared.finding.Finding.{Finding}
 use Rattle.gen_match.specs.Findings.{AreFindings}
-use Rattle.gen_audit.specs.Sorting.{sorting_place}
+use Rattle.gen_audit.specs.Sorting.{sorting_rank}
 use Rattle.gen_audit.proofs.Sorted.{are_findings_as}
 use Rattle.gen_audit.proofs.sorting.in_order.Goals as goal
 
 pub each_once-requires : goal.each_once-requires
-each_once-requires c = rw c.as_slice.ensures.value (c.in_ok-sort_by_key.ensures.sorted sorting_place (answers_always _ _ _ (λ f a r g h. search rules)))
+each_once-requires c = rw c.as_slice.ensures.value (c.in_ok-sort_by_key.ensures.sorted sorting_rank (answers_always _ _ _ (λ f a r g h. search rules)))
 
 pub returns : goal.returns
 returns c =

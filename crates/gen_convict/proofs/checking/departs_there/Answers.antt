@@ -4,7 +4,7 @@ use Rattle.gen_convict.proofs.Sealed.{found_told, none_told}
 use Rattle.gen_convict.proofs.checking.departs_there.Goals as goal
 
 pub returns-in-Some : goal.returns-in-Some
-returns-in-Some c = found_told (DepartsAt c.args.header.now.network c.args.general (erased c.args.log.now.entries)) c.departs.result c.in-Some.place c.args.entry c.in-Some.is (c.departs.ensures.departs c.args.general c.requires.starts)
+returns-in-Some c = found_told (DepartsAt c.args.header.now.network c.args.general (erased c.args.log.now.entries)) c.departs.result c.in-Some.index c.args.entry c.in-Some.is (c.departs.ensures.departs c.args.general c.requires.starts)
 
 pub returns-in-None : goal.returns-in-None
 returns-in-None c = (

@@ -4,8 +4,8 @@ use Rattle.gen_convict.proofs.Linked.{same_or_not}
 use Rattle.gen_convict.proofs.Meeting.{no_links, link_on, tells_on, is_at, wide}
 use Rattle.gen_convict.proofs.colliding.collide.Goals as goal
 
-pub places-init : goal.places-init
-places-init c = record {
+pub entries-init : goal.entries-init
+entries-init c = record {
   left = no_links c.args.first.now;
   right = no_links c.args.first.now;
   tells = λ same. refl;
@@ -13,28 +13,28 @@ places-init c = record {
   wide_right = c.told-first;
 }
 
-pub places-preserved : goal.places-preserved
-places-preserved c =
+pub entries-preserved : goal.entries-preserved
+entries-preserved c =
     let h = c.args.header.now in
     let own = c.args.own.now in
     let other = c.args.other.now in
-    let i = c.places.i in
+    let i = c.entries.i in
     let e = c.index-own-i.result in
     let f = c.index-other-i.result in
-    let before = c.places.invariant in
+    let before = c.entries.invariant in
     let left = c.walk_on.new.side in
-    let right = c.walk_on-in-places.new.side in
+    let right = c.walk_on-in-entries.new.side in
     let hashed_left = c.in_ok-walk_on.ensures in
     let hashed_right = c.in_ok-walk_on-2.ensures in
-    let below : i < length other = omega (arith, c.requires.length, c.places-test.true) in
+    let below : i < length other = omega (arith, c.requires.length, c.entries-test.true) in
     record {
-      left = link_on c.args.first.now c.places.left.link left.link left.text.items own i e c.places-test.true c.index-own-i.is before.left hashed_left.text hashed_left.link;
-      right = link_on c.args.first.now c.places.right.link right.link right.text.items other i f below c.index-other-i.is before.right hashed_right.text hashed_right.link;
+      left = link_on c.args.first.now c.entries.left.link left.link left.text.items own i e c.entries-test.true c.index-own-i.is before.left hashed_left.text hashed_left.link;
+      right = link_on c.args.first.now c.entries.right.link right.link right.text.items other i f below c.index-other-i.is before.right hashed_right.text hashed_right.link;
       tells = λ same. elim (same_or_not left.text.items right.text.items) [
-        | inl texts ↦ tells_on c.links_tell.ensures.text h c.places.left.link c.places.right.link left.text.items right.text.items own other i e f c.net-net.ensures.header before.wide_left before.wide_right
-            (is_at (IsEntryOf h) own i e c.requires.own c.places-test.true c.index-own-i.is)
+        | inl texts ↦ tells_on c.links_tell.ensures.text h c.entries.left.link c.entries.right.link left.text.items right.text.items own other i e f c.net-net.ensures.header before.wide_left before.wide_right
+            (is_at (IsEntryOf h) own i e c.requires.own c.entries-test.true c.index-own-i.is)
             (is_at (IsEntryOf h) other i f c.requires.other below c.index-other-i.is)
-            c.places-test.true below c.index-own-i.is c.index-other-i.is hashed_left.text hashed_right.text before.tells texts
+            c.entries-test.true below c.index-own-i.is c.index-other-i.is hashed_left.text hashed_right.text before.tells texts
         | inr differ ↦ let met = c.have_met.ensures.1 (same, differ) in let not_met = c.if-have_met.false in absurd cc
       ];
       wide_left = wide left.link left.text.items hashed_left.link;

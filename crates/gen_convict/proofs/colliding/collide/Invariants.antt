@@ -2,8 +2,8 @@ use Rattle.std.proofs.Common.{◌≡◌, length, take}
 use Rattle.gen_log.specs.Links.{link_behind}
 use Rattle.gen_convict.proofs.colliding.collide.Given as goal
 
-abbrev pub invariant-places : goal.invariant-places
-invariant-places l = record {
+abbrev pub invariant-entries : goal.invariant-entries
+invariant-entries l = record {
   left : l.left.link ≡ link_behind l.first (take l.i l.own);
   right : l.right.link ≡ link_behind l.first (take l.i l.other);
   tells : l.left.link ≡ l.right.link → take l.i l.own ≡ take l.i l.other;

@@ -2,7 +2,7 @@ use Rattle.std.proofs.Common.{◌≡◌, [], map, Bor, sym, ap, ◌∙◌}
 use Rattle.std.specs.Option.{option_map}
 use Rattle.gen_local.specs.declared.texts.SignedText.{SignedText}
 use Rattle.gen_convict.specs.Finding.{his_texts, one_each}
-use Rattle.gen_convict.specs.FindingClaims.{claim_by, claim_for}
+use Rattle.gen_convict.specs.FindingClaims.{least_claim, claim_for}
 use Rattle.gen_convict.specs.Told.{told}
 use Rattle.gen_convict.proofs.Convicting.{if_ok, claim_same}
 use Rattle.gen_convict.proofs.finding.claim_against.Goals as goal
@@ -17,6 +17,6 @@ returns c =
     let firsts_are : firsts ≡ one_each [] texts =
     ap (map (λ (t : Bor SignedText). t.now)) c.as_slice-2.ensures.value ∙ c.in_ok-firsts.ensures
     ∙ ap (λ xs. one_each [] (map (λ (t : Bor SignedText). t.now) xs)) (c.as_slice.ensures.value ∙ sym c.as_slice-3.ensures.value) in
-    if_ok (λ claim. option_map told claim ≡ claim_by general firsts texts reports) (λ claim. option_map told claim ≡ claim_for reports general) c.claim_by.result
+    if_ok (λ claim. option_map told claim ≡ least_claim general firsts texts reports) (λ claim. option_map told claim ≡ claim_for reports general) c.least_claim.result
     (λ claim e. e ∙ claim_same general firsts texts reports texts_are firsts_are)
-    c.claim_by.ensures
+    c.least_claim.ensures

@@ -2,7 +2,7 @@ use Rattle.std.proofs.Common.{Contains, take, [], ◌∷◌, ◌++◌, ap, sym, 
 use Rattle.std.proofs.lemmas.List.{take_more, take_all}
 use Rattle.std.proofs.lemmas.List.Elements.{Contains-push_cases}
 use Rattle.gen_log.specs.Fields.{AreBelow}
-use Rattle.gen_local.specs.Report.{Report, IsReport}
+use Rattle.gen_local.specs.Report.{LocalReport, IsReport}
 use Rattle.gen_convict.proofs.finding.read_all.Goals as goal
 
 pub loop-report-preserved : goal.loop-report-preserved
@@ -12,7 +12,7 @@ loop-report-preserved c = λ r k.
     let x = c.report-item.result in
     elim (Contains-push_cases (take i xs) x r (subst (λ ys. Contains ys r) (take_more xs i x c.loop-report-test.true ∙ ap (λ y. take i xs ++ y ∷ []) (sym c.report-item.is)) k)) [
       | inl old ↦ c.loop-report.invariant r old
-      | inr e ↦ subst (λ (y : Report). IsReport y × AreBelow 256 y.exhibit.bytes) e (c.read_one.ensures.report, c.read_one.ensures.bytes)
+      | inr e ↦ subst (λ (y : LocalReport). IsReport y × AreBelow 256 y.exhibit.bytes) e (c.read_one.ensures.report, c.read_one.ensures.bytes)
     ]
 
 pub returns : goal.returns

@@ -1,11 +1,11 @@
-use Rattle.gen_convict.proofs.FirstOnes.{first_of_place, earliest_place, first_command, one_of_each, has_two_texts, one_pair_of_texts}
+use Rattle.gen_convict.proofs.FirstOnes.{first_of_subject, earliest_subject, first_command, one_of_each, has_two_texts, one_pair_of_texts}
 use Rattle.gen_convict.proofs.laws.first_pairs.Goals as goal
 
-pub returns-clause-place : goal.returns-clause-place
-returns-clause-place c = first_of_place
+pub returns-clause-subject : goal.returns-clause-subject
+returns-clause-subject c = first_of_subject
 
 pub returns-clause-earliest : goal.returns-clause-earliest
-returns-clause-earliest c = earliest_place
+returns-clause-earliest c = earliest_subject
 
 pub returns-clause-command : goal.returns-clause-command
 returns-clause-command c = first_command

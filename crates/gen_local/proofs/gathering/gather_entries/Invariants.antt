@@ -6,7 +6,7 @@ use Rattle.gen_local.proofs.gathering.gather_entries.Given as goal
 abbrev pub invariant-loop-entry : goal.invariant-loop-entry
 invariant-loop-entry l =
     Serves l.header l.store × KeepsAll l.fn.store l.store
-    × EntriesSoFar l.header l.entries l.rest l.place l.fn.texts.items l.texts.items l.unsigned
+    × EntriesSoFar l.header l.entries l.rest l.index l.fn.texts.items l.texts.items l.unsigned
 
 abbrev pub decreases-loop-entry : goal.decreases-loop-entry
 decreases-loop-entry l = length l.rest

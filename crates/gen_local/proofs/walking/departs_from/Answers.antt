@@ -9,46 +9,46 @@ use Rattle.gen_local.proofs.StateMore.{after_none, after_more}
 use Rattle.gen_local.proofs.FirstRefusal.{erased_more, sends_inside, blank, refused_departs, refused_begins, none_departs, none_begins, begun_more}
 use Rattle.gen_local.proofs.walking.departs_from.Goals as goal
 
-pub loop-place-init : goal.loop-place-init
-loop-place-init c = record {
+pub loop-index-init : goal.loop-index-init
+loop-index-init c = record {
   begun = begun_by_none c.args.net.now c.args.general c.orders-orders.ensures.network c.requires;
   after = after_none c.args.net.now c.args.general (replicate 16 Unlearnt) refl (λ v low. blank Unlearnt 16 v);
 }
 
 pub may_follow-requires : goal.may_follow-requires
-may_follow-requires c = c.loop-place.invariant.after
+may_follow-requires c = c.loop-index.invariant.after
 
 pub bring-requires-clause-inside : goal.bring-requires-clause-inside
 bring-requires-clause-inside c =
     let m = c.may_follow.ensures.0 c.if-not-may_follow.false in
-    sends_inside c.args.net.now c.args.general (erased (take c.loop-place.place c.args.entries.now)) c.orders-orders.ensures.network (erase c.index-entries-place.result) m.sound
+    sends_inside c.args.net.now c.args.general (erased (take c.loop-index.index c.args.entries.now)) c.orders-orders.ensures.network (erase c.index-entries-index.result) m.sound
 
-pub loop-place-preserved : goal.loop-place-preserved
-loop-place-preserved c =
+pub loop-index-preserved : goal.loop-index-preserved
+loop-index-preserved c =
     let net = c.args.net.now in
     let g = c.args.general in
     let ok = c.orders-orders.ensures.network in
-    let e = erase c.index-entries-place.result in
-    let before : List LogEntry = erased (take c.loop-place.place c.args.entries.now) in
+    let e = erase c.index-entries-index.result in
+    let before : List LogEntry = erased (take c.loop-index.index c.args.entries.now) in
     let m : MayFollow net g before e = c.may_follow.ensures.0 c.if-not-may_follow.false in
-    let more = erased_more c.args.entries.now c.loop-place.place c.index-entries-place.result c.loop-place-test.true c.index-entries-place.is in
+    let more = erased_more c.args.entries.now c.loop-index.index c.index-entries-index.result c.loop-index-test.true c.index-entries-index.is in
     rw more (record {
-      begun = begun_more net g ok c.requires before e c.loop-place.invariant.begun m;
-      after = rw c.key_of-least.ensures.value (after_more net ok g before c.loop-place.least c.loop-place.orders c.bring.new.orders c.loop-place.invariant.after e c.know_small.ensures m c.bring.ensures);
+      begun = begun_more net g ok c.requires before e c.loop-index.invariant.begun m;
+      after = rw c.key_of-least.ensures.value (after_more net ok g before c.loop-index.least c.loop-index.orders c.bring.new.orders c.loop-index.invariant.after e c.know_small.ensures m c.bring.ensures);
     })
 
 pub returns-then-not-may_follow-clause-departs : goal.returns-then-not-may_follow-clause-departs
 returns-then-not-may_follow-clause-departs c =
-    refused_departs c.args.net.now c.args.general c.orders-orders.ensures.network c.requires c.args.entries.now c.loop-place.place c.index-entries-place.result c.loop-place-test.true c.index-entries-place.is c.loop-place.invariant.begun
+    refused_departs c.args.net.now c.args.general c.orders-orders.ensures.network c.requires c.args.entries.now c.loop-index.index c.index-entries-index.result c.loop-index-test.true c.index-entries-index.is c.loop-index.invariant.begun
     (λ m. let t : true ≡ false = sym (c.may_follow.ensures.1 m) ∙ c.if-not-may_follow.true in cc)
 
 pub returns-then-not-may_follow-clause-begins : goal.returns-then-not-may_follow-clause-begins
 returns-then-not-may_follow-clause-begins c =
-    refused_begins c.args.net.now c.args.general c.orders-orders.ensures.network c.requires c.args.entries.now c.loop-place.place c.index-entries-place.result c.loop-place-test.true c.index-entries-place.is c.loop-place.invariant.begun
+    refused_begins c.args.net.now c.args.general c.orders-orders.ensures.network c.requires c.args.entries.now c.loop-index.index c.index-entries-index.result c.loop-index-test.true c.index-entries-index.is c.loop-index.invariant.begun
     (λ m. let t : true ≡ false = sym (c.may_follow.ensures.1 m) ∙ c.if-not-may_follow.true in cc)
 
 pub returns-clause-departs : goal.returns-clause-departs
-returns-clause-departs c = none_departs c.args.net.now c.args.general c.orders-orders.ensures.network c.requires c.args.entries.now c.loop-place.place c.loop-place-test.false c.loop-place.invariant.begun
+returns-clause-departs c = none_departs c.args.net.now c.args.general c.orders-orders.ensures.network c.requires c.args.entries.now c.loop-index.index c.loop-index-test.false c.loop-index.invariant.begun
 
 pub returns-clause-begins : goal.returns-clause-begins
-returns-clause-begins c = none_begins c.args.net.now c.args.general c.orders-orders.ensures.network c.requires c.args.entries.now c.loop-place.place c.loop-place-test.false c.loop-place.invariant.begun
+returns-clause-begins c = none_begins c.args.net.now c.args.general c.orders-orders.ensures.network c.requires c.args.entries.now c.loop-index.index c.loop-index-test.false c.loop-index.invariant.begun

@@ -4,8 +4,8 @@ use Rattle.gen_local.specs.Erased.{erased}
 use Rattle.gen_local.specs.Walking.State.{IsAfter}
 use Rattle.gen_local.proofs.walking.departs_from.Given as goal
 
-abbrev pub invariant-loop-place : goal.invariant-loop-place
-invariant-loop-place l = record {
-  begun : Begins l.net l.general (erased (take l.place l.entries));
-  after : IsAfter l.net l.general (erased (take l.place l.entries)) l.least l.orders;
+abbrev pub invariant-loop-index : goal.invariant-loop-index
+invariant-loop-index l = record {
+  begun : Begins l.net l.general (erased (take l.index l.entries));
+  after : IsAfter l.net l.general (erased (take l.index l.entries)) l.least l.orders;
 }

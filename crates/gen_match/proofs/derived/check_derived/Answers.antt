@@ -8,8 +8,8 @@ use Rattle.gen_match.proofs.derived.check_derived.Goals as goal
 
 pub returns : goal.returns
 returns c =
-    let places = rw c.as_slice.ensures.value at c.in_ok-places.ensures.places in
-    let all = strays_found c.in_ok-sources.sources.items c.in_ok-places.places.items c.args.header.now.network c.args.faulty.now (told_logs c.args.reports.now) c.in_ok-sources.ensures c.in_ok-places.ensures.small c.net-known.ensures.header.network.ranges.few_generals places in
+    let ranks = rw c.as_slice.ensures.value at c.in_ok-ranks.ensures.ranks in
+    let all = strays_found c.in_ok-sources.sources.items c.in_ok-ranks.ranks.items c.args.header.now.network c.args.faulty.now (told_logs c.args.reports.now) c.in_ok-sources.ensures c.in_ok-ranks.ensures.small c.net-known.ensures.header.network.ranges.few_generals ranks in
     then_ok (λ f. f.items ≡ map finding_at c.as_slice-2.result.now) (λ f. AreFindings (FindsUnderivable c.args.header.now.network c.args.faulty.now (told_logs c.args.reports.now)) f.items) c.findings_at.result
     (λ f e. subst (AreFindings (FindsUnderivable c.args.header.now.network c.args.faulty.now (told_logs c.args.reports.now))) (sym (e ∙ ap (map finding_at) c.as_slice-2.ensures.value)) all)
     c.findings_at.ensures

@@ -6,7 +6,7 @@ use Rattle.gen_match.proofs.derived.find_entries.Given as goal
 
 abbrev pub invariant-loop-entry : goal.invariant-loop-entry
 invariant-loop-entry l = record {
-  places_so_far : l.places.items ++ flat_map (found_at l.sources l.header.network l.faulty l.to) (erased l.rest) ≡ l.initial.places.items ++ flat_map (found_at l.sources l.header.network l.faulty l.to) (erased l.entries);
+  ranks_so_far : l.ranks.items ++ flat_map (found_at l.sources l.header.network l.faulty l.to) (erased l.rest) ≡ l.initial.ranks.items ++ flat_map (found_at l.sources l.header.network l.faulty l.to) (erased l.entries);
   small_so_far : AllByRecursion IsSmall (erased l.rest) → AllByRecursion IsSmall (erased l.entries);
 }
 

@@ -5,9 +5,9 @@ use Rattle.gen_report.proofs.blocks.read_blocks.Given as goal
 
 abbrev pub invariant-lines : goal.invariant-lines
 invariant-lines l = record {
-  so_far : with_blocks l.scripts.items l.block l.lines.items l.paths.items (blocks_from l.net l.block l.place) ≡ blocks_from l.net None l.fn.start;
+  so_far : with_blocks l.scripts.items l.block l.lines.items l.paths.items (blocks_from l.net l.block l.cursor) ≡ blocks_from l.net None l.fn.start;
   known : IfSome l.block (λ g. g < l.net.generals);
 }
 
 abbrev pub decreases-lines : goal.decreases-lines
-decreases-lines l = length l.place.parts
+decreases-lines l = length l.cursor.parts

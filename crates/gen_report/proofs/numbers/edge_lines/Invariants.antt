@@ -3,7 +3,7 @@ use Rattle.gen_report.proofs.EdgeLoop.{with_front, edges_from}
 use Rattle.gen_report.proofs.numbers.edge_lines.Given as goal
 
 abbrev pub invariant-lines : goal.invariant-lines
-invariant-lines l = with_front l.found.items (edges_from l.place) ≡ edges_from l.fn.start
+invariant-lines l = with_front l.found.items (edges_from l.cursor) ≡ edges_from l.fn.start
 
 abbrev pub decreases-lines : goal.decreases-lines
-decreases-lines l = length l.place.parts
+decreases-lines l = length l.cursor.parts

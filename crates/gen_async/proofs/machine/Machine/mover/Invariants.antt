@@ -4,4 +4,4 @@ use Rattle.gen_async.specs.Machine.{answer, has_moved}
 use Rattle.gen_async.proofs.machine.Machine.mover.Given as goal
 
 abbrev pub invariant-generals : goal.invariant-generals
-invariant-generals l = find (λ g. has_moved (answer l.self.scenario.net l.self.capacity l.self.places g)) (range_with_len 0 l.number) ≡ None
+invariant-generals l = find (λ g. has_moved (answer l.self.scenario.net l.self.capacity l.self.progress g)) (range_with_len 0 l.number) ≡ None

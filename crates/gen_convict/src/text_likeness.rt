@@ -6,7 +6,7 @@ use gen_local::Text;
 use gen_log::{Log, has_sign};
 use gen_types::Path;
 
-/// Whether two texts stand in one place: two statements of one order, or two heads.
+/// Whether two texts have one subject: two statements of one order, or two heads.
 pub fn is_like(first: &Text, second: &Text) -> bool
     ensures { result ≡ finds.is_like first.now second.now }
 {
@@ -17,7 +17,7 @@ pub fn is_like(first: &Text, second: &Text) -> bool
     }
 }
 
-/// Whether two texts stand in one place and are not the same.
+/// Whether two texts have one subject and are not the same.
 pub fn is_unlike(first: &Text, second: &Text) -> bool
     ensures { result ≡ finds.is_unlike first.now second.now }
 {

@@ -2,10 +2,10 @@ use Rattle.std.proofs.Common.{◌≡◌}
 use Rattle.std.specs.List.{flat_map, range_with_len}
 use Rattle.gen_match.specs.Reports.{told_logs}
 use Rattle.gen_match.specs.Underivables.{rest_entries, found_at, AreSmall}
-use Rattle.gen_match.proofs.derived.find_places.Given as goal
+use Rattle.gen_match.proofs.derived.find_ranks.Given as goal
 
 abbrev pub invariant-loop-number : goal.invariant-loop-number
 invariant-loop-number l = record {
-  places_so_far : l.places.items ≡ flat_map (λ g. flat_map (found_at l.sources l.header.network l.faulty g) (rest_entries l.header.network l.faulty (told_logs l.reports) g)) (range_with_len 0 l.number);
+  ranks_so_far : l.ranks.items ≡ flat_map (λ g. flat_map (found_at l.sources l.header.network l.faulty g) (rest_entries l.header.network l.faulty (told_logs l.reports) g)) (range_with_len 0 l.number);
   small_so_far : AreSmall l.header.network l.faulty (told_logs l.reports) l.number;
 }

@@ -5,18 +5,18 @@ use Rattle.gen_local.specs.Erased.{erased}
 use Rattle.gen_match.specs.Reports.{told_logs}
 use Rattle.gen_match.specs.Underivables.{rest_entries, found_at, AreSmall}
 use Rattle.gen_match.proofs.Rest.{range_step, small_step}
-use Rattle.gen_match.proofs.derived.find_places.Goals as goal
+use Rattle.gen_match.proofs.derived.find_ranks.Goals as goal
 
 pub loop-number-preserved : goal.loop-number-preserved
 loop-number-preserved c = record {
-  places_so_far = range_step (λ g. flat_map (found_at c.args.sources.now c.args.header.now.network c.args.faulty.now g) (rest_entries c.args.header.now.network c.args.faulty.now (told_logs c.args.reports.now) g)) c.loop-number.number c.loop-number.places.items c.find_entries.new.places.items c.loop-number.invariant.places_so_far (rw (c.rest_entries-entries.ensures, c.at-general.ensures) at c.in_ok-find_entries.ensures.places);
+  ranks_so_far = range_step (λ g. flat_map (found_at c.args.sources.now c.args.header.now.network c.args.faulty.now g) (rest_entries c.args.header.now.network c.args.faulty.now (told_logs c.args.reports.now) g)) c.loop-number.number c.loop-number.ranks.items c.find_entries.new.ranks.items c.loop-number.invariant.ranks_so_far (rw (c.rest_entries-entries.ensures, c.at-general.ensures) at c.in_ok-find_entries.ensures.ranks);
   small_so_far = small_step c.args.header.now.network c.args.faulty.now (told_logs c.args.reports.now) c.loop-number.number (erased c.rest_entries-entries.result.now) c.loop-number.invariant.small_so_far c.in_ok-find_entries.ensures.small (rw c.at-general.ensures at c.rest_entries-entries.ensures);
 }
 
-pub returns-clause-places : goal.returns-clause-places
-returns-clause-places c =
+pub returns-clause-ranks : goal.returns-clause-ranks
+returns-clause-ranks c =
     let n : c.loop-number.number ≡ c.args.header.now.network.generals = omega (arith, c.loop-number-test.false, c.loop-number.auto.number-end, c.generals-number-end.ensures.value ∙ ap (λ (w : Network). w.generals) c.net.ensures.value) in
-    rw (c.loop-number.invariant.places_so_far, n) at c.in_ok-sort_apart.ensures
+    rw (c.loop-number.invariant.ranks_so_far, n) at c.in_ok-sort_apart.ensures
 
 pub returns-clause-small : goal.returns-clause-small
 returns-clause-small c =

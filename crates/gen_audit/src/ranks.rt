@@ -1,9 +1,9 @@
 //! What findings are sorted by.
 
-/// The numbers of a finding's place, 0 for those that it hasn't. Places are ordered by the first number, then by
+/// The numbers of a finding's rank, 0 for those that it hasn't. Ranks are ordered by the first number, then by
 /// the next.
 #[derive(Clone, Copy, Debug, PartialEq, Eq, PartialOrd, Ord)]
-pub(crate) struct SortingPlace {
+pub(crate) struct Rank {
     /// The number of the finding, 1 to 11.
     pub(crate) number: u8,
     /// The first general.

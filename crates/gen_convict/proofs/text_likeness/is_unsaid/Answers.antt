@@ -1,7 +1,7 @@
 use Rattle.std.proofs.Common.{not, sym, ap, ◌∙◌}
 use Rattle.gen_convict.specs.Finding as finds
 use Rattle.gen_convict.proofs.Signs.{has_sign_tests}
-use Rattle.gen_convict.proofs.text_tests.is_unsaid.Goals as goal
+use Rattle.gen_convict.proofs.text_likeness.is_unsaid.Goals as goal
 
 pub returns-in-OfStatement : goal.returns-in-OfStatement
 returns-in-OfStatement c =

@@ -1,7 +1,7 @@
 use Rattle.std.proofs.Common.{◌≡◌, length}
 use Rattle.gen_scenario.specs.Scenario.{scripted}
 use Rattle.gen_report.specs.BlocksReading.{all_scripted}
-use Rattle.gen_report.proofs.blocks.test_paths.Given as goal
+use Rattle.gen_report.proofs.blocks.check_paths.Given as goal
 
 abbrev pub invariant-loop-rest : goal.invariant-loop-rest
 invariant-loop-rest l = all_scripted (scripted l.scripts) l.rest ≡ all_scripted (scripted l.scripts) l.paths

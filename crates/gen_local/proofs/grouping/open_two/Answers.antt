@@ -1,0 +1,9 @@
+use Rattle.gen_local.proofs.Grouped.{two_taken, two_dropped}
+use Rattle.gen_local.proofs.grouping.open_two.Goals as goal
+
+pub returns-clause-shown : goal.returns-clause-shown
+returns-clause-shown c =
+    rw (c.in_ok-first.ensures.first, c.in_ok-second.ensures.first, c.in_ok-first.ensures.rest) (two_taken c.args.exhibits.now)
+
+pub returns-clause-rest : goal.returns-clause-rest
+returns-clause-rest c = rw (c.in_ok-second.ensures.rest, c.in_ok-first.ensures.rest) (two_dropped c.args.exhibits.now)
