@@ -17,7 +17,7 @@ use Rattle.gen_async.specs.Logs.{log_so_far}
 use Rattle.gen_async.specs.Frames.{queue}
 use Rattle.gen_async.specs.Laws.{MoverNames}
 use Rattle.gen_async.specs.Machine.{at_start, next_act, put, taken, queued, answer, after, mover, has_moved}
-use Rattle.gen_async.specs.Running.{MachineState, IsKept, Answers, progress_of, queue_at, with_queue}
+use Rattle.gen_async.specs.Running.{Machine, IsKept, Answers, progress_of, queue_at, with_queue}
 use Rattle.gen_async.proofs.Answering.{says_put, says_full, says_took, says_empty, says_done}
 use Rattle.gen_async.proofs.Movers.{mover_law}
 use Rattle.gen_async.proofs.Running.{queue_length, queue_same, queue_longer, queue_shorter, put_here, taken_here, put_steps, put_stays, take_steps, take_stays, done_steps}
@@ -76,7 +76,7 @@ module _ (sc : Scenario) (capacity : ℕ) (progress : List ℕ) (actors : List A
   put_length : (l h : ℕ) → next_act sc.net progress g ≡ Some (Puts l h) → length (queue_at rows g h) ≡ queued sc.net progress g h
   put_length l h next = ap length (k.queued_up g h g_small (other_small h (stands_at_put sc.net k.lawful.network progress g l h next).joined)) ∙ queue_length sc.net (frame_at sc) progress g h
 
-  pub put_blocked : (s : MachineState) (l h : ℕ) → ◌≡◌ {A = MachineState} (record { scenario = sc; capacity = capacity; progress = progress }) s → next_act sc.net progress g ≡ Some (Puts l h) → capacity ≤ length (queue_at rows g h) → Answers s g Blocked s
+  pub put_blocked : (s : Machine) (l h : ℕ) → ◌≡◌ {A = Machine} (record { scenario = sc; capacity = capacity; progress = progress }) s → next_act sc.net progress g ≡ Some (Puts l h) → capacity ≤ length (queue_at rows g h) → Answers s g Blocked s
   put_blocked s l h view next is_full =
       let long = put_length l h next in
       subst (λ z. Answers z g Blocked z) view (record {
@@ -86,7 +86,7 @@ module _ (sc : Scenario) (capacity : ℕ) (progress : List ℕ) (actors : List A
         capacity = refl;
       })
 
-  pub put_moved : (s : MachineState) (later : List ℕ) (l h : ℕ) → ◌≡◌ {A = MachineState} (record { scenario = sc; capacity = capacity; progress = progress }) s → next_act sc.net progress g ≡ Some (Puts l h) → length (queue_at rows g h) < capacity → later ≡ one_on progress g → Answers s g Put (record { scenario = sc; capacity = capacity; progress = later })
+  pub put_moved : (s : Machine) (later : List ℕ) (l h : ℕ) → ◌≡◌ {A = Machine} (record { scenario = sc; capacity = capacity; progress = progress }) s → next_act sc.net progress g ≡ Some (Puts l h) → length (queue_at rows g h) < capacity → later ≡ one_on progress g → Answers s g Put (record { scenario = sc; capacity = capacity; progress = later })
   put_moved s later l h view next free on =
       let long = put_length l h next in
       subst (λ z. Answers z g Put (record { scenario = sc; capacity = capacity; progress = later })) view (record {
@@ -149,7 +149,7 @@ module _ (sc : Scenario) (capacity : ℕ) (progress : List ℕ) (actors : List A
   pub front_is : (l h : ℕ) (frame : List (List ℕ)) → next_act sc.net progress g ≡ Some (Takes l h) → 0 < length (queue_at rows h g) → frame ≡ slice_index_or (queue_at rows h g) 0 frame → frame ≡ frame_at sc l h g
   front_is l h frame next free read = read ∙ ap (λ z. slice_index_or z 0 frame) (shorter l h next free)
 
-  pub take_blocked : (s : MachineState) (l h : ℕ) → ◌≡◌ {A = MachineState} (record { scenario = sc; capacity = capacity; progress = progress }) s → next_act sc.net progress g ≡ Some (Takes l h) → length (queue_at rows h g) ≤ 0 → Answers s g Blocked s
+  pub take_blocked : (s : Machine) (l h : ℕ) → ◌≡◌ {A = Machine} (record { scenario = sc; capacity = capacity; progress = progress }) s → next_act sc.net progress g ≡ Some (Takes l h) → length (queue_at rows h g) ≤ 0 → Answers s g Blocked s
   take_blocked s l h view next is_empty =
       let long = take_length l h next in
       subst (λ z. Answers z g Blocked z) view (record {
@@ -159,7 +159,7 @@ module _ (sc : Scenario) (capacity : ℕ) (progress : List ℕ) (actors : List A
         capacity = refl;
       })
 
-  pub take_moved : (s : MachineState) (later : List ℕ) (l h : ℕ) → ◌≡◌ {A = MachineState} (record { scenario = sc; capacity = capacity; progress = progress }) s → next_act sc.net progress g ≡ Some (Takes l h) → 0 < length (queue_at rows h g) → later ≡ one_on progress g → Answers s g Took (record { scenario = sc; capacity = capacity; progress = later })
+  pub take_moved : (s : Machine) (later : List ℕ) (l h : ℕ) → ◌≡◌ {A = Machine} (record { scenario = sc; capacity = capacity; progress = progress }) s → next_act sc.net progress g ≡ Some (Takes l h) → 0 < length (queue_at rows h g) → later ≡ one_on progress g → Answers s g Took (record { scenario = sc; capacity = capacity; progress = later })
   take_moved s later l h view next free on =
       let long = take_length l h next in
       subst (λ z. Answers z g Took (record { scenario = sc; capacity = capacity; progress = later })) view (record {
@@ -169,7 +169,7 @@ module _ (sc : Scenario) (capacity : ℕ) (progress : List ℕ) (actors : List A
         capacity = refl;
       })
 
-  pub act_done : (s : MachineState) → ◌≡◌ {A = MachineState} (record { scenario = sc; capacity = capacity; progress = progress }) s → next_act sc.net progress g ≡ None → Answers s g Done s
+  pub act_done : (s : Machine) → ◌≡◌ {A = Machine} (record { scenario = sc; capacity = capacity; progress = progress }) s → next_act sc.net progress g ≡ None → Answers s g Done s
   act_done s view next = subst (λ z. Answers z g Done z) view (record {
     said = sym (says_done sc.net capacity progress g next);
     progress = sym (done_steps sc.net capacity progress g next);
@@ -213,21 +213,21 @@ module _ (sc : Scenario) (capacity : ℕ) (progress : List ℕ) (actors : List A
   take_kept i t l h later same are next free e shrunk = subst (λ z. IsKept sc capacity z (slice_set actors i t) later) (sym (progress_on sc capacity progress actors rows k g below i t same are e)) (kept_take sc capacity progress actors rows k g below i t l h later same next free e shrunk)
 
   -- his log
-  pub log_read : (i : ℕ) (a : ActorState) (s : MachineState) (bytes : List ℕ) → ◌≡◌ {A = MachineState} (record { scenario = sc; capacity = capacity; progress = progress }) s → i ≡ g → a ≡ slice_index_or actors i a
+  pub log_read : (i : ℕ) (a : ActorState) (s : Machine) (bytes : List ℕ) → ◌≡◌ {A = Machine} (record { scenario = sc; capacity = capacity; progress = progress }) s → i ≡ g → a ≡ slice_index_or actors i a
       → bytes ≡ flat_map entry_spelling (entries_at a.scenario a.me a.progress) → bytes ≡ flat_map entry_spelling (log_so_far s.scenario.net (undecided_by s.scenario) s.progress g)
   unfolding log_so_far entries_at
   log_read i a s bytes view same read e =
       let here : bytes ≡ flat_map entry_spelling (log_so_far sc.net (undecided_by sc) progress g) = e ∙ ap (λ (z : ActorState). flat_map entry_spelling (entries_at z.scenario z.me z.progress)) (actor_read sc capacity progress actors rows k g below i a same read) in
-      subst (λ (z : MachineState). bytes ≡ flat_map entry_spelling (log_so_far z.scenario.net (undecided_by z.scenario) z.progress g)) view here
+      subst (λ (z : Machine). bytes ≡ flat_map entry_spelling (log_so_far z.scenario.net (undecided_by z.scenario) z.progress g)) view here
 
-pub next_inside : (s : MachineState) (sc : Scenario) (capacity : ℕ) (progress : List ℕ) (g : ℕ) (next : Option Act) → ◌≡◌ {A = MachineState} (record { scenario = sc; capacity = capacity; progress = progress }) s → next_act s.scenario.net s.progress g ≡ next → next_act sc.net progress g ≡ next
-next_inside s sc capacity progress g next view e = subst (λ (z : MachineState). next_act z.scenario.net z.progress g ≡ next) (sym view) e
+pub next_inside : (s : Machine) (sc : Scenario) (capacity : ℕ) (progress : List ℕ) (g : ℕ) (next : Option Act) → ◌≡◌ {A = Machine} (record { scenario = sc; capacity = capacity; progress = progress }) s → next_act s.scenario.net s.progress g ≡ next → next_act sc.net progress g ≡ next
+next_inside s sc capacity progress g next view e = subst (λ (z : Machine). next_act z.scenario.net z.progress g ≡ next) (sym view) e
 
-pub next_outside : (s : MachineState) (sc : Scenario) (capacity : ℕ) (progress : List ℕ) (g : ℕ) (next : Option Act) → ◌≡◌ {A = MachineState} (record { scenario = sc; capacity = capacity; progress = progress }) s → next_act sc.net progress g ≡ next → next_act s.scenario.net s.progress g ≡ next
-next_outside s sc capacity progress g next view e = subst (λ (z : MachineState). next_act z.scenario.net z.progress g ≡ next) view e
+pub next_outside : (s : Machine) (sc : Scenario) (capacity : ℕ) (progress : List ℕ) (g : ℕ) (next : Option Act) → ◌≡◌ {A = Machine} (record { scenario = sc; capacity = capacity; progress = progress }) s → next_act sc.net progress g ≡ next → next_act s.scenario.net s.progress g ≡ next
+next_outside s sc capacity progress g next view e = subst (λ (z : Machine). next_act z.scenario.net z.progress g ≡ next) view e
 
-pub below_inside : (s : MachineState) (sc : Scenario) (capacity : ℕ) (progress : List ℕ) (g : ℕ) → ◌≡◌ {A = MachineState} (record { scenario = sc; capacity = capacity; progress = progress }) s → g < s.scenario.net.generals → g < sc.net.generals
-below_inside s sc capacity progress g view below = subst (λ (z : MachineState). g < z.scenario.net.generals) (sym view) below
+pub below_inside : (s : Machine) (sc : Scenario) (capacity : ℕ) (progress : List ℕ) (g : ℕ) → ◌≡◌ {A = Machine} (record { scenario = sc; capacity = capacity; progress = progress }) s → g < s.scenario.net.generals → g < sc.net.generals
+below_inside s sc capacity progress g view below = subst (λ (z : Machine). g < z.scenario.net.generals) (sym view) below
 
 -- nothing changed
 pub kept_same : (sc : Scenario) (capacity : ℕ) (actors : List ActorState) (rows later : List (List (List (List ℕ)))) (i : ℕ) (a t : ActorState) → IsKept sc capacity (progress_of actors) actors rows → a ≡ slice_index_or actors i a → t ≡ a → later ≡ rows
@@ -237,19 +237,19 @@ kept_same sc capacity actors rows later i a t k read same back =
     subst (λ (zs : List ActorState). IsKept sc capacity (progress_of zs) zs later) (sym unmoved) (subst (λ z. IsKept sc capacity (progress_of actors) actors z) (sym back) k)
 
 -- whether an attempt would move
-module _ (sc : Scenario) (capacity : ℕ) (progress : List ℕ) (actors : List ActorState) (rows : List (List (List (List ℕ)))) (k : IsKept sc capacity progress actors rows) (g : ℕ) (below : g < sc.net.generals) (s : MachineState) (view : ◌≡◌ {A = MachineState} (record { scenario = sc; capacity = capacity; progress = progress }) s) where
+module _ (sc : Scenario) (capacity : ℕ) (progress : List ℕ) (actors : List ActorState) (rows : List (List (List (List ℕ)))) (k : IsKept sc capacity progress actors rows) (g : ℕ) (below : g < sc.net.generals) (s : Machine) (view : ◌≡◌ {A = Machine} (record { scenario = sc; capacity = capacity; progress = progress }) s) where
   pub would_none : next_act sc.net progress g ≡ None → false ≡ has_moved (answer s.scenario.net s.capacity s.progress g)
-  would_none next = subst (λ (z : MachineState). false ≡ has_moved (answer z.scenario.net z.capacity z.progress g)) view (sym (ap has_moved (says_done sc.net capacity progress g next)))
+  would_none next = subst (λ (z : Machine). false ≡ has_moved (answer z.scenario.net z.capacity z.progress g)) view (sym (ap has_moved (says_done sc.net capacity progress g next)))
 
   pub would_put : (l h n : ℕ) → next_act sc.net progress g ≡ Some (Puts l h) → n ≡ length (queue_at rows g h) → ltb n capacity ≡ has_moved (answer s.scenario.net s.capacity s.progress g)
-  would_put l h n next long = subst (λ (z : MachineState). ltb n capacity ≡ has_moved (answer z.scenario.net z.capacity z.progress g)) view
+  would_put l h n next long = subst (λ (z : Machine). ltb n capacity ≡ has_moved (answer z.scenario.net z.capacity z.progress g)) view
       (elim (cases_lt n capacity) [
         | inl free ↦ lt-ltb n capacity free ∙ sym (ap has_moved (says_put sc.net capacity progress g l h next (omega (arith, put_length sc capacity progress actors rows k g below l h next))))
         | inr is_full ↦ le-ltb n capacity is_full ∙ sym (ap has_moved (says_full sc.net capacity progress g l h next (omega (arith, put_length sc capacity progress actors rows k g below l h next))))
       ])
 
   pub would_take : (l h n : ℕ) → next_act sc.net progress g ≡ Some (Takes l h) → n ≡ length (queue_at rows h g) → ltb 0 n ≡ has_moved (answer s.scenario.net s.capacity s.progress g)
-  would_take l h n next long = subst (λ (z : MachineState). ltb 0 n ≡ has_moved (answer z.scenario.net z.capacity z.progress g)) view
+  would_take l h n next long = subst (λ (z : Machine). ltb 0 n ≡ has_moved (answer z.scenario.net z.capacity z.progress g)) view
       (elim (cases_lt 0 n) [
         | inl free ↦ lt-ltb 0 n free ∙ sym (ap has_moved (says_took sc.net capacity progress g l h next (omega (arith, take_length sc capacity progress actors rows k g below l h next))))
         | inr is_empty ↦ le-ltb 0 n is_empty ∙ sym (ap has_moved (says_empty sc.net capacity progress g l h next (omega (arith, take_length sc capacity progress actors rows k g below l h next))))
@@ -284,26 +284,26 @@ find_more p (suc k) a none here = elim (cases_Bool (p a)) [
       ∙ cond-false (p a) (Some a) (find p (range_with_len (a + 1) (k + 1))) f ∙ find_more p k (a + 1) rest (subst (λ z. p z ≡ false) (sym same) here)
 ]
 
-pub named : (sc : Scenario) (capacity : ℕ) (progress : List ℕ) (actors : List ActorState) (rows : List (List (List (List ℕ)))) → IsKept sc capacity progress actors rows → (s : MachineState) → ◌≡◌ {A = MachineState} (record { scenario = sc; capacity = capacity; progress = progress }) s → (r : Option ℕ) → r ≡ mover s.scenario.net s.capacity s.progress → 1 ≤ s.capacity → MoverNames s.scenario.net s.capacity s.progress r
+pub named : (sc : Scenario) (capacity : ℕ) (progress : List ℕ) (actors : List ActorState) (rows : List (List (List (List ℕ)))) → IsKept sc capacity progress actors rows → (s : Machine) → ◌≡◌ {A = Machine} (record { scenario = sc; capacity = capacity; progress = progress }) s → (r : Option ℕ) → r ≡ mover s.scenario.net s.capacity s.progress → 1 ≤ s.capacity → MoverNames s.scenario.net s.capacity s.progress r
 named sc capacity progress actors rows k s view r e some =
-    let room : 1 ≤ capacity = subst (λ (z : MachineState). 1 ≤ z.capacity) (sym view) some in
-    subst (MoverNames s.scenario.net s.capacity s.progress) (sym e) (subst (λ (z : MachineState). MoverNames z.scenario.net z.capacity z.progress (mover z.scenario.net z.capacity z.progress)) view (mover_law sc.net capacity progress k.lawful.network room k.machine))
+    let room : 1 ≤ capacity = subst (λ (z : Machine). 1 ≤ z.capacity) (sym view) some in
+    subst (MoverNames s.scenario.net s.capacity s.progress) (sym e) (subst (λ (z : Machine). MoverNames z.scenario.net z.capacity z.progress (mover z.scenario.net z.capacity z.progress)) view (mover_law sc.net capacity progress k.lawful.network room k.machine))
 
 -- the search of mover, over all generals of a machine that is seen from outside
-pub found : (s : MachineState) (sc : Scenario) (capacity : ℕ) (progress : List ℕ) (n k g : ℕ) (answered : Bool) → ◌≡◌ {A = MachineState} (record { scenario = sc; capacity = capacity; progress = progress }) s → n ≡ sc.net.generals → k < n → g ≡ k → find (λ x. has_moved (answer s.scenario.net s.capacity s.progress x)) (range_with_len 0 k) ≡ None → answered ≡ has_moved (answer s.scenario.net s.capacity s.progress g) → answered ≡ true → Some g ≡ mover s.scenario.net s.capacity s.progress
+pub found : (s : Machine) (sc : Scenario) (capacity : ℕ) (progress : List ℕ) (n k g : ℕ) (answered : Bool) → ◌≡◌ {A = Machine} (record { scenario = sc; capacity = capacity; progress = progress }) s → n ≡ sc.net.generals → k < n → g ≡ k → find (λ x. has_moved (answer s.scenario.net s.capacity s.progress x)) (range_with_len 0 k) ≡ None → answered ≡ has_moved (answer s.scenario.net s.capacity s.progress g) → answered ≡ true → Some g ≡ mover s.scenario.net s.capacity s.progress
 unfolding mover
 found s sc capacity progress n k g answered view count below same none said holds =
-    let generals : n ≡ s.scenario.net.generals = count ∙ ap (λ (z : MachineState). z.scenario.net.generals) view in
+    let generals : n ≡ s.scenario.net.generals = count ∙ ap (λ (z : Machine). z.scenario.net.generals) view in
     let here : has_moved (answer s.scenario.net s.capacity s.progress (0 + k)) ≡ true = ap (λ z. has_moved (answer s.scenario.net s.capacity s.progress z)) (zero-add k ∙ sym same) ∙ sym said ∙ holds in
     ap (λ (z : ℕ). Some z) (same ∙ sym (zero-add k)) ∙ sym (find_first (λ x. has_moved (answer s.scenario.net s.capacity s.progress x)) k s.scenario.net.generals 0 none (omega arith) here)
 
-pub not_found : (s : MachineState) (sc : Scenario) (capacity : ℕ) (progress : List ℕ) (n k : ℕ) → ◌≡◌ {A = MachineState} (record { scenario = sc; capacity = capacity; progress = progress }) s → n ≡ sc.net.generals → k ≤ n → n ≤ k → find (λ x. has_moved (answer s.scenario.net s.capacity s.progress x)) (range_with_len 0 k) ≡ None → None ≡ mover s.scenario.net s.capacity s.progress
+pub not_found : (s : Machine) (sc : Scenario) (capacity : ℕ) (progress : List ℕ) (n k : ℕ) → ◌≡◌ {A = Machine} (record { scenario = sc; capacity = capacity; progress = progress }) s → n ≡ sc.net.generals → k ≤ n → n ≤ k → find (λ x. has_moved (answer s.scenario.net s.capacity s.progress x)) (range_with_len 0 k) ≡ None → None ≡ mover s.scenario.net s.capacity s.progress
 unfolding mover
 not_found s sc capacity progress n k view count high low none =
-    let generals : k ≡ s.scenario.net.generals = (let e : k ≡ n = omega arith in e) ∙ count ∙ ap (λ (z : MachineState). z.scenario.net.generals) view in
+    let generals : k ≡ s.scenario.net.generals = (let e : k ≡ n = omega arith in e) ∙ count ∙ ap (λ (z : Machine). z.scenario.net.generals) view in
     sym (ap (λ z. find (λ x. has_moved (answer s.scenario.net s.capacity s.progress x)) (range_with_len 0 z)) (sym generals) ∙ none)
 
-pub not_yet : (s : MachineState) (k g : ℕ) (answered : Bool) → g ≡ k → find (λ x. has_moved (answer s.scenario.net s.capacity s.progress x)) (range_with_len 0 k) ≡ None → answered ≡ has_moved (answer s.scenario.net s.capacity s.progress g) → answered ≡ false → find (λ x. has_moved (answer s.scenario.net s.capacity s.progress x)) (range_with_len 0 (k + 1)) ≡ None
+pub not_yet : (s : Machine) (k g : ℕ) (answered : Bool) → g ≡ k → find (λ x. has_moved (answer s.scenario.net s.capacity s.progress x)) (range_with_len 0 k) ≡ None → answered ≡ has_moved (answer s.scenario.net s.capacity s.progress g) → answered ≡ false → find (λ x. has_moved (answer s.scenario.net s.capacity s.progress x)) (range_with_len 0 (k + 1)) ≡ None
 not_yet s k g answered same none said holds =
     find_more (λ x. has_moved (answer s.scenario.net s.capacity s.progress x)) k 0 none (ap (λ z. has_moved (answer s.scenario.net s.capacity s.progress z)) (zero-add k ∙ sym same) ∙ sym said ∙ holds)
 

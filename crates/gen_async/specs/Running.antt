@@ -12,7 +12,7 @@ use Rattle.gen_async.specs.Laws.{IsMachine}
 use Rattle.gen_async.specs.Machine.{answer, step, after}
 
 -- a machine: its scenario, the capacity of its queues, and how many acts of each general have moved
-pub record MachineState : Type 0 where
+pub record Machine : Type 0 where
   pub scenario : Scenario
   pub capacity : ℕ
   pub progress : List ℕ
@@ -43,20 +43,20 @@ pub record IsKept (s : Scenario) (capacity : ℕ) (progress : List ℕ) (actors 
 -- ---- attempts
 
 -- the attempt of g answers and changes what the definitions say
-pub record Answers (before : MachineState) (g : ℕ) (moved : Moved) (later : MachineState) : Type 0 where
+pub record Answers (before : Machine) (g : ℕ) (moved : Moved) (later : Machine) : Type 0 where
   pub said : moved ≡ answer before.scenario.net before.capacity before.progress g
   pub progress : later.progress ≡ step before.scenario.net before.capacity before.progress g
   pub scenario : later.scenario ≡ before.scenario
   pub capacity : later.capacity ≡ before.capacity
 
 -- these attempts, one after the other
-pub record RunsTo (before : MachineState) (acts : List ℕ) (later : MachineState) : Type 0 where
+pub record RunsTo (before : Machine) (acts : List ℕ) (later : Machine) : Type 0 where
   pub progress : later.progress ≡ after before.scenario.net before.capacity before.progress acts
   pub scenario : later.scenario ≡ before.scenario
   pub capacity : later.capacity ≡ before.capacity
 
 -- some of these attempts, from the first on
-pub record RunsPartly (before : MachineState) (acts : List ℕ) (later : MachineState) : Type 0 where
+pub record RunsPartly (before : Machine) (acts : List ℕ) (later : Machine) : Type 0 where
   pub count : ℕ
   pub within : count < length acts
   pub runs : RunsTo before (take count acts) later

@@ -36,9 +36,9 @@ pub struct Machine {
 
 impl Model for Machine {
     ghost use Rattle.std.specs.Prelude.{map};
-    ghost use Rattle.gen_async.specs.Running.{MachineState, IsKept, progress_of};
+    ghost use Rattle.gen_async.specs.Running.{Machine, IsKept, progress_of};
 
-    ghost Value = { MachineState };
+    ghost Value = { Machine };
 
     ghost view = { λ m. record {
       scenario = m.scenario.value;

@@ -113,9 +113,9 @@ counted_others h d from frame x k =
 before_same : (heard more : List Heard) (count : ℕ) → count ≤ length heard → take count (heard ++ more) ≡ take count heard
 before_same heard more count le = take-append-le count heard more le
 
-seat_hears : (k : Part) (role : Role) (heard : List Heard) (count round from : ℕ) (frame : List (List ℕ)) → IsParticipant k role heard count round
+standing_hears : (k : Part) (role : Role) (heard : List Heard) (count round from : ℕ) (frame : List (List ℕ)) → IsParticipant k role heard count round
     → IsParticipant k role (heard ++ map (λ c. record { from = from; chain = c }) (counted_of k.header (delivery round from k.me) frame)) count round
-seat_hears k role heard count round from frame ok =
+standing_hears k role heard count round from frame ok =
     let more = map (λ c. record { from = from; chain = c }) (counted_of k.header (delivery round from k.me) frame) in
     let longer = length-append heard more in
     record {
@@ -124,10 +124,10 @@ seat_hears k role heard count round from frame ok =
       acts = subst (λ before. IsRole k (heard ++ more) before round role) (sym (before_same heard more count ok.begun)) (role_hears k heard more (take count heard) round role ok.acts);
     }
 
-pub seat_heard : (k : Part) (role : Role) (heard items : List Heard) (count round from : ℕ) (frame : List (List ℕ))
+pub standing_heard : (k : Part) (role : Role) (heard items : List Heard) (count round from : ℕ) (frame : List (List ℕ))
     → items ≡ heard ++ map (λ c. record { from = from; chain = c }) (counted_of k.header (delivery round from k.me) frame)
     → IsParticipant k role heard count round → IsParticipant k role items count round
-seat_heard k role heard items count round from frame e ok = subst (λ xs. IsParticipant k role xs count round) (sym e) (seat_hears k role heard count round from frame ok)
+standing_heard k role heard items count round from frame e ok = subst (λ xs. IsParticipant k role xs count round) (sym e) (standing_hears k role heard count round from frame ok)
 
 -- ---- frames
 
@@ -208,8 +208,8 @@ start_role k (Loyal hand) known may start = record {
 }
 start_role k (Scripted planned) known may start = script_start k planned known may start
 
-pub start_seat : (k : Part) (role : Role) (ring : Option Ring) → IsPart k → MayStart k ring → ring_of role ≡ ring → IsStart role → IsParticipant k role [] 0 0
-start_seat k role ring known may same start = record {
+pub start_standing : (k : Part) (role : Role) (ring : Option Ring) → IsPart k → MayStart k ring → ring_of role ≡ ring → IsStart role → IsParticipant k role [] 0 0
+start_standing k role ring known may same start = record {
   begun = omega arith;
   others = λ x h. absurd (Contains_nil x h);
   acts = start_role k role known (subst (λ r. MayStart k r) (sym same) may) start;

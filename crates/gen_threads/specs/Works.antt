@@ -12,10 +12,10 @@ use Rattle.gen_threads.specs.declared.works.Turn.TheVariants.{Ended, Back}
 use Rattle.gen_threads.specs.declared.works.Work.{Work}
 use Rattle.gen_threads.specs.Edges.{ArePassesOf, HasNewPasses}
 use Rattle.gen_threads.specs.Ending.{IsEndOf, MayRunWith}
-use Rattle.gen_threads.specs.Parts.{PartOfRun}
+use Rattle.gen_threads.specs.Parts.{RunPart}
 
 -- one part for each general
-abbrev pub AreParts : Scenario → List PartOfRun → Type 0
+abbrev pub AreParts : Scenario → List RunPart → Type 0
 AreParts s = AllAre (λ g part. part ≡ record { scenario = s; me = g }) s.net.generals
 
 -- general g may begin with this ring and these passes

@@ -1,7 +1,7 @@
 //! What the thread of a general is given of a scenario.
 ghost use Rattle.std.specs.Prelude.{◌≡◌, ◌<◌, IfOk};
 ghost use Rattle.gen_scenario.specs.Part.{part_of};
-ghost use Rattle.gen_threads.specs.Parts.{IsPartOfRun};
+ghost use Rattle.gen_threads.specs.Parts.{IsRunPart};
 
 use gen_types::GeneralNo;
 use gen_scenario::{Part, Scenario};
@@ -18,13 +18,13 @@ pub struct RunPart {
 }
 
 impl Model for RunPart {
-    ghost use Rattle.gen_threads.specs.Parts.{PartOfRun, IsPartOfRun};
+    ghost use Rattle.gen_threads.specs.Parts.{RunPart, IsRunPart};
 
-    ghost Value = { PartOfRun };
+    ghost Value = { RunPart };
 
     ghost view = { λ p. record { scenario = p.scenario.value; me = p.part.me } };
 
-    ghost invariant = { λ p. IsPartOfRun p.scenario.value p.part };
+    ghost invariant = { λ p. IsRunPart p.scenario.value p.part };
 }
 
 impl RunPart {
@@ -48,7 +48,7 @@ impl RunPart {
     /// Returns what he knows.
     pub fn part(&self) -> &Part
         ensures value { result.now ≡ part_of self.now.scenario self.now.me }
-        ensures lawful { IsPartOfRun self.now.scenario result.now }
+        ensures lawful { IsRunPart self.now.scenario result.now }
     {
         &self.part
     }

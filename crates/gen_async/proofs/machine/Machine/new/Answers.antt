@@ -1,6 +1,6 @@
 use Rattle.std.proofs.Common.{◌≡◌, ◌∙◌, List, ℕ, sym, ap, subst, map, false, is_err}
 use Rattle.gen_scenario.specs.Scenario.{Scenario}
-use Rattle.gen_async.specs.Running.{IsKept, MachineState, progress_of}
+use Rattle.gen_async.specs.Running.{IsKept, Machine, progress_of}
 use Rattle.gen_async.proofs.Acting.{AllStart, kept_at_start, start_is}
 use Rattle.gen_async.proofs.Tables.{on_ok}
 use Rattle.gen_async.proofs.machine.Machine.new.Goals as goal
@@ -19,5 +19,5 @@ returns c =
     let actors = c.add_actors.new.actors.items in
     let e : is_err c.add_actors.result ≡ false = sym c.is_err.ensures.value ∙ c.if-is_err.false in
     let all : AllStart s actors = on_ok c.add_actors.result c.add_actors.ensures e in
-    ap (λ (z : Scenario). let m : MachineState = record { scenario = z; capacity = c.args.capacity; progress = progress_of actors } in m) c.of.ensures
-    ∙ ap (λ (z : List ℕ). let m : MachineState = record { scenario = s; capacity = c.args.capacity; progress = z } in m) (start_is s actors all)
+    ap (λ (z : Scenario). let m : Machine = record { scenario = z; capacity = c.args.capacity; progress = progress_of actors } in m) c.of.ensures
+    ∙ ap (λ (z : List ℕ). let m : Machine = record { scenario = s; capacity = c.args.capacity; progress = z } in m) (start_is s actors all)

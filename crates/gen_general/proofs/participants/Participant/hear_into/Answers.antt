@@ -3,7 +3,7 @@ use Rattle.gen_chain.specs.Store.{Serves}
 use Rattle.gen_log.specs.declared.entries.Entry.{Entry}
 use Rattle.gen_general.specs.Loops.Journals.{Continues, recvs_at}
 use Rattle.gen_general.specs.Loops.Roles.{IsParticipant, ring_of}
-use Rattle.gen_general.proofs.Standing.{seat_heard}
+use Rattle.gen_general.proofs.Standing.{standing_heard}
 use Rattle.gen_general.proofs.JournalRecvs.{hear_entries}
 use Rattle.gen_general.proofs.participants.Participant.hear_into.Goals as goal
 
@@ -43,7 +43,7 @@ invariant_of-self-2 c =
     let i = c.self.inside in
     let pushed = rw (c.in_ok-reserve.ensures.items, c.in_ok-counted.ensures.exact, c.header.ensures.value, c.me-me.ensures) at c.push_heard.ensures in
     record {
-      standing = seat_heard i.part i.role i.heard.items c.push_heard.new.heard.items i.begun i.round c.args.from c.args.frame.now pushed c.self.invariant.standing;
+      standing = standing_heard i.part i.role i.heard.items c.push_heard.new.heard.items i.begun i.round c.args.from c.args.frame.now pushed c.self.invariant.standing;
       serves = subst (λ h. Serves h c.count_frame.new.store) c.header.ensures.value c.count_frame.ensures.serves;
     }
 

@@ -1,7 +1,7 @@
 use Rattle.std.proofs.Common.{◌∙◌, ap, subst, sym}
 use Rattle.gen_chain.specs.Store.{Serves}
 use Rattle.gen_general.specs.Participant.{Participant}
-use Rattle.gen_general.proofs.Standing.{seat_heard}
+use Rattle.gen_general.proofs.Standing.{standing_heard}
 use Rattle.gen_general.proofs.participants.Participant.hear_with.Goals as goal
 
 pub count_frame-requires : goal.count_frame-requires
@@ -18,7 +18,7 @@ invariant_of-self-2 c =
     let i = c.self.inside in
     let pushed = rw (c.in_ok-reserve.ensures.items, c.in_ok-counted.ensures.exact, c.header.ensures.value, c.me-to.ensures) at c.push_heard.ensures in
     record {
-      standing = seat_heard i.part i.role i.heard.items c.push_heard.new.heard.items i.begun i.round c.args.from c.args.frame.now pushed c.self.invariant.standing;
+      standing = standing_heard i.part i.role i.heard.items c.push_heard.new.heard.items i.begun i.round c.args.from c.args.frame.now pushed c.self.invariant.standing;
       serves = c.self.invariant.serves;
     }
 
