@@ -17,8 +17,8 @@ use crate::verdicts::{Decisions, Findings, Judgement, Verdict};
 use gen_chain::VerifyStore;
 use gen_convict::{Evidence, find_evidence};
 use gen_local::{LocalReport, Reading, local_reports};
-use gen_types::{GeneralNo, GeneralSet, OrderNo};
 use gen_scenario::Decision;
+use gen_types::{GeneralNo, GeneralSet, OrderNo};
 use std::alloc::{AllocError, Global};
 
 /// Returns the reports of all exhibits of a bundle, in their order. No signature is verified twice.

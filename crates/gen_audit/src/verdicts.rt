@@ -3,8 +3,8 @@ ghost use Rattle.std.specs.Prelude.{◌≡◌};
 
 use gen_convict::Evidence;
 use gen_match::Finding;
-use gen_types::OrderNo;
 use gen_scenario::Decision;
+use gen_types::OrderNo;
 use std::marker::Model;
 
 /// What the rest decided, in ascending order of generals.

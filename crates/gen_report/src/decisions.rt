@@ -2,8 +2,8 @@
 ghost use Rattle.std.specs.Prelude.{◌≡◌, ◌++◌, OnOk, IfOk, string_bytes};
 ghost use Rattle.gen_report.specs.Decisions.{listed, decision_line, decisions_text};
 
-use gen_types::OrderSet;
 use gen_scenario::Decision;
+use gen_types::OrderSet;
 use std::alloc::{AllocError, Global};
 
 /// Appends the orders of a set, parted by commas, or a minus for the empty set.

@@ -11,8 +11,8 @@ use crate::cursor::{Cursor, Line};
 use crate::fault::{LineFault, ScenarioFault};
 use crate::lines::{edge_in, number_behind};
 use gen_net::{Net, NetNumbers};
-use gen_types::{OrderNo, ReadError};
 use gen_scenario::PlainScenario;
+use gen_types::{OrderNo, ReadError};
 use std::alloc::Global;
 
 /// The edges of some lines, the first line that has none, and the cursor behind it.

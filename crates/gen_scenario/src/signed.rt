@@ -120,7 +120,10 @@ impl Scenario {
         requires { IsScenario (scenario_of One net master.now order scripts.items) }
         ensures { IfOk result (λ scenario. scenario ≡ scenario_of One net master.now order scripts.items) }
     {
-        Scenario::of_plan(alloc, SignedPlan::new(Version::One, net, order, master, scripts))
+        Scenario::of_plan(
+            alloc,
+            SignedPlan::new(Version::One, net, order, master, scripts),
+        )
     }
 
     /// Returns the same in version 2, for the run of this slot, 0 to 3, of the four that a tree of keys
@@ -171,7 +174,11 @@ impl Scenario {
     /// # Errors
     ///
     /// `AllocError` where memory is refused.
-    pub fn of_trees(alloc: Global, plan: SignedPlan, trees: Vec<KeyTree>) -> Result<Scenario, AllocError>
+    pub fn of_trees(
+        alloc: Global,
+        plan: SignedPlan,
+        trees: Vec<KeyTree>,
+    ) -> Result<Scenario, AllocError>
         requires { trees.items
             ≡ map (general_tree plan.master (height_in plan.version)) (range_with_len 0 plan.net.generals) }
         ensures { IfOk result (λ scenario. scenario ≡ plan) }
@@ -180,7 +187,11 @@ impl Scenario {
         let roots = roots_of(alloc, trees.as_slice())?;
         let net = plan.net().clone()?;
         let header = header_over(plan.version(), net, roots);
-        Ok(Scenario { plan, header, trees })
+        Ok(Scenario {
+            plan,
+            header,
+            trees,
+        })
     }
 
     /// Returns the plan of which it was made.

@@ -4,8 +4,8 @@ ghost use Rattle.gen_threads.specs.Building.{AreEmpty, AreMade, HasMorePuts, Has
 ghost use Rattle.gen_threads.specs.Edges.{AllHavePasses, edge_at};
 
 use gen_edge::{Edge, PutPass, TakePass};
-use gen_types::GeneralNo;
 use gen_scenario::Scenario;
+use gen_types::GeneralNo;
 use std::alloc::{AllocError, Global};
 
 /// All directed edges of a network, found by their ends.

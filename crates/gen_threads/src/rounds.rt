@@ -15,8 +15,8 @@ use crate::ends::RunFault;
 use crate::run_parts::RunPart;
 use crate::waiting::{put_frame, take_frame};
 use gen_edge::{Frame, PutPass, TakePass};
-use gen_types::GeneralNo;
 use gen_general::Recorder;
+use gen_types::GeneralNo;
 use std::alloc::{AllocError, Global};
 use std::sync::Wait;
 

@@ -3,8 +3,8 @@ ghost use Rattle.std.specs.Prelude.{◌≡◌, ◌<◌, IfOk};
 ghost use Rattle.gen_scenario.specs.Part.{part_of};
 ghost use Rattle.gen_threads.specs.Parts.{IsRunPart};
 
-use gen_types::GeneralNo;
 use gen_scenario::{Part, Scenario};
+use gen_types::GeneralNo;
 use std::alloc::{AllocError, Global};
 use std::marker::Model;
 use std::snapshot::Snapshot;

@@ -14,8 +14,8 @@ use crate::rounds::run_round;
 use crate::run_parts::RunPart;
 use crate::stopping::stop;
 use gen_edge::{PutPass, TakePass};
-use gen_tree::KeyRing;
 use gen_general::{Finished, Recorder};
+use gen_tree::KeyRing;
 use std::alloc::Global;
 use std::sync::Wait;
 

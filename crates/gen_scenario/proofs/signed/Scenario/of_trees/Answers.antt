@@ -23,7 +23,7 @@ invariant_of-result c =
     let p = c.args.plan in
     let same : c.in_ok-net.net ≡ p.net = c.in_ok-net.ensures.cases ∙ c.net.ensures in
     let roots = roots_are p.master (height_in p.version) p.net.generals c.args.trees.items c.in_ok-roots.roots.items c.requires
-      (c.in_ok-roots.ensures ∙ ap (map root_over) c.as_slice.ensures.value) in
+    (c.in_ok-roots.ensures ∙ ap (map root_over) c.as_slice.ensures.value) in
     record {
       header = c.header_over-header.ensures ∙ (λ i. record { version = c.version.ensures i; network = same i; roots = roots i });
       trees = c.requires;
