@@ -241,7 +241,7 @@ impl Net {
         ensures { IsListOf result (IsLoyal self.now faulty.now) }
     {
         let mut rest = GeneralSet::new();
-        for number in 0..self.generals {
+        for number in 0..self.generals() {
             let general = GeneralNo::at(number);
             if !faulty.contains(general) {
                 rest.insert(general);
