@@ -2,7 +2,7 @@
 
 /// The numbers of a finding's rank, 0 for those that it hasn't. Ranks are ordered by the first number, then by
 /// the next.
-#[derive(Clone, Copy, Debug, PartialEq, Eq, PartialOrd, Ord)]
+#[derive(Clone, Copy, PartialEq, Eq, PartialOrd, Ord)]
 pub(crate) struct Rank {
     /// The number of the finding, 1 to 11.
     pub(crate) number: u8,

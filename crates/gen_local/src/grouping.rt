@@ -167,7 +167,14 @@ fn put_four<'a>(
     ensures serves { Serves header.now store.new }
 {
     let (group, rest) = open_four(alloc, header, exhibits, store)?;
-    let links = links_of(alloc, header, &group)?;
+    let links = match links_of(alloc, header, &group) {
+        Ok(links) => links,
+        Err(error) => {
+            // By a call, which is proved once: under `?` each of the four would be let go in this place.
+            drop(group);
+            return Err(error);
+        }
+    };
     put_group(alloc, header, group, &links, store, reports)?;
     Ok(rest)
 }

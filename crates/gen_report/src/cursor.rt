@@ -23,7 +23,7 @@ pub struct Line<'a> {
 }
 
 /// A number in a line, and the line's number, from 1.
-#[derive(Clone, Copy, Debug)]
+#[derive(Clone, Copy)]
 pub struct Numbered {
     /// The line's number.
     pub line: usize,
