@@ -3,9 +3,10 @@
 
     tools/prove.py LOG
 
-The script `sm_tool` runs it where a source is newer than the program. Crates that don't stand on each other are proved
-side by side, by as many jobs in all as there are cores and memory for. On standard error stands one line for each crate
-that is done. What the toolchain writes goes to LOG, which is named where a crate fails; then the status is 1.
+The script `sm_tool` runs it where a source is newer than the program. The lowest crates, beside which little else could
+be proved, are proved one after another by as many jobs as there are cores and memory for, the others side by side by one
+job each, which costs least. On standard error stands one line for each crate that is done. What the toolchain writes goes
+to LOG, which is named where a crate fails; then the status is 1.
 """
 import os
 import subprocess
@@ -18,21 +19,29 @@ PROGRAM = "sm_tool"
 GIB_OF_A_JOB = 3
 # What a first use takes in all, measured (bench/README.md).
 PROCESSOR_MINUTES = 45
+# A crate is proved alone where at most so many others stand neither above nor below it.
+FEW = 5
 
 
 def read_crates():
-    """Of each crate the crates of this repository that it stands on, in the order of crates.txt."""
+    """Of each crate that the program stands on, the crates of this repository below it, in the order of crates.txt."""
     with open(os.path.join(TOP, "crates.txt"), encoding="utf-8") as listed:
         rows = [line.split("#")[0].split(":") for line in listed]
     named = {row[0].split()[0]: row[1].split() for row in rows if len(row) == 2}
-    return {crate: [it for it in below if it in named] for crate, below in named.items()}
+    below = {}
+    for crate, libraries in named.items():
+        own = [it for it in libraries if it in named]
+        below[crate] = set(own).union(*(below[it] for it in own))
+    return {crate: below[crate] for crate in named if crate in below[PROGRAM] | {PROGRAM}}
 
 
-def below(crates, crate):
-    """The crate and all that it stands on."""
-    found = {crate}
-    for it in crates[crate]:
-        found |= below(crates, it)
+def lowest(below):
+    """The crates that are proved alone: those, from the lowest up, beside which few others could be."""
+    found = []
+    for crate in below:
+        beside = [it for it in below if it != crate and it not in below[crate] and crate not in below[it]]
+        if len(beside) <= FEW and below[crate].issubset(found):
+            found.append(crate)
     return found
 
 
@@ -44,31 +53,8 @@ def count_jobs():
     return max(1, min(len(os.sched_getaffinity(0)), free // GIB_OF_A_JOB))
 
 
-def size_of(crate):
-    """How much there is to prove in a crate: the bytes of its code and of its proofs."""
-    return sum(
-        os.path.getsize(os.path.join(folder, name))
-        for part in ("src", "proofs")
-        for folder, _, names in os.walk(os.path.join(TOP, "crates", crate, part))
-        for name in names
-        if not name.endswith("tests.rt")
-    )
-
-
-def lengths(crates):
-    """Of each crate how much there is to prove on the longest way from it up to the program."""
-    found = {}
-    for crate in reversed(list(crates)):
-        above = [found[it] for it in found if crate in crates[it]]
-        found[crate] = size_of(crate) + max(above, default=0)
-    return found
-
-
-def start(crate, jobs, log):
-    """Starts the proof of a crate."""
-    words = ["rt", "run", "--jobs", str(jobs), "--", "--version"] if crate == PROGRAM else ["rt", "lib", "--jobs", str(jobs)]
-    folder = os.path.join(TOP, "crates", crate)
-    return subprocess.Popen(words, cwd=folder, stdin=subprocess.DEVNULL, stdout=log, stderr=log)
+def say(line):
+    print(line, file=sys.stderr, flush=True)
 
 
 def spell(seconds):
@@ -77,47 +63,53 @@ def spell(seconds):
     return f"{minutes} min {rest} s" if minutes else f"{rest} s"
 
 
-def say(line):
-    print(line, file=sys.stderr, flush=True)
+class Proof:
+    """A proof of all crates under way: what is done, and what the toolchain says."""
 
+    def __init__(self, below, log):
+        self.below, self.log, self.done, self.since = below, log, [], time.monotonic()
 
-def prove(crates, log):
-    """Proves all crates. Returns the first that failed, or None."""
-    free, far, running, done = count_jobs(), lengths(crates), {}, set()
-    waiting = sorted(crates, key=lambda it: -far[it])
-    try:
-        while waiting or running:
-            ready = [it for it in waiting if done.issuperset(crates[it])]
-            for index, crate in enumerate(ready):
-                if free:
-                    jobs = -(-free // (len(ready) - index))
-                    running[crate] = (start(crate, jobs, log), jobs, time.monotonic())
-                    waiting.remove(crate)
-                    free -= jobs
-            time.sleep(0.1)
-            for crate in [it for it in running if running[it][0].poll() is not None]:
-                made, jobs, since = running.pop(crate)
-                free += jobs
-                if made.returncode:
-                    return crate
-                done.add(crate)
-                say(f"[{len(done)}/{len(crates)}] {crate} proved, {spell(time.monotonic() - since)}")
-    finally:
-        for made, _, _ in running.values():
-            made.terminate()
-    return None
+    def tell(self, crate):
+        """Says that a crate is done, and how long that took since the last one was."""
+        now = time.monotonic()
+        self.done.append(crate)
+        say(f"[{len(self.done)}/{len(self.below)}] {crate} proved, {spell(now - self.since)}")
+        self.since = now
+
+    def run(self, crate, words):
+        """Runs the toolchain in a crate's folder, and says of each other crate when it is done. Returns whether it passed."""
+        folder = os.path.join(TOP, "crates", crate)
+        how = {"stdin": subprocess.DEVNULL, "stdout": subprocess.PIPE, "stderr": self.log, "text": True}
+        with subprocess.Popen(["rt", *words], cwd=folder, errors="replace", **how) as made:
+            told = ""
+            for line in made.stdout:
+                self.log.write(line)
+                if line.startswith("== "):
+                    told = line.split()[1]
+                elif line.startswith("logic=proved") and told in self.below and told not in self.done:
+                    self.tell(told)
+        return made.returncode == 0
+
+    def failed(self):
+        """Proves all crates and builds the program. Returns the crate in which that failed, or None."""
+        jobs = str(count_jobs())
+        for crate in lowest(self.below):
+            if not self.run(crate, ["lib", "--jobs", jobs]):
+                return crate
+            self.tell(crate)
+        for words in (["all", "check", "--jobs", jobs], ["run", "--", "--version"]):
+            if not self.run(PROGRAM, words):
+                return next((it for it in self.below if it not in self.done), PROGRAM)
+        return None
 
 
 def main():
-    crates = read_crates()
-    needed = below(crates, PROGRAM)
-    crates = {it: crates[it] for it in crates if it in needed}
     minutes = PROCESSOR_MINUTES // count_jobs()
-    say(f"sm_tool: proving and building first, once, some {minutes} minutes; README.md has a quick way (rt try)")
+    say(f"sm_tool: proving and building first, once, some {minutes} minutes or more; README.md has a quick way (rt try)")
     with open(sys.argv[1], "w", encoding="utf-8") as log:
-        failed = prove(crates, log)
+        failed = Proof(read_crates(), log).failed()
     if failed:
-        sys.exit(f"sm_tool: {failed} was not proved; what the toolchain says is in {sys.argv[1]}")
+        sys.exit(f"sm_tool: {failed} was not proved or built; what the toolchain says is in {sys.argv[1]}")
 
 
 if __name__ == "__main__":
