@@ -1,16 +1,12 @@
 //! The program: from its words to its exit status.
 ghost use Rattle.std.specs.Prelude.{◌≡◌, IfOk, string_bytes};
-ghost use Rattle.sm_tool.specs.Ends.{status_of, IsStatus};
-ghost use Rattle.sm_tool.specs.Jobs.{IsInRange};
-ghost use Rattle.sm_tool.specs.Refusal.{IsShown, IsBlamed, PointsAtHelp, Refuses};
-ghost use Rattle.sm_tool.specs.declared.ends.JobEnd.{JobEnd};
+ghost use Rattle.gen_jobs.specs.Ends.{status_of};
+ghost use Rattle.gen_jobs.specs.Jobs.{IsInRange};
+ghost use Rattle.gen_jobs.specs.declared.ends.JobEnd.{JobEnd};
+ghost use Rattle.sm_tool.specs.Refusal.{IsShown, IsBlamed, IsStatus, PointsAtHelp, Refuses};
 
-use crate::accusing::accuse_engine;
-use crate::checking::evidence_engine;
-use crate::ends::{JobEnd, JobFault};
-use crate::engine::{audit_engine, decide_engine};
-use crate::running::run_engine;
-use crate::words::{Job, WordsFault, read_words};
+use crate::words::{WordsFault, read_words};
+use gen_jobs::{Job, JobEnd, JobFault, do_job};
 use std::alloc::{AllocError, Global};
 use std::rt::Env;
 use std::sync::Wait;
@@ -37,13 +33,7 @@ fn finish<R: AllocGlobal + Input + Print + Eprint + Threads + Wait + Sync>(rt: &
 {
     let mut reader = rt.reader();
     let mut writer = io::writer(rt);
-    let end = match job {
-        Job::Decide => decide_engine(rt.alloc(), &mut reader, &mut writer),
-        Job::Run { capacity } => run_engine(rt, rt.alloc(), capacity, &mut reader, &mut writer),
-        Job::Audit => audit_engine(rt.alloc(), &mut reader, &mut writer),
-        Job::Accuse { general } => { accuse_engine(rt.alloc(), general, &mut reader, &mut writer) }
-        Job::Evidence => evidence_engine(rt.alloc(), &mut reader, &mut writer),
-    };
+    let end = do_job(rt, rt.alloc(), job, &mut reader, &mut writer);
     end_with(rt, end)
 }
 
