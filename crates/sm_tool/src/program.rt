@@ -1,9 +1,12 @@
 //! The program: from its words to its exit status.
-ghost use Rattle.std.specs.Prelude.{◌≡◌, IfOk, string_bytes};
+ghost use Rattle.std.specs.Prelude.{◌≡◌, List, Some, IfOk, IfErr, IsSome, map, string_bytes};
+ghost use Rattle.clap.specs.Words.{Text};
 ghost use Rattle.gen_jobs.specs.Ends.{status_of};
 ghost use Rattle.gen_jobs.specs.Jobs.{IsInRange};
 ghost use Rattle.gen_jobs.specs.declared.ends.JobEnd.{JobEnd};
 ghost use Rattle.sm_tool.specs.Refusal.{IsShown, IsBlamed, IsStatus, PointsAtHelp, Refuses};
+ghost use Rattle.sm_tool.specs.Tool.{asked, IsFaultOf};
+ghost use Rattle.sm_tool.specs.declared.words.WordsFault.TheVariants.{Memory};
 
 use crate::words::{WordsFault, read_words};
 use gen_jobs::{Job, JobEnd, JobFault, do_job};
@@ -39,7 +42,10 @@ fn finish<R: AllocGlobal + Input + Print + Eprint + Threads + Wait + Sync>(rt: &
 
 /// Returns the job that the words of this process ask for.
 fn given_job<R: Env + AllocGlobal>(rt: &R) -> Result<Job, WordsFault>
-    ensures { IfOk result IsInRange }
+    // There are words that ask for it.
+    ensures asked { IfOk result (λ job. (words : List Text) × (asked words ≡ Some job)) }
+    // Its numbers are in their ranges.
+    ensures range { IfOk result IsInRange }
 {
     let given = match env::args(rt) {
         Ok(given) => given,
@@ -47,8 +53,23 @@ fn given_job<R: Env + AllocGlobal>(rt: &R) -> Result<Job, WordsFault>
         Err(_) => return Err(WordsFault::NotText),
     };
     let given: Vec<String> = given.collect(rt.alloc())?;
-    let words: Vec<&str> = given.iter().map(|word| word.as_str()).collect(rt.alloc())?;
-    read_words(rt.alloc(), &words)
+    job_in(rt.alloc(), &given)
+}
+
+/// Returns the job that these words ask for; the first is the program's name. Its faults are those of `read_words`.
+fn job_in(alloc: Global, given: &[String]) -> Result<Job, WordsFault>
+    // The words ask for the job.
+    ensures ok { IfOk result (λ job. asked (map (λ w. string_bytes w) given.now) ≡ Some job) }
+    // Its numbers are in their ranges.
+    ensures range { IfOk result IsInRange }
+    // Words that ask for a job fail only for want of memory.
+    ensures only { IfErr result (λ fault.
+        IsSome (asked (map (λ w. string_bytes w) given.now)) → fault ≡ Memory) }
+    // A fault is one that the command line has at these words.
+    ensures fault { IfErr result (IsFaultOf (map (λ w. string_bytes w) given.now)) }
+{
+    let words: Vec<&str> = given.iter().map(|word| word.as_str()).collect(alloc)?;
+    read_words(alloc, &words)
 }
 
 /// Writes the line of a job that failed to standard error, and returns its exit status.
