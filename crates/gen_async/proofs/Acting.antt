@@ -6,9 +6,9 @@ use Rattle.std.proofs.lemmas.List.Sums.{fold_push}
 use Rattle.std.proofs.lemmas.List.{get_or-set_same, get_or-set_other, length-set, set-get_or, take_more, map-set, get_or-replicate, length-replicate}
 use Rattle.gen_net.specs.Network.{AreNeighbours}
 use Rattle.gen_net.proofs.Neighbours.{joined_below}
-use Rattle.gen_world.specs.Scenario.{Scenario, IsScenario}
-use Rattle.gen_world.specs.SignedWorld.{frame_at}
-use Rattle.gen_world.specs.Loops.Worlds.{AllAre}
+use Rattle.gen_scenario.specs.Scenario.{Scenario, IsScenario}
+use Rattle.gen_scenario.specs.SignedWorld.{frame_at}
+use Rattle.gen_scenario.specs.AllAre.{AllAre}
 use Rattle.gen_async.specs.declared.acts.Act.{Act}
 use Rattle.gen_async.specs.declared.acts.Act.TheVariants.{Puts, Takes}
 use Rattle.gen_async.specs.declared.acts.Moved.{Moved}

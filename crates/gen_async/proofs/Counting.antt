@@ -13,7 +13,7 @@ use Rattle.gen_net.specs.Network.{Network, IsNetwork, IsBefore, rounds}
 use Rattle.gen_net.specs.Edges.{joins}
 use Rattle.gen_async.specs.declared.acts.Act.TheVariants.{Puts, Takes}
 use Rattle.gen_async.specs.Acts.{acts_of_round, acts_of_rounds, acts_of}
-use Rattle.gen_world.specs.SignedWorld.{neighbours_of}
+use Rattle.gen_scenario.specs.SignedWorld.{neighbours_of}
 use Rattle.gen_async.specs.Machine.{at_start, answer, has_moved, step, after, moves_in}
 use Rattle.gen_async.specs.Laws.{IsMachine, AreActs, CountLaw}
 use Rattle.gen_async.proofs.Lists.{times, times_once}

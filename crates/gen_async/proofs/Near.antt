@@ -6,7 +6,7 @@ use Rattle.gen_types.specs.Members.{Contains_here, Contains_there, Contains_case
 use Rattle.gen_net.specs.Network.{Network, IsNetwork, AreNeighbours}
 use Rattle.gen_net.specs.Edges.{joins}
 use Rattle.gen_net.proofs.Neighbours.{joined_below}
-use Rattle.gen_world.specs.SignedWorld.{neighbours_of}
+use Rattle.gen_scenario.specs.SignedWorld.{neighbours_of}
 
 pub joins_says : (a b : ℕ) (e : ℕ × ℕ) → joins a b e ≡ true → ((a, b) ≡ e) ⊎ ((b, a) ≡ e)
 joins_says a b e yes_joins = elim (or_cases (e.0 == a && e.1 == b) (e.0 == b && e.1 == a) yes_joins) [

@@ -6,7 +6,7 @@ use Rattle.std.proofs.lemmas.Bool.{cases_Bool, cond-true, cond-false}
 use Rattle.gen_types.specs.Members.{filter_more}
 use Rattle.gen_net.specs.Network.{Network, AreNeighbours, rounds}
 use Rattle.gen_net.specs.Edges.{joins}
-use Rattle.gen_world.specs.SignedWorld.{neighbours_of}
+use Rattle.gen_scenario.specs.SignedWorld.{neighbours_of}
 use Rattle.gen_async.specs.declared.acts.Act.{Act}
 use Rattle.gen_async.specs.Acts.{acts_of_round, acts_of_rounds, acts_of}
 use Rattle.gen_async.proofs.Near.{any_joins, joined_holds}

@@ -9,7 +9,7 @@ use Rattle.gen_net.specs.Network.{Network, IsNetwork, rounds}
 use Rattle.gen_async.specs.declared.acts.Act.{Act}
 use Rattle.gen_async.specs.declared.acts.Act.TheVariants.{Puts, Takes}
 use Rattle.gen_async.specs.Acts.{acts_of_round, acts_of_rounds, acts_of, is_put_to, is_take_from}
-use Rattle.gen_world.specs.SignedWorld.{neighbours_of}
+use Rattle.gen_scenario.specs.SignedWorld.{neighbours_of}
 use Rattle.gen_async.specs.Machine.{at_start, moved_acts, next_act, put, taken, queued, step, after}
 use Rattle.gen_async.specs.Laws.{IsMachine, AreActs}
 use Rattle.gen_async.specs.Frames.{queue, Arrival, taken_by, took, heard_in, IsMadeBy, Running, with_pair, with_one, run_take, run_act, run_step, run_start, IsOfWorld, RunLaw, HeardLaw}

@@ -5,10 +5,10 @@ use Rattle.std.proofs.lemmas.List.Folds.{flat_map-map}
 use Rattle.std.specs.List.{flat_map, range_with_len}
 use Rattle.gen_log.specs.declared.entries.Entry.{Entry}
 use Rattle.gen_net.specs.Network.{rounds}
-use Rattle.gen_world.specs.Scenario.{Scenario, header_of}
-use Rattle.gen_world.specs.RoundEntries.{sign_entries, send_entries, recv_entries}
-use Rattle.gen_world.specs.SignedWorld.{neighbours_of, part_of, heard_by, heard_in, heard_of, frame_at, counted_at, delivery}
-use Rattle.gen_world.specs.WorldLogs.{middle_of, entries_after}
+use Rattle.gen_scenario.specs.Scenario.{Scenario, header_of}
+use Rattle.gen_scenario.specs.RoundEntries.{sign_entries, send_entries, recv_entries}
+use Rattle.gen_scenario.specs.SignedWorld.{neighbours_of, sender_of, heard_by, heard_in, heard_of, frame_at, counted_at, delivery}
+use Rattle.gen_scenario.specs.WorldLogs.{middle_of, entries_after}
 use Rattle.gen_async.specs.declared.acts.Act.{Act}
 use Rattle.gen_async.specs.declared.acts.Act.TheVariants.{Puts, Takes}
 use Rattle.gen_async.specs.declared.acts.Step.TheVariants.{Starts, Acts, Decides}
@@ -19,23 +19,23 @@ use Rattle.gen_async.specs.Frames.{Arrival, IsMadeBy}
 use Rattle.gen_async.proofs.Running.{run_law}
 use Rattle.gen_async.proofs.Standing.{log_law}
 use Rattle.std.proofs.lemmas.List.{append-nil}
-use Rattle.gen_world.specs.Counted.{counted_of}
-use Rattle.gen_world.specs.Frames.{frame_of}
+use Rattle.gen_scenario.specs.Counted.{counted_of}
+use Rattle.gen_scenario.specs.Frames.{frame_of}
 
 -- the entries of a round, where he heard this many rounds before
 unfoldable pub round_of : Scenario → ℕ → ℕ → ℕ → List Entry
 round_of s g round k =
     let near = neighbours_of s.net g in
-    sign_entries (part_of s g) (heard_by s k g) round
-    ++ (flat_map (send_entries (part_of s g) (heard_by s k g) round) near
-    ++ flat_map (λ from. recv_entries (part_of s g) round from (counted_at s round from g)) near)
+    sign_entries (sender_of s g) (heard_by s k g) round
+    ++ (flat_map (send_entries (sender_of s g) (heard_by s k g) round) near
+    ++ flat_map (λ from. recv_entries (sender_of s g) round from (counted_at s round from g)) near)
 
 -- what he writes by the acts of a round
-pub acts_written : (s : Scenario) (g round : ℕ) (near : List ℕ) → flat_map (λ (a : Act). written_by s g (Acts a)) (acts_of_round near round) ≡ flat_map (send_entries (part_of s g) (heard_by s (round - 1) g) round) near ++ flat_map (λ from. recv_entries (part_of s g) round from (counted_at s round from g)) near
+pub acts_written : (s : Scenario) (g round : ℕ) (near : List ℕ) → flat_map (λ (a : Act). written_by s g (Acts a)) (acts_of_round near round) ≡ flat_map (send_entries (sender_of s g) (heard_by s (round - 1) g) round) near ++ flat_map (λ from. recv_entries (sender_of s g) round from (counted_at s round from g)) near
 acts_written s g round near =
     let w = λ (a : Act). written_by s g (Acts a) in
-    let sent = send_entries (part_of s g) (heard_by s (round - 1) g) round in
-    let came : ℕ → List Entry = λ from. recv_entries (part_of s g) round from (counted_at s round from g) in
+    let sent = send_entries (sender_of s g) (heard_by s (round - 1) g) round in
+    let came : ℕ → List Entry = λ from. recv_entries (sender_of s g) round from (counted_at s round from g) in
     let puts : flat_map w (map (Puts round) near) ≡ flat_map sent near = flat_map-map {A = ℕ} w (Puts round) near in
     let takes : flat_map w (map (Takes round) near) ≡ flat_map came near = flat_map-map {A = ℕ} w (Takes round) near in
     flat_map-append w (map (Puts round) near) (map (Takes round) near)
@@ -48,7 +48,7 @@ unfolding entries_after round_of
 round_written s g j =
     let near = neighbours_of s.net g in
     let back : suc j - 1 ≡ j = omega arith in
-    ap (λ xs. sign_entries (part_of s g) (heard_by s (suc j - 1) g) (suc j) ++ xs) (flat_map-map (written_by s g) Acts (acts_of_round near (suc j)) ∙ acts_written s g (suc j) near)
+    ap (λ xs. sign_entries (sender_of s g) (heard_by s (suc j - 1) g) (suc j) ++ xs) (flat_map-map (written_by s g) Acts (acts_of_round near (suc j)) ∙ acts_written s g (suc j) near)
     ∙ ap (round_of s g (suc j)) back
 
 one_more : (s : Scenario) (g j : ℕ) → flat_map (written_by s g) (steps_of_round (neighbours_of s.net g) (j + 1)) ≡ entries_after s g j
@@ -74,7 +74,7 @@ came_in : (s : Scenario) (g k : ℕ) (from : ℕ) → heard_of_arrival s g (reco
 unfolding frame_at
 came_in s g k from =
     let back : suc k - 1 ≡ k = omega arith in
-    ap (λ j. map (λ c. record { from = from; chain = c }) (counted_of (header_of s) (delivery (suc k) from g) (frame_of (part_of s from) (heard_by s j from) (suc k) g))) back
+    ap (λ j. map (λ c. record { from = from; chain = c }) (counted_of (header_of s) (delivery (suc k) from g) (frame_of (sender_of s from) (heard_by s j from) (suc k) g))) back
 
 came_from : (s : Scenario) (g k : ℕ) (near : List ℕ) → flat_map (heard_of_arrival s g) (map (λ h. record { round = suc k; from = h; frame = frame_at s (suc k) h g }) near) ≡ flat_map (heard_of s (heard_by s k) (suc k) g) near
 came_from s g k [] = refl
@@ -106,7 +106,7 @@ came_all s g (suc k) =
 -- the scenario's frames are what its generals put
 pub made_by_all : (s : Scenario) → IsMadeBy s.net (puts_by s) (frame_at s)
 unfolding frame_at arrivals_of
-made_by_all s g l h first last near = ap (λ heard. frame_of (part_of s g) heard l h) (sym (came_all s g (l - 1)))
+made_by_all s g l h first last near = ap (λ heard. frame_of (sender_of s g) heard l h) (sym (came_all s g (l - 1)))
 
 pub puts_frames : PutsFrames
 puts_frames s capacity acts lawful known = run_law s.net (puts_by s) (frame_at s) capacity acts lawful.network (made_by_all s) known

@@ -4,7 +4,7 @@ use Rattle.gen_net.specs.Network.{Network, IsNetwork, rounds}
 use Rattle.gen_async.specs.declared.acts.Act.{Act}
 use Rattle.gen_async.specs.declared.acts.Act.TheVariants.{Puts, Takes}
 use Rattle.gen_async.specs.Acts.{acts_of_rounds, acts_of}
-use Rattle.gen_world.specs.SignedWorld.{neighbours_of}
+use Rattle.gen_scenario.specs.SignedWorld.{neighbours_of}
 use Rattle.gen_async.specs.Machine.{moved_acts, next_act, put, taken}
 use Rattle.gen_async.specs.Laws.{IsAtPut, IsAtTake, IsAtEnd, IsAt, PlaceLaw}
 use Rattle.gen_async.proofs.Lists.{get_past}

@@ -5,10 +5,10 @@ use Rattle.gen_net.specs.Network.{rounds}
 use Rattle.gen_log.specs.declared.entries.Entry.{Entry}
 use Rattle.gen_log.specs.declared.entries.Entry.TheVariants.{Start}
 use Rattle.gen_log.specs.Entry.{entry_spelling}
-use Rattle.gen_world.specs.Loops.Records.{RecordsAfter, HasSent, HasHeard}
-use Rattle.gen_world.specs.Recording.{Recorded, with_recvs}
-use Rattle.gen_world.specs.Scenario.{Scenario, IsScenario}
-use Rattle.gen_world.specs.SignedWorld.{neighbours_of}
+use Rattle.gen_general.specs.DrivenRecords.{RecordsAfter, HasSent, HasHeard}
+use Rattle.gen_general.specs.Recording.{Recorder, with_recvs}
+use Rattle.gen_scenario.specs.Scenario.{Scenario, IsScenario}
+use Rattle.gen_scenario.specs.SignedWorld.{neighbours_of}
 use Rattle.gen_async.specs.declared.acts.Act.{Act}
 use Rattle.gen_async.specs.declared.acts.Act.TheVariants.{Puts, Takes}
 use Rattle.gen_async.specs.declared.acts.Step.{Step}
@@ -46,7 +46,7 @@ entries_at s g place = flat_map (undecided_by s g) (standing place (steps_of s.n
 -- ---- how he stands
 
 -- before a put of round l to h he has begun the round and sent to the lesser neighbours
-pub record StandsAtPut (s : Scenario) (g l h : ℕ) (r : Recorded) : Type 0 where
+pub record StandsAtPut (s : Scenario) (g l h : ℕ) (r : Recorder) : Type 0 where
   pub gone : ℕ
   pub round : l ≡ gone + 1
   pub in_time : gone < rounds s.net
@@ -56,7 +56,7 @@ pub record StandsAtPut (s : Scenario) (g l h : ℕ) (r : Recorded) : Type 0 wher
   pub sent : HasSent s gone g front r
 
 -- before a take of round l from h he has sent to all and heard the lesser neighbours
-pub record StandsAtTake (s : Scenario) (g l h : ℕ) (r : Recorded) : Type 0 where
+pub record StandsAtTake (s : Scenario) (g l h : ℕ) (r : Recorder) : Type 0 where
   pub gone : ℕ
   pub round : l ≡ gone + 1
   pub in_time : gone < rounds s.net
@@ -66,17 +66,17 @@ pub record StandsAtTake (s : Scenario) (g l h : ℕ) (r : Recorded) : Type 0 whe
   pub heard : HasHeard s gone g front r
 
 -- and with no act left all rounds are behind him
-abbrev pub StandsBefore : Scenario → ℕ → Option Act → Recorded → Type 0
+abbrev pub StandsBefore : Scenario → ℕ → Option Act → Recorder → Type 0
 StandsBefore s g None r = RecordsAfter s (rounds s.net) g r
 StandsBefore s g (Some (Puts l h)) r = StandsAtPut s g l h r
 StandsBefore s g (Some (Takes l h)) r = StandsAtTake s g l h r
 
 -- the bytes of his entries
-abbrev pub recorded_bytes : Recorded → List ℕ
-recorded_bytes r = flat_map entry_spelling (Start r.seat.known.me r.seat.known.own ∷ r.written)
+abbrev pub recorded_bytes : Recorder → List ℕ
+recorded_bytes r = flat_map entry_spelling (Start r.standing.known.me r.standing.known.own ∷ r.written)
 
 -- he has heard the last frame of a round already, and has yet to begin the next: so much of his log stood before
-pub record HasHeardLast (s : Scenario) (g place : ℕ) (r : Recorded) (shown : ℕ) : Type 0 where
+pub record HasHeardLast (s : Scenario) (g place : ℕ) (r : Recorder) (shown : ℕ) : Type 0 where
   pub gone : ℕ
   pub in_time : gone < rounds s.net
   pub from : ℕ
@@ -89,12 +89,12 @@ pub record HasHeardLast (s : Scenario) (g place : ℕ) (r : Recorded) (shown : �
   pub fits : shown ≤ length (recorded_bytes r)
   pub log : take shown (recorded_bytes r) ≡ flat_map entry_spelling (entries_at s g place)
 
-abbrev pub IsActing : Scenario → ℕ → ℕ → Recorded → Option ℕ → Type 0
+abbrev pub IsActing : Scenario → ℕ → ℕ → Recorder → Option ℕ → Type 0
 IsActing s g place r None = StandsBefore s g (slice_get (acts_of s.net g) place) r
 IsActing s g place r (Some shown) = HasHeardLast s g place r shown
 
 -- what the fields of a general keep
-pub record IsActor (s : Scenario) (g : ℕ) (acts : List Act) (place : ℕ) (r : Recorded) (waiting : Option ℕ) : Type 0 where
+pub record IsActor (s : Scenario) (g : ℕ) (acts : List Act) (place : ℕ) (r : Recorder) (waiting : Option ℕ) : Type 0 where
   pub lawful : IsScenario s
   pub known : g < s.net.generals
   pub planned : acts ≡ acts_of s.net g
@@ -108,6 +108,6 @@ is_put (Some (Puts l h)) = true
 is_put (Some (Takes l h)) = false
 
 -- he hears a frame, unless he has heard it already
-abbrev pub HearsOnce : Recorded → Option ℕ → ℕ → List (List ℕ) → Recorded → Option ℕ → Type 0
+abbrev pub HearsOnce : Recorder → Option ℕ → ℕ → List (List ℕ) → Recorder → Option ℕ → Type 0
 HearsOnce old None from frame new waiting = (new ≡ with_recvs old from frame) × (waiting ≡ Some (length (recorded_bytes old)))
 HearsOnce old (Some shown) from frame new waiting = (new ≡ old) × (waiting ≡ Some shown)

@@ -2,7 +2,7 @@
 use Rattle.std.specs.Prelude.{ℕ, ◌==◌, Bool, false, List, map, ◌++◌}
 use Rattle.std.specs.List.{flat_map, range_with_len}
 use Rattle.gen_net.specs.Network.{Network, rounds}
-use Rattle.gen_world.specs.SignedWorld.{neighbours_of}
+use Rattle.gen_scenario.specs.SignedWorld.{neighbours_of}
 use Rattle.gen_async.specs.declared.acts.Act.{Act}
 use Rattle.gen_async.specs.declared.acts.Act.TheVariants.{Puts, Takes}
 

@@ -4,7 +4,7 @@ use Rattle.std.specs.List.{flat_map, range_with_len}
 use Rattle.gen_net.specs.Network.{Network, IsNetwork, rounds, AreNeighbours}
 use Rattle.gen_async.specs.declared.acts.Act.{Act}
 use Rattle.gen_async.specs.declared.acts.Act.TheVariants.{Puts, Takes}
-use Rattle.gen_world.specs.SignedWorld.{neighbours_of}
+use Rattle.gen_scenario.specs.SignedWorld.{neighbours_of}
 use Rattle.gen_async.specs.Machine.{at_start, moved_acts, next_act, taken, queued, after}
 use Rattle.gen_async.specs.Laws.{AreActs}
 

@@ -1,10 +1,10 @@
 -- What the machine's fields keep, and what an attempt answers.
 use Rattle.std.specs.Prelude.{ℕ, ◌≡◌, ◌<◌, ◌+◌, ◌*◌, List, [], length, map, take, slice_index, slice_index_or, slice_set, None}
 use Rattle.gen_log.specs.Writing.{LogBytes}
-use Rattle.gen_world.specs.Recording.{log_bytes}
-use Rattle.gen_world.specs.WorldLogs.{logs_of}
-use Rattle.gen_world.specs.Scenario.{Scenario, IsScenario}
-use Rattle.gen_world.specs.SignedWorld.{frame_at}
+use Rattle.gen_scenario.specs.WorldLogs.{log_bytes}
+use Rattle.gen_scenario.specs.WorldLogs.{logs_of}
+use Rattle.gen_scenario.specs.Scenario.{Scenario, IsScenario}
+use Rattle.gen_scenario.specs.SignedWorld.{frame_at}
 use Rattle.gen_async.specs.declared.acts.Moved.{Moved}
 use Rattle.gen_async.specs.Actors.{ActorState, act_at}
 use Rattle.gen_async.specs.Frames.{queue}

@@ -3,13 +3,13 @@ use Rattle.std.specs.Prelude.{ℕ, ◌≡◌, ◌-◌, ◌≤◌, List, [], ◌�
 use Rattle.std.specs.List.{flat_map}
 use Rattle.gen_log.specs.declared.entries.Entry.{Entry}
 use Rattle.gen_log.specs.declared.entries.Entry.TheVariants.{Start}
-use Rattle.gen_world.specs.declared.hearing.Heard.{Heard}
-use Rattle.gen_world.specs.Counted.{counted_of}
-use Rattle.gen_world.specs.Frames.{frame_of}
-use Rattle.gen_world.specs.RoundEntries.{sign_entries, send_entries, recv_entries}
-use Rattle.gen_world.specs.Scenario.{Scenario, IsScenario, header_of}
-use Rattle.gen_world.specs.SignedWorld.{own_order, part_of, heard_by, frame_at, counted_at, delivery}
-use Rattle.gen_world.specs.WorldLogs.{middle_of, decide_entry, entries_over}
+use Rattle.gen_scenario.specs.declared.heard.Heard.{Heard}
+use Rattle.gen_scenario.specs.Counted.{counted_of}
+use Rattle.gen_scenario.specs.Frames.{frame_of}
+use Rattle.gen_scenario.specs.RoundEntries.{sign_entries, send_entries, recv_entries}
+use Rattle.gen_scenario.specs.Scenario.{Scenario, IsScenario, header_of}
+use Rattle.gen_scenario.specs.SignedWorld.{own_order, sender_of, heard_by, frame_at, counted_at, delivery}
+use Rattle.gen_scenario.specs.WorldLogs.{middle_of, decide_entry, entries_over}
 use Rattle.gen_async.specs.declared.acts.Act.TheVariants.{Puts, Takes}
 use Rattle.gen_async.specs.declared.acts.Step.{Step}
 use Rattle.gen_async.specs.declared.acts.Step.TheVariants.{Starts, Signs, Acts, Decides}
@@ -27,7 +27,7 @@ heard_of_arrival s g a =
 
 -- the frame that a general of the scenario puts, by what came to him
 abbrev pub puts_by : Scenario → ℕ → List (Arrival (List (List ℕ))) → ℕ → ℕ → List (List ℕ)
-puts_by s g arrivals round to = frame_of (part_of s g) (flat_map (heard_of_arrival s g) arrivals) round to
+puts_by s g arrivals round to = frame_of (sender_of s g) (flat_map (heard_of_arrival s g) arrivals) round to
 
 -- whatever the acts, the queues hold the frames of the scenario's run
 abbrev pub PutsFrames : Type 0
@@ -40,21 +40,21 @@ PutsFrames =
 -- what a general of the scenario writes by a step
 abbrev pub written_by : Scenario → ℕ → Step → List Entry
 written_by s g Starts = Start g (own_order s g) ∷ []
-written_by s g (Signs round) = sign_entries (part_of s g) (heard_by s (round - 1) g) round
-written_by s g (Acts (Puts round to)) = send_entries (part_of s g) (heard_by s (round - 1) g) round to
-written_by s g (Acts (Takes round from)) = recv_entries (part_of s g) round from (counted_at s round from g)
+written_by s g (Signs round) = sign_entries (sender_of s g) (heard_by s (round - 1) g) round
+written_by s g (Acts (Puts round to)) = send_entries (sender_of s g) (heard_by s (round - 1) g) round to
+written_by s g (Acts (Takes round from)) = recv_entries (sender_of s g) round from (counted_at s round from g)
 written_by s g Decides = decide_entry s.net (own_order s g) (middle_of s g) ∷ []
 
 -- by all his steps he writes the entries of his log in the scenario's run
 abbrev pub WritesLog : Type 0
-WritesLog = (s : Scenario) (g : ℕ) → whole_log s.net (written_by s) g ≡ entries_over (part_of s g) (middle_of s g)
+WritesLog = (s : Scenario) (g : ℕ) → whole_log s.net (written_by s) g ≡ entries_over (sender_of s g) (middle_of s g)
 
 -- whatever the places, what he has written begins them, and is all of them once he is done
 pub record BeginsLog (s : Scenario) (places : List ℕ) (g : ℕ) : Type 0 where
   pub rest : List Entry
-  pub begins : entries_over (part_of s g) (middle_of s g) ≡ log_so_far s.net (written_by s) places g ++ rest
+  pub begins : entries_over (sender_of s g) (middle_of s g) ≡ log_so_far s.net (written_by s) places g ++ rest
   pub whole : length (acts_of s.net g) ≤ slice_index places g
-      → log_so_far s.net (written_by s) places g ≡ entries_over (part_of s g) (middle_of s g)
+      → log_so_far s.net (written_by s) places g ≡ entries_over (sender_of s g) (middle_of s g)
 
 abbrev pub BeginsLogs : Type 0
 BeginsLogs = (s : Scenario) (places : List ℕ) (g : ℕ) → BeginsLog s places g

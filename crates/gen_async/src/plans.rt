@@ -1,6 +1,6 @@
 //! The acts of a general.
 ghost use Rattle.std.specs.Prelude.{◌≡◌, ◌++◌, map, IfOk, OnOk};
-ghost use Rattle.gen_world.specs.SignedWorld.{neighbours_of};
+ghost use Rattle.gen_scenario.specs.SignedWorld.{neighbours_of};
 ghost use Rattle.gen_async.specs.declared.acts.Act.TheVariants.{Puts, Takes};
 ghost use Rattle.gen_async.specs.Acts.{acts_of, acts_of_round};
 

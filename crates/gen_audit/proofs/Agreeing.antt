@@ -9,8 +9,8 @@ use Rattle.gen_net.specs.Log.{LogEntry, Started, Decided, IsEntry, Keeps}
 use Rattle.gen_core.proofs.Decisions.{accepted_list}
 use Rattle.gen_core.proofs.SignedRuns.{own_of}
 use Rattle.gen_walks.proofs.Bridged.{has_diameter, within_of}
-use Rattle.gen_world.specs.Theorem.{Case, Premises}
-use Rattle.gen_world.proofs.Agree.{decide_loyal, decide_alike, obey_commander}
+use Rattle.gen_scenario.specs.Theorem.{Case, Premises}
+use Rattle.gen_scenario.proofs.Agree.{decide_loyal, decide_alike, obey_commander}
 use Rattle.gen_match.specs.Matching.{Logs, Logged}
 use Rattle.gen_audit.specs.Agreement.{AgreesOn, HasFewFaulty, FewFaultyAgree}
 use Rattle.gen_audit.specs.Explained.{IsExplained}

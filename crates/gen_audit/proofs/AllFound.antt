@@ -6,7 +6,7 @@ use Rattle.gen_types.proofs.Lists.{Contains_here, Contains_cases, Contains_nil, 
 use Rattle.gen_core.proofs.OrderedLists.{in_flat_map, one_list}
 use Rattle.gen_walks.specs.Walks.{Bridges, IsLeastBadPair}
 use Rattle.gen_local.specs.Report.{Report}
-use Rattle.gen_local.specs.Shown.{ShownLog}
+use Rattle.gen_log.specs.Writing.{LogBytes}
 use Rattle.gen_match.specs.declared.finding.Finding.{Finding}
 use Rattle.gen_match.specs.declared.finding.Finding.TheVariants.{Missing, Several, Unreadable, Foreign, Unsigned, Unsealed, Departs, Unmatched, Underivable, Unjoined, Nobody}
 use Rattle.gen_match.specs.Matching.{Logs, FindsUnmatched, FindsUnderivable, IsUnmatched, IsUnderivable}
@@ -21,7 +21,7 @@ use Rattle.gen_audit.proofs.Telling.{reports_tell_logs}
 
 -- ---- how much is shown
 
-amount_is : (b : LogBundle) (g : ℕ) → IsOfRest b g → (xs : List ShownLog) → exhibits_of b.exhibits g ≡ xs → (f : Finding) → Contains (amount_found g (length xs)) f → IsFinding b f
+amount_is : (b : LogBundle) (g : ℕ) → IsOfRest b g → (xs : List LogBytes) → exhibits_of b.exhibits g ≡ xs → (f : Finding) → Contains (amount_found g (length xs)) f → IsFinding b f
 amount_is b g of_rest [] e f h = elim (Contains_cases (Missing g) f [] h) [
   | inl q ↦ subst (IsFinding b) q (of_rest, e)
   | inr none ↦ absurd (Contains_nil f none)

@@ -5,7 +5,7 @@ use Rattle.gen_net.specs.Log.{Precedes}
 use Rattle.gen_core.proofs.OrderedLists.{same_members, Precedes-apart}
 use Rattle.gen_match.specs.declared.finding.Finding.{Finding}
 use Rattle.gen_match.specs.Findings.{finding_place, AreFindings}
-use Rattle.gen_world.specs.declared.scenario.Decision.{Decision}
+use Rattle.gen_scenario.specs.declared.scenario.Decision.{Decision}
 use Rattle.gen_audit.specs.Bundle.{LogBundle, IsBundle}
 use Rattle.gen_audit.specs.Findings.{IsFinding}
 use Rattle.gen_audit.specs.Supported.{IsClean, IsSupported, AgreeOn}

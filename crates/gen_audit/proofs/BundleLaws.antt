@@ -17,7 +17,7 @@ use Rattle.gen_net.specs.Front.{front_spelling}
 use Rattle.gen_net.specs.Header.{RunHeader}
 use Rattle.gen_net.specs.Network.{IsBefore}
 use Rattle.gen_log.specs.Fields.{AreBelow, set_spelling}
-use Rattle.gen_local.specs.Shown.{ShownLog}
+use Rattle.gen_log.specs.Writing.{LogBytes}
 use Rattle.gen_audit.specs.declared.bundle_fault.BundleFault.{BundleFault}
 use Rattle.gen_audit.specs.declared.bundle_fault.BundleFault.TheVariants as faults
 use Rattle.gen_audit.specs.Behind.{many_behind}
@@ -114,7 +114,7 @@ walks_read n = record { takes = walks_take n; again = walks_again n }
 -- ---- exhibits
 
 -- an exhibit whose log is of bytes
-pub record IsShown (n : ℕ) (x : ShownLog) : Type 0 where
+pub record IsShown (n : ℕ) (x : LogBytes) : Type 0 where
   pub exhibit : IsExhibit n x
   pub bytes : AreBelow 256 x.bytes
 
@@ -143,13 +143,13 @@ bytes_of bytes fits = All-from_get_or (λ b. b < 256) bytes 0 (λ i lt. fits i)
 front_of : (bytes text rest : List ℕ) → IsBytes bytes → bytes ≡ text ++ rest → IsBytes text
 front_of bytes text rest fits parts = subst IsBytes (take_at text rest (length text) refl) (IsBytes-take (length text) (text ++ rest) (subst IsBytes parts fits))
 
-abbrev ExhibitTaken : ℕ → ℕ → List ℕ → ShownLog × List ℕ → Type 0
+abbrev ExhibitTaken : ℕ → ℕ → List ℕ → LogBytes × List ℕ → Type 0
 ExhibitTaken n before bytes x = Takes bytes (exhibit_spelling x.0) x.1 × (IsShown n x.0 × NotAfter before x.0.general)
 
-exhibit_takes : (n before : ℕ) (bytes : List ℕ) (x : ShownLog × List ℕ) → IsBytes bytes → exhibit_at n before bytes ≡ Ok x → ExhibitTaken n before bytes x
+exhibit_takes : (n before : ℕ) (bytes : List ℕ) (x : LogBytes × List ℕ) → IsBytes bytes → exhibit_at n before bytes ≡ Ok x → ExhibitTaken n before bytes x
 unfolding exhibit_at
 exhibit_takes n before bytes x fits e =
-    let made : ℕ → List ℕ × List ℕ → Result (ShownLog × List ℕ) BundleFault = λ general log. Ok (record { general = general; bytes = log.0 }, log.1) in
+    let made : ℕ → List ℕ × List ℕ → Result (LogBytes × List ℕ) BundleFault = λ general log. Ok (record { general = general; bytes = log.0 }, log.1) in
     after (owner_at n before bytes) (λ general. number_at faults.Truncated w32 general.1 >>= λ size. bytes_at faults.Truncated size.0 size.1 >>= made general.0) x e (λ general r0 e0.
     after (number_at faults.Truncated w32 general.1) (λ size. bytes_at faults.Truncated size.0 size.1 >>= made general.0) x e0 (λ size r1 e1.
     after (bytes_at faults.Truncated size.0 size.1) (made general.0) x e1 (λ log r2 e2.
@@ -166,7 +166,7 @@ exhibit_takes n before bytes x fits e =
       (record { exhibit = record { known = t0.1.0; short = small }; bytes = below }, t0.1.1),
     ))))
 
-exhibit_again : (n before : ℕ) (x : ShownLog) (rest : List ℕ) → IsShown n x × NotAfter before x.general → exhibit_at n before (exhibit_spelling x ++ rest) ≡ Ok (x, rest)
+exhibit_again : (n before : ℕ) (x : LogBytes) (rest : List ℕ) → IsShown n x × NotAfter before x.general → exhibit_at n before (exhibit_spelling x ++ rest) ≡ Ok (x, rest)
 unfolding exhibit_at
 exhibit_again n before x rest is =
     let size = to_be_bytes w32 (length x.bytes) in
@@ -180,11 +180,11 @@ pub exhibit_reads : (n before : ℕ) → Reads (exhibit_at n before) exhibit_spe
 exhibit_reads n before = record { takes = exhibit_takes n before; again = exhibit_again n before }
 
 -- exhibits whose logs are of bytes
-pub record AreShown (n : ℕ) (shown : List ShownLog) : Type 0 where
+pub record AreShown (n : ℕ) (shown : List LogBytes) : Type 0 where
   pub exhibits : AreExhibits n shown
-  pub bytes : (x : ShownLog) → Contains shown x → AreBelow 256 x.bytes
+  pub bytes : (x : LogBytes) → Contains shown x → AreBelow 256 x.bytes
 
-exhibits_take : (n : ℕ) (bytes : List ℕ) (x : List ShownLog × List ℕ) → IsBytes bytes → exhibits_at n bytes ≡ Ok x → Takes bytes (exhibits_spelling x.0) x.1 × AreShown n x.0
+exhibits_take : (n : ℕ) (bytes : List ℕ) (x : List LogBytes × List ℕ) → IsBytes bytes → exhibits_at n bytes ≡ Ok x → Takes bytes (exhibits_spelling x.0) x.1 × AreShown n x.0
 unfolding exhibits_at
 exhibits_take n bytes x fits e =
     after (byte_at faults.Truncated bytes) (λ count. check (nat_le count.0 most_exhibits) faults.BadExhibit >>= λ few. many_behind (exhibit_at n) shown_general 0 count.0 count.1) x e (λ count r0 e0.
@@ -201,7 +201,7 @@ exhibits_take n bytes x fits e =
       },
     )))
 
-exhibits_again : (n : ℕ) (exhibits : List ShownLog) (rest : List ℕ) → AreShown n exhibits → exhibits_at n (exhibits_spelling exhibits ++ rest) ≡ Ok (exhibits, rest)
+exhibits_again : (n : ℕ) (exhibits : List LogBytes) (rest : List ℕ) → AreShown n exhibits → exhibits_at n (exhibits_spelling exhibits ++ rest) ≡ Ok (exhibits, rest)
 unfolding exhibits_at
 exhibits_again n exhibits rest are =
     let few : nat_le (length exhibits) most_exhibits ≡ true = le-leb _ _ are.exhibits.few in
@@ -241,7 +241,7 @@ bundle_takes bytes x fits e =
     )))))
 
 -- what was read part by part is a bundle
-pub bundle_from : (bytes : List ℕ) (header : RunHeader × List ℕ) (faulty : List ℕ × List ℕ) (walks : List (List ℕ) × List ℕ) (exhibits : List ShownLog × List ℕ) → IsBytes bytes → front_at bytes ≡ Ok header
+pub bundle_from : (bytes : List ℕ) (header : RunHeader × List ℕ) (faulty : List ℕ × List ℕ) (walks : List (List ℕ) × List ℕ) (exhibits : List LogBytes × List ℕ) → IsBytes bytes → front_at bytes ≡ Ok header
     → faulty_at header.0.network.generals header.1 ≡ Ok faulty → walks_at header.0.network.generals faulty.1 ≡ Ok walks → exhibits_at header.0.network.generals walks.1 ≡ Ok exhibits
     → IsBundle (record { header = header.0; faulty = faulty.0; walks = walks.0; exhibits = exhibits.0 })
 unfolding bundle_at

@@ -11,7 +11,7 @@ use Rattle.gen_net.specs.Header.{RunHeader, IsHeader}
 use Rattle.gen_net.specs.Network.{IsBefore}
 use Rattle.gen_log.specs.Fields.{AreBelow}
 use Rattle.gen_log.proofs.Holding.{two, all_hold, all_told}
-use Rattle.gen_local.specs.Shown.{ShownLog}
+use Rattle.gen_log.specs.Writing.{LogBytes}
 use Rattle.gen_audit.specs.declared.bundle_fault.BundleFault.{BundleFault}
 use Rattle.gen_audit.specs.declared.bundle_fault.BundleFault.TheVariants as faults
 use Rattle.gen_audit.specs.Behind.{test_behind}
@@ -120,7 +120,7 @@ walks_tested n walks e =
 abbrev pub NotAfter : ℕ → ℕ → Type 0
 NotAfter a b = a ≤ b
 
-exhibit_tested : (n before : ℕ) (x : ShownLog) → exhibit_test n before x ≡ Ok tt → IsExhibit n x × NotAfter before x.general
+exhibit_tested : (n before : ℕ) (x : LogBytes) → exhibit_test n before x ≡ Ok tt → IsExhibit n x × NotAfter before x.general
 unfolding exhibit_test
 exhibit_tested n before x e =
     after_check (nat_lt x.general n) faults.BadExhibit (λ known. check (nat_le before x.general) faults.OutOfOrder >>= λ placed. check (nat_lt (length x.bytes) (2 ^ 32)) faults.LongLog) tt e (λ known e0.
@@ -131,14 +131,14 @@ exhibit_tested n before x e =
 not_after_then : (a b c : ℕ) → NotAfter a b → NotAfter b c → NotAfter a c
 not_after_then a b c h k = omega (arith, h, k)
 
-pub exhibits_known : (n : ℕ) (P : ShownLog → Type 0) (xs : List ShownLog) → ((x : ShownLog) → P x → IsExhibit n x) → length xs ≤ most_exhibits → Stand P NotAfter shown_general 0 xs → AreExhibits n xs
+pub exhibits_known : (n : ℕ) (P : LogBytes → Type 0) (xs : List LogBytes) → ((x : LogBytes) → P x → IsExhibit n x) → length xs ≤ most_exhibits → Stand P NotAfter shown_general 0 xs → AreExhibits n xs
 exhibits_known n P xs weaker few stand = record {
   few = few;
   each = All-weaker P (IsExhibit n) weaker xs (stand_all P NotAfter shown_general 0 xs stand);
   ascending = stand_ascends P NotAfter shown_general not_after_then 0 xs stand;
 }
 
-pub exhibits_tested : (n : ℕ) (xs : List ShownLog) → exhibits_test n xs ≡ Ok tt → AreExhibits n xs
+pub exhibits_tested : (n : ℕ) (xs : List LogBytes) → exhibits_test n xs ≡ Ok tt → AreExhibits n xs
 unfolding exhibits_test
 exhibits_tested n xs e =
     after_check (nat_le (length xs) most_exhibits) faults.BadExhibit (λ few. test_behind (exhibit_test n) shown_general 0 xs) tt e (λ few e0.
@@ -146,7 +146,7 @@ exhibits_tested n xs e =
 
 -- ---- the bundle
 
-pub bundle_made : (h : RunHeader) (faulty : List ℕ) (walks : List (List ℕ)) (xs : List ShownLog) → IsHeader h → AllPairs (λ v w. v < w) faulty
+pub bundle_made : (h : RunHeader) (faulty : List ℕ) (walks : List (List ℕ)) (xs : List LogBytes) → IsHeader h → AllPairs (λ v w. v < w) faulty
     → check (are_below h.network.generals faulty) faults.FaultyRange ≡ Ok tt → walks_test h.network.generals walks ≡ Ok tt → exhibits_test h.network.generals xs ≡ Ok tt → All (λ x. AreBelow 256 x.bytes) xs
     → IsBundle (record { header = h; faulty = faulty; walks = walks; exhibits = xs })
 bundle_made h faulty walks xs is up members led shown bytes = record {
@@ -154,10 +154,10 @@ bundle_made h faulty walks xs is up members led shown bytes = record {
   faulty = record { ascending = up; below = below_known h.network.generals faulty (check_known (are_below h.network.generals faulty) faults.FaultyRange members) };
   walks = walks_tested h.network.generals walks led;
   exhibits = exhibits_tested h.network.generals xs shown;
-  bytes = λ x k. All-contains (λ (y : ShownLog). AreBelow 256 y.bytes) xs x bytes k;
+  bytes = λ x k. All-contains (λ (y : LogBytes). AreBelow 256 y.bytes) xs x bytes k;
 }
 
-tests_told : (h : RunHeader) (faulty : List ℕ) (walks : List (List ℕ)) (xs : List ShownLog) → are_below h.network.generals faulty ≡ true → walks_test h.network.generals walks ≡ Ok tt → exhibits_test h.network.generals xs ≡ Ok tt
+tests_told : (h : RunHeader) (faulty : List ℕ) (walks : List (List ℕ)) (xs : List LogBytes) → are_below h.network.generals faulty ≡ true → walks_test h.network.generals walks ≡ Ok tt → exhibits_test h.network.generals xs ≡ Ok tt
     → bundle_with h faulty walks xs ≡ Ok (record { header = h; faulty = faulty; walks = walks; exhibits = xs })
 unfolding bundle_with
 tests_told h faulty walks xs members led shown = rw (members, led, shown) refl
@@ -177,7 +177,7 @@ walks_pass n walks are =
     let each = test_passes (IsListedWalk n) IsBefore (walk_test n) ends_of (walk_passes n) no_ends walks (walks_stand n walks are) in
     rw (few, each) refl
 
-exhibit_passes : (n before : ℕ) (x : ShownLog) → IsExhibit n x → NotAfter before x.general → exhibit_test n before x ≡ Ok tt
+exhibit_passes : (n before : ℕ) (x : LogBytes) → IsExhibit n x → NotAfter before x.general → exhibit_test n before x ≡ Ok tt
 unfolding exhibit_test
 exhibit_passes n before x is behind =
     let known : nat_lt x.general n ≡ true = lt-ltb _ _ is.known in
@@ -185,7 +185,7 @@ exhibit_passes n before x is behind =
     let short : nat_lt (length x.bytes) (2 ^ 32) ≡ true = lt-ltb _ _ is.short in
     rw (known, placed, short) refl
 
-exhibits_pass : (n : ℕ) (xs : List ShownLog) → AreExhibits n xs → exhibits_test n xs ≡ Ok tt
+exhibits_pass : (n : ℕ) (xs : List LogBytes) → AreExhibits n xs → exhibits_test n xs ≡ Ok tt
 unfolding exhibits_test
 exhibits_pass n xs are =
     let few : nat_le (length xs) most_exhibits ≡ true = le-leb _ _ are.few in

@@ -17,8 +17,8 @@ use Rattle.gen_local.specs.declared.reading.Reading.TheVariants.{Unreadable, For
 use Rattle.gen_local.specs.Erased.{erased}
 use Rattle.gen_local.specs.FoundLog.{FoundLog}
 use Rattle.gen_local.specs.Report.{Report}
-use Rattle.gen_world.specs.declared.scenario.Decision.{Decision}
-use Rattle.gen_world.proofs.Having.{in_filtered, in_mapped}
+use Rattle.gen_scenario.specs.declared.scenario.Decision.{Decision}
+use Rattle.gen_scenario.proofs.Having.{in_filtered, in_mapped}
 use Rattle.gen_match.specs.Matching.{Logged}
 use Rattle.gen_match.specs.Reports.{entries_told, sole_told, reports_of}
 use Rattle.gen_audit.specs.Bundle.{LogBundle, IsBundle, logs_of}

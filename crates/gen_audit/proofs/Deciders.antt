@@ -7,7 +7,7 @@ use Rattle.gen_net.specs.Run.{Run}
 use Rattle.gen_net.specs.Follows.{Conduct, Commands, Relays}
 use Rattle.gen_net.specs.Log.{Decided, IsEntry}
 use Rattle.gen_core.proofs.OrderedLists.{AllPairs-head, AllPairs-tail, AllPairs-cons}
-use Rattle.gen_world.specs.declared.scenario.Decision.{Decision}
+use Rattle.gen_scenario.specs.declared.scenario.Decision.{Decision}
 use Rattle.gen_match.specs.Matching.{Logged}
 use Rattle.gen_audit.specs.Bundle.{LogBundle, logs_of}
 use Rattle.gen_audit.specs.Findings.{IsOfRest}

@@ -6,7 +6,7 @@ use Rattle.gen_types.proofs.Lists.{decide_contains, decide_some, below_or_least}
 use Rattle.gen_net.specs.Network.{Network, IsLoyal}
 use Rattle.gen_types.specs.Ends.{BeginsWith}
 use Rattle.gen_net.specs.Log.{LogEntry, Started, Signed, Sent, Received, Decided}
-use Rattle.gen_world.proofs.Agree.{decide_loyal}
+use Rattle.gen_scenario.proofs.Agree.{decide_loyal}
 use Rattle.gen_audit.proofs.Fit.{LogDerivation}
 
 -- whether something holds

@@ -11,7 +11,7 @@ use Rattle.gen_net.specs.Signed.{IsSignedRun, IsDerivable}
 use Rattle.gen_net.specs.Log.{LogEntry, Started, Signed, Sent, Received, Decided, Keeps}
 use Rattle.gen_net.specs.Departs.{IsFollowersLog}
 use Rattle.gen_types.proofs.Lists.{Contains_here, Contains_there, Contains_cases, Contains_nil}
-use Rattle.gen_world.proofs.Agree.{decide_loyal}
+use Rattle.gen_scenario.proofs.Agree.{decide_loyal}
 use Rattle.gen_core.proofs.Views.{SameView, view_follows, view_keeps}
 
 -- ---- for logs of everybody, those of the rest alone being spoken of

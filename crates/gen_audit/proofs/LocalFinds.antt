@@ -17,8 +17,8 @@ use Rattle.gen_local.specs.declared.reading.Reading.TheVariants as readings
 use Rattle.gen_local.specs.Erased.{erased}
 use Rattle.gen_local.specs.FoundLog.{FoundLog, IsFound}
 use Rattle.gen_local.specs.Report.{Report, IsReading}
-use Rattle.gen_local.specs.Shown.{ShownLog}
-use Rattle.gen_world.proofs.Having.{in_filtered, in_mapped}
+use Rattle.gen_log.specs.Writing.{LogBytes}
+use Rattle.gen_scenario.proofs.Having.{in_filtered, in_mapped}
 use Rattle.gen_match.specs.declared.finding.Finding.{Finding}
 use Rattle.gen_match.specs.declared.finding.Finding.TheVariants.{Missing, Several, Unreadable, Foreign, Unsigned, Unsealed, Departs, Unmatched, Underivable, Unjoined, Nobody}
 use Rattle.gen_audit.specs.Bundle.{LogBundle, exhibits_of}
@@ -136,7 +136,7 @@ module _ (h : RunHeader) (g : ℕ) where
 module _ (b : LogBundle) where
   -- it is found of an exhibit of one of the rest
   abbrev IsOfExhibit : Finding → Type 0
-  IsOfExhibit f = (g : ℕ) × IsOfRest b g × ((x : ShownLog) × Contains (exhibits_of b.exhibits g) x × IsOne b.header g (log_of b.header x.bytes) f)
+  IsOfExhibit f = (g : ℕ) × IsOfRest b g × ((x : LogBytes) × Contains (exhibits_of b.exhibits g) x × IsOne b.header g (log_of b.header x.bytes) f)
 
   of_exhibit : (f : Finding) → IsLocal f → IsFinding b f → IsOfExhibit f
   of_exhibit (Unreadable g fault) l f = (g, f.0, (f.1.0, f.1.1, (refl, f.1.2)))
@@ -151,7 +151,7 @@ module _ (b : LogBundle) where
   of_exhibit (Unjoined a c) l f = absurd l
   of_exhibit Nobody l f = absurd l
 
-  from_exhibit : (f : Finding) (g : ℕ) → IsOfRest b g → (x : ShownLog) → Contains (exhibits_of b.exhibits g) x → IsOne b.header g (log_of b.header x.bytes) f → IsFinding b f
+  from_exhibit : (f : Finding) (g : ℕ) → IsOfRest b g → (x : LogBytes) → Contains (exhibits_of b.exhibits g) x → IsOne b.header g (log_of b.header x.bytes) f → IsFinding b f
   from_exhibit (Unreadable k fault) g of_rest x his one = subst (λ n. IsFinding b (Unreadable n fault)) (sym one.0) (of_rest, (x, his, one.1))
   from_exhibit (Foreign k) g of_rest x his one = subst (λ n. IsFinding b (Foreign n)) (sym one.0) (one.1.0, record { of_rest = of_rest; exhibit = x; his = his; reads = one.1.1 }, one.1.2)
   from_exhibit (Unsigned k p) g of_rest x his one = subst (λ n. IsFinding b (Unsigned n p)) (sym one.0) (one.1.0, record { shows = record { of_rest = of_rest; exhibit = x; his = his; reads = one.1.1 }; says = one.1.2 }, one.1.3)
@@ -173,17 +173,17 @@ module _ (b : LogBundle) where
 
     forth : (f : Finding) → IsOfExhibit f → IsReported b reports f
     forth f (g, of_rest, (x, his, one)) =
-        let k = Contains_filtered (λ (y : ShownLog). nat_eq y.general g) b.exhibits x his in
+        let k = Contains_filtered (λ (y : LogBytes). nat_eq y.general g) b.exhibits x his in
         let general : x.general ≡ g = eqb-true x.general g k.1 in
         let m = Contains_mapped (λ (r : Report). r.exhibit) reports x (subst (λ xs. Contains xs x) (sym are.exhibits) k.0) in
-        let whose : g ≡ m.0.exhibit.general = sym general ∙ ap (λ (y : ShownLog). y.general) (sym m.2) in
-        let mine : IsOne b.header m.0.exhibit.general (log_of b.header m.0.exhibit.bytes) f = subst (λ n. IsOne b.header n (log_of b.header m.0.exhibit.bytes) f) whose (subst (λ (y : ShownLog). IsOne b.header g (log_of b.header y.bytes) f) (sym m.2) one) in
+        let whose : g ≡ m.0.exhibit.general = sym general ∙ ap (λ (y : LogBytes). y.general) (sym m.2) in
+        let mine : IsOne b.header m.0.exhibit.general (log_of b.header m.0.exhibit.bytes) f = subst (λ n. IsOne b.header n (log_of b.header m.0.exhibit.bytes) f) whose (subst (λ (y : LogBytes). IsOne b.header g (log_of b.header y.bytes) f) (sym m.2) one) in
         (m.0, m.1, subst (IsOfRest b) whose of_rest, reported b.header m.0.exhibit.general (log_of b.header m.0.exhibit.bytes) m.0.reading (reads m.0 m.1) f mine)
 
     pub back : (f : Finding) → IsReported b reports f → IsFinding b f
     back f (r, h, of_rest, c) =
         let inside : Contains b.exhibits r.exhibit = subst (λ xs. Contains xs r.exhibit) are.exhibits (in_mapped (λ (s : Report). s.exhibit) reports r h) in
-        let his = in_filtered (λ (y : ShownLog). nat_eq y.general r.exhibit.general) b.exhibits r.exhibit inside (eq-eqb r.exhibit.general r.exhibit.general refl) in
+        let his = in_filtered (λ (y : LogBytes). nat_eq y.general r.exhibit.general) b.exhibits r.exhibit inside (eq-eqb r.exhibit.general r.exhibit.general refl) in
         from_exhibit f r.exhibit.general of_rest r.exhibit his (told b.header r.exhibit.general (log_of b.header r.exhibit.bytes) r.reading (reads r h) f c)
 
 pub reports_find_local : ReportsFindLocal

@@ -13,7 +13,7 @@ use Rattle.gen_net.specs.Log.{LogEntry}
 use Rattle.gen_net.specs.Departs.{IsFollowersLog, DepartsAt}
 use Rattle.gen_core.proofs.Decisions.{list_below}
 use Rattle.gen_walks.specs.Walks.{BoundsDiameter}
-use Rattle.gen_world.proofs.Agree.{decide_loyal}
+use Rattle.gen_scenario.proofs.Agree.{decide_loyal}
 use Rattle.gen_log.specs.declared.entries.Entry.{Entry}
 use Rattle.gen_log.specs.declared.entries.Entry.TheVariants.{Start, Sign, Send, Recv, Decide}
 use Rattle.gen_log.specs.declared.fault.LogFault.{LogFault}
@@ -25,7 +25,7 @@ use Rattle.gen_log.proofs.LogLaws.{log_found}
 use Rattle.gen_log.proofs.NextEntries.{are_bytes}
 use Rattle.gen_log.specs.Verifying.{SaysItIsOf, EntryVerifies, LogVerifies}
 use Rattle.gen_audit.specs.Explained.{NothingFound}
-use Rattle.gen_local.specs.Shown.{ShownLog}
+use Rattle.gen_log.specs.Writing.{LogBytes}
 use Rattle.gen_match.specs.declared.finding.Finding.{Finding}
 use Rattle.gen_match.specs.declared.finding.Finding.TheVariants.{Missing, Several, Unreadable, Foreign, Unsigned, Unsealed, Departs, Unmatched, Underivable, Unjoined, Nobody}
 use Rattle.gen_audit.specs.Bundle.{LogBundle, IsBundle, exhibits_of, starts_as, says_it_is_of, counted, sole_log, logs_of}
@@ -78,7 +78,7 @@ decide_own h g log = elim (bool_cases (says_it_is_of h g log)) [
 ]
 
 -- ---- the log that counts
-pub counts : (b : LogBundle) (g : ℕ) (x : ShownLog) (log : RunLog) → exhibits_of b.exhibits g ≡ x ∷ [] → log_of b.header x.bytes ≡ Ok log → SaysItIsOf b.header g log → logs_of b g ≡ Some (map erase log.entries)
+pub counts : (b : LogBundle) (g : ℕ) (x : LogBytes) (log : RunLog) → exhibits_of b.exhibits g ≡ x ∷ [] → log_of b.header x.bytes ≡ Ok log → SaysItIsOf b.header g log → logs_of b g ≡ Some (map erase log.entries)
 counts b g x log sole reads own = ap (sole_log b.header g) sole ∙ (ap (counted b.header g) reads ∙ ap (λ t. if t then Some (map erase log.entries) else None) (own_is b.header g log own))
 
 -- ---- a follower's log departs nowhere
@@ -99,7 +99,7 @@ done l = Ok l
 one_result : (l m : RunLog) → done l ≡ done m → l ≡ m
 one_result l m q = cc
 
-same_result : (b : LogBundle) (x : ShownLog) (log other : RunLog) → log_of b.header x.bytes ≡ Ok log → log_of b.header x.bytes ≡ Ok other → log ≡ other
+same_result : (b : LogBundle) (x : LogBytes) (log other : RunLog) → log_of b.header x.bytes ≡ Ok log → log_of b.header x.bytes ≡ Ok other → log ≡ other
 same_result b x log other e f = one_result log other (sym e ∙ f)
 
 not_fault : (r : Result RunLog LogFault) (log : RunLog) (fault : LogFault) → r ≡ Ok log → r ≡ Err fault → ⊥
@@ -121,12 +121,12 @@ module _ (b : LogBundle) where
       | inr s ↦ (s.0, s.2)
     ]
 
-    sole_of : (g : ℕ) → IsLoyal net b.faulty g → (xs : List ShownLog) → exhibits_of b.exhibits g ≡ xs → (x : ShownLog) × (exhibits_of b.exhibits g ≡ x ∷ [])
+    sole_of : (g : ℕ) → IsLoyal net b.faulty g → (xs : List LogBytes) → exhibits_of b.exhibits g ≡ xs → (x : LogBytes) × (exhibits_of b.exhibits g ≡ x ∷ [])
     sole_of g loyal [] e = absurd (clean (Missing g) (loyal, e))
     sole_of g loyal (x ∷ []) e = (x, e)
     sole_of g loyal (x ∷ y ∷ more) e = absurd (clean (Several g) (loyal, (x, y, more, e)))
 
-    log_at : (g : ℕ) → IsLoyal net b.faulty g → (x : ShownLog) → Contains (exhibits_of b.exhibits g) x → (r : Result RunLog LogFault) → log_of b.header x.bytes ≡ r → (log : RunLog) × (log_of b.header x.bytes ≡ Ok log)
+    log_at : (g : ℕ) → IsLoyal net b.faulty g → (x : LogBytes) → Contains (exhibits_of b.exhibits g) x → (r : Result RunLog LogFault) → log_of b.header x.bytes ≡ r → (log : RunLog) × (log_of b.header x.bytes ≡ Ok log)
     log_at g loyal x his (Ok log) e = (log, e)
     log_at g loyal x his (Err fault) e = absurd (clean (Unreadable g fault) (loyal, (x, his, e)))
 
@@ -146,7 +146,7 @@ module _ (b : LogBundle) where
         let shows_own : ShowsOwn b g r.0 = record { shows = shows; says = own } in
         let signed : AllByRecursion (EntryVerifies b.header) r.0.entries = elim (first_failing b.header r.0.entries) [ inl f ↦ absurd (clean (Unsigned g f.0) (r.0, shows_own, f.1)) | inr all ↦ all ] in
         let head : HeadVerifies b.header g r.0 = elim (head_verifies b.header g r.0) [ inl h ↦ h | inr fails ↦ absurd (clean (Unsealed g) (r.0, shows_own, fails)) ] in
-        let inside : Contains b.exhibits s.0 = (Contains_filtered (λ (x : ShownLog). nat_eq x.general g) b.exhibits s.0 his).0 in
+        let inside : Contains b.exhibits s.0 = (Contains_filtered (λ (x : LogBytes). nat_eq x.general g) b.exhibits s.0 his).0 in
         let is_log : IsLog b.header r.0 = (log_found b.header bundle.header.network.ranges.few_orders s.0.bytes r.0 (are_bytes s.0.bytes (bundle.bytes s.0 inside)) r.1).fits in
         let follows : IsFollowersLog net g (map erase r.0.entries) = departs_or_follows net g bundle.header.network loyal.0 (map erase r.0.entries) (ends_decided r.0.entries is_log.last) (λ p d. clean (Departs g p) (r.0, shows_own, d)) in
         record {

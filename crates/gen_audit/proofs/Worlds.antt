@@ -14,33 +14,37 @@ use Rattle.gen_log.specs.Log.{RunLog, IsLog, log_spelling}
 use Rattle.gen_log.specs.Verifying.{LogVerifies}
 use Rattle.gen_log.proofs.LogLaws.{log_only}
 use Rattle.gen_local.specs.Erased.{erased}
-use Rattle.gen_local.specs.Shown.{ShownLog}
-use Rattle.gen_world.specs.Scenario.{Scenario, header_of, scripted}
-use Rattle.gen_world.specs.SignedWorld.{messages_of}
-use Rattle.gen_world.specs.WorldLaws.{conduct_of}
-use Rattle.gen_world.specs.WorldLogs as worlds
-use Rattle.gen_world.proofs.LogEntries.{followers_keep}
-use Rattle.gen_world.proofs.TraitorFrames.{no_raw_is_signed}
-use Rattle.gen_world.proofs.VerifiedLogs.{all_verify}
+use Rattle.gen_log.specs.Writing.{LogBytes}
+use Rattle.gen_scenario.specs.Scenario.{Scenario, header_of, scripted}
+use Rattle.gen_scenario.specs.SignedWorld.{messages_of}
+use Rattle.gen_scenario.specs.WorldLaws.{conduct_of}
+use Rattle.gen_scenario.specs.WorldLogs as worlds
+use Rattle.gen_scenario.proofs.LogEntries.{followers_keep}
+use Rattle.gen_scenario.proofs.TraitorFrames.{no_raw_is_signed}
+use Rattle.gen_scenario.proofs.VerifiedLogs.{all_verify}
 use Rattle.gen_audit.specs.Bundle.{exhibits_of, logs_of}
 use Rattle.gen_audit.specs.Supported.{HasSoleLog, IsSupported}
 use Rattle.gen_audit.specs.declared.verdicts.Verdict.{Verdict}
 use Rattle.gen_audit.specs.declared.verdicts.Verdict.TheVariants.{Agreed, Explained, No}
 use Rattle.gen_audit.specs.Verdict.{IsVerdict}
 use Rattle.gen_audit.specs.Headline.{IsYes}
-use Rattle.gen_audit.specs.WorldBundle.{shown_by, bundle_of, IsAcceptable, WorldIsSupported, WorldIsAccepted, ShownAreLogs, SealedAreShown, shown_as}
-use Rattle.gen_world.specs.Recording.{log_bytes}
-use Rattle.gen_world.specs.Rows.{logs_of_all}
+use Rattle.gen_audit.specs.WorldBundle.{bundle_of, IsAcceptable, WorldIsSupported, WorldIsAccepted, ShownAreLogs}
+use Rattle.gen_scenario.specs.WorldLogs.{log_bytes}
+use Rattle.gen_scenario.specs.Rows.{logs_of_all}
 use Rattle.gen_audit.proofs.Supporting.{counts, supported_is_clean}
 use Rattle.gen_audit.proofs.Answering.{unclean}
 
 -- ---- what is shown as a general's
 
-his_kept : (g : ℕ) (logs : List RunLog) → filter (λ (x : ShownLog). nat_eq x.general g) (map (λ log. record { general = g; bytes = log_spelling log }) logs) ≡ map (λ log. record { general = g; bytes = log_spelling log }) logs
-his_kept g [] = refl
-his_kept g (log ∷ logs) = rw (eq-eqb g g refl) (ap (λ xs. record { general = g; bytes = log_spelling log } ∷ xs) (his_kept g logs))
+-- the sealed logs of a general
+abbrev sealed_of : Scenario → ℕ → List LogBytes
+sealed_of s g = map (log_bytes g) (worlds.logs_of s g)
 
-others_gone : (g h : ℕ) → (h ≡ g → ⊥) → (logs : List RunLog) → filter (λ (x : ShownLog). nat_eq x.general g) (map (λ log. record { general = h; bytes = log_spelling log }) logs) ≡ []
+his_kept : (g : ℕ) (logs : List RunLog) → filter (λ (x : LogBytes). nat_eq x.general g) (map (log_bytes g) logs) ≡ map (log_bytes g) logs
+his_kept g [] = refl
+his_kept g (log ∷ logs) = rw (eq-eqb g g refl) (ap (λ xs. log_bytes g log ∷ xs) (his_kept g logs))
+
+others_gone : (g h : ℕ) → (h ≡ g → ⊥) → (logs : List RunLog) → filter (λ (x : LogBytes). nat_eq x.general g) (map (log_bytes h) logs) ≡ []
 others_gone g h apart [] = refl
 others_gone g h apart (log ∷ logs) = elim (bool_cases (nat_eq h g)) [
   | inl e ↦ absurd (apart (eqb-true h g e))
@@ -48,13 +52,13 @@ others_gone g h apart (log ∷ logs) = elim (bool_cases (nat_eq h g)) [
 ]
 
 module _ (s : Scenario) (g : ℕ) where
-  abbrev kept_in : ℕ → ℕ → List ShownLog
-  kept_in a n = exhibits_of (flat_map (shown_by s) (range_with_len a n)) g
+  abbrev kept_in : ℕ → ℕ → List LogBytes
+  kept_in a n = exhibits_of (flat_map (sealed_of s) (range_with_len a n)) g
 
-  one_more : (a n : ℕ) → kept_in a (suc n) ≡ exhibits_of (shown_by s a) g ++ kept_in (a + 1) n
+  one_more : (a n : ℕ) → kept_in a (suc n) ≡ exhibits_of (sealed_of s a) g ++ kept_in (a + 1) n
   one_more a n =
-      ap (λ xs. exhibits_of xs g) (flat_map-cons (shown_by s) a (range_with_len (a + 1) n))
-      ∙ filter-append (λ (x : ShownLog). nat_eq x.general g) (shown_by s a) (flat_map (shown_by s) (range_with_len (a + 1) n))
+      ap (λ xs. exhibits_of xs g) (flat_map-cons (sealed_of s) a (range_with_len (a + 1) n))
+      ∙ filter-append (λ (x : LogBytes). nat_eq x.general g) (sealed_of s a) (flat_map (sealed_of s) (range_with_len (a + 1) n))
 
   none_behind : (a n : ℕ) → g < a → kept_in a n ≡ []
   none_behind a zero less = refl
@@ -63,14 +67,14 @@ module _ (s : Scenario) (g : ℕ) where
       ∙ ap (λ xs. xs ++ kept_in (a + 1) n) (others_gone g a (λ e. omega (arith, e)) (worlds.logs_of s a))
       ∙ none_behind (a + 1) n (omega arith)
 
-  his_in : (a n : ℕ) → a ≤ g → g < a + n → kept_in a n ≡ shown_by s g
+  his_in : (a n : ℕ) → a ≤ g → g < a + n → kept_in a n ≡ sealed_of s g
   his_in a zero low high = absurd (omega arith)
   his_in a (suc n) low high = elim (cases_eq a g) [
     | inl e ↦
         one_more a n
-        ∙ ap (λ xs. xs ++ kept_in (a + 1) n) (ap (λ k. exhibits_of (shown_by s k) g) e ∙ his_kept g (worlds.logs_of s g))
-        ∙ ap (λ xs. shown_by s g ++ xs) (none_behind (a + 1) n (omega (arith, e)))
-        ∙ append-nil (shown_by s g)
+        ∙ ap (λ xs. xs ++ kept_in (a + 1) n) (ap (λ k. exhibits_of (sealed_of s k) g) e ∙ his_kept g (worlds.logs_of s g))
+        ∙ ap (λ xs. sealed_of s g ++ xs) (none_behind (a + 1) n (omega (arith, e)))
+        ∙ append-nil (sealed_of s g)
     | inr ne ↦
         one_more a n
         ∙ ap (λ xs. xs ++ kept_in (a + 1) n) (others_gone g a ne (worlds.logs_of s a))
@@ -81,16 +85,17 @@ module _ (s : Scenario) (g : ℕ) where
 
 module _ (s : Scenario) (walks : List (List ℕ)) (fine : IsAcceptable s walks) where
   sole_of : (g : ℕ) → IsLoyal s.net (scripted s.scripts) g → HasSoleLog (bundle_of s walks) g
+  unfolding logs_of_all
   sole_of g loyal =
       let k = followers_keep s fine.scenario g loyal in
       let log : RunLog = k.0 in
-      let x : ShownLog = record { general = g; bytes = log_spelling log } in
+      let x : LogBytes = log_bytes g log in
       let has : Contains (worlds.logs_of s g) log = subst (λ logs. Contains logs log) (sym k.1) (Contains_here log []) in
       let verified : LogVerifies (header_of s) g log = all_verify s fine.scenario g loyal.0 log has in
       let spelled : Spells (IsLog (header_of s)) log_spelling (log_spelling log) log = record { fits = verified.log_of_run; spelled = refl } in
       record {
         exhibit = x;
-        sole = his_in s g 0 s.net.generals (omega arith) (omega (arith, loyal.0)) ∙ ap (λ logs. map (λ l. record { general = g; bytes = log_spelling l }) logs) k.1;
+        sole = his_in s g 0 s.net.generals (omega arith) (omega (arith, loyal.0)) ∙ ap (map (log_bytes g)) k.1;
         log = log;
         reads = log_only (header_of s) fine.scenario.network.ranges.few_orders (log_spelling log) log spelled;
         verifies = verified;
@@ -130,35 +135,20 @@ world_is_accepted s walks fine verdict is = accepted s walks fine verdict is
 
 -- ---- the bytes
 
-his_bytes : (g : ℕ) (logs : List RunLog) → map (λ (x : ShownLog). x.bytes) (map (λ log. record { general = g; bytes = log_spelling log }) logs) ≡ map log_spelling logs
+his_bytes : (g : ℕ) (logs : List RunLog) → map (λ (x : LogBytes). x.bytes) (map (log_bytes g) logs) ≡ map log_spelling logs
 his_bytes g [] = refl
 his_bytes g (log ∷ logs) = ap (λ xs. log_spelling log ∷ xs) (his_bytes g logs)
 
-all_bytes : (s : Scenario) (generals : List ℕ) → map (λ (x : ShownLog). x.bytes) (flat_map (shown_by s) generals) ≡ map log_spelling (flat_map (worlds.logs_of s) generals)
+all_bytes : (s : Scenario) (generals : List ℕ) → map (λ (x : LogBytes). x.bytes) (flat_map (sealed_of s) generals) ≡ map log_spelling (flat_map (worlds.logs_of s) generals)
 all_bytes s [] = refl
 all_bytes s (g ∷ generals) =
-    ap (map (λ (x : ShownLog). x.bytes)) (flat_map-cons (shown_by s) g generals)
-    ∙ map-append (λ (x : ShownLog). x.bytes) (shown_by s g) (flat_map (shown_by s) generals)
-    ∙ ap (λ xs. xs ++ map (λ (x : ShownLog). x.bytes) (flat_map (shown_by s) generals)) (his_bytes g (worlds.logs_of s g))
+    ap (map (λ (x : LogBytes). x.bytes)) (flat_map-cons (sealed_of s) g generals)
+    ∙ map-append (λ (x : LogBytes). x.bytes) (sealed_of s g) (flat_map (sealed_of s) generals)
+    ∙ ap (λ xs. xs ++ map (λ (x : LogBytes). x.bytes) (flat_map (sealed_of s) generals)) (his_bytes g (worlds.logs_of s g))
     ∙ ap (λ xs. map log_spelling (worlds.logs_of s g) ++ xs) (all_bytes s generals)
     ∙ sym (map-append log_spelling (worlds.logs_of s g) (flat_map (worlds.logs_of s) generals))
     ∙ ap (map log_spelling) (sym (flat_map-cons (worlds.logs_of s) g generals))
 
 pub shown_are_logs : ShownAreLogs
-shown_are_logs s = all_bytes s (range_with_len 0 s.net.generals)
-
--- sealed logs, shown as their generals'
-sealed_by_one : (g : ℕ) (logs : List RunLog) → map shown_as (map (log_bytes g) logs) ≡ map (λ log. record { general = g; bytes = log_spelling log }) logs
-sealed_by_one g [] = refl
-sealed_by_one g (log ∷ logs) = ap (λ xs. record { general = g; bytes = log_spelling log } ∷ xs) (sealed_by_one g logs)
-
-sealed_by_all : (s : Scenario) (gs : List ℕ) → map shown_as (flat_map (λ g. map (log_bytes g) (worlds.logs_of s g)) gs) ≡ flat_map (shown_by s) gs
-sealed_by_all s [] = refl
-sealed_by_all s (g ∷ gs) =
-    map-append shown_as (map (log_bytes g) (worlds.logs_of s g)) (flat_map (λ g. map (log_bytes g) (worlds.logs_of s g)) gs)
-    ∙ ap (λ xs. xs ++ map shown_as (flat_map (λ g. map (log_bytes g) (worlds.logs_of s g)) gs)) (sealed_by_one g (worlds.logs_of s g))
-    ∙ ap (λ ys. shown_by s g ++ ys) (sealed_by_all s gs)
-
-pub sealed_are_shown : SealedAreShown
 unfolding logs_of_all
-sealed_are_shown s = sealed_by_all s (range_with_len 0 s.net.generals)
+shown_are_logs s = all_bytes s (range_with_len 0 s.net.generals)

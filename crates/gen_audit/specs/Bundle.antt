@@ -11,7 +11,7 @@ use Rattle.gen_log.specs.Fields.{AreBelow}
 use Rattle.gen_log.specs.Log.{RunLog}
 use Rattle.gen_log.specs.LogReading.{log_of}
 use Rattle.gen_local.specs.Erased.{erased}
-use Rattle.gen_local.specs.Shown.{ShownLog}
+use Rattle.gen_log.specs.Writing.{LogBytes}
 use Rattle.gen_match.specs.Matching.{Logs}
 use Rattle.gen_audit.specs.BundleParts.{AreMembers, AreListedWalks, AreExhibits}
 
@@ -20,7 +20,7 @@ pub record LogBundle : Type 0 where
   pub header : RunHeader
   pub faulty : List ℕ
   pub walks : List (List ℕ)
-  pub exhibits : List ShownLog
+  pub exhibits : List LogBytes
 
 -- what each bundle keeps: its header is one, its parts are about the header's network, and what is shown are bytes
 pub record IsBundle (b : LogBundle) : Type 0 where
@@ -28,10 +28,10 @@ pub record IsBundle (b : LogBundle) : Type 0 where
   pub faulty : AreMembers b.header.network.generals b.faulty
   pub walks : AreListedWalks b.header.network.generals b.walks
   pub exhibits : AreExhibits b.header.network.generals b.exhibits
-  pub bytes : (x : ShownLog) → Contains b.exhibits x → AreBelow 256 x.bytes
+  pub bytes : (x : LogBytes) → Contains b.exhibits x → AreBelow 256 x.bytes
 
 -- what is shown as a general's log
-abbrev pub exhibits_of : List ShownLog → ℕ → List ShownLog
+abbrev pub exhibits_of : List LogBytes → ℕ → List LogBytes
 exhibits_of exhibits g = filter (λ x. x.general == g) exhibits
 
 -- whether a log says it is the general's of this run: it has the run id, and its first entry is a START that names him
@@ -48,7 +48,7 @@ counted h g (Err fault) = None
 counted h g (Ok log) = if says_it_is_of h g log then Some (erased log.entries) else None
 
 -- the log that counts: that of the one exhibit
-abbrev pub sole_log : RunHeader → ℕ → List ShownLog → Option (List LogEntry)
+abbrev pub sole_log : RunHeader → ℕ → List LogBytes → Option (List LogEntry)
 sole_log h g (x ∷ []) = counted h g (log_of h x.bytes)
 sole_log h g _ = None
 

@@ -5,7 +5,7 @@ use Rattle.gen_types.specs.Reading.{◌>>=◌, check}
 use Rattle.gen_net.specs.Edges.{goes_before}
 use Rattle.gen_net.specs.Header.{RunHeader}
 use Rattle.gen_net.specs.NetworkOf.{is_within}
-use Rattle.gen_local.specs.Shown.{ShownLog}
+use Rattle.gen_log.specs.Writing.{LogBytes}
 use Rattle.gen_audit.specs.declared.bundle_fault.BundleFault.{BundleFault}
 use Rattle.gen_audit.specs.declared.bundle_fault.BundleFault.TheVariants as faults
 use Rattle.gen_audit.specs.Behind.{test_behind}
@@ -41,22 +41,22 @@ walks_test n walks = do
   test_behind (walk_test n) ends_of no_ends walks
 
 -- one exhibit, and all
-abbrev pub shown_general : ShownLog → ℕ
+abbrev pub shown_general : LogBytes → ℕ
 shown_general x = x.general
 
-unfoldable pub exhibit_test : ℕ → ℕ → ShownLog → Result (Unit {0}) BundleFault
+unfoldable pub exhibit_test : ℕ → ℕ → LogBytes → Result (Unit {0}) BundleFault
 exhibit_test n before x = do
   known ← check (nat_lt x.general n) faults.BadExhibit
   placed ← check (nat_le before x.general) faults.OutOfOrder
   check (nat_lt (length x.bytes) (2 ^ 32)) faults.LongLog
 
-unfoldable pub exhibits_test : ℕ → List ShownLog → Result (Unit {0}) BundleFault
+unfoldable pub exhibits_test : ℕ → List LogBytes → Result (Unit {0}) BundleFault
 exhibits_test n exhibits = do
   few ← check (nat_le (length exhibits) most_exhibits) faults.BadExhibit
   test_behind (exhibit_test n) shown_general 0 exhibits
 
 -- the bundle of these, or the first rule that they break
-unfoldable pub bundle_with : RunHeader → List ℕ → List (List ℕ) → List ShownLog → Result LogBundle BundleFault
+unfoldable pub bundle_with : RunHeader → List ℕ → List (List ℕ) → List LogBytes → Result LogBundle BundleFault
 bundle_with h faulty walks exhibits = do
   members ← check (are_below h.network.generals faulty) faults.FaultyRange
   led ← walks_test h.network.generals walks

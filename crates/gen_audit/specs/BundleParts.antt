@@ -2,7 +2,7 @@
 use Rattle.std.specs.Prelude.{ℕ, ◌<◌, ◌≤◌, ◌^◌, ◌-◌, List, length, All, AllPairs, slice_index_or}
 use Rattle.gen_net.specs.Network.{IsBefore}
 use Rattle.gen_log.specs.Fields.{AreBelow}
-use Rattle.gen_local.specs.Shown.{ShownLog}
+use Rattle.gen_log.specs.Writing.{LogBytes}
 
 -- the most walks, the fewest and the most generals of a walk, and the most exhibits
 abbrev pub most_walks : ℕ
@@ -40,12 +40,12 @@ pub record AreListedWalks (n : ℕ) (walks : List (List ℕ)) : Type 0 where
   pub ascending : AllPairs (λ a b. IsBefore (ends_of a) (ends_of b)) walks
 
 -- what is shown is said to be of a general below n, and its length is a number of four bytes
-pub record IsExhibit (n : ℕ) (x : ShownLog) : Type 0 where
+pub record IsExhibit (n : ℕ) (x : LogBytes) : Type 0 where
   pub known : x.general < n
   pub short : length x.bytes < 2 ^ 32
 
 -- at most 64 exhibits in ascending order of generals; one general may have several
-pub record AreExhibits (n : ℕ) (exhibits : List ShownLog) : Type 0 where
+pub record AreExhibits (n : ℕ) (exhibits : List LogBytes) : Type 0 where
   pub few : length exhibits ≤ most_exhibits
   pub each : All (IsExhibit n) exhibits
   pub ascending : AllPairs (λ x y. x.general ≤ y.general) exhibits

@@ -3,7 +3,7 @@ use Rattle.std.specs.Prelude.{ℕ, ◌==◌, List, length, Result, Ok, nat_lt, n
 use Rattle.std.specs.Int.{w32}
 use Rattle.gen_types.specs.Reading.{◌>>=◌, check}
 use Rattle.gen_types.specs.Bytes.{byte_at, bytes_at, number_at, many_at}
-use Rattle.gen_local.specs.Shown.{ShownLog}
+use Rattle.gen_log.specs.Writing.{LogBytes}
 use Rattle.gen_audit.specs.declared.bundle_fault.BundleFault.{BundleFault}
 use Rattle.gen_audit.specs.declared.bundle_fault.BundleFault.TheVariants as faults
 use Rattle.gen_audit.specs.Behind.{many_behind}
@@ -43,14 +43,14 @@ owner_at n before bytes = do
   Ok general
 
 -- an exhibit, and all exhibits
-unfoldable pub exhibit_at : ℕ → ℕ → List ℕ → Result (ShownLog × List ℕ) BundleFault
+unfoldable pub exhibit_at : ℕ → ℕ → List ℕ → Result (LogBytes × List ℕ) BundleFault
 exhibit_at n before bytes = do
   general ← owner_at n before bytes
   size ← number_at faults.Truncated w32 general.1
   log ← bytes_at faults.Truncated size.0 size.1
   Ok (record { general = general.0; bytes = log.0 }, log.1)
 
-unfoldable pub exhibits_at : ℕ → List ℕ → Result (List ShownLog × List ℕ) BundleFault
+unfoldable pub exhibits_at : ℕ → List ℕ → Result (List LogBytes × List ℕ) BundleFault
 exhibits_at n bytes = do
   count ← byte_at faults.Truncated bytes
   few ← check (nat_le count.0 most_exhibits) faults.BadExhibit

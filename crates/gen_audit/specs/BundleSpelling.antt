@@ -5,7 +5,7 @@ use Rattle.std.specs.Int.{w32, to_be_bytes}
 use Rattle.gen_net.specs.declared.marks.Marks.{Marks}
 use Rattle.gen_net.specs.Front.{front_spelling}
 use Rattle.gen_log.specs.Fields.{set_spelling}
-use Rattle.gen_local.specs.Shown.{ShownLog}
+use Rattle.gen_log.specs.Writing.{LogBytes}
 use Rattle.gen_audit.specs.Bundle.{LogBundle}
 
 -- the first four bytes as a number, big-endian: `SMB1` before a header of version 1, `SMB2` before one of version 2
@@ -21,11 +21,11 @@ abbrev pub walks_spelling : List (List ℕ) → List ℕ
 walks_spelling walks = length walks ∷ flat_map walk_spelling walks
 
 -- an exhibit is its general, the length of the log in four bytes, and the log's bytes
-abbrev pub exhibit_spelling : ShownLog → List ℕ
+abbrev pub exhibit_spelling : LogBytes → List ℕ
 exhibit_spelling x = x.general ∷ (to_be_bytes w32 (length x.bytes) ++ x.bytes)
 
 -- the number of exhibits, and the exhibits
-abbrev pub exhibits_spelling : List ShownLog → List ℕ
+abbrev pub exhibits_spelling : List LogBytes → List ℕ
 exhibits_spelling exhibits = length exhibits ∷ flat_map exhibit_spelling exhibits
 
 -- the mark and the header, F as a number of two bytes, the walks, and the exhibits

@@ -7,8 +7,8 @@ use Rattle.gen_log.specs.declared.entries.Entry.TheVariants.{Decide}
 use Rattle.gen_local.specs.declared.reading.Reading.TheVariants.{Own}
 use Rattle.gen_local.specs.FoundLog.{FoundLog}
 use Rattle.gen_local.specs.Report.{Report}
-use Rattle.gen_local.specs.Shown.{ShownLog}
-use Rattle.gen_world.specs.declared.scenario.Decision.{Decision}
+use Rattle.gen_log.specs.Writing.{LogBytes}
+use Rattle.gen_scenario.specs.declared.scenario.Decision.{Decision}
 use Rattle.gen_match.specs.declared.finding.Finding.{Finding}
 use Rattle.gen_match.specs.declared.finding.Finding.TheVariants.{Missing, Several, Unjoined, Nobody}
 use Rattle.gen_match.specs.Matching.{Logs, FindsUnmatched, FindsUnderivable}
@@ -26,7 +26,7 @@ amount_found g (suc zero) = []
 amount_found g (suc (suc more)) = Several g ∷ []
 
 -- what is found for g where these are shown
-abbrev pub shown_found : List ShownLog → ℕ → List Finding
+abbrev pub shown_found : List LogBytes → ℕ → List Finding
 shown_found exhibits g = amount_found g (length (exhibits_of exhibits g))
 
 -- the reading of a report finds it, and the report's general is in the set

@@ -12,7 +12,7 @@ use Rattle.gen_log.specs.Log.{RunLog}
 use Rattle.gen_log.specs.LogReading.{log_of}
 use Rattle.gen_log.specs.Verifying.{SaysItIsOf, EntryVerifies}
 use Rattle.gen_local.specs.Erased.{erased}
-use Rattle.gen_local.specs.Shown.{ShownLog}
+use Rattle.gen_log.specs.Writing.{LogBytes}
 use Rattle.gen_match.specs.declared.finding.Finding.{Finding}
 use Rattle.gen_match.specs.declared.finding.Finding.TheVariants.{Missing, Several, Unreadable, Foreign, Unsigned, Unsealed, Departs, Unmatched, Underivable, Unjoined, Nobody}
 use Rattle.gen_match.specs.Matching.{IsUnmatched, IsUnderivable}
@@ -25,7 +25,7 @@ IsOfRest b g = IsLoyal b.header.network b.faulty g
 -- g is of the rest, and a log is shown as his; and it says it is his of this run
 pub record Shows (b : LogBundle) (g : ℕ) (log : RunLog) : Type 0 where
   pub of_rest : IsOfRest b g
-  pub exhibit : ShownLog
+  pub exhibit : LogBytes
   pub his : Contains (exhibits_of b.exhibits g) exhibit
   pub reads : log_of b.header exhibit.bytes ≡ Ok log
 
@@ -53,9 +53,9 @@ IsUnjoined b a c =
 abbrev pub IsFinding : LogBundle → Finding → Type 0
 IsFinding b (Missing g) = IsOfRest b g × (exhibits_of b.exhibits g ≡ [])
 IsFinding b (Several g) =
-    IsOfRest b g × ((x y : ShownLog) × (more : List ShownLog) × (exhibits_of b.exhibits g ≡ x ∷ y ∷ more))
+    IsOfRest b g × ((x y : LogBytes) × (more : List LogBytes) × (exhibits_of b.exhibits g ≡ x ∷ y ∷ more))
 IsFinding b (Unreadable g fault) =
-    IsOfRest b g × ((x : ShownLog) × Contains (exhibits_of b.exhibits g) x × (log_of b.header x.bytes ≡ Err fault))
+    IsOfRest b g × ((x : LogBytes) × Contains (exhibits_of b.exhibits g) x × (log_of b.header x.bytes ≡ Err fault))
 IsFinding b (Foreign g) = (log : RunLog) × Shows b g log × (SaysItIsOf b.header g log → ⊥)
 IsFinding b (Unsigned g p) = (log : RunLog) × ShowsOwn b g log × FailsAt b.header log.entries p
 IsFinding b (Unsealed g) = (log : RunLog) × ShowsOwn b g log × (HeadVerifies b.header g log → ⊥)

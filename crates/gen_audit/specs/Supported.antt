@@ -5,7 +5,7 @@ use Rattle.gen_walks.specs.Walks.{BoundsDiameter}
 use Rattle.gen_log.specs.Log.{RunLog}
 use Rattle.gen_log.specs.LogReading.{log_of}
 use Rattle.gen_log.specs.Verifying.{LogVerifies}
-use Rattle.gen_local.specs.Shown.{ShownLog}
+use Rattle.gen_log.specs.Writing.{LogBytes}
 use Rattle.gen_match.specs.declared.finding.Finding.{Finding}
 use Rattle.gen_audit.specs.Agreement.{AgreesOn}
 use Rattle.gen_audit.specs.Bundle.{LogBundle, IsBundle, exhibits_of, logs_of}
@@ -14,7 +14,7 @@ use Rattle.gen_audit.specs.Findings.{IsOfRest, IsFinding}
 
 -- a general has one exhibit, it reads, and the log verifies
 pub record HasSoleLog (b : LogBundle) (g : ℕ) : Type 0 where
-  pub exhibit : ShownLog
+  pub exhibit : LogBytes
   pub sole : exhibits_of b.exhibits g ≡ exhibit ∷ []
   pub log : RunLog
   pub reads : log_of b.header exhibit.bytes ≡ Ok log

@@ -1,7 +1,7 @@
 -- The verdict on a bundle.
 use Rattle.std.specs.Prelude.{ℕ, ◌≡◌, ◌≢◌, ◌<◌, ◌↔◌, List, [], length, Contains, AllPairs}
 use Rattle.gen_net.specs.Log.{Decided}
-use Rattle.gen_world.specs.declared.scenario.Decision.{Decision}
+use Rattle.gen_scenario.specs.declared.scenario.Decision.{Decision}
 use Rattle.gen_match.specs.declared.finding.Finding.{Finding}
 use Rattle.gen_match.specs.Findings.{AreFindings}
 use Rattle.gen_match.specs.Matching.{Logged}

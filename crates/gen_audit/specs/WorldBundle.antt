@@ -1,34 +1,23 @@
 -- The bundle of a scenario's own run, and that the auditor accepts it.
 use Rattle.std.specs.Prelude.{ℕ, ◌≡◌, List, map}
-use Rattle.std.specs.List.{range_with_len, flat_map}
 use Rattle.gen_types.specs.Ascending.{IsListOf}
 use Rattle.gen_net.specs.Network.{IsLoyal}
 use Rattle.gen_walks.specs.Walks.{BoundsDiameter}
-use Rattle.gen_log.specs.Log.{log_spelling}
-use Rattle.gen_world.specs.Scenario.{Scenario, IsScenario, header_of, scripted}
-use Rattle.gen_world.specs.SignedLaw.{HasNoRaw}
-use Rattle.gen_log.specs.Writing.{LogBytes}
-use Rattle.gen_world.specs.Rows.{logs_of_all}
-use Rattle.gen_world.specs.WorldLogs as worlds
-use Rattle.gen_local.specs.Shown.{ShownLog}
+use Rattle.gen_scenario.specs.Scenario.{Scenario, IsScenario, header_of, scripted}
+use Rattle.gen_scenario.specs.SignedLaw.{HasNoRaw}
+use Rattle.gen_scenario.specs.Rows.{logs_of_all}
+use Rattle.gen_scenario.specs.WorldLogs as worlds
 use Rattle.gen_audit.specs.Bundle.{LogBundle}
 use Rattle.gen_audit.specs.Supported.{IsSupported}
 use Rattle.gen_audit.specs.declared.verdicts.Verdict.{Verdict}
 use Rattle.gen_audit.specs.Verdict.{IsVerdict}
 use Rattle.gen_audit.specs.Headline.{IsYes}
 
--- the logs of a general, shown as his
-abbrev pub shown_by : Scenario → ℕ → List ShownLog
-shown_by s g = map (λ log. record { general = g; bytes = log_spelling log }) (worlds.logs_of s g)
-
--- those of all, in the order of generals, a second log after the first
-abbrev pub all_shown : Scenario → List ShownLog
-all_shown s = flat_map (shown_by s) (range_with_len 0 s.net.generals)
-
--- the bundle with all logs, in which the generals who have scripts are held for faulty
+-- The bundle with the sealed logs of all, in the order of generals, a second log after the first. The generals who
+-- have scripts are held for faulty.
 abbrev pub bundle_of : Scenario → List (List ℕ) → LogBundle
 bundle_of s walks =
-    record { header = header_of s; faulty = scripted s.scripts; walks = walks; exhibits = all_shown s }
+    record { header = header_of s; faulty = scripted s.scripts; walks = walks; exhibits = logs_of_all s }
 
 -- no script has a raw line, somebody has no script, and the walks bound the diameter of those who have none
 pub record IsAcceptable (s : Scenario) (walks : List (List ℕ)) : Type 0 where
@@ -51,12 +40,4 @@ WorldIsAccepted =
 
 -- what is shown are the bytes of all logs
 abbrev pub ShownAreLogs : Type 0
-ShownAreLogs = (s : Scenario) → map (λ x. x.bytes) (all_shown s) ≡ worlds.bytes_of_logs s
-
--- a sealed log, shown as its general's
-abbrev pub shown_as : LogBytes → ShownLog
-shown_as log = record { general = log.general; bytes = log.bytes }
-
--- whoever has the sealed logs of the run, by whatever order of acts, shows these exhibits
-abbrev pub SealedAreShown : Type 0
-SealedAreShown = (s : Scenario) → map shown_as (logs_of_all s) ≡ all_shown s
+ShownAreLogs = (s : Scenario) → map (λ x. x.bytes) (logs_of_all s) ≡ worlds.bytes_of_logs s

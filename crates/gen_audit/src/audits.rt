@@ -13,13 +13,13 @@ ghost use Rattle.gen_audit.specs.Telling.{AreReports};
 ghost use Rattle.gen_audit.specs.Verdict.{AreDecisions, IsDecision, IsVerdict};
 
 use crate::bundles::Bundle;
-use crate::findings_collected::{findings_in, rest_of};
+use crate::findings_collected::findings_in;
 use crate::verdicts::{Decisions, Findings, Judgement, Verdict};
 use gen_chain::VerifyStore;
 use gen_convict::{Evidence, find_evidence};
 use gen_local::{LocalReport, Reading, local_reports};
 use gen_types::{GeneralNo, GeneralSet, OrderNo};
-use gen_world::Decision;
+use gen_scenario::Decision;
 use std::alloc::{AllocError, Global};
 
 /// Returns the reports of all exhibits of a bundle, in their order. No signature is verified twice.
@@ -132,7 +132,7 @@ fn answer_by(alloc: Global, bundle: &Bundle, reports: &[LocalReport]) -> Result<
     ensures verdict { IfOk result (IsVerdict bundle.now) }
     ensures bundle { IsBundle bundle.now }
 {
-    let rest = rest_of(bundle.header().net(), bundle.faulty());
+    let rest = bundle.header().net().rest(bundle.faulty());
     let findings = findings_in(alloc, bundle, &rest, reports)?;
     if !findings.is_empty() {
         return Ok(Verdict::No(Findings::new(findings)));

@@ -2,7 +2,6 @@
 ghost use Rattle.std.specs.Prelude.{◌≡◌, ◌++◌, ◌↔◌, length, Contains, IfOk, OnOk};
 ghost use Rattle.std.specs.List.{flat_map};
 ghost use Rattle.gen_types.specs.Ascending.{IsListOf};
-ghost use Rattle.gen_net.specs.Network.{IsLoyal};
 ghost use Rattle.gen_match.specs.declared.finding.Finding.{Finding};
 ghost use Rattle.gen_match.specs.Findings.{AreFindings};
 ghost use Rattle.gen_match.specs.Reports.{AreUnder, told_logs};
@@ -178,20 +177,6 @@ fn add_nobody(rest: &GeneralSet, findings: &mut Vec<Finding>) -> Result<(), Allo
         findings.push(Finding::Nobody)?;
     }
     Ok(())
-}
-
-/// Returns the generals who aren't held for faulty.
-pub(crate) fn rest_of(net: &Net, faulty: &GeneralSet) -> GeneralSet
-    ensures { IsListOf result (IsLoyal net.now faulty.now) }
-{
-    let mut rest = GeneralSet::new();
-    for number in 0..net.generals() {
-        let general = GeneralNo::at(number);
-        if !faulty.contains(general) {
-            rest.insert(general);
-        }
-    }
-    rest
 }
 
 /// Returns all that is found in a bundle, in any order.

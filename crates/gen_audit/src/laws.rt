@@ -14,7 +14,7 @@ ghost use Rattle.gen_audit.specs.LocalFindings.{ReportsFindLocal};
 ghost use Rattle.gen_audit.specs.Supported.{CleanAgrees, CleanIsSupported, SupportedIsClean};
 ghost use Rattle.gen_audit.specs.Telling.{ReportsTellLogs};
 ghost use Rattle.gen_audit.specs.Verdict.{EachDecidedOnce, OneVerdict, VerdictExists};
-ghost use Rattle.gen_audit.specs.WorldBundle.{SealedAreShown, ShownAreLogs, WorldIsAccepted, WorldIsSupported};
+ghost use Rattle.gen_audit.specs.WorldBundle.{ShownAreLogs, WorldIsAccepted, WorldIsSupported};
 
 /// Logs of the rest, each alone one that its general could keep, and no two of which contradict each other,
 /// nor what the rest sent, come from one run (`explained`); and in the logs that the rest keep of a run nothing
@@ -77,13 +77,12 @@ pub fn reports_tell_logs()
 
 /// The bundle of a scenario's own run, in which the generals who have scripts are held for faulty, supports a yes
 /// (`supported`), and its verdict is one (`accepted`): where no script has a raw line, somebody has no script, and the
-/// walks bound the diameter of those who have none. What it shows are the bytes of all logs (`shown`), and so the
-/// sealed logs of the run (`sealed`), whoever made them: `run_world`, or a machine by any order of acts.
+/// walks bound the diameter of those who have none. It shows the sealed logs of the run, whoever made them: `run_world`,
+/// or a machine by any order of acts. These are the bytes of all logs (`shown`).
 pub fn own_runs_are_accepted()
     ensures supported { WorldIsSupported }
     ensures accepted { WorldIsAccepted }
     ensures shown { ShownAreLogs }
-    ensures sealed { SealedAreShown }
 {}
 
 /// What is found against single logs of a bundle is exactly what the reports of the rest's exhibits find.

@@ -4,7 +4,7 @@ ghost use Rattle.std.specs.Prelude.{◌≡◌};
 use gen_convict::Evidence;
 use gen_match::Finding;
 use gen_types::OrderNo;
-use gen_world::Decision;
+use gen_scenario::Decision;
 use std::marker::Model;
 
 /// What the rest decided, in ascending order of generals.
@@ -15,7 +15,7 @@ pub struct Decisions {
 
 impl Model for Decisions {
     ghost use Rattle.std.specs.Prelude.{List};
-    ghost use Rattle.gen_world.specs.declared.scenario.Decision.{Decision};
+    ghost use Rattle.gen_scenario.specs.declared.scenario.Decision.{Decision};
 
     ghost Value = { List Decision };
 

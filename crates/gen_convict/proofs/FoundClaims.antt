@@ -23,7 +23,7 @@ use Rattle.gen_local.specs.declared.texts.Text.{Text}
 use Rattle.gen_local.specs.declared.texts.Text.TheVariants.{OfStatement, OfHead}
 use Rattle.gen_local.specs.Erased.{erased}
 use Rattle.gen_local.specs.Report.{Report, IsReading}
-use Rattle.gen_local.specs.Shown.{ShownLog}
+use Rattle.gen_log.specs.Writing.{LogBytes}
 use Rattle.gen_local.specs.SignedTexts.{stated}
 use Rattle.gen_convict.specs.Accused.{AreDifferent, command}
 use Rattle.gen_convict.specs.Contradictions.{Claim, TwoTexts, TwoOrders, MissingFromLog, DepartingLog}
@@ -68,7 +68,7 @@ missing_text general texts l t (OfStatement s) claim is by f e =
     (l.bytes, s, t.signature, sym same, refl, subst (IsFirst (IsMissing l.log) texts) t_is f)
 missing_text general texts l t (OfHead s) claim is by f e = absurd cc
 
-missing_one : (general : ℕ) (texts : List SignedText) (claim : Claim) (exhibit : ShownLog) (reading : Reading) (l : HeldLog) → AreBy general texts → filter (is_his general) (log_in exhibit reading) ≡ l ∷ [] → (o : Option SignedText) → unsaid_in texts reading ≡ o → missing_as exhibit.bytes o ≡ Some claim → IsMissingBy general texts l claim
+missing_one : (general : ℕ) (texts : List SignedText) (claim : Claim) (exhibit : LogBytes) (reading : Reading) (l : HeldLog) → AreBy general texts → filter (is_his general) (log_in exhibit reading) ≡ l ∷ [] → (o : Option SignedText) → unsaid_in texts reading ≡ o → missing_as exhibit.bytes o ≡ Some claim → IsMissingBy general texts l claim
 missing_one general texts claim exhibit (Unreadable fault) l by one o u e = absurd (not_nil [] l [] (sym one))
 missing_one general texts claim exhibit Foreign l by one o u e = absurd (not_nil [] l [] (sym one))
 missing_one general texts claim exhibit (Own found) l by one None u e = absurd cc
@@ -126,7 +126,7 @@ four_bytes bytes p claim e =
     some_same : (a b : Claim) → Some a ≡ Some b → a ≡ b
     some_same a b e = cc
 
-departing_one : (h : RunHeader) (general : ℕ) (claim : Claim) (exhibit : ShownLog) (read : Result RunLog LogFault) (reading : Reading) (l : HeldLog) → IsReading h exhibit.general read reading → filter (is_his general) (log_in exhibit reading) ≡ l ∷ [] → (o : Option ℕ) → departure_in reading ≡ o → departing_at exhibit.bytes o ≡ Some claim → IsDepartingBy h l claim
+departing_one : (h : RunHeader) (general : ℕ) (claim : Claim) (exhibit : LogBytes) (read : Result RunLog LogFault) (reading : Reading) (l : HeldLog) → IsReading h exhibit.general read reading → filter (is_his general) (log_in exhibit reading) ≡ l ∷ [] → (o : Option ℕ) → departure_in reading ≡ o → departing_at exhibit.bytes o ≡ Some claim → IsDepartingBy h l claim
 departing_one h general claim exhibit read (Unreadable fault) l is one o u e = absurd (not_nil [] l [] (sym one))
 departing_one h general claim exhibit read Foreign l is one o u e = absurd (not_nil [] l [] (sym one))
 departing_one h general claim exhibit read (Own found) l is one None u e = absurd cc

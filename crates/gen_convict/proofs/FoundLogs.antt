@@ -27,7 +27,7 @@ use Rattle.gen_local.specs.declared.texts.SignedText.{SignedText}
 use Rattle.gen_local.specs.Erased.{erased}
 use Rattle.gen_local.specs.FoundLog.{FoundLog, IsFound}
 use Rattle.gen_local.specs.Report.{Report, IsReading}
-use Rattle.gen_local.specs.Shown.{ShownLog}
+use Rattle.gen_log.specs.Writing.{LogBytes}
 use Rattle.gen_convict.specs.Convictions.{shown_in}
 use Rattle.gen_convict.specs.Exhibits.{HeldLog, starts_as, says_it_is_of, held, logs_in, log_texts, texts_in, is_by, texts_of, is_his, logs_of}
 use Rattle.gen_convict.specs.Finding.{read_texts, his_texts, is_unsaid}
@@ -62,10 +62,10 @@ pub record AreOf (h : RunHeader) (reports : List Report) : Type 0 where
   pub reads : (r : Report) → Contains reports r → IsReading h r.exhibit.general (log_of h r.exhibit.bytes) r.reading
   pub bytes : (r : Report) → Contains reports r → AreBelow 256 r.exhibit.bytes
 
-abbrev pub own_of : ShownLog → FoundLog → HeldLog
+abbrev pub own_of : LogBytes → FoundLog → HeldLog
 own_of exhibit found = record { general = exhibit.general; bytes = exhibit.bytes; log = found.log }
 
-abbrev pub log_in : ShownLog → Reading → List HeldLog
+abbrev pub log_in : LogBytes → Reading → List HeldLog
 log_in exhibit (Own found) = own_of exhibit found ∷ []
 log_in exhibit (Unreadable fault) = []
 log_in exhibit Foreign = []
@@ -86,7 +86,7 @@ pub found_is : (h : RunHeader) (general : ℕ) (read : Result RunLog LogFault) (
 found_is h general (Err fault) found is = absurd cc
 found_is h general (Ok log) found is = (is.1, ap (λ (l : RunLog). Ok l) (sym is.0))
 
-held_as : (h : RunHeader) (exhibit : ShownLog) (read : Result RunLog LogFault) (reading : Reading) → IsReading h exhibit.general read reading → held h exhibit read ≡ log_in exhibit reading
+held_as : (h : RunHeader) (exhibit : LogBytes) (read : Result RunLog LogFault) (reading : Reading) → IsReading h exhibit.general read reading → held h exhibit read ≡ log_in exhibit reading
 held_as h exhibit (Err fault) reading is = sym (ap (log_in exhibit) is)
 held_as h exhibit (Ok log) (Unreadable fault) is = absurd is
 held_as h exhibit (Ok log) Foreign is =
@@ -97,7 +97,7 @@ held_as h exhibit (Ok log) (Own found) is =
     ap (λ (c : Bool). cond c (record { general = exhibit.general; bytes = exhibit.bytes; log = log } ∷ []) []) own
     ∙ ap (λ (l : RunLog). record { general = exhibit.general; bytes = exhibit.bytes; log = l } ∷ []) (sym is.0)
 
-texts_read : (h : RunHeader) (exhibit : ShownLog) (read : Result RunLog LogFault) (reading : Reading) → IsReading h exhibit.general read reading → flat_map (log_texts h) (log_in exhibit reading) ≡ read_texts reading
+texts_read : (h : RunHeader) (exhibit : LogBytes) (read : Result RunLog LogFault) (reading : Reading) → IsReading h exhibit.general read reading → flat_map (log_texts h) (log_in exhibit reading) ≡ read_texts reading
 texts_read h exhibit read (Unreadable fault) is = refl
 texts_read h exhibit read Foreign is = refl
 texts_read h exhibit read (Own found) is = append-nil (log_texts h (own_of exhibit found)) ∙ sym (found_is h exhibit.general read found is).0.texts
@@ -113,7 +113,7 @@ his_log general r = filter (is_his general) (log_in r.exhibit r.reading)
 logs_are : (h : RunHeader) (reports : List Report) → AreOf h reports → logs_in h (shown_in reports) ≡ flat_map log_of_report reports
 unfolding logs_in
 logs_are h reports are =
-    flat_mapped (λ (x : ShownLog). held h x (log_of h x.bytes)) (λ (r : Report). r.exhibit) reports
+    flat_mapped (λ (x : LogBytes). held h x (log_of h x.bytes)) (λ (r : Report). r.exhibit) reports
     ∙ flat_same (λ (r : Report). held h r.exhibit (log_of h r.exhibit.bytes)) log_of_report reports (λ r c. held_as h r.exhibit (log_of h r.exhibit.bytes) r.reading (are.reads r c))
 
 pub his_logs_are : (h : RunHeader) (reports : List Report) (general : ℕ) → AreOf h reports → logs_of h (shown_in reports) general ≡ flat_map (his_log general) reports
@@ -164,7 +164,7 @@ pub unsaid_own : (texts : List SignedText) (found : FoundLog) (t : SignedText) �
 unsaid_own texts found t e = under found.sealed (find (λ x. is_unsaid found.log x.text) texts) t e
 
 -- one log of the general's, or none
-pub his_own : (general : ℕ) (exhibit : ShownLog) (found : FoundLog) (l : HeldLog) → Contains (filter (is_his general) (own_of exhibit found ∷ [])) l → (exhibit.general ≡ general) × (own_of exhibit found ≡ l)
+pub his_own : (general : ℕ) (exhibit : LogBytes) (found : FoundLog) (l : HeldLog) → Contains (filter (is_his general) (own_of exhibit found ∷ [])) l → (exhibit.general ≡ general) × (own_of exhibit found ≡ l)
 his_own general exhibit found l c = elim (bool_cases (eqb exhibit.general general)) [
   | inl is_it ↦
       let c1 : Contains (own_of exhibit found ∷ []) l = rw is_it at c in
@@ -174,11 +174,11 @@ his_own general exhibit found l c = elim (bool_cases (eqb exhibit.general genera
       absurd (Contains_nil l c1)
 ]
 
-own_alone : (general : ℕ) (exhibit : ShownLog) (found : FoundLog) → eqb exhibit.general general ≡ true → filter (is_his general) (own_of exhibit found ∷ []) ≡ own_of exhibit found ∷ []
+own_alone : (general : ℕ) (exhibit : LogBytes) (found : FoundLog) → eqb exhibit.general general ≡ true → filter (is_his general) (own_of exhibit found ∷ []) ≡ own_of exhibit found ∷ []
 own_alone general exhibit found e = ap (λ (c : Bool). cond c (own_of exhibit found ∷ []) []) e
 
 module _ (h : RunHeader) (texts : List SignedText) (general : ℕ) where
-  lack_one : (exhibit : ShownLog) (read : Result RunLog LogFault) (reading : Reading) → IsReading h exhibit.general read reading → (eqb exhibit.general general && is_some (unsaid_in texts reading)) ≡ true → (l : HeldLog) × (filter (is_his general) (log_in exhibit reading) ≡ l ∷ []) × LacksSome h texts l
+  lack_one : (exhibit : LogBytes) (read : Result RunLog LogFault) (reading : Reading) → IsReading h exhibit.general read reading → (eqb exhibit.general general && is_some (unsaid_in texts reading)) ≡ true → (l : HeldLog) × (filter (is_his general) (log_in exhibit reading) ≡ l ∷ []) × LacksSome h texts l
   lack_one exhibit read (Unreadable fault) is e = let p = (both (eqb exhibit.general general) (is_some (unsaid_in texts (Unreadable fault))) e).1 in absurd cc
   lack_one exhibit read Foreign is e = let p = (both (eqb exhibit.general general) (is_some (unsaid_in texts Foreign)) e).1 in absurd cc
   lack_one exhibit read (Own found) is e =
@@ -188,7 +188,7 @@ module _ (h : RunHeader) (texts : List SignedText) (general : ℕ) where
       let f = find_in (λ x. is_unsaid found.log x.text) texts s.0 u.1 in
       (own_of exhibit found, own_alone general exhibit found p.0, (head_stands h exhibit.general found (found_is h exhibit.general read found is).0 u.0, (s.0, f.0, (unsaid_tests found.log).gives s.0 f.1)))
 
-  lack_none : (exhibit : ShownLog) (read : Result RunLog LogFault) (reading : Reading) → IsReading h exhibit.general read reading → (eqb exhibit.general general && is_some (unsaid_in texts reading)) ≡ false → (l : HeldLog) → Contains (filter (is_his general) (log_in exhibit reading)) l → LacksSome h texts l → ⊥
+  lack_none : (exhibit : LogBytes) (read : Result RunLog LogFault) (reading : Reading) → IsReading h exhibit.general read reading → (eqb exhibit.general general && is_some (unsaid_in texts reading)) ≡ false → (l : HeldLog) → Contains (filter (is_his general) (log_in exhibit reading)) l → LacksSome h texts l → ⊥
   lack_none exhibit read (Unreadable fault) is e l c some = Contains_nil l c
   lack_none exhibit read Foreign is e l c some = Contains_nil l c
   lack_none exhibit read (Own found) is e l c some =
@@ -217,7 +217,7 @@ departure_own h general found p is e =
     (head_stands h general found is u.0, (is.departs p).0 u.1)
 
 module _ (h : RunHeader) (general : ℕ) where
-  depart_one : (exhibit : ShownLog) (read : Result RunLog LogFault) (reading : Reading) → IsReading h exhibit.general read reading → (eqb exhibit.general general && is_some (departure_in reading)) ≡ true → (l : HeldLog) × (filter (is_his general) (log_in exhibit reading) ≡ l ∷ []) × DepartsSomewhere h l
+  depart_one : (exhibit : LogBytes) (read : Result RunLog LogFault) (reading : Reading) → IsReading h exhibit.general read reading → (eqb exhibit.general general && is_some (departure_in reading)) ≡ true → (l : HeldLog) × (filter (is_his general) (log_in exhibit reading) ≡ l ∷ []) × DepartsSomewhere h l
   depart_one exhibit read (Unreadable fault) is e = let p = (both (eqb exhibit.general general) (is_some (departure_in (Unreadable fault))) e).1 in absurd cc
   depart_one exhibit read Foreign is e = let p = (both (eqb exhibit.general general) (is_some (departure_in Foreign)) e).1 in absurd cc
   depart_one exhibit read (Own found) is e =
@@ -225,7 +225,7 @@ module _ (h : RunHeader) (general : ℕ) where
       let s = some_of (departure_in (Own found)) p.1 in
       (own_of exhibit found, own_alone general exhibit found p.0, (s.0, departure_own h exhibit.general found s.0 (found_is h exhibit.general read found is).0 s.1))
 
-  depart_none : (exhibit : ShownLog) (read : Result RunLog LogFault) (reading : Reading) → IsReading h exhibit.general read reading → (eqb exhibit.general general && is_some (departure_in reading)) ≡ false → (l : HeldLog) → Contains (filter (is_his general) (log_in exhibit reading)) l → DepartsSomewhere h l → ⊥
+  depart_none : (exhibit : LogBytes) (read : Result RunLog LogFault) (reading : Reading) → IsReading h exhibit.general read reading → (eqb exhibit.general general && is_some (departure_in reading)) ≡ false → (l : HeldLog) → Contains (filter (is_his general) (log_in exhibit reading)) l → DepartsSomewhere h l → ⊥
   depart_none exhibit read (Unreadable fault) is e l c some = Contains_nil l c
   depart_none exhibit read Foreign is e l c some = Contains_nil l c
   depart_none exhibit read (Own found) is e l c some =

@@ -20,7 +20,7 @@ use Rattle.gen_local.specs.declared.texts.SignedText.{SignedText}
 use Rattle.gen_local.specs.declared.texts.Text.{Text}
 use Rattle.gen_local.specs.declared.texts.Text.TheVariants.{OfStatement, OfHead}
 use Rattle.gen_local.specs.Erased.{erased}
-use Rattle.gen_local.specs.Shown.{ShownLog}
+use Rattle.gen_log.specs.Writing.{LogBytes}
 use Rattle.gen_local.specs.SignedTexts.{stated}
 use Rattle.gen_convict.specs.Accused.{AreDifferent, command}
 use Rattle.gen_convict.specs.Contradictions.{IsSealedLogOf, Claim, TwoTexts, TwoOrders, MissingFromLog, DepartingLog, IsContradiction}
@@ -109,7 +109,7 @@ lacks_or_not h texts l = elim (head_or_not h l.general l.log) [
   ]
 ]
 
-module _ (h : RunHeader) (exhibits : List ShownLog) (general : ℕ) (ok : IsHeader h) (all : AllBytes exhibits) where
+module _ (h : RunHeader) (exhibits : List LogBytes) (general : ℕ) (ok : IsHeader h) (all : AllBytes exhibits) where
   abbrev Holds : Claim → Type 0
   Holds claim = AreHeld h exhibits general claim × IsContradiction h general claim
 

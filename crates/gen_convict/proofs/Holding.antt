@@ -30,7 +30,7 @@ use Rattle.gen_local.specs.declared.texts.SignedText.{SignedText}
 use Rattle.gen_local.specs.declared.texts.Text.{Text}
 use Rattle.gen_local.specs.declared.texts.Text.TheVariants.{OfStatement, OfHead}
 use Rattle.gen_local.specs.Erased.{erased}
-use Rattle.gen_local.specs.Shown.{ShownLog}
+use Rattle.gen_log.specs.Writing.{LogBytes}
 use Rattle.gen_local.specs.SignedTexts as signed
 use Rattle.gen_local.specs.SignedTexts.{stated, texts_behind, text_under, head_in, is_right, text_verifies}
 use Rattle.gen_convict.specs.Accused.{IsTextOf, HasSignedText, AreDifferent, command}
@@ -57,7 +57,7 @@ pub record IsReadLog (h : RunHeader) (l : HeldLog) : Type 0 where
   pub reads : Spells (IsLog h) log_spelling l.bytes l.log
   pub says : SaysItIsOf h l.general l.log
 
-held_read : (h : RunHeader) (exhibit : ShownLog) (l : HeldLog) → IsHeader h → AreBelow 256 exhibit.bytes → (r : Result RunLog LogFault) → log_of h exhibit.bytes ≡ r → Contains (held h exhibit r) l → IsReadLog h l
+held_read : (h : RunHeader) (exhibit : LogBytes) (l : HeldLog) → IsHeader h → AreBelow 256 exhibit.bytes → (r : Result RunLog LogFault) → log_of h exhibit.bytes ≡ r → Contains (held h exhibit r) l → IsReadLog h l
 held_read h exhibit l ok bytes (Err fault) e c = absurd (Contains_nil l c)
 held_read h exhibit l ok bytes (Ok log) e c = elim (bool_cases (says_it_is_of h exhibit.general log)) [
   | inl t ↦
@@ -76,10 +76,10 @@ held_read h exhibit l ok bytes (Ok log) e c = elim (bool_cases (says_it_is_of h 
       absurd (Contains_nil l c1)
 ]
 
-pub logs_read : (h : RunHeader) (exhibits : List ShownLog) (l : HeldLog) → IsHeader h → AllBytes exhibits → Contains (logs_in h exhibits) l → IsReadLog h l
+pub logs_read : (h : RunHeader) (exhibits : List LogBytes) (l : HeldLog) → IsHeader h → AllBytes exhibits → Contains (logs_in h exhibits) l → IsReadLog h l
 unfolding logs_in
 logs_read h exhibits l ok bytes c =
-    let f = Contains_flat_mapped (λ (exhibit : ShownLog). held h exhibit (log_of h exhibit.bytes)) exhibits l c in
+    let f = Contains_flat_mapped (λ (exhibit : LogBytes). held h exhibit (log_of h exhibit.bytes)) exhibits l c in
     held_read h f.0 l ok (bytes f.0 f.1) (log_of h f.0.bytes) refl f.2
 
 -- ---- texts
@@ -151,7 +151,7 @@ texts_verify h exhibits general text ok bytes c =
 
 -- ---- the claim that is made
 
-sealed : (h : RunHeader) (exhibits : List ShownLog) (general : ℕ) (bytes : List ℕ) (l : HeldLog) → IsHeader h → AllBytes exhibits → bytes ≡ l.bytes → Contains (logs_of h exhibits general) l → HeadVerifies h l.general l.log → (l.general ≡ general) × IsSealedLogOf h general bytes l.log
+sealed : (h : RunHeader) (exhibits : List LogBytes) (general : ℕ) (bytes : List ℕ) (l : HeldLog) → IsHeader h → AllBytes exhibits → bytes ≡ l.bytes → Contains (logs_of h exhibits general) l → HeadVerifies h l.general l.log → (l.general ≡ general) × IsSealedLogOf h general bytes l.log
 unfolding logs_of
 sealed h exhibits general bytes l ok all same c head =
     let f = Contains_filtered (is_his general) (logs_in h exhibits) l c in
@@ -169,7 +169,7 @@ pair_in R xs x y p = (
   subst (λ ys. Contains ys y) (sym p.split) (Contains-append_right p.before (x ∷ (p.between ++ y ∷ p.after)) y (Contains_there x y (p.between ++ y ∷ p.after) (Contains-middle p.between y p.after))),
 )
 
-pub kind_holds : (h : RunHeader) (exhibits : List ShownLog) (general : ℕ) (claim : Claim) → IsHeader h → AllBytes exhibits → IsFirstOfKind h exhibits general claim → IsContradiction h general claim
+pub kind_holds : (h : RunHeader) (exhibits : List LogBytes) (general : ℕ) (claim : Claim) → IsHeader h → AllBytes exhibits → IsFirstOfKind h exhibits general claim → IsContradiction h general claim
 kind_holds h exhibits general (TwoTexts x y) ok all f =
     let c = pair_in AreDifferent (texts_of h exhibits general) x y f in
     record { one = texts_verify h exhibits general x ok all c.0; other = texts_verify h exhibits general y ok all c.1; different = f.holds }

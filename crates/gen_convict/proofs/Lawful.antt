@@ -23,7 +23,7 @@ use Rattle.gen_local.specs.declared.texts.SignedText.{SignedText}
 use Rattle.gen_local.specs.declared.texts.Text.{Text}
 use Rattle.gen_local.specs.declared.texts.Text.TheVariants.{OfStatement, OfHead}
 use Rattle.gen_local.specs.Report.{Report}
-use Rattle.gen_local.specs.Shown.{ShownLog}
+use Rattle.gen_log.specs.Writing.{LogBytes}
 use Rattle.gen_local.specs.SignedTexts as signed
 use Rattle.gen_local.specs.SignedTexts.{stated, texts_behind, text_under, head_in, text_verifies}
 use Rattle.gen_convict.specs.Accused.{HasSignedText, AreDifferent, command}
@@ -130,7 +130,7 @@ wide : (h : RunHeader) (general : ℕ) (text : Text) (signature : List ℕ) → 
 wide h general (OfStatement s) signature stands = stands.1.siblings
 wide h general (OfHead head) signature stands = stands.siblings
 
-text_fits : (h : RunHeader) (exhibits : List ShownLog) (general : ℕ) (t : SignedText) → IsHeader h → AllBytes exhibits → Contains (texts_of h exhibits general) t → IsSignedTextFor h general t
+text_fits : (h : RunHeader) (exhibits : List LogBytes) (general : ℕ) (t : SignedText) → IsHeader h → AllBytes exhibits → Contains (texts_of h exhibits general) t → IsSignedTextFor h general t
 unfolding texts_of texts_in
 text_fits h exhibits general t ok all c =
     let v = texts_verify h exhibits general t ok all c in
@@ -147,16 +147,16 @@ text_fits h exhibits general t ok all c =
 -- ---- claims
 
 all_bytes : (h : RunHeader) (reports : List Report) → AreOf h reports → AllBytes (shown_in reports)
-all_bytes h reports are x c = let f = shown_by reports x c in subst (λ (y : ShownLog). AreBelow 256 y.bytes) f.2 (are.bytes f.0 f.1)
+all_bytes h reports are x c = let f = shown_by reports x c in subst (λ (y : LogBytes). AreBelow 256 y.bytes) f.2 (are.bytes f.0 f.1)
   where
-    shown_by : (reports : List Report) (x : ShownLog) → Contains (shown_in reports) x → (r : Report) × Contains reports r × (r.exhibit ≡ x)
+    shown_by : (reports : List Report) (x : LogBytes) → Contains (shown_in reports) x → (r : Report) × Contains reports r × (r.exhibit ≡ x)
     shown_by [] x c = absurd (Contains_nil x c)
     shown_by (r ∷ rs) x c = elim (Contains_cases r.exhibit x (shown_in rs) c) [
       | inl e ↦ (r, Contains_here r rs, e)
       | inr k ↦ let f = shown_by rs x k in (f.0, Contains_there r f.0 rs f.1, f.2)
     ]
 
-bytes_of : (general : ℕ) (exhibit : ShownLog) (reading : Reading) (l : HeldLog) → Contains (filter (is_his general) (log_in exhibit reading)) l → exhibit.bytes ≡ l.bytes
+bytes_of : (general : ℕ) (exhibit : LogBytes) (reading : Reading) (l : HeldLog) → Contains (filter (is_his general) (log_in exhibit reading)) l → exhibit.bytes ≡ l.bytes
 bytes_of general exhibit (Unreadable fault) l c = absurd (Contains_nil l c)
 bytes_of general exhibit Foreign l c = absurd (Contains_nil l c)
 bytes_of general exhibit (Own found) l c = ap (λ (m : HeldLog). m.bytes) (his_own general exhibit found l c).1

@@ -9,7 +9,7 @@ use Rattle.gen_local.specs.declared.texts.SignedText.{SignedText}
 use Rattle.gen_local.specs.declared.texts.Text.{Text}
 use Rattle.gen_local.specs.declared.texts.Text.TheVariants.{OfStatement, OfHead}
 use Rattle.gen_local.specs.Erased.{erased}
-use Rattle.gen_local.specs.Shown.{ShownLog}
+use Rattle.gen_log.specs.Writing.{LogBytes}
 use Rattle.gen_local.specs.SignedTexts.{stated}
 use Rattle.gen_convict.specs.Accused.{AreDifferent, command}
 use Rattle.gen_convict.specs.Contradictions.{Claim, TwoTexts, TwoOrders, MissingFromLog, DepartingLog}
@@ -64,7 +64,7 @@ path_from t = path_in t.text
 signature_from : SignedText → List ℕ
 signature_from t = t.signature
 
-of_kind : (h : RunHeader) (exhibits : List ShownLog) (general : ℕ) (e f : Claim) → kind_of e ≡ kind_of f → IsFirstOfKind h exhibits general e → IsFirstOfKind h exhibits general f → e ≡ f
+of_kind : (h : RunHeader) (exhibits : List LogBytes) (general : ℕ) (e f : Claim) → kind_of e ≡ kind_of f → IsFirstOfKind h exhibits general e → IsFirstOfKind h exhibits general f → e ≡ f
 unfolding order_in path_in order_from path_from signature_from
 of_kind h exhibits general (TwoTexts x y) (TwoTexts z w) k p q =
     let o = one_pair AreDifferent (texts_of h exhibits general) x y z w p q in

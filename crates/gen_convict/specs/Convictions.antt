@@ -2,13 +2,13 @@
 use Rattle.std.specs.Prelude.{ℕ, ◌≡◌, ◌<◌, ◌^◌, List, length, map, Contains, AllPairs}
 use Rattle.gen_net.specs.Header.{RunHeader}
 use Rattle.gen_local.specs.Report.{Report}
-use Rattle.gen_local.specs.Shown.{ShownLog}
+use Rattle.gen_log.specs.Writing.{LogBytes}
 use Rattle.gen_convict.specs.Contradictions.{Claim}
 use Rattle.gen_convict.specs.Evidence.{Accusation, IsEvidence}
 use Rattle.gen_convict.specs.First.{IsFirstClaim}
 
 -- for each general of the network who has a first claim this claim, in ascending order of generals, and no other
-pub record AreConvictions (h : RunHeader) (exhibits : List ShownLog) (convictions : List Accusation) : Type 0 where
+pub record AreConvictions (h : RunHeader) (exhibits : List LogBytes) (convictions : List Accusation) : Type 0 where
   pub in_order : AllPairs (λ x y. x.accused < y.accused) convictions
   pub first : (x : Accusation) → Contains convictions x
       → (x.accused < h.network.generals) × IsFirstClaim h exhibits x.accused x.claim
@@ -17,7 +17,7 @@ pub record AreConvictions (h : RunHeader) (exhibits : List ShownLog) (conviction
       → Contains convictions (record { accused = general; claim = claim })
 
 -- the exhibits that reports are of
-abbrev pub shown_in : List Report → List ShownLog
+abbrev pub shown_in : List Report → List LogBytes
 shown_in reports = map (λ r. r.exhibit) reports
 
 -- the reports are under this header
@@ -25,13 +25,13 @@ abbrev pub AreUnderHeader : RunHeader → List Report → Type 0
 AreUnderHeader h reports = (r : Report) → Contains reports r → r.header ≡ h
 
 -- each is the first claim against its general
-abbrev pub AreFirst : RunHeader → List ShownLog → List Accusation → Type 0
+abbrev pub AreFirst : RunHeader → List LogBytes → List Accusation → Type 0
 AreFirst h exhibits convictions =
     (x : Accusation) → Contains convictions x → IsFirstClaim h exhibits x.accused x.claim
 
 -- no exhibit has 2 to the power of 32 bytes or more
-abbrev pub AreShort : List ShownLog → Type 0
-AreShort exhibits = (x : ShownLog) → Contains exhibits x → length x.bytes < 2 ^ 32
+abbrev pub AreShort : List LogBytes → Type 0
+AreShort exhibits = (x : LogBytes) → Contains exhibits x → length x.bytes < 2 ^ 32
 
 -- each can stand in evidence
 abbrev pub AreEvidence : RunHeader → List Accusation → Type 0

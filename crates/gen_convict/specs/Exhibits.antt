@@ -11,12 +11,12 @@ use Rattle.gen_log.specs.Fields.{AreBelow}
 use Rattle.gen_log.specs.Log.{RunLog}
 use Rattle.gen_log.specs.LogReading.{log_of}
 use Rattle.gen_local.specs.declared.texts.SignedText.{SignedText}
-use Rattle.gen_local.specs.Shown.{ShownLog}
+use Rattle.gen_log.specs.Writing.{LogBytes}
 use Rattle.gen_local.specs.SignedTexts as signed
 
 -- what exhibits have are bytes
-abbrev pub AllBytes : List ShownLog → Type 0
-AllBytes exhibits = (exhibit : ShownLog) → Contains exhibits exhibit → AreBelow 256 exhibit.bytes
+abbrev pub AllBytes : List LogBytes → Type 0
+AllBytes exhibits = (exhibit : LogBytes) → Contains exhibits exhibit → AreBelow 256 exhibit.bytes
 
 -- a log that was read from an exhibit
 pub record HeldLog : Type 0 where
@@ -35,32 +35,32 @@ says_it_is_of h general log =
     pointwise nat_eq log.run_id (run_id_of h) && starts_as general log.entries
 
 -- what an exhibit's bytes read to: the log, where it says that it is the exhibit's general's of this run, and else nothing
-abbrev pub held : RunHeader → ShownLog → Result RunLog LogFault → List HeldLog
+abbrev pub held : RunHeader → LogBytes → Result RunLog LogFault → List HeldLog
 held h exhibit (Ok log) =
     cond (says_it_is_of h exhibit.general log)
     (record { general = exhibit.general; bytes = exhibit.bytes; log = log } ∷ []) []
 held h exhibit (Err fault) = []
 
-unfoldable pub logs_in : RunHeader → List ShownLog → List HeldLog
+unfoldable pub logs_in : RunHeader → List LogBytes → List HeldLog
 logs_in h exhibits = flat_map (λ exhibit. held h exhibit (log_of h exhibit.bytes)) exhibits
 
 -- the texts of a log that verify, and those of all exhibits in their order
 abbrev pub log_texts : RunHeader → HeldLog → List SignedText
 log_texts h l = signed.texts_of h l.general l.log
 
-unfoldable pub texts_in : RunHeader → List ShownLog → List SignedText
+unfoldable pub texts_in : RunHeader → List LogBytes → List SignedText
 texts_in h exhibits = flat_map (log_texts h) (logs_in h exhibits)
 
 -- those of one general
 abbrev pub is_by : ℕ → SignedText → Bool
 is_by general t = t.signer == general
 
-unfoldable pub texts_of : RunHeader → List ShownLog → ℕ → List SignedText
+unfoldable pub texts_of : RunHeader → List LogBytes → ℕ → List SignedText
 texts_of h exhibits general = filter (is_by general) (texts_in h exhibits)
 
 -- the logs of one general
 abbrev pub is_his : ℕ → HeldLog → Bool
 is_his general l = l.general == general
 
-unfoldable pub logs_of : RunHeader → List ShownLog → ℕ → List HeldLog
+unfoldable pub logs_of : RunHeader → List LogBytes → ℕ → List HeldLog
 logs_of h exhibits general = filter (is_his general) (logs_in h exhibits)

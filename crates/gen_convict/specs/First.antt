@@ -9,7 +9,7 @@ use Rattle.gen_local.specs.declared.texts.SignedText.{SignedText}
 use Rattle.gen_local.specs.declared.texts.Text.{Text}
 use Rattle.gen_local.specs.declared.texts.Text.TheVariants.{OfStatement, OfHead}
 use Rattle.gen_local.specs.Erased.{erased}
-use Rattle.gen_local.specs.Shown.{ShownLog}
+use Rattle.gen_log.specs.Writing.{LogBytes}
 use Rattle.gen_local.specs.SignedTexts.{stated}
 use Rattle.gen_convict.specs.Accused.{AreDifferent, command}
 use Rattle.gen_convict.specs.Contradictions.{Claim, TwoTexts, TwoOrders, MissingFromLog, DepartingLog}
@@ -48,7 +48,7 @@ abbrev pub DepartsSomewhere : RunHeader → HeldLog → Type 0
 DepartsSomewhere h l = (p : ℕ) × IsDeparting h l p
 
 -- the claim is the first of its kind that the exhibits hold against the general
-abbrev pub IsFirstOfKind : RunHeader → List ShownLog → ℕ → Claim → Type 0
+abbrev pub IsFirstOfKind : RunHeader → List LogBytes → ℕ → Claim → Type 0
 IsFirstOfKind h exhibits general (TwoTexts first second) =
     IsFirstPair AreDifferent (texts_of h exhibits general) first second
 IsFirstOfKind h exhibits general (TwoOrders v a w b) =
@@ -69,7 +69,7 @@ kind_of (MissingFromLog bytes s signature) = 3
 kind_of (DepartingLog bytes p) = 4
 
 -- the claim is the one that is made: the first of its kind, and no other kind that the exhibits hold is less
-pub record IsFirstClaim (h : RunHeader) (exhibits : List ShownLog) (general : ℕ) (claim : Claim)
+pub record IsFirstClaim (h : RunHeader) (exhibits : List LogBytes) (general : ℕ) (claim : Claim)
     : Type 0 where
   pub first : IsFirstOfKind h exhibits general claim
   pub least : (other : Claim) → IsFirstOfKind h exhibits general other → kind_of claim ≤ kind_of other

@@ -2,7 +2,7 @@
 use Rattle.std.specs.Prelude.{ℕ, ◌≡◌, ◌⊎◌, ◌↔◌, List, Contains}
 use Rattle.gen_net.specs.Header.{RunHeader, IsHeader}
 use Rattle.gen_local.specs.declared.texts.SignedText.{SignedText}
-use Rattle.gen_local.specs.Shown.{ShownLog}
+use Rattle.gen_log.specs.Writing.{LogBytes}
 use Rattle.gen_convict.specs.Accused.{TextVerifies}
 use Rattle.gen_convict.specs.Contradictions.{Claim, IsContradiction}
 use Rattle.gen_convict.specs.Exhibits.{HeldLog, AllBytes, texts_of}
@@ -12,19 +12,19 @@ use Rattle.gen_convict.specs.Held.{AreHeld}
 -- each text in a general's list verifies as his
 abbrev pub TextsVerify : Type 0
 TextsVerify =
-    (h : RunHeader) (exhibits : List ShownLog) (general : ℕ) (text : SignedText) → IsHeader h
+    (h : RunHeader) (exhibits : List LogBytes) (general : ℕ) (text : SignedText) → IsHeader h
     → AllBytes exhibits → Contains (texts_of h exhibits general) text → TextVerifies h general text
 
 -- the claim that is made against a general holds
 abbrev pub FirstHolds : Type 0
 FirstHolds =
-    (h : RunHeader) (exhibits : List ShownLog) (general : ℕ) (claim : Claim) → IsHeader h
+    (h : RunHeader) (exhibits : List LogBytes) (general : ℕ) (claim : Claim) → IsHeader h
     → AllBytes exhibits → IsFirstClaim h exhibits general claim → IsContradiction h general claim
 
 -- a claim is made against a general exactly where the exhibits hold a contradiction of his, if it is told of each log whether it departs
 abbrev pub GivenWhereHeld : Type 0
 GivenWhereHeld =
-    (h : RunHeader) (exhibits : List ShownLog) (general : ℕ) → IsHeader h → AllBytes exhibits
+    (h : RunHeader) (exhibits : List LogBytes) (general : ℕ) → IsHeader h → AllBytes exhibits
     → ((l : HeldLog) → DepartsSomewhere h l ⊎ (DepartsSomewhere h l → ⊥))
     → ((claim : Claim) × AreHeld h exhibits general claim × IsContradiction h general claim)
     ↔ ((claim : Claim) × IsFirstClaim h exhibits general claim)
@@ -32,5 +32,5 @@ GivenWhereHeld =
 -- one claim at most is made against a general
 abbrev pub OneClaim : Type 0
 OneClaim =
-    (h : RunHeader) (exhibits : List ShownLog) (general : ℕ) (a b : Claim)
+    (h : RunHeader) (exhibits : List LogBytes) (general : ℕ) (a b : Claim)
     → IsFirstClaim h exhibits general a → IsFirstClaim h exhibits general b → a ≡ b

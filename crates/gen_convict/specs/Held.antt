@@ -1,19 +1,19 @@
 -- When exhibits hold a claim.
 use Rattle.std.specs.Prelude.{ℕ, ◌≡◌, List, Contains}
 use Rattle.gen_net.specs.Header.{RunHeader}
-use Rattle.gen_local.specs.Shown.{ShownLog}
+use Rattle.gen_log.specs.Writing.{LogBytes}
 use Rattle.gen_local.specs.SignedTexts.{stated}
 use Rattle.gen_convict.specs.Accused.{command}
 use Rattle.gen_convict.specs.Contradictions.{Claim, TwoTexts, TwoOrders, MissingFromLog, DepartingLog}
 use Rattle.gen_convict.specs.Exhibits.{HeldLog, texts_of, logs_of}
 
 -- the bytes are those of one of the logs that the exhibits hold for the general
-abbrev pub HoldLog : RunHeader → List ShownLog → ℕ → List ℕ → Type 0
+abbrev pub HoldLog : RunHeader → List LogBytes → ℕ → List ℕ → Type 0
 HoldLog h exhibits general bytes =
     (l : HeldLog) × Contains (logs_of h exhibits general) l × (bytes ≡ l.bytes)
 
 -- the texts and the log of the claim are among those that the exhibits hold for the general
-abbrev pub AreHeld : RunHeader → List ShownLog → ℕ → Claim → Type 0
+abbrev pub AreHeld : RunHeader → List LogBytes → ℕ → Claim → Type 0
 AreHeld h exhibits general (TwoTexts x y) =
     Contains (texts_of h exhibits general) x × Contains (texts_of h exhibits general) y
 AreHeld h exhibits general (TwoOrders v a w b) =

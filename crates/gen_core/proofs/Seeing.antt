@@ -12,7 +12,7 @@ use Rattle.gen_net.specs.Network.{rounds}
 use Rattle.gen_net.specs.Run.{Accepts}
 use Rattle.gen_core.proofs.Rounds.{added_by}
 use Rattle.gen_core.specs.Loops.Picking.{OrderIn, IsBest, AreBest}
-use Rattle.gen_core.specs.Seeing.{State, AreArrivals, HasSeen, IsFromLeast}
+use Rattle.gen_core.specs.Seeing.{Lieutenant, AreArrivals, HasSeen, IsFromLeast}
 use Rattle.gen_core.proofs.PickedPaths.{ChainPicked, ArePicks}
 
 abbrev message_of : ℕ → Seen → Message
@@ -29,7 +29,7 @@ in_list run g l seen arrivals t came =
 made_of : (s : Seen) (from v : ℕ) (path : List ℕ) → s.from ≡ from → s.order ≡ v → s.path ≡ path → s ≡ record { from = from; order = v; path = path }
 made_of s from v path a b c = rw (← a, ← b, ← c) refl
 
-picked_by : (net : Network) (run : Run) (state : State) (seen : List Seen) (picked : List (Option Seen)) → HasSeen net run state → AreArrivals run state.me (state.gone + 1) seen → (v : ℕ) (path : List ℕ) → v < length picked → Adds run state.me (state.gone + 1) v → IsFromLeast run state.me (state.gone + 1) v path
+picked_by : (net : Network) (run : Run) (state : Lieutenant) (seen : List Seen) (picked : List (Option Seen)) → HasSeen net run state → AreArrivals run state.me (state.gone + 1) seen → (v : ℕ) (path : List ℕ) → v < length picked → Adds run state.me (state.gone + 1) v → IsFromLeast run state.me (state.gone + 1) v path
     → (o : Option Seen) → get_or picked v None ≡ o → IsBest state.known seen v o → ChainPicked picked v path
 picked_by net run state seen picked saw arrivals v path low adds least None at b =
     let first : Message = record { from = least.from; to = state.me; order = v; path = path } in
@@ -44,7 +44,7 @@ picked_by net run state seen picked saw arrivals v path low adds least (Some s) 
     let same : message_of state.me s ≡ first = saw.run_of_net.once (state.gone + 1) (message_of state.me s) first came.0 least.arrives.0 same_from refl b.1 in
     (s, slice_get-get_or picked v None low ∙ ap Some at, ap (λ t. t.path) same)
 
-pub adds_of : (net : Network) (run : Run) (state : State) (seen : List Seen) (picked : List (Option Seen)) → HasSeen net run state → AreArrivals run state.me (state.gone + 1) seen → AreBest state.known seen picked → ArePicks run state.me (state.gone + 1) picked
+pub adds_of : (net : Network) (run : Run) (state : Lieutenant) (seen : List Seen) (picked : List (Option Seen)) → HasSeen net run state → AreArrivals run state.me (state.gone + 1) seen → AreBest state.known seen picked → ArePicks run state.me (state.gone + 1) picked
 adds_of net run state seen picked saw arrivals best v path = (
   (λ p.
       let s : Seen = p.0 in
@@ -73,7 +73,7 @@ adds_of net run state seen picked saw arrivals best v path = (
       picked_by net run state seen picked saw arrivals v path (omega (arith, best.long)) adds least (get_or picked v None) refl (best.each v low')),
 )
 
-pub seen_more : (net : Network) (run : Run) (state : State) (seen : List Seen) (known : List ℕ) → HasSeen net run state → AreArrivals run state.me (state.gone + 1) seen → IsListOf known (λ v. Contains state.known v ⊎ OrderIn seen v) → HasSeen net run (record { me = state.me; rounds = state.rounds; gone = state.gone + 1; known = known; choice = state.choice })
+pub seen_more : (net : Network) (run : Run) (state : Lieutenant) (seen : List Seen) (known : List ℕ) → HasSeen net run state → AreArrivals run state.me (state.gone + 1) seen → IsListOf known (λ v. Contains state.known v ⊎ OrderIn seen v) → HasSeen net run (record { me = state.me; rounds = state.rounds; gone = state.gone + 1; known = known; choice = state.choice })
 seen_more net run state seen known saw arrivals more = record {
   run_of_net = saw.run_of_net;
   few_orders = saw.few_orders;
@@ -103,7 +103,7 @@ no_round_zero net run ok g v (t, came, same) =
     let long : length (0 ∷ from.0) ≡ 0 = rw from.1 at came.0.1 in
     omega arith
 
-pub seen_none : (net : Network) (run : Run) (state : State) → IsRun net run → net.orders ≤ 15 → state.rounds ≡ rounds net → state.choice ≡ net.choice → state.gone ≡ 0 → state.known ≡ [] → HasSeen net run state
+pub seen_none : (net : Network) (run : Run) (state : Lieutenant) → IsRun net run → net.orders ≤ 15 → state.rounds ≡ rounds net → state.choice ≡ net.choice → state.gone ≡ 0 → state.known ≡ [] → HasSeen net run state
 seen_none net run state ok few all choice none empty = record {
   run_of_net = ok;
   few_orders = few;
@@ -118,7 +118,7 @@ seen_none net run state ok few all choice none empty = record {
   });
 }
 
-pub decides_of : (net : Network) (run : Run) (state : State) → HasSeen net run state → state.gone ≡ state.rounds → IsListOf state.known (Accepts net run state.me)
+pub decides_of : (net : Network) (run : Run) (state : Lieutenant) → HasSeen net run state → state.gone ≡ state.rounds → IsListOf state.known (Accepts net run state.me)
 decides_of net run state saw all = record {
   ascending = saw.known.ascending;
   members = λ v. (

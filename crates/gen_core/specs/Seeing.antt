@@ -8,7 +8,7 @@ use Rattle.gen_net.specs.Run.{Run, Arrives, OrderArrives, Adds, IsRun}
 use Rattle.gen_core.specs.declared.arrivals.Seen.{Seen}
 
 -- what a lieutenant keeps: who he is, how many rounds there are and have gone, the orders that arrived, and how he chooses
-pub record State : Type 0 where
+pub record Lieutenant : Type 0 where
   pub me : ℕ
   pub rounds : ℕ
   pub gone : ℕ
@@ -27,7 +27,7 @@ AreArrivals run g l seen =
     ↔ Arrives run g l (record { from = s.from; to = g; order = s.order; path = s.path })
 
 -- he has seen the rounds of the run that have gone, and knows exactly the orders that arrived in them
-pub record HasSeen (net : Network) (run : Run) (state : State) : Type 0 where
+pub record HasSeen (net : Network) (run : Run) (state : Lieutenant) : Type 0 where
   pub run_of_net : IsRun net run
   pub few_orders : net.orders ≤ 15
   pub rounds : state.rounds ≡ rounds net

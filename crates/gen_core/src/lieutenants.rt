@@ -36,9 +36,9 @@ pub struct Lieutenant {
 }
 
 impl Model for Lieutenant {
-    ghost use Rattle.gen_core.specs.Seeing.{State, IsKept};
+    ghost use Rattle.gen_core.specs.Seeing.{Lieutenant, IsKept};
 
-    ghost Value = { State };
+    ghost Value = { Lieutenant };
 
     ghost view = { λ l. record {
       me = l.me;

@@ -2,8 +2,8 @@
 use Rattle.std.specs.Prelude.{ℕ, ◌+◌, Bool, true, false, List, [], ◌∷◌, ◌++◌, map, take, Option, Some, None}
 use Rattle.std.specs.List.{range_with_len}
 use Rattle.gen_net.specs.Network.{rounds}
-use Rattle.gen_world.specs.Scenario.{Scenario}
-use Rattle.gen_world.specs.SignedWorld.{frame_at}
+use Rattle.gen_scenario.specs.Scenario.{Scenario}
+use Rattle.gen_scenario.specs.SignedWorld.{frame_at}
 use Rattle.gen_edge.specs.declared.frames.Frame.{Frame}
 use Rattle.gen_edge.specs.declared.frames.Frame.TheVariants as frames
 

@@ -1,7 +1,7 @@
 //! What the tests put on edges, the frames of a scenario's run one after the other, and what they see of it.
 ghost use Rattle.std.specs.Prelude.{ℕ, ◌≡◌, ◌+◌, ◌==◌, ◌&&◌, false, option_map, IfOk, IfSome};
 ghost use Rattle.std.specs.List.{find};
-ghost use Rattle.gen_world.specs.Rows.{Row, rows_of};
+ghost use Rattle.gen_scenario.specs.Rows.{FrameRow, rows_of};
 ghost use Rattle.gen_edge.specs.Frames.{carried, edge_frames, round};
 ghost use Rattle.gen_edge.specs.Tied.{ComesNext};
 ghost use Rattle.gen_edge.specs.Ends.{IsPutPassOf, IsTakePassOf, put_view};
@@ -25,7 +25,7 @@ fn copy_of(alloc: Global, row: &FrameRow) -> Result<Frame, AllocError>
 /// The frame of a round from one general to another, among those of a run.
 fn row_of(rows: &[FrameRow], way: (GeneralNo, GeneralNo), round: u8) -> Option<&FrameRow>
     ensures { option_map (λ row. row.now) result ≡
-        find (λ (row : Row). row.from == way.0 && row.to == way.1 && row.round == round) rows.now }
+        find (λ (row : FrameRow). row.from == way.0 && row.to == way.1 && row.round == round) rows.now }
 {
     rows.iter().find(|row| row.from() == way.0 && row.to() == way.1 && row.round() == round)
 }

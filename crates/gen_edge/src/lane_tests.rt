@@ -1,6 +1,6 @@
 //! An edge with its two passes in one hand.
 ghost use Rattle.std.specs.Prelude.{◌≡◌, ◌<◌};
-ghost use Rattle.gen_world.specs.Rows.{rows_of};
+ghost use Rattle.gen_scenario.specs.Rows.{rows_of};
 ghost use Rattle.gen_edge.specs.Frames.{edge_frames};
 ghost use Rattle.gen_edge.specs.Ends.{IsPutPassOf, IsTakePassOf, put_view};
 

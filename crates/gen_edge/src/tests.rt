@@ -19,7 +19,7 @@ const RELAYED: Shape = (2, 1, 33_028);
 const LAST: Shape = (0, 0, 0);
 
 /// The scenario with order 1 in which nobody has a script.
-#[tactic(auto, using(gen_world::proofs::ScriptPairs::no_scripts))]
+#[tactic(auto, using(gen_scenario::proofs::ScriptPairs::no_scripts))]
 pub(crate) fn without_scripts(
     alloc: Global,
     n: u8,

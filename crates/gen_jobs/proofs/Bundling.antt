@@ -3,16 +3,17 @@ use Rattle.std.proofs.Common.{◌≡◌, ◌∙◌, List, ℕ, Result, Ok, Err, 
 use Rattle.gen_types.specs.Reading.{◌>>=◌, check}
 use Rattle.gen_types.proofs.Steps.{ok_is, after, after_check}
 use Rattle.gen_net.specs.Header.{RunHeader}
-use Rattle.gen_local.specs.Shown.{ShownLog}
-use Rattle.gen_world.specs.Scenario.{Scenario, header_of, scripted}
+use Rattle.gen_log.specs.Writing.{LogBytes}
+use Rattle.gen_scenario.specs.Rows.{logs_of_all}
+use Rattle.gen_scenario.specs.Scenario.{Scenario, header_of, scripted}
 use Rattle.gen_audit.specs.declared.bundle_fault.BundleFault.{BundleFault}
 use Rattle.gen_audit.specs.declared.bundle_fault.BundleFault.TheVariants as faults
 use Rattle.gen_audit.specs.Bundle.{LogBundle}
 use Rattle.gen_audit.specs.BundleMaking.{are_below, walks_test, exhibits_test, bundle_with}
-use Rattle.gen_audit.specs.WorldBundle.{all_shown, bundle_of}
+use Rattle.gen_audit.specs.WorldBundle.{bundle_of}
 
 -- a bundle of these parts has them
-made : (h : RunHeader) (faulty : List ℕ) (walks : List (List ℕ)) (xs : List ShownLog) (b : LogBundle) → bundle_with h faulty walks xs ≡ Ok b → b ≡ record { header = h; faulty = faulty; walks = walks; exhibits = xs }
+made : (h : RunHeader) (faulty : List ℕ) (walks : List (List ℕ)) (xs : List LogBytes) (b : LogBundle) → bundle_with h faulty walks xs ≡ Ok b → b ≡ record { header = h; faulty = faulty; walks = walks; exhibits = xs }
 unfolding bundle_with
 made h faulty walks xs b e =
     let whole : LogBundle = record { header = h; faulty = faulty; walks = walks; exhibits = xs } in
@@ -21,11 +22,11 @@ made h faulty walks xs b e =
     after (walks_test n walks) (λ led. exhibits_test n xs >>= (λ shown. Ok whole)) b e1 (λ led is1 e2.
     after (exhibits_test n xs) (λ shown. Ok whole) b e2 (λ shown is2 e3. sym (ok_is {F = BundleFault} whole b e3))))
 
-pub made_of : (s : Scenario) (h : RunHeader) (faulty : List ℕ) (walks : List (List ℕ)) (xs : List ShownLog) (b : LogBundle) → h ≡ header_of s → faulty ≡ scripted s.scripts → xs ≡ all_shown s
+pub made_of : (s : Scenario) (h : RunHeader) (faulty : List ℕ) (walks : List (List ℕ)) (xs : List LogBytes) (b : LogBundle) → h ≡ header_of s → faulty ≡ scripted s.scripts → xs ≡ logs_of_all s
     → bundle_with h faulty walks xs ≡ Ok b → b ≡ bundle_of s walks
 made_of s h faulty walks xs b is_header is_faulty is_shown e =
     made h faulty walks xs b e ∙ (λ i. record { header = is_header i; faulty = is_faulty i; walks = walks; exhibits = is_shown i })
 
-pub broken_by : (s : Scenario) (h : RunHeader) (faulty : List ℕ) (walks : List (List ℕ)) (xs : List ShownLog) (r : Result LogBundle BundleFault) → h ≡ header_of s → faulty ≡ scripted s.scripts → xs ≡ all_shown s
-    → bundle_with h faulty walks xs ≡ r → bundle_with (header_of s) (scripted s.scripts) walks (all_shown s) ≡ r
+pub broken_by : (s : Scenario) (h : RunHeader) (faulty : List ℕ) (walks : List (List ℕ)) (xs : List LogBytes) (r : Result LogBundle BundleFault) → h ≡ header_of s → faulty ≡ scripted s.scripts → xs ≡ logs_of_all s
+    → bundle_with h faulty walks xs ≡ r → bundle_with (header_of s) (scripted s.scripts) walks (logs_of_all s) ≡ r
 broken_by s h faulty walks xs r is_header is_faulty is_shown e = (λ i. bundle_with (sym is_header i) (sym is_faulty i) walks (sym is_shown i)) ∙ e

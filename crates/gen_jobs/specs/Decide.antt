@@ -1,7 +1,7 @@
 -- What the job decide makes of its input.
 use Rattle.std.specs.Prelude.{◌≡◌, ℕ, Bool, false, List, replicate, Err}
-use Rattle.gen_world.specs.Scenario.{Scenario}
-use Rattle.gen_world.specs.Deciding.{decisions_of, with_keys}
+use Rattle.gen_scenario.specs.Scenario.{Scenario}
+use Rattle.gen_scenario.specs.Deciding.{decisions_of, with_keys}
 use Rattle.gen_report.specs.declared.scenario_text.ScenarioText.{ScenarioText}
 use Rattle.gen_report.specs.declared.scenario_text.ScenarioText.TheVariants as texts
 use Rattle.gen_report.specs.Scenario.{SpellsScenario}

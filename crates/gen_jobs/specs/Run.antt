@@ -4,10 +4,11 @@ use Rattle.gen_types.specs.Ascending.{IsListOf}
 use Rattle.gen_net.specs.Network.{Network, IsLoyal}
 use Rattle.gen_walks.specs.BestWalks.{AreBestWalks}
 use Rattle.gen_walks.specs.Walks.{HasShortWalk, IsLeastBadPair}
-use Rattle.gen_world.specs.Scenario.{Plain, Scenario, header_of, scripted}
+use Rattle.gen_scenario.specs.Rows.{logs_of_all}
+use Rattle.gen_scenario.specs.Scenario.{Plain, Scenario, header_of, scripted}
 use Rattle.gen_audit.specs.BundleMaking.{bundle_with}
 use Rattle.gen_audit.specs.BundleSpelling.{bundle_spelling}
-use Rattle.gen_audit.specs.WorldBundle.{all_shown, bundle_of}
+use Rattle.gen_audit.specs.WorldBundle.{bundle_of}
 use Rattle.gen_audit.specs.Bundle.{LogBundle}
 use Rattle.gen_audit.specs.declared.bundle_fault.BundleFault.{BundleFault}
 use Rattle.gen_report.specs.declared.fault.LineFault.TheVariants.{BadSeed}
@@ -57,7 +58,7 @@ MakesBundle s (Ok bundle) = (walks : List (List ℕ)) × HasWalks s walks × (bu
 MakesBundle s (Err faults.Memory) = Unit {0}
 MakesBundle s (Err faults.Thread) = Unit {0}
 MakesBundle s (Err (faults.Bundle f)) =
-    (walks : List (List ℕ)) × HasWalks s walks × (bundle_with (header_of s) (scripted s.scripts) walks (all_shown s) ≡ Err f)
+    (walks : List (List ℕ)) × HasWalks s walks × (bundle_with (header_of s) (scripted s.scripts) walks (logs_of_all s) ≡ Err f)
 MakesBundle s (Err _) = ⊥
 
 -- what the run of the input's scenario gives breaks this rule of bundles

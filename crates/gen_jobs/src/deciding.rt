@@ -1,6 +1,6 @@
 //! The job `decide`.
 ghost use Rattle.std.specs.Prelude.{◌≡◌, IfOk, IfErr, IfSome};
-ghost use Rattle.gen_world.specs.Deciding as decisions;
+ghost use Rattle.gen_scenario.specs.Deciding as decisions;
 ghost use Rattle.gen_report.specs.Decisions.{decisions_text};
 ghost use Rattle.gen_jobs.specs.Answering.{Answers};
 ghost use Rattle.gen_jobs.specs.Decide.{IsDecided, IsDecideFault, scenario_told};
@@ -9,6 +9,7 @@ ghost use Rattle.gen_jobs.specs.Ends.{IsTaken, KeepsUntilWhole};
 use crate::ends::{JobEnd, JobFault, Output};
 use crate::transfer::{deliver, read_all};
 use gen_report::{ScenarioText, print_decisions, read_scenario};
+use gen_scenario::Scenario;
 use gen_world::{decide_world, run_plain};
 use std::alloc::{AllocError, Global};
 use std::io::{Read, Write};
@@ -23,8 +24,8 @@ fn decisions_of(alloc: Global, told: ScenarioText) -> Result<Vec<u8>, AllocError
             let run = run_plain(alloc, &plain)?;
             print_decisions(alloc, run.decisions())
         }
-        ScenarioText::Signed(signed) => {
-            let decisions = decide_world(alloc, &signed.into_scenario(alloc)?)?;
+        ScenarioText::Signed(plan) => {
+            let decisions = decide_world(alloc, &Scenario::of_plan(alloc, plan)?)?;
             print_decisions(alloc, decisions.as_slice())
         }
     }

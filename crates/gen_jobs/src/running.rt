@@ -1,9 +1,6 @@
 //! The job `run`.
-ghost use Rattle.std.specs.Prelude.{◌≡◌, ◌<◌, false, IfErr, IfOk, IfSome, map};
-ghost use Rattle.gen_types.specs.Ascending.{IsListOf};
-ghost use Rattle.gen_net.specs.Network.{IsLoyal};
+ghost use Rattle.std.specs.Prelude.{◌≡◌, ◌<◌, false, IfErr, IfOk, IfSome};
 ghost use Rattle.gen_audit.specs.BundleSpelling.{bundle_spelling};
-ghost use Rattle.gen_audit.specs.WorldBundle.{shown_as};
 ghost use Rattle.gen_report.specs.LineReading.{fault_at};
 ghost use Rattle.gen_report.specs.declared.fault.LineFault.TheVariants.{BadSeed};
 ghost use Rattle.gen_jobs.specs.Answering.{Answers};
@@ -14,18 +11,15 @@ ghost use Rattle.gen_jobs.specs.declared.ends.JobFault.TheVariants as faults;
 use crate::bundle_text::{BundleText, deliver_bundle};
 use crate::ends::{JobEnd, JobFault, Output};
 use crate::transfer::read_all;
-use gen_audit::laws::own_runs_are_accepted;
 use gen_audit::{Bundle, write_bundle};
 use gen_local::Exhibit;
 use gen_log::SealedLog;
 use gen_net::Net;
-use gen_report::{
-    LineFault, ScenarioFault, ScenarioParts, ScenarioText, SignedText, read_scenario,
-};
+use gen_report::{LineFault, ScenarioFault, ScenarioText, read_scenario};
+use gen_scenario::{PlainScenario, Scenario, SignedPlan};
 use gen_threads::{Gate, make_trees, run_threads};
 use gen_types::{GeneralNo, GeneralSet};
 use gen_walks::{WalkFault, Walks, make_walks};
-use gen_world::{PlainScenario, Scenario};
 use std::alloc::{AllocError, Global};
 use std::io::{Read, Write};
 use std::sync::Wait;
@@ -48,37 +42,17 @@ fn missing_seed(plain: &PlainScenario) -> JobFault
     })
 }
 
-/// Makes the scenario that a text says. The trees of the generals' keys are made by threads.
+/// Makes the scenario of a plan. The trees of the generals' keys are made by threads.
 fn make_scenario<R: Threads + Sync>(
     rt: &R,
     alloc: Global,
-    signed: SignedText,
+    plan: SignedPlan,
 ) -> Result<Scenario, AllocError>
-    ensures { IfOk result (λ scenario. scenario ≡ signed) }
+    ensures { IfOk result (λ scenario. scenario ≡ plan) }
 {
-    let ScenarioParts {
-        version,
-        net,
-        master,
-        order,
-        scripts,
-    } = signed.into_parts();
-    let trees = make_trees(rt, alloc, &master, version.height(), net.generals())?;
-    Scenario::of_trees(alloc, version, net, order, &master, scripts, trees)
-}
-
-/// Returns the generals of a network but these.
-fn rest_of(net: &Net, faulty: &GeneralSet) -> GeneralSet
-    ensures { IsListOf result (IsLoyal net.now faulty.now) }
-{
-    let mut rest = GeneralSet::new();
-    for number in 0..net.generals() {
-        let general = GeneralNo::at(number);
-        if !faulty.contains(general) {
-            rest.insert(general);
-        }
-    }
-    rest
+    let generals = plan.net().generals();
+    let trees = make_trees(rt, alloc, plan.master(), plan.version().height(), generals)?;
+    Scenario::of_trees(alloc, plan, trees)
 }
 
 /// Returns the best walks between these generals, or none where two of them have no short one.
@@ -94,7 +68,7 @@ fn walks_between(alloc: Global, net: &Net, rest: &GeneralSet) -> Result<Walks, A
 
 /// Shows sealed logs, each as its general's.
 fn exhibits_of(alloc: Global, logs: Vec<SealedLog>) -> Result<Vec<Exhibit>, AllocError>
-    ensures { IfOk result (λ exhibits. exhibits.items ≡ map shown_as logs.items) }
+    ensures { IfOk result (λ exhibits. exhibits.items ≡ logs.items) }
 {
     let mut exhibits = Vec::with_capacity(alloc, logs.len())?;
     for log in logs {
@@ -113,12 +87,11 @@ fn bundle_of_run<T: Threads + Wait + Sync>(
     requires { 0 < capacity }
     ensures { MakesBundle scenario.now result }
 {
-    own_runs_are_accepted();
     let logs = run_threads(rt, alloc, scenario, usize::from(capacity), &Open)?;
     let faulty = scenario.scripted();
     let header = scenario.header().clone()?;
     let net = header.net();
-    let walks = walks_between(alloc, net, &rest_of(net, &faulty))?;
+    let walks = walks_between(alloc, net, &net.rest(&faulty))?;
     let exhibits = exhibits_of(alloc, logs)?;
     match Bundle::new(header, faulty, walks, exhibits) {
         Ok(bundle) => Ok(bundle),
@@ -139,8 +112,8 @@ fn bundle_of<T: Threads + Wait + Sync>(
 {
     match read_scenario(alloc, input)? {
         ScenarioText::Plain(plain) => Err(missing_seed(&plain)),
-        ScenarioText::Signed(signed) => {
-            let scenario = make_scenario(rt, alloc, signed)?;
+        ScenarioText::Signed(plan) => {
+            let scenario = make_scenario(rt, alloc, plan)?;
             bundle_of_run(rt, alloc, capacity, &scenario)
         }
     }

@@ -12,29 +12,29 @@ use Rattle.gen_local.specs.declared.opening.Opening.{Opening}
 use Rattle.gen_local.specs.declared.opening.Opening.TheVariants.{Unreadable, Foreign, Own}
 use Rattle.gen_local.specs.Opened.{AreLinksOf, IsLinkOf, log_in, own_log}
 use Rattle.gen_local.specs.Report.{Report, IsReport, AreReportsOf}
-use Rattle.gen_local.specs.Shown.{ShownLog}
+use Rattle.gen_log.specs.Writing.{LogBytes}
 
 -- what is kept from one store to a second and to a third is kept from the first to the third
 pub keeps_on : (a b c : Store) → KeepsAll a b → KeepsAll b c → KeepsAll a c
 keeps_on a b c one two t answer kept = two t answer (one t answer kept)
 
 -- one report more
-pub one_report_more : (h : RunHeader) (before : List ShownLog) (reports : List Report) (r : Report) (x : ShownLog) → AreReportsOf h before reports → r.header ≡ h → r.exhibit ≡ x → IsReport r → AreReportsOf h (before ++ x ∷ []) (reports ++ r ∷ [])
+pub one_report_more : (h : RunHeader) (before : List LogBytes) (reports : List Report) (r : Report) (x : LogBytes) → AreReportsOf h before reports → r.header ≡ h → r.exhibit ≡ x → IsReport r → AreReportsOf h (before ++ x ∷ []) (reports ++ r ∷ [])
 one_report_more h before reports r x are header exhibit is = record {
-  exhibits = map_push (λ (s : Report). s.exhibit) reports r ∙ ap (λ (xs : List ShownLog). xs ++ r.exhibit ∷ []) are.exhibits ∙ ap (λ (y : ShownLog). before ++ y ∷ []) exhibit;
+  exhibits = map_push (λ (s : Report). s.exhibit) reports r ∙ ap (λ (xs : List LogBytes). xs ++ r.exhibit ∷ []) are.exhibits ∙ ap (λ (y : LogBytes). before ++ y ∷ []) exhibit;
   header = All-push (λ (s : Report). s.header ≡ h) reports r are.header header;
   each = All-push IsReport reports r are.each is;
 }
 
 -- the first four, one by one
-pub four_taken : (xs : List ShownLog) → take 1 xs ++ (take 1 (drop 1 xs) ++ (take 1 (drop 1 (drop 1 xs)) ++ take 1 (drop 1 (drop 1 (drop 1 xs))))) ≡ take 4 xs
+pub four_taken : (xs : List LogBytes) → take 1 xs ++ (take 1 (drop 1 xs) ++ (take 1 (drop 1 (drop 1 xs)) ++ take 1 (drop 1 (drop 1 (drop 1 xs))))) ≡ take 4 xs
 four_taken [] = refl
 four_taken (a ∷ []) = refl
 four_taken (a ∷ b ∷ []) = refl
 four_taken (a ∷ b ∷ c ∷ []) = refl
 four_taken (a ∷ b ∷ c ∷ d ∷ xs) = refl
 
-pub four_dropped : (xs : List ShownLog) → drop 1 (drop 1 (drop 1 (drop 1 xs))) ≡ drop 4 xs
+pub four_dropped : (xs : List LogBytes) → drop 1 (drop 1 (drop 1 (drop 1 xs))) ≡ drop 4 xs
 four_dropped [] = refl
 four_dropped (a ∷ []) = refl
 four_dropped (a ∷ b ∷ []) = refl
@@ -62,5 +62,5 @@ links_found h g (Ok links) a b c d first second third fourth one two three four 
 }
 links_found h g (Err e) a b c d first second third fourth one two three four = tt
 
-pub one_behind_another : (a b c d e : List ShownLog) → (((a ++ b) ++ c) ++ d) ++ e ≡ a ++ (b ++ (c ++ (d ++ e)))
+pub one_behind_another : (a b c d e : List LogBytes) → (((a ++ b) ++ c) ++ d) ++ e ≡ a ++ (b ++ (c ++ (d ++ e)))
 one_behind_another a b c d e = simp append_assoc

@@ -3,7 +3,7 @@ use Rattle.std.specs.Prelude.{ℕ, List, [], ◌++◌, slice_index_or}
 use Rattle.gen_net.specs.Header.{RunHeader}
 use Rattle.gen_local.specs.declared.grouping.Group.{Group}
 use Rattle.gen_local.specs.Opened.{AreOpened, AreLinksOf, exhibits_in}
-use Rattle.gen_local.specs.Shown.{ShownLog}
+use Rattle.gen_log.specs.Writing.{LogBytes}
 
 -- each was opened
 pub record IsGroup (h : RunHeader) (g : Group) : Type 0 where
@@ -13,7 +13,7 @@ pub record IsGroup (h : RunHeader) (g : Group) : Type 0 where
   pub fourth : AreOpened h g.fourth
 
 -- those that aren't missing
-abbrev pub exhibits_of : Group → List ShownLog
+abbrev pub exhibits_of : Group → List LogBytes
 exhibits_of g = exhibits_in g.first ++ (exhibits_in g.second ++ (exhibits_in g.third ++ exhibits_in g.fourth))
 
 -- each link is the last one over its log

@@ -8,6 +8,5 @@ pub mod Opened
 pub mod Recvs
 pub mod Report
 pub mod ReportLaws
-pub mod Shown
 pub mod SignedTexts
 pub mod Walking

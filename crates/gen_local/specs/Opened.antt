@@ -9,7 +9,7 @@ use Rattle.gen_log.specs.Verifying.{SaysItIsOf}
 use Rattle.gen_local.specs.declared.opening.Opening.{Opening}
 use Rattle.gen_local.specs.declared.opening.Opening.TheVariants.{Unreadable, Foreign, Own}
 use Rattle.gen_local.specs.declared.opening.Opened.{Opened}
-use Rattle.gen_local.specs.Shown.{ShownLog}
+use Rattle.gen_log.specs.Writing.{LogBytes}
 
 -- the bytes are this log, which says that it is the general's of this run
 pub record IsOwnLog (h : RunHeader) (general : ℕ) (bytes : List ℕ) (log : RunLog) : Type 0 where
@@ -40,7 +40,7 @@ AreOpened h None = Unit {0}
 AreOpened h (Some o) = IsOpened h o
 
 -- the exhibit, if it isn't missing
-abbrev pub exhibits_in : Option Opened → List ShownLog
+abbrev pub exhibits_in : Option Opened → List LogBytes
 exhibits_in None = []
 exhibits_in (Some o) = o.exhibit ∷ []
 

@@ -7,7 +7,7 @@ use Rattle.gen_log.specs.LogReading.{log_of}
 use Rattle.gen_log.specs.Verifying.{SaysItIsOf}
 use Rattle.gen_local.specs.declared.reading.Reading.{Reading}
 use Rattle.gen_local.specs.declared.reading.Reading.TheVariants.{Unreadable, Foreign, Own}
-use Rattle.gen_local.specs.Shown.{ShownLog}
+use Rattle.gen_log.specs.Writing.{LogBytes}
 use Rattle.gen_local.specs.FoundLog.{FoundLog, IsFound}
 
 -- The bytes don't read, with their fault; or they are a log of another run, or one whose START names another general; or
@@ -21,7 +21,7 @@ IsReading h general (Ok log) (Own found) = (found.log ≡ log) × IsFound h gene
 -- the header of the run, the exhibit, and its reading
 pub record Report : Type 0 where
   pub header : RunHeader
-  pub exhibit : ShownLog
+  pub exhibit : LogBytes
   pub reading : Reading
 
 -- the report is that of the exhibit that it names, under the header that it names
@@ -30,7 +30,7 @@ IsReport r =
     IsReading r.header r.exhibit.general (log_of r.header r.exhibit.bytes) r.reading
 
 -- each is the report of one of the exhibits, under the header, in their order
-pub record AreReportsOf (h : RunHeader) (shown : List ShownLog) (reports : List Report) : Type 0 where
+pub record AreReportsOf (h : RunHeader) (shown : List LogBytes) (reports : List Report) : Type 0 where
   pub exhibits : map (λ r. r.exhibit) reports ≡ shown
   pub header : All (λ r. r.header ≡ h) reports
   pub each : All IsReport reports

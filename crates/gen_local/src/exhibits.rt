@@ -16,9 +16,9 @@ pub struct Exhibit {
 
 impl Model for Exhibit {
     ghost use Rattle.std.specs.Arc.{arc_slice_items};
-    ghost use Rattle.gen_local.specs.Shown.{ShownLog};
+    ghost use Rattle.gen_log.specs.Writing.{LogBytes};
 
-    ghost Value = { ShownLog };
+    ghost Value = { LogBytes };
 
     ghost view = { λ x. record { general = x.general; bytes = arc_slice_items x.log } };
 }

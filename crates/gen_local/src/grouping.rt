@@ -4,7 +4,7 @@ ghost use Rattle.gen_chain.specs.Store.{Serves, KeepsAll};
 ghost use Rattle.gen_local.specs.Opened.{AreOpened, AreLinksOf, exhibits_in};
 ghost use Rattle.gen_local.specs.Grouped.{IsGroup, HasLinks, exhibits_of};
 ghost use Rattle.gen_local.specs.Report.{AreReportsOf};
-ghost use Rattle.gen_local.specs.Shown.{ShownLog};
+ghost use Rattle.gen_log.specs.Writing.{LogBytes};
 
 use crate::exhibits::Exhibit;
 use crate::opening::{Opened, open_first, text_of};
@@ -77,7 +77,7 @@ fn put_report(
     requires opened { AreOpened header.now opened }
     requires link { AreLinksOf header.now opened last_link.now }
     requires serves { Serves header.now store.old }
-    ensures put { (before : List ShownLog) → AreReportsOf header.now before reports.old.items
+    ensures put { (before : List LogBytes) → AreReportsOf header.now before reports.old.items
         → OnOk result (AreReportsOf header.now (before ++ exhibits_in opened) reports.new.items) }
     ensures grows { KeepsAll store.old store.new }
     ensures serves { Serves header.now store.new }
@@ -101,7 +101,7 @@ fn put_group(
     requires opened { IsGroup header.now group }
     requires links { HasLinks header.now group links.now }
     requires serves { Serves header.now store.old }
-    ensures put { (before : List ShownLog) → AreReportsOf header.now before reports.old.items
+    ensures put { (before : List LogBytes) → AreReportsOf header.now before reports.old.items
         → OnOk result (AreReportsOf header.now (before ++ exhibits_of group) reports.new.items) }
     ensures grows { KeepsAll store.old store.new }
     ensures serves { Serves header.now store.new }
@@ -128,7 +128,7 @@ fn put_four<'a>(
     reports: &mut Vec<LocalReport>,
 ) -> Result<&'a [Exhibit], AllocError>
     requires { Serves header.now store.old }
-    ensures put { (before : List ShownLog) → AreReportsOf header.now before reports.old.items
+    ensures put { (before : List LogBytes) → AreReportsOf header.now before reports.old.items
         → OnOk result (AreReportsOf header.now (before ++ take 4 exhibits.now) reports.new.items) }
     ensures rest { IfOk result (λ rest. rest.now ≡ drop 4 exhibits.now) }
     ensures grows { KeepsAll store.old store.new }

@@ -2,7 +2,7 @@
 ghost use Rattle.std.specs.Prelude.{IsTrue, ◌≡◌, ◌≤◌, ◌↔◌};
 ghost use Rattle.gen_types.specs.Ascending.{IsListOf};
 ghost use Rattle.gen_types.specs.Spelled.{IsRead};
-ghost use Rattle.gen_net.specs.Network.{rounds, AreNeighbours, IsNetwork};
+ghost use Rattle.gen_net.specs.Network.{rounds, AreNeighbours, IsLoyal, IsNetwork};
 ghost use Rattle.gen_net.specs.NetworkOf.{is_within, ranges_of, network_with, network_of, network_in_place};
 
 use crate::edges::{edge_list, has_fault, placed_edges, stand_in_place};
@@ -234,6 +234,20 @@ impl Net {
             }
         }
         set
+    }
+
+    /// Returns the generals of the network who aren't among the faulty.
+    pub fn rest(&self, faulty: &GeneralSet) -> GeneralSet
+        ensures { IsListOf result (IsLoyal self.now faulty.now) }
+    {
+        let mut rest = GeneralSet::new();
+        for number in 0..self.generals {
+            let general = GeneralNo::at(number);
+            if !faulty.contains(general) {
+                rest.insert(general);
+            }
+        }
+        rest
     }
 }
 

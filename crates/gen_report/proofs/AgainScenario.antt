@@ -7,7 +7,7 @@ use Rattle.gen_net.specs.declared.version.Version.TheVariants.{One, Two}
 use Rattle.gen_net.specs.Network.{Network, IsNetwork}
 use Rattle.gen_net.specs.Version.{slot_in, greatest_slot}
 use Rattle.gen_script.specs.Script.{Script}
-use Rattle.gen_world.specs.Scenario.{Plain, Scenario, IsScenario, scripted}
+use Rattle.gen_scenario.specs.Scenario.{Plain, Scenario, IsScenario, scripted}
 use Rattle.gen_report.specs.declared.scenario_text.ScenarioText.{ScenarioText}
 use Rattle.gen_report.specs.declared.scenario_text.ScenarioText.TheVariants as texts
 use Rattle.gen_report.specs.Text.{parts}

@@ -22,7 +22,7 @@ use Rattle.gen_script.specs.LineReading.{script_line_of}
 use Rattle.gen_script.specs.NamedPath.{named_path}
 use Rattle.gen_script.specs.Script.{Script}
 use Rattle.gen_script.proofs.LineFound.{script_line_found}
-use Rattle.gen_world.specs.Scenario.{IsScenario, scripted}
+use Rattle.gen_scenario.specs.Scenario.{IsScenario, scripted}
 use Rattle.gen_report.specs.declared.fault.LineFault.TheVariants as faults
 use Rattle.gen_report.specs.declared.fault.ScenarioFault.{ScenarioFault}
 use Rattle.gen_report.specs.declared.items.Item.{Item}

@@ -11,7 +11,7 @@ use Rattle.gen_types.specs.Reading.{◌>>=◌, check}
 use Rattle.gen_types.proofs.Steps.{after, after_check, at_end, mapped_ok}
 use Rattle.gen_net.specs.Network.{Network}
 use Rattle.gen_net.specs.NetworkOf.{network_of}
-use Rattle.gen_world.specs.Scenario.{Plain}
+use Rattle.gen_scenario.specs.Scenario.{Plain}
 use Rattle.gen_report.specs.declared.cursor.Numbered.{Numbered}
 use Rattle.gen_report.specs.declared.fault.LineFault.TheVariants.{UnknownOrder}
 use Rattle.gen_report.specs.declared.fault.LineFault.TheVariants as faults

@@ -8,7 +8,7 @@ use Rattle.std.proofs.lemmas.Slice.Eq.{bytes_eq-Decides}
 use Rattle.gen_types.specs.Reading.{◌>>=◌, check}
 use Rattle.gen_types.proofs.Steps.{after, after_check, at_end, ok_is}
 use Rattle.gen_net.specs.Network.{Network, IsNetwork}
-use Rattle.gen_world.specs.Scenario.{Plain, Scenario, IsScenario, scripted}
+use Rattle.gen_scenario.specs.Scenario.{Plain, Scenario, IsScenario, scripted}
 use Rattle.gen_report.specs.declared.fault.LineFault.TheVariants.{Shape, Unseeded, Extra}
 use Rattle.gen_report.specs.declared.fault.ScenarioFault.{ScenarioFault}
 use Rattle.gen_report.specs.declared.scenario_text.ScenarioText.{ScenarioText}

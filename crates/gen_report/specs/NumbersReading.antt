@@ -5,7 +5,7 @@ use Rattle.gen_net.specs.declared.fault.HeaderFault.{HeaderFault}
 use Rattle.gen_net.specs.declared.numbers.NetNumbers.{NetNumbers}
 use Rattle.gen_net.specs.Network.{Network}
 use Rattle.gen_net.specs.NetworkOf.{network_of}
-use Rattle.gen_world.specs.Scenario.{Plain}
+use Rattle.gen_scenario.specs.Scenario.{Plain}
 use Rattle.gen_report.specs.declared.fault.LineFault.TheVariants as faults
 use Rattle.gen_report.specs.declared.fault.ScenarioFault.{ScenarioFault}
 use Rattle.gen_report.specs.Cursor.{Cursor}

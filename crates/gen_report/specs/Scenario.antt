@@ -6,7 +6,7 @@ use Rattle.gen_net.specs.declared.version.Version.{Version}
 use Rattle.gen_net.specs.declared.version.Version.TheVariants.{One, Two}
 use Rattle.gen_net.specs.NetworkOf.{network_of}
 use Rattle.gen_script.specs.Digits.{SpellsBytes}
-use Rattle.gen_world.specs.Scenario.{Scenario, IsScenario}
+use Rattle.gen_scenario.specs.Scenario.{Scenario, IsScenario}
 use Rattle.gen_report.specs.declared.scenario_text.ScenarioText.{ScenarioText}
 use Rattle.gen_report.specs.declared.scenario_text.ScenarioText.TheVariants as texts
 use Rattle.gen_report.specs.Fields.{line_of, said, edge_line, text_of}

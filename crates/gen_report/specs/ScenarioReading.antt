@@ -2,7 +2,7 @@
 use Rattle.std.specs.Prelude.{ℕ, List, [], ◌∷◌, codes, Option, Some, None, Result, Ok, Err, if◌then◌else◌}
 use Rattle.std.specs.Str.{bytes_eq}
 use Rattle.gen_types.specs.Reading.{◌>>=◌, check}
-use Rattle.gen_world.specs.Scenario.{Plain, Scenario, scripted}
+use Rattle.gen_scenario.specs.Scenario.{Plain, Scenario, scripted}
 use Rattle.gen_report.specs.declared.fault.LineFault.TheVariants.{Shape, Unseeded, Extra}
 use Rattle.gen_report.specs.declared.fault.ScenarioFault.{ScenarioFault}
 use Rattle.gen_report.specs.declared.scenario_text.ScenarioText.{ScenarioText}

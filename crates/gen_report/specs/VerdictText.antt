@@ -6,7 +6,7 @@ use Rattle.hex.specs.Hex.{encode_lower}
 use Rattle.gen_net.specs.Header.{RunHeader, run_id_of}
 use Rattle.gen_convict.specs.Evidence.{Accusation}
 use Rattle.gen_convict.specs.First.{kind_of}
-use Rattle.gen_world.specs.declared.scenario.Decision.{Decision}
+use Rattle.gen_scenario.specs.declared.scenario.Decision.{Decision}
 use Rattle.gen_audit.specs.declared.verdicts.Verdict.{Verdict}
 use Rattle.gen_audit.specs.declared.verdicts.Verdict.TheVariants.{Agreed, Explained, No}
 use Rattle.gen_report.specs.Findings.{finding_line}

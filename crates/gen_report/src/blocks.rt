@@ -6,7 +6,7 @@ ghost use Rattle.gen_types.specs.Reading.{Gives};
 ghost use Rattle.gen_types.specs.Spelled.{IsRead};
 ghost use Rattle.gen_types.specs.declared.reading.ReadError.TheVariants.{Memory};
 ghost use Rattle.gen_script.specs.NamedPath.{named_path};
-ghost use Rattle.gen_world.specs.Scenario.{scripted};
+ghost use Rattle.gen_scenario.specs.Scenario.{scripted};
 ghost use Rattle.gen_report.specs.BlocksReading.{path_at, closed, blocks_at, all_scripted};
 
 use crate::cursor::Cursor;

@@ -3,7 +3,7 @@ ghost use Rattle.std.specs.Prelude.{◌≡◌, ◌++◌, OnOk, IfOk, string_byte
 ghost use Rattle.gen_report.specs.Decisions.{listed, decision_line, decisions_text};
 
 use gen_types::OrderSet;
-use gen_world::Decision;
+use gen_scenario::Decision;
 use std::alloc::{AllocError, Global};
 
 /// Appends the orders of a set, parted by commas, or a minus for the empty set.

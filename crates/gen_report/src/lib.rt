@@ -17,12 +17,10 @@ mod lines;
 mod numbers;
 mod scenario;
 mod scenario_text;
-mod signed_text;
 mod verdict_text;
 
 pub use decisions::print_decisions;
 pub use fault::{LineFault, ScenarioFault};
 pub use scenario::{one_scenario, read_scenario};
 pub use scenario_text::ScenarioText;
-pub use signed_text::{ScenarioParts, SignedText};
 pub use verdict_text::print_verdict;

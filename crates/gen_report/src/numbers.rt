@@ -12,7 +12,7 @@ use crate::fault::{LineFault, ScenarioFault};
 use crate::lines::{edge_in, number_behind};
 use gen_net::{Net, NetNumbers};
 use gen_types::{OrderNo, ReadError};
-use gen_world::PlainScenario;
+use gen_scenario::PlainScenario;
 use std::alloc::Global;
 
 /// The edges of some lines, the first line that has none, and the place after it.

@@ -13,9 +13,8 @@ use crate::fault::{LineFault, ScenarioFault};
 use crate::keys::{read_seed, read_slot, version_with};
 use crate::numbers::read_plain;
 use crate::scenario_text::ScenarioText;
-use crate::signed_text::{ScenarioParts, SignedText};
+use gen_scenario::{PlainScenario, SignedPlan};
 use gen_types::ReadError;
-use gen_world::PlainScenario;
 use std::alloc::Global;
 
 /// Passes where the line is the last of a text without a seed.
@@ -47,7 +46,7 @@ fn read_signed<'a>(
     plain: PlainScenario,
     master: [u8; 32],
     start: Cursor<'a>,
-) -> Result<(SignedText, Cursor<'a>), ReadError<ScenarioFault>>
+) -> Result<(SignedPlan, Cursor<'a>), ReadError<ScenarioFault>>
     ensures { IsRead result (signed_at plain master start.entry) }
 {
     let (slot, rest) = read_slot(alloc, start)?;
@@ -56,13 +55,7 @@ fn read_signed<'a>(
     // That the scenario is lawful needs what each network keeps, which a read of it tells.
     let _generals = plain.net().generals();
     let (net, order) = plain.into_parts();
-    let signed = SignedText::new(ScenarioParts {
-        version: version_with(slot),
-        net,
-        master,
-        order,
-        scripts: blocks.scripts,
-    });
+    let signed = SignedPlan::new(version_with(slot), net, order, &master, blocks.scripts);
     Ok((signed, blocks.after))
 }
 

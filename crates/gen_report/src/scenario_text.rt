@@ -2,10 +2,9 @@
 ghost use Rattle.std.specs.Prelude.{◌≡◌};
 ghost use Rattle.gen_report.specs.Told.{net_of, order_of};
 
-use crate::signed_text::SignedText;
 use gen_net::Net;
+use gen_scenario::{PlainScenario, SignedPlan};
 use gen_types::OrderNo;
-use gen_world::PlainScenario;
 
 /// What a scenario text says.
 #[derive(Debug, Drop)]
@@ -13,7 +12,7 @@ pub enum ScenarioText {
     /// A scenario without signatures, in which everybody follows the algorithm: the text has no seed.
     Plain(PlainScenario),
     /// A scenario in which generals sign: the text has a seed.
-    Signed(SignedText),
+    Signed(SignedPlan),
 }
 
 impl ScenarioText {

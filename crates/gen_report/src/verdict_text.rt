@@ -12,7 +12,7 @@ use gen_audit::{Judgement, Verdict};
 use gen_convict::{Claim, Evidence};
 use gen_match::Finding;
 use gen_net::Header;
-use gen_world::Decision;
+use gen_scenario::Decision;
 use std::alloc::{AllocError, Global};
 
 /// Appends the line that says which run it is.

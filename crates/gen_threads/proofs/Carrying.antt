@@ -12,8 +12,8 @@ use Rattle.gen_edge.specs.Ends.{put_view, take_view}
 use Rattle.gen_edge.specs.Frames.{Parcels, Carried, round, carried, edge_frames}
 use Rattle.gen_edge.specs.Tied.{ComesNext, IsWorlds, TakesNext, after_put, after_take, put_side, take_side}
 use Rattle.gen_edge.proofs.Next.{next_at, put_one}
-use Rattle.gen_world.specs.Scenario.{Scenario}
-use Rattle.gen_world.specs.SignedWorld.{frame_at}
+use Rattle.gen_scenario.specs.Scenario.{Scenario}
+use Rattle.gen_scenario.specs.SignedWorld.{frame_at}
 use Rattle.gen_threads.specs.declared.edges.Edges.{Edges}
 use Rattle.gen_threads.specs.Edges.{IsPutOn, IsTakeBy}
 use Rattle.gen_threads.specs.Turns.{HasPutUntil, HasTakenUntil}

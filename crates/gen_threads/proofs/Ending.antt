@@ -5,8 +5,8 @@ use Rattle.gen_edge.specs.declared.passes.PutPass.{PutPass}
 use Rattle.gen_edge.specs.declared.passes.TakePass.{TakePass}
 use Rattle.gen_edge.specs.declared.rule.Seen.{Seen}
 use Rattle.gen_net.specs.Network.{Network}
-use Rattle.gen_world.specs.Scenario.{Scenario}
-use Rattle.gen_world.specs.SignedWorld.{neighbours_of}
+use Rattle.gen_scenario.specs.Scenario.{Scenario}
+use Rattle.gen_scenario.specs.SignedWorld.{neighbours_of}
 use Rattle.gen_threads.specs.declared.edges.Edges.{Edges}
 use Rattle.gen_threads.specs.Edges.{ArePassesIn, ArePassesOf, HaveCarried, HasPut, HasTakenBy, IsPutOn, IsTakeBy}
 use Rattle.gen_threads.specs.Turns.{AreOver, AreOverUntil, IsPutOver, IsTakeOver, place_of_next}

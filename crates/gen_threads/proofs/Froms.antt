@@ -1,8 +1,8 @@
 -- Facts of each element of a list, by its place from a number on.
 use Rattle.std.proofs.Common.{◌≡◌, ℕ, zero, suc, ◌+◌, ◌<◌, List, [], ◌∷◌, ◌++◌, length, get_or, sym, refl, subst, arith, slice_set}
 use Rattle.std.proofs.lemmas.List.{length-set}
-use Rattle.gen_world.specs.Loops.Worlds.{AllAre}
-use Rattle.gen_world.proofs.Worlds.{set_all}
+use Rattle.gen_scenario.specs.AllAre.{AllAre}
+use Rattle.gen_general.proofs.Worlds.{set_all}
 
 module _ {X : Type 0} (P : ℕ → X → Type 0) where
   abbrev pub From : ℕ → List X → Type 0

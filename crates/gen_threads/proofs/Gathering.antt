@@ -8,13 +8,13 @@ use Rattle.gen_edge.specs.declared.passes.PutPass.{PutPass}
 use Rattle.gen_edge.specs.declared.passes.TakePass.{TakePass}
 use Rattle.gen_log.specs.Writing.{LogBytes}
 use Rattle.gen_script.specs.declared.lines.ScriptLine.{ScriptLine}
-use Rattle.gen_world.specs.Rows.{logs_of_all}
-use Rattle.gen_world.specs.Scenario.{Scenario, script_of}
-use Rattle.gen_world.specs.SeatLaws.{IsOwnRing}
-use Rattle.gen_world.specs.SignedWorld.{neighbours_of}
-use Rattle.gen_world.specs.Loops.Worlds.{ring_at, ring_under}
-use Rattle.gen_world.proofs.Starting.{may_start}
-use Rattle.gen_world.proofs.Worlds.{one_more}
+use Rattle.gen_scenario.specs.Rows.{logs_of_all}
+use Rattle.gen_scenario.specs.Scenario.{Scenario, script_of}
+use Rattle.gen_general.specs.ParticipantLaws.{IsOwnRing}
+use Rattle.gen_scenario.specs.SignedWorld.{neighbours_of}
+use Rattle.gen_scenario.specs.Rings.{ring_at, ring_under}
+use Rattle.gen_general.proofs.Starting.{may_start}
+use Rattle.gen_general.proofs.Worlds.{one_more}
 use Rattle.gen_threads.specs.declared.edges.Edges.{Edges}
 use Rattle.gen_threads.specs.Edges.{ArePassesOf, HaveCarried, HasPut, HasTakenBy, IsPutOn, IsTakeBy}
 use Rattle.gen_threads.specs.declared.ends.RunFault.{RunFault}

@@ -12,9 +12,9 @@ use Rattle.gen_edge.specs.declared.passes.TakePass.{TakePass}
 use Rattle.gen_edge.specs.Ends.{IsPutPassOf, IsTakePassOf, put_view, take_view}
 use Rattle.gen_edge.specs.Frames.{edge_frames}
 use Rattle.gen_edge.specs.Tied.{putter, taker}
-use Rattle.gen_world.specs.Scenario.{Scenario}
-use Rattle.gen_world.specs.Loops.Worlds.{near_of}
-use Rattle.gen_world.proofs.Worlds.{eqb_not, near_more, near_in, near_out}
+use Rattle.gen_scenario.specs.Scenario.{Scenario}
+use Rattle.gen_scenario.specs.SignedWorld.{near_of}
+use Rattle.gen_general.proofs.Worlds.{eqb_not, near_more, near_in, near_out}
 use Rattle.gen_threads.specs.declared.edges.Edges.{Edges}
 use Rattle.gen_threads.specs.declared.edges.Passes.{Passes}
 use Rattle.gen_threads.specs.Building.{puts_below, takes_below, ArePutsBelow, AreTakesBelow, AreMade, HasMore, HasMorePuts, HasMoreTakes, AreEmpty}

@@ -6,9 +6,9 @@ use Rattle.std.proofs.lemmas.List.Elements.{filter-append}
 use Rattle.gen_types.specs.Members.{filter_range_has}
 use Rattle.gen_net.specs.Edges.{joins}
 use Rattle.gen_net.specs.Network.{Network}
-use Rattle.gen_world.specs.SignedWorld.{neighbours_of}
-use Rattle.gen_world.specs.Loops.Worlds.{near_of}
-use Rattle.gen_world.proofs.Worlds.{near_more, near_out, near_in}
+use Rattle.gen_scenario.specs.SignedWorld.{neighbours_of}
+use Rattle.gen_scenario.specs.SignedWorld.{near_of}
+use Rattle.gen_general.proofs.Worlds.{near_more, near_out, near_in}
 
 range_cut : (a k m : ℕ) → range_with_len a (k + m) ≡ range_with_len a k ++ range_with_len (a + k) m
 range_cut a zero m = let e : 0 + m ≡ m = omega arith in let f : a + 0 ≡ a = omega arith in ap (range_with_len a) e ∙ ap (λ b. range_with_len b m) (sym f)

@@ -5,9 +5,9 @@ use Rattle.std.specs.List.{range_with_len, list_any, AllZip}
 use Rattle.std.proofs.lemmas.Bool.{lt-ltb, cases_Bool, ltb-true}
 use Rattle.gen_net.specs.Edges.{joins}
 use Rattle.gen_net.specs.Network.{Network, AreNeighbours}
-use Rattle.gen_world.proofs.Worlds.{near_known}
-use Rattle.gen_world.specs.SignedWorld.{neighbours_of}
-use Rattle.gen_world.specs.Loops.Worlds.{near_of}
+use Rattle.gen_general.proofs.Worlds.{near_known}
+use Rattle.gen_scenario.specs.SignedWorld.{neighbours_of}
+use Rattle.gen_scenario.specs.SignedWorld.{near_of}
 use Rattle.gen_threads.specs.Turns.{carried_until, place_of_next}
 use Rattle.gen_threads.proofs.Nears.{near_cut}
 use Rattle.gen_threads.proofs.Zips.{zip_some, zip_inside, zip_at, zip_set}

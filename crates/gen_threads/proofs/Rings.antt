@@ -3,9 +3,9 @@ use Rattle.std.proofs.Common.{◌≡◌, inl, inr, Option, Some, None, refl, ap,
 use Rattle.gen_tree.specs.Rings.{Ring}
 use Rattle.gen_net.specs.Header.{RunHeader}
 use Rattle.gen_chain.specs.Leaves.{leaf_of_order}
-use Rattle.gen_world.specs.Scenario.{Scenario, IsScenario, header_of}
-use Rattle.gen_world.specs.Seat.{Seat, RingAfter}
-use Rattle.gen_world.specs.Recording.{RingSealed}
+use Rattle.gen_scenario.specs.Scenario.{Scenario, IsScenario, header_of}
+use Rattle.gen_general.specs.Participant.{Participant, RingAfter}
+use Rattle.gen_general.specs.Recording.{RingSealed}
 use Rattle.gen_threads.specs.Ending.{RingComesBack}
 
 pub ring_same : (h : RunHeader) (ring : Option Ring) → RingComesBack h ring ring
@@ -25,7 +25,7 @@ ring_then h (Some a) (Some b) (Some c) x y = record {
   of_run = λ leaf m. elim (y.of_run leaf m) [ inl old ↦ x.of_run leaf old | inr new ↦ inr new ];
 }
 
-pub ring_begun : (s : Scenario) → IsScenario s → (p : Seat) → p.known.header ≡ header_of s → (a b : Option Ring) → RingAfter p a b → RingComesBack (header_of s) a b
+pub ring_begun : (s : Scenario) → IsScenario s → (p : Participant) → p.known.header ≡ header_of s → (a b : Option Ring) → RingAfter p a b → RingComesBack (header_of s) a b
 ring_begun s ok p same None None is = tt
 ring_begun s ok p same None (Some b) is = absurd is
 ring_begun s ok p same (Some a) None is = absurd is

@@ -8,16 +8,16 @@ use Rattle.gen_edge.specs.declared.passes.PutPass.{PutPass}
 use Rattle.gen_edge.specs.declared.passes.TakePass.{TakePass}
 use Rattle.gen_net.specs.Edges.{joins}
 use Rattle.gen_net.specs.Network.{Network}
-use Rattle.gen_world.specs.Scenario.{Scenario, IsScenario}
-use Rattle.gen_world.specs.SignedWorld.{frame_at, neighbours_of}
-use Rattle.gen_world.specs.Recording.{Recorded, StandBefore, send_act, hear_act, with_sends, with_recvs}
-use Rattle.gen_world.specs.Seat.{sends}
-use Rattle.gen_world.specs.Loops.Records.{HasSent, HasHeard, RecordsAfter}
-use Rattle.gen_world.specs.Loops.Worlds.{near_of}
-use Rattle.gen_world.proofs.LogPlaces.{may_send, may_hear}
-use Rattle.gen_world.proofs.Recorders.{sent_far, sent_near, hears_from, round_ends}
-use Rattle.gen_world.proofs.Stepping.{frame_after}
-use Rattle.gen_world.proofs.Worlds.{near_more, near_out, near_in, sends_frames}
+use Rattle.gen_scenario.specs.Scenario.{Scenario, IsScenario}
+use Rattle.gen_scenario.specs.SignedWorld.{frame_at, neighbours_of}
+use Rattle.gen_general.specs.Recording.{Recorder, StandBefore, send_act, hear_act, with_sends, with_recvs}
+use Rattle.gen_general.specs.Participant.{sends}
+use Rattle.gen_general.specs.DrivenRecords.{HasSent, HasHeard, RecordsAfter}
+use Rattle.gen_scenario.specs.SignedWorld.{near_of}
+use Rattle.gen_general.proofs.LogPlaces.{may_send, may_hear}
+use Rattle.gen_general.proofs.Recorders.{sent_far, sent_near, hears_from, round_ends}
+use Rattle.gen_scenario.proofs.Stepping.{frame_after}
+use Rattle.gen_general.proofs.Worlds.{near_more, near_out, near_in, sends_frames}
 use Rattle.gen_threads.specs.declared.edges.Edges.{Edges}
 use Rattle.gen_threads.specs.Edges.{HasPut, HasTakenBy, IsPutOn, IsTakeBy}
 use Rattle.gen_threads.specs.Turns.{HasPutUntil, HasTakenUntil, IsPutting, IsTaking}
@@ -58,17 +58,17 @@ module _ (edges : Edges) (s : Scenario) (k g : ℕ) where
   puts_end n ps stop = zip_weaker (HasPutUntil edges s k n g) (HasPut edges s (k + 1) g) (neighbours_of s.net g) ps
       (λ a p m h. subst (λ i. HasPut edges s i g a p) (carried_below k n a (omega (arith, stop, known_below s.net g a m))) h)
 
-  pub putting_first : (r : Recorded) (ps : List PutPass) → HasSent s k g [] r → AllZip (HasPut edges s k g) (neighbours_of s.net g) ps → IsPutting edges s k g 0 0 r ps
+  pub putting_first : (r : Recorder) (ps : List PutPass) → HasSent s k g [] r → AllZip (HasPut edges s k g) (neighbours_of s.net g) ps → IsPutting edges s k g 0 0 r ps
   putting_first r ps sent all = record { sent = sent; here = refl; passes = puts_begin ps all }
 
-  pub putting_far : (h place : ℕ) (r : Recorded) (ps : List PutPass) → list_any (joins g h) s.net.edges ≡ false → IsPutting edges s k g h place r ps → IsPutting edges s k g (h + 1) place r ps
+  pub putting_far : (h place : ℕ) (r : Recorder) (ps : List PutPass) → list_any (joins g h) s.net.edges ≡ false → IsPutting edges s k g h place r ps → IsPutting edges s k g (h + 1) place r ps
   putting_far h place r ps far is = record {
     sent = sent_far s k g h r far is.sent;
     here = is.here ∙ place_kept s.net g h far;
     passes = zip_weaker (HasPutUntil edges s k h g) (HasPutUntil edges s k (h + 1) g) (neighbours_of s.net g) ps (λ a p m has. put_others edges s k g h a p (apart s.net g h a far m) has) is.passes;
   }
 
-  pub putting_near : (h place : ℕ) (r q : Recorded) (ps qs : List PutPass) → list_any (joins g h) s.net.edges ≡ true → IsPutting edges s k g h place r ps → q ≡ with_sends r h
+  pub putting_near : (h place : ℕ) (r q : Recorder) (ps qs : List PutPass) → list_any (joins g h) s.net.edges ≡ true → IsPutting edges s k g h place r ps → q ≡ with_sends r h
       → AllZip (HasPutUntil edges s k (h + 1) g) (neighbours_of s.net g) qs → IsPutting edges s k g (h + 1) (place + 1) q qs
   putting_near h place r q ps qs near is made all = record {
     sent = sent_near s k g h r q near is.sent made;
@@ -76,11 +76,11 @@ module _ (edges : Edges) (s : Scenario) (k g : ℕ) where
     passes = all;
   }
 
-  pub putting_next : (h place : ℕ) (r : Recorded) (ps : List PutPass) → IsScenario s → g < s.net.generals → IsPutting edges s k g h place r ps → StandBefore r.seat.known.header.network r.written (send_act r.seat.round h)
+  pub putting_next : (h place : ℕ) (r : Recorder) (ps : List PutPass) → IsScenario s → g < s.net.generals → IsPutting edges s k g h place r ps → StandBefore r.standing.known.header.network r.written (send_act r.standing.round h)
   putting_next h place r ps ok known is = may_send s ok k g h known (near_of s.net g (range_with_len 0 h)) (near_below s.net g h) r is.sent
 
-  pub putting_frame : (h place : ℕ) (r : Recorded) (ps : List PutPass) (frame : List (List ℕ)) → IsPutting edges s k g h place r ps → frame ≡ sends r.seat h → frame ≡ frame_at s (k + 1) g h
-  putting_frame h place r ps frame is e = e ∙ sends_frames s k g h r.seat is.sent.seat ∙ sym (frame_after s k g h)
+  pub putting_frame : (h place : ℕ) (r : Recorder) (ps : List PutPass) (frame : List (List ℕ)) → IsPutting edges s k g h place r ps → frame ≡ sends r.standing h → frame ≡ frame_at s (k + 1) g h
+  putting_frame h place r ps frame is e = e ∙ sends_frames s k g h r.standing is.sent.standing ∙ sym (frame_after s k g h)
 
   -- ---- taking
 
@@ -94,23 +94,23 @@ module _ (edges : Edges) (s : Scenario) (k g : ℕ) where
   takes_end n ps stop = zip_weaker (HasTakenUntil edges s k n g) (HasTakenBy edges s (k + 1) g) (neighbours_of s.net g) ps
       (λ a p m h. subst (λ i. HasTakenBy edges s i g a p) (carried_below k n a (omega (arith, stop, known_below s.net g a m))) h)
 
-  pub taking_first : (r : Recorded) (ps : List TakePass) → HasHeard s k g [] r → AllZip (HasTakenBy edges s k g) (neighbours_of s.net g) ps → IsTaking edges s k g 0 0 r ps
+  pub taking_first : (r : Recorder) (ps : List TakePass) → HasHeard s k g [] r → AllZip (HasTakenBy edges s k g) (neighbours_of s.net g) ps → IsTaking edges s k g 0 0 r ps
   taking_first r ps heard all = record { heard = heard; here = refl; passes = takes_begin ps all }
 
-  heard_far : (h : ℕ) (r : Recorded) → list_any (joins g h) s.net.edges ≡ false → HasHeard s k g (near_of s.net g (range_with_len 0 h)) r → HasHeard s k g (near_of s.net g (range_with_len 0 (h + 1))) r
+  heard_far : (h : ℕ) (r : Recorder) → list_any (joins g h) s.net.edges ≡ false → HasHeard s k g (near_of s.net g (range_with_len 0 h)) r → HasHeard s k g (near_of s.net g (range_with_len 0 (h + 1))) r
   heard_far h r far is =
       let front = near_of s.net g (range_with_len 0 h) in
       let same : front ≡ near_of s.net g (range_with_len 0 (h + 1)) = sym (append-nil front) ∙ sym (ap (λ (xs : List ℕ). front ++ xs) (near_out s.net g h far)) ∙ near_more s.net g h in
       subst (λ (xs : List ℕ). HasHeard s k g xs r) same is
 
-  pub taking_far : (h place : ℕ) (r : Recorded) (ps : List TakePass) → list_any (joins g h) s.net.edges ≡ false → IsTaking edges s k g h place r ps → IsTaking edges s k g (h + 1) place r ps
+  pub taking_far : (h place : ℕ) (r : Recorder) (ps : List TakePass) → list_any (joins g h) s.net.edges ≡ false → IsTaking edges s k g h place r ps → IsTaking edges s k g (h + 1) place r ps
   taking_far h place r ps far is = record {
     heard = heard_far h r far is.heard;
     here = is.here ∙ place_kept s.net g h far;
     passes = zip_weaker (HasTakenUntil edges s k h g) (HasTakenUntil edges s k (h + 1) g) (neighbours_of s.net g) ps (λ a p m has. taken_others edges s k g h a p (apart s.net g h a far m) has) is.passes;
   }
 
-  pub taking_near : (h place : ℕ) (r q : Recorded) (ps qs : List TakePass) (frame : List (List ℕ)) → list_any (joins g h) s.net.edges ≡ true → IsTaking edges s k g h place r ps → frame ≡ frame_at s (k + 1) h g → q ≡ with_recvs r h frame
+  pub taking_near : (h place : ℕ) (r q : Recorder) (ps qs : List TakePass) (frame : List (List ℕ)) → list_any (joins g h) s.net.edges ≡ true → IsTaking edges s k g h place r ps → frame ≡ frame_at s (k + 1) h g → q ≡ with_recvs r h frame
       → AllZip (HasTakenUntil edges s k (h + 1) g) (neighbours_of s.net g) qs → IsTaking edges s k g (h + 1) (place + 1) q qs
   taking_near h place r q ps qs frame near is framed made all =
       let front = near_of s.net g (range_with_len 0 h) in
@@ -122,8 +122,8 @@ module _ (edges : Edges) (s : Scenario) (k g : ℕ) where
         passes = all;
       }
 
-  pub taking_next : (h place : ℕ) (r : Recorded) (ps : List TakePass) → IsScenario s → g < s.net.generals → IsTaking edges s k g h place r ps → StandBefore r.seat.known.header.network r.written (hear_act r.seat.round h)
+  pub taking_next : (h place : ℕ) (r : Recorder) (ps : List TakePass) → IsScenario s → g < s.net.generals → IsTaking edges s k g h place r ps → StandBefore r.standing.known.header.network r.written (hear_act r.standing.round h)
   taking_next h place r ps ok known is = may_hear s ok k g h known (near_of s.net g (range_with_len 0 h)) (near_below s.net g h) r is.heard
 
-  pub taking_last : (n place : ℕ) (r : Recorded) (ps : List TakePass) → n ≡ s.net.generals → IsTaking edges s k g n place r ps → RecordsAfter s (k + 1) g r
+  pub taking_last : (n place : ℕ) (r : Recorder) (ps : List TakePass) → n ≡ s.net.generals → IsTaking edges s k g n place r ps → RecordsAfter s (k + 1) g r
   taking_last n place r ps stop is = round_ends s k g r (subst (λ m. HasHeard s k g (near_of s.net g (range_with_len 0 m)) r) stop is.heard)

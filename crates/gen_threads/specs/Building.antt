@@ -4,8 +4,9 @@ use Rattle.std.specs.List.{range_with_len, AllZip}
 use Rattle.gen_edge.specs.declared.passes.Edge.{Edge}
 use Rattle.gen_edge.specs.declared.passes.PutPass.{PutPass}
 use Rattle.gen_edge.specs.declared.passes.TakePass.{TakePass}
-use Rattle.gen_world.specs.Scenario.{Scenario}
-use Rattle.gen_world.specs.Loops.Worlds.{AllAre, near_of}
+use Rattle.gen_scenario.specs.Scenario.{Scenario}
+use Rattle.gen_scenario.specs.AllAre.{AllAre}
+use Rattle.gen_scenario.specs.SignedWorld.{near_of}
 use Rattle.gen_threads.specs.declared.edges.Edges.{Edges}
 use Rattle.gen_threads.specs.declared.edges.Passes.{Passes}
 use Rattle.gen_threads.specs.Edges.{HasPut, HasTakenBy}

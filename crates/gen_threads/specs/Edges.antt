@@ -8,9 +8,9 @@ use Rattle.gen_edge.specs.Ends.{IsPutPassOf, IsTakePassOf, put_view, take_view}
 use Rattle.gen_edge.specs.Frames.{edge_frames}
 use Rattle.gen_edge.specs.Tied.{put_side, take_side}
 use Rattle.gen_net.specs.Network.{Network}
-use Rattle.gen_world.specs.Scenario.{Scenario}
-use Rattle.gen_world.specs.SignedWorld.{neighbours_of}
-use Rattle.gen_world.specs.Loops.Worlds.{AllAre}
+use Rattle.gen_scenario.specs.Scenario.{Scenario}
+use Rattle.gen_scenario.specs.SignedWorld.{neighbours_of}
+use Rattle.gen_scenario.specs.AllAre.{AllAre}
 use Rattle.gen_threads.specs.declared.edges.Edges.{Edges}
 use Rattle.gen_threads.specs.declared.edges.Passes.{Passes}
 

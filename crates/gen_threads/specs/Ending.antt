@@ -5,19 +5,19 @@ use Rattle.gen_net.specs.Header.{RunHeader}
 use Rattle.gen_net.specs.Network.{rounds}
 use Rattle.gen_chain.specs.Leaves.{leaves_per_run, leaf_of_order}
 use Rattle.gen_log.specs.Writing.{LogBytes}
-use Rattle.gen_world.specs.Known.{known_of}
-use Rattle.gen_world.specs.Recording.{log_bytes}
-use Rattle.gen_world.specs.Scenario.{Scenario, script_of, header_of}
-use Rattle.gen_world.specs.Seat.{MayStart}
-use Rattle.gen_world.specs.SeatLaws.{IsOwnRing}
-use Rattle.gen_world.specs.WorldLogs.{logs_of}
+use Rattle.gen_scenario.specs.Part.{part_of}
+use Rattle.gen_scenario.specs.WorldLogs.{log_bytes}
+use Rattle.gen_scenario.specs.Scenario.{Scenario, script_of, header_of}
+use Rattle.gen_general.specs.Participant.{MayStart}
+use Rattle.gen_general.specs.ParticipantLaws.{IsOwnRing}
+use Rattle.gen_scenario.specs.WorldLogs.{logs_of}
 use Rattle.gen_threads.specs.declared.ends.GeneralEnd.{GeneralEnd}
 use Rattle.gen_threads.specs.declared.edges.Edges.{Edges}
 use Rattle.gen_threads.specs.Edges.{ArePassesOf, HaveCarried}
 
 -- the ring is that of his seed, from which no leaf of the run was taken, or none where he has a script
 abbrev pub MayRunWith : Scenario → ℕ → Option Ring → Type 0
-MayRunWith s g ring = MayStart (known_of s g) ring × IsOwnRing s g (script_of s.scripts g) ring
+MayRunWith s g ring = MayStart (part_of s g) ring × IsOwnRing s g (script_of s.scripts g) ring
 
 -- the ring is the same, but that leaves of the run may have been taken from it
 pub record IsSameRing (h : RunHeader) (old new : Ring) : Type 0 where

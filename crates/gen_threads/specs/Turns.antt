@@ -5,11 +5,11 @@ use Rattle.gen_edge.specs.declared.passes.PutPass.{PutPass}
 use Rattle.gen_edge.specs.declared.passes.TakePass.{TakePass}
 use Rattle.gen_edge.specs.Ends.{put_view, take_view}
 use Rattle.gen_net.specs.Network.{Network}
-use Rattle.gen_world.specs.Recording.{Recorded}
-use Rattle.gen_world.specs.Scenario.{Scenario}
-use Rattle.gen_world.specs.SignedWorld.{neighbours_of}
-use Rattle.gen_world.specs.Loops.Records.{HasSent, HasHeard}
-use Rattle.gen_world.specs.Loops.Worlds.{near_of}
+use Rattle.gen_general.specs.Recording.{Recorder}
+use Rattle.gen_scenario.specs.Scenario.{Scenario}
+use Rattle.gen_scenario.specs.SignedWorld.{neighbours_of}
+use Rattle.gen_general.specs.DrivenRecords.{HasSent, HasHeard}
+use Rattle.gen_scenario.specs.SignedWorld.{near_of}
 use Rattle.gen_threads.specs.declared.edges.Edges.{Edges}
 use Rattle.gen_threads.specs.Edges.{HasPut, HasTakenBy}
 
@@ -30,13 +30,13 @@ abbrev pub place_of_next : Network → ℕ → ℕ → ℕ
 place_of_next net g next = length (near_of net g (range_with_len 0 next))
 
 -- he has begun the round, and has put to the neighbours below the next one
-pub record IsPutting (edges : Edges) (s : Scenario) (gone g next place : ℕ) (r : Recorded) (puts : List PutPass) : Type 0 where
+pub record IsPutting (edges : Edges) (s : Scenario) (gone g next place : ℕ) (r : Recorder) (puts : List PutPass) : Type 0 where
   pub sent : HasSent s gone g (near_of s.net g (range_with_len 0 next)) r
   pub here : place ≡ place_of_next s.net g next
   pub passes : AllZip (HasPutUntil edges s gone next g) (neighbours_of s.net g) puts
 
 -- he has put to all, and has taken from the neighbours below the next one
-pub record IsTaking (edges : Edges) (s : Scenario) (gone g next place : ℕ) (r : Recorded) (takes : List TakePass) : Type 0 where
+pub record IsTaking (edges : Edges) (s : Scenario) (gone g next place : ℕ) (r : Recorder) (takes : List TakePass) : Type 0 where
   pub heard : HasHeard s gone g (near_of s.net g (range_with_len 0 next)) r
   pub here : place ≡ place_of_next s.net g next
   pub passes : AllZip (HasTakenUntil edges s gone next g) (neighbours_of s.net g) takes

@@ -4,7 +4,7 @@ ghost use Rattle.std.specs.List.{find};
 ghost use Rattle.gen_edge.specs.Ends.{IsPutPassOf, put_view};
 ghost use Rattle.gen_edge.specs.Frames.{carried, edge_frames, round};
 ghost use Rattle.gen_edge.specs.Tied.{ComesNext};
-ghost use Rattle.gen_world.specs.Rows.{Row};
+ghost use Rattle.gen_scenario.specs.Rows.{FrameRow};
 ghost use Rattle.gen_threads.specs.Edges.{HasNewPasses};
 
 use crate::own_threads_tests::{make_ready, run_ready};
@@ -30,7 +30,7 @@ fn copy_of(alloc: Global, row: &FrameRow) -> Result<Frame, AllocError>
 /// The frame of round 1 from one general to another, among those of a run.
 fn first_row(rows: &[FrameRow], from: GeneralNo, to: GeneralNo) -> Option<&FrameRow>
     ensures { option_map (λ row. row.now) result ≡
-        find (λ (row : Row). row.from == from && row.to == to && row.round == 1) rows.now }
+        find (λ (row : FrameRow). row.from == from && row.to == to && row.round == 1) rows.now }
 {
     rows.iter().find(|row| row.from() == from && row.to() == to && row.round() == 1)
 }

@@ -5,7 +5,7 @@ ghost use Rattle.gen_threads.specs.Edges.{AllHavePasses, edge_at};
 
 use gen_edge::{Edge, PutPass, TakePass};
 use gen_types::GeneralNo;
-use gen_world::Scenario;
+use gen_scenario::Scenario;
 use std::alloc::{AllocError, Global};
 
 /// All directed edges of a network, found by their ends.

@@ -1,7 +1,7 @@
 //! How a run of threads ends.
 ghost use Rattle.std.specs.Prelude.{ℕ, ◌≡◌, ◌<◌, ◌+◌, ◌++◌, ◌≤◌, [], length, IfOk, OnOk, vec_len, vec_capacity};
-ghost use Rattle.gen_world.specs.Rows.{logs_of_all};
-ghost use Rattle.gen_world.specs.Scenario as scenarios;
+ghost use Rattle.gen_scenario.specs.Rows.{logs_of_all};
+ghost use Rattle.gen_scenario.specs.Scenario as scenarios;
 ghost use Rattle.gen_threads.specs.Ending.{logs_by};
 ghost use Rattle.gen_threads.specs.Faults.{worse_of};
 ghost use Rattle.gen_threads.specs.Works.{AreParts, ArePromised, IsTurn, TurnsFrom};
@@ -14,7 +14,7 @@ use crate::starting::Handles;
 use crate::stopping::stop_once;
 use crate::works::{Field, Turn};
 use gen_log::SealedLog;
-use gen_world::Scenario;
+use gen_scenario::Scenario;
 use std::sync::Wait;
 use std::thread;
 use std::thread::Threads;

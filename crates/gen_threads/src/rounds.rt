@@ -3,9 +3,9 @@ ghost use Rattle.std.specs.Prelude.{ℕ, ◌≡◌, ◌<◌, ◌+◌, [], OnOk};
 ghost use Rattle.std.specs.List.{AllZip};
 ghost use Rattle.gen_edge.specs.Frames.{Parcels, carried, round};
 ghost use Rattle.gen_net.specs.Network.{AreNeighbours, rounds};
-ghost use Rattle.gen_world.specs.Loops.Records.{HasSent, HasHeard, RecordsAfter};
-ghost use Rattle.gen_world.specs.Scenario.{header_of};
-ghost use Rattle.gen_world.specs.SignedWorld.{frame_at, neighbours_of};
+ghost use Rattle.gen_general.specs.DrivenRecords.{HasSent, HasHeard, RecordsAfter};
+ghost use Rattle.gen_scenario.specs.Scenario.{header_of};
+ghost use Rattle.gen_scenario.specs.SignedWorld.{frame_at, neighbours_of};
 ghost use Rattle.gen_threads.specs.Edges.{ArePassesOf, HasPut, HasTakenBy, HaveCarried, IsPutOn, IsTakeBy};
 ghost use Rattle.gen_threads.specs.Ending.{RingComesBack};
 ghost use Rattle.gen_threads.specs.Turns.{HasPutUntil, HasTakenUntil, IsPutting, IsTaking, place_of_next};
@@ -16,7 +16,7 @@ use crate::run_parts::RunPart;
 use crate::waiting::{put_frame, take_frame};
 use gen_edge::{Frame, PutPass, TakePass};
 use gen_types::GeneralNo;
-use gen_world::Recorder;
+use gen_general::Recorder;
 use std::alloc::{AllocError, Global};
 use std::sync::Wait;
 
@@ -90,7 +90,7 @@ fn put_to<R: Wait>(
         (IsPutting edges.now part.now.scenario gone part.now.me (to + 1) place.new recorder.new puts.new.items) }
     ensures passes { AllZip (IsPutOn edges.now part.now.me)
         (neighbours_of part.now.scenario.net part.now.me) puts.new.items }
-    ensures ring { recorder.new.seat.ring ≡ recorder.old.seat.ring }
+    ensures ring { recorder.new.standing.ring ≡ recorder.old.standing.ring }
 {
     let known = part.part();
     if !known.header().net().has_edge(known.me(), to) {
@@ -125,7 +125,7 @@ fn put_all<R: Wait>(
         (neighbours_of part.now.scenario.net part.now.me) puts.new.items) }
     ensures passes { AllZip (IsPutOn edges.now part.now.me)
         (neighbours_of part.now.scenario.net part.now.me) puts.new.items }
-    ensures ring { recorder.new.seat.ring ≡ recorder.old.seat.ring }
+    ensures ring { recorder.new.standing.ring ≡ recorder.old.standing.ring }
 {
     let mut place = 0;
     'near: for number in 0..part.part().header().net().generals() {
@@ -155,7 +155,7 @@ fn take_from<R: Wait>(
         (IsTaking edges.now part.now.scenario gone part.now.me (from + 1) place.new recorder.new takes.new.items) }
     ensures passes { AllZip (IsTakeBy edges.now part.now.me)
         (neighbours_of part.now.scenario.net part.now.me) takes.new.items }
-    ensures ring { recorder.new.seat.ring ≡ recorder.old.seat.ring }
+    ensures ring { recorder.new.standing.ring ≡ recorder.old.standing.ring }
 {
     let known = part.part();
     if !known.header().net().has_edge(known.me(), from) {
@@ -189,7 +189,7 @@ fn take_all<R: Wait>(
         (neighbours_of part.now.scenario.net part.now.me) takes.new.items) }
     ensures passes { AllZip (IsTakeBy edges.now part.now.me)
         (neighbours_of part.now.scenario.net part.now.me) takes.new.items }
-    ensures ring { recorder.new.seat.ring ≡ recorder.old.seat.ring }
+    ensures ring { recorder.new.standing.ring ≡ recorder.old.standing.ring }
 {
     let mut place = 0;
     'near: for number in 0..part.part().header().net().generals() {
@@ -219,7 +219,7 @@ pub(crate) fn run_round<R: Wait>(
     ensures carried { OnOk result
         (HaveCarried edges.now part.now.scenario (gone + 1) part.now.me puts.new.items takes.new.items) }
     ensures passes { ArePassesOf edges.now part.now.scenario part.now.me puts.new.items takes.new.items }
-    ensures ring { RingComesBack (header_of part.now.scenario) recorder.old.seat.ring recorder.new.seat.ring }
+    ensures ring { RingComesBack (header_of part.now.scenario) recorder.old.standing.ring recorder.new.standing.ring }
 {
     let _lawful = part.part();
     recorder.begin_round(alloc)?;

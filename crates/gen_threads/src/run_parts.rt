@@ -1,10 +1,10 @@
 //! What the thread of a general is given of a scenario.
 ghost use Rattle.std.specs.Prelude.{◌≡◌, ◌<◌, IfOk};
-ghost use Rattle.gen_world.specs.Known.{known_of};
+ghost use Rattle.gen_scenario.specs.Part.{part_of};
 ghost use Rattle.gen_threads.specs.Parts.{IsPartOfRun};
 
 use gen_types::GeneralNo;
-use gen_world::{Part, Scenario};
+use gen_scenario::{Part, Scenario};
 use std::alloc::{AllocError, Global};
 use std::marker::Model;
 use std::snapshot::Snapshot;
@@ -47,7 +47,7 @@ impl RunPart {
 
     /// Returns what he knows.
     pub fn part(&self) -> &Part
-        ensures value { result.now ≡ known_of self.now.scenario self.now.me }
+        ensures value { result.now ≡ part_of self.now.scenario self.now.me }
         ensures lawful { IsPartOfRun self.now.scenario result.now }
     {
         &self.part

@@ -1,8 +1,8 @@
 //! The thread of one general.
 ghost use Rattle.std.specs.Prelude.{◌≡◌, IfOk, IfErr, MatchResult, OnOk};
 ghost use Rattle.gen_net.specs.Network.{rounds};
-ghost use Rattle.gen_world.specs.Loops.Records.{RecordsAfter};
-ghost use Rattle.gen_world.specs.Scenario.{header_of};
+ghost use Rattle.gen_general.specs.DrivenRecords.{RecordsAfter};
+ghost use Rattle.gen_scenario.specs.Scenario.{header_of};
 ghost use Rattle.gen_threads.specs.Edges.{ArePassesOf, HaveCarried};
 ghost use Rattle.gen_threads.specs.Ending.{IsEndOf, MayRunWith, RingComesBack, logs_by};
 ghost use Rattle.gen_threads.specs.Turns.{AreOver};
@@ -15,7 +15,7 @@ use crate::run_parts::RunPart;
 use crate::stopping::stop;
 use gen_edge::{PutPass, TakePass};
 use gen_tree::KeyRing;
-use gen_world::{Finished, Recorder};
+use gen_general::{Finished, Recorder};
 use std::alloc::Global;
 use std::sync::Wait;
 
@@ -27,7 +27,7 @@ use std::sync::Wait;
 fn begin(alloc: Global, part: &RunPart, ring: Option<KeyRing>) -> Result<Recorder, Option<KeyRing>>
     requires { MayRunWith part.now.scenario part.now.me ring }
     ensures { MatchResult result
-        (λ recorder. RecordsAfter part.now.scenario 0 part.now.me recorder × (recorder.seat.ring ≡ ring))
+        (λ recorder. RecordsAfter part.now.scenario 0 part.now.me recorder × (recorder.standing.ring ≡ ring))
         (λ back. back ≡ ring) }
 {
     let Ok(known) = part.part().clone() else {
@@ -54,7 +54,7 @@ fn run_rounds<R: Wait, G: Gate>(
     ensures carried { OnOk result (HaveCarried edges.now part.now.scenario (rounds part.now.scenario.net)
         part.now.me puts.new.items takes.new.items) }
     ensures passes { ArePassesOf edges.now part.now.scenario part.now.me puts.new.items takes.new.items }
-    ensures ring { RingComesBack (header_of part.now.scenario) recorder.old.seat.ring recorder.new.seat.ring }
+    ensures ring { RingComesBack (header_of part.now.scenario) recorder.old.standing.ring recorder.new.standing.ring }
 {
     let me = part.part().me();
     'rounds: for gone in 0..part.part().header().net().rounds() {

@@ -7,7 +7,7 @@ use crate::gates::Gate;
 use crate::run_parts::RunPart;
 use crate::running::run_general;
 use crate::works::{EndsAs, Field, Turn, Work};
-use gen_world::Scenario;
+use gen_scenario::Scenario;
 use std::alloc::Global;
 use std::sync::Wait;
 use std::sync::atomic::{AtomicBool, Ordering};

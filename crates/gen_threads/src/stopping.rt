@@ -3,7 +3,7 @@ ghost use Rattle.std.specs.Prelude.{◌≡◌, ◌<◌, ◌+◌, true};
 ghost use Rattle.std.specs.List.{AllZip};
 ghost use Rattle.gen_edge.specs.Ends.{IsPutPassOf, IsTakePassOf};
 ghost use Rattle.gen_net.specs.Network.{AreNeighbours, rounds};
-ghost use Rattle.gen_world.specs.SignedWorld.{neighbours_of};
+ghost use Rattle.gen_scenario.specs.SignedWorld.{neighbours_of};
 ghost use Rattle.gen_threads.specs.Edges.{ArePassesIn, IsPutOn, IsTakeBy};
 ghost use Rattle.gen_threads.specs.Turns.{AreOver, AreOverUntil, IsOverUntil, IsPutOver, IsTakeOver, place_of_next};
 

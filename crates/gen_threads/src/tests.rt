@@ -85,7 +85,7 @@ impl Gate for Watch {
 }
 
 /// The scenario with order 1 in which nobody has a script.
-#[tactic(auto, using(gen_world::proofs::ScriptPairs::no_scripts))]
+#[tactic(auto, using(gen_scenario::proofs::ScriptPairs::no_scripts))]
 fn without_scripts(
     alloc: Global,
     n: u8,

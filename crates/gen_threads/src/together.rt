@@ -1,6 +1,6 @@
 //! All generals in threads.
 ghost use Rattle.std.specs.Prelude.{◌≡◌, ◌<◌, ◌≤◌, [], length, IfOk, vec_len, vec_capacity};
-ghost use Rattle.gen_world.specs.Rows.{logs_of_all};
+ghost use Rattle.gen_scenario.specs.Rows.{logs_of_all};
 ghost use Rattle.gen_threads.specs.Works.{AreParts, AreWorks, TurnsFrom};
 
 use crate::edges::Edges;
@@ -11,7 +11,7 @@ use crate::run_parts::RunPart;
 use crate::starting::start_all;
 use crate::works::{Field, Turn, Work, make_parts, make_works};
 use gen_log::SealedLog;
-use gen_world::Scenario;
+use gen_scenario::Scenario;
 use std::alloc::{AllocError, Global};
 use std::sync::Wait;
 use std::sync::atomic::AtomicBool;

@@ -6,7 +6,7 @@ use crate::make_trees;
 use gen_net::{Net, Version};
 use gen_tree::KeyTree;
 use gen_types::{GeneralNo, OrderNo};
-use gen_world::{Scenario, run_world};
+use gen_world::{Scenario, SignedPlan, run_world};
 use std::alloc::Global;
 use std::test::*;
 use std::thread::Threads;
@@ -15,7 +15,7 @@ use std::thread::Threads;
 const MASTER: [u8; 32] = [7; 32];
 
 /// The scenario with order 1 in which three generals in a line have no scripts, over trees of threads or over its own.
-#[tactic(auto, using(gen_world::proofs::ScriptPairs::no_scripts))]
+#[tactic(auto, using(gen_scenario::proofs::ScriptPairs::no_scripts))]
 fn line<R: Threads + Sync>(
     rt: &R,
     alloc: Global,
@@ -25,12 +25,12 @@ fn line<R: Threads + Sync>(
     requires { slot_in version ≤ greatest_slot }
 {
     let net = Net::new(alloc, 3, &[(0, 1), (1, 2)], 0, 2, 2, 0)?;
-    let (order, none) = (OrderNo::at(1), Vec::new(alloc));
+    let plan = SignedPlan::new(version, net, OrderNo::at(1), &MASTER, Vec::new(alloc));
     if !by_threads {
-        return Ok(Scenario::of_version(alloc, version, net, order, &MASTER, none)?);
+        return Ok(Scenario::of_plan(alloc, plan)?);
     }
-    let trees = make_trees(rt, alloc, &MASTER, version.height(), net.generals())?;
-    Ok(Scenario::of_trees(alloc, version, net, order, &MASTER, none, trees)?)
+    let trees = make_trees(rt, alloc, &MASTER, version.height(), 3)?;
+    Ok(Scenario::of_trees(alloc, plan, trees)?)
 }
 
 /// Whether the root of each tree is its general's in the scenario.

@@ -1,7 +1,7 @@
 //! The trees of the keys of all generals, made by threads.
 ghost use Rattle.std.specs.Prelude.{◌≡◌, ◌<◌, ◌≤◌, IfOk, map};
 ghost use Rattle.std.specs.List.{range_with_len};
-ghost use Rattle.gen_world.specs.Trees.{general_tree};
+ghost use Rattle.gen_scenario.specs.Trees.{general_tree};
 
 use gen_tree::{KeyTree, general_seed};
 use gen_types::{GeneralNo, TreeHeight};

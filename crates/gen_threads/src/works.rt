@@ -1,6 +1,6 @@
 //! What a general's thread is started with, and what comes of it.
 ghost use Rattle.std.specs.Prelude.{◌≡◌, ◌<◌, ◌+◌, IfOk};
-ghost use Rattle.gen_world.specs.Loops.Worlds.{ring_at};
+ghost use Rattle.gen_scenario.specs.Rings.{ring_at};
 ghost use Rattle.gen_threads.specs.Works.{AreParts, AreWorks};
 
 use crate::edges::{Edges, Passes};
@@ -8,7 +8,7 @@ use crate::ends::{GeneralEnd, close_ring};
 use crate::run_parts::RunPart;
 use gen_tree::KeyRing;
 use gen_types::GeneralNo;
-use gen_world::Scenario;
+use gen_scenario::Scenario;
 use std::alloc::{AllocError, Global};
 use std::sync::atomic::AtomicBool;
 use std::thread::Promise;

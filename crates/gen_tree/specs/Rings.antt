@@ -8,7 +8,7 @@ use Rattle.gen_ots.specs.OneTime.{key_leaf_value}
 use Rattle.gen_tree.specs.Tree.{node_over, first_siblings}
 
 -- what the tree of a seed is: the seed and its height
-pub record SeedTree : Type 0 where
+pub record KeyTree : Type 0 where
   pub seed : List ℕ
   pub height : TreeHeight
 

@@ -26,9 +26,9 @@ pub struct KeyTree {
 
 impl Model for KeyTree {
     ghost use Rattle.std.specs.Prelude.{◌≡◌};
-    ghost use Rattle.gen_tree.specs.Rings.{SeedTree, ring_leaves};
+    ghost use Rattle.gen_tree.specs.Rings.{KeyTree, ring_leaves};
 
-    ghost Value = { SeedTree };
+    ghost Value = { KeyTree };
 
     ghost view = { λ t. record { seed = t.seed; height = t.height } };
 

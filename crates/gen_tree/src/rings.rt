@@ -122,3 +122,10 @@ impl KeyRing {
         taken
     }
 }
+
+/// Closes a ring, if there is one. The leaves that were taken from it aren't told.
+pub fn close_ring(ring: Option<KeyRing>) {
+    if let Some(ring) = ring {
+        ring.close();
+    }
+}

@@ -9,7 +9,7 @@ use Rattle.gen_net.specs.Run.{Run, IsRun}
 use Rattle.gen_core.specs.Seeing.{AreArrivals, AreAdds}
 use Rattle.gen_core.specs.declared.sending.Outgoing.{Outgoing}
 use Rattle.gen_core.specs.Sending.{outgoing, Appends, AreSends, IsCommand, IsDue}
-use Rattle.gen_world.specs.World.{IsRelay}
+use Rattle.gen_scenario.specs.World.{IsRelay}
 use Rattle.gen_world.specs.Loops.Rounds.{IsAmong, RelayedBy}
 
 abbrev pub seen_of : Message → Seen

@@ -9,16 +9,16 @@ use Rattle.gen_types.specs.Members.{range_ascending, filter_range_has}
 use Rattle.gen_types.proofs.Lists.{ascending_one, Contains_mapped, Contains_flat_mapped, Contains_filtered, Contains_range, Contains_in_range}
 use Rattle.gen_net.specs.Network.{IsNetwork}
 use Rattle.gen_net.specs.Edges.{joins}
-use Rattle.gen_world.specs.Scenario.{Scenario}
-use Rattle.gen_world.specs.SignedWorld.{neighbours_of}
-use Rattle.gen_world.specs.Rows.{Row, row_at, rows_by, rows_in}
-use Rattle.gen_world.specs.Loops.Records.{senders_to}
-use Rattle.gen_world.proofs.Having.{in_mapped, in_flat, in_filtered}
-use Rattle.gen_world.proofs.HeardBy.{turned, near_has, near_gives, neighbours_ascend}
-use Rattle.gen_world.proofs.Sorting.{pairs_flat, pairs_map, pairs_with}
+use Rattle.gen_scenario.specs.Scenario.{Scenario}
+use Rattle.gen_scenario.specs.SignedWorld.{neighbours_of}
+use Rattle.gen_scenario.specs.Rows.{FrameRow, row_at, rows_by, rows_in}
+use Rattle.gen_general.specs.DrivenRecords.{senders_to}
+use Rattle.gen_scenario.proofs.Having.{in_mapped, in_flat, in_filtered}
+use Rattle.gen_scenario.proofs.HeardBy.{turned, near_has, near_gives, neighbours_ascend}
+use Rattle.gen_scenario.proofs.Sorting.{pairs_flat, pairs_map, pairs_with}
 
 -- of two frames to one general that of the lesser sender stands first
-abbrev pub InTurn : Row → Row → Type 0
+abbrev pub InTurn : FrameRow → FrameRow → Type 0
 InTurn x y = x.to ≡ y.to → x.from < y.from
 
 pub rows_in_turn : (s : Scenario) (round : ℕ) → AllPairs InTurn (rows_in s round)
@@ -29,18 +29,18 @@ rows_in_turn s round =
     (λ v w x y less hx hy same.
     let a = Contains_mapped (row_at s round v) (neighbours_of s.net v) x hx in
     let b = Contains_mapped (row_at s round w) (neighbours_of s.net w) y hy in
-    let ex : v ≡ x.from = ap (λ (r : Row). r.from) a.2 in
-    let ey : w ≡ y.from = ap (λ (r : Row). r.from) b.2 in
+    let ex : v ≡ x.from = ap (λ (r : FrameRow). r.from) a.2 in
+    let ey : w ≡ y.from = ap (λ (r : FrameRow). r.from) b.2 in
     omega (arith, less, ex, ey))
 
 -- it is a frame of the round, to a neighbour
-pub record IsFrame (s : Scenario) (round : ℕ) (x : Row) : Type 0 where
+pub record IsFrame (s : Scenario) (round : ℕ) (x : FrameRow) : Type 0 where
   pub from_known : x.from < s.net.generals
   pub to_known : x.to < s.net.generals
   pub near : Contains (neighbours_of s.net x.from) x.to
   pub is : x ≡ row_at s round x.from x.to
 
-pub frame_has : (s : Scenario) (round : ℕ) (x : Row) → Contains (rows_in s round) x → IsFrame s round x
+pub frame_has : (s : Scenario) (round : ℕ) (x : FrameRow) → Contains (rows_in s round) x → IsFrame s round x
 unfolding rows_in
 frame_has s round x h =
     let r = Contains_flat_mapped (rows_by s round) (range_with_len 0 s.net.generals) x h in
@@ -61,28 +61,28 @@ frame_gives s round from to low near =
 
 -- ---- who sends to a general
 
-pub record IsSenderTo (g : ℕ) (rows : List Row) (v : ℕ) : Type 0 where
-  pub row : Row
+pub record IsSenderTo (g : ℕ) (rows : List FrameRow) (v : ℕ) : Type 0 where
+  pub row : FrameRow
   pub there : Contains rows row
   pub to_is : row.to ≡ g
   pub from_is : row.from ≡ v
 
-pub sender_has : (g : ℕ) (rows : List Row) (v : ℕ) → Contains (senders_to g rows) v → IsSenderTo g rows v
+pub sender_has : (g : ℕ) (rows : List FrameRow) (v : ℕ) → Contains (senders_to g rows) v → IsSenderTo g rows v
 sender_has g rows v h =
-    let m = Contains_mapped (λ (row : Row). row.from) (filter (λ (row : Row). eqb row.to g) rows) v h in
-    let f = Contains_filtered (λ (row : Row). eqb row.to g) rows m.0 m.1 in
+    let m = Contains_mapped (λ (row : FrameRow). row.from) (filter (λ (row : FrameRow). eqb row.to g) rows) v h in
+    let f = Contains_filtered (λ (row : FrameRow). eqb row.to g) rows m.0 m.1 in
     record { row = m.0; there = f.0; to_is = eqb-true _ _ f.1; from_is = m.2 }
 
-sender_gives : (g : ℕ) (rows : List Row) (x : Row) → Contains rows x → x.to ≡ g → Contains (senders_to g rows) x.from
-sender_gives g rows x h e = in_mapped (λ (row : Row). row.from) (filter (λ (row : Row). eqb row.to g) rows) x (in_filtered (λ (row : Row). eqb row.to g) rows x h (eq-eqb x.to g e))
+sender_gives : (g : ℕ) (rows : List FrameRow) (x : FrameRow) → Contains rows x → x.to ≡ g → Contains (senders_to g rows) x.from
+sender_gives g rows x h e = in_mapped (λ (row : FrameRow). row.from) (filter (λ (row : FrameRow). eqb row.to g) rows) x (in_filtered (λ (row : FrameRow). eqb row.to g) rows x h (eq-eqb x.to g e))
 
 senders_ascend : (s : Scenario) (round g : ℕ) → AllPairs (λ v w. v < w) (senders_to g (rows_in s round))
 senders_ascend s round g =
-    let to_g : List Row = filter (λ (row : Row). eqb row.to g) (rows_in s round) in
-    pairs_map (λ v w. v < w) (λ (row : Row). row.from) to_g
-    (pairs_with InTurn (λ x y. x.from < y.from) to_g (AllPairs-filter InTurn (λ (row : Row). eqb row.to g) (rows_in s round) (rows_in_turn s round)) (λ x y hx hy turn.
-    let ex : x.to ≡ g = eqb-true _ _ (Contains_filtered (λ (row : Row). eqb row.to g) (rows_in s round) x hx).1 in
-    let ey : y.to ≡ g = eqb-true _ _ (Contains_filtered (λ (row : Row). eqb row.to g) (rows_in s round) y hy).1 in
+    let to_g : List FrameRow = filter (λ (row : FrameRow). eqb row.to g) (rows_in s round) in
+    pairs_map (λ v w. v < w) (λ (row : FrameRow). row.from) to_g
+    (pairs_with InTurn (λ x y. x.from < y.from) to_g (AllPairs-filter InTurn (λ (row : FrameRow). eqb row.to g) (rows_in s round) (rows_in_turn s round)) (λ x y hx hy turn.
+    let ex : x.to ≡ g = eqb-true _ _ (Contains_filtered (λ (row : FrameRow). eqb row.to g) (rows_in s round) x hx).1 in
+    let ey : y.to ≡ g = eqb-true _ _ (Contains_filtered (λ (row : FrameRow). eqb row.to g) (rows_in s round) y hy).1 in
     turn (ex ∙ sym ey)))
 
 -- to each general his neighbours send
@@ -99,30 +99,30 @@ all_senders s ok round g =
 
 -- ---- frame by frame
 
-senders_more : (g : ℕ) (xs ys : List Row) → senders_to g (xs ++ ys) ≡ senders_to g xs ++ senders_to g ys
-senders_more g xs ys = ap (map (λ (row : Row). row.from)) (filter-append (λ (row : Row). eqb row.to g) xs ys) ∙ map-append (λ (row : Row). row.from) (filter (λ (row : Row). eqb row.to g) xs) (filter (λ (row : Row). eqb row.to g) ys)
+senders_more : (g : ℕ) (xs ys : List FrameRow) → senders_to g (xs ++ ys) ≡ senders_to g xs ++ senders_to g ys
+senders_more g xs ys = ap (map (λ (row : FrameRow). row.from)) (filter-append (λ (row : FrameRow). eqb row.to g) xs ys) ∙ map-append (λ (row : FrameRow). row.from) (filter (λ (row : FrameRow). eqb row.to g) xs) (filter (λ (row : FrameRow). eqb row.to g) ys)
 
-one_to : (g : ℕ) (x : Row) → eqb x.to g ≡ true → senders_to g (x ∷ []) ≡ x.from ∷ []
+one_to : (g : ℕ) (x : FrameRow) → eqb x.to g ≡ true → senders_to g (x ∷ []) ≡ x.from ∷ []
 one_to g x e = rw e refl
 
-one_past : (g : ℕ) (x : Row) → eqb x.to g ≡ false → senders_to g (x ∷ []) ≡ []
+one_past : (g : ℕ) (x : FrameRow) → eqb x.to g ≡ false → senders_to g (x ∷ []) ≡ []
 one_past g x e = rw e refl
 
-pub senders_here : (g i : ℕ) (rows : List Row) (d : Row) → i < length rows → eqb (get_or rows i d).to g ≡ true → senders_to g (take (i + 1) rows) ≡ senders_to g (take i rows) ++ (get_or rows i d).from ∷ []
+pub senders_here : (g i : ℕ) (rows : List FrameRow) (d : FrameRow) → i < length rows → eqb (get_or rows i d).to g ≡ true → senders_to g (take (i + 1) rows) ≡ senders_to g (take i rows) ++ (get_or rows i d).from ∷ []
 senders_here g i rows d within e =
     ap (senders_to g) (take_more rows i d within) ∙ senders_more g (take i rows) (get_or rows i d ∷ []) ∙ ap (λ (xs : List ℕ). senders_to g (take i rows) ++ xs) (one_to g (get_or rows i d) e)
 
-pub senders_past : (g i : ℕ) (rows : List Row) (d : Row) → i < length rows → eqb (get_or rows i d).to g ≡ false → senders_to g (take (i + 1) rows) ≡ senders_to g (take i rows)
+pub senders_past : (g i : ℕ) (rows : List FrameRow) (d : FrameRow) → i < length rows → eqb (get_or rows i d).to g ≡ false → senders_to g (take (i + 1) rows) ≡ senders_to g (take i rows)
 senders_past g i rows d within e =
     ap (senders_to g) (take_more rows i d within) ∙ senders_more g (take i rows) (get_or rows i d ∷ []) ∙ ap (λ (xs : List ℕ). senders_to g (take i rows) ++ xs) (one_past g (get_or rows i d) e) ∙ append-nil (senders_to g (take i rows))
 
 -- those who sent to him before stand before the sender
-pub senders_before : (i : ℕ) (rows : List Row) (d : Row) → AllPairs InTurn rows → i < length rows → (v : ℕ) → Contains (senders_to (get_or rows i d).to (take i rows)) v → v < (get_or rows i d).from
+pub senders_before : (i : ℕ) (rows : List FrameRow) (d : FrameRow) → AllPairs InTurn rows → i < length rows → (v : ℕ) → Contains (senders_to (get_or rows i d).to (take i rows)) v → v < (get_or rows i d).from
 senders_before i rows d turn within v h =
     let x = sender_has (get_or rows i d).to (take i rows) v h in
     let a = x.there.0 in
     let short : length (take i rows) ≡ i = length-take-le i rows (omega (arith, within)) in
     let low : a < i = omega (arith, x.there.1, short) in
     let read : get_or rows a d ≡ x.row = sym (get_or-take i rows a d low) ∙ get_or_default (take i rows) a d x.row x.there.1 ∙ x.there.2 in
-    let less : (get_or rows a d).from < (get_or rows i d).from = turn a i d low within (ap (λ (r : Row). r.to) read ∙ x.to_is) in
-    subst (λ w. w < (get_or rows i d).from) (ap (λ (r : Row). r.from) read ∙ x.from_is) less
+    let less : (get_or rows a d).from < (get_or rows i d).from = turn a i d low within (ap (λ (r : FrameRow). r.to) read ∙ x.to_is) in
+    subst (λ w. w < (get_or rows i d).from) (ap (λ (r : FrameRow). r.from) read ∙ x.from_is) less

@@ -1,40 +1,21 @@
-//! The run of a scenario, and the laws of runs.
+//! The runs of scenarios, driven round by round.
+//!
+//! `run_plain` runs a scenario without signatures, `decide_world` one with signatures for what all decide, and
+//! `run_world` for its frames, decisions and logs. What a scenario and its run are stands in `gen_scenario`, what one
+//! general does in `gen_general`; their public names are also found here.
 #![tactic(auto)]
 
-mod counting;
-mod deciding;
-mod followers;
-mod following;
-mod hearing;
-mod journal;
-mod journal_entries;
 pub mod laws;
-mod participants;
-mod parts;
-mod recording;
-mod recording_ends;
-mod roles;
 mod rows;
 mod running;
-mod scenario;
-mod scripted;
-mod signed;
-mod signer_trees;
-mod signing;
-mod traitors;
 mod world;
 mod world_decisions;
 
-pub use counting::{Delivery, count_frame};
-pub use hearing::Heard;
-pub use participants::Participant;
-pub use parts::Part;
-pub use recording::{Finished, Recorder};
+pub use gen_general::{Finished, Participant, Planned, Recorder, count_frame, participant_of, recorder_of};
+pub use gen_scenario::{
+    Decision, Delivery, Heard, Part, PlainRun, PlainScenario, Scenario, SignedPlan, SignerTree,
+};
 pub use rows::{FrameRow, WorldRun};
 pub use running::run_plain;
-pub use scenario::{Decision, PlainRun, PlainScenario};
-pub use scripted::Planned;
-pub use signed::Scenario;
-pub use signer_trees::SignerTree;
-pub use world::{recorder_of, run_world};
+pub use world::run_world;
 pub use world_decisions::decide_world;

@@ -1,8 +1,8 @@
 //! What the run of a scenario gives.
 ghost use Rattle.std.specs.Prelude.{◌≡◌};
 
-use crate::scenario::Decision;
 use gen_log::SealedLog;
+use gen_scenario::Decision;
 use gen_script::Parcel;
 use gen_types::GeneralNo;
 use std::marker::Model;
@@ -17,9 +17,9 @@ pub struct FrameRow {
 }
 
 impl Model for FrameRow {
-    ghost use Rattle.gen_world.specs.Rows.{Row};
+    ghost use Rattle.gen_scenario.specs.Rows.{FrameRow};
 
-    ghost Value = { Row };
+    ghost Value = { FrameRow };
 
     ghost view = { λ r. record {
       round = r.round;
@@ -85,9 +85,9 @@ pub struct WorldRun {
 }
 
 impl Model for WorldRun {
-    ghost use Rattle.gen_world.specs.Rows.{World};
+    ghost use Rattle.gen_scenario.specs.Rows.{WorldRun};
 
-    ghost Value = { World };
+    ghost Value = { WorldRun };
 
     ghost view = { λ r. record {
       frames = r.frames.items;

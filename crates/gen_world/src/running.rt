@@ -7,14 +7,14 @@ ghost use Rattle.gen_net.specs.Walks.{HasDiameter};
 ghost use Rattle.gen_net.specs.declared.message.Message.{Message as Sent};
 ghost use Rattle.gen_core.specs.Seeing.{HasSeen, AreArrivals};
 ghost use Rattle.gen_core.specs.Sending.{Appends};
-ghost use Rattle.gen_world.specs.Deciding.{AreSignedDecisions};
-ghost use Rattle.gen_world.specs.World.{IsDecision, IsOutcome};
-ghost use Rattle.gen_world.specs.WorldFollows.{AllDecide};
+ghost use Rattle.gen_scenario.specs.Deciding.{AreSignedDecisions};
+ghost use Rattle.gen_scenario.specs.World.{IsDecision, IsOutcome};
+ghost use Rattle.gen_scenario.specs.WorldFollows.{AllDecide};
 ghost use Rattle.gen_world.specs.Loops.Rounds.{IsAmong, RelayedBy, IsReady, AreRelays, numbers_of};
 
-use crate::scenario::{Decision, PlainRun, PlainScenario};
 use gen_core::{Commander, Lieutenant, Outgoing, Seen, sends};
 use gen_net::{Message, Net};
+use gen_scenario::{Decision, PlainRun, PlainScenario};
 use gen_types::GeneralNo;
 use std::alloc::{AllocError, Global};
 

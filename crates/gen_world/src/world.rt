@@ -2,29 +2,23 @@
 ghost use Rattle.std.specs.Prelude.{◌≡◌, ◌<◌, ◌+◌, ◌++◌, [], ◌∷◌, IfOk, OnOk};
 ghost use Rattle.std.specs.List.{flat_map, range_with_len};
 ghost use Rattle.gen_net.specs.Network.{rounds};
-ghost use Rattle.gen_world.specs.Deciding.{decisions_of};
-ghost use Rattle.gen_world.specs.Recording.{logs_written};
-ghost use Rattle.gen_world.specs.Rows.{rows_of, rows_in, rows_by, logs_of_all};
-ghost use Rattle.gen_world.specs.SignedLaw.{IsBounded, AreAlike};
-ghost use Rattle.gen_world.specs.Loops.Records.{RecordsAfter, HasSent, HasHeard, AllRecord, AllHear};
-ghost use Rattle.gen_world.specs.Loops.Worlds.{StandsAfter, ring_at, near_of, rows_for, rows_first, rows_until, decided_of};
+ghost use Rattle.gen_scenario.specs.Deciding.{decisions_of};
+ghost use Rattle.gen_general.specs.Recording.{logs_written};
+ghost use Rattle.gen_scenario.specs.Rows.{rows_of, rows_in, rows_by, logs_of_all};
+ghost use Rattle.gen_scenario.specs.SignedLaw.{IsBounded, AreAlike};
+ghost use Rattle.gen_general.specs.DrivenRecords.{RecordsAfter, HasSent, HasHeard, AllRecord, AllHear};
+ghost use Rattle.gen_general.specs.Driving.{StandsAfter, rows_for, rows_first, rows_until, decided_of};
+ghost use Rattle.gen_scenario.specs.Rings.{ring_at};
+ghost use Rattle.gen_scenario.specs.SignedWorld.{near_of};
 
-use crate::laws::theorem_holds_of_scenarios;
-use crate::recording::Recorder;
+use gen_scenario::laws::theorem_holds_of_scenarios;
 use crate::rows::{FrameRow, WorldRun};
-use crate::scenario::Decision;
-use crate::signed::Scenario;
 use gen_log::SealedLog;
-use gen_tree::KeyRing;
+use gen_general::{Recorder, recorder_of};
+use gen_scenario::{Decision, Scenario};
+use gen_tree::close_ring;
 use gen_types::GeneralNo;
 use std::alloc::{AllocError, Global};
-
-/// Closes a ring, if there is one.
-pub(crate) fn close_ring(ring: Option<KeyRing>) {
-    if let Some(ring) = ring {
-        ring.close();
-    }
-}
 
 /// Closes the rings of all.
 fn close_all(mut parts: Vec<Recorder>) {
@@ -32,46 +26,6 @@ fn close_all(mut parts: Vec<Recorder>) {
         close_ring(part.close());
     }
     parts.destroy_empty();
-}
-
-/// Opens a general's ring, if he has no script.
-pub(crate) fn ring_for(
-    scenario: &Scenario,
-    general: GeneralNo,
-) -> Result<Option<KeyRing>, AllocError>
-    requires { general < scenario.now.net.generals }
-    ensures { IfOk result (λ ring. ring ≡ ring_at scenario.now general) }
-{
-    if scenario.has_script(general) {
-        return Ok(None);
-    }
-    let ring = scenario.ring(general)?;
-    Ok(Some(ring))
-}
-
-/// Makes a general of the scenario, as he is before the first round.
-///
-/// # Errors
-///
-/// `AllocError` where memory is refused.
-pub fn recorder_of(
-    alloc: Global,
-    scenario: &Scenario,
-    general: GeneralNo,
-) -> Result<Recorder, AllocError>
-    requires { general < scenario.now.net.generals }
-    ensures { IfOk result (λ part. RecordsAfter scenario.now 0 general part) }
-{
-    let _lawful = scenario.header();
-    let part = scenario.part(alloc, general)?;
-    let ring = ring_for(scenario, general)?;
-    match Recorder::new(alloc, part, ring) {
-        Ok(recorder) => Ok(recorder),
-        Err(ring) => {
-            close_ring(ring);
-            Err(AllocError)
-        }
-    }
 }
 
 /// Makes all generals as they are before the first round.
@@ -205,9 +159,9 @@ fn add_decision(
     part: &Recorder,
     decisions: &mut Vec<Decision>,
 ) -> Result<(), AllocError>
-    requires { StandsAfter scenario.now (rounds scenario.now.net) part.now.seat.known.me part.now.seat }
+    requires { StandsAfter scenario.now (rounds scenario.now.net) part.now.standing.known.me part.now.standing }
     ensures { OnOk result (decisions.new.items
-        ≡ decisions.old.items ++ decided_of scenario.now (part.now.seat.known.me ∷ [])) }
+        ≡ decisions.old.items ++ decided_of scenario.now (part.now.standing.known.me ∷ [])) }
 {
     if !scenario.has_script(part.me()) {
         decisions.push(part.decide())?;

@@ -3,19 +3,21 @@ ghost use Rattle.std.specs.Prelude.{◌≡◌, ◌≢◌, ◌<◌, ◌+◌, ◌+
 ghost use Rattle.std.specs.List.{range_with_len};
 ghost use Rattle.gen_chain.specs.Store.{Serves};
 ghost use Rattle.gen_net.specs.Network.{rounds};
-ghost use Rattle.gen_world.specs.Deciding.{decisions_of};
-ghost use Rattle.gen_world.specs.Scenario.{header_of};
-ghost use Rattle.gen_world.specs.Seat.{Seat};
-ghost use Rattle.gen_world.specs.SignedLaw.{IsBounded, AreAlike};
-ghost use Rattle.gen_world.specs.SeatLaws.{IsIn};
-ghost use Rattle.gen_world.specs.Loops.Worlds.{StandsAfter, AllAre, AllStand, AllBegun, ring_at, near_of, hears_of, decided_of};
+ghost use Rattle.gen_scenario.specs.Deciding.{decisions_of};
+ghost use Rattle.gen_scenario.specs.Scenario.{header_of};
+ghost use Rattle.gen_general.specs.Participant.{Participant};
+ghost use Rattle.gen_scenario.specs.SignedLaw.{IsBounded, AreAlike};
+ghost use Rattle.gen_general.specs.ParticipantLaws.{IsIn};
+ghost use Rattle.gen_general.specs.Driving.{StandsAfter, AllStand, AllBegun, hears_of, decided_of};
+ghost use Rattle.gen_scenario.specs.AllAre.{AllAre};
+ghost use Rattle.gen_scenario.specs.Rings.{ring_at};
+ghost use Rattle.gen_scenario.specs.SignedWorld.{near_of};
 
-use crate::laws::theorem_holds_of_scenarios;
-use crate::participants::Participant;
-use crate::scenario::Decision;
-use crate::signed::Scenario;
-use crate::world::{close_ring, ring_for};
+use gen_scenario::laws::theorem_holds_of_scenarios;
 use gen_chain::VerifyStore;
+use gen_general::{Participant, participant_of};
+use gen_scenario::{Decision, Scenario};
+use gen_tree::close_ring;
 use gen_types::GeneralNo;
 use std::alloc::{AllocError, Global};
 
@@ -25,27 +27,6 @@ fn close_all(mut parts: Vec<Participant>) {
         close_ring(part.close());
     }
     parts.destroy_empty();
-}
-
-/// Makes a general of the scenario, as he is before the first round.
-fn participant_of(
-    alloc: Global,
-    scenario: &Scenario,
-    general: GeneralNo,
-) -> Result<Participant, AllocError>
-    requires { general < scenario.now.net.generals }
-    ensures { IfOk result (λ part. StandsAfter scenario.now 0 general part) }
-{
-    let _lawful = scenario.header();
-    let part = scenario.part(alloc, general)?;
-    let ring = ring_for(scenario, general)?;
-    match Participant::new(alloc, part, ring) {
-        Ok(participant) => Ok(participant),
-        Err(ring) => {
-            close_ring(ring);
-            Err(AllocError)
-        }
-    }
 }
 
 /// Makes all generals as they are before the first round.
@@ -100,10 +81,10 @@ fn hear_one(
     requires all { AllAre (IsIn scenario.now gone) scenario.now.net.generals parts.old.items }
     requires serves { Serves (header_of scenario.now) store.old }
     ensures all { OnOk result (AllAre (IsIn scenario.now gone) scenario.now.net.generals parts.new.items) }
-    ensures heard { OnOk result ((d : Seat) → (slice_index_or parts.new.items to d).heard
+    ensures heard { OnOk result ((d : Participant) → (slice_index_or parts.new.items to d).heard
         ≡ (slice_index_or parts.old.items to d).heard
         ++ hears_of scenario.now gone to (near_of scenario.now.net to (from ∷ []))) }
-    ensures others { OnOk result ((g : ℕ) (d : Seat) → g ≢ to
+    ensures others { OnOk result ((g : ℕ) (d : Participant) → g ≢ to
         → slice_index_or parts.new.items g d ≡ slice_index_or parts.old.items g d) }
     ensures serves { Serves (header_of scenario.now) store.new }
 {
@@ -130,10 +111,10 @@ fn hear_all_of(
     requires all { AllAre (IsIn scenario.now gone) scenario.now.net.generals parts.old.items }
     requires serves { Serves (header_of scenario.now) store.old }
     ensures all { OnOk result (AllAre (IsIn scenario.now gone) scenario.now.net.generals parts.new.items) }
-    ensures heard { OnOk result ((d : Seat) → (slice_index_or parts.new.items to d).heard
+    ensures heard { OnOk result ((d : Participant) → (slice_index_or parts.new.items to d).heard
         ≡ (slice_index_or parts.old.items to d).heard ++ hears_of scenario.now gone to
         (near_of scenario.now.net to (range_with_len 0 scenario.now.net.generals))) }
-    ensures others { OnOk result ((g : ℕ) (d : Seat) → g ≢ to
+    ensures others { OnOk result ((g : ℕ) (d : Participant) → g ≢ to
         → slice_index_or parts.new.items g d ≡ slice_index_or parts.old.items g d) }
     ensures serves { Serves (header_of scenario.now) store.new }
 {

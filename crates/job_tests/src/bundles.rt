@@ -4,9 +4,10 @@ use gen_audit::{Bundle, write_bundle};
 use gen_local::Exhibit;
 use gen_net::Header;
 use gen_report::{ScenarioText, read_scenario};
-use gen_types::{GeneralNo, GeneralSet};
+use gen_scenario::Scenario;
+use gen_types::GeneralSet;
 use gen_walks::{Walks, make_walks};
-use gen_world::{Scenario, run_world};
+use gen_world::run_world;
 use sha2::{Digest, Sha256};
 use std::alloc::Global;
 use std::test::*;
@@ -14,26 +15,14 @@ use std::test::*;
 /// The scenario that a text with a seed tells.
 pub(crate) fn scenario_of(alloc: Global, text: &[u8]) -> Result<Scenario, Fail> {
     match read_scenario(alloc, text) {
-        Ok(ScenarioText::Signed(signed)) => Ok(signed.into_scenario(alloc)?),
+        Ok(ScenarioText::Signed(plan)) => Ok(Scenario::of_plan(alloc, plan)?),
         _ => Err("no scenario with signatures".into()),
     }
 }
 
-/// All generals but these.
-fn rest_of(header: &Header, faulty: &GeneralSet) -> GeneralSet {
-    let mut rest = GeneralSet::new();
-    for number in 0..header.net().generals() {
-        let general = GeneralNo::at(number);
-        if !faulty.contains(general) {
-            rest.insert(general);
-        }
-    }
-    rest
-}
-
 /// The best walks between all but these, or none where two of them are too far apart.
 fn walks_of(alloc: Global, header: &Header, faulty: &GeneralSet) -> Walks {
-    match make_walks(alloc, header.net(), &rest_of(header, faulty)) {
+    match make_walks(alloc, header.net(), &header.net().rest(faulty)) {
         Ok(walks) => walks,
         Err(_) => Walks::new(alloc),
     }

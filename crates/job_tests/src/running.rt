@@ -86,7 +86,14 @@ fn bundle_in_a_slot(rt: HostRuntime) -> Result<(), Fail> {
 
 #[test]
 fn bundles_are_of_the_run(rt: HostRuntime) -> Result<(), Fail> {
-    let wrong = first_wrong(&rt, rt.alloc(), &RUNS, 1)?;
+    let wrong = first_wrong(&rt, rt.alloc(), &RUNS[..4], 1)?;
+    assert_eq!(rt; wrong, None);
+    Ok(())
+}
+
+#[test]
+fn bundles_are_of_more_runs(rt: HostRuntime) -> Result<(), Fail> {
+    let wrong = first_wrong(&rt, rt.alloc(), &RUNS[4..], 1)?;
     assert_eq!(rt; wrong, None);
     Ok(())
 }

@@ -2,7 +2,7 @@ use gen_net::HeaderFault;
 use gen_report::*;
 use gen_script::ScriptFault;
 use gen_types::{GeneralNo, OrderNo, OrderSet, ReadError};
-use gen_world::Decision;
+use gen_scenario::Decision;
 use std::alloc::{AllocError, Global};
 use std::test::*;
 

@@ -1,6 +1,7 @@
 //! Texts with seeds, slots and scripts.
 use gen_net::Version;
 use gen_report::*;
+use gen_scenario::SignedPlan;
 use gen_script::ScriptFault;
 use gen_types::ReadError;
 use std::alloc::{AllocError, Global};
@@ -248,32 +249,32 @@ fn lawful_texts(rt: HostRuntime) -> Result<(), Fail> {
     Ok(())
 }
 
-/// The parts of a text, where it has a seed.
-fn parts_of(told: ScenarioText) -> Option<ScenarioParts> {
+/// The plan of a text, where it has a seed.
+fn plan_of(told: ScenarioText) -> Option<SignedPlan> {
     match told {
         ScenarioText::Plain(_) => None,
-        ScenarioText::Signed(signed) => Some(signed.into_parts()),
+        ScenarioText::Signed(plan) => Some(plan),
     }
 }
 
-/// The parts of a text with a seed.
-fn parts(alloc: Global, tail: &[u8]) -> Result<Option<ScenarioParts>, AllocError> {
+/// The plan of a text with a seed.
+fn plan(alloc: Global, tail: &[u8]) -> Result<Option<SignedPlan>, AllocError> {
     Ok(match read(alloc, SEED, tail)? {
-        Ok(told) => parts_of(told),
+        Ok(told) => plan_of(told),
         Err(_) => None,
     })
 }
 
 #[test]
-fn gives_parts_back(rt: HostRuntime) -> Result<(), Fail> {
-    let parts = parts(rt.alloc(), b"slot 2\nscript 1\ntwohead\nend\n")?;
+fn gives_the_plan(rt: HostRuntime) -> Result<(), Fail> {
+    let plan = plan(rt.alloc(), b"slot 2\nscript 1\ntwohead\nend\n")?;
     assert!(rt;
-        matches!(&parts, Some(parts) if parts.version == Version::Two { slot: 2 }
-            && parts.net.generals() == 3
-            && parts.order.get() == 1
-            && parts.scripts.len() == 1
-            && parts.master[..4] == [0x01, 0x23, 0x45, 0x67]
-            && parts.master[8..12] == [0xab, 0xcd, 0xef, 0x00])
+        matches!(&plan, Some(plan) if plan.version() == Version::Two { slot: 2 }
+            && plan.net().generals() == 3
+            && plan.order().get() == 1
+            && plan.scripts().len() == 1
+            && plan.master()[..4] == [0x01, 0x23, 0x45, 0x67]
+            && plan.master()[8..12] == [0xab, 0xcd, 0xef, 0x00])
     );
     Ok(())
 }

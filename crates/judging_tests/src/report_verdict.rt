@@ -10,7 +10,7 @@ use gen_ots::SigRoom;
 use gen_report::*;
 use gen_tree::Signature;
 use gen_types::{GeneralNo, OrderNo, OrderSet, Path, TreeHeight};
-use gen_world::Decision;
+use gen_scenario::Decision;
 use std::alloc::{AllocError, Global};
 use std::test::*;
 

@@ -18,7 +18,7 @@ pub(crate) const TWO_SCRIPTS: &[u8] = b"\
 /// The scenario of a text.
 pub(crate) fn scenario_of(alloc: Global, text: &[u8]) -> Result<Scenario, Fail> {
     match read_scenario(alloc, text)? {
-        ScenarioText::Signed(text) => Ok(text.into_scenario(alloc)?),
+        ScenarioText::Signed(text) => Ok(Scenario::of_plan(alloc, text)?),
         ScenarioText::Plain(_) => Err("no seed".into()),
     }
 }
@@ -32,7 +32,7 @@ pub(crate) fn part_of(alloc: Global, scenario: &Scenario, general: u8) -> Result
 }
 
 /// The scenario of version 2 on a network, in which nobody has a script.
-#[tactic(auto, using(gen_world::proofs::ScriptPairs::no_scripts))]
+#[tactic(auto, using(gen_scenario::proofs::ScriptPairs::no_scripts))]
 pub(crate) fn without_scripts(
     alloc: Global,
     net: Net,

@@ -9,7 +9,7 @@ use std::alloc::Global;
 use std::test::Fail;
 
 /// The scenario with order 1 in which nobody has a script.
-#[tactic(auto, using(gen_world::proofs::ScriptPairs::no_scripts))]
+#[tactic(auto, using(gen_scenario::proofs::ScriptPairs::no_scripts))]
 pub(crate) fn without_scripts(
     alloc: Global,
     n: u8,

@@ -3,10 +3,10 @@ use Rattle.std.specs.Prelude.{ℕ, ◌≡◌, ◌≢◌, ◌<◌, ◌↔◌, Lis
 use Rattle.gen_net.specs.Network.{Network, rounds}
 use Rattle.gen_net.specs.declared.message.Message.{Message}
 use Rattle.gen_net.specs.Run.{Run}
-use Rattle.gen_core.specs.Seeing.{State, HasSeen}
+use Rattle.gen_core.specs.Seeing.{Lieutenant, HasSeen}
 use Rattle.gen_core.specs.declared.sending.Outgoing.{Outgoing}
 use Rattle.gen_core.specs.Sending.{outgoing}
-use Rattle.gen_world.specs.World.{IsRelay}
+use Rattle.gen_scenario.specs.World.{IsRelay}
 
 -- the message is one of these sends of this general
 abbrev pub IsAmong : ℕ → List Outgoing → Message → Type 0
@@ -19,14 +19,14 @@ RelayedBy net run g l message =
     (message.from ≡ g) × (l < rounds net) × IsRelay net run g l message
 
 -- he is a lieutenant who has seen the first k rounds of the run
-pub record IsReady (net : Network) (run : Run) (k : ℕ) (state : State) : Type 0 where
+pub record IsReady (net : Network) (run : Run) (k : ℕ) (state : Lieutenant) : Type 0 where
   pub lieutenant : state.me ≢ 0
   pub general : state.me < net.generals
   pub gone : state.gone ≡ k
   pub seen : HasSeen net run state
 
 -- the numbers of these lieutenants
-abbrev pub numbers_of : List State → List ℕ
+abbrev pub numbers_of : List Lieutenant → List ℕ
 numbers_of states = map (λ state. state.me) states
 
 -- exactly what one of these lieutenants relays after round l is in the list

@@ -1,5 +1,5 @@
 use Rattle.std.proofs.Common.{◌≡◌, ℕ, arith}
-use Rattle.gen_world.proofs.Worlds.{pushed_each, length_pushed}
+use Rattle.gen_general.proofs.Worlds.{pushed_each, length_pushed}
 use Rattle.gen_async.specs.Actors.{ActorState}
 use Rattle.gen_async.proofs.machine.add_actors.Goals as goal
 

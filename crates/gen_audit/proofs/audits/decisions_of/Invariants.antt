@@ -1,5 +1,5 @@
 use Rattle.std.proofs.Common.{◌≡◌, ◌++◌, All, map}
-use Rattle.gen_world.specs.declared.scenario.Decision.{Decision}
+use Rattle.gen_scenario.specs.declared.scenario.Decision.{Decision}
 use Rattle.gen_audit.specs.Verdict.{IsDecision}
 use Rattle.gen_audit.proofs.audits.decisions_of.Given as goal
 

@@ -3,12 +3,12 @@ use Rattle.std.proofs.lemmas.List.{nil_from_length}
 use Rattle.std.proofs.lemmas.List.Elements.{All-cons, All-nil, All-same}
 use Rattle.std.proofs.lemmas.Result.{err_from_is_err_and}
 use Rattle.gen_log.specs.Fields.{AreBelow}
-use Rattle.gen_local.specs.Shown.{ShownLog}
+use Rattle.gen_log.specs.Writing.{LogBytes}
 use Rattle.gen_audit.specs.BundleMaking.{exhibit_test, shown_general}
 use Rattle.gen_audit.proofs.BundleBehind.{test_goes_on, test_ends, test_is_done}
 use Rattle.gen_audit.proofs.bundle_rules.test_each_exhibit.Goals as goal
 
-abbrev OfBytes : ShownLog → Type 0
+abbrev OfBytes : LogBytes → Type 0
 OfBytes x = AreBelow 256 x.bytes
 
 pub returns-in_err-test_exhibit-clause-value : goal.returns-in_err-test_exhibit-clause-value

@@ -1,6 +1,6 @@
 use Rattle.std.proofs.Common.{◌++◌, List, sym, ap, ◌∙◌}
 use Rattle.std.specs.List.{flat_map}
-use Rattle.gen_local.specs.Shown.{ShownLog}
+use Rattle.gen_log.specs.Writing.{LogBytes}
 use Rattle.gen_audit.specs.Collecting.{shown_found}
 use Rattle.gen_audit.proofs.AllFound.{all_found}
 use Rattle.gen_audit.proofs.findings_collected.collected.Goals as goal
@@ -19,7 +19,7 @@ returns c =
     let pair = c.add_unjoined.new.findings.items in
     let all = c.add_nobody.new.findings.items in
     all_found b rest c.requires.rest reports c.requires.reports amounts read between pair all (record {
-      first = c.in_ok-add_amounts.ensures ∙ ap (λ xs. xs ++ flat_map (shown_found c.exhibits.result.now) rest) c.new-findings.ensures.items ∙ ap (λ (xs : List ShownLog). flat_map (shown_found xs) rest) c.exhibits.ensures;
+      first = c.in_ok-add_amounts.ensures ∙ ap (λ xs. xs ++ flat_map (shown_found c.exhibits.result.now) rest) c.new-findings.ensures.items ∙ ap (λ (xs : List LogBytes). flat_map (shown_found xs) rest) c.exhibits.ensures;
       second = c.in_ok-add_reports.ensures;
       third = rw (← c.header.ensures.value, ← c.faulty.ensures) c.in_ok-add_matched.ensures;
       fourth = rw (← c.header-2.ensures.value, ← c.net.ensures.value, ← c.walks.ensures) c.in_ok-add_unjoined.ensures;

@@ -1,4 +1,4 @@
-use Rattle.gen_audit.proofs.Worlds.{world_is_supported, world_is_accepted, shown_are_logs, sealed_are_shown}
+use Rattle.gen_audit.proofs.Worlds.{world_is_supported, world_is_accepted, shown_are_logs}
 use Rattle.gen_audit.proofs.laws.own_runs_are_accepted.Goals as goal
 
 pub returns-clause-supported : goal.returns-clause-supported
@@ -9,6 +9,3 @@ returns-clause-accepted c = world_is_accepted
 
 pub returns-clause-shown : goal.returns-clause-shown
 returns-clause-shown c = shown_are_logs
-
-pub returns-clause-sealed : goal.returns-clause-sealed
-returns-clause-sealed c = sealed_are_shown

@@ -1,7 +1,7 @@
 use Rattle.std.proofs.Common.{List, ◌++◌, OnOk, subst}
 use Rattle.gen_local.specs.Opened.{exhibits_in}
 use Rattle.gen_local.specs.Report.{AreReportsOf}
-use Rattle.gen_local.specs.Shown.{ShownLog}
+use Rattle.gen_log.specs.Writing.{LogBytes}
 use Rattle.gen_local.proofs.Grouped.{one_behind_another}
 use Rattle.gen_local.proofs.grouping.put_group.Goals as goal
 
@@ -15,4 +15,4 @@ returns-clause-put c = λ before are.
     let two = c.in_ok-put_report-2.ensures.put (before ++ exhibits_in g.first) one in
     let three = c.in_ok-put_report-3.ensures.put ((before ++ exhibits_in g.first) ++ exhibits_in g.second) two in
     let four = c.put_report-4.ensures.put (((before ++ exhibits_in g.first) ++ exhibits_in g.second) ++ exhibits_in g.third) three in
-    subst (λ (xs : List ShownLog). OnOk c.put_report-4.result (AreReportsOf c.args.header.now xs c.put_report-4.new.reports.items)) (one_behind_another before (exhibits_in g.first) (exhibits_in g.second) (exhibits_in g.third) (exhibits_in g.fourth)) four
+    subst (λ (xs : List LogBytes). OnOk c.put_report-4.result (AreReportsOf c.args.header.now xs c.put_report-4.new.reports.items)) (one_behind_another before (exhibits_in g.first) (exhibits_in g.second) (exhibits_in g.third) (exhibits_in g.fourth)) four

@@ -1,5 +1,5 @@
 use Rattle.std.proofs.Common.{◌≡◌, length}
-use Rattle.gen_world.specs.Scenario.{scripted}
+use Rattle.gen_scenario.specs.Scenario.{scripted}
 use Rattle.gen_report.specs.BlocksReading.{all_scripted}
 use Rattle.gen_report.proofs.blocks.test_paths.Given as goal
 

@@ -5,7 +5,7 @@ use Rattle.gen_edge.specs.Frames.{carried, edge_frames}
 use Rattle.gen_edge.specs.Tied.{ComesNext}
 use Rattle.gen_edge.proofs.WorldFrames.{comes_by_pass}
 use Rattle.gen_net.specs.Network.{Network, AreNeighbours}
-use Rattle.gen_world.proofs.Worlds.{near_known}
+use Rattle.gen_general.proofs.Worlds.{near_known}
 use Rattle.gen_threads.specs.Edges.{HasPut, edge_at}
 use Rattle.gen_threads.specs.Turns.{place_of_next}
 use Rattle.gen_threads.proofs.Nears.{place_kept}

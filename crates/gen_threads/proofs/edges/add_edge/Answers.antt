@@ -2,7 +2,7 @@ use Rattle.std.proofs.Common.{◌≡◌, ◌∙◌, ◌<◌, true, false, sym, r
 use Rattle.std.specs.List.{list_any}
 use Rattle.gen_types.proofs.Lists.{bool_cases}
 use Rattle.gen_net.specs.Edges.{joins}
-use Rattle.gen_world.proofs.Worlds.{near_known}
+use Rattle.gen_general.proofs.Worlds.{near_known}
 use Rattle.gen_threads.specs.declared.edges.Edges.{Edges}
 use Rattle.gen_threads.specs.Building.{HasMore}
 use Rattle.gen_threads.proofs.Making.{made_far, made_near, new_put, new_take, joined_back}

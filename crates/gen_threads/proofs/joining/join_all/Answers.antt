@@ -1,5 +1,5 @@
 use Rattle.std.proofs.Common.{rules, ℕ, subst, arith, vec_len}
-use Rattle.gen_world.specs.Scenario.{Scenario}
+use Rattle.gen_scenario.specs.Scenario.{Scenario}
 use Rattle.gen_threads.specs.declared.edges.Edges.{Edges}
 use Rattle.gen_threads.specs.Works.{IsPromise, IsTurn}
 use Rattle.gen_threads.proofs.Froms.{from_head, from_tail, from_push}

@@ -1,7 +1,7 @@
 use Rattle.std.proofs.Common.{◌≡◌, ◌∙◌, sym, ap, false, Some}
-use Rattle.gen_world.specs.Scenario.{has_script}
-use Rattle.gen_world.specs.Loops.Worlds.{ring_under}
-use Rattle.gen_world.proofs.ScriptsOf.{without_script}
+use Rattle.gen_scenario.specs.Scenario.{has_script}
+use Rattle.gen_scenario.specs.Rings.{ring_under}
+use Rattle.gen_scenario.proofs.ScriptsOf.{without_script}
 use Rattle.gen_threads.proofs.Gathering.{may_run}
 use Rattle.gen_threads.proofs.own_threads_tests.ring_of.Goals as goal
 

@@ -1,5 +1,5 @@
 use Rattle.std.proofs.Common.{◌≡◌, refl, ap, arith}
-use Rattle.gen_world.proofs.Recorders.{sent_to_last}
+use Rattle.gen_general.proofs.Recorders.{sent_to_last}
 use Rattle.gen_threads.proofs.Turning.{puts_on, puts_end, putting_first}
 use Rattle.gen_threads.proofs.rounds.put_all.Goals as goal
 

@@ -2,7 +2,7 @@ use Rattle.std.proofs.Common.{◌≡◌, ◌∙◌, ◌+◌, ap, true, false, ar
 use Rattle.std.specs.List.{list_any}
 use Rattle.gen_edge.specs.Frames.{Parcels, round}
 use Rattle.gen_net.specs.Edges.{joins}
-use Rattle.gen_world.proofs.Worlds.{near_known}
+use Rattle.gen_general.proofs.Worlds.{near_known}
 use Rattle.gen_threads.specs.Turns.{HasPutUntil}
 use Rattle.gen_threads.proofs.Passing.{near_inside}
 use Rattle.gen_threads.proofs.Turning.{puts_on, putting_far, putting_near, putting_next, putting_frame}

@@ -1,8 +1,8 @@
 use Rattle.std.proofs.Common.{◌∙◌, sym, subst}
 use Rattle.std.specs.Prelude.{Option}
 use Rattle.gen_tree.specs.Rings.{Ring}
-use Rattle.gen_world.specs.Scenario.{header_of}
-use Rattle.gen_world.proofs.Recorders.{begins}
+use Rattle.gen_scenario.specs.Scenario.{header_of}
+use Rattle.gen_general.proofs.Recorders.{begins}
 use Rattle.gen_threads.specs.Ending.{RingComesBack}
 use Rattle.gen_threads.proofs.Ending.{carried_passes}
 use Rattle.gen_threads.proofs.Rings.{ring_begun}
@@ -25,11 +25,11 @@ returns-in_err-put_all-clause-passes g c = record {
 pub returns-in_err-put_all-clause-ring : goal.returns-in_err-put_all-clause-ring
 returns-in_err-put_all-clause-ring g c =
     let s = c.args.part.now.scenario in let p = c.args.recorder.now in
-    let begun = ring_begun s c.part-lawful.ensures.lawful.lawful p.seat c.requires.records.seat.part.header p.seat.ring c.begin_round.new.self.seat.ring c.in_ok-begin_round.ensures.ok.seat.ring in
-    subst (λ (ring : Option Ring). RingComesBack (header_of s) p.seat.ring ring) (sym c.put_all.ensures.ring) begun
+    let begun = ring_begun s c.part-lawful.ensures.lawful.lawful p.standing c.requires.records.standing.part.header p.standing.ring c.begin_round.new.self.standing.ring c.in_ok-begin_round.ensures.ok.standing.ring in
+    subst (λ (ring : Option Ring). RingComesBack (header_of s) p.standing.ring ring) (sym c.put_all.ensures.ring) begun
 
 pub returns-clause-ring : goal.returns-clause-ring
 returns-clause-ring g c =
     let s = c.args.part.now.scenario in let p = c.args.recorder.now in
-    let begun = ring_begun s c.part-lawful.ensures.lawful.lawful p.seat c.requires.records.seat.part.header p.seat.ring c.begin_round.new.self.seat.ring c.in_ok-begin_round.ensures.ok.seat.ring in
-    subst (λ (ring : Option Ring). RingComesBack (header_of s) p.seat.ring ring) (sym (c.take_all.ensures.ring ∙ c.put_all.ensures.ring)) begun
+    let begun = ring_begun s c.part-lawful.ensures.lawful.lawful p.standing c.requires.records.standing.part.header p.standing.ring c.begin_round.new.self.standing.ring c.in_ok-begin_round.ensures.ok.standing.ring in
+    subst (λ (ring : Option Ring). RingComesBack (header_of s) p.standing.ring ring) (sym (c.take_all.ensures.ring ∙ c.put_all.ensures.ring)) begun

@@ -2,7 +2,7 @@ use Rattle.std.proofs.Common.{◌≡◌, ◌∙◌, ap, true, false, arith}
 use Rattle.std.specs.List.{list_any}
 use Rattle.gen_edge.specs.Frames.{carried}
 use Rattle.gen_net.specs.Edges.{joins}
-use Rattle.gen_world.proofs.Worlds.{near_known}
+use Rattle.gen_general.proofs.Worlds.{near_known}
 use Rattle.gen_threads.specs.Turns.{HasTakenUntil}
 use Rattle.gen_threads.proofs.Passing.{near_inside}
 use Rattle.gen_threads.proofs.Turning.{takes_on, taking_far, taking_near, taking_next}

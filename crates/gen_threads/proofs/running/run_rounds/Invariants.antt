@@ -1,5 +1,5 @@
-use Rattle.gen_world.specs.Loops.Records.{RecordsAfter}
-use Rattle.gen_world.specs.Scenario.{header_of}
+use Rattle.gen_general.specs.DrivenRecords.{RecordsAfter}
+use Rattle.gen_scenario.specs.Scenario.{header_of}
 use Rattle.gen_threads.specs.Edges.{HaveCarried}
 use Rattle.gen_threads.specs.Ending.{RingComesBack}
 use Rattle.gen_threads.proofs.running.run_rounds.Given as goal
@@ -8,5 +8,5 @@ abbrev pub invariant-rounds : goal.invariant-rounds
 invariant-rounds g l = record {
   records : RecordsAfter l.part.scenario l.gone l.part.me l.recorder;
   carried : HaveCarried l.edges l.part.scenario l.gone l.part.me l.puts.items l.takes.items;
-  ring : RingComesBack (header_of l.part.scenario) l.initial.recorder.seat.ring l.recorder.seat.ring;
+  ring : RingComesBack (header_of l.part.scenario) l.initial.recorder.standing.ring l.recorder.standing.ring;
 }

@@ -2,9 +2,9 @@ use Rattle.std.proofs.Common.{◌∙◌, subst}
 use Rattle.std.specs.Prelude.{Option}
 use Rattle.gen_tree.specs.Rings.{Ring}
 use Rattle.gen_net.specs.Header.{RunHeader}
-use Rattle.gen_world.specs.Recording.{RingSealed}
-use Rattle.gen_world.specs.Scenario.{header_of}
-use Rattle.gen_world.proofs.Recorders.{logs_by}
+use Rattle.gen_general.specs.Recording.{RingSealed}
+use Rattle.gen_scenario.specs.Scenario.{header_of}
+use Rattle.gen_general.proofs.Recorders.{logs_by}
 use Rattle.gen_threads.specs.Ending.{RingComesBack}
 use Rattle.gen_threads.proofs.Ending.{carried_passes}
 use Rattle.gen_threads.proofs.Rings.{ring_then, ring_sealed}
@@ -17,9 +17,9 @@ returns-in-Err-clause-passes g c =
 pub returns-in-Ok-finish-clause-ring : goal.returns-in-Ok-finish-clause-ring
 returns-in-Ok-finish-clause-ring g c =
     let s = c.args.part.now.scenario in let h = header_of s in
-    let last = c.run_rounds.new.recorder.seat in
+    let last = c.run_rounds.new.recorder.standing in
     let ran = subst (λ (ring : Option Ring). RingComesBack h ring last.ring) c.in-Ok.ensures.1 c.run_rounds.ensures.ring in
-    let closed = subst (λ (x : RunHeader). RingSealed x last.ring c.in-Ok-finish.end.ring) c.in_default.ensures.records.seat.part.header c.in-Ok-finish.ensures.ring in
+    let closed = subst (λ (x : RunHeader). RingSealed x last.ring c.in-Ok-finish.end.ring) c.in_default.ensures.records.standing.part.header c.in-Ok-finish.ensures.ring in
     ring_then h c.args.ring last.ring c.in-Ok-finish.end.ring ran (ring_sealed h last.ring c.in-Ok-finish.end.ring closed)
 
 pub returns-in-Ok-finish-clause-logs : goal.returns-in-Ok-finish-clause-logs

@@ -1,7 +1,7 @@
 use Rattle.std.proofs.Common.{◌≡◌, ◌∙◌, ◌+◌, ap, true, false, arith}
 use Rattle.std.specs.List.{list_any}
 use Rattle.gen_net.specs.Edges.{joins}
-use Rattle.gen_world.proofs.Worlds.{near_known}
+use Rattle.gen_general.proofs.Worlds.{near_known}
 use Rattle.gen_threads.specs.Edges.{IsPutOn}
 use Rattle.gen_threads.proofs.Nears.{place_behind, place_kept}
 use Rattle.gen_threads.proofs.Passing.{near_inside}

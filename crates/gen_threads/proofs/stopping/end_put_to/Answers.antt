@@ -2,7 +2,7 @@ use Rattle.std.proofs.Common.{sym, subst, arith}
 use Rattle.gen_edge.specs.declared.passes.Edge.{Edge}
 use Rattle.gen_edge.specs.Ends.{IsPutPassOf}
 use Rattle.gen_net.specs.Network.{rounds}
-use Rattle.gen_world.proofs.Worlds.{set_done}
+use Rattle.gen_general.proofs.Worlds.{set_done}
 use Rattle.gen_threads.specs.Edges.{IsPutOn, edge_at}
 use Rattle.gen_threads.specs.Turns.{IsPutOver}
 use Rattle.gen_threads.proofs.Passing.{is_there, is_that, near_some, near_inside, near_at, near_set}

@@ -2,7 +2,7 @@ use Rattle.std.proofs.Common.{◌≡◌, ◌<◌, ◌-◌, ◌∙◌, ℕ, map, 
 use Rattle.std.specs.List.{range_with_len}
 use Rattle.rayon.specs.Numbers.{nat_range}
 use Rattle.rayon.proofs.ToStd.{nat_range-All}
-use Rattle.gen_world.specs.Trees.{general_tree}
+use Rattle.gen_scenario.specs.Trees.{general_tree}
 use Rattle.gen_threads.proofs.TreesMade.{oks_are_map, ok_of_match}
 use Rattle.gen_threads.proofs.trees.make_trees.Goals as goal
 

@@ -1,7 +1,7 @@
 use Rattle.std.proofs.Common.{◌≡◌, ◌∙◌, sym, ap, true, false, Some}
-use Rattle.gen_world.specs.Scenario.{has_script}
-use Rattle.gen_world.specs.Loops.Worlds.{ring_under}
-use Rattle.gen_world.proofs.ScriptsOf.{with_script, without_script}
+use Rattle.gen_scenario.specs.Scenario.{has_script}
+use Rattle.gen_scenario.specs.Rings.{ring_under}
+use Rattle.gen_scenario.proofs.ScriptsOf.{with_script, without_script}
 use Rattle.gen_threads.proofs.works.ring_for.Goals as goal
 
 pub returns-then-has_script : goal.returns-then-has_script

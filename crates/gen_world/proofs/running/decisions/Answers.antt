@@ -1,7 +1,7 @@
 use Rattle.std.proofs.Common.{◌≡◌, ◌≢◌, ◌∙◌, get_or, sym, ap}
 use Rattle.std.proofs.lemmas.List.Elements.{All-push, All-get_or}
-use Rattle.gen_core.specs.Seeing.{State, HasSeen}
-use Rattle.gen_world.specs.World.{IsDecision}
+use Rattle.gen_core.specs.Seeing.{Lieutenant, HasSeen}
+use Rattle.gen_scenario.specs.World.{IsDecision}
 use Rattle.gen_world.proofs.Rounding.{generals_pushed, lieutenants_decision}
 use Rattle.gen_world.proofs.running.decisions.Goals as goal
 
@@ -11,8 +11,8 @@ loop-lieutenant-preserved c =
     let i = c.loop-lieutenant.lieutenant-index in
     let d = c.lieutenant-item.result in
     let out = c.loop-lieutenant.out.items in
-    let me : c.me-general.result ≡ (get_or states i d).me = c.me-general.ensures ∙ ap (λ (s : State). s.me) c.lieutenant-item.is in
-    let lieutenant = All-get_or (λ (s : State). (s.gone ≡ s.rounds) × (s.me ≢ 0)) states i d c.loop-lieutenant-test.true c.requires in
+    let me : c.me-general.result ≡ (get_or states i d).me = c.me-general.ensures ∙ ap (λ (s : Lieutenant). s.me) c.lieutenant-item.is in
+    let lieutenant = All-get_or (λ (s : Lieutenant). (s.gone ≡ s.rounds) × (s.me ≢ 0)) states i d c.loop-lieutenant-test.true c.requires in
     record {
       generals = rw c.in_ok-push-2.ensures.items (generals_pushed out _ states i d c.loop-lieutenant.invariant.generals c.loop-lieutenant-test.true me);
       each = λ net run saw.

@@ -2,9 +2,9 @@ use Rattle.std.proofs.Common.{◌≡◌, ◌∷◌, All, map, take}
 use Rattle.gen_net.specs.Network.{Network}
 use Rattle.gen_net.specs.Run.{Run}
 use Rattle.gen_core.specs.Seeing.{HasSeen}
-use Rattle.gen_world.specs.World.{IsDecision}
+use Rattle.gen_scenario.specs.World.{IsDecision}
 use Rattle.gen_world.specs.Loops.Rounds.{numbers_of}
-use Rattle.gen_world.specs.declared.scenario.Decision.{Decision}
+use Rattle.gen_scenario.specs.declared.scenario.Decision.{Decision}
 use Rattle.gen_world.proofs.running.decisions.Given as goal
 
 abbrev pub invariant-loop-lieutenant : goal.invariant-loop-lieutenant

@@ -4,14 +4,14 @@ use Rattle.std.proofs.lemmas.List.Elements.{All-weaker}
 use Rattle.gen_net.specs.Network.{rounds}
 use Rattle.gen_net.specs.Run.{Run}
 use Rattle.gen_core.specs.Seeing.{HasSeen}
-use Rattle.gen_world.specs.World.{IsOutcome}
+use Rattle.gen_scenario.specs.World.{IsOutcome}
 use Rattle.gen_world.specs.Loops.Rounds.{IsReady, AreRelays, numbers_of}
-use Rattle.gen_world.proofs.Growing.{AreNext, first_round, world_more, world_of}
-use Rattle.gen_world.proofs.Obeying.{all_obey}
+use Rattle.gen_scenario.proofs.Growing.{AreNext, first_round, world_more, world_of}
+use Rattle.gen_scenario.proofs.Obeying.{all_obey}
 use Rattle.gen_world.proofs.Rounding.{written_back, next_of_relays, ready_longer}
 use Rattle.gen_world.proofs.running.run_plain.Goals as goal
-use Rattle.gen_world.specs.Deciding.{AreSignedDecisions}
-use Rattle.gen_world.proofs.DecisionsMade.{signed_decisions}
+use Rattle.gen_scenario.specs.Deciding.{AreSignedDecisions}
+use Rattle.gen_scenario.proofs.DecisionsMade.{signed_decisions}
 
 pub loop-gone-init : goal.loop-gone-init
 loop-gone-init c =

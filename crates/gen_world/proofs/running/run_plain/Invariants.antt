@@ -1,7 +1,7 @@
 use Rattle.std.proofs.Common.{◌≡◌, ◌+◌, ◌∷◌, All}
 use Rattle.std.specs.List.{range_with_len}
 use Rattle.gen_world.specs.Loops.Rounds.{IsReady, numbers_of}
-use Rattle.gen_world.proofs.Growing.{WorldTo}
+use Rattle.gen_scenario.proofs.Growing.{WorldTo}
 use Rattle.gen_world.proofs.running.run_plain.Given as goal
 
 abbrev pub invariant-loop-gone : goal.invariant-loop-gone

@@ -1,8 +1,8 @@
 use Rattle.std.proofs.Common.{◌<◌, sym, subst, arith}
 use Rattle.gen_net.specs.Network.{rounds}
-use Rattle.gen_world.specs.Recording.{Recorded}
-use Rattle.gen_world.specs.Loops.Records.{RecordsAfter}
-use Rattle.gen_world.proofs.Worlds.{decided_more}
+use Rattle.gen_general.specs.Recording.{Recorder}
+use Rattle.gen_general.specs.DrivenRecords.{RecordsAfter}
+use Rattle.gen_general.proofs.Worlds.{decided_more}
 use Rattle.gen_world.proofs.world.decide_all.Goals as goal
 
 pub parts-preserved : goal.parts-preserved
@@ -11,6 +11,6 @@ parts-preserved c =
     let g = c.parts.index in
     let p = c.index-parts-index.result in
     let known : g < s.net.generals = omega (arith, c.parts-test.true, c.requires.count) in
-    let stood = subst (λ (x : Recorded). RecordsAfter s (rounds s.net) g x) (sym c.index-parts-index.is) (c.requires.each g p known) in
-    let added = rw stood.seat.part.me at c.in_ok-add_decision.ensures in
+    let stood = subst (λ (x : Recorder). RecordsAfter s (rounds s.net) g x) (sym c.index-parts-index.is) (c.requires.each g p known) in
+    let added = rw stood.standing.part.me at c.in_ok-add_decision.ensures in
     decided_more s g c.parts.decisions.items c.add_decision.new.decisions.items c.parts.invariant added

@@ -1,6 +1,6 @@
 use Rattle.std.proofs.Common.{◌≡◌, ◌∙◌, refl, ap, reverse, length, arith}
 use Rattle.std.proofs.lemmas.List.{reverse-reverse}
-use Rattle.gen_world.proofs.Recorders.{none_left}
+use Rattle.gen_general.proofs.Recorders.{none_left}
 use Rattle.gen_world.proofs.world.finish_all.Goals as goal
 
 pub loop-part-init : goal.loop-part-init

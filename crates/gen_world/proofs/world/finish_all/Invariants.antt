@@ -1,6 +1,6 @@
 use Rattle.std.proofs.Common.{◌≡◌, ◌++◌, reverse, length}
 use Rattle.std.specs.List.{flat_map}
-use Rattle.gen_world.specs.Recording.{logs_written}
+use Rattle.gen_general.specs.Recording.{logs_written}
 use Rattle.gen_world.proofs.world.finish_all.Given as goal
 
 abbrev pub invariant-loop-part : goal.invariant-loop-part

@@ -1,5 +1,5 @@
 use Rattle.std.proofs.Common.{◌≡◌, ◌<◌, ◌+◌, ◌∙◌, take, length, slice_set, sym, subst, arith}
-use Rattle.gen_world.specs.Loops.Records.{AllHear}
+use Rattle.gen_general.specs.DrivenRecords.{AllHear}
 use Rattle.gen_world.proofs.RowHearing.{IsNextRow, has_place, sender_known, next_act, row_heard, all_heard}
 use Rattle.gen_world.proofs.world.hear_all.Goals as goal
 

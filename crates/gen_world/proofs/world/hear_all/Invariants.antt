@@ -1,5 +1,5 @@
 use Rattle.std.proofs.Common.{take}
-use Rattle.gen_world.specs.Loops.Records.{AllHear}
+use Rattle.gen_general.specs.DrivenRecords.{AllHear}
 use Rattle.gen_world.proofs.world.hear_all.Given as goal
 
 abbrev pub invariant-rows : goal.invariant-rows

@@ -1,6 +1,6 @@
 use Rattle.std.proofs.Common.{◌≡◌, ◌≤◌, ◌<◌, ℕ, length, slice_index_or, vec_capacity, vec_len}
-use Rattle.gen_world.specs.Recording.{Recorded}
-use Rattle.gen_world.specs.Loops.Records.{RecordsAfter}
+use Rattle.gen_general.specs.Recording.{Recorder}
+use Rattle.gen_general.specs.DrivenRecords.{RecordsAfter}
 use Rattle.gen_world.proofs.world.make_all.Given as goal
 
 abbrev pub invariant-generals : goal.invariant-generals
@@ -8,5 +8,5 @@ invariant-generals l = record {
   count : length l.parts.items ≡ l.number;
   len : vec_len l.parts ≡ l.number;
   room : l.generals ≤ vec_capacity l.parts;
-  each : (g : ℕ) (d : Recorded) → g < l.number → RecordsAfter l.scenario 0 g (slice_index_or l.parts.items g d);
+  each : (g : ℕ) (d : Recorder) → g < l.number → RecordsAfter l.scenario 0 g (slice_index_or l.parts.items g d);
 }

@@ -1,8 +1,8 @@
 use Rattle.std.proofs.Common.{◌≡◌, ◌∙◌, ap, subst, arith}
 use Rattle.gen_net.specs.Network.{rounds}
-use Rattle.gen_world.specs.Loops.Records.{AllRecord}
-use Rattle.gen_world.proofs.Worlds.{rows_none, rows_round, rows_all}
-use Rattle.gen_world.proofs.Recorders.{all_logs}
+use Rattle.gen_general.specs.DrivenRecords.{AllRecord}
+use Rattle.gen_general.proofs.Worlds.{rows_none, rows_round, rows_all}
+use Rattle.gen_general.proofs.Recorders.{all_logs}
 use Rattle.gen_world.proofs.world.run_rounds.Goals as goal
 
 pub rounds-init : goal.rounds-init

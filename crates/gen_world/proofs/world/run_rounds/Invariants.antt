@@ -1,6 +1,6 @@
 use Rattle.std.proofs.Common.{◌≡◌}
-use Rattle.gen_world.specs.Loops.Worlds.{rows_until}
-use Rattle.gen_world.specs.Loops.Records.{AllRecord}
+use Rattle.gen_general.specs.Driving.{rows_until}
+use Rattle.gen_general.specs.DrivenRecords.{AllRecord}
 use Rattle.gen_world.proofs.world.run_rounds.Given as goal
 
 abbrev pub invariant-rounds : goal.invariant-rounds

@@ -1,8 +1,8 @@
 use Rattle.std.proofs.Common.{◌≡◌, ◌<◌, ◌++◌, ◌∙◌, [], ap, arith, length, List}
 use Rattle.std.proofs.lemmas.List.{length-set}
-use Rattle.gen_world.specs.Rows.{Row}
-use Rattle.gen_world.specs.Loops.Records.{RecordsAfter, HasHeard}
-use Rattle.gen_world.proofs.Worlds.{set_done, set_rest, grows, sender_rows, senders_none, senders_all}
+use Rattle.gen_scenario.specs.Rows.{FrameRow}
+use Rattle.gen_general.specs.DrivenRecords.{RecordsAfter, HasHeard}
+use Rattle.gen_general.proofs.Worlds.{set_done, set_rest, grows, sender_rows, senders_none, senders_all}
 use Rattle.gen_world.proofs.world.send_all.Goals as goal
 
 pub senders-init : goal.senders-init
@@ -38,4 +38,4 @@ returns-clause-frames c =
     let s = c.args.scenario.now in
     let stop : c.senders.number ≡ s.net.generals = omega (arith, c.senders-test.false, c.senders.auto.number-end, c.generals-number-end.ensures.value, ap (λ x. x.generals) c.net.ensures.value, ap (λ x. x.network.generals) c.header.ensures.value) in
     let all = rw stop at c.senders.invariant.frames in
-    all ∙ ap (λ (xs : List Row). c.args.frames.now.items ++ xs) (senders_all s c.args.gone)
+    all ∙ ap (λ (xs : List FrameRow). c.args.frames.now.items ++ xs) (senders_all s c.args.gone)

@@ -1,7 +1,7 @@
 use Rattle.std.proofs.Common.{◌≡◌, sym, ap, arith}
 use Rattle.std.proofs.lemmas.List.{append-nil}
-use Rattle.gen_world.proofs.Worlds.{grows, rows_more}
-use Rattle.gen_world.proofs.Recorders.{begins, sent_to_last}
+use Rattle.gen_general.proofs.Worlds.{grows, rows_more}
+use Rattle.gen_general.proofs.Recorders.{begins, sent_to_last}
 use Rattle.gen_world.proofs.world.send_all_of.Goals as goal
 
 pub receivers-init : goal.receivers-init

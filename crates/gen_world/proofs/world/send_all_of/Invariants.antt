@@ -1,7 +1,8 @@
 use Rattle.std.proofs.Common.{◌≡◌, ◌++◌}
 use Rattle.std.specs.List.{range_with_len}
-use Rattle.gen_world.specs.Loops.Worlds.{near_of, rows_for}
-use Rattle.gen_world.specs.Loops.Records.{HasSent}
+use Rattle.gen_general.specs.Driving.{rows_for}
+use Rattle.gen_scenario.specs.SignedWorld.{near_of}
+use Rattle.gen_general.specs.DrivenRecords.{HasSent}
 use Rattle.gen_world.proofs.world.send_all_of.Given as goal
 
 abbrev pub invariant-receivers : goal.invariant-receivers

@@ -3,10 +3,10 @@ use Rattle.std.specs.List.{list_any, range_with_len}
 use Rattle.gen_types.specs.Members.{filter_range_has}
 use Rattle.gen_types.proofs.Lists.{bool_cases}
 use Rattle.gen_net.specs.Edges.{joins}
-use Rattle.gen_world.specs.Loops.Worlds.{near_of}
-use Rattle.gen_world.proofs.Worlds.{near_known, rows_far, rows_near}
-use Rattle.gen_world.proofs.Recorders.{sent_far, sent_near}
-use Rattle.gen_world.proofs.LogPlaces.{may_send}
+use Rattle.gen_scenario.specs.SignedWorld.{near_of}
+use Rattle.gen_general.proofs.Worlds.{near_known, rows_far, rows_near}
+use Rattle.gen_general.proofs.Recorders.{sent_far, sent_near}
+use Rattle.gen_general.proofs.LogPlaces.{may_send}
 use Rattle.gen_world.proofs.world.send_one.Goals as goal
 
 pub returns-then-not-has_edge-clause-sent : goal.returns-then-not-has_edge-clause-sent
@@ -43,4 +43,4 @@ returns-clause-frames c =
     let both = rw (c.net-2.ensures.value, c.header-2.ensures.value) at c.has_edge.ensures in
     let near : list_any (joins c.args.from c.args.to) s.net.edges ≡ true = near_known s.net c.has_edge.result c.args.from c.args.to both ∙ elim (bool_cases c.has_edge.result) [ inl t ↦ t | inr f ↦ absurd cc ] in
     let pushed = rw c.new.ensures at c.in_ok-push.ensures.items in
-    rows_near s c.args.gone c.args.from c.args.to c.args.part.now.seat _ c.args.frames.now.items c.push.new.self.items near c.requires.sent.seat c.in_ok-parcels.ensures.frame pushed
+    rows_near s c.args.gone c.args.from c.args.to c.args.part.now.standing _ c.args.frames.now.items c.push.new.self.items near c.requires.sent.standing c.in_ok-parcels.ensures.frame pushed

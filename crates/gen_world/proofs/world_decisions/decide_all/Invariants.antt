@@ -1,6 +1,6 @@
 use Rattle.std.proofs.Common.{◌≡◌}
 use Rattle.std.specs.List.{range_with_len}
-use Rattle.gen_world.specs.Loops.Worlds.{decided_of}
+use Rattle.gen_general.specs.Driving.{decided_of}
 use Rattle.gen_world.proofs.world_decisions.decide_all.Given as goal
 
 abbrev pub invariant-parts : goal.invariant-parts

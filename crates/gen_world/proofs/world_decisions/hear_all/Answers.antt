@@ -1,5 +1,5 @@
 use Rattle.std.proofs.Common.{◌<◌, ap, arith}
-use Rattle.gen_world.proofs.SeatHearing.{receivers_done, receivers_rest}
+use Rattle.gen_world.proofs.ParticipantHearing.{receivers_done, receivers_rest}
 use Rattle.gen_world.proofs.world_decisions.hear_all.Goals as goal
 
 pub receivers-init : goal.receivers-init

@@ -1,6 +1,6 @@
 use Rattle.std.proofs.Common.{◌∙◌}
-use Rattle.gen_world.proofs.Worlds.{grows}
-use Rattle.gen_world.proofs.SeatHearing.{hears_more}
+use Rattle.gen_general.proofs.Worlds.{grows}
+use Rattle.gen_world.proofs.ParticipantHearing.{hears_more}
 use Rattle.gen_world.proofs.world_decisions.hear_all_of.Goals as goal
 
 pub senders-preserved : goal.senders-preserved

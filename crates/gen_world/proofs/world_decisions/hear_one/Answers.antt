@@ -3,11 +3,12 @@ use Rattle.std.specs.List.{list_any}
 use Rattle.std.proofs.lemmas.List.{get_or_default}
 use Rattle.gen_types.proofs.Lists.{bool_cases}
 use Rattle.gen_net.specs.Edges.{joins}
-use Rattle.gen_world.specs.Seat.{Seat}
-use Rattle.gen_world.specs.SeatLaws.{IsIn}
-use Rattle.gen_world.specs.Loops.Worlds.{hears_of, near_of}
-use Rattle.gen_world.proofs.Worlds.{near_known, at_same}
-use Rattle.gen_world.proofs.SeatHearing.{hear_far, hear_near}
+use Rattle.gen_general.specs.Participant.{Participant}
+use Rattle.gen_general.specs.ParticipantLaws.{IsIn}
+use Rattle.gen_general.specs.Driving.{hears_of}
+use Rattle.gen_scenario.specs.SignedWorld.{near_of}
+use Rattle.gen_general.proofs.Worlds.{near_known, at_same}
+use Rattle.gen_world.proofs.ParticipantHearing.{hear_far, hear_near}
 use Rattle.gen_world.proofs.world_decisions.hear_one.Goals as goal
 
 pub returns-then-not-has_edge-clause-heard : goal.returns-then-not-has_edge-clause-heard
@@ -27,10 +28,10 @@ returns-clause-heard c =
     let j : c.from.result ≡ c.args.from = c.from.ensures ∙ c.get.ensures.value in
     let p : c.index_mut.result.now ≡ slice_index_or ps c.args.to c.index_mut.result.now = rw i at c.index_mut.ensures.value in
     let pf : c.index.result.now ≡ slice_index_or ps c.args.from c.index.result.now = rw j at c.index.ensures in
-    let is = subst (λ (x : Seat). IsIn s c.args.gone c.args.to x) (sym p) (c.requires.all.each c.args.to c.index_mut.result.now c.requires.to) in
-    let by = subst (λ (x : Seat). IsIn s c.args.gone c.args.from x) (sym pf) (c.requires.all.each c.args.from c.index.result.now c.requires.from) in
+    let is = subst (λ (x : Participant). IsIn s c.args.gone c.args.to x) (sym p) (c.requires.all.each c.args.to c.index_mut.result.now c.requires.to) in
+    let by = subst (λ (x : Participant). IsIn s c.args.gone c.args.from x) (sym pf) (c.requires.all.each c.args.from c.index.result.now c.requires.from) in
     let hd = rw c.as_slice.ensures.value at c.in_ok-hear_with.ensures.ok in
     let one = hear_near s c.args.gone c.args.from c.args.to c.index_mut.result.now c.index.result.now c.hear_with.new.self _ near is by c.in_ok-parcels.ensures hd in
     let within : c.from-2.result < length ps = omega (arith, i, c.requires.to, c.requires.all.count) in
-    λ d. ap (λ (x : Seat). x.heard) (at_same ps c.from-2.result c.args.to c.hear_with.new.self d within (sym i)) ∙ one
-    ∙ ap (λ (x : Seat). x.heard ++ hears_of s c.args.gone c.args.to (near_of s.net c.args.to (c.args.from ∷ []))) (p ∙ get_or_default ps c.args.to c.index_mut.result.now d (omega (arith, c.requires.to, c.requires.all.count)))
+    λ d. ap (λ (x : Participant). x.heard) (at_same ps c.from-2.result c.args.to c.hear_with.new.self d within (sym i)) ∙ one
+    ∙ ap (λ (x : Participant). x.heard ++ hears_of s c.args.gone c.args.to (near_of s.net c.args.to (c.args.from ∷ []))) (p ∙ get_or_default ps c.args.to c.index_mut.result.now d (omega (arith, c.requires.to, c.requires.all.count)))

@@ -1,6 +1,6 @@
 use Rattle.std.proofs.Common.{arith}
-use Rattle.gen_world.specs.Loops.Worlds.{StandsAfter}
-use Rattle.gen_world.proofs.Worlds.{pushed_each, length_pushed}
+use Rattle.gen_general.specs.Driving.{StandsAfter}
+use Rattle.gen_general.proofs.Worlds.{pushed_each, length_pushed}
 use Rattle.gen_world.proofs.world_decisions.make_all.Goals as goal
 
 pub generals-preserved : goal.generals-preserved

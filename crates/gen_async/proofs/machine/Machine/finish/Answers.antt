@@ -1,6 +1,6 @@
 use Rattle.std.proofs.Common.{map}
 use Rattle.std.specs.List.{flat_map}
-use Rattle.gen_world.specs.Rows.{logs_of_all}
+use Rattle.gen_scenario.specs.Rows.{logs_of_all}
 use Rattle.gen_async.specs.Running.{logs_at, places_of}
 use Rattle.gen_async.proofs.Ending.{all_done, all_logs, logs_are}
 use Rattle.gen_async.proofs.machine.Machine.finish.Goals as goal

@@ -1,5 +1,5 @@
 use Rattle.std.proofs.Common.{◌≡◌, ◌∙◌, List, ℕ, sym, ap, subst, map, false, is_err}
-use Rattle.gen_world.specs.Scenario.{Scenario}
+use Rattle.gen_scenario.specs.Scenario.{Scenario}
 use Rattle.gen_async.specs.Running.{IsKept, MachineState, places_of}
 use Rattle.gen_async.proofs.Acting.{AllStart, kept_at_start, start_is}
 use Rattle.gen_async.proofs.Tables.{on_ok}

@@ -1,6 +1,6 @@
 use Rattle.std.proofs.Common.{◌≡◌, ◌<◌, ◌+◌, ◌*◌, ◌∙◌, ◌++◌, ◌∷◌, [], Some, map, length, refl, sym, ap, subst, arith, rules, deque_len}
 use Rattle.std.proofs.lemmas.List.{length-map}
-use Rattle.gen_world.specs.SignedWorld.{frame_at}
+use Rattle.gen_scenario.specs.SignedWorld.{frame_at}
 use Rattle.gen_async.specs.declared.acts.Act.TheVariants.{Puts}
 use Rattle.gen_async.specs.declared.acts.Moved.TheVariants.{Blocked}
 use Rattle.gen_async.specs.Actors.{ActorState, one_more}

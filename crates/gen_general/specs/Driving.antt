@@ -1,0 +1,49 @@
+-- The generals of a scenario, all together, while they go from round to round.
+use Rattle.std.specs.Prelude.{ℕ, ◌≡◌, ◌+◌, not, List, [], Option, Some, None, map, filter, ◌<◌, length, slice_index_or}
+use Rattle.std.specs.List.{range_with_len, list_any, flat_map}
+use Rattle.gen_tree.specs.Rings.{Ring, seed_of}
+use Rattle.gen_net.specs.Version.{height_in}
+use Rattle.gen_net.specs.Network.{Network}
+use Rattle.gen_net.specs.Edges.{joins}
+use Rattle.gen_script.specs.declared.lines.ScriptLine.{ScriptLine}
+use Rattle.gen_scenario.specs.declared.heard.Heard.{Heard}
+use Rattle.gen_scenario.specs.declared.scenario.Decision.{Decision}
+use Rattle.gen_scenario.specs.Scenario.{Scenario, has_script, script_of}
+use Rattle.gen_scenario.specs.SignedWorld.{heard_of, heard_by}
+use Rattle.gen_scenario.specs.AllAre.{AllAre}
+use Rattle.gen_scenario.specs.Deciding.{decision_of}
+use Rattle.gen_scenario.specs.Rows.{FrameRow, row_at, rows_by, rows_in}
+use Rattle.gen_general.specs.Participant.{Participant}
+use Rattle.gen_general.specs.ParticipantLaws.{IsGeneralOf, IsIn}
+
+-- he stands as this general of the scenario after the first k rounds
+pub record StandsAfter (s : Scenario) (k g : ℕ) (p : Participant) : Type 0 where
+  pub part : IsGeneralOf s g p
+  pub heard : p.heard ≡ heard_by s k g
+  pub round : p.round ≡ k
+
+abbrev pub AllStand : Scenario → ℕ → List Participant → Type 0
+AllStand s k = AllAre (StandsAfter s k) s.net.generals
+
+-- before anybody hears
+abbrev pub AllBegun : Scenario → ℕ → List Participant → Type 0
+AllBegun s k = AllAre (λ g p. IsIn s k g p × (p.heard ≡ heard_by s k g)) s.net.generals
+
+-- what a general hears of these in the round after the first k
+abbrev pub hears_of : Scenario → ℕ → ℕ → List ℕ → List Heard
+hears_of s k to froms = flat_map (heard_of s (heard_by s k) (k + 1) to) froms
+
+-- his frames to these
+abbrev pub rows_for : Scenario → ℕ → ℕ → List ℕ → List FrameRow
+rows_for s k from tos = map (row_at s (k + 1) from) tos
+
+-- the frames of the first generals, and those of the first rounds
+unfoldable pub rows_first : Scenario → ℕ → ℕ → List FrameRow
+rows_first s k n = flat_map (rows_by s (k + 1)) (range_with_len 0 n)
+
+unfoldable pub rows_until : Scenario → ℕ → List FrameRow
+rows_until s k = flat_map (rows_in s) (range_with_len 1 k)
+
+-- what those of these generals decide who have no script
+abbrev pub decided_of : Scenario → List ℕ → List Decision
+decided_of s gs = map (decision_of s) (filter (λ g. not (has_script s g)) gs)

@@ -1,0 +1,134 @@
+//! Which chains of a frame count at its receiver.
+ghost use Rattle.std.specs.Prelude.{IsTrue, ℕ, List, ◌≡◌, ◌↔◌, ◌∷◌, [], ◌++◌, Contains, Ok, Some, None, IfOk, OnOk};
+ghost use Rattle.gen_chain.specs.Chain.{Chain};
+ghost use Rattle.gen_chain.specs.Store.{Serves};
+ghost use Rattle.gen_scenario.specs.Counting.{MayCount, Carries, AreCounted};
+ghost use Rattle.gen_scenario.specs.Counted.{counted_of};
+ghost use Rattle.gen_scenario.specs.Listing.{AreListed};
+
+use gen_chain::{SignedChain, VerifyStore, read_chain_with};
+use gen_net::Header;
+use gen_scenario::Delivery;
+use gen_script::Parcel;
+use gen_types::{GeneralNo, OrderNo, ReadError};
+use std::alloc::{AllocError, Global};
+
+/// Whether a chain of this frame may count. The signatures come last.
+fn may_count(
+    header: &Header,
+    store: &mut VerifyStore,
+    delivery: &Delivery,
+    chain: &SignedChain,
+) -> Result<bool, AllocError>
+    requires serves { Serves header.now store.old }
+    ensures value { IfOk result (λ may. IsTrue may ↔ MayCount header.now delivery.now chain.now) }
+    ensures serves { Serves header.now store.new }
+{
+    let path = chain.path();
+    if path.len() != usize::from(delivery.round) {
+        return Ok(false);
+    }
+    if !path.ends_with(delivery.from) {
+        return Ok(false);
+    }
+    if path.contains(delivery.to) {
+        return Ok(false);
+    }
+    store.chain_verifies(header, chain)
+}
+
+/// The chain that a parcel is, where it is exactly one and may count.
+fn carried(
+    alloc: Global,
+    header: &Header,
+    store: &mut VerifyStore,
+    delivery: &Delivery,
+    parcel: &[u8],
+) -> Result<Option<SignedChain>, AllocError>
+    requires serves { Serves header.now store.old }
+    ensures serves { Serves header.now store.new }
+    ensures some { (c : Chain) → result ≡ Ok (Some c)
+        → Carries header.now delivery.now parcel.now c }
+    ensures none { result ≡ Ok None
+        → (c : Chain) → Carries header.now delivery.now parcel.now c → ⊥ }
+{
+    match read_chain_with(alloc, header.height(), parcel, store.pool()) {
+        Err(ReadError::Memory) => Err(AllocError),
+        Err(ReadError::Fault(_)) => Ok(None),
+        Ok((chain, taken)) => {
+            if taken != parcel.len() {
+                return Ok(None);
+            }
+            if !may_count(header, store, delivery, &chain)? {
+                return Ok(None);
+            }
+            Ok(Some(chain))
+        }
+    }
+}
+
+/// Whether one of the chains has the order.
+fn has_order(chains: &[SignedChain], order: OrderNo) -> bool
+    ensures { IsTrue result ↔ ((c : Chain) × Contains chains.now c × (c.order ≡ order)) }
+{
+    chains.iter().any(|chain| chain.order() == order)
+}
+
+/// Appends the chain of one parcel more, where it counts after those of the parcels before it.
+fn count_parcel(
+    alloc: Global,
+    header: &Header,
+    store: &mut VerifyStore,
+    delivery: &Delivery,
+    parcel: &[u8],
+    counted: &mut Vec<SignedChain>,
+) -> Result<(), AllocError>
+    requires serves { Serves header.now store.old }
+    ensures serves { Serves header.now store.new }
+    ensures listed { OnOk result ((parcels : List (List ℕ))
+        → AreListed header.now delivery.now parcels counted.old.items
+        → AreListed header.now delivery.now (parcels ++ parcel.now ∷ []) counted.new.items) }
+{
+    if let Some(chain) = carried(alloc, header, store, delivery, parcel)? {
+        if !has_order(counted.as_slice(), chain.order()) {
+            counted.push(chain)?;
+        }
+    }
+    Ok(())
+}
+
+/// Returns the chains of a frame that count at its receiver, in the order of their parcels: none where the
+/// frame has more parcels than there are orders; else each parcel that is exactly one chain, verifies, has
+/// as many signers as the round's number, of whom the sender is the last and the receiver none, and is the
+/// first such of its order. All other parcels are ignored.
+///
+/// The signatures are checked through the store, so what it keeps is not verified again.
+///
+/// # Errors
+///
+/// Only where memory was refused: then the store keeps the checks that were made before.
+pub fn count_frame(
+    alloc: Global,
+    header: &Header,
+    store: &mut VerifyStore,
+    delivery: &Delivery,
+    frame: &[Parcel],
+) -> Result<Vec<SignedChain>, AllocError>
+    requires serves { Serves header.now store.old }
+    // Which chains they are.
+    ensures counted { IfOk result (λ chains.
+        AreCounted header.now delivery.now frame.now chains.items) }
+    // And in which order.
+    ensures exact { IfOk result (λ chains.
+        chains.items ≡ counted_of header.now delivery.now frame.now) }
+    ensures serves { Serves header.now store.new }
+{
+    let mut counted = Vec::new(alloc);
+    if frame.len() > usize::from(header.net().orders()) {
+        return Ok(counted);
+    }
+    'parcels: for parcel in frame {
+        count_parcel(alloc, header, store, delivery, parcel.bytes(), &mut counted)?;
+    }
+    Ok(counted)
+}

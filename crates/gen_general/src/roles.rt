@@ -1,0 +1,94 @@
+//! What a general does in a round, by whether he has a script.
+ghost use Rattle.std.specs.Prelude.{◌≡◌, Some, option_map, IfOk, OnOk, OnErr};
+ghost use Rattle.gen_general.specs.Following.{AreOthers};
+ghost use Rattle.gen_general.specs.Loops.Journals.{chain_with};
+ghost use Rattle.gen_general.specs.Loops.Roles.{ring_of, role_frame, role_sends, role_signs, IsStart, MayBegin, RoleBegan};
+
+use crate::followers::Follower;
+use crate::traitors::Traitor;
+use gen_chain::SignedChain;
+use gen_scenario::{Heard, Part};
+use gen_script::Parcel;
+use gen_tree::KeyRing;
+use gen_types::{GeneralNo, OrderNo};
+use std::alloc::{AllocError, Global};
+
+/// How a general behaves.
+pub(crate) enum Role {
+    /// He has no script, and follows the algorithm.
+    Loyal(Follower),
+    /// He has a script, and does what it says.
+    Scripted(Traitor),
+}
+
+impl Role {
+    /// Returns the role of a general before the first round: with a ring he has no script.
+    pub(crate) fn new(alloc: Global, ring: Option<KeyRing>) -> Role
+        ensures ring { ring_of result ≡ ring }
+        ensures start { IsStart result }
+    {
+        match ring {
+            Some(ring) => Role::Loyal(Follower::new(alloc, ring)),
+            None => Role::Scripted(Traitor::new(alloc)),
+        }
+    }
+
+    /// Begins a round, where this was heard before. Where memory is refused nothing has changed.
+    pub(crate) fn begin(
+        &mut self,
+        alloc: Global,
+        part: &Part,
+        round: u8,
+        heard: &[Heard],
+    ) -> Result<(), AllocError>
+        requires others { AreOthers part.now.header part.now.me heard.now }
+        requires free { MayBegin part.now heard.now round self.old }
+        ensures ok { OnOk result (RoleBegan part.now heard.now round self.old self.new) }
+        ensures err { OnErr result (self.new ≡ self.old) }
+    {
+        match self {
+            Role::Loyal(follower) => follower.begin(alloc, part, round, heard),
+            Role::Scripted(traitor) => traitor.begin(alloc, part, round, heard),
+        }
+    }
+
+    /// Returns the frame of this round to a neighbour.
+    pub(crate) fn frame_for(&self, alloc: Global, to: GeneralNo) -> Result<Vec<Parcel>, AllocError>
+        ensures { IfOk result (λ frame. frame.items ≡ role_frame self.now to) }
+    {
+        match self {
+            Role::Loyal(follower) => follower.frame_for(alloc, to),
+            Role::Scripted(traitor) => traitor.frame_for(alloc, to),
+        }
+    }
+
+    /// Returns the first chain of an order among those that he signs in this round.
+    pub(crate) fn first_signed(&self, order: OrderNo) -> Option<&SignedChain>
+        ensures { option_map (λ c. c.now) result ≡ chain_with order (role_signs self.now) }
+    {
+        match self {
+            Role::Loyal(follower) => follower.first_signed(order),
+            Role::Scripted(traitor) => traitor.first_signed(order),
+        }
+    }
+
+    /// Returns the first chain of an order among those that he sends a neighbour in this round.
+    pub(crate) fn first_sent(&self, to: GeneralNo, order: OrderNo) -> Option<&SignedChain>
+        ensures { option_map (λ c. c.now) result ≡ chain_with order (role_sends self.now to) }
+    {
+        match self {
+            Role::Loyal(follower) => follower.first_sent(to, order),
+            Role::Scripted(traitor) => traitor.first_sent(to, order),
+        }
+    }
+
+    /// Ends the general, and returns his ring, if he has one.
+    pub(crate) fn into_ring(self) -> Option<KeyRing>
+        ensures { result ≡ ring_of self }
+    {
+        match self {
+            Role::Loyal(follower) => Some(follower.into_ring()),
+            Role::Scripted(_) => None,
+        }
+    }
+}

@@ -1,0 +1,38 @@
+//! Finding the tree of a signer's keys.
+ghost use Rattle.std.specs.Prelude.{◌≡◌, option_map};
+ghost use Rattle.gen_net.specs.Header.{RunHeader, height_of};
+ghost use Rattle.gen_scenario.specs.SignerTrees.{CanSign, seed_in, tree_in};
+
+use gen_net::Header;
+use gen_scenario::SignerTree;
+use gen_tree::KeyTree;
+use gen_types::GeneralNo;
+
+/// The general with his tree, if he is one of these.
+fn find_signer(trees: &[SignerTree], general: GeneralNo) -> Option<&SignerTree>
+    ensures { option_map (λ signer. signer.now.tree) result ≡ tree_in trees.now general }
+{
+    let mut rest = trees;
+    'rest: while let Some((signer, others)) = rest.split_first() {
+        if signer.general == general {
+            return Some(signer);
+        }
+        rest = others;
+    }
+    None
+}
+
+/// Returns the tree of a general whose signatures can be made in the run of a header.
+pub(crate) fn tree_of<'a>(
+    header: &Header,
+    trees: &'a [SignerTree],
+    general: GeneralNo,
+) -> &'a KeyTree
+    requires { CanSign header.now trees.now general }
+    ensures { result.now
+        ≡ record { seed = seed_in trees.now general; height = height_of header.now } }
+{
+    let _height = header.height();
+    let signer = find_signer(trees, general).unwrap();
+    &signer.tree
+}

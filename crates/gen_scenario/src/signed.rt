@@ -1,0 +1,278 @@
+//! Scenarios with signatures.
+ghost use Rattle.std.specs.Prelude.{ℕ, ◌≡◌, ◌≤◌, ◌<◌, ◌↔◌, ◌==◌, [], Ok, Err, length, map, IfOk};
+ghost use Rattle.std.specs.List.{list_any, range_with_len};
+ghost use Rattle.gen_tree.specs.Rings.{seed_of};
+ghost use Rattle.gen_types.specs.declared.reading.ReadError.TheVariants.{Fault};
+ghost use Rattle.gen_net.specs.declared.fault.HeaderFault.{HeaderFault as Broken};
+ghost use Rattle.gen_net.specs.declared.fault.HeaderFault.TheVariants.{SlotRange};
+ghost use Rattle.gen_net.specs.declared.version.Version.TheVariants.{One, Two};
+ghost use Rattle.gen_net.specs.Version.{greatest_slot, height_in, slot_in};
+ghost use Rattle.gen_scenario.specs.Scenario as scenarios;
+ghost use Rattle.gen_scenario.specs.Scenario.{IsScenario, header_of, scenario_of};
+ghost use Rattle.gen_scenario.specs.Rings.{ring_at};
+ghost use Rattle.gen_scenario.specs.Trees.{general_tree, root_over};
+
+use crate::plan::SignedPlan;
+use gen_net::{GREATEST_SLOT, Header, HeaderFault, Net, Version};
+use gen_script::Script;
+use gen_tree::{KeyRing, KeyTree, general_seed};
+use gen_types::{GeneralNo, GeneralSet, OrderNo, ReadError, TreeHeight};
+use std::alloc::{AllocError, Global};
+use std::marker::Model;
+
+/// A network whose generals sign: the commander's order, the master seed from which the keys of all
+/// generals come, and the scripts of the traitors.
+///
+/// Whoever has no script follows the algorithm. The trees of keys are made once, with the scenario. They
+/// and the master seed aren't wiped from memory. A contract sees the version, the network, the master seed,
+/// the order and the scripts as one record.
+#[derive(Drop)]
+pub struct Scenario {
+    plan: SignedPlan,
+    header: Header,
+    trees: Vec<KeyTree>,
+}
+
+impl Model for Scenario {
+    ghost use Rattle.std.specs.Prelude.{◌≡◌};
+    ghost use Rattle.gen_scenario.specs.Scenario.{Scenario, header_of};
+    ghost use Rattle.gen_scenario.specs.Trees.{trees_of};
+
+    ghost Value = { Scenario };
+
+    ghost view = { λ s. s.plan };
+
+    ghost invariant = { λ s. record {
+      header : s.header ≡ header_of s.plan;
+      trees : s.trees.items ≡ trees_of s.plan;
+    } };
+}
+
+/// The trees of the first generals under a master seed, in their order.
+fn general_trees(
+    alloc: Global,
+    master: &[u8; 32],
+    height: TreeHeight,
+    count: u8,
+) -> Result<Vec<KeyTree>, AllocError>
+    requires { count ≤ 16 }
+    ensures { IfOk result (λ trees.
+        trees.items ≡ map (general_tree master.now height) (range_with_len 0 count)) }
+{
+    let mut trees = Vec::with_capacity(alloc, usize::from(count))?;
+    'generals: for number in 0..count {
+        let seed = general_seed(master, GeneralNo::at(number));
+        let tree = KeyTree::from_seed(alloc, &seed, height)?;
+        trees.push(tree)?;
+    }
+    Ok(trees)
+}
+
+/// The roots of trees, in their order.
+fn roots_of(alloc: Global, trees: &[KeyTree]) -> Result<Vec<[u8; 32]>, AllocError>
+    ensures { IfOk result (λ roots. roots.items ≡ map root_over trees.now) }
+{
+    let mut roots = Vec::with_capacity(alloc, trees.len())?;
+    'trees: for tree in trees {
+        roots.push(tree.root())?;
+    }
+    Ok(roots)
+}
+
+/// The header of a version whose slot is known, and of one root for each general.
+fn header_over(version: Version, net: Net, roots: Vec<[u8; 32]>) -> Header
+    requires slot { slot_in version ≤ greatest_slot }
+    requires one_each { length roots.items ≡ net.generals }
+    ensures { result ≡ record { version = version; network = net; roots = roots.items } }
+{
+    let header = match version {
+        Version::One => Header::new(net, roots),
+        Version::Two { slot } => Header::new_in_slot(net, slot, roots),
+    };
+    header.unwrap()
+}
+
+/// Whether one of the scripts is the general's.
+fn is_scripted(scripts: &[Script], general: GeneralNo) -> bool
+    ensures { result ≡ list_any (λ script. script.general == general) scripts.now }
+{
+    scripts.iter().any(|script| script.general() == general)
+}
+
+impl Scenario {
+    /// Returns the scenario of version 1 on this network: the commander's order, the master seed of all
+    /// keys, and the scripts of the traitors.
+    ///
+    /// The order must be one of the network's. The scripts must be those of generals of the network, one
+    /// each, in ascending order, with lines that `read_script_line` reads in them, whose paths name generals
+    /// who have scripts.
+    ///
+    /// # Errors
+    ///
+    /// `AllocError` where memory is refused.
+    pub fn new(
+        alloc: Global,
+        net: Net,
+        order: OrderNo,
+        master: &[u8; 32],
+        scripts: Vec<Script>,
+    ) -> Result<Scenario, AllocError>
+        requires { IsScenario (scenario_of One net master.now order scripts.items) }
+        ensures { IfOk result (λ scenario. scenario ≡ scenario_of One net master.now order scripts.items) }
+    {
+        Scenario::of_plan(alloc, SignedPlan::new(Version::One, net, order, master, scripts))
+    }
+
+    /// Returns the same in version 2, for the run of this slot, 0 to 3, of the four that a tree of keys
+    /// serves.
+    ///
+    /// # Errors
+    ///
+    /// Fault(SlotRange) exactly where the slot is above 3, which is tested before memory is taken; else
+    /// Memory where it is refused.
+    pub fn new_in_slot(
+        alloc: Global,
+        net: Net,
+        slot: u8,
+        order: OrderNo,
+        master: &[u8; 32],
+        scripts: Vec<Script>,
+    ) -> Result<Scenario, ReadError<HeaderFault>>
+        requires { slot ≤ greatest_slot → IsScenario (scenario_of (Two slot) net master.now order scripts.items) }
+        ensures slot { (result ≡ Err (Fault SlotRange)) ↔ (greatest_slot < slot) }
+        ensures only { (fault : Broken) → result ≡ Err (Fault fault) → fault ≡ SlotRange }
+        ensures value { IfOk result (λ scenario. scenario ≡ scenario_of (Two slot) net master.now order scripts.items) }
+    {
+        if slot > GREATEST_SLOT {
+            return Err(ReadError::Fault(HeaderFault::SlotRange));
+        }
+        let version = Version::Two { slot };
+        let plan = SignedPlan::new(version, net, order, master, scripts);
+        Ok(Scenario::of_plan(alloc, plan)?)
+    }
+
+    /// Returns the scenario of a plan: the trees of all keys are made.
+    ///
+    /// # Errors
+    ///
+    /// `AllocError` where memory is refused.
+    pub fn of_plan(alloc: Global, plan: SignedPlan) -> Result<Scenario, AllocError>
+        ensures { IfOk result (λ scenario. scenario ≡ plan) }
+    {
+        let _lawful = plan.scripts();
+        let height = plan.version().height();
+        let trees = general_trees(alloc, plan.master(), height, plan.net().generals())?;
+        Scenario::of_trees(alloc, plan, trees)
+    }
+
+    /// Returns the same scenario as `of_plan`, over trees that were made before: those of all generals under the
+    /// master seed, of the version's height, in their order. So whoever makes the trees can do so by threads.
+    ///
+    /// # Errors
+    ///
+    /// `AllocError` where memory is refused.
+    pub fn of_trees(alloc: Global, plan: SignedPlan, trees: Vec<KeyTree>) -> Result<Scenario, AllocError>
+        requires { trees.items
+            ≡ map (general_tree plan.master (height_in plan.version)) (range_with_len 0 plan.net.generals) }
+        ensures { IfOk result (λ scenario. scenario ≡ plan) }
+    {
+        let _lawful = plan.scripts();
+        let roots = roots_of(alloc, trees.as_slice())?;
+        let net = plan.net().clone()?;
+        let header = header_over(plan.version(), net, roots);
+        Ok(Scenario { plan, header, trees })
+    }
+
+    /// Returns the plan of which it was made.
+    pub fn plan(&self) -> &SignedPlan
+        ensures { result.now ≡ self.now }
+    {
+        &self.plan
+    }
+
+    /// Returns the header of the scenario's run: the root of each general is that of the ring of his seed.
+    pub fn header(&self) -> &Header
+        ensures value { result.now ≡ header_of self.now }
+        ensures scenario { IsScenario self.now }
+    {
+        let _lawful = self.plan.scripts();
+        &self.header
+    }
+
+    /// Returns the commander's order, which is one of the network's.
+    pub fn order(&self) -> OrderNo
+        ensures value { result ≡ self.now.order }
+        ensures known { result < self.now.net.orders }
+    {
+        let _lawful = self.plan.scripts();
+        self.plan.order()
+    }
+
+    /// Returns the scripts, in ascending order of their generals.
+    pub fn scripts(&self) -> &[Script]
+        ensures { result.now ≡ self.now.scripts }
+    {
+        self.plan.scripts()
+    }
+
+    /// Returns the set of the generals who have scripts.
+    pub fn scripted(&self) -> GeneralSet
+        ensures { result ≡ scenarios.scripted self.now.scripts }
+    {
+        let _lawful = self.header();
+        let mut set = GeneralSet::new();
+        'scripts: for script in self.scripts() {
+            set.insert(script.general());
+        }
+        set
+    }
+
+    /// Returns whether a general has a script.
+    pub fn has_script(&self, general: GeneralNo) -> bool
+        ensures { result ≡ scenarios.has_script self.now general }
+    {
+        is_scripted(self.scripts(), general)
+    }
+
+    /// Returns the tree of a general's keys. He must be one of the network's.
+    pub(crate) fn tree(&self, general: GeneralNo) -> &KeyTree
+        requires { general < self.now.net.generals }
+        ensures { result.now ≡ general_tree self.now.master (height_in self.now.version) general }
+    {
+        &self.trees[usize::from(general.get())]
+    }
+
+    /// Returns the ring of a general's keys, with no leaf taken. He must be one of the network's.
+    ///
+    /// A second ring of the same general gives each leaf again.
+    ///
+    /// # Errors
+    ///
+    /// `AllocError` where memory is refused.
+    pub fn ring(&self, general: GeneralNo) -> Result<KeyRing, AllocError>
+        requires { general < self.now.net.generals }
+        ensures { IfOk result (λ ring. ring ≡ record {
+          seed = seed_of self.now.master general;
+          height = height_in self.now.version;
+          taken = [];
+        }) }
+    {
+        KeyRing::open(self.tree(general))
+    }
+
+    /// Returns the ring of a general's keys, with no leaf taken, if he has no script. He must be one of the network's.
+    ///
+    /// # Errors
+    ///
+    /// `AllocError` where memory is refused.
+    pub fn ring_if_loyal(&self, general: GeneralNo) -> Result<Option<KeyRing>, AllocError>
+        requires { general < self.now.net.generals }
+        ensures { IfOk result (λ ring. ring ≡ ring_at self.now general) }
+    {
+        if self.has_script(general) {
+            return Ok(None);
+        }
+        let ring = self.ring(general)?;
+        Ok(Some(ring))
+    }
+}

@@ -1,0 +1,27 @@
+//! Generals with the trees of their keys.
+ghost use Rattle.std.specs.Prelude.{◌≡◌};
+
+use gen_tree::KeyTree;
+use gen_types::GeneralNo;
+use std::alloc::AllocError;
+
+/// A general, and the tree of his keys.
+#[derive(Drop)]
+pub struct SignerTree {
+    /// The general.
+    pub general: GeneralNo,
+    /// The tree of his keys.
+    pub tree: KeyTree,
+}
+
+/// A copy is equal to its original. It fails only where memory was refused.
+impl Clone for SignerTree {
+    ghost is_clone = { λ signer copy. copy ≡ signer };
+
+    fn clone(&self) -> Result<SignerTree, AllocError> {
+        Ok(SignerTree {
+            general: self.general,
+            tree: self.tree.clone()?,
+        })
+    }
+}

@@ -1,6 +1,0 @@
-use Rattle.std.proofs.Common.{arith}
-use Rattle.gen_world.proofs.Bending.{xor_flips}
-use Rattle.gen_world.proofs.scripted.flip_top_bit.Goals as goal
-
-pub returns : goal.returns
-returns c = xor_flips c.args.byte (omega (arith, c.ranges.byte.fits))

@@ -1,6 +1,0 @@
-use Rattle.std.proofs.Common.{◌≡◌, map, take}
-use Rattle.gen_world.specs.Planned.{bytes_of, planned_to}
-use Rattle.gen_world.proofs.scripted.planned_frame.Given as goal
-
-abbrev pub invariant-planned : goal.invariant-planned
-invariant-planned l = l.parcels.items ≡ map bytes_of (planned_to l.to (take l.one-index l.planned))
