@@ -9,7 +9,8 @@ use Rattle.gen_convict.specs.Evidence.{Accusation}
 use Rattle.gen_convict.specs.EvidenceSpelling.{evidence_spelling}
 use Rattle.gen_convict.specs.First.{IsFirstClaim}
 
--- one of the convictions is the general's, and the text is its spelling; or none is, and then the text is empty and says no
+-- one of the convictions is the general's, and the text is its spelling; or none is, and then the text is
+-- empty and says no
 abbrev pub TellsOf : RunHeader → List Accusation → ℕ → List ℕ → Bool → Type 0
 TellsOf h convictions general text false =
     (x : Accusation) × Contains convictions x × (x.accused ≡ general) × (text ≡ evidence_spelling h x)

@@ -19,8 +19,8 @@ is_no (Agreed order) = false
 is_no (Explained decisions) = false
 is_no (No findings) = true
 
--- The text is that of the judgement on the bundle that the input spells: its verdict, and the convictions that its exhibits give.
--- It says no where the verdict does.
+-- The text is that of the judgement on the bundle that the input spells: its verdict, and the convictions
+-- that its exhibits give. It says no where the verdict does.
 pub record IsAudited (input text : List ℕ) (negative : Bool) : Type 0 where
   pub bundle : LogBundle
   pub spelled : Spells IsBundle bundle_spelling input bundle

@@ -40,7 +40,8 @@ IsTaken input (Failed faults.Memory) = Unit {0}
 IsTaken input (Failed faults.Read) = Unit {0}
 IsTaken input _ = length input ≤ 1073741824
 
--- The output was written behind what the writer held, and the end is no where the output says so; or the write failed.
+-- The output was written behind what the writer held, and the end is no where the output says so; or the
+-- write failed.
 abbrev pub IsWritten : List ℕ → Bool → Option (List ℕ) → Option (List ℕ) → JobEnd → Type 0
 IsWritten text negative old new Done = (negative ≡ false) × Appends old new text
 IsWritten text negative old new Negative = (negative ≡ true) × Appends old new text

@@ -41,8 +41,8 @@ pub record IsRun (input text : List ℕ) (negative : Bool) : Type 0 where
   pub text_is : text ≡ bundle_spelling (bundle_of scenario walks)
   pub positive : negative ≡ false
 
--- Before the line after the commander's order stand those of `generals`, of each edge, and of `traitors`, `diameter`,
--- `orders`, `choice` and `order`.
+-- Before the line after the commander's order stand those of `generals`, of each edge, and of `traitors`,
+-- `diameter`, `orders`, `choice` and `order`.
 abbrev pub line_after_order : Network → ℕ
 line_after_order net = length net.edges + 7
 
@@ -52,13 +52,15 @@ pub record MissesSeed (input : List ℕ) (fault : ScenarioFault) : Type 0 where
   pub spelled : SpellsScenario input (texts.Plain plain)
   pub fault_is : fault ≡ fault_at BadSeed (line_after_order plain.net)
 
--- the run of the scenario has this bundle, or the fault is the rule of bundles that it breaks, or want of memory or of a thread
+-- the run of the scenario has this bundle, or the fault is the rule of bundles that it breaks, or want of
+-- memory or of a thread
 abbrev pub MakesBundle : Scenario → Result LogBundle JobFault → Type 0
 MakesBundle s (Ok bundle) = (walks : List (List ℕ)) × HasWalks s walks × (bundle ≡ bundle_of s walks)
 MakesBundle s (Err faults.Memory) = Unit {0}
 MakesBundle s (Err faults.Thread) = Unit {0}
 MakesBundle s (Err (faults.Bundle f)) =
-    (walks : List (List ℕ)) × HasWalks s walks × (bundle_with (header_of s) (scripted s.scripts) walks (logs_of_all s) ≡ Err f)
+    (walks : List (List ℕ)) × HasWalks s walks
+    × (bundle_with (header_of s) (scripted s.scripts) walks (logs_of_all s) ≡ Err f)
 MakesBundle s (Err _) = ⊥
 
 -- what the run of the input's scenario gives breaks this rule of bundles
@@ -67,7 +69,8 @@ pub record BreaksRule (input : List ℕ) (fault : BundleFault) : Type 0 where
   pub spelled : SpellsScenario input (texts.Signed scenario)
   pub broken : MakesBundle scenario (Err (faults.Bundle fault))
 
--- The fault is the first of an input that spells no scenario, or that a seed is missing; or want of memory or of a thread.
+-- The fault is the first of an input that spells no scenario, or that a seed is missing; or want of memory or
+-- of a thread.
 abbrev pub IsRunFault : List ℕ → JobFault → Type 0
 IsRunFault input faults.Memory = Unit {0}
 IsRunFault input faults.Thread = Unit {0}

@@ -48,9 +48,9 @@ fn accusation(
     }
 }
 
-/// Returns the bytes of the evidence against a general that the bundle holds which the input spells: of the first
-/// claim that its exhibits hold against him. Where they hold none, or he is no general of the network, there are no
-/// bytes, and that says no.
+/// Returns the bytes of the evidence against a general that the bundle holds which the input spells: of the
+/// first claim that its exhibits hold against him. Where they hold none, or he is no general of the network,
+/// there are no bytes, and that says no.
 ///
 /// # Errors
 ///
@@ -65,9 +65,9 @@ pub fn accuse(alloc: Global, general: GeneralNo, input: &[u8]) -> Result<Output,
     Ok(accusation(alloc, bundle.header(), convictions, general)?)
 }
 
-/// Reads the bytes of a bundle to their end, and writes the bytes of the evidence against the general: of the first claim
-/// that the exhibits hold against him. Where they hold none, or he is no general of the network, nothing is written and the
-/// end is negative.
+/// Reads the bytes of a bundle to their end, and writes the bytes of the evidence against the general: of the
+/// first claim that the exhibits hold against him. Where they hold none, or he is no general of the network,
+/// nothing is written and the end is negative.
 ///
 /// A fault of the input is looked for once it was read whole, and nothing is written before the output
 /// is whole. Where a read, a write or memory fails the job ends so.

@@ -39,8 +39,8 @@ pub fn audit(alloc: Global, input: &[u8]) -> Result<Output, JobFault>
     })
 }
 
-/// Reads the bytes of a bundle to their end, and writes the verdict on it, or nothing where they spell none. The
-/// end is negative where the verdict is a no.
+/// Reads the bytes of a bundle to their end, and writes the verdict on it, or nothing where they spell none.
+/// The end is negative where the verdict is a no.
 ///
 /// A fault of the input is looked for once it was read whole, and nothing is written before the output
 /// is whole. Where a read, a write or memory fails the job ends so.

@@ -14,8 +14,8 @@ use std::io;
 use std::io::Write;
 use std::marker::Model;
 
-/// The one spelling of a bundle, whole in memory: what stands before the exhibits, and the bundle, which has these. A
-/// contract sees the list of its bytes.
+/// The one spelling of a bundle, whole in memory: what stands before the exhibits, and the bundle, which has
+/// these. A contract sees the list of its bytes.
 #[derive(Drop)]
 pub struct BundleText {
     front: Vec<u8>,

@@ -52,8 +52,8 @@ pub fn evidence(alloc: Global, input: &[u8]) -> Result<Output, JobFault>
     Ok(told(alloc, &header, &evidence)?)
 }
 
-/// Reads the bytes of evidence to their end, and writes whether it holds: `evidence holds` or `evidence fails`, and LF.
-/// The end is negative where it fails.
+/// Reads the bytes of evidence to their end, and writes whether it holds: `evidence holds` or `evidence
+/// fails`, and LF. The end is negative where it fails.
 ///
 /// A fault of the input is looked for once it was read whole, and nothing is written before the output
 /// is whole. Where a read, a write or memory fails the job ends so.

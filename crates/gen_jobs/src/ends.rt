@@ -118,8 +118,8 @@ pub enum JobEnd {
 }
 
 impl JobEnd {
-    /// Returns the program's exit status: 0 where the job is done, 1 where its output says no, 3 for the input, 4
-    /// for memory or a thread, 5 for a read or a write.
+    /// Returns the program's exit status: 0 where the job is done, 1 where its output says no, 3 for the
+    /// input, 4 for memory or a thread, 5 for a read or a write.
     pub fn status(self) -> u8
         ensures { result ≡ status_of self }
     {

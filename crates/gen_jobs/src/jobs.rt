@@ -37,7 +37,8 @@ pub enum Job {
     Evidence,
 }
 
-/// Does a job, by its engine: reads its input to its end and writes what answers it, or nothing where it has a fault.
+/// Does a job, by its engine: reads its input to its end and writes what answers it, or nothing where it has
+/// a fault.
 ///
 /// A fault of the input is looked for once it was read whole, and nothing is written before the output
 /// is whole. Where a read, a write, memory or a thread fails the job ends so.

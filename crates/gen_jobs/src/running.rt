@@ -77,7 +77,8 @@ fn exhibits_of(alloc: Global, logs: Vec<SealedLog>) -> Result<Vec<Exhibit>, Allo
     Ok(exhibits)
 }
 
-/// Returns the bundle of the scenario's run: the generals who have scripts are held for faulty, and all logs are shown.
+/// Returns the bundle of the scenario's run: the generals who have scripts are held for faulty, and all logs
+/// are shown.
 fn bundle_of_run<T: Threads + Wait + Sync>(
     rt: &T,
     alloc: Global,
@@ -138,16 +139,16 @@ pub fn run_in_pieces<T: Threads + Wait + Sync>(
     Ok(BundleText::new(alloc, bundle)?)
 }
 
-/// Returns the bytes of the bundle of the run of the scenario that the input spells. They never say no. The trees of
-/// keys are made by threads, and each general runs in a thread of his own over edges that hold so many frames each, at
-/// least one: the generals who have scripts are held for faulty, all logs are shown, and the walks are the best ones
-/// between the others, or none where two of them have no short one.
+/// Returns the bytes of the bundle of the run of the scenario that the input spells. They never say no. The
+/// trees of keys are made by threads, and each general runs in a thread of his own over edges that hold so
+/// many frames each, at least one: the generals who have scripts are held for faulty, all logs are shown, and
+/// the walks are the best ones between the others, or none where two of them have no short one.
 ///
 /// # Errors
 ///
-/// `Scenario` with the first fault of an input that spells no scenario, or `P6` at the line behind the order where it
-/// spells one without a seed; `Bundle` where what the run gives breaks a rule of bundles; `Memory` where memory is
-/// refused, and `Thread` where a thread can't be started.
+/// `Scenario` with the first fault of an input that spells no scenario, or `P6` at the line behind the order
+/// where it spells one without a seed; `Bundle` where what the run gives breaks a rule of bundles; `Memory`
+/// where memory is refused, and `Thread` where a thread can't be started.
 pub fn run<T: Threads + Wait + Sync>(
     rt: &T,
     alloc: Global,
@@ -166,10 +167,10 @@ pub fn run<T: Threads + Wait + Sync>(
     })
 }
 
-/// Reads a scenario text with a seed to its end, makes the trees of keys by threads, runs it, each general in a thread
-/// of his own over edges that hold so many frames each, at least one, and writes the bundle of the run: the generals
-/// who have scripts are held for faulty, all logs are shown, and the walks are the best ones between the others, or
-/// none where two of them have no short one.
+/// Reads a scenario text with a seed to its end, makes the trees of keys by threads, runs it, each general in
+/// a thread of his own over edges that hold so many frames each, at least one, and writes the bundle of the
+/// run: the generals who have scripts are held for faulty, all logs are shown, and the walks are the best
+/// ones between the others, or none where two of them have no short one.
 ///
 /// A fault of the input is looked for once it was read whole, and nothing is written before the output
 /// is whole. Where a read, a write, memory or a thread fails the job ends so.

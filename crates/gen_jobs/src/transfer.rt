@@ -13,8 +13,8 @@ const MOST_BYTES: usize = 1_073_741_824;
 /// The most calls of `read` that an input may take, the one that finds its end included.
 const MOST_READS: u64 = 4_294_967_296;
 
-/// Returns all that the reader gives up to its end: at most 1,073,741,824 bytes, by at most 4,294,967,296 calls
-/// of `read`. An interrupted read is tried again.
+/// Returns all that the reader gives up to its end: at most 1,073,741,824 bytes, by at most 4,294,967,296
+/// calls of `read`. An interrupted read is tried again.
 ///
 /// # Errors
 ///

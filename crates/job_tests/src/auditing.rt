@@ -1,5 +1,5 @@
-//! Audits of runs: the logs of a scenario's run in a bundle, and the verdict on it. The verdicts were given by another
-//! program, in Python.
+//! Audits of runs: the logs of a scenario's run in a bundle, and the verdict on it. The verdicts were given
+//! by another program, in Python.
 use crate::bundles::{bundle_of, bundle_with, exhibits_of, scenario_of};
 use crate::scenarios::{
     CUT, FLOOD_IN_SLOT, LATE, LINE, ONE_TOO_MANY, PAIR, RING, SCRAPS, SPLIT, TWO_HEADS,
@@ -12,14 +12,11 @@ use gen_types::GeneralSet;
 use std::alloc::Global;
 use std::test::*;
 
-/// A scenario's text, how `audit` ends on the bundle of its run, and the verdict behind the line of the run id.
+/// A scenario's text, how `audit` ends on the bundle of its run, and the verdict behind the line of the run
+/// id.
 type Row<'a> = (&'a [u8], JobEnd, &'a [u8]);
 
-const PAIR_ROW: Row<'_> = (
-    PAIR,
-    JobEnd::Done,
-    b"verdict agreed 1\nend\n",
-);
+const PAIR_ROW: Row<'_> = (PAIR, JobEnd::Done, b"verdict agreed 1\nend\n");
 
 const SPLIT_ROW: Row<'_> = (
     SPLIT,
@@ -27,11 +24,7 @@ const SPLIT_ROW: Row<'_> = (
     b"verdict agreed 0\nconvicted 0 by K2\nend\n",
 );
 
-const LINE_ROW: Row<'_> = (
-    LINE,
-    JobEnd::Done,
-    b"verdict agreed 1\nend\n",
-);
+const LINE_ROW: Row<'_> = (LINE, JobEnd::Done, b"verdict agreed 1\nend\n");
 
 const RING_ROW: Row<'_> = (
     RING,
@@ -48,7 +41,8 @@ const LATE_ROW: Row<'_> = (
 const ONE_TOO_MANY_ROW: Row<'_> = (
     ONE_TOO_MANY,
     JobEnd::Done,
-    b"verdict explained\ngeneral 2 decides 1\ngeneral 3 decides 0\nconvicted 0 by K3\nconvicted 1 by K4\nend\n",
+    b"verdict explained\ngeneral 2 decides 1\ngeneral 3 decides 0\n\
+    convicted 0 by K3\nconvicted 1 by K4\nend\n",
 );
 
 const CUT_ROW: Row<'_> = (
@@ -93,7 +87,9 @@ fn is_right(alloc: Global, row: &Row<'_>) -> Result<bool, Fail> {
 #[test]
 fn generals_who_follow_agree(rt: HostRuntime) -> Result<(), Fail> {
     let alloc = rt.alloc();
-    let right = is_right(alloc, &PAIR_ROW)? && is_right(alloc, &LINE_ROW)? && is_right(alloc, &RING_ROW)?;
+    let right = is_right(alloc, &PAIR_ROW)?
+        && is_right(alloc, &LINE_ROW)?
+        && is_right(alloc, &RING_ROW)?;
     assert!(rt; right);
     Ok(())
 }
@@ -101,7 +97,9 @@ fn generals_who_follow_agree(rt: HostRuntime) -> Result<(), Fail> {
 #[test]
 fn under_a_traitor_they_agree(rt: HostRuntime) -> Result<(), Fail> {
     let alloc = rt.alloc();
-    let right = is_right(alloc, &SPLIT_ROW)? && is_right(alloc, &LATE_ROW)? && is_right(alloc, &FLOOD_ROW)?;
+    let right = is_right(alloc, &SPLIT_ROW)?
+        && is_right(alloc, &LATE_ROW)?
+        && is_right(alloc, &FLOOD_ROW)?;
     assert!(rt; right);
     Ok(())
 }

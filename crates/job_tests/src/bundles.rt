@@ -1,5 +1,5 @@
-//! Bundles of runs. Those whose traitors do everything that scripts can say stand against hashes of the bundles that
-//! another program, in Python, made of the same texts.
+//! Bundles of runs. Those whose traitors do everything that scripts can say stand against hashes of the
+//! bundles that another program, in Python, made of the same texts.
 use gen_audit::{Bundle, write_bundle};
 use gen_local::Exhibit;
 use gen_net::Header;

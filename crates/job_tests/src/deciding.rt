@@ -1,4 +1,5 @@
-//! Scenarios: texts in, decisions out. Those of scenarios with signatures were made by another program, in Python.
+//! Scenarios: texts in, decisions out. Those of scenarios with signatures were made by another program, in
+//! Python.
 use crate::scenarios::{
     FLOOD, LATE, LINE, LINE_WITHOUT_SEED, ONE_TOO_MANY, SPLIT, SPLIT_BY_MEDIAN, TWICE,
 };
@@ -104,8 +105,20 @@ fn a_loyal_commander_is_obeyed(rt: HostRuntime) {
 
 #[test]
 fn an_order_may_come_late(rt: HostRuntime) {
-    assert!(rt; decides(rt.alloc(), LATE, b"general 2 set 1 decides 1\ngeneral 3 set 1 decides 1\n"));
-    assert!(rt; decides(rt.alloc(), ONE_TOO_MANY, b"general 2 set 1 decides 1\ngeneral 3 set - decides 0\n"));
+    assert!(rt;
+        decides(
+            rt.alloc(),
+            LATE,
+            b"general 2 set 1 decides 1\ngeneral 3 set 1 decides 1\n"
+        )
+    );
+    assert!(rt;
+        decides(
+            rt.alloc(),
+            ONE_TOO_MANY,
+            b"general 2 set 1 decides 1\ngeneral 3 set - decides 0\n"
+        )
+    );
 }
 
 #[test]

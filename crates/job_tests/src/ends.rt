@@ -13,7 +13,9 @@ use std::test::*;
 fn reads_all(rt: HostRuntime) {
     let alloc = rt.alloc();
     let mut reader = source_of(LINE_WITHOUT_SEED, 3, 0, Slip::Fails);
-    assert!(rt; matches!(read_all(alloc, &mut reader), Ok(all) if all.as_slice() == LINE_WITHOUT_SEED));
+    assert!(rt;
+        matches!(read_all(alloc, &mut reader), Ok(all) if all.as_slice() == LINE_WITHOUT_SEED)
+    );
     let mut reader = source_of(LINE_WITHOUT_SEED, 3, 2, Slip::Fails);
     assert!(rt; matches!(read_all(alloc, &mut reader), Err(JobFault::Read)));
 }
@@ -28,7 +30,9 @@ fn writes_all(rt: HostRuntime) -> Result<(), Fail> {
         assert!(rt; write_output(&mut writer, &output) == want);
         assert!(rt; deliver(&mut writer, Ok(output)) == want);
         assert!(rt; writer.taken.len() == 2 * LINE_DECISIONS.len());
-        assert!(rt; writer.taken.starts_with(LINE_DECISIONS) && writer.taken.ends_with(LINE_DECISIONS));
+        assert!(rt;
+            writer.taken.starts_with(LINE_DECISIONS) && writer.taken.ends_with(LINE_DECISIONS)
+        );
     }
     Ok(())
 }

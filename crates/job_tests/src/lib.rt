@@ -1,8 +1,8 @@
 //! This crate has the tests of `gen_jobs`.
 //!
-//! `scenarios` has the texts, `streams` a reader and a writer that slip, and `bundles` makes bundles without the
-//! crate under test. `deciding`, `running`, `auditing`, `accusing` and `disputed` have the jobs, `over_bytes` the
-//! calls without reader and writer, and `ends` how jobs end.
+//! `scenarios` has the texts, `streams` a reader and a writer that slip, and `bundles` makes bundles without
+//! the crate under test. `deciding`, `running`, `auditing`, `accusing` and `disputed` have the jobs,
+//! `over_bytes` the calls without reader and writer, and `ends` how jobs end.
 #![tactic(auto)]
 
 #[cfg(test)]

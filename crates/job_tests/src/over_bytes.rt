@@ -77,7 +77,12 @@ fn runs_a_text(rt: HostRuntime) -> Result<(), Fail> {
         kind: LineFault::BadSeed,
         line: 8,
     };
-    assert!(rt; is_fault(&run(&rt, alloc, 1, PAIR_WITHOUT_SEED), JobFault::Scenario(fault)));
+    assert!(rt;
+        is_fault(
+            &run(&rt, alloc, 1, PAIR_WITHOUT_SEED),
+            JobFault::Scenario(fault)
+        )
+    );
     Ok(())
 }
 
@@ -106,7 +111,12 @@ fn checks_bytes(rt: HostRuntime) -> Result<(), Fail> {
     let alloc = rt.alloc();
     let held = evidence(alloc, &split_evidence(alloc)?);
     assert!(rt; is_text(&held, b"evidence holds\n", false));
-    assert!(rt; is_fault(&evidence(alloc, b""), JobFault::Evidence(EvidenceFault::Truncated)));
+    assert!(rt;
+        is_fault(
+            &evidence(alloc, b""),
+            JobFault::Evidence(EvidenceFault::Truncated)
+        )
+    );
     Ok(())
 }
 
@@ -139,8 +149,14 @@ fn written<R: Threads + Wait + Sync>(rt: &R, alloc: Global, job: Job, input: &[u
 fn a_job_is_done_by_its_engine(rt: HostRuntime) -> Result<(), Fail> {
     let alloc = rt.alloc();
     let bundle = bundle_of(alloc, SPLIT)?;
-    assert_eq!(rt; written(&rt, alloc, Job::Decide, SPLIT), Some(SPLIT_DECISIONS.len()));
-    assert_eq!(rt; written(&rt, alloc, Job::Run { capacity: 2 }, SPLIT), Some(bundle.len()));
+    assert_eq!(rt;
+        written(&rt, alloc, Job::Decide, SPLIT),
+        Some(SPLIT_DECISIONS.len())
+    );
+    assert_eq!(rt;
+        written(&rt, alloc, Job::Run { capacity: 2 }, SPLIT),
+        Some(bundle.len())
+    );
     assert_eq!(rt; written(&rt, alloc, Job::Audit, &bundle), Some(108));
     Ok(())
 }

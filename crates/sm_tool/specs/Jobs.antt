@@ -1,5 +1,6 @@
 -- The job of a command, and of the number that stands behind its option.
-use Rattle.std.specs.Prelude.{ℕ, ◌&&◌, List, codes, Option, Some, None, option_and_then, option_map, nat_le, if◌then◌else◌}
+use Rattle.std.specs.Prelude.{ℕ, ◌&&◌, List, codes, Option, Some, None, option_and_then, option_map}
+use Rattle.std.specs.Prelude.{nat_le, if◌then◌else◌}
 use Rattle.std.specs.Str.{bytes_eq}
 use Rattle.clap.specs.Words.{Row, Text, first_of}
 use Rattle.gen_types.specs.Texts.{number_of}

@@ -7,7 +7,8 @@ use Rattle.gen_jobs.specs.declared.ends.JobEnd.{JobEnd}
 use Rattle.gen_jobs.specs.declared.ends.JobEnd.TheVariants.{Done, Failed}
 use Rattle.gen_jobs.specs.declared.ends.JobFault.TheVariants as faults
 use Rattle.sm_tool.specs.declared.words.WordsFault.{WordsFault}
-use Rattle.sm_tool.specs.declared.words.WordsFault.TheVariants.{Memory, NotText, NoCommand, BadCapacity, BadGeneral, Words}
+use Rattle.sm_tool.specs.declared.words.WordsFault.TheVariants.{Memory, NotText, NoCommand, Words}
+use Rattle.sm_tool.specs.declared.words.WordsFault.TheVariants.{BadCapacity, BadGeneral}
 use Rattle.gen_jobs.specs.Ends.{status_of}
 
 -- the exit status where words ask for no job

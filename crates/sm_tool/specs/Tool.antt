@@ -8,14 +8,16 @@ use Rattle.sm_tool.specs.CommandLine.{tool}
 use Rattle.sm_tool.specs.Jobs.{job_said, job_told}
 use Rattle.gen_jobs.specs.declared.jobs.Job.{Job}
 use Rattle.sm_tool.specs.declared.words.WordsFault.{WordsFault}
-use Rattle.sm_tool.specs.declared.words.WordsFault.TheVariants.{Memory, NotText, NoCommand, BadCapacity, BadGeneral, Words}
+use Rattle.sm_tool.specs.declared.words.WordsFault.TheVariants.{Memory, NotText, NoCommand, Words}
+use Rattle.sm_tool.specs.declared.words.WordsFault.TheVariants.{BadCapacity, BadGeneral}
 
 -- the job, where there is no fault
 abbrev pub without_fault : Kinds → Option Job → Option Job
 without_fault [] job = job
 without_fault (k ∷ ks) job = None
 
--- the job that words ask for: the command line has no fault at them, and they name the job's command and its number
+-- the job that words ask for: the command line has no fault at them, and they name the job's command and its
+-- number
 abbrev pub asked : List Text → Option Job
 asked words = without_fault (fault_of tool words) (job_said (subcommand_of tool words))
 

@@ -56,7 +56,8 @@ fn given_job<R: Env + AllocGlobal>(rt: &R) -> Result<Job, WordsFault>
     job_in(rt.alloc(), &given)
 }
 
-/// Returns the job that these words ask for; the first is the program's name. Its faults are those of `read_words`.
+/// Returns the job that these words ask for; the first is the program's name. Its faults are those of
+/// `read_words`.
 fn job_in(alloc: Global, given: &[String]) -> Result<Job, WordsFault>
     // The words ask for the job.
     ensures ok { IfOk result (λ job. asked (map (λ w. string_bytes w) given.now) ≡ Some job) }
@@ -68,8 +69,20 @@ fn job_in(alloc: Global, given: &[String]) -> Result<Job, WordsFault>
     // A fault is one that the command line has at these words.
     ensures fault { IfErr result (IsFaultOf (map (λ w. string_bytes w) given.now)) }
 {
-    let words: Vec<&str> = given.iter().map(|word| word.as_str()).collect(alloc)?;
+    let words = texts_of(alloc, given)?;
     read_words(alloc, &words)
+}
+
+/// Returns the texts of strings.
+fn texts_of<'a>(alloc: Global, given: &'a [String]) -> Result<Vec<&'a str>, AllocError>
+    ensures { IfOk result (λ words. map (λ w. w.now) words.items
+        ≡ map (λ w. string_bytes w) given.now) }
+{
+    let mut words = Vec::with_capacity(alloc, given.len())?;
+    for word in given {
+        words.push_reserved(word.as_str());
+    }
+    Ok(words)
 }
 
 /// Writes the line of a job that failed to standard error, and returns its exit status.

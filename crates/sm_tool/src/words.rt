@@ -162,9 +162,9 @@ fn given_in<'a>(alloc: Global, words: &'a [&'a str]) -> Result<GivenCommand<'a>,
 ///
 /// # Errors
 ///
-/// `Words` where the command line has a fault at the words, or they ask for help or the version; `NoCommand` where
-/// they name no command; `BadCapacity` or `BadGeneral` where the text behind the option isn't a decimal number in its
-/// range, without leading zeros or a sign; and `Memory` where memory was refused.
+/// `Words` where the command line has a fault at the words, or they ask for help or the version; `NoCommand`
+/// where they name no command; `BadCapacity` or `BadGeneral` where the text behind the option isn't a decimal
+/// number in its range, without leading zeros or a sign; and `Memory` where memory was refused.
 pub fn read_words<'a>(alloc: Global, words: &'a [&'a str]) -> Result<Job, WordsFault>
     // The words ask for the job.
     ensures ok { IfOk result (λ job. asked (map (λ w. w.now) words.now) ≡ Some job) }

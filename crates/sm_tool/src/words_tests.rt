@@ -153,7 +153,10 @@ const REFUSED: [(&[&str], ErrorKind); 8] = [
     (&["sm_tool", "judge"], ErrorKind::InvalidSubcommand),
     (&["sm_tool", "Decide"], ErrorKind::InvalidSubcommand),
     (&["sm_tool", "decide", "4"], ErrorKind::UnknownArgument),
-    (&["sm_tool", "audit", "--workers=1"], ErrorKind::UnknownArgument),
+    (
+        &["sm_tool", "audit", "--workers=1"],
+        ErrorKind::UnknownArgument,
+    ),
     (&["sm_tool", "--fast", "decide"], ErrorKind::UnknownArgument),
     (&["sm_tool", "--help"], ErrorKind::DisplayHelp),
     (&["sm_tool", "--version"], ErrorKind::DisplayVersion),
