@@ -8,7 +8,7 @@ use Rattle.gen_threads.specs.declared.edges.Edges.{Edges}
 use Rattle.gen_threads.specs.declared.edges.Passes.{Passes}
 use Rattle.gen_threads.specs.declared.works.EndsAs.{EndsAs}
 use Rattle.gen_threads.specs.declared.works.Turn.{Turn}
-use Rattle.gen_threads.specs.declared.works.Turn.TheVariants.{Finished, Back}
+use Rattle.gen_threads.specs.declared.works.Turn.TheVariants.{Ended, Back}
 use Rattle.gen_threads.specs.declared.works.Work.{Work}
 use Rattle.gen_threads.specs.Edges.{ArePassesOf, HasNewPasses}
 use Rattle.gen_threads.specs.Ending.{IsEndOf, MayRunWith}
@@ -28,7 +28,7 @@ AreWorks edges s = AllAre (IsWork edges s) s.net.generals
 
 -- he has ended, from some ring, or his work came back with his passes
 abbrev pub IsTurn : Edges → Scenario → ℕ → Turn → Type 0
-IsTurn edges s g (Finished end) = (ring : Option Ring) × IsEndOf edges s g ring end
+IsTurn edges s g (Ended end) = (ring : Option Ring) × IsEndOf edges s g ring end
 IsTurn edges s g (Back work) = ArePassesOf edges s g work.passes.puts.items work.passes.takes.items
 
 -- those of the generals from one on
