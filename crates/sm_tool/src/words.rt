@@ -63,14 +63,14 @@ impl From<clap::Error> for WordsFault {
 }
 
 /// A command, with the texts of its options.
-#[derive(Clone, Copy, Debug)]
-pub struct GivenCommand<'a> {
+#[derive(Clone, Copy)]
+pub(crate) struct GivenCommand<'a> {
     /// Its name.
-    name: &'a str,
+    pub(crate) name: &'a str,
     /// The text of `--capacity`, where it takes that.
-    capacity: Option<&'a str>,
+    pub(crate) capacity: Option<&'a str>,
     /// The text of `--general`, where it takes that.
-    general: Option<&'a str>,
+    pub(crate) general: Option<&'a str>,
 }
 
 /// Returns the number that a text spells, where it is in the range.
