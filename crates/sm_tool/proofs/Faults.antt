@@ -1,15 +1,17 @@
 -- What the command line tells of words that ask for a job.
-use Rattle.std.proofs.Common.{◌≡◌, List, [], ◌∷◌, Option, Some, None, true, refl, inl, inr, option_map}
+use Rattle.std.proofs.Common.{◌≡◌, Bool, List, [], ◌∷◌, Option, Some, None, true, refl, inl, inr, option_map, sym, ◌∙◌}
 use Rattle.std.specs.Prelude.{IsSome}
 use Rattle.clap.specs.declared.error.Error.{Error}
-use Rattle.clap.specs.Words.{HasKind, Kinds, Row, Text, fault_of, is_simple, is_simple_and_free, subcommand_of}
+use Rattle.clap.specs.Words.{HasKind, Kinds, Row, Text, is_simple, is_simple_and_free, subcommand_of}
 use Rattle.clap.proofs.OnLiterals.{clap_on_literals}
-use Rattle.sm_tool.specs.declared.words.Job.{Job}
+use Rattle.gen_jobs.specs.declared.jobs.Job.{Job}
 use Rattle.sm_tool.specs.declared.words.WordsFault.{WordsFault}
-use Rattle.sm_tool.specs.declared.words.WordsFault.TheVariants.{Memory, NotText, NoCommand, BadNumber, Words}
+use Rattle.sm_tool.specs.declared.words.WordsFault.TheVariants.{Memory, NotText, NoCommand, BadCapacity, BadGeneral, Words}
+use Rattle.sm_tool.specs.declared.words.GivenCommand.{GivenCommand}
 use Rattle.sm_tool.specs.CommandLine.{tool}
-use Rattle.sm_tool.specs.Jobs.{job_told}
-use Rattle.sm_tool.specs.Tool.{asked, without_fault, fault_from, IsFaultOf, IsRefusal}
+use Rattle.sm_tool.specs.Commands.{Gives, IsGiven, IsGivenBy}
+use Rattle.sm_tool.specs.Jobs.{job_named, job_said}
+use Rattle.sm_tool.specs.Tool.{asked, without_fault, fault_from, is_accuse, is_run, HasBadNumber, HasNoCommand, IsFaultOf, IsRefusal}
 
 pub tool_is_simple : is_simple tool ≡ true
 unfolding clap_on_literals
@@ -20,30 +22,35 @@ unfolding clap_on_literals
 tool_is_free = refl
 
 -- where the command line has no fault, an error is want of memory
-pub is_memory : (kinds : Kinds) (error : Error) (fault : WordsFault) (job : Option Job) → HasKind kinds error → fault_from error fault → IsSome (without_fault kinds job) → fault ≡ Memory
-is_memory [] error Memory job has from asks = refl
-is_memory [] error NotText job has from asks = absurd from
-is_memory [] error NoCommand job has from asks = absurd from
-is_memory [] error BadNumber job has from asks = absurd from
-is_memory [] error (Words e) job (inl memory) from asks = absurd (from.1 memory)
-is_memory [] error (Words e) job (inr none) from asks = absurd none
-is_memory (k ∷ ks) error fault job has from asks = absurd cc
+pub is_memory : (kinds : Kinds) (error : Error) (fault : WordsFault) → HasKind kinds error → fault_from error fault → kinds ≡ [] → fault ≡ Memory
+is_memory [] error Memory has from none = refl
+is_memory [] error NotText has from none = absurd from
+is_memory [] error NoCommand has from none = absurd from
+is_memory [] error BadCapacity has from none = absurd from
+is_memory [] error BadGeneral has from none = absurd from
+is_memory [] error (Words e) (inl memory) from none = absurd (from.1 memory)
+is_memory [] error (Words e) (inr among) from none = absurd among
+is_memory (k ∷ ks) error fault has from none = absurd cc
 
--- words without a fault ask for the job of their command
-pub asks_for : (words : List Text) (command : Text × List Row) (job : Option Job) → fault_of tool words ≡ [] → subcommand_of tool words ≡ Some command → job ≡ job_told command → asked words ≡ job
-asks_for words command job none named is = rw (none, named, is) refl
+-- words that ask for a job have no fault
+pub without : (kinds : Kinds) (job : Option Job) → IsSome (without_fault kinds job) → kinds ≡ []
+without [] job asks = refl
+without (k ∷ ks) job asks = absurd cc
 
-pub missed : (o : Option Job) (P : Type 0) → o ≡ None → IsSome o → P
-missed None P e asks = absurd cc
-missed (Some j) P e asks = absurd cc
+abbrev job_of : GivenCommand → Option Job
+job_of g = job_named g.name.now (option_map (λ t. t.now) g.capacity) (option_map (λ t. t.now) g.general)
 
--- words without a fault whose command has no job are refused
-pub refused : (words : List Text) (command : Text × List Row) (fault : WordsFault) → fault_of tool words ≡ [] → subcommand_of tool words ≡ Some command → job_told command ≡ None → IsRefusal command.0 fault → IsFaultOf words fault
-refused words command Memory none named is refusal = absurd refusal
-refused words command NotText none named is refusal = absurd refusal
-refused words command NoCommand none named is refusal = (none, rw named (refusal, is))
-refused words command BadNumber none named is refusal = (none, rw named (refusal, is))
-refused words command (Words e) none named is refusal = absurd refusal
+told : (o : Option (Text × List Row)) (given : GivenCommand) → IsGivenBy o (Some given) → job_said o ≡ job_of given
+told None given is = absurd is
+told (Some p) given is = λ i. job_named (sym is.name i) (sym is.capacity i) (sym is.general i)
+
+-- words ask for the job of the command that they give
+pub asks_for : (words : List Text) (given : GivenCommand) (job : Option Job) → Gives words given → job ≡ job_of given → asked words ≡ job
+asks_for words given job gives is =
+    (λ i. without_fault (gives.0 i) (job_said (subcommand_of tool words))) ∙ told (subcommand_of tool words) given gives.1 ∙ sym is
+
+pub is_given : (o : Option (Text × List Row)) (p : Text × List Row) (given : GivenCommand) → o ≡ Some p → IsGiven p given → IsGivenBy o (Some given)
+is_given o p given found is = rw found is
 
 abbrev paired : {X : Type 0} → (X → Text) → (X → List Row) → X → Text × List Row
 paired f g b = (f b, g b)

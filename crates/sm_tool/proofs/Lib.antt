@@ -1,5 +1,1 @@
-pub mod Accused
-pub mod Bundling
-pub mod Delivering
 pub mod Faults
-pub mod Known

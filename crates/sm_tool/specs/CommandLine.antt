@@ -24,7 +24,9 @@ accuse = with_rule (new_app (codes "accuse")) general
 
 -- the command without its subcommands: it has a version, and one of them is required
 abbrev pub bare : App
-bare = let a = new_app (codes "sm_tool") in record a { top = record a.top { has_version = true; subcommand_required = true } }
+bare =
+    let a = new_app (codes "sm_tool") in
+    record a { top = record a.top { has_version = true; subcommand_required = true } }
 
 -- with those that read a scenario, and with those that read what a run left
 abbrev pub with_runs : App

@@ -1,10 +1,11 @@
 -- The job of a command, and of the number that stands behind its option.
-use Rattle.std.specs.Prelude.{◌≤◌, ◌<◌, ℕ, Bool, ◌&&◌, ◌||◌, List, codes, Option, Some, None, option_and_then, option_map, nat_le, if◌then◌else◌}
+use Rattle.std.specs.Prelude.{ℕ, ◌&&◌, List, codes, Option, Some, None, option_and_then, option_map}
+use Rattle.std.specs.Prelude.{nat_le, if◌then◌else◌}
 use Rattle.std.specs.Str.{bytes_eq}
 use Rattle.clap.specs.Words.{Row, Text, first_of}
 use Rattle.gen_types.specs.Texts.{number_of}
-use Rattle.sm_tool.specs.declared.words.Job.{Job}
-use Rattle.sm_tool.specs.declared.words.Job.TheVariants as jobs
+use Rattle.gen_jobs.specs.declared.jobs.Job.{Job}
+use Rattle.gen_jobs.specs.declared.jobs.Job.TheVariants as jobs
 
 -- a number that is in the range
 abbrev pub within : ℕ → ℕ → Option ℕ → Option ℕ
@@ -31,13 +32,3 @@ job_told p = job_named p.0 (first_of (codes "capacity") p.1) (first_of (codes "g
 
 abbrev pub job_said : Option (Text × List Row) → Option Job
 job_said command = option_and_then job_told command
-
--- the command takes a number
-abbrev pub takes_number : Text → Bool
-takes_number name = bytes_eq name (codes "run") || bytes_eq name (codes "accuse")
-
--- the numbers of a job are in their ranges
-abbrev pub IsInRange : Job → Type 0
-IsInRange (jobs.Run n) = (1 ≤ n) × (n ≤ 16)
-IsInRange (jobs.Accuse g) = g < 16
-IsInRange _ = Unit {0}

@@ -1,12 +1,5 @@
-pub mod Accusing
-pub mod Answering
-pub mod Audit
-pub mod Checking
 pub mod CommandLine
-pub mod Decide
-pub mod Ends
-pub mod Failing
+pub mod Commands
 pub mod Jobs
 pub mod Refusal
-pub mod Run
 pub mod Tool

@@ -3,11 +3,21 @@ use Rattle.std.specs.Prelude.{◌≡◌, ℕ, ◌⊎◌, List, ◌++◌, codes}
 use Rattle.clap.specs.declared.error.Error.{Error}
 use Rattle.clap.specs.declared.error.kind.ErrorKind.TheVariants.{DisplayHelp, DisplayVersion}
 use Rattle.clap.specs.Words.{kind_of}
-use Rattle.sm_tool.specs.declared.ends.JobEnd.TheVariants.{Done, Failed}
-use Rattle.sm_tool.specs.declared.ends.JobFault.TheVariants as faults
+use Rattle.gen_jobs.specs.declared.ends.JobEnd.{JobEnd}
+use Rattle.gen_jobs.specs.declared.ends.JobEnd.TheVariants.{Done, Failed}
+use Rattle.gen_jobs.specs.declared.ends.JobFault.TheVariants as faults
 use Rattle.sm_tool.specs.declared.words.WordsFault.{WordsFault}
-use Rattle.sm_tool.specs.declared.words.WordsFault.TheVariants.{Memory, NotText, NoCommand, BadNumber, Words}
-use Rattle.sm_tool.specs.Ends.{status_of, words_status}
+use Rattle.sm_tool.specs.declared.words.WordsFault.TheVariants.{Memory, NotText, NoCommand, Words}
+use Rattle.sm_tool.specs.declared.words.WordsFault.TheVariants.{BadCapacity, BadGeneral}
+use Rattle.gen_jobs.specs.Ends.{status_of}
+
+-- the exit status where words ask for no job
+abbrev pub words_status : ℕ
+words_status = 2
+
+-- an exit status of the program: that of words which ask for no job, or of a job's end
+abbrev pub IsStatus : ℕ → Type 0
+IsStatus status = (status ≡ words_status) ⊎ ((end : JobEnd) × (status ≡ status_of end))
 
 -- the words ask for help or for the version
 abbrev pub AsksToShow : Error → Type 0
@@ -26,7 +36,8 @@ abbrev pub Refuses : WordsFault → ℕ → Type 0
 Refuses Memory status = status ≡ status_of (Failed faults.Memory)
 Refuses NotText status = IsBlamed status
 Refuses NoCommand status = IsBlamed status
-Refuses BadNumber status = IsBlamed status
+Refuses BadCapacity status = IsBlamed status
+Refuses BadGeneral status = IsBlamed status
 Refuses (Words e) status = (AsksToShow e → IsShown status) × ((AsksToShow e → ⊥) → IsBlamed status)
 
 -- The line ends by saying how to ask for help.

@@ -1,16 +1,15 @@
 //! The program: from its words to its exit status.
-ghost use Rattle.std.specs.Prelude.{◌≡◌, IfOk, string_bytes};
-ghost use Rattle.sm_tool.specs.Ends.{status_of, IsStatus};
-ghost use Rattle.sm_tool.specs.Jobs.{IsInRange};
-ghost use Rattle.sm_tool.specs.Refusal.{IsShown, IsBlamed, PointsAtHelp, Refuses};
-ghost use Rattle.sm_tool.specs.declared.ends.JobEnd.{JobEnd};
+ghost use Rattle.std.specs.Prelude.{◌≡◌, List, Some, IfOk, IfErr, IsSome, map, string_bytes};
+ghost use Rattle.clap.specs.Words.{Text};
+ghost use Rattle.gen_jobs.specs.Ends.{status_of};
+ghost use Rattle.gen_jobs.specs.Jobs.{IsInRange};
+ghost use Rattle.gen_jobs.specs.declared.ends.JobEnd.{JobEnd};
+ghost use Rattle.sm_tool.specs.Refusal.{IsShown, IsBlamed, IsStatus, PointsAtHelp, Refuses};
+ghost use Rattle.sm_tool.specs.Tool.{asked, IsFaultOf};
+ghost use Rattle.sm_tool.specs.declared.words.WordsFault.TheVariants.{Memory};
 
-use crate::accusing::accuse_engine;
-use crate::checking::evidence_engine;
-use crate::ends::{JobEnd, JobFault};
-use crate::engine::{audit_engine, decide_engine};
-use crate::running::run_engine;
-use crate::words::{Job, WordsFault, read_words};
+use crate::words::{WordsFault, read_words};
+use gen_jobs::{Job, JobEnd, JobFault, do_job};
 use std::alloc::{AllocError, Global};
 use std::rt::Env;
 use std::sync::Wait;
@@ -37,19 +36,16 @@ fn finish<R: AllocGlobal + Input + Print + Eprint + Threads + Wait + Sync>(rt: &
 {
     let mut reader = rt.reader();
     let mut writer = io::writer(rt);
-    let end = match job {
-        Job::Decide => decide_engine(rt.alloc(), &mut reader, &mut writer),
-        Job::Run { capacity } => run_engine(rt, rt.alloc(), capacity, &mut reader, &mut writer),
-        Job::Audit => audit_engine(rt.alloc(), &mut reader, &mut writer),
-        Job::Accuse { general } => { accuse_engine(rt.alloc(), general, &mut reader, &mut writer) }
-        Job::Evidence => evidence_engine(rt.alloc(), &mut reader, &mut writer),
-    };
+    let end = do_job(rt, rt.alloc(), job, &mut reader, &mut writer);
     end_with(rt, end)
 }
 
 /// Returns the job that the words of this process ask for.
 fn given_job<R: Env + AllocGlobal>(rt: &R) -> Result<Job, WordsFault>
-    ensures { IfOk result IsInRange }
+    // There are words that ask for it.
+    ensures asked { IfOk result (λ job. (words : List Text) × (asked words ≡ Some job)) }
+    // Its numbers are in their ranges.
+    ensures range { IfOk result IsInRange }
 {
     let given = match env::args(rt) {
         Ok(given) => given,
@@ -57,8 +53,36 @@ fn given_job<R: Env + AllocGlobal>(rt: &R) -> Result<Job, WordsFault>
         Err(_) => return Err(WordsFault::NotText),
     };
     let given: Vec<String> = given.collect(rt.alloc())?;
-    let words: Vec<&str> = given.iter().map(|word| word.as_str()).collect(rt.alloc())?;
-    read_words(rt.alloc(), &words)
+    job_in(rt.alloc(), &given)
+}
+
+/// Returns the job that these words ask for; the first is the program's name. Its faults are those of
+/// `read_words`.
+fn job_in(alloc: Global, given: &[String]) -> Result<Job, WordsFault>
+    // The words ask for the job.
+    ensures ok { IfOk result (λ job. asked (map (λ w. string_bytes w) given.now) ≡ Some job) }
+    // Its numbers are in their ranges.
+    ensures range { IfOk result IsInRange }
+    // Words that ask for a job fail only for want of memory.
+    ensures only { IfErr result (λ fault.
+        IsSome (asked (map (λ w. string_bytes w) given.now)) → fault ≡ Memory) }
+    // A fault is one that the command line has at these words.
+    ensures fault { IfErr result (IsFaultOf (map (λ w. string_bytes w) given.now)) }
+{
+    let words = texts_of(alloc, given)?;
+    read_words(alloc, &words)
+}
+
+/// Returns the texts of strings.
+fn texts_of<'a>(alloc: Global, given: &'a [String]) -> Result<Vec<&'a str>, AllocError>
+    ensures { IfOk result (λ words. map (λ w. w.now) words.items
+        ≡ map (λ w. string_bytes w) given.now) }
+{
+    let mut words = Vec::with_capacity(alloc, given.len())?;
+    for word in given {
+        words.push_reserved(word.as_str());
+    }
+    Ok(words)
 }
 
 /// Writes the line of a job that failed to standard error, and returns its exit status.

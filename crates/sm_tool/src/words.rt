@@ -1,38 +1,21 @@
 //! The words of the command line.
-ghost use Rattle.std.specs.Prelude.{◌≡◌, IfOk, IfErr, IfSome, Some, IsSome, map, option_map};
-ghost use Rattle.clap.specs.Words.{app_of, kind_of};
-ghost use Rattle.clap.specs.declared.error.kind.ErrorKind.TheVariants.{OutOfMemory};
+ghost use Rattle.std.specs.Prelude.{◌≡◌, [], IfOk, IfErr, IfSome, Some, IsSome, map, option_map};
+ghost use Rattle.clap.specs.Simple.{subcommand_rows_of};
+ghost use Rattle.clap.specs.Words.{fault_of};
+ghost use Rattle.gen_jobs.specs.Jobs.{IsInRange};
 ghost use Rattle.sm_tool.specs.CommandLine.{tool};
-ghost use Rattle.sm_tool.specs.Jobs.{job_named, number_between, IsInRange};
+ghost use Rattle.sm_tool.specs.Jobs.{job_named, number_between};
+ghost use Rattle.sm_tool.specs.Commands.{Gives, HasSubcommand, IsGivenBy};
 ghost use Rattle.sm_tool.specs.Tool.{asked, IsFaultOf, IsRefusal};
 ghost use Rattle.sm_tool.specs.declared.words.WordsFault.TheVariants.{Memory};
 
 use crate::command_line::tool_command;
+use clap::ArgMatches;
 use clap::error::ErrorKind;
+use gen_jobs::Job;
 use gen_types::{GeneralNo, decimal_number};
 use std::alloc::{AllocError, Global};
 use thiserror::Error;
-
-/// What the words ask for.
-#[derive(Clone, Copy, Debug, PartialEq, Eq)]
-pub enum Job {
-    /// Reads a scenario, and writes what each general decides.
-    Decide,
-    /// Reads a scenario with a seed, and runs it in threads: it writes the bundle of the run.
-    Run {
-        /// How many frames an edge holds, 1 to 16.
-        capacity: u8,
-    },
-    /// Reads a bundle, and writes the verdict on it.
-    Audit,
-    /// Reads a bundle, and writes the evidence that it holds against a general.
-    Accuse {
-        /// Who is accused.
-        general: GeneralNo,
-    },
-    /// Reads evidence, and writes whether it holds.
-    Evidence,
-}
 
 /// Why words ask for no job.
 #[derive(Debug, Drop, Error)]
@@ -46,10 +29,12 @@ pub enum WordsFault {
     /// The words name no command.
     #[error("error: no command")]
     NoCommand,
-    /// The number of an option is no decimal number in its range: 1 to 16 for `--capacity`, and 0 to 15 for
-    /// `--general`. It has neither leading zeros nor a sign.
-    #[error("error: the number of an option is not one in its range")]
-    BadNumber,
+    /// What stands behind `--capacity` is no decimal number from 1 to 16, without leading zeros or a sign.
+    #[error("error: --capacity takes a number from 1 to 16")]
+    BadCapacity,
+    /// What stands behind `--general` is no decimal number from 0 to 15, without leading zeros or a sign.
+    #[error("error: --general takes a number from 0 to 15")]
+    BadGeneral,
     /// A mistake in the words, or a request for help or for the version.
     #[error("{0}")]
     Words(clap::Error),
@@ -75,6 +60,17 @@ impl From<clap::Error> for WordsFault {
             WordsFault::Words(error)
         }
     }
+}
+
+/// A command, with the texts of its options.
+#[derive(Clone, Copy)]
+pub(crate) struct GivenCommand<'a> {
+    /// Its name.
+    pub(crate) name: &'a str,
+    /// The text of `--capacity`, where it takes that.
+    pub(crate) capacity: Option<&'a str>,
+    /// The text of `--general`, where it takes that.
+    pub(crate) general: Option<&'a str>,
 }
 
 /// Returns the number that a text spells, where it is in the range.
@@ -119,8 +115,46 @@ fn refusal_of(name: &str) -> WordsFault
     ensures { IsRefusal name.now result }
 {
     match name {
-        "run" | "accuse" => WordsFault::BadNumber,
+        "run" => WordsFault::BadCapacity,
+        "accuse" => WordsFault::BadGeneral,
         _ => WordsFault::NoCommand,
+    }
+}
+
+/// Returns what the command line makes of the words.
+fn matches_of<'a>(alloc: Global, words: &'a [&'a str]) -> Result<ArgMatches<'a>, WordsFault>
+    ensures ok { IfOk result (HasSubcommand (map (λ w. w.now) words.now)) }
+    ensures only { IfErr result (λ fault.
+        fault_of tool (map (λ w. w.now) words.now) ≡ [] → fault ≡ Memory) }
+    ensures fault { IfErr result (IsFaultOf (map (λ w. w.now) words.now)) }
+{
+    let command = tool_command(alloc)?;
+    Ok(command.try_get_matches_from(words)?)
+}
+
+/// Returns the command that was found, with the texts of its options, and None where there is none.
+fn given_by<'a>(matches: &ArgMatches<'a>) -> Option<GivenCommand<'a>>
+    ensures { IsGivenBy (subcommand_rows_of matches.now) result }
+{
+    let (name, inner) = matches.subcommand()?;
+    Some(GivenCommand {
+        name,
+        capacity: inner.get_str("capacity"),
+        general: inner.get_str("general"),
+    })
+}
+
+/// Returns the command that the words give.
+fn given_in<'a>(alloc: Global, words: &'a [&'a str]) -> Result<GivenCommand<'a>, WordsFault>
+    ensures ok { IfOk result (Gives (map (λ w. w.now) words.now)) }
+    ensures only { IfErr result (λ fault.
+        IsSome (asked (map (λ w. w.now) words.now)) → fault ≡ Memory) }
+    ensures fault { IfErr result (IsFaultOf (map (λ w. w.now) words.now)) }
+{
+    let matches = matches_of(alloc, words)?;
+    match given_by(&matches) {
+        Some(given) => Ok(given),
+        None => Err(WordsFault::NoCommand),
     }
 }
 
@@ -128,9 +162,9 @@ fn refusal_of(name: &str) -> WordsFault
 ///
 /// # Errors
 ///
-/// `Words` where the command line has a fault at the words, or they ask for help or the version; `BadNumber`
-/// where the number of an option isn't decimal, without leading zeros or a sign, or not in its range; and
-/// `Memory` where memory was refused.
+/// `Words` where the command line has a fault at the words, or they ask for help or the version; `NoCommand`
+/// where they name no command; `BadCapacity` or `BadGeneral` where the text behind the option isn't a decimal
+/// number in its range, without leading zeros or a sign; and `Memory` where memory was refused.
 pub fn read_words<'a>(alloc: Global, words: &'a [&'a str]) -> Result<Job, WordsFault>
     // The words ask for the job.
     ensures ok { IfOk result (λ job. asked (map (λ w. w.now) words.now) ≡ Some job) }
@@ -142,13 +176,9 @@ pub fn read_words<'a>(alloc: Global, words: &'a [&'a str]) -> Result<Job, WordsF
     // A fault is one that the command line has at these words.
     ensures fault { IfErr result (IsFaultOf (map (λ w. w.now) words.now)) }
 {
-    let command = tool_command(alloc)?;
-    let matches = command.try_get_matches_from(words)?;
-    let Some((name, inner)) = matches.subcommand() else {
-        return Err(WordsFault::NoCommand);
-    };
-    match job_of(name, inner.get_str("capacity"), inner.get_str("general")) {
+    let given = given_in(alloc, words)?;
+    match job_of(given.name, given.capacity, given.general) {
         Some(job) => Ok(job),
-        None => Err(refusal_of(name)),
+        None => Err(refusal_of(given.name)),
     }
 }

@@ -1,7 +1,8 @@
-//! The words of the commands that take a number.
+//! Words, and the jobs that they ask for.
 use crate::program::fault_line;
-use crate::words::{Job, WordsFault, read_words};
+use crate::words::{WordsFault, read_words};
 use clap::error::ErrorKind;
+use gen_jobs::Job;
 use gen_types::GeneralNo;
 use std::alloc::Global;
 use std::test::*;
@@ -48,10 +49,11 @@ fn evidence_takes_nothing(rt: HostRuntime) {
 
 /// Returns whether the command is refused for its number.
 fn is_bad_number(alloc: Global, command: &str, option: &str) -> bool {
-    matches!(
-        read_words(alloc, &["sm_tool", command, option]),
-        Err(WordsFault::BadNumber)
-    )
+    match &read_words(alloc, &["sm_tool", command, option]) {
+        Err(WordsFault::BadCapacity) => command == "run",
+        Err(WordsFault::BadGeneral) => command == "accuse",
+        _ => false,
+    }
 }
 
 #[test]
@@ -112,12 +114,67 @@ fn options_stand_at_their_commands(rt: HostRuntime) {
     }
 }
 
+/// Returns whether the fault is told in this line.
+fn is_told(alloc: Global, fault: WordsFault, wanted: &str) -> Result<bool, Fail> {
+    let line = fault_line(alloc, &fault)?;
+    Ok(line.as_str() == wanted)
+}
+
 #[test]
 fn a_bad_number_is_told_in_one_line(rt: HostRuntime) -> Result<(), Fail> {
-    let line = fault_line(rt.alloc(), &WordsFault::BadNumber)?;
-    assert_eq!(rt;
-        line.as_str(),
-        "error: the number of an option is not one in its range; for more, try '--help'"
-    );
+    let alloc = rt.alloc();
+    let line = "error: --capacity takes a number from 1 to 16; for more, try '--help'";
+    let capacity = is_told(alloc, WordsFault::BadCapacity, line)?;
+    let line = "error: --general takes a number from 0 to 15; for more, try '--help'";
+    let general = is_told(alloc, WordsFault::BadGeneral, line)?;
+    assert!(rt; capacity && general);
+    Ok(())
+}
+
+#[test]
+fn two_commands_take_nothing(rt: HostRuntime) {
+    assert!(rt; asks(rt.alloc(), &["sm_tool", "decide"], Job::Decide));
+    assert!(rt; asks(rt.alloc(), &["sm_tool", "audit"], Job::Audit));
+}
+
+/// Returns whether the words have a fault of this kind, which is told in one line that points at help.
+fn is_refused(alloc: Global, words: &[&str], kind: ErrorKind) -> Result<bool, Fail> {
+    let Err(fault) = read_words(alloc, words) else {
+        return Ok(false);
+    };
+    let line = fault_line(alloc, &fault)?;
+    let is_kind = matches!(&fault, WordsFault::Words(e) if e.kind() == kind);
+    Ok(is_kind && line.ends_with("try '--help'") && !line.contains('\n'))
+}
+
+// Words that ask for no job, each with the kind of its fault.
+const REFUSED: [(&[&str], ErrorKind); 8] = [
+    (&["sm_tool"], ErrorKind::MissingSubcommand),
+    (&["sm_tool", "judge"], ErrorKind::InvalidSubcommand),
+    (&["sm_tool", "Decide"], ErrorKind::InvalidSubcommand),
+    (&["sm_tool", "decide", "4"], ErrorKind::UnknownArgument),
+    (
+        &["sm_tool", "audit", "--workers=1"],
+        ErrorKind::UnknownArgument,
+    ),
+    (&["sm_tool", "--fast", "decide"], ErrorKind::UnknownArgument),
+    (&["sm_tool", "--help"], ErrorKind::DisplayHelp),
+    (&["sm_tool", "--version"], ErrorKind::DisplayVersion),
+];
+
+/// The index of the first row that is wrong.
+fn first_wrong(alloc: Global, rows: &[(&[&str], ErrorKind)]) -> Result<Option<usize>, Fail> {
+    for (index, row) in rows.iter().enumerate() {
+        if !is_refused(alloc, row.0, row.1)? {
+            return Ok(Some(index));
+        }
+    }
+    Ok(None)
+}
+
+#[test]
+fn other_words_are_refused(rt: HostRuntime) -> Result<(), Fail> {
+    let wrong = first_wrong(rt.alloc(), &REFUSED)?;
+    assert_eq!(rt; wrong, None);
     Ok(())
 }

@@ -1,6 +1,6 @@
 use Rattle.std.proofs.Common.{inr}
-use Rattle.sm_tool.specs.declared.ends.JobEnd.TheVariants.{Failed}
-use Rattle.sm_tool.specs.declared.ends.JobFault.TheVariants as faults
+use Rattle.gen_jobs.specs.declared.ends.JobEnd.TheVariants.{Failed}
+use Rattle.gen_jobs.specs.declared.ends.JobFault.TheVariants as faults
 use Rattle.sm_tool.proofs.program.show.Goals as goal
 
 pub returns-in-Err-clause-status : goal.returns-in-Err-clause-status

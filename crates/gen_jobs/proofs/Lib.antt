@@ -1,0 +1,4 @@
+pub mod Accused
+pub mod Bundling
+pub mod Delivering
+pub mod Known

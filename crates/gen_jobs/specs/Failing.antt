@@ -1,0 +1,31 @@
+-- How a job fails where its input can't be read.
+use Rattle.gen_types.specs.declared.reading.ReadError.{ReadError}
+use Rattle.gen_types.specs.declared.reading.ReadError.TheVariants as errors
+use Rattle.gen_report.specs.declared.fault.ScenarioFault.{ScenarioFault}
+use Rattle.gen_audit.specs.declared.bundle_fault.BundleFault.{BundleFault}
+use Rattle.gen_convict.specs.declared.evidence_fault.EvidenceFault.{EvidenceFault}
+use Rattle.gen_threads.specs.declared.ends.RunFault.{RunFault}
+use Rattle.gen_threads.specs.declared.ends.RunFault.TheVariants as runs
+use Rattle.gen_jobs.specs.declared.ends.JobFault.{JobFault}
+use Rattle.gen_jobs.specs.declared.ends.JobFault.TheVariants as faults
+
+-- by a scenario that can't be read
+abbrev pub scenario_failure : ReadError ScenarioFault → JobFault
+scenario_failure errors.Memory = faults.Memory
+scenario_failure (errors.Fault f) = faults.Scenario f
+
+-- by a bundle that can't be read
+abbrev pub bundle_failure : ReadError BundleFault → JobFault
+bundle_failure errors.Memory = faults.Memory
+bundle_failure (errors.Fault f) = faults.Bundle f
+
+-- by evidence that can't be read
+abbrev pub evidence_failure : ReadError EvidenceFault → JobFault
+evidence_failure errors.Memory = faults.Memory
+evidence_failure (errors.Fault f) = faults.Evidence f
+
+-- by a run that ended early
+abbrev pub run_failure : RunFault → JobFault
+run_failure runs.Memory = faults.Memory
+run_failure runs.Thread = faults.Thread
+run_failure runs.Gone = faults.Thread

@@ -1,0 +1,32 @@
+-- The jobs, and what each makes of its input.
+use Rattle.std.specs.Prelude.{ℕ, ◌≤◌, ◌<◌, Bool, List}
+use Rattle.gen_jobs.specs.Accusing.{IsAccused}
+use Rattle.gen_jobs.specs.Audit.{IsAudited, IsAuditFault}
+use Rattle.gen_jobs.specs.Checking.{IsChecked, IsEvidenceFault}
+use Rattle.gen_jobs.specs.Decide.{IsDecided, IsDecideFault}
+use Rattle.gen_jobs.specs.Run.{IsRun, IsRunFault}
+use Rattle.gen_jobs.specs.declared.ends.JobFault.{JobFault}
+use Rattle.gen_jobs.specs.declared.jobs.Job.{Job}
+use Rattle.gen_jobs.specs.declared.jobs.Job.TheVariants as jobs
+
+-- the numbers of a job are in their ranges
+abbrev pub IsInRange : Job → Type 0
+IsInRange (jobs.Run n) = (1 ≤ n) × (n ≤ 16)
+IsInRange (jobs.Accuse g) = g < 16
+IsInRange _ = Unit {0}
+
+-- the text answers the input of the job, and says no where it does
+abbrev pub JobAnswers : Job → List ℕ → List ℕ → Bool → Type 0
+JobAnswers jobs.Decide input text negative = IsDecided input text negative
+JobAnswers (jobs.Run n) input text negative = IsRun input text negative
+JobAnswers jobs.Audit input text negative = IsAudited input text negative
+JobAnswers (jobs.Accuse g) input text negative = IsAccused g input text negative
+JobAnswers jobs.Evidence input text negative = IsChecked input text negative
+
+-- the fault is one that the job has at the input
+abbrev pub JobFails : Job → List ℕ → JobFault → Type 0
+JobFails jobs.Decide input fault = IsDecideFault input fault
+JobFails (jobs.Run n) input fault = IsRunFault input fault
+JobFails jobs.Audit input fault = IsAuditFault input fault
+JobFails (jobs.Accuse g) input fault = IsAuditFault input fault
+JobFails jobs.Evidence input fault = IsEvidenceFault input fault

@@ -1,0 +1,9 @@
+pub mod Accusing
+pub mod Answering
+pub mod Audit
+pub mod Checking
+pub mod Decide
+pub mod Ends
+pub mod Failing
+pub mod Jobs
+pub mod Run

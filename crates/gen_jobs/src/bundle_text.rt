@@ -1,0 +1,92 @@
+//! The text of a bundle, kept in pieces so that its logs need no copy.
+ghost use Rattle.std.specs.Prelude.{◌≡◌, ◌<◌, ◌^◌, false, All, length, IfOk, OnOk};
+ghost use Rattle.std.specs.List.{flat_map};
+ghost use Rattle.std.specs.Io.KnownBytes.{Appends};
+ghost use Rattle.gen_audit.specs.BundleSpelling.{bundle_spelling, exhibit_spelling};
+ghost use Rattle.gen_jobs.specs.Answering.{DeliversText};
+ghost use Rattle.gen_jobs.specs.Ends.{IsWritten};
+
+use crate::ends::{JobEnd, JobFault};
+use gen_audit::{Bundle, bundle_front, exhibit_front};
+use gen_local::Exhibit;
+use std::alloc::{AllocError, Global};
+use std::io;
+use std::io::Write;
+use std::marker::Model;
+
+/// The one spelling of a bundle, whole in memory: what stands before the exhibits, and the bundle, which has
+/// these. A contract sees the list of its bytes.
+#[derive(Drop)]
+pub struct BundleText {
+    front: Vec<u8>,
+    bundle: Bundle,
+}
+
+impl Model for BundleText {
+    ghost use Rattle.std.specs.Prelude.{ℕ, List, ◌≡◌, ◌++◌};
+    ghost use Rattle.std.specs.List.{flat_map};
+    ghost use Rattle.gen_audit.specs.BundleSpelling.{bundle_spelling, exhibit_spelling};
+
+    ghost Value = { List ℕ };
+
+    ghost view = { λ t. bundle_spelling t.bundle };
+
+    ghost invariant = { λ t.
+        t.front.items ++ flat_map exhibit_spelling t.bundle.exhibits ≡ bundle_spelling t.bundle };
+}
+
+/// Writes exhibits as they stand in a bundle, one behind another.
+fn write_exhibits<W: Write>(writer: &mut W, exhibits: &[Exhibit]) -> Result<(), io::Error>
+    requires { All (λ x. length x.bytes < 2 ^ 32) exhibits.now }
+    ensures { OnOk result (Appends (W.contents writer.old) (W.contents writer.new)
+        (flat_map exhibit_spelling exhibits.now)) }
+{
+    'exhibits: for exhibit in exhibits {
+        writer.write_all(&exhibit_front(exhibit))?;
+        writer.write_all(exhibit.log())?;
+    }
+    Ok(())
+}
+
+impl BundleText {
+    /// Returns the text of a bundle. It fails only where memory was refused.
+    pub fn new(alloc: Global, bundle: Bundle) -> Result<BundleText, AllocError>
+        ensures { IfOk result (λ text. text ≡ bundle_spelling bundle) }
+    {
+        let front = bundle_front(alloc, &bundle)?;
+        Ok(BundleText { front, bundle })
+    }
+
+    /// Writes the text. It takes no memory.
+    ///
+    /// # Errors
+    ///
+    /// That of a write that failed.
+    pub fn write_to<W: Write>(&self, writer: &mut W) -> Result<(), io::Error>
+        ensures { OnOk result (Appends (W.contents writer.old) (W.contents writer.new) self.now) }
+    {
+        let _lawful = self.bundle.header();
+        writer.write_all(&self.front)?;
+        write_exhibits(writer, self.bundle.exhibits())
+    }
+}
+
+/// Writes the whole text of a bundle, and returns how the job ends by it.
+fn write_text<W: Write>(writer: &mut W, text: &BundleText) -> JobEnd
+    ensures { IsWritten text.now false (W.contents writer.old) (W.contents writer.new) result }
+{
+    if text.write_to(writer).is_err() || writer.flush().is_err() {
+        return JobEnd::Failed(JobFault::Write);
+    }
+    JobEnd::Done
+}
+
+/// Writes the bundle that answers the input, and returns how the job ends: so, or by the fault in its place.
+pub fn deliver_bundle<W: Write>(writer: &mut W, answer: Result<BundleText, JobFault>) -> JobEnd
+    ensures { DeliversText answer (W.contents writer.old) (W.contents writer.new) result }
+{
+    match answer {
+        Ok(text) => write_text(writer, &text),
+        Err(fault) => JobEnd::Failed(fault),
+    }
+}

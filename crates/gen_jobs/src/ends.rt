@@ -1,0 +1,145 @@
+//! How a job ends.
+ghost use Rattle.std.specs.Prelude.{◌≡◌};
+ghost use Rattle.gen_jobs.specs.Ends.{status_of, fault_in};
+ghost use Rattle.gen_jobs.specs.declared.ends.JobFault.TheVariants.{Memory};
+
+use gen_audit::BundleFault;
+use gen_convict::EvidenceFault;
+use gen_report::ScenarioFault;
+use gen_threads::RunFault;
+use gen_types::ReadError;
+use std::alloc::AllocError;
+use thiserror::Error;
+
+/// Why a job failed, shown as the line that the program then writes to standard error.
+#[derive(Clone, Copy, Debug, PartialEq, Eq, Error)]
+pub enum JobFault {
+    /// The input is no scenario.
+    #[error("{0}")]
+    Scenario(ScenarioFault),
+    /// The input is no bundle.
+    #[error("fault {0}")]
+    Bundle(BundleFault),
+    /// The input is no evidence.
+    #[error("fault {0}")]
+    Evidence(EvidenceFault),
+    /// Memory was refused.
+    #[error("memory")]
+    Memory,
+    /// A thread could not be started.
+    #[error("thread")]
+    Thread,
+    /// The input could not be read, or is too long.
+    #[error("read failed")]
+    Read,
+    /// The output could not be written.
+    #[error("write failed")]
+    Write,
+}
+
+impl From<AllocError> for JobFault {
+    ghost from_gives = { λ _ e. e ≡ Memory };
+
+    fn from(_e: AllocError) -> JobFault {
+        JobFault::Memory
+    }
+}
+
+impl From<RunFault> for JobFault {
+    ghost use Rattle.gen_jobs.specs.Failing.{run_failure};
+
+    ghost from_gives = { λ e fault. fault ≡ run_failure e };
+
+    fn from(e: RunFault) -> JobFault {
+        match e {
+            RunFault::Memory => JobFault::Memory,
+            RunFault::Thread | RunFault::Gone => JobFault::Thread,
+        }
+    }
+}
+
+impl From<ReadError<ScenarioFault>> for JobFault {
+    ghost use Rattle.gen_jobs.specs.Failing.{scenario_failure};
+
+    ghost from_gives = { λ e fault. fault ≡ scenario_failure e };
+
+    fn from(e: ReadError<ScenarioFault>) -> JobFault {
+        match e {
+            ReadError::Memory => JobFault::Memory,
+            ReadError::Fault(fault) => JobFault::Scenario(fault),
+        }
+    }
+}
+
+impl From<ReadError<BundleFault>> for JobFault {
+    ghost use Rattle.gen_jobs.specs.Failing.{bundle_failure};
+
+    ghost from_gives = { λ e fault. fault ≡ bundle_failure e };
+
+    fn from(e: ReadError<BundleFault>) -> JobFault {
+        match e {
+            ReadError::Memory => JobFault::Memory,
+            ReadError::Fault(fault) => JobFault::Bundle(fault),
+        }
+    }
+}
+
+impl From<ReadError<EvidenceFault>> for JobFault {
+    ghost use Rattle.gen_jobs.specs.Failing.{evidence_failure};
+
+    ghost from_gives = { λ e fault. fault ≡ evidence_failure e };
+
+    fn from(e: ReadError<EvidenceFault>) -> JobFault {
+        match e {
+            ReadError::Memory => JobFault::Memory,
+            ReadError::Fault(fault) => JobFault::Evidence(fault),
+        }
+    }
+}
+
+/// What a job is to write.
+#[derive(Debug, Drop)]
+pub struct Output {
+    /// The text.
+    pub text: Vec<u8>,
+    /// Whether it says no.
+    pub negative: bool,
+}
+
+/// How a job ended.
+#[derive(Clone, Copy, Debug, PartialEq, Eq)]
+pub enum JobEnd {
+    /// The output was written, and it doesn't say no.
+    Done,
+    /// The output was written, and it says no.
+    Negative,
+    /// The job failed.
+    Failed(JobFault),
+}
+
+impl JobEnd {
+    /// Returns the program's exit status: 0 where the job is done, 1 where its output says no, 3 for the
+    /// input, 4 for memory or a thread, 5 for a read or a write.
+    pub fn status(self) -> u8
+        ensures { result ≡ status_of self }
+    {
+        match self {
+            JobEnd::Done => 0,
+            JobEnd::Negative => 1,
+            JobEnd::Failed(JobFault::Scenario(_) | JobFault::Bundle(_) | JobFault::Evidence(_)) =>
+                3,
+            JobEnd::Failed(JobFault::Memory | JobFault::Thread) => 4,
+            JobEnd::Failed(JobFault::Read | JobFault::Write) => 5,
+        }
+    }
+
+    /// Returns why the job failed, whose text is the one line for standard error, and None where it didn't.
+    pub fn fault(self) -> Option<JobFault>
+        ensures { result ≡ fault_in self }
+    {
+        match self {
+            JobEnd::Done | JobEnd::Negative => None,
+            JobEnd::Failed(fault) => Some(fault),
+        }
+    }
+}

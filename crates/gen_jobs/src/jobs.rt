@@ -1,0 +1,69 @@
+//! The five jobs, and the choice of their engines.
+ghost use Rattle.std.specs.Prelude.{IfSome};
+ghost use Rattle.gen_jobs.specs.Answering.{Answers};
+ghost use Rattle.gen_jobs.specs.Ends.{IsTaken, KeepsUntilWhole};
+ghost use Rattle.gen_jobs.specs.Jobs.{IsInRange, JobAnswers, JobFails};
+
+use crate::accusing::accuse_engine;
+use crate::auditing::audit_engine;
+use crate::checking::evidence_engine;
+use crate::deciding::decide_engine;
+use crate::ends::JobEnd;
+use crate::running::run_engine;
+use gen_types::GeneralNo;
+use std::alloc::Global;
+use std::io::{Read, Write};
+use std::sync::Wait;
+use std::thread::Threads;
+
+/// What can be done with an input.
+#[derive(Clone, Copy, Debug, PartialEq, Eq)]
+pub enum Job {
+    /// Reads a scenario, and writes what each general decides.
+    Decide,
+    /// Reads a scenario with a seed, and runs it in threads: it writes the bundle of the run.
+    Run {
+        /// How many frames an edge holds, 1 to 16.
+        capacity: u8,
+    },
+    /// Reads a bundle, and writes the verdict on it.
+    Audit,
+    /// Reads a bundle, and writes the evidence that it holds against a general.
+    Accuse {
+        /// Who is accused.
+        general: GeneralNo,
+    },
+    /// Reads evidence, and writes whether it holds.
+    Evidence,
+}
+
+/// Does a job, by its engine: reads its input to its end and writes what answers it, or nothing where it has
+/// a fault.
+///
+/// A fault of the input is looked for once it was read whole, and nothing is written before the output
+/// is whole. Where a read, a write, memory or a thread fails the job ends so.
+pub fn do_job<T: Threads + Wait + Sync, R: Read, W: Write>(
+    rt: &T,
+    alloc: Global,
+    job: Job,
+    reader: &mut R,
+    writer: &mut W,
+) -> JobEnd
+    requires { IsInRange job }
+    // What is written is what this job makes of what was read.
+    ensures answers { IfSome (R.remaining reader.old) (λ input.
+        Answers (JobAnswers job input) (JobFails job input)
+        (W.contents writer.old) (W.contents writer.new) result) }
+    // What was read is within the limit.
+    ensures taken { IfSome (R.remaining reader.old) (λ input. IsTaken input result) }
+    // Nothing is written before the output is whole.
+    ensures late { KeepsUntilWhole (W.contents writer.old) (W.contents writer.new) result }
+{
+    match job {
+        Job::Decide => decide_engine(alloc, reader, writer),
+        Job::Run { capacity } => run_engine(rt, alloc, capacity, reader, writer),
+        Job::Audit => audit_engine(alloc, reader, writer),
+        Job::Accuse { general } => accuse_engine(alloc, general, reader, writer),
+        Job::Evidence => evidence_engine(alloc, reader, writer),
+    }
+}

@@ -1,0 +1,30 @@
+//! The five jobs that can be done with an input: to decide, to run, to audit, to accuse and to check
+//! evidence.
+//!
+//! `decide`, `run`, `audit`, `accuse` and `evidence` take the bytes of an input, and give the text that
+//! answers it or its first fault; they need no reader, no writer and no words. Over them stand the engines,
+//! which read an input to its end and write what answers it; `do_job` takes the engine of a `Job`. A contract
+//! of an engine says what stands behind what the writer held, as far as reader and writer are known, and that
+//! nothing is written before the text is whole. It doesn't say when a reader, a writer, memory or a thread
+//! fails.
+#![tactic(auto)]
+
+mod accusing;
+mod auditing;
+mod bundle_text;
+mod checking;
+mod deciding;
+mod ends;
+mod jobs;
+mod running;
+mod transfer;
+
+pub use accusing::{accuse, accuse_engine};
+pub use auditing::{audit, audit_engine};
+pub use bundle_text::{BundleText, deliver_bundle};
+pub use checking::{evidence, evidence_engine};
+pub use deciding::{decide, decide_engine};
+pub use ends::{JobEnd, JobFault, Output};
+pub use jobs::{Job, do_job};
+pub use running::{run, run_engine, run_in_pieces};
+pub use transfer::{deliver, read_all, write_output};

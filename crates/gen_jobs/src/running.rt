@@ -1,0 +1,199 @@
+//! The job `run`.
+ghost use Rattle.std.specs.Prelude.{◌≡◌, ◌<◌, false, IfErr, IfOk, IfSome};
+ghost use Rattle.gen_audit.specs.BundleSpelling.{bundle_spelling};
+ghost use Rattle.gen_report.specs.LineReading.{fault_at};
+ghost use Rattle.gen_report.specs.declared.fault.LineFault.TheVariants.{BadSeed};
+ghost use Rattle.gen_jobs.specs.Answering.{Answers};
+ghost use Rattle.gen_jobs.specs.Ends.{IsTaken, KeepsUntilWhole};
+ghost use Rattle.gen_jobs.specs.Run.{AreWalksOfRun, IsRun, IsRunFault, MakesBundle, line_after_order};
+ghost use Rattle.gen_jobs.specs.declared.ends.JobFault.TheVariants as faults;
+
+use crate::bundle_text::{BundleText, deliver_bundle};
+use crate::ends::{JobEnd, JobFault, Output};
+use crate::transfer::read_all;
+use gen_audit::{Bundle, write_bundle};
+use gen_local::Exhibit;
+use gen_log::SealedLog;
+use gen_net::Net;
+use gen_report::{LineFault, ScenarioFault, ScenarioText, read_scenario};
+use gen_scenario::{PlainScenario, Scenario, SignedPlan};
+use gen_threads::{Gate, make_trees, run_threads};
+use gen_types::{GeneralNo, GeneralSet};
+use gen_walks::{WalkFault, Walks, make_walks};
+use std::alloc::{AllocError, Global};
+use std::io::{Read, Write};
+use std::sync::Wait;
+use std::thread::Threads;
+
+/// A gate at which nobody waits.
+struct Open;
+
+impl Gate for Open {
+    fn before_round(&self, _general: GeneralNo, _round: u8) {}
+}
+
+/// Returns how the job fails on a scenario without a seed.
+fn missing_seed(plain: &PlainScenario) -> JobFault
+    ensures { result ≡ faults.Scenario (fault_at BadSeed (line_after_order plain.now.net)) }
+{
+    JobFault::Scenario(ScenarioFault {
+        kind: LineFault::BadSeed,
+        line: plain.net().edges().len() + 7,
+    })
+}
+
+/// Makes the scenario of a plan. The trees of the generals' keys are made by threads.
+fn make_scenario<R: Threads + Sync>(
+    rt: &R,
+    alloc: Global,
+    plan: SignedPlan,
+) -> Result<Scenario, AllocError>
+    ensures { IfOk result (λ scenario. scenario ≡ plan) }
+{
+    let generals = plan.net().generals();
+    let trees = make_trees(rt, alloc, plan.master(), plan.version().height(), generals)?;
+    Scenario::of_trees(alloc, plan, trees)
+}
+
+/// Returns the best walks between these generals, or none where two of them have no short one.
+fn walks_between(alloc: Global, net: &Net, rest: &GeneralSet) -> Result<Walks, AllocError>
+    ensures { IfOk result (AreWalksOfRun net.now rest.now) }
+{
+    match make_walks(alloc, net, rest) {
+        Ok(walks) => Ok(walks),
+        Err(WalkFault::Memory) => Err(AllocError),
+        Err(_) => Ok(Walks::new(alloc)),
+    }
+}
+
+/// Shows sealed logs, each as its general's.
+fn exhibits_of(alloc: Global, logs: Vec<SealedLog>) -> Result<Vec<Exhibit>, AllocError>
+    ensures { IfOk result (λ exhibits. exhibits.items ≡ logs.items) }
+{
+    let mut exhibits = Vec::with_capacity(alloc, logs.len())?;
+    for log in logs {
+        exhibits.push_reserved(Exhibit::new(log.general(), log.into_bytes())?);
+    }
+    Ok(exhibits)
+}
+
+/// Returns the bundle of the scenario's run: the generals who have scripts are held for faulty, and all logs
+/// are shown.
+fn bundle_of_run<T: Threads + Wait + Sync>(
+    rt: &T,
+    alloc: Global,
+    capacity: u8,
+    scenario: &Scenario,
+) -> Result<Bundle, JobFault>
+    requires { 0 < capacity }
+    ensures { MakesBundle scenario.now result }
+{
+    let logs = run_threads(rt, alloc, scenario, usize::from(capacity), &Open)?;
+    let faulty = scenario.scripted();
+    let header = scenario.header().clone()?;
+    let net = header.net();
+    let walks = walks_between(alloc, net, &net.rest(&faulty))?;
+    let exhibits = exhibits_of(alloc, logs)?;
+    match Bundle::new(header, faulty, walks, exhibits) {
+        Ok(bundle) => Ok(bundle),
+        Err(fault) => Err(JobFault::Bundle(fault)),
+    }
+}
+
+/// Returns the bundle of the run of the scenario that the input spells.
+fn bundle_of<T: Threads + Wait + Sync>(
+    rt: &T,
+    alloc: Global,
+    capacity: u8,
+    input: &[u8],
+) -> Result<Bundle, JobFault>
+    requires { 0 < capacity }
+    ensures answer { IfOk result (λ bundle. IsRun input.now (bundle_spelling bundle) false) }
+    ensures fault { IfErr result (IsRunFault input.now) }
+{
+    match read_scenario(alloc, input)? {
+        ScenarioText::Plain(plain) => Err(missing_seed(&plain)),
+        ScenarioText::Signed(plan) => {
+            let scenario = make_scenario(rt, alloc, plan)?;
+            bundle_of_run(rt, alloc, capacity, &scenario)
+        }
+    }
+}
+
+/// As `run`, but the text is kept in pieces, so that its logs need no copy.
+///
+/// # Errors
+///
+/// Those of `run`.
+pub fn run_in_pieces<T: Threads + Wait + Sync>(
+    rt: &T,
+    alloc: Global,
+    capacity: u8,
+    input: &[u8],
+) -> Result<BundleText, JobFault>
+    requires { 0 < capacity }
+    ensures answer { IfOk result (λ text. IsRun input.now text false) }
+    ensures fault { IfErr result (IsRunFault input.now) }
+{
+    let bundle = bundle_of(rt, alloc, capacity, input)?;
+    Ok(BundleText::new(alloc, bundle)?)
+}
+
+/// Returns the bytes of the bundle of the run of the scenario that the input spells. They never say no. The
+/// trees of keys are made by threads, and each general runs in a thread of his own over edges that hold so
+/// many frames each, at least one: the generals who have scripts are held for faulty, all logs are shown, and
+/// the walks are the best ones between the others, or none where two of them have no short one.
+///
+/// # Errors
+///
+/// `Scenario` with the first fault of an input that spells no scenario, or `P6` at the line behind the order
+/// where it spells one without a seed; `Bundle` where what the run gives breaks a rule of bundles; `Memory`
+/// where memory is refused, and `Thread` where a thread can't be started.
+pub fn run<T: Threads + Wait + Sync>(
+    rt: &T,
+    alloc: Global,
+    capacity: u8,
+    input: &[u8],
+) -> Result<Output, JobFault>
+    requires { 0 < capacity }
+    ensures answer { IfOk result (λ o. IsRun input.now o.text.items o.negative) }
+    ensures fault { IfErr result (IsRunFault input.now) }
+{
+    let bundle = bundle_of(rt, alloc, capacity, input)?;
+    let text = write_bundle(alloc, &bundle)?;
+    Ok(Output {
+        text,
+        negative: false,
+    })
+}
+
+/// Reads a scenario text with a seed to its end, makes the trees of keys by threads, runs it, each general in
+/// a thread of his own over edges that hold so many frames each, at least one, and writes the bundle of the
+/// run: the generals who have scripts are held for faulty, all logs are shown, and the walks are the best
+/// ones between the others, or none where two of them have no short one.
+///
+/// A fault of the input is looked for once it was read whole, and nothing is written before the output
+/// is whole. Where a read, a write, memory or a thread fails the job ends so.
+#[tactic(auto, using(crate::proofs::Known::taken, crate::proofs::Delivering::answered_text, crate::proofs::Delivering::late_text, crate::proofs::Delivering::unread_answers, crate::proofs::Delivering::unread_taken, crate::proofs::Delivering::unread_late))]
+pub fn run_engine<T: Threads + Wait + Sync, R: Read, W: Write>(
+    rt: &T,
+    alloc: Global,
+    capacity: u8,
+    reader: &mut R,
+    writer: &mut W,
+) -> JobEnd
+    requires { 0 < capacity }
+    // What is written is the bundle of the run of the scenario that was read.
+    ensures answers { IfSome (R.remaining reader.old) (λ input.
+        Answers (IsRun input) (IsRunFault input)
+        (W.contents writer.old) (W.contents writer.new) result) }
+    // What was read is within the limit.
+    ensures taken { IfSome (R.remaining reader.old) (λ input. IsTaken input result) }
+    // Nothing is written before the output is whole.
+    ensures late { KeepsUntilWhole (W.contents writer.old) (W.contents writer.new) result }
+{
+    match read_all(alloc, reader) {
+        Ok(input) => deliver_bundle(writer, run_in_pieces(rt, alloc, capacity, &input)),
+        Err(fault) => JobEnd::Failed(fault),
+    }
+}

@@ -1,0 +1,71 @@
+//! The whole input, and the whole output.
+ghost use Rattle.std.specs.Prelude.{◌≡◌, ◌≤◌, IfErr, IfOk, IfSome, length};
+ghost use Rattle.gen_jobs.specs.Answering.{Delivers};
+ghost use Rattle.gen_jobs.specs.Ends.{IsReadFault, IsWritten};
+
+use crate::ends::{JobEnd, JobFault, Output};
+use std::alloc::Global;
+use std::io::{ErrorKind, Read, Write};
+
+/// The most bytes of an input.
+const MOST_BYTES: usize = 1_073_741_824;
+
+/// The most calls of `read` that an input may take, the one that finds its end included.
+const MOST_READS: u64 = 4_294_967_296;
+
+/// Returns all that the reader gives up to its end: at most 1,073,741,824 bytes, by at most 4,294,967,296
+/// calls of `read`. An interrupted read is tried again.
+///
+/// # Errors
+///
+/// `Read` where a read fails or the input is past either limit, and `Memory` where memory is refused.
+pub fn read_all<R: Read>(alloc: Global, reader: &mut R) -> Result<Vec<u8>, JobFault>
+    ensures whole { IfOk result (λ v. IfSome (R.remaining reader.old) (λ input. v.items ≡ input)) }
+    ensures short { IfOk result (λ v. length v.items ≤ 1073741824) }
+    ensures fault { IfErr result IsReadFault }
+{
+    let mut all = Vec::new(alloc);
+    let mut buffer = [0u8; 65_536];
+    for _ in 0..MOST_READS {
+        let count = match reader.read(&mut buffer) {
+            Ok(count) => count,
+            Err(e) if e.kind() == ErrorKind::Interrupted => continue,
+            Err(_) => return Err(JobFault::Read),
+        };
+        if count == 0 {
+            return Ok(all);
+        }
+        if count > MOST_BYTES - all.len() {
+            return Err(JobFault::Read);
+        }
+        if all.extend_from_slice(&buffer[..count]).is_err() {
+            return Err(JobFault::Memory);
+        }
+    }
+    Err(JobFault::Read)
+}
+
+/// Writes the whole output, and returns how the job ends by it.
+pub fn write_output<W: Write>(writer: &mut W, output: &Output) -> JobEnd
+    ensures { IsWritten output.now.text.items output.now.negative
+        (W.contents writer.old) (W.contents writer.new) result }
+{
+    if writer.write_all(&output.text).is_err() || writer.flush().is_err() {
+        return JobEnd::Failed(JobFault::Write);
+    }
+    if output.negative {
+        JobEnd::Negative
+    } else {
+        JobEnd::Done
+    }
+}
+
+/// Writes what answers the input, and returns how the job ends: so, or by the fault in its place.
+pub fn deliver<W: Write>(writer: &mut W, answer: Result<Output, JobFault>) -> JobEnd
+    ensures { Delivers answer (W.contents writer.old) (W.contents writer.new) result }
+{
+    match answer {
+        Ok(output) => write_output(writer, &output),
+        Err(fault) => JobEnd::Failed(fault),
+    }
+}

@@ -1,0 +1,220 @@
+//! Audits of runs: the logs of a scenario's run in a bundle, and the verdict on it. The verdicts were given
+//! by another program, in Python.
+use crate::bundles::{bundle_of, bundle_with, exhibits_of, scenario_of};
+use crate::scenarios::{
+    CUT, FLOOD_IN_SLOT, LATE, LINE, ONE_TOO_MANY, PAIR, RING, SCRAPS, SPLIT, TWO_HEADS,
+};
+use crate::streams::{Slip, sink_for, source_of};
+use gen_audit::BundleFault;
+use gen_jobs::{JobEnd, JobFault, audit_engine};
+use gen_net::HeaderFault;
+use gen_types::GeneralSet;
+use std::alloc::Global;
+use std::test::*;
+
+/// A scenario's text, how `audit` ends on the bundle of its run, and the verdict behind the line of the run
+/// id.
+type Row<'a> = (&'a [u8], JobEnd, &'a [u8]);
+
+const PAIR_ROW: Row<'_> = (PAIR, JobEnd::Done, b"verdict agreed 1\nend\n");
+
+const SPLIT_ROW: Row<'_> = (
+    SPLIT,
+    JobEnd::Done,
+    b"verdict agreed 0\nconvicted 0 by K2\nend\n",
+);
+
+const LINE_ROW: Row<'_> = (LINE, JobEnd::Done, b"verdict agreed 1\nend\n");
+
+const RING_ROW: Row<'_> = (
+    RING,
+    JobEnd::Done,
+    b"verdict agreed 1\nconvicted 3 by K4\nend\n",
+);
+
+const LATE_ROW: Row<'_> = (
+    LATE,
+    JobEnd::Done,
+    b"verdict agreed 1\nconvicted 0 by K3\nconvicted 1 by K4\nend\n",
+);
+
+const ONE_TOO_MANY_ROW: Row<'_> = (
+    ONE_TOO_MANY,
+    JobEnd::Done,
+    b"verdict explained\ngeneral 2 decides 1\ngeneral 3 decides 0\n\
+    convicted 0 by K3\nconvicted 1 by K4\nend\n",
+);
+
+const CUT_ROW: Row<'_> = (
+    CUT,
+    JobEnd::Negative,
+    b"verdict no\nN10 pair 0 2\nconvicted 1 by K4\nend\n",
+);
+
+const FLOOD_ROW: Row<'_> = (
+    FLOOD_IN_SLOT,
+    JobEnd::Done,
+    b"verdict agreed 0\nconvicted 0 by K4\nconvicted 1 by K4\nend\n",
+);
+
+const TWO_HEADS_ROW: Row<'_> = (
+    TWO_HEADS,
+    JobEnd::Done,
+    b"verdict agreed 1\nconvicted 1 by K1\nend\n",
+);
+
+const SCRAPS_ROW: Row<'_> = (
+    SCRAPS,
+    JobEnd::Done,
+    b"verdict agreed 1\nconvicted 1 by K4\nend\n",
+);
+
+/// Whether `audit` ends so, and writes these lines behind that of the run id.
+pub(crate) fn judges(alloc: Global, input: &[u8], wanted: JobEnd, lines: &[u8]) -> bool {
+    let mut reader = source_of(input, 65_536, 0, Slip::Fails);
+    let mut writer = sink_for(alloc, 65_536, 0, Slip::Fails);
+    let end = audit_engine(alloc, &mut reader, &mut writer);
+    end == wanted && writer.taken.len() >= 69 && &writer.taken[69..] == lines
+}
+
+/// Whether a row is so.
+fn is_right(alloc: Global, row: &Row<'_>) -> Result<bool, Fail> {
+    let (text, wanted, lines) = *row;
+    let bundle = bundle_of(alloc, text)?;
+    Ok(judges(alloc, &bundle, wanted, lines))
+}
+
+#[test]
+fn generals_who_follow_agree(rt: HostRuntime) -> Result<(), Fail> {
+    let alloc = rt.alloc();
+    let right = is_right(alloc, &PAIR_ROW)?
+        && is_right(alloc, &LINE_ROW)?
+        && is_right(alloc, &RING_ROW)?;
+    assert!(rt; right);
+    Ok(())
+}
+
+#[test]
+fn under_a_traitor_they_agree(rt: HostRuntime) -> Result<(), Fail> {
+    let alloc = rt.alloc();
+    let right = is_right(alloc, &SPLIT_ROW)?
+        && is_right(alloc, &LATE_ROW)?
+        && is_right(alloc, &FLOOD_ROW)?;
+    assert!(rt; right);
+    Ok(())
+}
+
+#[test]
+fn a_traitor_of_two_logs_or_of_scraps_is_convicted(rt: HostRuntime) -> Result<(), Fail> {
+    let alloc = rt.alloc();
+    let right = is_right(alloc, &TWO_HEADS_ROW)? && is_right(alloc, &SCRAPS_ROW)?;
+    assert!(rt; right);
+    Ok(())
+}
+
+#[test]
+fn one_traitor_too_many_is_explained(rt: HostRuntime) -> Result<(), Fail> {
+    let right = is_right(rt.alloc(), &ONE_TOO_MANY_ROW)?;
+    assert!(rt; right);
+    Ok(())
+}
+
+#[test]
+fn generals_who_are_parted_are_not_supported(rt: HostRuntime) -> Result<(), Fail> {
+    let right = is_right(rt.alloc(), &CUT_ROW)?;
+    assert!(rt; right);
+    Ok(())
+}
+
+/// How `audit` ends on this input where it writes nothing.
+fn refusal_of(alloc: Global, input: &[u8]) -> Option<JobEnd> {
+    let mut reader = source_of(input, 65_536, 0, Slip::Fails);
+    let mut writer = sink_for(alloc, 65_536, 0, Slip::Fails);
+    let end = audit_engine(alloc, &mut reader, &mut writer);
+    if writer.taken.is_empty() {
+        Some(end)
+    } else {
+        None
+    }
+}
+
+/// Whether a bundle cut at every 1,009th byte ends too early.
+fn cuts_are_short(alloc: Global, bundle: &[u8]) -> bool {
+    let short = Some(JobEnd::Failed(JobFault::Bundle(BundleFault::Truncated)));
+    for cut in 0..66usize {
+        let front = bundle.get(..cut.saturating_mul(1_009)).unwrap_or(&[]);
+        if refusal_of(alloc, front) != short {
+            return false;
+        }
+    }
+    true
+}
+
+#[test]
+fn cut_bundles_are_refused(rt: HostRuntime) -> Result<(), Fail> {
+    let alloc = rt.alloc();
+    let mut bundle = bundle_of(alloc, PAIR)?;
+    assert_eq!(rt; bundle.len(), 66_250);
+    assert!(rt; cuts_are_short(alloc, &bundle));
+    bundle.push(0)?;
+    let left_over = Some(JobEnd::Failed(JobFault::Bundle(BundleFault::LeftOver)));
+    assert!(rt; refusal_of(alloc, &bundle) == left_over);
+    Ok(())
+}
+
+/// The bundle of the smallest run with other bits of the faulty.
+fn pair_without(alloc: Global, faulty: u16) -> Result<Vec<u8>, Fail> {
+    let scenario = scenario_of(alloc, PAIR)?;
+    let exhibits = exhibits_of(alloc, &scenario)?;
+    let header = scenario.header().clone()?;
+    bundle_with(alloc, header, GeneralSet::from_bits(faulty), exhibits)
+}
+
+#[test]
+fn nobody_is_left_to_agree(rt: HostRuntime) -> Result<(), Fail> {
+    let alloc = rt.alloc();
+    let bundle = pair_without(alloc, 3)?;
+    assert!(rt; judges(alloc, &bundle, JobEnd::Negative, b"verdict no\nN11\nend\n"));
+    Ok(())
+}
+
+/// A byte of the smallest run's bundle, what it is changed to, and the fault of the bundle then.
+const CHANGES: [(usize, u8, BundleFault); 13] = [
+    (3, 0x33, BundleFault::UnknownMark),
+    (4, 0, BundleFault::BadHeader(HeaderFault::UnknownVersion)),
+    (5, 17, BundleFault::BadHeader(HeaderFault::GeneralCount)),
+    (6, 9, BundleFault::BadHeader(HeaderFault::TraitorCount)),
+    (7, 0, BundleFault::BadHeader(HeaderFault::DiameterRange)),
+    (8, 1, BundleFault::BadHeader(HeaderFault::OrderCount)),
+    (9, 2, BundleFault::BadHeader(HeaderFault::UnknownChoice)),
+    (78, 4, BundleFault::FaultyRange),
+    (79, 0x79, BundleFault::WalkCount),
+    (80, 1, BundleFault::WalkCount),
+    (82, 2, BundleFault::BadWalk),
+    (83, 0x41, BundleFault::BadExhibit),
+    (84, 2, BundleFault::BadExhibit),
+];
+
+/// Whether a bundle with this byte changed is refused for this fault.
+fn is_refused(
+    alloc: Global,
+    bundle: &[u8],
+    (offset, value, fault): (usize, u8, BundleFault),
+) -> Result<bool, Fail> {
+    let mut changed = Vec::from_slice(alloc, bundle)?;
+    if let Some(byte) = changed.get_mut(offset) {
+        *byte = value;
+    }
+    Ok(refusal_of(alloc, &changed) == Some(JobEnd::Failed(JobFault::Bundle(fault))))
+}
+
+#[test]
+fn changed_bytes_are_refused(rt: HostRuntime) -> Result<(), Fail> {
+    let alloc = rt.alloc();
+    let bundle = bundle_of(alloc, PAIR)?;
+    for change in CHANGES {
+        let refused = is_refused(alloc, &bundle, change)?;
+        assert!(rt; refused, "{}", change.0);
+    }
+    Ok(())
+}

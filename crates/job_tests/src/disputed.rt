@@ -1,0 +1,264 @@
+//! Audits of runs in dispute: logs that somebody wrote anew, a stolen key, a bent signature. The verdicts
+//! were given by another program, in Python.
+ghost use Rattle.std.specs.Prelude.{◌≡◌, IfOk};
+ghost use Rattle.gen_types.specs.declared.heights.TreeHeight.TheVariants.{Four};
+
+use crate::auditing::judges;
+use crate::bundles::{bundle_with, exhibits_of, scenario_of};
+use crate::scenarios::{PAIR, STOLEN, TRIANGLE};
+use gen_chain::{HeadText, Statement, head_digest, statement_digest};
+use gen_jobs::JobEnd;
+use gen_local::Exhibit;
+use gen_log::{last_link, read_log};
+use gen_net::Header;
+use gen_ots::SigRoom;
+use gen_tree::{KeyRing, Signature, general_seed};
+use gen_types::{GeneralNo, GeneralSet, OrderNo, Path, TreeHeight};
+use std::alloc::Global;
+use std::test::*;
+
+/// The length of a signature.
+const SIGNATURE: usize = 16_512;
+
+/// The ring of a general under a seed of zeros.
+fn ring_of(alloc: Global, general: GeneralNo) -> Result<KeyRing, Fail>
+    ensures { IfOk result (λ ring. ring.height ≡ Four) }
+{
+    let seed = general_seed(&[0; 32], general);
+    Ok(KeyRing::from_seed(alloc, &seed, TreeHeight::Four)?)
+}
+
+/// A general's signature of a digest under a leaf, whether he would sign it or not.
+fn signed(
+    alloc: Global,
+    general: GeneralNo,
+    leaf: u8,
+    digest: &[u8; 32],
+) -> Result<Signature, Fail> {
+    let room = SigRoom::new(alloc, TreeHeight::Four)?;
+    let mut ring = ring_of(alloc, general)?;
+    let key = ring.take(leaf);
+    let _leaves = ring.close();
+    match key {
+        Some(key) => Ok(key.sign(room, digest)),
+        None => Err("there is no such leaf".into()),
+    }
+}
+
+/// The digest of the head of a log whose bytes end in any signature.
+fn digest_of(
+    alloc: Global,
+    header: &Header,
+    general: GeneralNo,
+    bytes: &[u8],
+) -> Result<[u8; 32], Fail> {
+    let Ok(log) = read_log(alloc, header, bytes) else {
+        return Err("no log".into());
+    };
+    let head = HeadText {
+        general,
+        entries: log.entries().len() as u64,
+        last_link: last_link(header, general, &log),
+    };
+    Ok(head_digest(header, &head))
+}
+
+/// The exhibit of a log with these bytes up to its head, which its general seals.
+fn sealed(alloc: Global, header: &Header, number: u8, front: &[u8]) -> Result<Exhibit, Fail> {
+    let general = GeneralNo::new(number).ok_or("no general")?;
+    let mut log = Vec::new(alloc);
+    log.extend_from_slice(front)?;
+    log.extend_from_slice(&[0; SIGNATURE])?;
+    let digest = digest_of(alloc, header, general, log.as_slice())?;
+    log.truncate(front.len());
+    signed(alloc, general, 15, &digest)?.append_to(&mut log)?;
+    Ok(Exhibit::new(general, log)?)
+}
+
+/// The log of one who writes that nothing came, and that he has no order of his own.
+fn silent(alloc: Global, header: &Header, number: u8) -> Result<Exhibit, Fail> {
+    let mut front = Vec::new(alloc);
+    front.extend_from_slice(header.run_id())?;
+    front.extend_from_slice(&[0, 0, 0, 0, 0, 0, 0, 2, 1, number, 255, 5, 0, 0, 0])?;
+    sealed(alloc, header, number, front.as_slice())
+}
+
+/// The exhibits whose generals have numbers below this, and then those.
+fn exhibits_below(
+    alloc: Global,
+    shown: Vec<Exhibit>,
+    end: u8,
+    others: Vec<Exhibit>,
+) -> Result<Vec<Exhibit>, Fail> {
+    let mut exhibits = Vec::new(alloc);
+    for one in shown {
+        if one.general().get() < end {
+            exhibits.push(one)?;
+        }
+    }
+    for one in others {
+        exhibits.push(one)?;
+    }
+    Ok(exhibits)
+}
+
+/// Whether the verdict is a no with these findings.
+fn is_no(alloc: Global, bundle: &[u8], lines: &[u8]) -> bool {
+    judges(alloc, bundle, JobEnd::Negative, lines)
+}
+
+#[test]
+fn a_commander_must_have_an_order(rt: HostRuntime) -> Result<(), Fail> {
+    let alloc = rt.alloc();
+    let header = scenario_of(alloc, TRIANGLE)?.header().clone()?;
+    let mut exhibits = Vec::new(alloc);
+    for number in 0..3 {
+        exhibits.push(silent(alloc, &header, number)?)?;
+    }
+    let bundle = bundle_with(alloc, header, GeneralSet::new(), exhibits)?;
+    assert!(rt;
+        is_no(
+            alloc,
+            &bundle,
+            b"verdict no\nN7 general 0 entry 0\nconvicted 0 by K4\nend\n"
+        )
+    );
+    Ok(())
+}
+
+/// The bundle of the smallest run in which general 1 says that nothing came.
+fn disputed_edge(alloc: Global) -> Result<Vec<u8>, Fail> {
+    let scenario = scenario_of(alloc, PAIR)?;
+    let header = scenario.header().clone()?;
+    let mut others = Vec::new(alloc);
+    others.push(silent(alloc, &header, 1)?)?;
+    let exhibits = exhibits_below(alloc, exhibits_of(alloc, &scenario)?, 1, others)?;
+    bundle_with(alloc, header, GeneralSet::new(), exhibits)
+}
+
+#[test]
+fn an_edge_may_be_disputed(rt: HostRuntime) -> Result<(), Fail> {
+    let alloc = rt.alloc();
+    let bundle = disputed_edge(alloc)?;
+    assert!(rt;
+        is_no(
+            alloc,
+            &bundle,
+            b"verdict no\nN8 from 0 to 1 round 1 order 1\nend\n"
+        )
+    );
+    Ok(())
+}
+
+/// Appends a signer of order 0 along a path to a chain's bytes.
+fn put_signer(
+    alloc: Global,
+    header: &Header,
+    path: &Path,
+    chain: &mut Vec<u8>,
+) -> Result<(), Fail> {
+    let last = path.last().ok_or("no signer")?;
+    let statement = Statement {
+        order: OrderNo::at(0),
+        path: *path,
+    };
+    let digest = statement_digest(header, &statement);
+    chain.push(last.get())?;
+    signed(alloc, last, 0, &digest)?.append_to(chain)?;
+    Ok(())
+}
+
+/// The chain of order 0 that the commander, whose key was stolen, and general 3 have signed.
+fn stolen_chain(alloc: Global, header: &Header) -> Result<Vec<u8>, Fail> {
+    let mut chain = Vec::new(alloc);
+    chain.extend_from_slice(&[0, 2])?;
+    let mut path = Path::new();
+    path.push(GeneralNo::at(0))?;
+    put_signer(alloc, header, &path, &mut chain)?;
+    path.push(GeneralNo::at(3))?;
+    put_signer(alloc, header, &path, &mut chain)?;
+    Ok(chain)
+}
+
+/// The text of a scenario in which general 3 sends these bytes.
+fn text_with(alloc: Global, bytes: &[u8]) -> Result<Vec<u8>, Fail> {
+    let mut text = Vec::new(alloc);
+    text.extend_from_slice(STOLEN)?;
+    for byte in bytes {
+        text.extend_from_slice(format!(in alloc; "{byte:02x}")?.as_bytes())?;
+    }
+    text.extend_from_slice(b"\nend\n")?;
+    Ok(text)
+}
+
+/// The text of the scenario in which general 3 sends the chain of the stolen key.
+pub(crate) fn stolen_text(alloc: Global) -> Result<Vec<u8>, Fail> {
+    let no_bytes = text_with(alloc, &[0])?;
+    let header = scenario_of(alloc, &no_bytes)?.header().clone()?;
+    text_with(alloc, stolen_chain(alloc, &header)?.as_slice())
+}
+
+/// The exhibits of 0, 1 and 2 in the run with the stolen key, and its header.
+fn stolen_run(alloc: Global) -> Result<(Header, Vec<Exhibit>), Fail> {
+    let scenario = scenario_of(alloc, &stolen_text(alloc)?)?;
+    let shown = exhibits_of(alloc, &scenario)?;
+    let exhibits = exhibits_below(alloc, shown, 3, Vec::new(alloc))?;
+    Ok((scenario.header().clone()?, exhibits))
+}
+
+/// The general 3 alone.
+fn the_thief() -> GeneralSet {
+    GeneralSet::from_bits(8)
+}
+
+/// The bundle of the stolen key: general 3, who is held for faulty, shows nothing.
+pub(crate) fn stolen_bundle(alloc: Global) -> Result<Vec<u8>, Fail> {
+    let (header, exhibits) = stolen_run(alloc)?;
+    bundle_with(alloc, header, the_thief(), exhibits)
+}
+
+/// Whether the verdict is that on the bundle of the stolen key.
+pub(crate) fn is_of_stolen_key(alloc: Global, bundle: &[u8]) -> bool {
+    is_no(
+        alloc,
+        bundle,
+        b"verdict no\nN9 from 3 to 2 round 2 order 0\nconvicted 0 by K2\nend\n",
+    )
+}
+
+#[test]
+fn a_key_may_be_stolen(rt: HostRuntime) -> Result<(), Fail> {
+    let alloc = rt.alloc();
+    let bundle = stolen_bundle(alloc)?;
+    assert!(rt; is_of_stolen_key(alloc, &bundle));
+    Ok(())
+}
+
+/// The bytes of a log up to its head, with the commander's signature bent in what came from general 3.
+fn bent_front(alloc: Global, log: &[u8]) -> Result<Vec<u8>, Fail> {
+    let mut bent = Vec::new(alloc);
+    bent.extend_from_slice(log)?;
+    bent.truncate(log.len().saturating_sub(SIGNATURE));
+    for start in 0..bent.len() {
+        let signature = start.saturating_add(5);
+        if bent.get(start..signature) == Some(&[4, 3, 0, 2, 0]) {
+            if let Some(first) = bent.get_mut(signature) {
+                *first ^= 0x80;
+                return Ok(bent);
+            }
+        }
+    }
+    Err("no such chain".into())
+}
+
+#[test]
+fn a_signature_may_be_bent(rt: HostRuntime) -> Result<(), Fail> {
+    let alloc = rt.alloc();
+    let (header, mut exhibits) = stolen_run(alloc)?;
+    let last = exhibits.pop().ok_or("no exhibit")?;
+    exhibits.push(sealed(alloc, &header, 2, bent_front(alloc, last.log())?.as_slice())?)?;
+    let bundle = bundle_with(alloc, header, the_thief(), exhibits)?;
+    let lines = b"verdict no\nN5 general 2 entry 6\nN9 from 3 to 2 round 2 order 0\nend\n";
+    assert!(rt; is_no(alloc, &bundle, lines));
+    Ok(())
+}

@@ -1,0 +1,27 @@
+//! This crate has the tests of `gen_jobs`.
+//!
+//! `scenarios` has the texts, `streams` a reader and a writer that slip, and `bundles` makes bundles without
+//! the crate under test. `deciding`, `running`, `auditing`, `accusing` and `disputed` have the jobs,
+//! `over_bytes` the calls without reader and writer, and `ends` how jobs end.
+#![tactic(auto)]
+
+#[cfg(test)]
+mod accusing;
+#[cfg(test)]
+mod auditing;
+#[cfg(test)]
+mod bundles;
+#[cfg(test)]
+mod deciding;
+#[cfg(test)]
+mod disputed;
+#[cfg(test)]
+mod ends;
+#[cfg(test)]
+mod over_bytes;
+#[cfg(test)]
+mod running;
+#[cfg(test)]
+mod scenarios;
+#[cfg(test)]
+mod streams;

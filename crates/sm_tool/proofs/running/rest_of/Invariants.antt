@@ -1,6 +1,0 @@
-use Rattle.std.proofs.Common.{◌<◌, Contains}
-use Rattle.gen_types.specs.Ascending.{IsListOf}
-use Rattle.sm_tool.proofs.running.rest_of.Given as goal
-
-abbrev pub invariant-loop-number : goal.invariant-loop-number
-invariant-loop-number l = IsListOf l.rest (λ v. (v < l.number) × (Contains l.faulty v → ⊥))
