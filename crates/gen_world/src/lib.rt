@@ -11,7 +11,9 @@ mod running;
 mod world;
 mod world_decisions;
 
-pub use gen_general::{Finished, Participant, Planned, Recorder, count_frame, participant_of, recorder_of};
+pub use gen_general::{
+    Finished, Participant, Planned, Recorder, count_frame, participant_of, recorder_of,
+};
 pub use gen_scenario::{
     Decision, Delivery, Heard, Part, PlainRun, PlainScenario, Scenario, SignedPlan, SignerTree,
 };

@@ -11,10 +11,10 @@ ghost use Rattle.gen_general.specs.Driving.{StandsAfter, rows_for, rows_first, r
 ghost use Rattle.gen_scenario.specs.Rings.{ring_at};
 ghost use Rattle.gen_scenario.specs.SignedWorld.{near_of};
 
-use gen_scenario::laws::theorem_holds_of_scenarios;
 use crate::rows::{FrameRow, WorldRun};
-use gen_log::SealedLog;
 use gen_general::{Recorder, recorder_of};
+use gen_log::SealedLog;
+use gen_scenario::laws::theorem_holds_of_scenarios;
 use gen_scenario::{Decision, Scenario};
 use gen_tree::close_ring;
 use gen_types::GeneralNo;

@@ -13,9 +13,9 @@ ghost use Rattle.gen_scenario.specs.AllAre.{AllAre};
 ghost use Rattle.gen_scenario.specs.Rings.{ring_at};
 ghost use Rattle.gen_scenario.specs.SignedWorld.{near_of};
 
-use gen_scenario::laws::theorem_holds_of_scenarios;
 use gen_chain::VerifyStore;
 use gen_general::{Participant, participant_of};
+use gen_scenario::laws::theorem_holds_of_scenarios;
 use gen_scenario::{Decision, Scenario};
 use gen_tree::close_ring;
 use gen_types::GeneralNo;

@@ -1,8 +1,8 @@
 use gen_net::HeaderFault;
 use gen_report::*;
+use gen_scenario::Decision;
 use gen_script::ScriptFault;
 use gen_types::{GeneralNo, OrderNo, OrderSet, ReadError};
-use gen_scenario::Decision;
 use std::alloc::{AllocError, Global};
 use std::test::*;
 

@@ -8,9 +8,9 @@ use gen_match::Finding;
 use gen_net::{Header, read_header};
 use gen_ots::SigRoom;
 use gen_report::*;
+use gen_scenario::Decision;
 use gen_tree::Signature;
 use gen_types::{GeneralNo, OrderNo, OrderSet, Path, TreeHeight};
-use gen_scenario::Decision;
 use std::alloc::{AllocError, Global};
 use std::test::*;
 
