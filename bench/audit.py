@@ -16,7 +16,7 @@ from kernels import KEY_CRATES, KEYS_ON, built, least
 from signed import signed
 
 MEGABYTE = 1 << 20
-BUNDLE_ON = "gen_report gen_audit gen_walks gen_local gen_log gen_world gen_net gen_types anyhow"
+BUNDLE_ON = "gen_report gen_audit gen_walks gen_local gen_log gen_world gen_scenario gen_net gen_types anyhow"
 
 
 def all_crates():
