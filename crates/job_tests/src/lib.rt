@@ -2,7 +2,7 @@
 //!
 //! `scenarios` has the texts, `streams` a reader and a writer that slip, and `bundles` makes bundles without
 //! the crate under test. `deciding`, `running`, `auditing`, `accusing` and `disputed` have the jobs,
-//! `over_bytes` the calls without reader and writer, and `ends` how jobs end.
+//! `over_bytes` the calls without reader and writer, `limits` the largest inputs, and `ends` how jobs end.
 #![tactic(auto)]
 
 #[cfg(test)]
@@ -17,6 +17,8 @@ mod deciding;
 mod disputed;
 #[cfg(test)]
 mod ends;
+#[cfg(test)]
+mod limits;
 #[cfg(test)]
 mod over_bytes;
 #[cfg(test)]
