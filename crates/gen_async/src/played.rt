@@ -19,6 +19,7 @@ use std::snapshot::Snapshot;
 
 /// What a machine keeps of its scenario: the header of the run, and the commander's order. A contract sees the
 /// scenario.
+#[derive(Drop)]
 pub(crate) struct Played {
     scenario: Snapshot<Scenario>,
     header: Header,
