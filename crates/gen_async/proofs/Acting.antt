@@ -16,7 +16,7 @@ use Rattle.gen_async.specs.Actors.{ActorState, act_at, entries_at, one_more, und
 use Rattle.gen_async.specs.Logs.{log_so_far}
 use Rattle.gen_async.specs.Frames.{queue}
 use Rattle.gen_async.specs.Laws.{MoverNames}
-use Rattle.gen_async.specs.Machine.{at_start, next_act, put, taken, queued, answer, after, mover, has_moved}
+use Rattle.gen_async.specs.Machine.{at_start, next_act, put, taken, queued, answer, mover, has_moved}
 use Rattle.gen_async.specs.Running.{Machine, IsKept, Answers, progress_of, queue_at, with_queue}
 use Rattle.gen_async.proofs.Answering.{says_put, says_full, says_took, says_empty, says_done}
 use Rattle.gen_async.proofs.Movers.{mover_law}
@@ -340,3 +340,10 @@ kept_at_start sc capacity actors rows ok all empty =
           let none : queued sc.net (at_start sc.net) a b ≡ 0 = omega (arith, none_put sc.net a b, none_taken sc.net a b) in
           no_queue 256 (a * 16 + b) rows empty (omega arith) ∙ sym (ap (λ z. map (λ l. frame_at sc l a b) (range_with_len (taken sc.net (at_start sc.net) a b + 1) z)) none);
     })
+
+-- how many frames a queue holds
+pub queued_outside : (sc : Scenario) (capacity : ℕ) (progress : List ℕ) (actors : List ActorState) (rows : List (List (List (List ℕ)))) → IsKept sc capacity progress actors rows → (m : Machine) → ◌≡◌ {A = Machine} (record { scenario = sc; capacity = capacity; progress = progress }) m
+    → (a b : ℕ) → a < 16 → b < 16 → (n : ℕ) → n ≡ length (queue_at rows a b) → n ≡ queued m.scenario.net m.progress a b
+queued_outside sc capacity progress actors rows k m view a b a_small b_small n long =
+    let here : n ≡ queued sc.net progress a b = long ∙ ap length (k.queued_up a b a_small b_small) ∙ queue_length sc.net (frame_at sc) progress a b in
+    subst (λ (z : Machine). n ≡ queued z.scenario.net z.progress a b) view here

@@ -1,26 +1,31 @@
 //! The machine.
 ghost use Rattle.std.specs.Prelude.{ℕ, List, ◌≡◌, ◌<◌, ◌≤◌, ◌+◌, ◌*◌, [], Some, map, replicate, IfOk, OnOk, OnErr};
+ghost use Rattle.std.specs.Prelude.{None, option_map, slice_get};
 ghost use Rattle.std.specs.List.{flat_map};
 ghost use Rattle.gen_log.specs.Entry.{entry_spelling};
 ghost use Rattle.gen_scenario.specs.Rows.{logs_of_all};
 ghost use Rattle.gen_scenario.specs.AllAre.{AllAre};
+ghost use Rattle.gen_scenario.specs.SignedWorld.{frame_at};
 ghost use Rattle.gen_async.specs.declared.acts.Act.TheVariants.{Puts, Takes};
-ghost use Rattle.gen_async.specs.Actors.{undecided_by};
 ghost use Rattle.gen_async.specs.Laws.{AllDone, AreActs, MoverNames};
+ghost use Rattle.gen_async.specs.Frames.{queue};
 ghost use Rattle.gen_async.specs.Logs.{log_so_far};
-ghost use Rattle.gen_async.specs.Machine.{answer, at_start, has_moved, mover, next_act};
+ghost use Rattle.gen_async.specs.LogSoFar.{BeginsFirstLog, IsFirstLog, decide_at, with_last};
+ghost use Rattle.gen_async.specs.ScenarioRun.{written_by};
+ghost use Rattle.gen_async.specs.Machine.{answer, at_start, has_moved, mover, next_act, queued};
 ghost use Rattle.gen_async.specs.Running.{Answers, AreDone, RunsTo, RunsPartly, logs_at};
 
 use crate::actors::Actor;
 use crate::acts::{Act, Moved};
 use crate::frames::Frame;
-use gen_log::SealedLog;
+use crate::played::Played;
+use gen_log::{Entry, SealedLog};
 use gen_scenario::Scenario;
+use gen_script::Parcel;
 use gen_types::GeneralNo;
 use std::alloc::{AllocError, Global};
 use std::collections::VecDeque;
 use std::marker::Model;
-use std::snapshot::Snapshot;
 
 /// The generals of a scenario, who put frames on queues and take them off, one act at a time, in any order.
 ///
@@ -28,7 +33,7 @@ use std::snapshot::Snapshot;
 /// what the queues hold and what has been written follows from these. Generals may hold rings, so a machine
 /// has to be ended by `finish` or `close`.
 pub struct Machine {
-    scenario: Snapshot<Scenario>,
+    scenario: Played,
     capacity: usize,
     actors: Vec<Actor>,
     queues: Vec<VecDeque<Frame>>,
@@ -41,12 +46,12 @@ impl Model for Machine {
     ghost Value = { Machine };
 
     ghost view = { λ m. record {
-      scenario = m.scenario.value;
+      scenario = m.scenario;
       capacity = m.capacity;
       progress = progress_of m.actors.items;
     } };
 
-    ghost invariant = { λ m. IsKept m.scenario.value m.capacity (progress_of m.actors.items) m.actors.items
+    ghost invariant = { λ m. IsKept m.scenario m.capacity (progress_of m.actors.items) m.actors.items
         (map (λ queue. queue.items) m.queues.items) };
 }
 
@@ -123,6 +128,7 @@ impl Machine {
             ≡ record { scenario = scenario.now; capacity = capacity; progress = at_start scenario.now.net }) }
     {
         let _lawful = scenario.header();
+        let played = Played::of(scenario)?;
         let queues = empty_queues(alloc)?;
         let mut actors = Vec::new(alloc);
         if add_actors(alloc, scenario, &mut actors).is_err() {
@@ -130,7 +136,7 @@ impl Machine {
             return Err(AllocError);
         }
         Ok(Machine {
-            scenario: Snapshot::of(scenario),
+            scenario: played,
             capacity,
             actors,
             queues,
@@ -252,14 +258,46 @@ impl Machine {
         self.capacity
     }
 
-    /// Returns the bytes of the entries that a general has written by the acts that have moved, START first.
-    /// DECIDE isn't among them: he writes it when he ends.
-    pub fn log_so_far(&self, me: GeneralNo) -> &[u8]
+    /// Returns the log of a general so far: the bytes of the entries that he has written by the acts that have moved,
+    /// START first, and behind them DECIDE, which stands once all his acts have moved: from the start for a general
+    /// without neighbours. No memory is asked for. DECIDE is read off the bytes, which takes a walk over them.
+    ///
+    /// The bytes of both are the entries of the steps that stand (`value`). They begin those of his first log in the
+    /// run (`begins`), and are all of them once he has no act left (`whole`).
+    pub fn log_so_far(&self, me: GeneralNo) -> (&[u8], Option<Entry>)
         requires below { me < self.now.scenario.net.generals }
-        ensures { result.now ≡ flat_map entry_spelling
-            (log_so_far self.now.scenario.net (undecided_by self.now.scenario) self.now.progress me) }
+        ensures value { with_last result.0.now result.1 ≡ flat_map entry_spelling
+            (log_so_far self.now.scenario.net (written_by self.now.scenario) self.now.progress me) }
+        ensures decide { result.1 ≡ decide_at self.now.scenario me
+            (next_act self.now.scenario.net self.now.progress me) }
+        ensures begins { BeginsFirstLog self.now.scenario me (with_last result.0.now result.1) }
+        ensures whole { next_act self.now.scenario.net self.now.progress me ≡ None
+            → IsFirstLog self.now.scenario me (with_last result.0.now result.1) }
     {
-        self.actors[index_of(me)].log_so_far()
+        let actor = &self.actors[index_of(me)];
+        let written = actor.log_so_far();
+        let last = self.scenario.decide(actor.next(), me, written);
+        (written, last)
+    }
+
+    /// Returns how many frames wait on the queue from one general to another.
+    pub fn queued(&self, from: GeneralNo, to: GeneralNo) -> usize
+        ensures { result ≡ queued self.now.scenario.net self.now.progress from to }
+    {
+        self.queues[spot(from, to)].len()
+    }
+
+    /// Returns the parcels of a frame that waits on the queue from one general to another, where the front has
+    /// place 0; none where fewer frames wait. The frames are those of the scenario's run, from the number taken plus
+    /// one to the number put, in order.
+    pub fn frame_queued(&self, from: GeneralNo, to: GeneralNo, place: usize) -> Option<&[Parcel]>
+        ensures { option_map (λ parcels. parcels.now) result
+            ≡ slice_get (queue self.now.scenario.net (frame_at self.now.scenario) self.now.progress from to) place }
+    {
+        match self.queues[spot(from, to)].get(place) {
+            Some(frame) => Some(frame.parcels()),
+            None => None,
+        }
     }
 
     /// Ends a machine in which nobody has an act left, and returns the logs of the run: those of all

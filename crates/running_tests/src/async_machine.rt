@@ -35,7 +35,7 @@ fn run_on(alloc: Global, machine: &mut Machine, times: u8) -> Result<(), AllocEr
 /// How many bytes a general has written, 0 of a general that there isn't.
 fn written(machine: &Machine, number: u8) -> usize {
     match GeneralNo::new(number) {
-        Some(me) if me.get() < machine.generals() => machine.log_so_far(me).len(),
+        Some(me) if me.get() < machine.generals() => machine.log_so_far(me).0.len(),
         _ => 0,
     }
 }

@@ -4,6 +4,8 @@
 #[cfg(test)]
 mod async_laws;
 #[cfg(test)]
+mod async_logs;
+#[cfg(test)]
 mod async_machine;
 #[cfg(test)]
 mod async_order;

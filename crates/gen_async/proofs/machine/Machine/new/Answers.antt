@@ -11,7 +11,7 @@ invariant_of-result c =
     let actors = c.add_actors.new.actors.items in
     let e : is_err c.add_actors.result ≡ false = sym c.is_err.ensures.value ∙ c.if-is_err.false in
     let all : AllStart s actors = on_ok c.add_actors.result c.add_actors.ensures e in
-    subst (λ (z : Scenario). IsKept z c.args.capacity (progress_of actors) actors (map (λ queue. queue.items) c.in_ok-queues.queues.items)) (sym c.of.ensures) (kept_at_start s c.args.capacity actors (map (λ queue. queue.items) c.in_ok-queues.queues.items) c.header-lawful.ensures.scenario all c.in_ok-queues.ensures)
+    subst (λ (z : Scenario). IsKept z c.args.capacity (progress_of actors) actors (map (λ queue. queue.items) c.in_ok-queues.queues.items)) (sym c.in_ok-played.ensures) (kept_at_start s c.args.capacity actors (map (λ queue. queue.items) c.in_ok-queues.queues.items) c.header-lawful.ensures.scenario all c.in_ok-queues.ensures)
 
 pub returns : goal.returns
 returns c =
@@ -19,5 +19,5 @@ returns c =
     let actors = c.add_actors.new.actors.items in
     let e : is_err c.add_actors.result ≡ false = sym c.is_err.ensures.value ∙ c.if-is_err.false in
     let all : AllStart s actors = on_ok c.add_actors.result c.add_actors.ensures e in
-    ap (λ (z : Scenario). let m : Machine = record { scenario = z; capacity = c.args.capacity; progress = progress_of actors } in m) c.of.ensures
+    ap (λ (z : Scenario). let m : Machine = record { scenario = z; capacity = c.args.capacity; progress = progress_of actors } in m) c.in_ok-played.ensures
     ∙ ap (λ (z : List ℕ). let m : Machine = record { scenario = s; capacity = c.args.capacity; progress = z } in m) (start_is s actors all)

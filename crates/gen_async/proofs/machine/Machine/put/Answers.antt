@@ -12,7 +12,7 @@ use Rattle.gen_async.proofs.machine.Machine.put.Goals as goal
 pub returns-then-len-self-clause-ok : goal.returns-then-len-self-clause-ok
 returns-then-len-self-clause-ok c =
     let i = c.self.inside in
-    let s = i.scenario.value in
+    let s = i.scenario in
     let l = c.requires.next.0 in
     let next = next_inside c.args.self.now s i.capacity (progress_of i.actors.items) c.args.me (Some (Puts l c.args.to)) c.self.view_is c.requires.next.1 in
     let below = below_inside c.args.self.now s i.capacity (progress_of i.actors.items) c.args.me c.self.view_is c.requires.below in
@@ -26,7 +26,7 @@ returns-then-len-self-clause-ok c =
 pub invariant_of-self-in_err-reserve : goal.invariant_of-self-in_err-reserve
 invariant_of-self-in_err-reserve c =
     let i = c.self.inside in
-    let s = i.scenario.value in
+    let s = i.scenario in
     let there : c.spot.result < length i.queues.items = omega (arith, c.self.invariant.all_rows, length-map i.queues.items (λ queue. queue.items), c.spot.ensures.below) in
     let back = same_at (λ queue. queue.items) i.queues.items c.spot.result there c.index_mut-queue.result.now c.index_mut-queue.ensures.value c.reserve.new.self c.reserve.ensures.items in
     subst (λ z. IsKept s i.capacity (progress_of i.actors.items) i.actors.items z) (sym back) c.self.invariant
@@ -34,7 +34,7 @@ invariant_of-self-in_err-reserve c =
 pub put-requires : goal.put-requires
 put-requires c =
     let i = c.self.inside in
-    let s = i.scenario.value in
+    let s = i.scenario in
     let l = c.requires.next.0 in
     let next = next_inside c.args.self.now s i.capacity (progress_of i.actors.items) c.args.me (Some (Puts l c.args.to)) c.self.view_is c.requires.next.1 in
     let below = below_inside c.args.self.now s i.capacity (progress_of i.actors.items) c.args.me c.self.view_is c.requires.below in
@@ -43,7 +43,7 @@ put-requires c =
 pub invariant_of-self-in_err-frame : goal.invariant_of-self-in_err-frame
 invariant_of-self-in_err-frame c =
     let i = c.self.inside in
-    let s = i.scenario.value in
+    let s = i.scenario in
     let there : c.spot.result < length i.queues.items = omega (arith, c.self.invariant.all_rows, length-map i.queues.items (λ queue. queue.items), c.spot.ensures.below) in
     let back = same_at (λ queue. queue.items) i.queues.items c.spot.result there c.index_mut-queue.result.now c.index_mut-queue.ensures.value c.reserve.new.self c.reserve.ensures.items in
     kept_same s i.capacity i.actors.items (map (λ queue. queue.items) i.queues.items) _ c.index_of.result c.index_mut.result.now c.put.new.self c.self.invariant c.index_mut.ensures.value c.in_err-frame.ensures.err back
@@ -51,7 +51,7 @@ invariant_of-self-in_err-frame c =
 pub invariant_of-self-2 : goal.invariant_of-self-2
 invariant_of-self-2 c =
     let i = c.self.inside in
-    let s = i.scenario.value in
+    let s = i.scenario in
     let rows = map (λ queue. queue.items) i.queues.items in
     let progress = progress_of i.actors.items in
     let l = c.requires.next.0 in
@@ -73,7 +73,7 @@ invariant_of-self-2 c =
 pub returns-clause-ok : goal.returns-clause-ok
 returns-clause-ok c =
     let i = c.self.inside in
-    let s = i.scenario.value in
+    let s = i.scenario in
     let rows = map (λ queue. queue.items) i.queues.items in
     let progress = progress_of i.actors.items in
     let l = c.requires.next.0 in

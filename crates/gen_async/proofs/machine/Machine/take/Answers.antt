@@ -12,7 +12,7 @@ use Rattle.gen_async.proofs.machine.Machine.take.Goals as goal
 pub returns-in_default-clause-ok : goal.returns-in_default-clause-ok
 returns-in_default-clause-ok c =
     let i = c.self.inside in
-    let s = i.scenario.value in
+    let s = i.scenario in
     let l = c.requires.next.0 in
     let next = next_inside c.args.self.now s i.capacity (progress_of i.actors.items) c.args.me (Some (Takes l c.args.from)) c.self.view_is c.requires.next.1 in
     let below = below_inside c.args.self.now s i.capacity (progress_of i.actors.items) c.args.me c.self.view_is c.requires.below in
@@ -27,7 +27,7 @@ returns-in_default-clause-ok c =
 pub take-requires : goal.take-requires
 take-requires c =
     let i = c.self.inside in
-    let s = i.scenario.value in
+    let s = i.scenario in
     let rows = map (λ queue. queue.items) i.queues.items in
     let progress = progress_of i.actors.items in
     let l = c.requires.next.0 in
@@ -48,7 +48,7 @@ take-requires c =
 pub invariant_of-self-2 : goal.invariant_of-self-2
 invariant_of-self-2 c =
     let i = c.self.inside in
-    let s = i.scenario.value in
+    let s = i.scenario in
     let rows = map (λ queue. queue.items) i.queues.items in
     let progress = progress_of i.actors.items in
     let l = c.requires.next.0 in
@@ -68,7 +68,7 @@ invariant_of-self-2 c =
 pub returns-clause-ok : goal.returns-clause-ok
 returns-clause-ok c =
     let i = c.self.inside in
-    let s = i.scenario.value in
+    let s = i.scenario in
     let rows = map (λ queue. queue.items) i.queues.items in
     let progress = progress_of i.actors.items in
     let l = c.requires.next.0 in

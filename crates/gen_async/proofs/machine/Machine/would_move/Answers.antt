@@ -9,7 +9,7 @@ use Rattle.gen_async.proofs.machine.Machine.would_move.Goals as goal
 pub returns-in_default : goal.returns-in_default
 returns-in_default c =
     let i = c.self.inside in
-    let s = i.scenario.value in
+    let s = i.scenario in
     let below = below_inside c.args.self.now s i.capacity (progress_of i.actors.items) c.args.me c.self.view_is c.requires.below in
     let reads = act_read s i.capacity (progress_of i.actors.items) i.actors.items (map (λ queue. queue.items) i.queues.items) c.self.invariant c.args.me below c.index_of.result c.index.result.now c.index_of.ensures c.index.ensures in
     would_none s i.capacity (progress_of i.actors.items) i.actors.items (map (λ queue. queue.items) i.queues.items) c.self.invariant c.args.me below c.args.self.now c.self.view_is (sym reads ∙ sym c.next.ensures ∙ c.in_default.is)
@@ -17,7 +17,7 @@ returns-in_default c =
 pub returns-in-Puts : goal.returns-in-Puts
 returns-in-Puts c =
     let i = c.self.inside in
-    let s = i.scenario.value in
+    let s = i.scenario in
     let below = below_inside c.args.self.now s i.capacity (progress_of i.actors.items) c.args.me c.self.view_is c.requires.below in
     let reads = act_read s i.capacity (progress_of i.actors.items) i.actors.items (map (λ queue. queue.items) i.queues.items) c.self.invariant c.args.me below c.index_of.result c.index.result.now c.index_of.ensures c.index.ensures in
     let q = c.index-in-Puts.result.now in
@@ -29,7 +29,7 @@ returns-in-Puts c =
 pub returns-in-Takes : goal.returns-in-Takes
 returns-in-Takes c =
     let i = c.self.inside in
-    let s = i.scenario.value in
+    let s = i.scenario in
     let below = below_inside c.args.self.now s i.capacity (progress_of i.actors.items) c.args.me c.self.view_is c.requires.below in
     let reads = act_read s i.capacity (progress_of i.actors.items) i.actors.items (map (λ queue. queue.items) i.queues.items) c.self.invariant c.args.me below c.index_of.result c.index.result.now c.index_of.ensures c.index.ensures in
     let q = c.index-in-Takes.result.now in

@@ -1,0 +1,77 @@
+//! The scenario that a machine plays.
+ghost use Rattle.std.specs.Prelude.{List, ◌≡◌, Some, None, IfOk};
+ghost use Rattle.gen_log.specs.declared.entries.Entry.{Entry as Said};
+ghost use Rattle.gen_scenario.specs.Scenario.{header_of};
+ghost use Rattle.gen_scenario.specs.SignedWorld.{own_order};
+ghost use Rattle.gen_scenario.specs.WorldLogs.{decide_entry};
+ghost use Rattle.gen_async.specs.Decided.{AreBytesOf};
+ghost use Rattle.gen_async.specs.declared.acts.Act.{Act as Does};
+
+use crate::acts::Act;
+use crate::decided::decide_behind;
+use gen_log::Entry;
+use gen_net::Header;
+use gen_scenario::Scenario;
+use gen_types::{GeneralNo, OrderNo};
+use std::alloc::AllocError;
+use std::marker::Model;
+use std::snapshot::Snapshot;
+
+/// What a machine keeps of its scenario: the header of the run, and the commander's order. A contract sees the
+/// scenario.
+#[derive(Drop)]
+pub(crate) struct Played {
+    scenario: Snapshot<Scenario>,
+    header: Header,
+    order: OrderNo,
+}
+
+impl Model for Played {
+    ghost use Rattle.std.specs.Prelude.{◌≡◌};
+    ghost use Rattle.gen_scenario.specs.Scenario.{Scenario, header_of};
+
+    ghost Value = { Scenario };
+
+    ghost view = { λ p. p.scenario.value };
+
+    ghost invariant = { λ p. record {
+      header : p.header ≡ header_of p.scenario.value;
+      order : p.order ≡ p.scenario.value.order;
+    } };
+}
+
+impl Played {
+    /// Keeps what a machine needs of a scenario.
+    pub(crate) fn of(scenario: &Scenario) -> Result<Played, AllocError>
+        ensures { IfOk result (λ played. played ≡ scenario.now) }
+    {
+        Ok(Played {
+            scenario: Snapshot::of(scenario),
+            header: scenario.header().clone()?,
+            order: scenario.order(),
+        })
+    }
+
+    /// Returns the order that a general has of his own, as the commander has one.
+    fn own(&self, me: GeneralNo) -> Option<OrderNo>
+        ensures { result ≡ own_order self.now me }
+    {
+        if me.get() == 0 {
+            Some(self.order)
+        } else {
+            None
+        }
+    }
+
+    /// Returns the DECIDE that stands behind these entries of a general who has no act left, none of one who has.
+    pub(crate) fn decide(&self, next: Option<Act>, me: GeneralNo, written: &[u8]) -> Option<Entry>
+        ensures acting { (act : Does) → next ≡ Some act → result ≡ None }
+        ensures done { next ≡ None → (entries : List Said) → AreBytesOf (header_of self.now) entries written.now
+            → result ≡ Some (decide_entry self.now.net (own_order self.now me) entries) }
+    {
+        match next {
+            Some(_) => None,
+            None => Some(decide_behind(&self.header, self.own(me), written)),
+        }
+    }
+}
