@@ -1,9 +1,9 @@
 //! How a run of threads ends.
-ghost use Rattle.std.specs.Prelude.{ℕ, ◌≡◌, ◌<◌, ◌+◌, ◌++◌, ◌≤◌, [], length, IfOk, OnOk, vec_len, vec_capacity};
+ghost use Rattle.std.specs.Prelude.{ℕ, ◌≡◌, ◌<◌, ◌+◌, ◌++◌, ◌≤◌, [], length, IfErr, IfOk, OnOk, vec_len, vec_capacity};
 ghost use Rattle.gen_scenario.specs.Rows.{logs_of_all};
 ghost use Rattle.gen_scenario.specs.Scenario as scenarios;
 ghost use Rattle.gen_threads.specs.Ending.{logs_by};
-ghost use Rattle.gen_threads.specs.Faults.{worse_of};
+ghost use Rattle.gen_threads.specs.Faults.{IsRunFault, answered_fault, worse_of};
 ghost use Rattle.gen_threads.specs.Works.{AreParts, ArePromised, IsTurn, TurnsFrom};
 ghost use Rattle.gen_threads.specs.declared.edges.Edges.{Edges as AllEdges};
 
@@ -138,6 +138,16 @@ fn worse(first: Result<(), RunFault>, second: Result<(), RunFault>) -> Result<()
     }
 }
 
+/// Returns what a run answers whose worst fault this is: a neighbour's early end as a thread that was not started.
+fn answered(fault: RunFault) -> RunFault
+    ensures { result ≡ answered_fault fault }
+{
+    match fault {
+        RunFault::Memory => RunFault::Memory,
+        RunFault::Thread | RunFault::Gone => RunFault::Thread,
+    }
+}
+
 /// Appends a general's logs, or returns why he has none.
 fn gather_one(turn: Turn, logs: &mut Vec<SealedLog>) -> Result<(), RunFault>
     ensures { (edges : AllEdges) (s : scenarios.Scenario) (g : ℕ) → IsTurn edges s g turn
@@ -163,13 +173,16 @@ pub(crate) fn gather(
     requires count { vec_len turns ≡ scenario.now.net.generals }
     requires turns { TurnsFrom edges.now scenario.now 0 turns.items }
     requires empty { logs.items ≡ [] }
-    ensures { IfOk result (λ logs. logs.items ≡ logs_of_all scenario.now) }
+    ensures logs { IfOk result (λ logs. logs.items ≡ logs_of_all scenario.now) }
+    ensures fault { IfErr result IsRunFault }
 {
     let mut logs = logs;
     let mut outcome = Ok(());
     for turn in turns {
         outcome = worse(outcome, gather_one(turn, &mut logs));
     }
-    outcome?;
-    Ok(logs)
+    match outcome {
+        Ok(()) => Ok(logs),
+        Err(fault) => Err(answered(fault)),
+    }
 }

@@ -1,13 +1,14 @@
 //! One round of a general.
-ghost use Rattle.std.specs.Prelude.{ℕ, ◌≡◌, ◌<◌, ◌+◌, [], OnOk};
+ghost use Rattle.std.specs.Prelude.{ℕ, ◌≡◌, ◌<◌, ◌+◌, [], Any, IfErr, OnOk};
 ghost use Rattle.std.specs.List.{AllZip};
-ghost use Rattle.gen_edge.specs.Frames.{Parcels, carried, round};
+ghost use Rattle.gen_edge.specs.Frames.{Parcels, carried, gone as last_word, round};
 ghost use Rattle.gen_net.specs.Network.{AreNeighbours, rounds};
 ghost use Rattle.gen_general.specs.DrivenRecords.{HasSent, HasHeard, RecordsAfter};
 ghost use Rattle.gen_scenario.specs.Scenario.{header_of};
 ghost use Rattle.gen_scenario.specs.SignedWorld.{frame_at, neighbours_of};
 ghost use Rattle.gen_threads.specs.Edges.{ArePassesOf, HasPut, HasTakenBy, HaveCarried, IsPutOn, IsTakeBy};
 ghost use Rattle.gen_threads.specs.Ending.{RingComesBack};
+ghost use Rattle.gen_threads.specs.Faults.{HasLastWord, IsOwnFault};
 ghost use Rattle.gen_threads.specs.Turns.{HasPutUntil, HasTakenUntil, IsPutting, IsTaking, place_of_next};
 
 use crate::edges::Edges;
@@ -65,6 +66,7 @@ fn take_next<R: Wait>(
         (neighbours_of part.now.scenario.net part.now.me) takes.new.items }
     ensures passes { AllZip (IsTakeBy edges.now part.now.me)
         (neighbours_of part.now.scenario.net part.now.me) takes.new.items }
+    ensures last { carried result ≡ last_word → Any HasLastWord takes.new.items }
 {
     let edge = edges.edge(from, part.part().me()).unwrap();
     take_frame(rt, edge, &mut takes[place])
@@ -155,6 +157,7 @@ fn take_from<R: Wait>(
         (IsTaking edges.now part.now.scenario gone part.now.me (from + 1) place.new recorder.new takes.new.items) }
     ensures passes { AllZip (IsTakeBy edges.now part.now.me)
         (neighbours_of part.now.scenario.net part.now.me) takes.new.items }
+    ensures fault { IfErr result (IsOwnFault takes.new.items) }
     ensures ring { recorder.new.standing.ring ≡ recorder.old.standing.ring }
 {
     let known = part.part();
@@ -189,6 +192,7 @@ fn take_all<R: Wait>(
         (neighbours_of part.now.scenario.net part.now.me) takes.new.items) }
     ensures passes { AllZip (IsTakeBy edges.now part.now.me)
         (neighbours_of part.now.scenario.net part.now.me) takes.new.items }
+    ensures fault { IfErr result (IsOwnFault takes.new.items) }
     ensures ring { recorder.new.standing.ring ≡ recorder.old.standing.ring }
 {
     let mut place = 0;
@@ -219,6 +223,7 @@ pub(crate) fn run_round<R: Wait>(
     ensures carried { OnOk result
         (HaveCarried edges.now part.now.scenario (gone + 1) part.now.me puts.new.items takes.new.items) }
     ensures passes { ArePassesOf edges.now part.now.scenario part.now.me puts.new.items takes.new.items }
+    ensures fault { IfErr result (IsOwnFault takes.new.items) }
     ensures ring { RingComesBack (header_of part.now.scenario) recorder.old.standing.ring recorder.new.standing.ring }
 {
     let _lawful = part.part();

@@ -5,6 +5,7 @@ ghost use Rattle.gen_general.specs.DrivenRecords.{RecordsAfter};
 ghost use Rattle.gen_scenario.specs.Scenario.{header_of};
 ghost use Rattle.gen_threads.specs.Edges.{ArePassesOf, HaveCarried};
 ghost use Rattle.gen_threads.specs.Ending.{IsEndOf, MayRunWith, RingComesBack, logs_by};
+ghost use Rattle.gen_threads.specs.Faults.{IsOwnFault};
 ghost use Rattle.gen_threads.specs.Turns.{AreOver};
 
 use crate::edges::Edges;
@@ -54,6 +55,7 @@ fn run_rounds<R: Wait, G: Gate>(
     ensures carried { OnOk result (HaveCarried edges.now part.now.scenario (rounds part.now.scenario.net)
         part.now.me puts.new.items takes.new.items) }
     ensures passes { ArePassesOf edges.now part.now.scenario part.now.me puts.new.items takes.new.items }
+    ensures fault { IfErr result (IsOwnFault takes.new.items) }
     ensures ring { RingComesBack (header_of part.now.scenario) recorder.old.standing.ring recorder.new.standing.ring }
 {
     let me = part.part().me();
@@ -88,6 +90,7 @@ fn run_to_end<R: Wait, G: Gate>(
     ensures carried { OnOk result (HaveCarried edges.now part.now.scenario (rounds part.now.scenario.net)
         part.now.me puts.new.items takes.new.items) }
     ensures passes { ArePassesOf edges.now part.now.scenario part.now.me puts.new.items takes.new.items }
+    ensures fault { IfErr result (λ fault. IsOwnFault takes.new.items fault.0) }
 {
     let mut recorder = match begin(alloc, part, ring) {
         Ok(recorder) => recorder,
@@ -109,7 +112,8 @@ fn run_to_end<R: Wait, G: Gate>(
 ///
 /// A general who can't go on tells his neighbours: he tries in turns to put the last word on each edge from him that
 /// hasn't had all frames, and takes what comes, until each edge to him has given its last. Whatever comes, the ring and
-/// the passes come back.
+/// the passes come back. His fault is Memory, or Gone, and that only where one of his passes has taken a neighbour's
+/// last word; it is never Thread.
 pub fn run_general<R: Wait, G: Gate>(
     rt: &R,
     alloc: Global,

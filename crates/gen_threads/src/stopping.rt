@@ -1,10 +1,11 @@
 //! How a general who can't go on ends his edges.
-ghost use Rattle.std.specs.Prelude.{◌≡◌, ◌<◌, ◌+◌, true};
+ghost use Rattle.std.specs.Prelude.{◌≡◌, ◌<◌, ◌+◌, Any, true};
 ghost use Rattle.std.specs.List.{AllZip};
 ghost use Rattle.gen_edge.specs.Ends.{IsPutPassOf, IsTakePassOf};
 ghost use Rattle.gen_net.specs.Network.{AreNeighbours, rounds};
 ghost use Rattle.gen_scenario.specs.SignedWorld.{neighbours_of};
 ghost use Rattle.gen_threads.specs.Edges.{ArePassesIn, IsPutOn, IsTakeBy};
+ghost use Rattle.gen_threads.specs.Faults.{HasLastWord};
 ghost use Rattle.gen_threads.specs.Turns.{AreOver, AreOverUntil, IsOverUntil, IsPutOver, IsTakeOver, place_of_next};
 
 use crate::edges::Edges;
@@ -32,6 +33,7 @@ fn end_put<R: Wait>(rt: &R, edge: &Edge, rounds: u8, pass: &mut PutPass) -> bool
 fn end_take<R: Wait>(rt: &R, edge: &Edge, rounds: u8, pass: &mut TakePass) -> bool
     requires { IsTakePassOf edge.now pass.old }
     ensures pass { IsTakePassOf edge.now pass.new }
+    ensures kept { HasLastWord pass.old → HasLastWord pass.new }
     ensures over { result ≡ true → IsTakeOver rounds pass.new }
 {
     if pass.taken() >= rounds || pass.has_ended() {
@@ -76,6 +78,7 @@ fn end_take_from<R: Wait>(
     requires place { place ≡ place_of_next net.now me from }
     requires passes { AllZip (IsTakeBy edges.now me) (neighbours_of net.now me) takes.old.items }
     ensures passes { AllZip (IsTakeBy edges.now me) (neighbours_of net.now me) takes.new.items }
+    ensures kept { Any HasLastWord takes.old.items → Any HasLastWord takes.new.items }
     ensures over { result ≡ true → IsOverUntil (IsTakeOver (rounds net.now)) place takes.old.items
         → IsOverUntil (IsTakeOver (rounds net.now)) (place + 1) takes.new.items }
 {
@@ -100,6 +103,7 @@ fn end_both<R: Wait>(
     requires passes { ArePassesIn edges.now net.now me puts.old.items takes.old.items }
     ensures place { place.new ≡ place_of_next net.now me (other + 1) }
     ensures passes { ArePassesIn edges.now net.now me puts.new.items takes.new.items }
+    ensures kept { Any HasLastWord takes.old.items → Any HasLastWord takes.new.items }
     ensures over { result ≡ true → AreOverUntil (rounds net.now) place.old puts.old.items takes.old.items
         → AreOverUntil (rounds net.now) place.new puts.new.items takes.new.items }
 {
@@ -125,6 +129,7 @@ pub(crate) fn stop_once<R: Wait>(
 ) -> bool
     requires { ArePassesIn edges.now net.now me puts.old.items takes.old.items }
     ensures passes { ArePassesIn edges.now net.now me puts.new.items takes.new.items }
+    ensures kept { Any HasLastWord takes.old.items → Any HasLastWord takes.new.items }
     ensures over { result ≡ true → AreOver (rounds net.now) puts.new.items takes.new.items }
 {
     let mut place = 0;
@@ -148,6 +153,7 @@ pub(crate) fn stop<R: Wait>(
 )
     requires { ArePassesIn edges.now net.now me puts.old.items takes.old.items }
     ensures passes { ArePassesIn edges.now net.now me puts.new.items takes.new.items }
+    ensures kept { Any HasLastWord takes.old.items → Any HasLastWord takes.new.items }
     ensures over { AreOver (rounds net.now) puts.new.items takes.new.items }
 {
     let backoff = Backoff::new();

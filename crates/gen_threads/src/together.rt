@@ -1,6 +1,7 @@
 //! All generals in threads.
-ghost use Rattle.std.specs.Prelude.{◌≡◌, ◌<◌, ◌≤◌, [], length, IfOk, vec_len, vec_capacity};
+ghost use Rattle.std.specs.Prelude.{◌≡◌, ◌<◌, ◌≤◌, [], length, IfErr, IfOk, vec_len, vec_capacity};
 ghost use Rattle.gen_scenario.specs.Rows.{logs_of_all};
+ghost use Rattle.gen_threads.specs.Faults.{IsRunFault};
 ghost use Rattle.gen_threads.specs.Works.{AreParts, AreWorks, TurnsFrom};
 
 use crate::edges::Edges;
@@ -103,8 +104,8 @@ fn run_works<R: Threads + Wait + Sync, G: Gate + Sync>(
 ///
 /// # Errors
 ///
-/// Memory where it was refused to this thread or to a general; else Thread where a thread could not be started;
-/// else Gone where a neighbour ended early, which no run has by itself.
+/// Memory where it was refused to this thread or to a general; else Thread where a thread could not be started, or
+/// where a neighbour ended early, which no run has by itself. Never Gone.
 pub fn run_threads<R: Threads + Wait + Sync, G: Gate + Sync>(
     rt: &R,
     alloc: Global,
@@ -113,7 +114,8 @@ pub fn run_threads<R: Threads + Wait + Sync, G: Gate + Sync>(
     gate: &G,
 ) -> Result<Vec<SealedLog>, RunFault>
     requires { 0 < capacity }
-    ensures { IfOk result (λ logs. logs.items ≡ logs_of_all scenario.now) }
+    ensures logs { IfOk result (λ logs. logs.items ≡ logs_of_all scenario.now) }
+    ensures fault { IfErr result IsRunFault }
 {
     let parts = make_parts(alloc, scenario)?;
     let (edges, works) = make_works(alloc, scenario, capacity)?;

@@ -25,7 +25,7 @@ loop-turn-preserved c =
       rw c.worse-outcome.ensures logs,
     )
 
-pub returns : goal.returns
-returns c =
+pub returns-in-Ok-clause-logs : goal.returns-in-Ok-clause-logs
+returns-in-Ok-clause-logs c =
     let s = c.args.scenario.now in let i = c.loop-turn.invariant in
-    gathered_all s i.0 _ c.loop-turn.outcome c.in_ok-outcome.field-0 c.loop-turn.logs.items c.in_ok-outcome.was c.in-None.ensures.steps.0 i.1 i.3
+    gathered_all s i.0 _ c.loop-turn.outcome _ c.loop-turn.logs.items c.in-Ok.is c.in-None.ensures.steps.0 i.1 i.3

@@ -4,6 +4,8 @@ use Rattle.gen_edge.specs.Ends.{IsTakePassOf, take_view}
 use Rattle.gen_threads.specs.Edges.{IsTakeBy, edge_at}
 use Rattle.gen_threads.specs.Turns.{HasTakenUntil}
 use Rattle.gen_threads.proofs.Carrying.{frame_came, has_taken_more, taken_others}
+use Rattle.gen_threads.specs.Faults.{HasLastWord}
+use Rattle.gen_threads.proofs.LastWords.{any_here, last_taken}
 use Rattle.gen_threads.proofs.Passing.{is_there, is_that, near_some, near_inside, near_at, near_set}
 use Rattle.gen_threads.proofs.rounds.take_next.Goals as goal
 
@@ -41,6 +43,12 @@ returns-clause-frame g c number parcels is =
       near_set s.net me from c.requires.from.0 c.requires.from.1 c.args.takes.now.items c.args.place c.requires.place (HasTakenUntil edges s gone from me) (HasTakenUntil edges s gone (from + 1) me)
           (λ a b o h. taken_others edges s gone me from a b o h) q (has_taken_more edges s gone me from c.requires.gone x number parcels is p q has on c.take_frame.ensures.taken) c.requires.passes,
     )
+
+pub returns-clause-last : goal.returns-clause-last
+returns-clause-last g c is =
+    let s = c.args.part.now.scenario in let me = c.args.part.now.me in
+    let r = near_inside s.net me c.args.from c.requires.from.0 c.requires.from.1 c.args.takes.now.items c.args.place c.requires.place (HasTakenUntil c.args.edges.now s c.args.gone c.args.from me) c.requires.passes in
+    any_here HasLastWord c.args.takes.now.items c.args.place r c.take_frame.new.pass (last_taken c.take_frame.result c.index_mut.result.now c.take_frame.new.pass is c.take_frame.ensures.taken)
 
 pub returns-clause-passes : goal.returns-clause-passes
 returns-clause-passes g c =

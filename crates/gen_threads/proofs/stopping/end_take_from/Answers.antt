@@ -5,6 +5,8 @@ use Rattle.gen_net.specs.Network.{rounds}
 use Rattle.gen_general.proofs.Worlds.{set_done}
 use Rattle.gen_threads.specs.Edges.{IsTakeBy, edge_at}
 use Rattle.gen_threads.specs.Turns.{IsTakeOver}
+use Rattle.gen_threads.specs.Faults.{HasLastWord}
+use Rattle.gen_threads.proofs.LastWords.{any_kept}
 use Rattle.gen_threads.proofs.Passing.{is_there, is_that, near_some, near_inside, near_at, near_set}
 use Rattle.gen_threads.proofs.stopping.end_take_from.Goals as goal
 
@@ -35,6 +37,11 @@ returns-clause-passes g c =
     let same = is_that (λ e. e.now) c.edge.result (edge_at edges from me) c.unwrap-edge.result on.edge c.edge.ensures on.there c.unwrap-edge.ensures in
     let now : IsTakeBy edges me from c.end_take.new.pass = record { edge = on.edge; there = on.there; of_edge = subst (λ (e : Edge). IsTakePassOf e c.end_take.new.pass) same c.end_take.ensures.pass } in
     near_set c.args.net.now me from c.requires.from.0 c.requires.from.1 c.args.takes.now.items c.args.place c.requires.place (IsTakeBy edges me) (IsTakeBy edges me) (λ a b o h. h) c.end_take.new.pass now c.requires.passes
+
+pub returns-clause-kept : goal.returns-clause-kept
+returns-clause-kept g c =
+    let r = near_inside c.args.net.now c.args.me c.args.from c.requires.from.0 c.requires.from.1 c.args.takes.now.items c.args.place c.requires.place (IsTakeBy c.args.edges.now c.args.me) c.requires.passes in
+    any_kept HasLastWord c.args.takes.now.items c.args.place r c.index_mut.result.now c.end_take.new.pass c.index_mut.ensures.value c.end_take.ensures.kept
 
 pub returns-clause-over : goal.returns-clause-over
 returns-clause-over g c over before =
