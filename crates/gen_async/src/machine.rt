@@ -288,13 +288,13 @@ impl Machine {
     }
 
     /// Returns the parcels of a frame that waits on the queue from one general to another, where the front has
-    /// place 0; none where fewer frames wait. The frames are those of the scenario's run, from the number taken plus
+    /// index 0; none where fewer frames wait. The frames are those of the scenario's run, from the number taken plus
     /// one to the number put, in order.
-    pub fn frame_queued(&self, from: GeneralNo, to: GeneralNo, place: usize) -> Option<&[Parcel]>
+    pub fn frame_queued(&self, from: GeneralNo, to: GeneralNo, index: usize) -> Option<&[Parcel]>
         ensures { option_map (λ parcels. parcels.now) result
-            ≡ slice_get (queue self.now.scenario.net (frame_at self.now.scenario) self.now.progress from to) place }
+            ≡ slice_get (queue self.now.scenario.net (frame_at self.now.scenario) self.now.progress from to) index }
     {
-        match self.queues[spot(from, to)].get(place) {
+        match self.queues[spot(from, to)].get(index) {
             Some(frame) => Some(frame.parcels()),
             None => None,
         }
