@@ -1,6 +1,6 @@
 //! The machine.
-ghost use Rattle.std.specs.Prelude.{ℕ, List, ◌≡◌, ◌<◌, ◌≤◌, ◌+◌, ◌*◌, [], Some, map, replicate, IfOk, OnOk, OnErr};
-ghost use Rattle.std.specs.Prelude.{None, option_map, slice_get};
+ghost use Rattle.std.specs.Prelude.{ℕ, List, ◌≡◌, ◌<◌, ◌≤◌, ◌+◌, ◌*◌, [], map, replicate, slice_get};
+ghost use Rattle.std.specs.Prelude.{Some, None, option_map, IfOk, OnOk, OnErr};
 ghost use Rattle.std.specs.List.{flat_map};
 ghost use Rattle.gen_log.specs.Entry.{entry_spelling};
 ghost use Rattle.gen_scenario.specs.Rows.{logs_of_all};
@@ -258,12 +258,13 @@ impl Machine {
         self.capacity
     }
 
-    /// Returns the log of a general so far: the bytes of the entries that he has written by the acts that have moved,
-    /// START first, and behind them DECIDE, which stands once all his acts have moved: from the start for a general
-    /// without neighbours. No memory is asked for. DECIDE is read off the bytes, which takes a walk over them.
+    /// Returns the log of a general so far: the bytes of the entries that he has written by the acts that have
+    /// moved, START first, and behind them DECIDE, which stands once all his acts have moved: from the start for
+    /// a general without neighbours. No memory is asked for. DECIDE is read off the bytes, which takes a walk
+    /// over them.
     ///
-    /// The bytes of both are the entries of the steps that stand (`value`). They begin those of his first log in the
-    /// run (`begins`), and are all of them once he has no act left (`whole`).
+    /// The bytes of both are the entries of the steps that stand (`value`). They begin those of his first log in
+    /// the run (`begins`), and are all of them once he has no act left (`whole`).
     pub fn log_so_far(&self, me: GeneralNo) -> (&[u8], Option<Entry>)
         requires below { me < self.now.scenario.net.generals }
         ensures value { with_last result.0.now result.1 ≡ flat_map entry_spelling
@@ -287,12 +288,13 @@ impl Machine {
         self.queues[spot(from, to)].len()
     }
 
-    /// Returns the parcels of a frame that waits on the queue from one general to another, where the front has
-    /// index 0; none where fewer frames wait. The frames are those of the scenario's run, from the number taken plus
-    /// one to the number put, in order.
+    /// Returns the parcels of a frame that waits on the queue from one general to another, where the front
+    /// has index 0; none where fewer frames wait. The frames are those of the scenario's run, from the number
+    /// taken plus one to the number put, in order.
     pub fn frame_queued(&self, from: GeneralNo, to: GeneralNo, index: usize) -> Option<&[Parcel]>
         ensures { option_map (λ parcels. parcels.now) result
-            ≡ slice_get (queue self.now.scenario.net (frame_at self.now.scenario) self.now.progress from to) index }
+            ≡ slice_get (queue self.now.scenario.net (frame_at self.now.scenario) self.now.progress from to)
+            index }
     {
         match self.queues[spot(from, to)].get(index) {
             Some(frame) => Some(frame.parcels()),

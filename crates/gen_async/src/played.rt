@@ -17,8 +17,8 @@ use std::alloc::AllocError;
 use std::marker::Model;
 use std::snapshot::Snapshot;
 
-/// What a machine keeps of its scenario: the header of the run, and the commander's order. A contract sees the
-/// scenario.
+/// What a machine keeps of its scenario: the header of the run, and the commander's order. A contract sees
+/// the scenario.
 #[derive(Drop)]
 pub(crate) struct Played {
     scenario: Snapshot<Scenario>,
@@ -63,10 +63,12 @@ impl Played {
         }
     }
 
-    /// Returns the DECIDE that stands behind these entries of a general who has no act left, none of one who has.
+    /// Returns the DECIDE that stands behind these entries of a general who has no act left, none of one who
+    /// has.
     pub(crate) fn decide(&self, next: Option<Act>, me: GeneralNo, written: &[u8]) -> Option<Entry>
         ensures acting { (act : Does) → next ≡ Some act → result ≡ None }
-        ensures done { next ≡ None → (entries : List Said) → AreBytesOf (header_of self.now) entries written.now
+        ensures done { next ≡ None → (entries : List Said)
+            → AreBytesOf (header_of self.now) entries written.now
             → result ≡ Some (decide_entry self.now.net (own_order self.now me) entries) }
     {
         match next {

@@ -1,5 +1,5 @@
-//! Logs of the machine so far, from START to DECIDE, and the frames that wait meanwhile. The bytes are worked out by hand,
-//! or are those of the run's logs.
+//! Logs of the machine so far, from START to DECIDE, and the frames that wait meanwhile. The bytes are worked
+//! out by hand, or are those of the run's logs.
 use crate::async_machine::moves_to_the_end;
 use crate::scenarios::scenario_of;
 use crate::world_runs::without_scripts;
