@@ -12,7 +12,7 @@ use Rattle.gen_edge.specs.Tied.{TakesNext, after_take}
 use Rattle.gen_general.proofs.Worlds.{at_same, at_other}
 use Rattle.gen_threads.specs.declared.ends.RunFault.{RunFault}
 use Rattle.gen_threads.specs.declared.ends.RunFault.TheVariants.{Memory, Thread, Gone}
-use Rattle.gen_threads.specs.Faults.{HasLastWord, IsOwnFault, IsRunFault, answered_fault}
+use Rattle.gen_threads.specs.Faults.{HasLastWord, IsOwnFault, IsAnsweredFault, answered_fault}
 
 module _ {X : Type 0} (P : X → Type 0) (xs : List X) (i : ℕ) (low : i < length xs) where
   -- what is written to a place is one of the list
@@ -42,7 +42,7 @@ own_kept old new Memory kept own = tt
 own_kept old new Thread kept own = own
 own_kept old new Gone kept own = kept own
 
-pub is_answered : (fault : RunFault) → IsRunFault (answered_fault fault)
+pub is_answered : (fault : RunFault) → IsAnsweredFault (answered_fault fault)
 is_answered Memory = tt
 is_answered Thread = tt
 is_answered Gone = tt

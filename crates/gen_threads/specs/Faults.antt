@@ -35,7 +35,7 @@ answered_fault Thread = Thread
 answered_fault Gone = Thread
 
 -- so why a run has none: memory was refused, or a thread was wanting
-abbrev pub IsRunFault : RunFault → Type 0
-IsRunFault Memory = Unit {0}
-IsRunFault Thread = Unit {0}
-IsRunFault Gone = ⊥
+abbrev pub IsAnsweredFault : RunFault → Type 0
+IsAnsweredFault Memory = Unit {0}
+IsAnsweredFault Thread = Unit {0}
+IsAnsweredFault Gone = ⊥

@@ -3,7 +3,7 @@ ghost use Rattle.std.specs.Prelude.{ℕ, ◌≡◌, ◌<◌, ◌+◌, ◌++◌, 
 ghost use Rattle.gen_scenario.specs.Rows.{logs_of_all};
 ghost use Rattle.gen_scenario.specs.Scenario as scenarios;
 ghost use Rattle.gen_threads.specs.Ending.{logs_by};
-ghost use Rattle.gen_threads.specs.Faults.{IsRunFault, answered_fault, worse_of};
+ghost use Rattle.gen_threads.specs.Faults.{IsAnsweredFault, answered_fault, worse_of};
 ghost use Rattle.gen_threads.specs.Works.{AreParts, ArePromised, IsTurn, TurnsFrom};
 ghost use Rattle.gen_threads.specs.declared.edges.Edges.{Edges as AllEdges};
 
@@ -174,7 +174,7 @@ pub(crate) fn gather(
     requires turns { TurnsFrom edges.now scenario.now 0 turns.items }
     requires empty { logs.items ≡ [] }
     ensures logs { IfOk result (λ logs. logs.items ≡ logs_of_all scenario.now) }
-    ensures fault { IfErr result IsRunFault }
+    ensures fault { IfErr result IsAnsweredFault }
 {
     let mut logs = logs;
     let mut outcome = Ok(());

@@ -1,7 +1,7 @@
 //! All generals in threads.
 ghost use Rattle.std.specs.Prelude.{◌≡◌, ◌<◌, ◌≤◌, [], length, IfErr, IfOk, vec_len, vec_capacity};
 ghost use Rattle.gen_scenario.specs.Rows.{logs_of_all};
-ghost use Rattle.gen_threads.specs.Faults.{IsRunFault};
+ghost use Rattle.gen_threads.specs.Faults.{IsAnsweredFault};
 ghost use Rattle.gen_threads.specs.Works.{AreParts, AreWorks, TurnsFrom};
 
 use crate::edges::Edges;
@@ -115,7 +115,7 @@ pub fn run_threads<R: Threads + Wait + Sync, G: Gate + Sync>(
 ) -> Result<Vec<SealedLog>, RunFault>
     requires { 0 < capacity }
     ensures logs { IfOk result (λ logs. logs.items ≡ logs_of_all scenario.now) }
-    ensures fault { IfErr result IsRunFault }
+    ensures fault { IfErr result IsAnsweredFault }
 {
     let parts = make_parts(alloc, scenario)?;
     let (edges, works) = make_works(alloc, scenario, capacity)?;
