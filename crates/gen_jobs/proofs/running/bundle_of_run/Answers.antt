@@ -16,7 +16,7 @@ returns-in-Ok g c =
     let between = subst (λ (net : Network). AreWalksOfRun net c.rest.result walks) is_net c.in_ok-walks.ensures in
     let has : HasWalks s walks = record { rest = c.rest.result; of_rest = search rules; walks_are = between } in
     let is_faulty : c.scripted-faulty.result ≡ scripted s.scripts = search rules in
-    let is_shown : c.in_ok-exhibits.exhibits.items ≡ logs_of_all s = c.in_ok-exhibits.ensures ∙ c.in_ok-logs.ensures in
+    let is_shown : c.in_ok-exhibits.exhibits.items ≡ logs_of_all s = c.in_ok-exhibits.ensures ∙ c.in_ok-logs.ensures.logs in
     (walks, has, made_of s c.in_ok-header.header c.scripted-faulty.result walks c.in_ok-exhibits.exhibits.items c.in-Ok.bundle is_header is_faulty is_shown (sym c.new.ensures ∙ c.in-Ok.is))
 
 pub returns-in-Err : goal.returns-in-Err
@@ -28,5 +28,5 @@ returns-in-Err g c =
     let between = subst (λ (net : Network). AreWalksOfRun net c.rest.result walks) is_net c.in_ok-walks.ensures in
     let has : HasWalks s walks = record { rest = c.rest.result; of_rest = search rules; walks_are = between } in
     let is_faulty : c.scripted-faulty.result ≡ scripted s.scripts = search rules in
-    let is_shown : c.in_ok-exhibits.exhibits.items ≡ logs_of_all s = c.in_ok-exhibits.ensures ∙ c.in_ok-logs.ensures in
+    let is_shown : c.in_ok-exhibits.exhibits.items ≡ logs_of_all s = c.in_ok-exhibits.ensures ∙ c.in_ok-logs.ensures.logs in
     (walks, has, broken_by s c.in_ok-header.header c.scripted-faulty.result walks c.in_ok-exhibits.exhibits.items _ is_header is_faulty is_shown (sym c.new.ensures ∙ c.in-Err.is))
