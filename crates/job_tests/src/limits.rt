@@ -51,7 +51,12 @@ fn bundle_of_largest<R: Threads + Wait + Sync>(
 
 /// Whether a text has these words in it.
 fn says(text: &[u8], words: &[u8]) -> bool {
-    text.windows(words.len()).any(|part| part == words)
+    for start in 0..text.len() {
+        if text[start..].starts_with(words) {
+            return true;
+        }
+    }
+    false
 }
 
 /// Whether the audit of a bundle answers yes, and says this.
