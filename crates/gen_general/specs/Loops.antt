@@ -1,3 +1,4 @@
+-- Definitions that only loops and the functions inside them speak of.
 pub mod Acting
 pub mod Deciding
 pub mod Journals

@@ -1,1 +1,2 @@
+-- Definitions that only loops and the functions inside them speak of.
 pub mod Rounds
