@@ -29,7 +29,8 @@ fn line<R: Threads + Sync>(
     if !by_threads {
         return Ok(Scenario::of_plan(alloc, plan)?);
     }
-    let trees = make_trees(rt, alloc, &MASTER, version.height(), 3)?;
+    let generals = plan.net().generals();
+    let trees = make_trees(rt, alloc, plan.master(), plan.version().height(), generals)?;
     Ok(Scenario::of_trees(alloc, plan, trees)?)
 }
 
