@@ -1,5 +1,6 @@
 //! Exhibits.
-ghost use Rattle.std.specs.Prelude.{◌≡◌, IfOk};
+ghost use Rattle.std.specs.Prelude.{◌≡◌, ◌≤◌, IfOk, length, slice_range};
+ghost use Rattle.std.specs.Arc.{arc_slice_items};
 
 use gen_types::GeneralNo;
 use std::alloc::AllocError;
@@ -7,20 +8,29 @@ use std::marker::Model;
 use std::sync::ArcSlice;
 
 /// A general, and bytes that are said to be his log of a run. They may be anybody's. Those who share an
-/// exhibit share its bytes. A contract sees the general and the list of bytes.
+/// exhibit share its bytes, and so may several exhibits that were read from one input. A contract sees the
+/// general and the list of bytes.
 #[derive(Debug, Drop)]
 pub struct Exhibit {
     general: GeneralNo,
-    log: ArcSlice<u8>,
+    input: ArcSlice<u8>,
+    from: usize,
+    to: usize,
 }
 
 impl Model for Exhibit {
+    ghost use Rattle.std.specs.Prelude.{◌≤◌, length, slice_range};
     ghost use Rattle.std.specs.Arc.{arc_slice_items};
     ghost use Rattle.gen_log.specs.Writing.{LogBytes};
 
     ghost Value = { LogBytes };
 
-    ghost view = { λ x. record { general = x.general; bytes = arc_slice_items x.log } };
+    ghost view = { λ x. record {
+      general = x.general;
+      bytes = slice_range (arc_slice_items x.input) x.from x.to;
+    } };
+
+    ghost invariant = { λ x. (x.from ≤ x.to) × (x.to ≤ length (arc_slice_items x.input)) };
 }
 
 impl Exhibit {
@@ -32,8 +42,41 @@ impl Exhibit {
     pub fn new(general: GeneralNo, log: Vec<u8>) -> Result<Exhibit, AllocError>
         ensures { IfOk result (λ exhibit. exhibit ≡ record { general = general; bytes = log.items }) }
     {
-        let log = ArcSlice::from_vec(log)?;
-        Ok(Exhibit { general, log })
+        let input = ArcSlice::from_vec(log)?;
+        let to = input.len();
+        Ok(Exhibit {
+            general,
+            input,
+            from: 0,
+            to,
+        })
+    }
+
+    /// Returns the exhibit of a general and those bytes of an input, from an index on up to another, which are
+    /// said to be his log. They are shared with the input.
+    ///
+    /// # Errors
+    ///
+    /// `AllocError` where the input has too many owners, 2^63 or more.
+    pub fn within(
+        general: GeneralNo,
+        input: &ArcSlice<u8>,
+        from: usize,
+        to: usize,
+    ) -> Result<Exhibit, AllocError>
+        requires order { from ≤ to }
+        requires end { to ≤ length (arc_slice_items input.now) }
+        ensures { IfOk result (λ exhibit. exhibit ≡ record {
+          general = general;
+          bytes = slice_range (arc_slice_items input.now) from to;
+        }) }
+    {
+        Ok(Exhibit {
+            general,
+            input: input.clone()?,
+            from,
+            to,
+        })
     }
 
     /// Returns the same exhibit for one owner more. Its bytes are not copied.
@@ -44,10 +87,7 @@ impl Exhibit {
     pub fn share(&self) -> Result<Exhibit, AllocError>
         ensures { IfOk result (λ exhibit. exhibit ≡ self.now) }
     {
-        Ok(Exhibit {
-            general: self.general,
-            log: self.log.clone()?,
-        })
+        Exhibit::within(self.general, &self.input, self.from, self.to)
     }
 
     /// Returns the general.
@@ -61,6 +101,6 @@ impl Exhibit {
     pub fn log(&self) -> &[u8]
         ensures { result.now ≡ self.now.bytes }
     {
-        self.log.as_slice()
+        &self.input.as_slice()[self.from..self.to]
     }
 }

@@ -7,3 +7,6 @@ returns-clause-shown c =
 
 pub returns-clause-rest : goal.returns-clause-rest
 returns-clause-rest c = rw (c.in_ok-second.ensures.rest, c.in_ok-first.ensures.rest) (two_dropped c.args.exhibits.now)
+
+pub returns-in_err-second-clause-grows : goal.returns-in_err-second-clause-grows
+returns-in_err-second-clause-grows c = λ t answer kept. c.open_first-2.ensures.grows t answer (c.open_first.ensures.grows t answer kept)

@@ -1,0 +1,86 @@
+//! One worker.
+ghost use Rattle.std.specs.Prelude.{◌++◌, List, IfOk, OnOk};
+ghost use Rattle.gen_chain.specs.Store.{Serves};
+ghost use Rattle.gen_local.specs.Report.{AreReportsOf};
+ghost use Rattle.gen_log.specs.Writing.{LogBytes};
+ghost use Rattle.gen_workers.specs.Loops.Hands.{AreOfWorker};
+
+use crate::dealing::pieces_of;
+use crate::gates::JobGate;
+use gen_chain::VerifyStore;
+use gen_local::{Exhibit, LocalReport, local_reports};
+use gen_net::Header;
+use std::alloc::{AllocError, Global};
+
+/// How many pieces a worker takes at a time, as many as there are lanes.
+const LANES: usize = 4;
+
+/// Begins so many pieces from this one on, one of each turn, and returns the one after them.
+fn begin_each<G: JobGate>(gate: &G, piece: usize, last: usize, count: usize) -> usize {
+    let mut next = piece;
+    for _ in 0..count {
+        gate.begin(next);
+        next = next.saturating_add(last).saturating_add(1);
+    }
+    next
+}
+
+/// Puts the reports of exhibits behind the others.
+fn add_reports(
+    alloc: Global,
+    header: &Header,
+    exhibits: &[Exhibit],
+    store: &mut VerifyStore,
+    reports: &mut Vec<LocalReport>,
+) -> Result<(), AllocError>
+    requires { Serves header.now store.old }
+    ensures reports { (before : List LogBytes) → AreReportsOf header.now before reports.old.items
+        → OnOk result (AreReportsOf header.now (before ++ exhibits.now) reports.new.items) }
+    ensures serves { Serves header.now store.new }
+{
+    let mut more = local_reports(alloc, header, exhibits, store)?;
+    reports.append(&mut more)
+}
+
+/// Makes the reports of a worker's pieces, of which this is the first, through a store of his own.
+fn work_on<G: JobGate>(
+    alloc: Global,
+    gate: &G,
+    header: &Header,
+    pieces: &[Exhibit],
+    first: usize,
+    last: usize,
+) -> Result<Vec<LocalReport>, AllocError>
+    ensures { IfOk result (λ reports. AreReportsOf header.now pieces.now reports.items) }
+{
+    let mut store = VerifyStore::new(alloc)?;
+    let mut reports = Vec::new(alloc);
+    let mut rest = pieces;
+    let mut piece = first;
+    'turns: while !rest.is_empty() {
+        let (four, others) = rest.split_at(rest.len().min(LANES));
+        piece = begin_each(gate, piece, last, four.len());
+        add_reports(alloc, header, four, &mut store, &mut reports)?;
+        rest = others;
+    }
+    Ok(reports)
+}
+
+/// Makes the reports of all pieces that a worker takes, in their order. Of his no signature is verified twice.
+///
+/// # Errors
+///
+/// `AllocError` where memory is refused.
+pub(crate) fn work<G: JobGate>(
+    alloc: Global,
+    gate: &G,
+    header: &Header,
+    exhibits: &[Exhibit],
+    last: usize,
+    worker: usize,
+) -> Result<Vec<LocalReport>, AllocError>
+    ensures { IfOk result (λ reports. AreOfWorker header.now exhibits.now last worker reports.items) }
+{
+    let pieces = pieces_of(alloc, exhibits, last, worker)?;
+    work_on(alloc, gate, header, pieces.as_slice(), worker, last)
+}
