@@ -121,7 +121,7 @@ pub record IsShown (n : ℕ) (x : LogBytes) : Type 0 where
 abbrev OwnerTaken : ℕ → ℕ → List ℕ → ℕ × List ℕ → Type 0
 OwnerTaken n before bytes x = Takes bytes (itself x.0) x.1 × ((x.0 < n) × NotAfter before x.0)
 
-owner_takes : (n before : ℕ) (bytes : List ℕ) (x : ℕ × List ℕ) → IsBytes bytes → owner_at n before bytes ≡ Ok x → OwnerTaken n before bytes x
+pub owner_takes : (n before : ℕ) (bytes : List ℕ) (x : ℕ × List ℕ) → IsBytes bytes → owner_at n before bytes ≡ Ok x → OwnerTaken n before bytes x
 unfolding owner_at
 owner_takes n before bytes x fits e =
     after (byte_at faults.Truncated bytes) (λ general. check (nat_lt general.0 n) faults.BadExhibit >>= λ known. check (nat_le before general.0) faults.OutOfOrder >>= λ ordered. Ok general) x e (λ general r0 e0.
@@ -146,7 +146,7 @@ front_of bytes text rest fits parts = subst IsBytes (take_at text rest (length t
 abbrev ExhibitTaken : ℕ → ℕ → List ℕ → LogBytes × List ℕ → Type 0
 ExhibitTaken n before bytes x = Takes bytes (exhibit_spelling x.0) x.1 × (IsShown n x.0 × NotAfter before x.0.general)
 
-exhibit_takes : (n before : ℕ) (bytes : List ℕ) (x : LogBytes × List ℕ) → IsBytes bytes → exhibit_at n before bytes ≡ Ok x → ExhibitTaken n before bytes x
+pub exhibit_takes : (n before : ℕ) (bytes : List ℕ) (x : LogBytes × List ℕ) → IsBytes bytes → exhibit_at n before bytes ≡ Ok x → ExhibitTaken n before bytes x
 unfolding exhibit_at
 exhibit_takes n before bytes x fits e =
     let made : ℕ → List ℕ × List ℕ → Result (LogBytes × List ℕ) BundleFault = λ general log. Ok (record { general = general; bytes = log.0 }, log.1) in

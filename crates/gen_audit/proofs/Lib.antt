@@ -13,6 +13,7 @@ pub mod Deciding
 pub mod FirstUnsigned
 pub mod Fit
 pub mod Following
+pub mod InputEnds
 pub mod Judging
 pub mod Keeping
 pub mod LocalFinds

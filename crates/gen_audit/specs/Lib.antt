@@ -12,6 +12,7 @@ pub mod Findings
 pub mod Headline
 pub mod Judgement
 pub mod LocalFindings
+pub mod Loops
 pub mod Sorting
 pub mod Supported
 pub mod Telling

@@ -1,6 +1,7 @@
 //! Reading bundles.
 //!
 //! Numbers are read as they stand, and their types are made of them where a part is made.
+ghost use Rattle.std.specs.Arc.{arc_slice_items};
 ghost use Rattle.std.specs.Prelude.{◌≡◌, ◌≤◌, ◌<◌, IfOk, Ok};
 ghost use Rattle.gen_types.specs.Reading.{Gives};
 ghost use Rattle.gen_types.specs.Spelled.{IsRead, IsField, Spells};
@@ -14,6 +15,7 @@ ghost use Rattle.gen_audit.specs.BundleParts as parts;
 ghost use Rattle.gen_audit.specs.BundleReading.{general_at, walk_at, walks_at, owner_at, exhibit_at, exhibits_at};
 ghost use Rattle.gen_audit.specs.BundleReading.{bundle_at, whole_bundle};
 ghost use Rattle.gen_audit.specs.BundleSpelling.{bundle_spelling};
+ghost use Rattle.gen_audit.specs.Loops.Ends.{IsEndOf};
 
 use crate::bundle_fault::BundleFault;
 use crate::bundle_rules::{
@@ -25,6 +27,7 @@ use gen_net::{FrontFault, Header, read_front};
 use gen_types::{GeneralNo, GeneralSet, ReadError, bytes_at, check, u8_at, u16_at, u32_at};
 use gen_walks::{Walk, Walks};
 use std::alloc::Global;
+use std::sync::ArcSlice;
 
 /// A fault of the mark and the header as one of the bundle.
 fn front_fault(fault: FrontFault) -> BundleFault
@@ -155,32 +158,37 @@ fn read_owner(n: u8, before: u8, bytes: &[u8]) -> Result<(u8, &[u8]), ReadError<
     Ok((general, rest))
 }
 
-/// An exhibit behind the general of the one before. The bytes of its log are copied.
+/// An exhibit behind the general of the one before. Its log is shared with the input, whose end these bytes are.
 #[tactic(auto, unfolding(crate::specs::BundleReading::exhibit_at))]
-fn read_exhibit(
-    alloc: Global,
+fn read_exhibit<'a>(
+    input: &ArcSlice<u8>,
     n: u8,
     before: u8,
-    bytes: &[u8],
-) -> Result<(Exhibit, &[u8]), ReadError<BundleFault>>
-    requires { n ≤ 16 }
-    ensures { IsField result (exhibit_at n before bytes.now) }
+    bytes: &'a [u8],
+) -> Result<(Exhibit, &'a [u8]), ReadError<BundleFault>>
+    requires few { n ≤ 16 }
+    requires end { IsEndOf (arc_slice_items input.now) bytes.now }
+    ensures exact { IsField result (exhibit_at n before bytes.now) }
+    ensures end { IfOk result (λ x. IsEndOf (arc_slice_items input.now) x.1.now) }
 {
     let (general, rest) = read_owner(n, before, bytes)?;
     let (size, rest) = u32_at(rest, BundleFault::Truncated)?;
     let (log, rest) = bytes_at(rest, size as usize, BundleFault::Truncated)?;
-    let log = Vec::from_slice(alloc, log)?;
-    Ok((Exhibit::new(GeneralNo::at(general), log)?, rest))
+    let to = input.len() - rest.len();
+    let exhibit = Exhibit::within(GeneralNo::at(general), input, to - log.len(), to)?;
+    Ok((exhibit, rest))
 }
 
 /// This many exhibits.
-fn read_each_exhibit(
+fn read_each_exhibit<'a>(
     alloc: Global,
+    input: &ArcSlice<u8>,
     n: u8,
     count: u8,
-    bytes: &[u8],
-) -> Result<(Vec<Exhibit>, &[u8]), ReadError<BundleFault>>
-    requires { n ≤ 16 }
+    bytes: &'a [u8],
+) -> Result<(Vec<Exhibit>, &'a [u8]), ReadError<BundleFault>>
+    requires few { n ≤ 16 }
+    requires end { IsEndOf (arc_slice_items input.now) bytes.now }
     ensures { Gives (λ x. (x.0.items, x.1.now)) result
         (many_behind (exhibit_at n) shown_general 0 count bytes.now) }
 {
@@ -188,7 +196,7 @@ fn read_each_exhibit(
     let mut before = 0;
     let mut rest = bytes;
     for _ in 0..count {
-        let (exhibit, after) = read_exhibit(alloc, n, before, rest)?;
+        let (exhibit, after) = read_exhibit(input, n, before, rest)?;
         before = exhibit.general().get();
         exhibits.push(exhibit)?;
         rest = after;
@@ -198,29 +206,36 @@ fn read_each_exhibit(
 
 /// The exhibits behind their number.
 #[tactic(auto, unfolding(crate::specs::BundleReading::exhibits_at))]
-fn read_exhibits(
+fn read_exhibits<'a>(
     alloc: Global,
+    input: &ArcSlice<u8>,
     n: u8,
-    bytes: &[u8],
-) -> Result<(Vec<Exhibit>, &[u8]), ReadError<BundleFault>>
-    requires { n ≤ 16 }
+    bytes: &'a [u8],
+) -> Result<(Vec<Exhibit>, &'a [u8]), ReadError<BundleFault>>
+    requires few { n ≤ 16 }
+    requires end { IsEndOf (arc_slice_items input.now) bytes.now }
     ensures { Gives (λ x. (x.0.items, x.1.now)) result (exhibits_at n bytes.now) }
 {
     let (count, rest) = u8_at(bytes, BundleFault::Truncated)?;
     check(usize::from(count) <= MOST_EXHIBITS, BundleFault::BadExhibit)?;
-    read_each_exhibit(alloc, n, count, rest)
+    read_each_exhibit(alloc, input, n, count, rest)
 }
 
-/// The bundle in front of the bytes, and the bytes after it.
+/// The bundle in front of the input, which these bytes are, and the bytes after it.
 #[tactic(auto, unfolding(crate::specs::BundleReading::bundle_at))]
-fn bundle_in_front(alloc: Global, bytes: &[u8]) -> Result<(Bundle, &[u8]), ReadError<BundleFault>>
+fn bundle_in_front<'a>(
+    alloc: Global,
+    input: &ArcSlice<u8>,
+    bytes: &'a [u8],
+) -> Result<(Bundle, &'a [u8]), ReadError<BundleFault>>
+    requires { arc_slice_items input.now ≡ bytes.now }
     ensures { IsField result (bundle_at bytes.now) }
 {
     let (header, rest) = read_front_field(alloc, bytes)?;
     let n = header.net().generals();
     let (bits, rest) = read_faulty(n, rest)?;
     let (walks, rest) = read_walks(alloc, n, rest)?;
-    let (exhibits, rest) = read_exhibits(alloc, n, rest)?;
+    let (exhibits, rest) = read_exhibits(alloc, input, n, rest)?;
     let bundle = Bundle {
         header,
         faulty: GeneralSet::from_bits(bits),
@@ -230,20 +245,57 @@ fn bundle_in_front(alloc: Global, bytes: &[u8]) -> Result<(Bundle, &[u8]), ReadE
     Ok((bundle, rest))
 }
 
-/// The bundle that all the bytes are.
+/// The bundle that the whole input is, which these bytes are.
 #[tactic(auto, unfolding(crate::specs::BundleReading::whole_bundle))]
-fn bundle_alone(alloc: Global, bytes: &[u8]) -> Result<Bundle, ReadError<BundleFault>>
+fn bundle_alone(
+    alloc: Global,
+    input: &ArcSlice<u8>,
+    bytes: &[u8],
+) -> Result<Bundle, ReadError<BundleFault>>
+    requires { arc_slice_items input.now ≡ bytes.now }
     ensures { IsRead result (whole_bundle bytes.now) }
 {
-    let (bundle, rest) = bundle_in_front(alloc, bytes)?;
+    let (bundle, rest) = bundle_in_front(alloc, input, bytes)?;
     check(rest.len() == 0, BundleFault::LeftOver)?;
     Ok(bundle)
+}
+
+/// The bundle that the whole input is, which these bytes are: what is found, and what alone can be.
+fn bundle_of(
+    alloc: Global,
+    input: &ArcSlice<u8>,
+    bytes: &[u8],
+) -> Result<Bundle, ReadError<BundleFault>>
+    requires { arc_slice_items input.now ≡ bytes.now }
+    ensures found { IfOk result (Spells IsBundle bundle_spelling bytes.now) }
+    ensures only { (b : Told) → Spells IsBundle bundle_spelling bytes.now b → IsRead result (Ok b) }
+    ensures exact { IsRead result (whole_bundle bytes.now) }
+{
+    bundle_alone(alloc, input, bytes)
+}
+
+/// As `read_bundle`, but the bytes are taken and not copied: the exhibits share them.
+///
+/// # Errors
+///
+/// Those of `read_bundle`.
+pub fn read_taken_bundle(alloc: Global, input: Vec<u8>) -> Result<Bundle, ReadError<BundleFault>>
+    // What is read is a bundle, and the bytes are its spelling.
+    ensures found { IfOk result (Spells IsBundle bundle_spelling input.items) }
+    // What the bytes spell is read, unless memory runs out.
+    ensures only { (b : Told) → Spells IsBundle bundle_spelling input.items b → IsRead result (Ok b) }
+    // Which fault it is.
+    ensures exact { IsRead result (whole_bundle input.items) }
+{
+    let input = ArcSlice::from_vec(input)?;
+    bundle_of(alloc, &input, input.as_slice())
 }
 
 /// Returns the bundle that all the bytes are: four bytes `SMB1` or `SMB2` and a header of version 1 or 2; the generals
 /// who are held for faulty, a number of two bytes, big-endian, in which general v has the value 2 to the power of v;
 /// the number of walks, and for each the number of its generals and these; the number of exhibits, and for each its
-/// general, the length of the log in four bytes, and the log. The bytes of a log are copied once, and not read.
+/// general, the length of the log in four bytes, and the log. The bytes are copied once, for all exhibits, and the logs are
+/// not read.
 ///
 /// # Errors
 ///
@@ -256,5 +308,5 @@ pub fn read_bundle(alloc: Global, bytes: &[u8]) -> Result<Bundle, ReadError<Bund
     // Which fault it is.
     ensures exact { IsRead result (whole_bundle bytes.now) }
 {
-    bundle_alone(alloc, bytes)
+    read_taken_bundle(alloc, Vec::from_slice(alloc, bytes)?)
 }

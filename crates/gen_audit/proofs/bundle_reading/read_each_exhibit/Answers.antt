@@ -7,11 +7,14 @@ use Rattle.gen_audit.proofs.bundle_reading.read_each_exhibit.Goals as goal
 pub returns-in_err-exhibit : goal.returns-in_err-exhibit
 returns-in_err-exhibit c =
     let p = err_from_is_err_and c.from_residual.result c.from_residual.ensures.1 in
-    rw (p.1, p.2) (behind_ends (exhibit_at c.args.n) shown_general c.in_err-exhibit.field-0.0 c.loop.exhibits.items c.loop.before c.args.count c.loop.counter c.loop.rest.now _ c.loop-test.true c.in_err-exhibit.ensures c.loop.invariant)
+    rw (p.1, p.2) (behind_ends (exhibit_at c.args.n) shown_general c.in_err-exhibit.field-0.0 c.loop.exhibits.items c.loop.before c.args.count c.loop.counter c.loop.rest.now _ c.loop-test.true c.in_err-exhibit.ensures.exact c.loop.invariant.read)
 
 pub loop-preserved : goal.loop-preserved
-loop-preserved c =
-    rw (c.in_ok-push.ensures.items, c.get-before.ensures.value, c.general.ensures) (behind_goes_on (exhibit_at c.args.n) shown_general c.loop.exhibits.items c.loop.before c.args.count c.loop.counter c.loop.rest.now c.in_ok-exhibit.exhibit c.in_ok-exhibit.after.now _ c.loop-test.true c.in_ok-exhibit.ensures c.loop.invariant)
+loop-preserved c = record {
+  read =
+      rw (c.in_ok-push.ensures.items, c.get-before.ensures.value, c.general.ensures) (behind_goes_on (exhibit_at c.args.n) shown_general c.loop.exhibits.items c.loop.before c.args.count c.loop.counter c.loop.rest.now c.in_ok-exhibit.exhibit c.in_ok-exhibit.after.now _ c.loop-test.true c.in_ok-exhibit.ensures.exact c.loop.invariant.read);
+  end = c.in_ok-exhibit.ensures.end;
+}
 
 pub returns : goal.returns
-returns c = behind_is_done (exhibit_at c.args.n) shown_general c.loop.exhibits.items c.loop.before c.args.count c.loop.counter c.loop.rest.now _ c.loop-test.false c.loop.invariant
+returns c = behind_is_done (exhibit_at c.args.n) shown_general c.loop.exhibits.items c.loop.before c.args.count c.loop.counter c.loop.rest.now _ c.loop-test.false c.loop.invariant.read

@@ -5,7 +5,7 @@ use Rattle.gen_audit.specs.Bundle.{IsBundle}
 use Rattle.gen_audit.specs.BundleReading.{whole_bundle}
 use Rattle.gen_audit.specs.BundleSpelling.{bundle_spelling}
 use Rattle.gen_audit.proofs.BundleLaws.{bundle_found, bundle_only}
-use Rattle.gen_audit.proofs.bundle_reading.read_bundle.Goals as goal
+use Rattle.gen_audit.proofs.bundle_reading.bundle_of.Goals as goal
 
 pub returns-clause-found : goal.returns-clause-found
 returns-clause-found c = found_by (λ x. x) c.bundle_alone.result (whole_bundle c.args.bytes.now) (Spells IsBundle bundle_spelling c.args.bytes.now) (λ x e. bundle_found c.args.bytes.now x (λ i. omega (arith, c.type_inv.bytes i)) e) c.bundle_alone.ensures

@@ -1,0 +1,2 @@
+-- Definitions that only loops and private functions speak of.
+pub mod Ends
