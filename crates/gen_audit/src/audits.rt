@@ -14,23 +14,26 @@ ghost use Rattle.gen_audit.specs.Verdict.{AreDecisions, IsDecision, IsVerdict};
 use crate::bundles::Bundle;
 use crate::findings_collected::findings_in;
 use crate::verdicts::{Decisions, Findings, Judgement, Verdict};
-use gen_chain::VerifyStore;
 use gen_convict::{Evidence, find_evidence};
-use gen_local::{LocalReport, Reading, local_reports};
+use gen_local::{LocalReport, Reading};
 use gen_scenario::Decision;
 use gen_types::{GeneralNo, GeneralSet, OrderNo};
+use gen_workers::{AuditFault, JobGate, WorkerCount, reports_by_workers};
 use std::alloc::{AllocError, Global};
+use std::sync::Wait;
+use std::thread::Threads;
 
-/// Returns the reports of all exhibits of a bundle, in their order. No signature is verified twice.
-///
-/// # Errors
-///
-/// `AllocError` where memory is refused.
-pub(crate) fn reports_of_all(alloc: Global, bundle: &Bundle) -> Result<Vec<LocalReport>, AllocError>
+/// Returns the reports of all exhibits of a bundle, in their order, made by so many workers.
+fn reports_of_all<R: Threads + Wait + Sync, G: JobGate + Sync>(
+    rt: &R,
+    alloc: Global,
+    bundle: &Bundle,
+    workers: WorkerCount,
+    gate: &G,
+) -> Result<Vec<LocalReport>, AuditFault>
     ensures { IfOk result (λ reports. AreReports bundle.now reports.items) }
 {
-    let mut store = VerifyStore::new(alloc)?;
-    local_reports(alloc, bundle.header(), bundle.exhibits(), &mut store)
+    reports_by_workers(rt, alloc, bundle.header(), bundle.exhibits(), workers, gate)
 }
 
 /// Returns what a general decided by a report, if it is of his log.
@@ -167,12 +170,47 @@ fn convictions_by(
     find_evidence(alloc, bundle.header(), reports)
 }
 
-/// Returns the judgement on a bundle: the verdict, and the evidence that its exhibits hold.
+/// Returns the judgement on a bundle of which these are the reports. Its clauses are those of `audit`.
+pub(crate) fn judge_reports(
+    alloc: Global,
+    bundle: &Bundle,
+    reports: &[LocalReport],
+) -> Result<Judgement, AllocError>
+    requires { AreReports bundle.now reports.now }
+    ensures verdict { IfOk result (λ judgement. IsVerdict bundle.now judgement.verdict) }
+    ensures headline { IfOk result (λ judgement. Headline bundle.now judgement.verdict) }
+    ensures convictions { IfOk result (λ judgement. AreConvictions bundle.now.header bundle.now.exhibits
+        (map told_of judgement.convictions.items)) }
+    ensures lawful { IfOk result (λ judgement.
+        AreEvidence bundle.now.header (map told_of judgement.convictions.items)) }
+{
+    let verdict = verdict_by(alloc, bundle, reports)?;
+    let convictions = convictions_by(alloc, bundle, reports)?;
+    Ok(Judgement {
+        verdict,
+        convictions,
+    })
+}
+
+/// Returns the judgement on a bundle: the verdict, and the evidence that its exhibits hold. It is the same however many
+/// workers there are.
+///
+/// Piece i is exhibit i, counted from 0. Of W workers, worker w takes the pieces w, w + W, w + 2W and so on: he reads
+/// each log, verifies its signatures and hashes its links. The first one works in the thread that calls, each other in a
+/// thread of his own; one alone starts no thread. The gate is called for each piece by the worker who begins it, for four
+/// of his pieces in a row before he works on them.
 ///
 /// # Errors
 ///
-/// `AllocError` where memory is refused.
-pub fn audit_plain(alloc: Global, bundle: &Bundle) -> Result<Judgement, AllocError>
+/// `Memory` where it was refused to anybody; else `Thread` where a thread could not be started, for want of memory too.
+/// All threads have ended then.
+pub fn audit<R: Threads + Wait + Sync, G: JobGate + Sync>(
+    rt: &R,
+    alloc: Global,
+    bundle: &Bundle,
+    workers: WorkerCount,
+    gate: &G,
+) -> Result<Judgement, AuditFault>
     // The verdict is the bundle's: no with exactly what is found, if anything is; else, with at most m held for
     // faulty, the order on which the rest agree; else what each of the rest decided.
     ensures verdict { IfOk result (λ judgement. IsVerdict bundle.now judgement.verdict) }
@@ -188,11 +226,6 @@ pub fn audit_plain(alloc: Global, bundle: &Bundle) -> Result<Judgement, AllocErr
     ensures lawful { IfOk result (λ judgement.
         AreEvidence bundle.now.header (map told_of judgement.convictions.items)) }
 {
-    let reports = reports_of_all(alloc, bundle)?;
-    let verdict = verdict_by(alloc, bundle, reports.as_slice())?;
-    let convictions = convictions_by(alloc, bundle, reports.as_slice())?;
-    Ok(Judgement {
-        verdict,
-        convictions,
-    })
+    let reports = reports_of_all(rt, alloc, bundle, workers, gate)?;
+    Ok(judge_reports(alloc, bundle, reports.as_slice())?)
 }

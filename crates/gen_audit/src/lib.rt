@@ -23,9 +23,10 @@ mod ranks;
 mod sorting;
 mod verdicts;
 
-pub use audits::audit_plain;
+pub use audits::audit;
 pub use bundle_fault::BundleFault;
 pub use bundle_reading::{read_bundle, read_taken_bundle};
 pub use bundle_writing::{bundle_front, exhibit_front, write_bundle};
 pub use bundles::Bundle;
+pub use gen_workers::{AuditFault, JobGate, WorkerCount};
 pub use verdicts::{Decisions, Findings, Judgement, Verdict};

@@ -3,4 +3,4 @@ use Rattle.gen_audit.proofs.Telling.{are_reports}
 use Rattle.gen_audit.proofs.audits.reports_of_all.Goals as goal
 
 pub returns : goal.returns
-returns c = IfOk-weaker c.local_reports.result _ _ (λ reports are. are_reports c.args.bundle.now reports.items (rw (c.header.ensures.value, c.exhibits.ensures) at are)) c.local_reports.ensures.reports
+returns g c = IfOk-weaker c.reports_by_workers.result _ _ (λ reports are. are_reports c.args.bundle.now reports.items (rw (c.header.ensures.value, c.exhibits.ensures) at are)) c.reports_by_workers.ensures
