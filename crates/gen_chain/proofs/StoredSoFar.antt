@@ -8,9 +8,9 @@ use Rattle.gen_chain.specs.declared.chains.Signer.{Signer}
 use Rattle.gen_chain.specs.Chain.{signed_path}
 use Rattle.gen_chain.specs.Verifying.{HasSigned, AreSigned}
 use Rattle.gen_chain.specs.Signings.{triple_next, next_triples}
-use Rattle.gen_chain.specs.Store.{Store, Triple, answer_of, IsAfter, Serves, KeepsAll}
+use Rattle.gen_chain.specs.Store.{Store, Triple, answer_of, kept_count, IsAfter, Serves, KeepsAll}
 use Rattle.gen_chain.specs.StoredChain.{KeepsSigners, KeepsNext, triple_behind}
-use Rattle.gen_chain.proofs.Storing.{runs_after}
+use Rattle.gen_chain.proofs.Storing.{count_after}
 use Rattle.gen_chain.proofs.SignedSoFar.{SignedSoFar, none_signed, signed-push}
 
 -- the store keeps the signature of each signer of the front
@@ -29,7 +29,7 @@ pub record StoredSoFar (h : RunHeader) (order : ℕ) (signers rest : List Signer
   pub grows : KeepsAll old store
   pub known : KeepsSigners h old order signers → store ≡ old
   pub next : KeepsNext store order ahead path rest
-  pub runs : store.runs + length rest ≤ old.runs + length signers + ahead
+  pub count : kept_count store + length rest ≤ kept_count old + length signers + ahead
 
 pub stored_first : (h : RunHeader) (order : ℕ) (signers : List Signer) (store : Store) → Serves h store → StoredSoFar h order signers signers [] 0 store store
 stored_first h order signers store serves = record {
@@ -42,7 +42,7 @@ stored_first h order signers store serves = record {
   grows = λ t answer e. e;
   known = λ all. refl;
   next = tt;
-  runs = omega arith;
+  count = omega arith;
 }
 
 pub some_stays : (old new : Store) (t : Triple) → KeepsAll old new → IsSome (answer_of old t) → IsSome (answer_of new t)
@@ -138,7 +138,7 @@ module _ (h : RunHeader) (order : ℕ) (longer : List ℕ) (store : Store) (s : 
     pub grows : KeepsAll store new
     pub serves : Serves h new
     pub known : IsSome (answer_of store next_triple) → new ≡ store
-    pub runs : new.runs ≤ store.runs + 1
+    pub count : kept_count new ≤ kept_count store + 1
 
   module _ (signers rest others : List Signer) (path : List ℕ) (ahead : ℕ) (old : Store) (so_far : StoredSoFar h order signers rest path ahead old store) (e : rest ≡ s ∷ others) (pushed : longer ≡ path ++ s.general ∷ []) where
     parts_next : signers ≡ so_far.front ++ s ∷ others
@@ -172,16 +172,16 @@ module _ (h : RunHeader) (order : ℕ) (longer : List ℕ) (store : Store) (s : 
       next_kept = subst (KeepsNext store order ahead path) e so_far.next
 
       -- what is ahead is not verified again
-      is_known : 0 < ahead → new.runs ≡ store.runs
+      is_known : 0 < ahead → kept_count new ≡ kept_count store
       is_known some =
           let is = next_is store order ahead path s others some next_kept in
           let here : triple_next order path s ≡ next_triple = λ i. record { signer = s.general; statement = record { order = order; path = sym pushed i }; signature = s.signature } in
-          ap (λ (x : Store). x.runs) (checks.known (subst (λ (t : Triple). IsSome (answer_of store t)) here is))
+          ap kept_count (checks.known (subst (λ (t : Triple). IsSome (answer_of store t)) here is))
 
-      pub runs_next : (left : ℕ) → left ≡ ahead - 1 → new.runs + length others ≤ old.runs + length signers + left
-      runs_next left less = elim (zero_or_more ahead) [
-        | inl none ↦ omega (arith, so_far.runs, checks.runs, ap length e, less, none)
-        | inr some ↦ omega (arith, so_far.runs, is_known some, ap length e, less, some)
+      pub count_next : (left : ℕ) → left ≡ ahead - 1 → kept_count new + length others ≤ kept_count old + length signers + left
+      count_next left less = elim (zero_or_more ahead) [
+        | inl none ↦ omega (arith, so_far.count, checks.count, ap length e, less, none)
+        | inr some ↦ omega (arith, so_far.count, is_known some, ap length e, less, some)
       ]
 
       next_left : (left : ℕ) → left ≡ ahead - 1 → KeepsNext new order left longer others
@@ -189,10 +189,10 @@ module _ (h : RunHeader) (order : ℕ) (longer : List ℕ) (store : Store) (s : 
           let on = next_on store order ahead left path s others less next_kept in
           next_stays store new order left longer others checks.grows (subst (λ (p : List ℕ). KeepsNext store order left p others) (sym pushed) on)
 
-      pub runs_stop : new.runs ≤ old.runs + length signers
-      runs_stop =
+      pub count_stop : kept_count new ≤ kept_count old + length signers
+      count_stop =
           let left : (k : ℕ) × (k ≡ ahead - 1) = (ahead - 1, refl) in
-          omega (arith, runs_next left.0 left.1, next_few new order left.0 longer others (next_left left.0 left.1))
+          omega (arith, count_next left.0 left.1, next_few new order left.0 longer others (next_left left.0 left.1))
 
       pub stored_on : (left : ℕ) → left ≡ ahead - 1 → HasSigned h s.general (record { order = order; path = longer }) s.signature → StoredSoFar h order signers others longer left old new
       stored_on left less signed = record {
@@ -205,7 +205,7 @@ module _ (h : RunHeader) (order : ℕ) (longer : List ℕ) (store : Store) (s : 
         grows = grown_next;
         known = known_next;
         next = next_left left less;
-        runs = runs_next left less;
+        count = count_next left less;
       }
 
       module _ (unsigned : HasSigned h s.general (record { order = order; path = longer }) s.signature → ⊥) where
@@ -227,7 +227,7 @@ module _ (h : RunHeader) (order : ℕ) (signers rest others : List Signer) (path
   pub ahead_known : KeepsSigners h old order signers → IsSome (answer_of store (triple_next order path s))
   ahead_known = next_known h order (path ++ s.general ∷ []) store s signers rest others path ahead old so_far e refl
 
-  pub stored_ahead : (next : ℕ) → KeepsNext new order next path rest × (new.runs + ahead ≤ store.runs + next) → KeepsAll store new → Serves h new → StoredSoFar h order signers rest path next old new
+  pub stored_ahead : (next : ℕ) → KeepsNext new order next path rest × (kept_count new + ahead ≤ kept_count store + next) → KeepsAll store new → Serves h new → StoredSoFar h order signers rest path next old new
   stored_ahead next is grows serves = record {
     front = so_far.front;
     parts = so_far.parts;
@@ -238,7 +238,7 @@ module _ (h : RunHeader) (order : ℕ) (signers rest others : List Signer) (path
     grows = λ t answer kept. grows t answer (so_far.grows t answer kept);
     known = λ all. stays (ahead_known all) ∙ so_far.known all;
     next = is.0;
-    runs = omega (arith, so_far.runs, is.1);
+    count = omega (arith, so_far.count, is.1);
   }
 
 pub signed_so_far : (h : RunHeader) (order : ℕ) (signers rest : List Signer) (path : List ℕ) (ahead : ℕ) (old store : Store) → StoredSoFar h order signers rest path ahead old store → SignedSoFar h order signers rest path
@@ -258,5 +258,5 @@ checks_of h order longer store s new answer R after grows serves known = record 
   grows = grows;
   serves = serves;
   known = with_some (answer_of store (next_triple h order longer store s)) (new ≡ store) (λ b e. (known b e).1);
-  runs = runs_after store new (next_triple h order longer store s) answer after;
+  count = count_after store new (next_triple h order longer store s) answer after;
 }

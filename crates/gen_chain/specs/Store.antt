@@ -1,21 +1,19 @@
 -- Verifications that are kept, so that none is made twice.
-use Rattle.std.specs.Prelude.{ℕ, ◌≡◌, ◌≢◌, ◌↔◌, ◌+◌, ◌-◌, ◌^◌, min, ◌==◌, ◌&&◌, if◌then◌else◌, Bool, true, List, [], Option, Some, is_some}
+use Rattle.std.specs.Prelude.{ℕ, ◌≡◌, ◌≢◌, ◌↔◌, ◌+◌, ◌-◌, ◌^◌, min, ◌==◌, ◌&&◌, if◌then◌else◌, Bool, true, List, [], AllPairs, length, Option, Some, is_some}
 use Rattle.std.specs.Bool.{nat_eq}
 use Rattle.std.specs.Cmp.Lexicographic.{pointwise}
-use Rattle.std.specs.List.{find}
-use Rattle.std.specs.Map.{lookup}
+use Rattle.std.specs.List.{find, sum_by}
+use Rattle.std.specs.Map.{lookup, values_of}
 use Rattle.std.specs.Option.{option_map, unwrap_or}
 use Rattle.gen_net.specs.Header.{RunHeader}
-use Rattle.gen_chain.specs.declared.kept.Claim.{Claim}
+use Rattle.gen_chain.specs.declared.kept.Verified.{Verified}
 use Rattle.gen_chain.specs.declared.kept.Kept.{Kept}
 use Rattle.gen_chain.specs.declared.statements.Statement.{Statement}
 use Rattle.gen_chain.specs.Verifying.{HasSigned}
 
--- Of each claim, that a general has signed a statement, the signatures that were verified for it, each with what came out; and
--- how many verifications were made.
+-- For each general and statement the signatures that were verified, each with what came out.
 pub record Store : Type 0 where
-  pub kept : List (Claim × List Kept)
-  pub runs : ℕ
+  pub kept : List (Verified × List Kept)
 
 -- what is verified: that a general has signed a statement with this signature
 pub record Triple : Type 0 where
@@ -27,12 +25,12 @@ pub record Triple : Type 0 where
 abbrev pub is_statement : Statement → Statement → Bool
 is_statement a b = a.order == b.order && pointwise nat_eq a.path b.path
 
-abbrev pub is_claim : Claim → Claim → Bool
-is_claim a b = a.signer == b.signer && is_statement a.statement b.statement
+abbrev pub same_verified : Verified → Verified → Bool
+same_verified a b = a.signer == b.signer && is_statement a.statement b.statement
 
--- what is kept for a claim, and the answer that is kept for a signature
-abbrev pub kept_at : List (Claim × List Kept) → Claim → List Kept
-kept_at kept claim = unwrap_or (lookup (is_claim claim) kept) []
+-- what is kept for a general and a statement, and the answer that is kept for a signature
+abbrev pub kept_at : List (Verified × List Kept) → Verified → List Kept
+kept_at kept verified = unwrap_or (lookup (same_verified verified) kept) []
 
 abbrev pub answer_in : List Kept → List ℕ → Option Bool
 answer_in kept signature = option_map (λ k. k.answer) (find (λ k. pointwise nat_eq k.signature signature) kept)
@@ -41,16 +39,24 @@ answer_in kept signature = option_map (λ k. k.answer) (find (λ k. pointwise na
 unfoldable pub answer_of : Store → Triple → Option Bool
 answer_of store t = answer_in (kept_at store.kept (record { signer = t.signer; statement = t.statement })) t.signature
 
--- one verification more, unless the count is at its last value
-abbrev pub one_more : ℕ → ℕ
-one_more runs = min (runs + 1) (2 ^ 64 - 1)
+-- no signature is kept twice for a general and a statement
+abbrev pub KeepsOnce : Store → Type 0
+KeepsOnce store = (verified : Verified) → AllPairs (λ a b. a.signature ≢ b.signature) (kept_at store.kept verified)
 
--- The store after a check: the triple is kept with the answer, all others are as they were, and one verification more was made
--- exactly where the triple was not kept before.
+-- how many answers are kept
+unfoldable pub kept_count : Store → ℕ
+kept_count store = sum_by length (values_of store.kept)
+
+-- How many verifications were made: one for each answer that is kept. The count stays at its last value.
+abbrev pub runs_of : Store → ℕ
+runs_of store = min (kept_count store) (2 ^ 64 - 1)
+
+-- The store after a check: the triple is kept with the answer, all others are as they were, and one answer more is kept exactly
+-- where the triple was not kept before.
 pub record IsAfter (old : Store) (t : Triple) (answer : Bool) (new : Store) : Type 0 where
   pub here : answer_of new t ≡ Some answer
   pub others : (u : Triple) → u ≢ t → answer_of new u ≡ answer_of old u
-  pub runs : new.runs ≡ (if is_some (answer_of old t) then old.runs else one_more old.runs)
+  pub count : kept_count new ≡ kept_count old + (if is_some (answer_of old t) then 0 else 1)
 
 -- whatever the one keeps, the other keeps with the same answer
 abbrev pub KeepsAll : Store → Store → Type 0

@@ -3,23 +3,23 @@ ghost use Rattle.std.specs.Ordering.{as_partial_cmp};
 ghost use Rattle.std.specs.Cmp.{partial_order_from_own_ties};
 ghost use Rattle.std.specs.Cmp.Rules.{comparing};
 ghost use Rattle.std.proofs.Common.{rules};
-ghost use Rattle.gen_chain.specs.Keeping.{claim_cmp};
+ghost use Rattle.gen_chain.specs.Keeping.{verified_cmp};
 
 use crate::statements::Statement;
 use gen_tree::Signature;
 use gen_types::GeneralNo;
 use std::cmp::Ordering;
 
-/// That a general has signed a statement.
+/// What was verified: that a general has signed a statement.
 #[derive(Clone, Copy, Debug, PartialEq, Eq)]
-pub(crate) struct Claim {
+pub(crate) struct Verified {
     /// The general.
     pub(crate) signer: GeneralNo,
     /// The statement.
     pub(crate) statement: Statement,
 }
 
-/// A signature that was verified for a claim.
+/// A signature of the statement that was verified for the general.
 #[derive(Debug, Drop)]
 pub(crate) struct Kept {
     /// The signature.
@@ -29,8 +29,8 @@ pub(crate) struct Kept {
 }
 
 /// By signer, then by order, then by path.
-impl Ord for Claim {
-    ghost cmp = { claim_cmp };
+impl Ord for Verified {
+    ghost cmp = { verified_cmp };
 
     ghost total = { Prim.search (comparing, rules) };
 
@@ -38,7 +38,7 @@ impl Ord for Claim {
 
     ghost matches_eq = { Prim.search (comparing, rules) };
 
-    fn cmp(&self, other: &Claim) -> Ordering {
+    fn cmp(&self, other: &Verified) -> Ordering {
         let orders = self.statement.order.cmp(&other.statement.order);
         let path = self.statement.path.generals();
         let paths = path.cmp(other.statement.path.generals());
@@ -46,13 +46,13 @@ impl Ord for Claim {
     }
 }
 
-impl PartialOrd for Claim {
-    ghost partial_cmp = { as_partial_cmp claim_cmp };
+impl PartialOrd for Verified {
+    ghost partial_cmp = { as_partial_cmp verified_cmp };
 
     ghost laws = { partial_order_from_own_ties (Prim.search (comparing, rules))
         (Prim.search (comparing, rules)) };
 
-    fn partial_cmp(&self, other: &Claim) -> Option<Ordering> {
+    fn partial_cmp(&self, other: &Verified) -> Option<Ordering> {
         Some(self.cmp(other))
     }
 }

@@ -4,17 +4,17 @@ ghost use Rattle.gen_net.specs.Header.{RunHeader};
 ghost use Rattle.gen_chain.specs.Chain.{signed_path};
 ghost use Rattle.gen_chain.specs.declared.chains.Signer.{Signer};
 ghost use Rattle.gen_chain.specs.Verifying.{HasSigned, AreSigned, ChainVerifies};
-ghost use Rattle.gen_chain.specs.declared.kept.Claim.{Claim};
+ghost use Rattle.gen_chain.specs.declared.kept.Verified.{Verified};
 ghost use Rattle.gen_chain.specs.declared.kept.Kept.{Kept};
 ghost use Rattle.gen_chain.specs.Keeping.{items_of};
-ghost use Rattle.gen_chain.specs.Store.{Triple, answer_in, answer_of, is_claim, kept_at, IsAfter, KeepsAll, Serves};
+ghost use Rattle.gen_chain.specs.Store.{Triple, answer_in, answer_of, same_verified, kept_at, kept_count, runs_of, IsAfter, KeepsAll, KeepsOnce, Serves};
 ghost use Rattle.gen_chain.specs.Signings.{IsSigned, triple_next, triple_of};
 ghost use Rattle.gen_chain.specs.StoredChain.{KeepsSigners, KeepsChain, KeepsNext};
 ghost use Rattle.gen_chain.specs.Pooled.{LendsPool};
 ghost use Rattle.std.specs.Borrow.{sem};
 
 use crate::chains::{SignedChain, Signer};
-use crate::kept::{Claim, Kept};
+use crate::kept::{Kept, Verified};
 use crate::signings::{Signing, have_signed, next_four};
 use crate::sizes::MOST_SIGNERS;
 use crate::statements::Statement;
@@ -34,49 +34,54 @@ fn answer_in(kept: &[Kept], signature: &Signature) -> Option<bool>
     Some(found.answer)
 }
 
-/// Keeps a signature for a claim, after those that are kept for it.
+/// Keeps a signature of a statement by a general, after those that are kept for the two.
 fn keep(
     alloc: Global,
-    kept: &mut BTreeMap<Claim, Vec<Kept>>,
-    claim: Claim,
+    kept: &mut BTreeMap<Verified, Vec<Kept>>,
+    verified: Verified,
     last: Kept,
 ) -> Result<(), AllocError>
-    ensures here { OnOk result (kept_at (items_of kept.new.entries) claim
-        ≡ kept_at (items_of kept.old.entries) claim ++ last ∷ []) }
-    ensures others { OnOk result ((other : Claim) → is_claim claim other ≡ false
+    ensures here { OnOk result (kept_at (items_of kept.new.entries) verified
+        ≡ kept_at (items_of kept.old.entries) verified ++ last ∷ []) }
+    ensures others { OnOk result ((other : Verified) → same_verified verified other ≡ false
         → kept_at (items_of kept.new.entries) other ≡ kept_at (items_of kept.old.entries) other) }
+    ensures count { OnOk result (kept_count (record { kept = items_of kept.new.entries })
+        ≡ kept_count (record { kept = items_of kept.old.entries }) + 1) }
     ensures err { OnErr result (items_of kept.new.entries ≡ items_of kept.old.entries) }
 {
-    if let Some(signatures) = kept.get_mut(&claim) {
+    if let Some(signatures) = kept.get_mut(&verified) {
         signatures.push(last)?;
         return Ok(());
     }
     let mut signatures = Vec::new(alloc);
     signatures.push(last)?;
-    kept.insert(claim, signatures)?;
+    kept.insert(verified, signatures)?;
     Ok(())
 }
 
 /// The verifications that were made, each kept with its answer, so that none of them is made again.
 ///
-/// A verification is of a triple: a signer, a statement and a signature. A contract sees what is kept
-/// and how many verifications were made. A store serves a header where each kept answer is right under
-/// it; an empty store serves every header.
+/// A verification is of a triple: a signer, a statement and a signature. A contract sees what is kept;
+/// how many verifications were made is counted beside it, and the count is that of the kept answers,
+/// whichever calls were made. A store serves a header where each kept answer is right under it; an
+/// empty store serves every header.
 #[derive(Debug, Drop)]
 pub struct VerifyStore {
     alloc: Global,
-    kept: BTreeMap<Claim, Vec<Kept>>,
+    kept: BTreeMap<Verified, Vec<Kept>>,
     runs: u64,
     pool: SignaturePool,
 }
 
 impl Model for VerifyStore {
     ghost use Rattle.gen_chain.specs.Store.{Store};
-    ghost use Rattle.gen_chain.specs.Keeping.{items_of};
+    ghost use Rattle.gen_chain.specs.Keeping.{items_of, IsCounted};
 
     ghost Value = { Store };
 
-    ghost view = { λ s. record { kept = items_of s.kept.entries; runs = s.runs } };
+    ghost view = { λ s. record { kept = items_of s.kept.entries } };
+
+    ghost invariant = { λ s. IsCounted (record { kept = items_of s.kept.entries }) s.runs };
 }
 
 impl VerifyStore {
@@ -88,7 +93,7 @@ impl VerifyStore {
     pub fn new(alloc: Global) -> Result<VerifyStore, AllocError>
         ensures ok { IsOk result }
         ensures empty { IfOk result (λ store. (triple : Triple) → answer_of store triple ≡ None) }
-        ensures runs { IfOk result (λ store. store.runs ≡ 0) }
+        ensures count { IfOk result (λ store. kept_count store ≡ 0) }
         ensures serves { IfOk result (λ store. (h : RunHeader) → Serves h store) }
     {
         Ok(VerifyStore {
@@ -99,10 +104,11 @@ impl VerifyStore {
         })
     }
 
-    /// Returns how many verifications were made. The count stays at its last value,
-    /// 18,446,744,073,709,551,615.
+    /// Returns how many verifications were made: one for each answer that is kept, and none is kept twice.
+    /// The count stays at its last value, 18,446,744,073,709,551,615.
     pub fn runs(&self) -> u64
-        ensures { result ≡ self.now.runs }
+        ensures count { result ≡ runs_of self.now }
+        ensures once { KeepsOnce self.now }
     {
         self.runs
     }
@@ -114,15 +120,15 @@ impl VerifyStore {
         &mut self.pool
     }
 
-    /// The answer that is kept for the claim and the signature.
-    fn answer_of(&self, claim: &Claim, signature: &Signature) -> Option<bool>
+    /// The answer that is kept for the signature of a statement by a general.
+    fn answer_of(&self, verified: &Verified, signature: &Signature) -> Option<bool>
         ensures { result ≡ answer_of self.now (record {
-          signer = claim.now.signer;
-          statement = claim.now.statement;
+          signer = verified.now.signer;
+          statement = verified.now.statement;
           signature = signature.now;
         }) }
     {
-        match self.kept.get(claim) {
+        match self.kept.get(verified) {
             Some(kept) => answer_in(kept.as_slice(), signature),
             None => None,
         }
@@ -131,17 +137,17 @@ impl VerifyStore {
     /// Keeps the answer of a verification that was made, where none is kept.
     fn keep_answer(
         &mut self,
-        claim: Claim,
+        verified: Verified,
         signature: &Signature,
         answer: bool,
     ) -> Result<(), AllocError>
         requires { answer_of self.old (record {
-          signer = claim.signer;
-          statement = claim.statement;
+          signer = verified.signer;
+          statement = verified.statement;
           signature = signature.now;
         }) ≡ None }
         ensures kept { OnOk result (IsAfter self.old
-            (record { signer = claim.signer; statement = claim.statement; signature = signature.now })
+            (record { signer = verified.signer; statement = verified.statement; signature = signature.now })
             answer self.new) }
         ensures err { OnErr result (self.new ≡ self.old) }
     {
@@ -149,7 +155,7 @@ impl VerifyStore {
             signature: signature.share(self.alloc)?,
             answer,
         };
-        keep(self.alloc, &mut self.kept, claim, last)?;
+        keep(self.alloc, &mut self.kept, verified, last)?;
         self.runs = self.runs.saturating_add(1);
         Ok(())
     }
@@ -157,7 +163,7 @@ impl VerifyStore {
     /// Keeps the answer of a verification that was made, unless one is kept already.
     fn add_answer(&mut self, signing: &Signing<'_>, answer: bool) -> Result<(), AllocError>
         ensures kept { OnOk result (IsSome (answer_of self.new (triple_of signing.now))) }
-        ensures runs { self.new.runs ≤ self.old.runs + 1 }
+        ensures count { kept_count self.new ≤ kept_count self.old + 1 }
         ensures serves { (h : RunHeader) → Serves h self.old
             → IsTrue answer ↔ IsSigned h (triple_of signing.now)
             → Serves h self.new × KeepsAll self.old self.new }
@@ -170,7 +176,7 @@ impl VerifyStore {
             statement,
             signature,
         } = *signing;
-        self.keep_answer(Claim { signer, statement }, signature, answer)
+        self.keep_answer(Verified { signer, statement }, signature, answer)
     }
 
     /// Whether an answer is kept.
@@ -182,7 +188,7 @@ impl VerifyStore {
             statement,
             signature,
         } = *signing;
-        self.answer_of(&Claim { signer, statement }, signature)
+        self.answer_of(&Verified { signer, statement }, signature)
             .is_some()
     }
 
@@ -204,7 +210,7 @@ impl VerifyStore {
         requires serves { Serves header.now self.old }
         ensures kept { OnOk result ((j : ℕ) → j < 4 → (other : Triple)
             → IsSome (answer_of self.new (slice_index_or (map triple_of signings.now) j other))) }
-        ensures runs { self.new.runs ≤ self.old.runs + 4 }
+        ensures count { kept_count self.new ≤ kept_count self.old + 4 }
         ensures grows { KeepsAll self.old self.new }
         ensures serves { Serves header.now self.new }
     {
@@ -230,8 +236,8 @@ impl VerifyStore {
         requires serves { Serves header.now self.old }
         requires ahead { KeepsNext self.old order ahead path.now rest.now }
         ensures ahead { IfOk result (λ next. KeepsNext self.new order next path.now rest.now
-            × (self.new.runs + ahead ≤ self.old.runs + next)) }
-        ensures runs { self.new.runs + ahead ≤ self.old.runs + length rest.now }
+            × (kept_count self.new + ahead ≤ kept_count self.old + next)) }
+        ensures count { kept_count self.new + ahead ≤ kept_count self.old + length rest.now }
         ensures known { (s : Signer) (others : List Signer) → rest.now ≡ s ∷ others
             → IsSome (answer_of self.old (triple_next order path.now s)) → IsOk result × (self.new ≡ self.old) }
         ensures grows { KeepsAll self.old self.new }
@@ -265,7 +271,7 @@ impl VerifyStore {
         requires serves { Serves header.now self.old }
         ensures answer { IfOk result (λ answer.
             IsTrue answer ↔ HasSigned header.now signer statement.now signature.now) }
-        // What is kept then, and how many verifications were made.
+        // What is kept then, and of how many answers.
         ensures kept { IfOk result (λ answer. IsAfter self.old
             (record { signer = signer; statement = statement.now; signature = signature.now })
             answer self.new) }
@@ -277,15 +283,15 @@ impl VerifyStore {
         ensures grows { KeepsAll self.old self.new }
         ensures serves { Serves header.now self.new }
     {
-        let claim = Claim {
+        let verified = Verified {
             signer,
             statement: *statement,
         };
-        if let Some(answer) = self.answer_of(&claim, signature) {
+        if let Some(answer) = self.answer_of(&verified, signature) {
             return Ok(answer);
         }
         let answer = has_signed(header, signer, statement, signature);
-        self.keep_answer(claim, signature, answer)?;
+        self.keep_answer(verified, signature, answer)?;
         Ok(answer)
     }
 
@@ -303,7 +309,7 @@ impl VerifyStore {
         ensures kept { OnOk result (KeepsSigners header.now self.new order signers.now) }
         ensures known { KeepsSigners header.now self.old order signers.now
             → IsOk result × (self.new ≡ self.old) }
-        ensures runs { self.new.runs ≤ self.old.runs + length signers.now }
+        ensures count { kept_count self.new ≤ kept_count self.old + length signers.now }
         ensures grows { KeepsAll self.old self.new }
         ensures serves { Serves header.now self.new }
     {
@@ -342,7 +348,7 @@ impl VerifyStore {
         ensures kept { OnOk result (KeepsChain header.now self.new chain.now) }
         // What was kept is not verified again.
         ensures known { KeepsChain header.now self.old chain.now → IsOk result × (self.new ≡ self.old) }
-        ensures runs { self.new.runs ≤ self.old.runs + length chain.now.signers }
+        ensures count { kept_count self.new ≤ kept_count self.old + length chain.now.signers }
         ensures grows { KeepsAll self.old self.new }
         ensures serves { Serves header.now self.new }
     {

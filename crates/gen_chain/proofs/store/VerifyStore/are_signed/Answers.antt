@@ -3,7 +3,7 @@ use Rattle.gen_chain.specs.StoredChain.{KeepsSigners}
 use Rattle.gen_chain.specs.Verifying.{AreSigned}
 use Rattle.gen_chain.proofs.DistinctPaths.{AreDistinct, next_fits, next_is_new}
 use Rattle.gen_chain.proofs.SignedSoFar.{joined}
-use Rattle.gen_chain.proofs.StoredSoFar.{Checks, StoredSoFar, checks_of, stored_ahead, stored_first, stored_on, stored_stop, grown_next, known_next, runs_stop, signed_so_far}
+use Rattle.gen_chain.proofs.StoredSoFar.{Checks, StoredSoFar, checks_of, stored_ahead, stored_first, stored_on, stored_stop, grown_next, known_next, count_stop, signed_so_far}
 use Rattle.gen_chain.proofs.store.VerifyStore.are_signed.Goals as goal
 use Rattle.gen_chain.proofs.store.VerifyStore.are_signed.Goals.{After-saturating_sub-ahead, Then-not-signed}
 
@@ -37,8 +37,8 @@ returns-then-not-signed-clause-kept c = (stopped c).1
 pub returns-then-not-signed-clause-known : goal.returns-then-not-signed-clause-known
 returns-then-not-signed-clause-known c = λ all. (refl, known_next _ _ _ _ _ _ _ _ _ _ _ (stop_ahead c) c.in-Some.ensures.cases.0 c.push_new.ensures _ (stopping c) all)
 
-pub returns-then-not-signed-clause-runs : goal.returns-then-not-signed-clause-runs
-returns-then-not-signed-clause-runs c = runs_stop _ _ _ _ _ _ _ _ _ _ _ (stop_ahead c) c.in-Some.ensures.cases.0 c.push_new.ensures _ (stopping c)
+pub returns-then-not-signed-clause-count : goal.returns-then-not-signed-clause-count
+returns-then-not-signed-clause-count c = count_stop _ _ _ _ _ _ _ _ _ _ _ (stop_ahead c) c.in-Some.ensures.cases.0 c.push_new.ensures _ (stopping c)
 
 pub returns-then-not-signed-clause-grows : goal.returns-then-not-signed-clause-grows
 returns-then-not-signed-clause-grows c = grown_next _ _ _ _ _ _ _ _ _ _ _ (stop_ahead c) c.in-Some.ensures.cases.0 c.push_new.ensures _ (stopping c)

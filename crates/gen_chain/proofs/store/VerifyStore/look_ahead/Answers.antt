@@ -3,8 +3,8 @@ use Rattle.gen_chain.proofs.SignedFour.{next_apart}
 use Rattle.gen_chain.proofs.StoredSoFar.{first_unknown, keeps_four, next_few}
 use Rattle.gen_chain.proofs.store.VerifyStore.look_ahead.Goals as goal
 
-pub returns-then-ahead-gt0-clause-runs : goal.returns-then-ahead-gt0-clause-runs
-returns-then-ahead-gt0-clause-runs c = omega (arith, next_few c.args.self.now c.args.order c.args.ahead c.args.path.now c.args.rest.now c.requires.ahead)
+pub returns-then-ahead-gt0-clause-count : goal.returns-then-ahead-gt0-clause-count
+returns-then-ahead-gt0-clause-count c = omega (arith, next_few c.args.self.now c.args.order c.args.ahead c.args.path.now c.args.rest.now c.requires.ahead)
 
 pub next_four-signings-requires-clause-distinct : goal.next_four-signings-requires-clause-distinct
 next_four-signings-requires-clause-distinct c = next_apart c.args.path.now c.args.rest.now c.requires.distinct
@@ -16,7 +16,7 @@ returns-in_err-verify_four-clause-known c = λ s others e is.
 pub returns-clause-ahead : goal.returns-clause-ahead
 returns-clause-ahead c = (
   keeps_four c.verify_four.new.self c.args.order c.args.path.now c.args.rest.now _ (omega (arith, c.if-rest-lt4.false)) c.next_four-signings.ensures.value c.in_ok-verify_four.ensures.kept,
-  omega (arith, c.in_ok-verify_four.ensures.runs, c.if-ahead-gt0.false),
+  omega (arith, c.in_ok-verify_four.ensures.count, c.if-ahead-gt0.false),
 )
 
 pub returns-clause-known : goal.returns-clause-known

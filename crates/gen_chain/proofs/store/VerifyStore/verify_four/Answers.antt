@@ -20,6 +20,6 @@ places-preserved c =
     record {
       serves = added.0;
       grows = λ t answer e. added.1 t answer (c.places.invariant.grows t answer e);
-      runs = omega (arith, c.places.invariant.runs, c.add_answer.ensures.runs);
+      count = omega (arith, c.places.invariant.count, c.add_answer.ensures.count);
       kept = kept_more c.places.self c.add_answer.new.self c.args.signings.now c.places.place c.index-signings-place.result (omega (arith, c.type_inv.signings, c.places-test.true)) added.1 c.in_ok-add_answer.ensures.kept c.places.invariant.kept;
     }
