@@ -16,5 +16,6 @@ pub mod Plans
 pub mod Recorders
 pub mod Relaying
 pub mod SignerSteps
+pub mod Spending
 pub mod Starting
 pub mod Worlds

@@ -1,14 +1,9 @@
 -- The generals of a scenario, all together, while they go from round to round.
-use Rattle.std.specs.Prelude.{ℕ, ◌≡◌, ◌+◌, not, List, [], Option, Some, None, map, filter, ◌<◌, length, slice_index_or}
-use Rattle.std.specs.List.{range_with_len, list_any, flat_map}
-use Rattle.gen_tree.specs.Rings.{Ring, seed_of}
-use Rattle.gen_net.specs.Version.{height_in}
-use Rattle.gen_net.specs.Network.{Network}
-use Rattle.gen_net.specs.Edges.{joins}
-use Rattle.gen_script.specs.declared.lines.ScriptLine.{ScriptLine}
+use Rattle.std.specs.Prelude.{ℕ, ◌≡◌, ◌+◌, not, List, map, filter}
+use Rattle.std.specs.List.{range_with_len, flat_map}
 use Rattle.gen_scenario.specs.declared.heard.Heard.{Heard}
 use Rattle.gen_scenario.specs.declared.scenario.Decision.{Decision}
-use Rattle.gen_scenario.specs.Scenario.{Scenario, has_script, script_of}
+use Rattle.gen_scenario.specs.Scenario.{Scenario, has_script}
 use Rattle.gen_scenario.specs.SignedWorld.{heard_of, heard_by}
 use Rattle.gen_scenario.specs.AllAre.{AllAre}
 use Rattle.gen_scenario.specs.Deciding.{decision_of}

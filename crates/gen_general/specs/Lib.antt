@@ -6,3 +6,4 @@ pub mod Participant
 pub mod ParticipantLaws
 pub mod Planned
 pub mod Recording
+pub mod Spending

@@ -2,6 +2,7 @@
 //! knows the law.
 ghost use Rattle.gen_general.specs.ParticipantLaws.{StartsAsHe, BeginsAsHe, HearsAsHe, SendsFrames, HearsFrames, DecidesAsHe};
 ghost use Rattle.gen_general.specs.Planned.{PlansFrames, PlansSends, PlansSigns};
+ghost use Rattle.gen_general.specs.Spending.{FollowersSignOnce, SignsTakeLeaves};
 
 /// What a script has its general send in a round, as `Planned` has it: `frames`, its bytes make the frame to a neighbour;
 /// `signs`, its chains are what he signs; `sends`, those for a neighbour are what he sends him.
@@ -22,4 +23,11 @@ pub fn participants_are_generals()
     ensures frames { SendsFrames }
     ensures heard { HearsFrames }
     ensures decide { DecidesAsHe }
+{}
+
+/// Which leaves of his ring one without a script takes: in each round those of the SIGNs that he writes in it (`round`);
+/// and in his log of a scenario's run each leaf has one text (`once`).
+pub fn texts_take_leaves()
+    ensures round { SignsTakeLeaves }
+    ensures once { FollowersSignOnce }
 {}
