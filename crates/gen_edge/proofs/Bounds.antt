@@ -4,7 +4,7 @@ use Rattle.std.proofs.lemmas.List.{append-nil, length-map}
 use Rattle.crossbeam_queue.specs.Fifo.{Held}
 use Rattle.gen_edge.specs.declared.frames.Frame.{Frame}
 use Rattle.gen_edge.specs.declared.frames.Frame.TheVariants.{Round, Gone}
-use Rattle.gen_edge.specs.declared.rule.Seen.{Seen}
+use Rattle.gen_edge.specs.declared.rule.PassView.{PassView}
 use Rattle.gen_edge.specs.Frames.{Parcels, Carried, round, gone, carried, number_of, numbered, ending, row}
 use Rattle.gen_edge.specs.Tied.{ComesNext, TakesNext, PutsSee, TakesSee, after_put}
 use Rattle.gen_edge.proofs.Rows.{head_is, some_below, empty_is_not}
@@ -14,23 +14,23 @@ is_round (round n p) = true
 is_round gone = false
 
 -- what the counter of a pass says after a frame of this number went
-pub record IsCounted (world : List Parcels) (count number : ℕ) (ended was : Bool) : Type 0 where
+pub record IsCounted (frames : List Parcels) (count number : ℕ) (ended was : Bool) : Type 0 where
   pub counted : count ≡ number
   pub kept : ended ≡ was
-  pub within : number ≤ length world
+  pub within : number ≤ length frames
 
-pub put_counted : (v w : Seen) (x : Frame) (number : ℕ) → number_of (carried x) ≡ Some number → ComesNext v.world v.put v.gone_put (carried x) → w ≡ after_put v (carried x)
-    → IsCounted w.world w.put number w.gone_put v.gone_put
+pub put_counted : (v w : PassView) (x : Frame) (number : ℕ) → number_of (carried x) ≡ Some number → ComesNext v.frames v.put v.gone_put (carried x) → w ≡ after_put v (carried x)
+    → IsCounted w.frames w.put number w.gone_put v.gone_put
 put_counted v w (Round k parcels) number is next e =
-    let below = some_below v.world v.put parcels.items next.1.1 in
+    let below = some_below v.frames v.put parcels.items next.1.1 in
     let same : k ≡ number = cc in
     let nth : k ≡ v.put + 1 = next.1.0 in
     rw e (record { counted = sym nth ∙ same; kept = refl; within = omega (arith, below, same, nth) })
 put_counted v w Gone number is next e = absurd cc
 
-pub take_counted : (v w : Seen) (x : Frame) (number : ℕ) → number_of (carried x) ≡ Some number → TakesNext v x w → IsCounted w.world w.taken number w.gone_taken v.gone_taken
+pub take_counted : (v w : PassView) (x : Frame) (number : ℕ) → number_of (carried x) ≡ Some number → TakesNext v x w → IsCounted w.frames w.taken number w.gone_taken v.gone_taken
 take_counted v w (Round k parcels) number is (next, e) =
-    let below = some_below v.world v.taken parcels.items next.1.1 in
+    let below = some_below v.frames v.taken parcels.items next.1.1 in
     let same : k ≡ number = cc in
     let nth : k ≡ v.taken + 1 = next.1.0 in
     rw e (record { counted = sym nth ∙ same; kept = refl; within = omega (arith, below, same, nth) })
@@ -45,27 +45,40 @@ numbered_many : (k : ℕ) (xs : List Parcels) → length (numbered k xs) ≡ len
 numbered_many k [] = refl
 numbered_many k (x ∷ xs) = ap suc (numbered_many (k + 1) xs)
 
-row_few : (world : List Parcels) (n : ℕ) → length (row world n false) ≤ n
-row_few world n =
-    let a = length-append (numbered 0 (take n world)) [] in
-    let b = numbered_many 0 (take n world) in
-    let c = taken_few n world in
+row_few : (frames : List Parcels) (n : ℕ) → length (row frames n false) ≤ n
+row_few frames n =
+    let a = length-append (numbered 0 (take n frames)) [] in
+    let b = numbered_many 0 (take n frames) in
+    let c = taken_few n frames in
     omega (arith, a, b, c)
 
 -- where something comes next, the last word did not come
-pub open_before : (world : List Parcels) (n : ℕ) (ended : Bool) (x : Carried) → ComesNext world n ended x → ended ≡ false
-open_before world n ended (round number parcels) next = next.0
-open_before world n ended gone next = next
+pub open_before : (frames : List Parcels) (n : ℕ) (ended : Bool) (x : Carried) → ComesNext frames n ended x → ended ≡ false
+open_before frames n ended (round number parcels) next = next.0
+open_before frames n ended gone next = next
 
--- a queue that is full holds no more than was put
-pub full_of_puts : (n : ℕ) (v : Seen) → v.gone_put ≡ false → Held n (PutsSee v) → n ≤ v.put
-full_of_puts n v open_yet (items, many, (taken, gone_taken, behind, rests)) =
-    let few = row_few v.world v.put in
-    let all : row v.world v.put false ≡ row v.world taken gone_taken ++ map carried items = ap (λ b. row v.world v.put b) (sym open_yet) ∙ rests in
+taken_all : (n : ℕ) (xs : List Parcels) → n ≤ length xs → length (take n xs) ≡ n
+taken_all zero xs within = refl
+taken_all (suc n) [] within = absurd (omega arith)
+taken_all (suc n) (x ∷ xs) within = ap suc (taken_all n xs (omega arith))
+
+row_many : (frames : List Parcels) (n : ℕ) (ended : Bool) → n ≤ length frames → n ≤ length (row frames n ended)
+row_many frames n ended within =
+    let a = length-append (numbered 0 (take n frames)) (ending ended) in
+    let b = numbered_many 0 (take n frames) in
+    let c = taken_all n frames within in
+    omega (arith, a, b, c)
+
+-- a queue that is full holds no more than was put and, as far as the pass was told, not taken
+pub full_of_puts : (n : ℕ) (v : PassView) → v.put ≤ length v.frames → v.gone_put ≡ false → Held n (PutsSee v) → v.freed + n ≤ v.put
+full_of_puts n v within open_yet (items, many, (taken, gone_taken, told, behind, rests)) =
+    let few = row_few v.frames v.put in
+    let gone_by = row_many v.frames taken gone_taken (omega (arith, behind, within)) in
+    let all : row v.frames v.put false ≡ row v.frames taken gone_taken ++ map carried items = ap (λ b. row v.frames v.put b) (sym open_yet) ∙ rests in
     let long = ap length all in
-    let sum = length-append (row v.world taken gone_taken) (map carried items) in
+    let sum = length-append (row v.frames taken gone_taken) (map carried items) in
     let each = length-map items carried in
-    omega (arith, few, long, sum, each, many)
+    omega (arith, few, gone_by, told, long, sum, each, many)
 
 nothing_behind : (k j : ℕ) (l m : List Parcels) (ended : Bool) (xs : List Carried) → numbered k l ++ ending ended ≡ (numbered j m ++ gone ∷ []) ++ xs → xs ≡ []
 nothing_behind k j [] [] true xs e = sym (ap (drop 1) e)
@@ -80,12 +93,12 @@ no_round k p xs true e = true≢false (sym (ap is_round (head_is gone (round k p
 no_round k p xs false e = empty_is_not (round k p) xs e
 
 -- two rows are the same only where they have as many frames, and ended both or neither
-rows_alike : (k : ℕ) (world : List Parcels) (n t : ℕ) (g h : Bool) → n ≤ length world → t ≤ length world → numbered k (take n world) ++ ending g ≡ numbered k (take t world) ++ ending h
+rows_alike : (k : ℕ) (frames : List Parcels) (n t : ℕ) (g h : Bool) → n ≤ length frames → t ≤ length frames → numbered k (take n frames) ++ ending g ≡ numbered k (take t frames) ++ ending h
     → (n ≡ t) × (g ≡ h)
-rows_alike k world zero zero true true a b e = (refl, refl)
-rows_alike k world zero zero false false a b e = (refl, refl)
-rows_alike k world zero zero true false a b e = absurd (empty_is_not gone [] (sym e))
-rows_alike k world zero zero false true a b e = absurd (empty_is_not gone [] e)
+rows_alike k frames zero zero true true a b e = (refl, refl)
+rows_alike k frames zero zero false false a b e = (refl, refl)
+rows_alike k frames zero zero true false a b e = absurd (empty_is_not gone [] (sym e))
+rows_alike k frames zero zero false true a b e = absurd (empty_is_not gone [] e)
 rows_alike k [] (suc n) t g h a b e = absurd (omega arith)
 rows_alike k [] zero (suc t) g h a b e = absurd (omega arith)
 rows_alike k (x ∷ xs) (suc n) zero g h a b e = absurd (no_round (k + 1) x (numbered (k + 1) (take n xs) ++ ending g) h (sym e))
@@ -93,17 +106,17 @@ rows_alike k (x ∷ xs) zero (suc t) g h a b e = absurd (no_round (k + 1) x (num
 rows_alike k (x ∷ xs) (suc n) (suc t) g h a b e = let more = rows_alike (k + 1) xs n t g h (omega arith) (omega arith) (ap (drop 1) e) in (ap suc more.0, more.1)
 
 -- who finds a queue empty knows of nothing that he did not take
-pub none_missed : (v : Seen) → Held 0 (TakesSee v) → (v.taken < v.known) ⊎ ((v.known_gone ≡ true) × (v.gone_taken ≡ false)) → ⊥
+pub none_missed : (v : PassView) → Held 0 (TakesSee v) → (v.taken < v.known) ⊎ ((v.known_gone ≡ true) × (v.gone_taken ≡ false)) → ⊥
 none_missed v (x ∷ items, none, see) more = absurd (omega arith)
 none_missed v ([], none, (put, gone_put, behind, within, known, rests)) more =
-    let same = rows_alike 0 v.world put v.taken gone_put v.gone_taken within (omega arith) (rests ∙ append-nil (row v.world v.taken v.gone_taken)) in
+    let same = rows_alike 0 v.frames put v.taken gone_put v.gone_taken within (omega arith) (rests ∙ append-nil (row v.frames v.taken v.gone_taken)) in
     let many = same.0 in let few = known.0 in
-    ⊎_elim (λ (frames : v.taken < v.known). absurd (omega (arith, many, few, frames)))
+    ⊎_elim (λ (fewer : v.taken < v.known). absurd (omega (arith, many, few, fewer)))
     (λ (ended : (v.known_gone ≡ true) × (v.gone_taken ≡ false)). true≢false (sym (known.1 ended.0) ∙ same.1 ∙ ended.1)) more
 
 -- behind the last word nothing is left
-pub nothing_left : (world : List Parcels) (n t : ℕ) (g h : Bool) (frames : List Frame) → row world n g ≡ row world t h ++ map carried frames → h ≡ true → frames ≡ []
-nothing_left world n t g h [] e ended = refl
-nothing_left world n t g h (x ∷ frames) e ended =
-    let all : row world n g ≡ row world t true ++ map carried (x ∷ frames) = e ∙ ap (λ b. row world t b ++ map carried (x ∷ frames)) ended in
-    absurd (empty_is_not (carried x) (map carried frames) (sym (nothing_behind 0 0 (take n world) (take t world) g (map carried (x ∷ frames)) all)))
+pub nothing_left : (frames : List Parcels) (n t : ℕ) (g h : Bool) (left : List Frame) → row frames n g ≡ row frames t h ++ map carried left → h ≡ true → left ≡ []
+nothing_left frames n t g h [] e ended = refl
+nothing_left frames n t g h (x ∷ left) e ended =
+    let all : row frames n g ≡ row frames t true ++ map carried (x ∷ left) = e ∙ ap (λ b. row frames t b ++ map carried (x ∷ left)) ended in
+    absurd (empty_is_not (carried x) (map carried left) (sym (nothing_behind 0 0 (take n frames) (take t frames) g (map carried (x ∷ left)) all)))

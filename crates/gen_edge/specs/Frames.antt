@@ -5,7 +5,7 @@ use Rattle.gen_net.specs.Network.{rounds}
 use Rattle.gen_scenario.specs.Scenario.{Scenario}
 use Rattle.gen_scenario.specs.SignedWorld.{frame_at}
 use Rattle.gen_edge.specs.declared.frames.Frame.{Frame}
-use Rattle.gen_edge.specs.declared.frames.Frame.TheVariants as frames
+use Rattle.gen_edge.specs.declared.frames.Frame.TheVariants as variants
 
 -- the bytes of a frame's parcels
 abbrev pub Parcels : Type 0
@@ -17,8 +17,8 @@ pub data Carried : Type 0 where
   gone : Carried
 
 abbrev pub carried : Frame → Carried
-carried (frames.Round number parcels) = round number parcels.items
-carried frames.Gone = gone
+carried (variants.Round number parcels) = round number parcels.items
+carried variants.Gone = gone
 
 -- the round of a frame
 abbrev pub number_of : Carried → Option ℕ
@@ -36,7 +36,7 @@ ending false = []
 
 -- the run's first n frames, and then the word that no more comes, if it came
 abbrev pub row : List Parcels → ℕ → Bool → List Carried
-row world n ended = numbered 0 (take n world) ++ ending ended
+row frames n ended = numbered 0 (take n frames) ++ ending ended
 
 -- the frames of the scenario's run on the edge from a to b, round by round
 abbrev pub edge_frames : Scenario → ℕ → ℕ → List Parcels

@@ -1,15 +1,17 @@
 //! The calls of an edge.
 ghost use Rattle.std.specs.Prelude.{◌≡◌, ◌<◌, ◌≤◌, ◌+◌, ◌++◌, [], None, Ok, map, true, length, IfOk, IsSome, MatchOption, MatchResult};
 ghost use Rattle.gen_edge.specs.Frames.{carried, row, edge_frames};
-ghost use Rattle.gen_edge.specs.Tied.{ComesNext, TakesNext, after_put, after_tell, putter, taker};
-ghost use Rattle.gen_edge.specs.Ends.{IsPutPassOf, IsTakePassOf, put_view, take_view, edge_capacity, PutsWithin, TakesWithin, WasFull, WasEmpty, KnowsOfMore};
+ghost use Rattle.gen_edge.specs.Tied.{ComesNext, TakesNext, after_put, putter, putter_told, taker, taker_told};
+ghost use Rattle.gen_edge.specs.Ends.{IsPutPassOf, IsTakePassOf, put_view, take_view, edge_capacity, PutsWithin, TakesWithin, WasFull, WasEmpty, KnowsOfMore, KnowsOfRoom};
 
 use crate::frames::Frame;
 use crate::passes::{Edge, Left, Line, PutPass, TakePass};
-use crate::rule::{Drains, Ends, Hears, Naming, Opens, Puts, Settles, Takes, Tells};
+use crate::rule::{
+    Drains, Ends, HearsPuts, HearsTakes, Naming, Opens, Puts, Settles, Takes, TellsPuts, TellsTakes,
+};
 use crossbeam_utils::sync::{EventCount, Key};
+use gen_scenario::Scenario;
 use gen_types::GeneralNo;
-use gen_world::Scenario;
 use std::alloc::{AllocError, Global};
 use std::marker::Brand;
 use std::sync::Wait;
@@ -42,15 +44,16 @@ impl Edge {
     ///
     /// # Errors
     ///
-    /// The frame, only where the queue was full at one moment of the call. Then nothing was put.
+    /// The frame, only where the queue was full at one moment of the call, and never where the pass was told that so
+    /// many were taken that there is room. Then nothing was put.
     pub fn try_put<R: Wait>(&self, rt: &R, pass: &mut PutPass, frame: Frame) -> Result<(), Frame>
         requires pass { IsPutPassOf self.now pass.old }
-        requires next { let v = put_view pass.old in ComesNext v.world v.put v.gone_put (carried frame) }
+        requires next { let v = put_view pass.old in ComesNext v.frames v.put v.gone_put (carried frame) }
         ensures pass { IsPutPassOf self.now pass.new }
         ensures rule { MatchResult result
             (λ _. put_view pass.new ≡ after_put (put_view pass.old) (carried frame))
             (λ x. (x ≡ frame) × (put_view pass.new ≡ put_view pass.old) × WasFull self.now pass.old) }
-        ensures room { (put_view pass.old).put < edge_capacity self.now → result ≡ Ok tt }
+        ensures room { KnowsOfRoom self.now pass.old → result ≡ Ok tt }
         ensures within { PutsWithin pass.new }
     {
         let number = frame.number();
@@ -93,17 +96,20 @@ impl Edge {
         self.moved.prepare_wait()
     }
 
-    /// Tells the pass to take how many frames were put until now, and whether the last word was. It
-    /// is for whoever holds both passes, before threads start or after they were joined: from then
-    /// on no take answers None until all of this was taken. It takes no memory.
+    /// Tells the pass to take how many frames were put until now, and whether the last word was; and the pass to put
+    /// how many were taken. It is for whoever holds both passes, before threads start or after they were joined: from
+    /// then on no take answers None until all of this was taken, and no frame comes back until as many more were put
+    /// than were taken as the edge holds. It changes nothing on the edge, and takes no memory.
     pub fn tell(&self, put: &mut PutPass, take: &mut TakePass)
         requires { IsPutPassOf self.now put.old × IsTakePassOf self.now take.old }
         ensures passes { IsPutPassOf self.now put.new × IsTakePassOf self.now take.new }
-        ensures put { put_view put.new ≡ put_view put.old }
-        ensures told { take_view take.new ≡ after_tell (take_view take.old) (put_view put.old) }
+        ensures put { put_view put.new ≡ putter_told (put_view put.old) (take_view take.old) }
+        ensures taken { take_view take.new ≡ taker_told (take_view take.old) (put_view put.old) }
     {
-        let news = self.line.another::<Tells>(&mut put.pass);
-        self.line.absorb::<Hears>(&mut take.pass, news);
+        let puts = self.line.another::<TellsPuts>(&mut put.pass);
+        self.line.absorb::<HearsPuts>(&mut take.pass, puts);
+        let takes = self.line.another::<TellsTakes>(&mut take.pass);
+        self.line.absorb::<HearsTakes>(&mut put.pass, takes);
     }
 
     /// Ends an edge, and returns what is left on it: what was taken followed by what is left is what was put. It
@@ -111,8 +117,8 @@ impl Edge {
     pub fn settle<R: Wait>(self, rt: &R, put: PutPass, take: TakePass) -> Left
         requires { IsPutPassOf self put × IsTakePassOf self take }
         ensures left { let p = put_view put in let t = take_view take in
-            row p.world p.put p.gone_put
-            ≡ row p.world t.taken t.gone_taken ++ map carried result.frames.items }
+            row p.frames p.put p.gone_put
+            ≡ row p.frames t.taken t.gone_taken ++ map carried result.frames.items }
         ensures ended { (take_view take).gone_taken ≡ true → result.frames.items ≡ [] }
         ensures few { length result.frames.items ≤ edge_capacity self }
     {
@@ -141,11 +147,11 @@ fn open<N: Naming>(
     capacity: usize,
 ) -> Result<(Edge, PutPass, TakePass), AllocError>
     requires capacity { 0 < capacity }
-    requires world { N.world ≡ edge_frames scenario.now from to }
+    requires frames { N.frames ≡ edge_frames scenario.now from to }
     ensures passes { IfOk result (λ r. IsPutPassOf r.0 r.1 × IsTakePassOf r.0 r.2) }
     ensures capacity { IfOk result (λ r. edge_capacity r.0 ≡ capacity) }
-    ensures put { IfOk result (λ r. put_view r.1 ≡ putter N.world) }
-    ensures taken { IfOk result (λ r. take_view r.2 ≡ taker N.world) }
+    ensures put { IfOk result (λ r. put_view r.1 ≡ putter N.frames) }
+    ensures taken { IfOk result (λ r. take_view r.2 ≡ taker N.frames) }
 {
     let room = Vec::with_capacity(alloc, capacity)?;
     let (line, mut pass) = Line::ruled(alloc, capacity)?;

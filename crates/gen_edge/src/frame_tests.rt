@@ -4,7 +4,7 @@ ghost use Rattle.std.specs.List.{find};
 ghost use Rattle.gen_scenario.specs.Rows.{FrameRow, rows_of};
 ghost use Rattle.gen_edge.specs.Frames.{carried, edge_frames, round};
 ghost use Rattle.gen_edge.specs.Tied.{ComesNext};
-ghost use Rattle.gen_edge.specs.Ends.{IsPutPassOf, IsTakePassOf, put_view};
+ghost use Rattle.gen_edge.specs.Ends.{IsPutPassOf, IsTakePassOf, edge_capacity, put_view};
 
 use crate::{Edge, Frame, Left, PutPass, TakePass};
 use gen_types::GeneralNo;
@@ -60,9 +60,9 @@ pub(crate) fn put_next<R: Wait>(
 ) -> Result<bool, AllocError>
     requires run { run.now.frames ≡ rows_of scenario.now }
     requires pass { IsPutPassOf edge.now pass.old }
-    requires world { (put_view pass.old).world ≡ edge_frames scenario.now way.0 way.1 }
+    requires frames { (put_view pass.old).frames ≡ edge_frames scenario.now way.0 way.1 }
     ensures pass { IsPutPassOf edge.now pass.new }
-    ensures world { (put_view pass.new).world ≡ edge_frames scenario.now way.0 way.1 }
+    ensures frames { (put_view pass.new).frames ≡ edge_frames scenario.now way.0 way.1 }
 {
     let put = pass.put();
     if pass.has_ended() || put >= 16 {
@@ -92,9 +92,31 @@ fn shape(frame: &Frame) -> Shape {
 pub(crate) fn put_last<R: Wait>(rt: &R, edge: &Edge, pass: &mut PutPass) -> bool
     requires { IsPutPassOf edge.now pass.old }
     ensures pass { IsPutPassOf edge.now pass.new }
-    ensures world { (put_view pass.new).world ≡ (put_view pass.old).world }
+    ensures frames { (put_view pass.new).frames ≡ (put_view pass.old).frames }
 {
     !pass.has_ended() && edge.try_put(rt, pass, Frame::Gone).is_ok()
+}
+
+/// Tells both how far the other is, and puts the last word where an edge that holds so many frames has room. No second
+/// try is needed. Whether it was put.
+pub(crate) fn put_last_told<R: Wait>(
+    rt: &R,
+    edge: &Edge,
+    capacity: usize,
+    put: &mut PutPass,
+    take: &mut TakePass,
+) -> bool
+    requires passes { IsPutPassOf edge.now put.old × IsTakePassOf edge.now take.old }
+    requires capacity { capacity ≡ edge_capacity edge.now }
+    ensures passes { IsPutPassOf edge.now put.new × IsTakePassOf edge.now take.new }
+    ensures frames { (put_view put.new).frames ≡ (put_view put.old).frames }
+{
+    edge.tell(put, take);
+    if put.has_ended() || u64::from(put.put()) >= u64::from(take.taken()) + capacity as u64 {
+        return false;
+    }
+    edge.try_put(rt, put, Frame::Gone).unwrap();
+    true
 }
 
 /// Tries to take what comes first, and says what it is.
@@ -116,7 +138,7 @@ pub(crate) fn take_told<R: Wait>(
 ) -> Option<Shape>
     requires { IsPutPassOf edge.now put.old × IsTakePassOf edge.now take.old }
     ensures passes { IsPutPassOf edge.now put.new × IsTakePassOf edge.now take.new }
-    ensures put { put_view put.new ≡ put_view put.old }
+    ensures frames { (put_view put.new).frames ≡ (put_view put.old).frames }
 {
     edge.tell(put, take);
     if take.taken() < put.put() || put.has_ended() && !take.has_ended() {

@@ -2,9 +2,9 @@
 ghost use Rattle.std.specs.Prelude.{◌≡◌, ◌<◌};
 ghost use Rattle.gen_scenario.specs.Rows.{rows_of};
 ghost use Rattle.gen_edge.specs.Frames.{edge_frames};
-ghost use Rattle.gen_edge.specs.Ends.{IsPutPassOf, IsTakePassOf, put_view};
+ghost use Rattle.gen_edge.specs.Ends.{IsPutPassOf, IsTakePassOf, edge_capacity, put_view};
 
-use crate::frame_tests::{Shape, put_last, put_next, shapes_of, take_shape, take_told};
+use crate::frame_tests::{Shape, put_last_told, put_next, shapes_of, take_shape, take_told};
 use crate::{Edge, PutPass, TakePass};
 use gen_types::GeneralNo;
 use gen_world::{Scenario, WorldRun, run_world};
@@ -18,11 +18,13 @@ pub(crate) struct Lane {
     pub(crate) run: WorldRun,
     pub(crate) way: (GeneralNo, GeneralNo),
     pub(crate) edge: Edge,
+    pub(crate) capacity: usize,
     pub(crate) put: PutPass,
     pub(crate) take: TakePass,
     ghost run_of: { run.frames ≡ rows_of scenario },
+    ghost holds: { capacity ≡ edge_capacity edge },
     ghost passes: { IsPutPassOf edge put × IsTakePassOf edge take },
-    ghost world: { (put_view put).world ≡ edge_frames scenario way.0 way.1 },
+    ghost frames: { (put_view put).frames ≡ edge_frames scenario way.0 way.1 },
 }
 
 /// What is tried on a lane.
@@ -30,11 +32,11 @@ pub(crate) struct Lane {
 pub(crate) enum Step {
     /// The next frame is put.
     Put,
-    /// The last word is put.
+    /// Both are told how far the other is, and the last word is put where there is room.
     End,
     /// Something is taken.
     Take,
-    /// The taker is told what was put, and takes something where he knows of it.
+    /// Both are told, and something is taken where the taker knows of it.
     Tell,
 }
 
@@ -55,6 +57,7 @@ impl Lane {
             run,
             way,
             edge,
+            capacity,
             put,
             take,
         })
@@ -73,7 +76,12 @@ impl Lane {
         )
     }
 
-    /// Tells the taker, and takes what is known.
+    /// Tells both, and puts the last word where there is room. Whether it was put.
+    fn put_last_told<R: Wait>(&mut self, rt: &R) -> bool {
+        put_last_told(rt, &self.edge, self.capacity, &mut self.put, &mut self.take)
+    }
+
+    /// Tells both, and takes what is known.
     fn take_told<R: Wait>(&mut self, rt: &R) -> Option<Shape> {
         take_told(rt, &self.edge, &mut self.put, &mut self.take)
     }
@@ -90,7 +98,7 @@ impl Lane {
         for step in steps {
             match step {
                 Step::Put => puts.push(self.put_next(rt, alloc)?)?,
-                Step::End => puts.push(put_last(rt, &self.edge, &mut self.put))?,
+                Step::End => puts.push(self.put_last_told(rt))?,
                 Step::Take => takes.push(take_shape(rt, &self.edge, &mut self.take))?,
                 Step::Tell => takes.push(self.take_told(rt))?,
             }

@@ -3,12 +3,12 @@ ghost use Rattle.std.specs.Prelude.{◌≡◌, ◌≤◌, [], length, vec_capaci
 ghost use Rattle.crossbeam_queue.specs.Passes.{ruled_capacity, view};
 
 use crate::frames::Frame;
-use crate::rule::{Seen, Tie};
+use crate::rule::{PassView, Tie};
 use crossbeam_queue::{Pass, RuledArrayQueue};
 use crossbeam_utils::sync::EventCount;
 
 /// A queue under the rule of an edge.
-pub(crate) type Line = RuledArrayQueue<Frame, Seen, Tie>;
+pub(crate) type Line = RuledArrayQueue<Frame, PassView, Tie>;
 
 /// One direction between two generals: a queue that holds so many frames, at least one, and no lock. One pass puts on
 /// it and one takes from it. It has room for what is left in the end.
@@ -26,22 +26,22 @@ pub struct Edge {
 /// each round of the run, and whether the last word was.
 #[derive(Drop)]
 pub struct PutPass {
-    pub(crate) pass: Pass<Frame, Seen>,
+    pub(crate) pass: Pass<Frame, PassView>,
     pub(crate) put: u8,
     pub(crate) gone: bool,
     ghost counted: { ((view pass).put ≡ put) × ((view pass).gone_put ≡ gone) },
-    ghost within: { put ≤ length (view pass).world },
+    ghost within: { put ≤ length (view pass).frames },
 }
 
 /// The right to take from one edge, which no other value has. It keeps how many frames were taken by it, at most one
 /// for each round of the run, and whether the last word was.
 #[derive(Drop)]
 pub struct TakePass {
-    pub(crate) pass: Pass<Frame, Seen>,
+    pub(crate) pass: Pass<Frame, PassView>,
     pub(crate) taken: u8,
     pub(crate) gone: bool,
     ghost counted: { ((view pass).taken ≡ taken) × ((view pass).gone_taken ≡ gone) },
-    ghost within: { taken ≤ length (view pass).world },
+    ghost within: { taken ≤ length (view pass).frames },
 }
 
 /// What was put on an edge and not taken.

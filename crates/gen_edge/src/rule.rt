@@ -4,14 +4,15 @@ use crossbeam_queue::protocol::{Join, Lesson, Outcome, Protocol, Split};
 use std::collections::LinkedList;
 use std::marker::{Brand, PhantomData};
 
-// What a pass may do, the frames of the world on this edge, how far it has come, and how much it
-// knows was put. No value of it is made.
-pub struct Seen {
+// What a pass may do, the frames of the run on this edge, how far it has come, and how much it was told was taken and
+// put. No value of it is made.
+pub struct PassView {
     pub puts: bool,
     pub takes: bool,
-    pub world: LinkedList<LinkedList<LinkedList<u8>>>,
+    pub frames: LinkedList<LinkedList<LinkedList<u8>>>,
     pub put: u64,
     pub gone_put: bool,
+    pub freed: u64,
     pub taken: u64,
     pub gone_taken: bool,
     pub known: u64,
@@ -20,7 +21,7 @@ pub struct Seen {
 
 pub struct Tie;
 
-impl Protocol<Frame, Seen> for Tie {
+impl Protocol<Frame, PassView> for Tie {
     ghost use Rattle.gen_edge.specs.Tied.{Tied, unopened};
 
     ghost holds = { Tied };
@@ -28,36 +29,36 @@ impl Protocol<Frame, Seen> for Tie {
     ghost first = { unopened };
 }
 
-/// Names the frames of the world on an edge.
+/// Names the frames of the run on an edge.
 pub trait Naming {
     ghost use Rattle.std.specs.Prelude.{List};
     ghost use Rattle.gen_edge.specs.Frames.{Parcels};
 
-    ghost world: { List Parcels };
+    ghost frames: { List Parcels };
 }
 
 impl Naming for Brand {
     ghost use Rattle.std.specs.Prelude.{[]};
 
-    ghost world = { [] };
+    ghost frames = { [] };
 }
 
-// Gives the two ends their sides, and both the world's frames.
+// Gives the two ends their sides, and both the run's frames.
 pub struct Opens<N> {
     named: PhantomData<N>,
 }
 
-impl<N: Naming> Split<Seen> for Opens<N> {
+impl<N: Naming> Split<PassView> for Opens<N> {
     ghost use Rattle.gen_edge.specs.Tied.{putter, taker};
 
-    ghost left = { λ v. putter N.world };
+    ghost left = { λ v. putter N.frames };
 
-    ghost right = { λ v. taker N.world };
+    ghost right = { λ v. taker N.frames };
 }
 
 pub struct Ends;
 
-impl Join<Seen> for Ends {
+impl Join<PassView> for Ends {
     ghost use Rattle.gen_edge.specs.Tied.{both_sides, spent_side};
 
     ghost both = { both_sides };
@@ -66,36 +67,58 @@ impl Join<Seen> for Ends {
 }
 
 // Who puts makes news of what was put.
-pub struct Tells;
+pub struct TellsPuts;
 
-impl Split<Seen> for Tells {
-    ghost use Rattle.gen_edge.specs.Tied.{news_of};
+impl Split<PassView> for TellsPuts {
+    ghost use Rattle.gen_edge.specs.Tied.{news_of_puts};
 
     ghost left = { λ v. v };
 
-    ghost right = { news_of };
+    ghost right = { news_of_puts };
 }
 
-// Who takes hears the news.
-pub struct Hears;
+// Who takes hears it.
+pub struct HearsPuts;
 
-impl Join<Seen> for Hears {
-    ghost use Rattle.gen_edge.specs.Tied.{heard, spent_side};
+impl Join<PassView> for HearsPuts {
+    ghost use Rattle.gen_edge.specs.Tied.{puts_heard, spent_side};
 
-    ghost both = { heard };
+    ghost both = { puts_heard };
+
+    ghost spent = { spent_side };
+}
+
+// Who takes makes news of what was taken.
+pub struct TellsTakes;
+
+impl Split<PassView> for TellsTakes {
+    ghost use Rattle.gen_edge.specs.Tied.{news_of_takes};
+
+    ghost left = { λ v. v };
+
+    ghost right = { news_of_takes };
+}
+
+// Who puts hears it.
+pub struct HearsTakes;
+
+impl Join<PassView> for HearsTakes {
+    ghost use Rattle.gen_edge.specs.Tied.{spent_side, takes_heard};
+
+    ghost both = { takes_heard };
 
     ghost spent = { spent_side };
 }
 
 pub struct Puts;
 
-impl Outcome<Frame, Seen> for Puts {
+impl Outcome<Frame, PassView> for Puts {
     ghost use Rattle.gen_edge.specs.Tied.{PutsNext};
 
     ghost then = { PutsNext };
 }
 
-impl Lesson<Frame, Seen> for Puts {
+impl Lesson<Frame, PassView> for Puts {
     ghost use Rattle.gen_edge.specs.Tied.{PutsSee};
 
     ghost fact = { PutsSee };
@@ -103,13 +126,13 @@ impl Lesson<Frame, Seen> for Puts {
 
 pub struct Takes;
 
-impl Outcome<Frame, Seen> for Takes {
+impl Outcome<Frame, PassView> for Takes {
     ghost use Rattle.gen_edge.specs.Tied.{TakesNext};
 
     ghost then = { TakesNext };
 }
 
-impl Lesson<Frame, Seen> for Takes {
+impl Lesson<Frame, PassView> for Takes {
     ghost use Rattle.gen_edge.specs.Tied.{TakesSee};
 
     ghost fact = { TakesSee };
@@ -118,13 +141,13 @@ impl Lesson<Frame, Seen> for Takes {
 // A take with both sides in one pass.
 pub struct Drains;
 
-impl Outcome<Frame, Seen> for Drains {
+impl Outcome<Frame, PassView> for Drains {
     ghost use Rattle.gen_edge.specs.Tied.{TakesNext};
 
     ghost then = { TakesNext };
 }
 
-impl Lesson<Frame, Seen> for Drains {
+impl Lesson<Frame, PassView> for Drains {
     ghost use Rattle.gen_edge.specs.Tied.{Rests};
 
     ghost fact = { Rests };
@@ -133,7 +156,7 @@ impl Lesson<Frame, Seen> for Drains {
 // With both sides in one pass: what was put is what was taken and what the queue holds.
 pub struct Settles;
 
-impl Lesson<Frame, Seen> for Settles {
+impl Lesson<Frame, PassView> for Settles {
     ghost use Rattle.gen_edge.specs.Tied.{Rests};
 
     ghost fact = { Rests };

@@ -49,11 +49,20 @@ fn lane_of(alloc: Global, capacity: usize) -> Result<Lane, Fail> {
 fn an_edge_that_holds_one_frame(rt: HostRuntime) -> Result<(), Fail> {
     let alloc = rt.alloc();
     let mut lane = lane_of(alloc, 1)?;
-    let steps = [Step::Put, Step::Put, Step::Take, Step::Take, Step::Put];
+    let steps = [
+        Step::Put,
+        Step::Put,
+        Step::Take,
+        Step::Take,
+        Step::Put,
+        Step::End,
+        Step::Take,
+        Step::End,
+    ];
     let (puts, takes) = lane.try_all(&rt, alloc, &steps)?;
-    assert!(rt; puts.as_slice() == [true, false, true].as_slice());
-    assert!(rt; takes.as_slice() == [NOTHING, None].as_slice());
-    assert!(rt; lane.settle(&rt, alloc)?.as_slice() == [RELAYED].as_slice());
+    assert!(rt; puts.as_slice() == [true, false, true, false, true].as_slice());
+    assert!(rt; takes.as_slice() == [NOTHING, None, Some(RELAYED)].as_slice());
+    assert!(rt; lane.settle(&rt, alloc)?.as_slice() == [LAST].as_slice());
     Ok(())
 }
 

@@ -28,7 +28,7 @@ fn put_all<R: Wait>(
 ) -> Result<(), AllocError>
     requires run { run.now.frames ≡ rows_of scenario.now }
     requires pass { IsPutPassOf edge.now pass }
-    requires world { (put_view pass).world ≡ edge_frames scenario.now way.0 way.1 }
+    requires frames { (put_view pass).frames ≡ edge_frames scenario.now way.0 way.1 }
 {
     let rounds = scenario.header().net().rounds();
     'tries: for _ in rt.forever() {
@@ -80,6 +80,7 @@ fn through<R: Threads + Wait + Sync>(
         edge,
         put,
         take,
+        ..
     } = lane;
     let (sent, came) = thread::join(
         rt,

@@ -3,7 +3,7 @@ use Rattle.std.proofs.Common.{◌≡◌, ℕ, zero, suc, inl, List, [], ◌∷�
 use Rattle.std.specs.List.{AllZip, All}
 use Rattle.gen_edge.specs.declared.passes.PutPass.{PutPass}
 use Rattle.gen_edge.specs.declared.passes.TakePass.{TakePass}
-use Rattle.gen_edge.specs.declared.rule.Seen.{Seen}
+use Rattle.gen_edge.specs.declared.rule.PassView.{PassView}
 use Rattle.gen_net.specs.Network.{Network}
 use Rattle.gen_scenario.specs.Scenario.{Scenario}
 use Rattle.gen_scenario.specs.SignedWorld.{neighbours_of}
@@ -35,8 +35,8 @@ zip_all R Q f (x ∷ xs) (y ∷ ys) h (suc k) d low = zip_all R Q f xs ys h.1 k 
 -- by frames of all rounds an edge is over
 pub carried_over : (edges : Edges) (s : Scenario) (n g : ℕ) (ps : List PutPass) (ts : List TakePass) → HaveCarried edges s n g ps ts → AreOver n ps ts
 carried_over edges s n g ps ts is = record {
-  putting = zip_all (HasPut edges s n g) (IsPutOver n) (λ a p h. let e = ap (λ (v : Seen). v.put) h.view in inl (omega (arith, e))) (neighbours_of s.net g) ps is.putting;
-  taking = zip_all (HasTakenBy edges s n g) (IsTakeOver n) (λ a p h. let e = ap (λ (v : Seen). v.taken) h.view in inl (omega (arith, e))) (neighbours_of s.net g) ts is.taking;
+  putting = zip_all (HasPut edges s n g) (IsPutOver n) (λ a p h. let e = ap (λ (v : PassView). v.put) h.view in inl (omega (arith, e))) (neighbours_of s.net g) ps is.putting;
+  taking = zip_all (HasTakenBy edges s n g) (IsTakeOver n) (λ a p h. let e = ap (λ (v : PassView). v.taken) h.view in inl (omega (arith, e))) (neighbours_of s.net g) ts is.taking;
 }
 
 -- and where all neighbours were looked at

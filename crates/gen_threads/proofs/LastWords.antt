@@ -5,7 +5,7 @@ use Rattle.std.proofs.lemmas.Bool.{cases_eq}
 use Rattle.std.proofs.lemmas.List.{get_or_default, length-set}
 use Rattle.gen_edge.specs.declared.frames.Frame.{Frame}
 use Rattle.gen_edge.specs.declared.passes.TakePass.{TakePass}
-use Rattle.gen_edge.specs.declared.rule.Seen.{Seen}
+use Rattle.gen_edge.specs.declared.rule.PassView.{PassView}
 use Rattle.gen_edge.specs.Ends.{take_view}
 use Rattle.gen_edge.specs.Frames.{carried, gone}
 use Rattle.gen_edge.specs.Tied.{TakesNext, after_take}
@@ -35,7 +35,7 @@ module _ {X : Type 0} (P : X → Type 0) (xs : List X) (i : ℕ) (low : i < leng
 
 -- a pass that takes the last word has it
 pub last_taken : (x : Frame) (p q : TakePass) → carried x ≡ gone → TakesNext (take_view p) x (take_view q) → HasLastWord q
-last_taken x p q is took = ap (λ (v : Seen). v.gone_taken) (took.1 ∙ ap (after_take (take_view p)) is)
+last_taken x p q is took = ap (λ (v : PassView). v.gone_taken) (took.1 ∙ ap (after_take (take_view p)) is)
 
 pub own_kept : (old new : List TakePass) (fault : RunFault) → (Any HasLastWord old → Any HasLastWord new) → IsOwnFault old fault → IsOwnFault new fault
 own_kept old new Memory kept own = tt

@@ -56,7 +56,7 @@ fn first_frame(
 fn put_both<R: Wait>(rt: &R, edge: &Edge, pass: &mut PutPass, frame: Frame) -> bool
     requires pass { IsPutPassOf edge.now pass.old }
     requires next { let v = put_view pass.old in
-        ComesNext v.world v.put v.gone_put (carried frame) }
+        ComesNext v.frames v.put v.gone_put (carried frame) }
 {
     let put = edge.try_put(rt, pass, frame).is_ok();
     put && !pass.has_ended() && edge.try_put(rt, pass, Frame::Gone).is_ok()

@@ -13,7 +13,7 @@ use std::sync::Wait;
 /// edge has room.
 pub(crate) fn put_frame<R: Wait>(rt: &R, edge: &Edge, pass: &mut PutPass, frame: Frame)
     requires pass { IsPutPassOf edge.now pass.old }
-    requires next { let v = put_view pass.old in ComesNext v.world v.put v.gone_put (carried frame) }
+    requires next { let v = put_view pass.old in ComesNext v.frames v.put v.gone_put (carried frame) }
     ensures pass { IsPutPassOf edge.now pass.new }
     ensures put { put_view pass.new ≡ after_put (put_view pass.old) (carried frame) }
 {

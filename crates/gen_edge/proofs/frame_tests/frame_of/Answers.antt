@@ -3,7 +3,7 @@ use Rattle.std.specs.List.{find}
 use Rattle.gen_scenario.specs.Rows.{FrameRow}
 use Rattle.gen_edge.specs.Frames.{edge_frames}
 use Rattle.gen_edge.specs.Tied.{ComesNext}
-use Rattle.gen_edge.proofs.WorldFrames.{found_comes}
+use Rattle.gen_edge.proofs.RunFrames.{found_comes}
 use Rattle.gen_edge.proofs.frame_tests.frame_of.Goals as goal
 
 pub returns-in_ok-copy_of-in-Some : goal.returns-in_ok-copy_of-in-Some

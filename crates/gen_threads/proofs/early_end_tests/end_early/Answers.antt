@@ -3,7 +3,7 @@ use Rattle.gen_edge.specs.declared.passes.Edge.{Edge}
 use Rattle.gen_edge.specs.Ends.{IsPutPassOf, put_view}
 use Rattle.gen_edge.specs.Frames.{carried, edge_frames}
 use Rattle.gen_edge.specs.Tied.{ComesNext}
-use Rattle.gen_edge.proofs.WorldFrames.{comes_by_pass}
+use Rattle.gen_edge.proofs.RunFrames.{comes_by_pass}
 use Rattle.gen_net.specs.Network.{Network, AreNeighbours}
 use Rattle.gen_general.proofs.Worlds.{near_known}
 use Rattle.gen_threads.specs.Edges.{HasPut, edge_at}
@@ -51,4 +51,4 @@ put_both-requires-clause-next g c =
     let p = c.index_mut.result.now in
     let has = near_at s.net from 1 known (both.0 c.if-not-has_edge.false) c.args.passes.puts.items 0 here (HasPut edges s 0 from) c.requires.putting p c.index_mut.ensures.value in
     let comes = subst (λ o. IfSome o (λ frame. ComesNext (edge_frames s from c.at-to.result) 0 false (carried frame))) c.in-Some-2.is c.in_ok-frame.ensures in
-    comes_by_pass (edge_frames s from 1) 0 (carried c.in-Some-2.frame) (put_view p) (subst (λ h. ComesNext (edge_frames s from h) 0 false (carried c.in-Some-2.frame)) c.at-to.ensures comes) (ap (λ v. v.world) has.view) (ap (λ v. v.put) has.view) (ap (λ v. v.gone_put) has.view)
+    comes_by_pass (edge_frames s from 1) 0 (carried c.in-Some-2.frame) (put_view p) (subst (λ h. ComesNext (edge_frames s from h) 0 false (carried c.in-Some-2.frame)) c.at-to.ensures comes) (ap (λ v. v.frames) has.view) (ap (λ v. v.put) has.view) (ap (λ v. v.gone_put) has.view)

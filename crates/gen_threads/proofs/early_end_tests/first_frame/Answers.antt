@@ -1,7 +1,7 @@
 use Rattle.std.proofs.Common.{◌∙◌, sym, ap, subst, option_map}
 use Rattle.gen_edge.specs.Frames.{edge_frames}
 use Rattle.gen_edge.specs.Tied.{ComesNext}
-use Rattle.gen_edge.proofs.WorldFrames.{found_comes}
+use Rattle.gen_edge.proofs.RunFrames.{found_comes}
 use Rattle.gen_threads.proofs.early_end_tests.first_frame.Goals as goal
 
 pub returns-in-Some : goal.returns-in-Some

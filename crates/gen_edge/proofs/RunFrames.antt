@@ -11,7 +11,7 @@ use Rattle.gen_scenario.specs.Scenario.{Scenario}
 use Rattle.gen_scenario.specs.SignedWorld.{neighbours_of, frame_at}
 use Rattle.gen_scenario.specs.Rows.{FrameRow, row_at, rows_by, rows_in, rows_of}
 use Rattle.gen_edge.specs.Frames.{Parcels, Carried, round, edge_frames}
-use Rattle.gen_edge.specs.declared.rule.Seen.{Seen}
+use Rattle.gen_edge.specs.declared.rule.PassView.{PassView}
 use Rattle.gen_edge.specs.Tied.{IsFrame, ComesNext}
 
 mapped_at : {X : Type 0} (f : ℕ → X) (k m n : ℕ) → n < m → get_elem? (map f (range_with_len k m)) n ≡ some (f (k + n))
@@ -19,7 +19,8 @@ mapped_at f k zero n low = absurd (omega arith)
 mapped_at f k (suc m) zero low = let e : k ≡ k + 0 = omega arith in ap (λ j. some (f j)) e
 mapped_at f k (suc m) (suc n) low = let e : k + 1 + n ≡ k + suc n = omega arith in mapped_at f (k + 1) m n (omega arith) ∙ ap (λ j. some (f j)) e
 
--- where n frames went over an edge and that wasn't the last round, the run's frame of the next round comes next
+-- where n frames went over an edge and that wasn't the last round, the run's frame of the next round comes
+-- next
 pub frame_comes : (s : Scenario) (a b n : ℕ) → n < rounds s.net → IsFrame (edge_frames s a b) n (n + 1) (frame_at s (n + 1) a b)
 frame_comes s a b n low = let e : 1 + n ≡ n + 1 = omega arith in (refl, mapped_at (λ l. frame_at s l a b) 1 (rounds s.net) n low ∙ ap (λ l. some (frame_at s l a b)) e)
 
@@ -69,5 +70,5 @@ found_comes s rows a b n r of_run e =
     (row_comes s r n (subst (λ (xs : List FrameRow). Contains xs r) of_run k.0) k.3)
 
 -- as a pass to put on that edge knows it
-pub comes_by_pass : (world : List Parcels) (n : ℕ) (x : Carried) (v : Seen) → ComesNext world n false x → v.world ≡ world → v.put ≡ n → v.gone_put ≡ false → ComesNext v.world v.put v.gone_put x
-comes_by_pass world n x v next w p g = subst (λ (y : List Parcels × ℕ × Bool). ComesNext y.0 y.1 y.2 x) (λ i. (sym w i, sym p i, sym g i)) next
+pub comes_by_pass : (frames : List Parcels) (n : ℕ) (x : Carried) (v : PassView) → ComesNext frames n false x → v.frames ≡ frames → v.put ≡ n → v.gone_put ≡ false → ComesNext v.frames v.put v.gone_put x
+comes_by_pass frames n x v next w p g = subst (λ (y : List Parcels × ℕ × Bool). ComesNext y.0 y.1 y.2 x) (λ i. (sym w i, sym p i, sym g i)) next
