@@ -109,6 +109,22 @@ fn slots(rt: HostRuntime) -> Result<(), Fail> {
     Ok(())
 }
 
+/// Two generals, m = 0 and d = 1: seven lines, of which the last is that of the order.
+const PAIR: &[u8] = b"generals 2\nedge 0 1\ntraitors 0\ndiameter 1\norders 2\nchoice 0\norder 1\n";
+
+#[test]
+fn slot_of_a_pair(rt: HostRuntime) -> Result<(), Fail> {
+    let mut text = Vec::from_slice(rt.alloc(), PAIR)?;
+    text.extend_from_slice(SEED)?;
+    text.extend_from_slice(b"slot 4\nend\n")?;
+    let told = read_scenario(rt.alloc(), &text);
+    assert!(rt;
+        matches!(&told, Err(ReadError::Fault(fault)) if fault.kind == LineFault::SlotRange
+            && fault.line == 9)
+    );
+    Ok(())
+}
+
 #[test]
 fn blocks_of_scripts(rt: HostRuntime) -> Result<(), Fail> {
     let cases: [(&[u8], LineFault, usize); 17] = [
