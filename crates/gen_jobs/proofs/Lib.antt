@@ -1,4 +1,5 @@
 pub mod Accused
+pub mod Audited
 pub mod Bundling
 pub mod Delivering
 pub mod Known

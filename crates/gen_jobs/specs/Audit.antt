@@ -1,11 +1,13 @@
 -- What the job audit makes of its input.
-use Rattle.std.specs.Prelude.{◌≡◌, ℕ, Bool, true, false, List, Err}
+use Rattle.std.specs.Prelude.{◌≡◌, ◌↔◌, ℕ, Bool, true, false, List, Err}
 use Rattle.gen_types.specs.Spelled.{Spells}
 use Rattle.gen_audit.specs.Bundle.{Bundle, IsBundle}
+use Rattle.gen_audit.specs.Headline.{Headline}
+use Rattle.gen_audit.specs.Supported.{IsSupported}
 use Rattle.gen_audit.specs.Verdict.{IsVerdict}
 use Rattle.gen_audit.specs.declared.verdicts.Verdict.{Verdict}
 use Rattle.gen_audit.specs.declared.verdicts.Verdict.TheVariants.{Agreed, Explained, No}
-use Rattle.gen_convict.specs.Convictions.{AreConvictions}
+use Rattle.gen_convict.specs.Convictions.{AreConvictions, ConvictsWhereHeld}
 use Rattle.gen_convict.specs.Evidence.{Accusation}
 use Rattle.gen_report.specs.VerdictText.{verdict_text}
 use Rattle.gen_jobs.specs.declared.ends.JobFault.{JobFault}
@@ -19,20 +21,34 @@ is_no (Agreed order) = false
 is_no (Explained decisions) = false
 is_no (No findings) = true
 
--- The text is that of the judgement on the bundle that the input spells: its verdict, and the convictions
--- that its exhibits give. It says no where the verdict does.
+-- The text is that of the judgement on a bundle: its verdict, and the convictions that its exhibits give. It says
+-- no exactly where the bundle doesn't support a yes.
+pub record Audits (bundle : Bundle) (text : List ℕ) (negative : Bool) : Type 0 where
+  pub verdict : Verdict
+  pub judged : IsVerdict bundle verdict
+  pub headline : Headline bundle verdict
+  pub convictions : List Accusation
+  pub convicted : AreConvictions bundle.header bundle.exhibits convictions
+  pub held : ConvictsWhereHeld bundle.header bundle.exhibits convictions
+  pub text_is : text ≡ verdict_text bundle.header verdict convictions
+  pub negative_is : negative ≡ is_no verdict
+  pub supported : (negative ≡ false) ↔ IsSupported bundle
+
+-- The text is that of the judgement on the bundle that the input spells.
 pub record IsAudited (input text : List ℕ) (negative : Bool) : Type 0 where
   pub bundle : Bundle
   pub spelled : Spells IsBundle bundle_spelling input bundle
-  pub verdict : Verdict
-  pub judged : IsVerdict bundle verdict
-  pub convictions : List Accusation
-  pub convicted : AreConvictions bundle.header bundle.exhibits convictions
-  pub text_is : text ≡ verdict_text bundle.header verdict convictions
-  pub negative_is : negative ≡ is_no verdict
+  pub audits : Audits bundle text negative
 
--- the fault is the first of an input that spells no bundle, or want of memory
+-- want of memory or of a thread
+abbrev pub IsWant : JobFault → Type 0
+IsWant faults.Memory = Unit {0}
+IsWant faults.Thread = Unit {0}
+IsWant _ = ⊥
+
+-- the fault is the first of an input that spells no bundle, or want of memory or of a thread
 abbrev pub IsAuditFault : List ℕ → JobFault → Type 0
 IsAuditFault input faults.Memory = Unit {0}
+IsAuditFault input faults.Thread = Unit {0}
 IsAuditFault input (faults.Bundle f) = whole_bundle input ≡ Err f
 IsAuditFault input _ = ⊥

@@ -4,6 +4,8 @@ use Rattle.gen_types.specs.declared.reading.ReadError.TheVariants as errors
 use Rattle.gen_report.specs.declared.fault.ScenarioFault.{ScenarioFault}
 use Rattle.gen_audit.specs.declared.bundle_fault.BundleFault.{BundleFault}
 use Rattle.gen_convict.specs.declared.evidence_fault.EvidenceFault.{EvidenceFault}
+use Rattle.gen_workers.specs.declared.faults.AuditFault.{AuditFault}
+use Rattle.gen_workers.specs.declared.faults.AuditFault.TheVariants as audits
 use Rattle.gen_threads.specs.declared.ends.RunFault.{RunFault}
 use Rattle.gen_threads.specs.declared.ends.RunFault.TheVariants as runs
 use Rattle.gen_jobs.specs.declared.ends.JobFault.{JobFault}
@@ -23,6 +25,11 @@ bundle_failure (errors.Fault f) = faults.Bundle f
 abbrev pub evidence_failure : ReadError EvidenceFault → JobFault
 evidence_failure errors.Memory = faults.Memory
 evidence_failure (errors.Fault f) = faults.Evidence f
+
+-- by an audit that could not be made
+abbrev pub audit_failure : AuditFault → JobFault
+audit_failure audits.Memory = faults.Memory
+audit_failure audits.Thread = faults.Thread
 
 -- by a run that ended early
 abbrev pub run_failure : RunFault → JobFault

@@ -2,19 +2,22 @@
 ghost use Rattle.std.specs.Prelude.{◌≡◌, ◌==◌, IfOk, IfErr, IfSome, find, map, option_map};
 ghost use Rattle.gen_convict.specs.Convictions.{AreEvidence};
 ghost use Rattle.gen_convict.specs.Evidence.{told_of};
-ghost use Rattle.gen_jobs.specs.Accusing.{IsAccused, TellsOf};
+ghost use Rattle.gen_jobs.specs.Accusing.{Accuses, IsAccused, TellsOf};
 ghost use Rattle.gen_jobs.specs.Answering.{Answers};
-ghost use Rattle.gen_jobs.specs.Audit.{IsAuditFault};
+ghost use Rattle.gen_jobs.specs.Audit.{IsAuditFault, IsWant};
 ghost use Rattle.gen_jobs.specs.Ends.{IsTaken, KeepsUntilWhole};
 
 use crate::ends::{JobEnd, JobFault, Output};
+use crate::gates::Open;
 use crate::transfer::{deliver, read_all};
-use gen_audit::{audit_plain, read_bundle};
+use gen_audit::{Bundle, WorkerCount, read_bundle, read_taken_bundle};
 use gen_convict::{Evidence, write_evidence};
 use gen_net::Header;
 use gen_types::GeneralNo;
 use std::alloc::{AllocError, Global};
 use std::io::{Read, Write};
+use std::sync::Wait;
+use std::thread::Threads;
 
 /// Returns the first conviction of a general.
 fn conviction_of(convictions: &[Evidence], general: GeneralNo) -> Option<&Evidence>
@@ -48,21 +51,64 @@ fn accusation(
     }
 }
 
+/// Returns the bytes of the evidence against a general that a bundle holds, or none, which says no.
+#[tactic(auto, using(crate::proofs::Audited::is_want))]
+fn accuse_of<T: Threads + Wait + Sync>(
+    rt: &T,
+    alloc: Global,
+    workers: WorkerCount,
+    general: GeneralNo,
+    bundle: &Bundle,
+) -> Result<Output, JobFault>
+    ensures answer { IfOk result (λ o. Accuses bundle.now general o.text.items o.negative) }
+    ensures fault { IfErr result IsWant }
+{
+    let judgement = gen_audit::audit(rt, alloc, bundle, workers, &Open)?;
+    let convictions = judgement.convictions.as_slice();
+    Ok(accusation(alloc, bundle.header(), convictions, general)?)
+}
+
 /// Returns the bytes of the evidence against a general that the bundle holds which the input spells: of the
 /// first claim that its exhibits hold against him. Where they hold none, or he is no general of the network,
-/// there are no bytes, and that says no.
+/// there are no bytes, and that says no. It is the same however many workers there are.
 ///
 /// # Errors
 ///
-/// `Bundle` with the first fault of an input that spells no bundle, and `Memory` where memory is refused.
-pub fn accuse(alloc: Global, general: GeneralNo, input: &[u8]) -> Result<Output, JobFault>
+/// `Bundle` with the first fault of an input that spells no bundle, `Memory` where memory is refused, and `Thread`
+/// where a worker's thread can't be started.
+#[tactic(auto, using(crate::proofs::Audited::are_wants))]
+pub fn accuse<T: Threads + Wait + Sync>(
+    rt: &T,
+    alloc: Global,
+    workers: WorkerCount,
+    general: GeneralNo,
+    input: &[u8],
+) -> Result<Output, JobFault>
     ensures answer { IfOk result (λ o. IsAccused general input.now o.text.items o.negative) }
     ensures fault { IfErr result (IsAuditFault input.now) }
 {
     let bundle = read_bundle(alloc, input)?;
-    let judgement = audit_plain(alloc, &bundle)?;
-    let convictions = judgement.convictions.as_slice();
-    Ok(accusation(alloc, bundle.header(), convictions, general)?)
+    accuse_of(rt, alloc, workers, general, &bundle)
+}
+
+/// As `accuse`, but takes the input, whose bytes are not copied.
+///
+/// # Errors
+///
+/// Those of `accuse`.
+#[tactic(auto, using(crate::proofs::Audited::are_wants))]
+pub fn accuse_taken<T: Threads + Wait + Sync>(
+    rt: &T,
+    alloc: Global,
+    workers: WorkerCount,
+    general: GeneralNo,
+    input: Vec<u8>,
+) -> Result<Output, JobFault>
+    ensures answer { IfOk result (λ o. IsAccused general input.items o.text.items o.negative) }
+    ensures fault { IfErr result (IsAuditFault input.items) }
+{
+    let bundle = read_taken_bundle(alloc, input)?;
+    accuse_of(rt, alloc, workers, general, &bundle)
 }
 
 /// Reads the bytes of a bundle to their end, and writes the bytes of the evidence against the general: of the
@@ -70,10 +116,12 @@ pub fn accuse(alloc: Global, general: GeneralNo, input: &[u8]) -> Result<Output,
 /// nothing is written and the end is negative.
 ///
 /// A fault of the input is looked for once it was read whole, and nothing is written before the output
-/// is whole. Where a read, a write or memory fails the job ends so.
+/// is whole. Where a read, a write, memory or a worker's thread fails the job ends so.
 #[tactic(auto, using(crate::proofs::Known::taken, crate::proofs::Delivering::answered, crate::proofs::Delivering::late, crate::proofs::Delivering::unread_answers, crate::proofs::Delivering::unread_taken, crate::proofs::Delivering::unread_late))]
-pub fn accuse_engine<R: Read, W: Write>(
+pub fn accuse_engine<T: Threads + Wait + Sync, R: Read, W: Write>(
+    rt: &T,
     alloc: Global,
+    workers: WorkerCount,
     general: GeneralNo,
     reader: &mut R,
     writer: &mut W,
@@ -88,7 +136,7 @@ pub fn accuse_engine<R: Read, W: Write>(
     ensures late { KeepsUntilWhole (W.contents writer.old) (W.contents writer.new) result }
 {
     match read_all(alloc, reader) {
-        Ok(input) => deliver(writer, accuse(alloc, general, &input)),
+        Ok(input) => deliver(writer, accuse_taken(rt, alloc, workers, general, input)),
         Err(fault) => JobEnd::Failed(fault),
     }
 }

@@ -1,15 +1,18 @@
 //! The job `audit`.
 ghost use Rattle.std.specs.Prelude.{◌≡◌, IfOk, IfErr, IfSome};
 ghost use Rattle.gen_jobs.specs.Answering.{Answers};
-ghost use Rattle.gen_jobs.specs.Audit.{IsAudited, IsAuditFault, is_no};
+ghost use Rattle.gen_jobs.specs.Audit.{Audits, IsAudited, IsAuditFault, IsWant, is_no};
 ghost use Rattle.gen_jobs.specs.Ends.{IsTaken, KeepsUntilWhole};
 
 use crate::ends::{JobEnd, JobFault, Output};
+use crate::gates::Open;
 use crate::transfer::{deliver, read_all};
-use gen_audit::{Verdict, audit_plain, read_bundle};
+use gen_audit::{Bundle, Verdict, WorkerCount, read_bundle, read_taken_bundle};
 use gen_report::print_verdict;
 use std::alloc::Global;
 use std::io::{Read, Write};
+use std::sync::Wait;
+use std::thread::Threads;
 
 /// Returns whether a verdict is a no.
 fn says_no(verdict: &Verdict) -> bool
@@ -21,17 +24,18 @@ fn says_no(verdict: &Verdict) -> bool
     }
 }
 
-/// Returns the text of the judgement on the bundle that the input spells, and whether its verdict is a no.
-///
-/// # Errors
-///
-/// `Bundle` with the first fault of an input that spells no bundle, and `Memory` where memory is refused.
-pub fn audit(alloc: Global, input: &[u8]) -> Result<Output, JobFault>
-    ensures answer { IfOk result (λ o. IsAudited input.now o.text.items o.negative) }
-    ensures fault { IfErr result (IsAuditFault input.now) }
+/// Returns the text of the judgement on a bundle, and whether its verdict is a no.
+#[tactic(auto, using(crate::proofs::Audited::is_want, crate::proofs::Audited::supported))]
+fn audit_of<T: Threads + Wait + Sync>(
+    rt: &T,
+    alloc: Global,
+    workers: WorkerCount,
+    bundle: &Bundle,
+) -> Result<Output, JobFault>
+    ensures answer { IfOk result (λ o. Audits bundle.now o.text.items o.negative) }
+    ensures fault { IfErr result IsWant }
 {
-    let bundle = read_bundle(alloc, input)?;
-    let judgement = audit_plain(alloc, &bundle)?;
+    let judgement = gen_audit::audit(rt, alloc, bundle, workers, &Open)?;
     let text = print_verdict(alloc, bundle.header(), &judgement)?;
     Ok(Output {
         text,
@@ -39,13 +43,59 @@ pub fn audit(alloc: Global, input: &[u8]) -> Result<Output, JobFault>
     })
 }
 
+/// Returns the text of the judgement on the bundle that the input spells, and whether its verdict is a no, which it
+/// is exactly where the bundle doesn't support a yes. It is the same however many workers there are.
+///
+/// # Errors
+///
+/// `Bundle` with the first fault of an input that spells no bundle, `Memory` where memory is refused, and `Thread`
+/// where a worker's thread can't be started.
+#[tactic(auto, using(crate::proofs::Audited::are_wants))]
+pub fn audit<T: Threads + Wait + Sync>(
+    rt: &T,
+    alloc: Global,
+    workers: WorkerCount,
+    input: &[u8],
+) -> Result<Output, JobFault>
+    ensures answer { IfOk result (λ o. IsAudited input.now o.text.items o.negative) }
+    ensures fault { IfErr result (IsAuditFault input.now) }
+{
+    let bundle = read_bundle(alloc, input)?;
+    audit_of(rt, alloc, workers, &bundle)
+}
+
+/// As `audit`, but takes the input, whose bytes are not copied.
+///
+/// # Errors
+///
+/// Those of `audit`.
+#[tactic(auto, using(crate::proofs::Audited::are_wants))]
+pub fn audit_taken<T: Threads + Wait + Sync>(
+    rt: &T,
+    alloc: Global,
+    workers: WorkerCount,
+    input: Vec<u8>,
+) -> Result<Output, JobFault>
+    ensures answer { IfOk result (λ o. IsAudited input.items o.text.items o.negative) }
+    ensures fault { IfErr result (IsAuditFault input.items) }
+{
+    let bundle = read_taken_bundle(alloc, input)?;
+    audit_of(rt, alloc, workers, &bundle)
+}
+
 /// Reads the bytes of a bundle to their end, and writes the verdict on it, or nothing where they spell none.
 /// The end is negative where the verdict is a no.
 ///
 /// A fault of the input is looked for once it was read whole, and nothing is written before the output
-/// is whole. Where a read, a write or memory fails the job ends so.
+/// is whole. Where a read, a write, memory or a worker's thread fails the job ends so.
 #[tactic(auto, using(crate::proofs::Known::taken, crate::proofs::Delivering::answered, crate::proofs::Delivering::late, crate::proofs::Delivering::unread_answers, crate::proofs::Delivering::unread_taken, crate::proofs::Delivering::unread_late))]
-pub fn audit_engine<R: Read, W: Write>(alloc: Global, reader: &mut R, writer: &mut W) -> JobEnd
+pub fn audit_engine<T: Threads + Wait + Sync, R: Read, W: Write>(
+    rt: &T,
+    alloc: Global,
+    workers: WorkerCount,
+    reader: &mut R,
+    writer: &mut W,
+) -> JobEnd
     // What is written is the verdict on what was read.
     ensures answers { IfSome (R.remaining reader.old) (λ input.
         Answers (IsAudited input) (IsAuditFault input)
@@ -56,7 +106,7 @@ pub fn audit_engine<R: Read, W: Write>(alloc: Global, reader: &mut R, writer: &m
     ensures late { KeepsUntilWhole (W.contents writer.old) (W.contents writer.new) result }
 {
     match read_all(alloc, reader) {
-        Ok(input) => deliver(writer, audit(alloc, &input)),
+        Ok(input) => deliver(writer, audit_taken(rt, alloc, workers, input)),
         Err(fault) => JobEnd::Failed(fault),
     }
 }

@@ -3,7 +3,7 @@ ghost use Rattle.std.specs.Prelude.{◌≡◌};
 ghost use Rattle.gen_jobs.specs.Ends.{status_of, fault_in};
 ghost use Rattle.gen_jobs.specs.declared.ends.JobFault.TheVariants.{Memory};
 
-use gen_audit::BundleFault;
+use gen_audit::{AuditFault, BundleFault};
 use gen_convict::EvidenceFault;
 use gen_report::ScenarioFault;
 use gen_threads::RunFault;
@@ -54,6 +54,19 @@ impl From<RunFault> for JobFault {
         match e {
             RunFault::Memory => JobFault::Memory,
             RunFault::Thread | RunFault::Gone => JobFault::Thread,
+        }
+    }
+}
+
+impl From<AuditFault> for JobFault {
+    ghost use Rattle.gen_jobs.specs.Failing.{audit_failure};
+
+    ghost from_gives = { λ e fault. fault ≡ audit_failure e };
+
+    fn from(e: AuditFault) -> JobFault {
+        match e {
+            AuditFault::Memory => JobFault::Memory,
+            AuditFault::Thread => JobFault::Thread,
         }
     }
 }

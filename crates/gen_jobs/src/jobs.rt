@@ -11,6 +11,7 @@ use crate::checking::evidence_engine;
 use crate::deciding::decide_engine;
 use crate::ends::JobEnd;
 use crate::running::run_engine;
+use gen_audit::WorkerCount;
 use gen_types::GeneralNo;
 use std::alloc::Global;
 use std::io::{Read, Write};
@@ -28,7 +29,10 @@ pub enum Job {
         capacity: u8,
     },
     /// Reads a bundle, and writes the verdict on it.
-    Audit,
+    Audit {
+        /// How many workers read and verify its logs.
+        workers: WorkerCount,
+    },
     /// Reads a bundle, and writes the evidence that it holds against a general.
     Accuse {
         /// Who is accused.
@@ -63,8 +67,10 @@ pub fn do_job<T: Threads + Wait + Sync, R: Read, W: Write>(
     match job {
         Job::Decide => decide_engine(alloc, reader, writer),
         Job::Run { capacity } => run_engine(rt, alloc, capacity, reader, writer),
-        Job::Audit => audit_engine(alloc, reader, writer),
-        Job::Accuse { general } => accuse_engine(alloc, general, reader, writer),
+        Job::Audit { workers } => audit_engine(rt, alloc, workers, reader, writer),
+        Job::Accuse { general } => {
+            accuse_engine(rt, alloc, WorkerCount::one(), general, reader, writer)
+        }
         Job::Evidence => evidence_engine(alloc, reader, writer),
     }
 }

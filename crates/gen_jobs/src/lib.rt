@@ -15,12 +15,13 @@ mod bundle_text;
 mod checking;
 mod deciding;
 mod ends;
+mod gates;
 mod jobs;
 mod running;
 mod transfer;
 
-pub use accusing::{accuse, accuse_engine};
-pub use auditing::{audit, audit_engine};
+pub use accusing::{accuse, accuse_engine, accuse_taken};
+pub use auditing::{audit, audit_engine, audit_taken};
 pub use bundle_text::{BundleText, deliver_bundle};
 pub use checking::{evidence, evidence_engine};
 pub use deciding::{decide, decide_engine};

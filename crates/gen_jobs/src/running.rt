@@ -10,6 +10,7 @@ ghost use Rattle.gen_jobs.specs.declared.ends.JobFault.TheVariants as faults;
 
 use crate::bundle_text::{BundleText, deliver_bundle};
 use crate::ends::{JobEnd, JobFault, Output};
+use crate::gates::Open;
 use crate::transfer::read_all;
 use gen_audit::{Bundle, write_bundle};
 use gen_local::Exhibit;
@@ -17,20 +18,13 @@ use gen_log::SealedLog;
 use gen_net::Net;
 use gen_report::{LineFault, ScenarioFault, ScenarioText, read_scenario};
 use gen_scenario::{PlainScenario, Scenario, SignedPlan};
-use gen_threads::{Gate, make_trees, run_threads};
-use gen_types::{GeneralNo, GeneralSet};
+use gen_threads::{make_trees, run_threads};
+use gen_types::GeneralSet;
 use gen_walks::{WalkFault, Walks, make_walks};
 use std::alloc::{AllocError, Global};
 use std::io::{Read, Write};
 use std::sync::Wait;
 use std::thread::Threads;
-
-/// A gate at which nobody waits.
-struct Open;
-
-impl Gate for Open {
-    fn before_round(&self, _general: GeneralNo, _round: u8) {}
-}
 
 /// Returns how the job fails on a scenario without a seed.
 fn missing_seed(plain: &PlainScenario) -> JobFault

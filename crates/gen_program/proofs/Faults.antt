@@ -38,11 +38,11 @@ without [] job asks = refl
 without (k ∷ ks) job asks = absurd cc
 
 abbrev job_of : GivenCommand → Option Job
-job_of g = job_named g.name.now (option_map (λ t. t.now) g.capacity) (option_map (λ t. t.now) g.general)
+job_of g = job_named g.name.now (option_map (λ t. t.now) g.capacity) (option_map (λ t. t.now) g.workers) (option_map (λ t. t.now) g.general)
 
 told : (o : Option (Text × List Row)) (given : GivenCommand) → IsGivenBy o (Some given) → job_said o ≡ job_of given
 told None given is = absurd is
-told (Some p) given is = λ i. job_named (sym is.name i) (sym is.capacity i) (sym is.general i)
+told (Some p) given is = λ i. job_named (sym is.name i) (sym is.capacity i) (sym is.workers i) (sym is.general i)
 
 -- words ask for the job of the command that they give
 pub asks_for : (words : List Text) (given : GivenCommand) (job : Option Job) → Gives words given → job ≡ job_of given → asked words ≡ job

@@ -11,6 +11,10 @@ option_named name = record (new_rule name) { long = Some name; action = Some Set
 abbrev pub capacity : Rule
 capacity = record (option_named (codes "capacity")) { defaults = codes "1" ∷ [] }
 
+-- how many workers an audit has; 1 where nothing is said
+abbrev pub workers : Rule
+workers = record (option_named (codes "workers")) { defaults = codes "1" ∷ [] }
+
 -- who is accused; it must be said
 abbrev pub general : Rule
 general = record (option_named (codes "general")) { required = true }
@@ -18,6 +22,9 @@ general = record (option_named (codes "general")) { required = true }
 -- the commands with an option
 abbrev pub run : App
 run = with_rule (new_app (codes "run")) capacity
+
+abbrev pub audit : App
+audit = with_rule (new_app (codes "audit")) workers
 
 abbrev pub accuse : App
 accuse = with_rule (new_app (codes "accuse")) general
@@ -37,7 +44,7 @@ with_runs = with_subcommand with_decide run.top
 
 -- those that read a bundle,
 abbrev pub with_audit : App
-with_audit = with_subcommand with_runs (new_app (codes "audit")).top
+with_audit = with_subcommand with_runs audit.top
 
 abbrev pub with_bundles : App
 with_bundles = with_subcommand with_audit accuse.top

@@ -10,6 +10,7 @@ use Rattle.gen_program.specs.declared.words.GivenCommand.{GivenCommand}
 pub record IsGiven (p : Text × List Row) (given : GivenCommand) : Type 0 where
   pub name : given.name.now ≡ p.0
   pub capacity : option_map (λ t. t.now) given.capacity ≡ first_of (codes "capacity") p.1
+  pub workers : option_map (λ t. t.now) given.workers ≡ first_of (codes "workers") p.1
   pub general : option_map (λ t. t.now) given.general ≡ first_of (codes "general") p.1
 
 -- the command that was found, if one was

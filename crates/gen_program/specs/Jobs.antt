@@ -17,18 +17,19 @@ abbrev pub number_between : ℕ → ℕ → Option Text → Option ℕ
 number_between least most text = within least most (option_and_then number_of text)
 
 -- the job of a command, whose options have these texts
-abbrev pub job_named : Text → Option Text → Option Text → Option Job
-job_named name capacity general =
+abbrev pub job_named : Text → Option Text → Option Text → Option Text → Option Job
+job_named name capacity workers general =
     if bytes_eq name (codes "decide") then Some jobs.Decide
     else if bytes_eq name (codes "run") then option_map (λ n. jobs.Run n) (number_between 1 16 capacity)
-    else if bytes_eq name (codes "audit") then Some jobs.Audit
+    else if bytes_eq name (codes "audit") then option_map (λ n. jobs.Audit n) (number_between 1 16 workers)
     else if bytes_eq name (codes "accuse") then option_map (λ n. jobs.Accuse n) (number_between 0 15 general)
     else if bytes_eq name (codes "evidence") then Some jobs.Evidence
     else None
 
 -- the job of a command and its arguments
 abbrev pub job_told : Text × List Row → Option Job
-job_told p = job_named p.0 (first_of (codes "capacity") p.1) (first_of (codes "general") p.1)
+job_told p =
+    job_named p.0 (first_of (codes "capacity") p.1) (first_of (codes "workers") p.1) (first_of (codes "general") p.1)
 
 abbrev pub job_said : Option (Text × List Row) → Option Job
 job_said command = option_and_then job_told command

@@ -8,7 +8,7 @@ use Rattle.gen_jobs.specs.declared.ends.JobEnd.TheVariants.{Done, Failed}
 use Rattle.gen_jobs.specs.declared.ends.JobFault.TheVariants as faults
 use Rattle.gen_program.specs.declared.words.WordsFault.{WordsFault}
 use Rattle.gen_program.specs.declared.words.WordsFault.TheVariants.{Memory, NotText, NoCommand, Words}
-use Rattle.gen_program.specs.declared.words.WordsFault.TheVariants.{BadCapacity, BadGeneral}
+use Rattle.gen_program.specs.declared.words.WordsFault.TheVariants.{BadCapacity, BadWorkers, BadGeneral}
 use Rattle.gen_jobs.specs.Ends.{status_of}
 
 -- the exit status where words ask for no job
@@ -37,6 +37,7 @@ Refuses Memory status = status ≡ status_of (Failed faults.Memory)
 Refuses NotText status = IsBlamed status
 Refuses NoCommand status = IsBlamed status
 Refuses BadCapacity status = IsBlamed status
+Refuses BadWorkers status = IsBlamed status
 Refuses BadGeneral status = IsBlamed status
 Refuses (Words e) status = (AsksToShow e → IsShown status) × ((AsksToShow e → ⊥) → IsBlamed status)
 

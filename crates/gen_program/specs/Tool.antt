@@ -9,7 +9,7 @@ use Rattle.gen_program.specs.Jobs.{job_said, job_told}
 use Rattle.gen_jobs.specs.declared.jobs.Job.{Job}
 use Rattle.gen_program.specs.declared.words.WordsFault.{WordsFault}
 use Rattle.gen_program.specs.declared.words.WordsFault.TheVariants.{Memory, NotText, NoCommand, Words}
-use Rattle.gen_program.specs.declared.words.WordsFault.TheVariants.{BadCapacity, BadGeneral}
+use Rattle.gen_program.specs.declared.words.WordsFault.TheVariants.{BadCapacity, BadWorkers, BadGeneral}
 
 -- the job, where there is no fault
 abbrev pub without_fault : Kinds → Option Job → Option Job
@@ -27,12 +27,16 @@ fault_from error Memory = kind_of error ≡ OutOfMemory
 fault_from error NotText = ⊥
 fault_from error NoCommand = ⊥
 fault_from error BadCapacity = ⊥
+fault_from error BadWorkers = ⊥
 fault_from error BadGeneral = ⊥
 fault_from error (Words e) = (e ≡ error) × (kind_of error ≢ OutOfMemory)
 
 -- the command is one that takes a number
 abbrev pub is_run : Text → Bool
 is_run name = bytes_eq name (codes "run")
+
+abbrev pub is_audit : Text → Bool
+is_audit name = bytes_eq name (codes "audit")
 
 abbrev pub is_accuse : Text → Bool
 is_accuse name = bytes_eq name (codes "accuse")
@@ -45,12 +49,14 @@ HasBadNumber takes (Some p) = (takes p.0 ≡ true) × (job_told p ≡ None)
 -- there is no command, or it takes no number and is none of the program's
 abbrev pub HasNoCommand : Option (Text × List Row) → Type 0
 HasNoCommand None = Unit {0}
-HasNoCommand (Some p) = (is_run p.0 ≡ false) × (is_accuse p.0 ≡ false) × (job_told p ≡ None)
+HasNoCommand (Some p) =
+    (is_run p.0 ≡ false) × (is_audit p.0 ≡ false) × (is_accuse p.0 ≡ false) × (job_told p ≡ None)
 
 -- the fault of a command that has no job
 abbrev pub IsRefusal : Text → WordsFault → Type 0
-IsRefusal name NoCommand = (is_run name ≡ false) × (is_accuse name ≡ false)
+IsRefusal name NoCommand = (is_run name ≡ false) × (is_audit name ≡ false) × (is_accuse name ≡ false)
 IsRefusal name BadCapacity = is_run name ≡ true
+IsRefusal name BadWorkers = is_audit name ≡ true
 IsRefusal name BadGeneral = is_accuse name ≡ true
 IsRefusal name _ = ⊥
 
@@ -60,5 +66,6 @@ IsFaultOf words Memory = Unit {0}
 IsFaultOf words NotText = ⊥
 IsFaultOf words NoCommand = (fault_of tool words ≡ []) × HasNoCommand (subcommand_of tool words)
 IsFaultOf words BadCapacity = (fault_of tool words ≡ []) × HasBadNumber is_run (subcommand_of tool words)
+IsFaultOf words BadWorkers = (fault_of tool words ≡ []) × HasBadNumber is_audit (subcommand_of tool words)
 IsFaultOf words BadGeneral = (fault_of tool words ≡ []) × HasBadNumber is_accuse (subcommand_of tool words)
 IsFaultOf words (Words e) = IsAmong (kind_of e) (fault_of tool words)

@@ -20,6 +20,19 @@ fn capacity_option<'a>(alloc: Global) -> Arg<'a>
         .default_value("1")
 }
 
+/// Returns the option that says how many workers an audit has.
+fn workers_option<'a>(alloc: Global) -> Arg<'a>
+    ensures rule { rule_of result ≡ lines.workers }
+    ensures local { result.global ≡ false }
+{
+    Arg::new(alloc, "workers")
+        .long("workers")
+        .value_name("N")
+        .help("How many workers read and verify logs, 1 to 16")
+        .action(ArgAction::Set)
+        .default_value("1")
+}
+
 /// Returns the option that says who is accused.
 fn general_option<'a>(alloc: Global) -> Arg<'a>
     ensures rule { rule_of result ≡ lines.general }
@@ -48,6 +61,15 @@ fn run_command<'a>(alloc: Global) -> Result<Command<'a>, AllocError>
 {
     let about = "Reads a scenario with a seed from standard input, runs it and writes its bundle";
     plain_command(alloc, "run", about).arg(capacity_option(alloc))
+}
+
+/// Returns the command that audits a bundle.
+fn audit_command<'a>(alloc: Global) -> Result<Command<'a>, AllocError>
+    ensures app { IfOk result (λ c. app_of c ≡ lines.audit) }
+    ensures local { IfOk result (λ c. (fields_of c).has_globals ≡ false) }
+{
+    let about = "Reads a bundle of logs from standard input and prints whether a run explains them";
+    plain_command(alloc, "audit", about).arg(workers_option(alloc))
 }
 
 /// Returns the command that accuses a general.
@@ -89,8 +111,8 @@ fn with_runs<'a>(alloc: Global) -> Result<Command<'a>, AllocError>
 fn with_audit<'a>(alloc: Global) -> Result<Command<'a>, AllocError>
     ensures { IfOk result (λ c. app_of c ≡ lines.with_audit) }
 {
-    let about = "Reads a bundle of logs from standard input and prints whether a run explains them";
-    with_runs(alloc)?.subcommand(plain_command(alloc, "audit", about))
+    let audit = audit_command(alloc)?;
+    with_runs(alloc)?.subcommand(audit)
 }
 
 /// Returns the command line with the commands that read a bundle, too.

@@ -12,6 +12,7 @@ ghost use Rattle.gen_program.specs.declared.words.WordsFault.TheVariants.{Memory
 use crate::command_line::tool_command;
 use clap::ArgMatches;
 use clap::error::ErrorKind;
+use gen_audit::WorkerCount;
 use gen_jobs::Job;
 use gen_types::{GeneralNo, decimal_number};
 use std::alloc::{AllocError, Global};
@@ -32,6 +33,9 @@ pub enum WordsFault {
     /// What stands behind `--capacity` is no decimal number from 1 to 16, without leading zeros or a sign.
     #[error("error: --capacity takes a number from 1 to 16")]
     BadCapacity,
+    /// What stands behind `--workers` is no decimal number from 1 to 16, without leading zeros or a sign.
+    #[error("error: --workers takes a number from 1 to 16")]
+    BadWorkers,
     /// What stands behind `--general` is no decimal number from 0 to 15, without leading zeros or a sign.
     #[error("error: --general takes a number from 0 to 15")]
     BadGeneral,
@@ -69,6 +73,8 @@ pub(crate) struct GivenCommand<'a> {
     pub(crate) name: &'a str,
     /// The text of `--capacity`, where it takes that.
     pub(crate) capacity: Option<&'a str>,
+    /// The text of `--workers`, where it takes that.
+    pub(crate) workers: Option<&'a str>,
     /// The text of `--general`, where it takes that.
     pub(crate) general: Option<&'a str>,
 }
@@ -90,10 +96,22 @@ fn general_of(text: Option<&str>) -> Option<GeneralNo>
     GeneralNo::new(number_between(text, 0, 15)?)
 }
 
+/// Returns how many workers a text asks for.
+fn workers_of(text: Option<&str>) -> Option<WorkerCount>
+    ensures { result ≡ number_between 1 16 (option_map (λ t. t.now) text.entry) }
+{
+    WorkerCount::new(usize::from(number_between(text, 1, 16)?))
+}
+
 /// Returns the job of a command, by the texts of its options.
-fn job_of(name: &str, capacity: Option<&str>, general: Option<&str>) -> Option<Job>
-    ensures said { result ≡ job_named name.now
-        (option_map (λ t. t.now) capacity.entry) (option_map (λ t. t.now) general.entry) }
+fn job_of(
+    name: &str,
+    capacity: Option<&str>,
+    workers: Option<&str>,
+    general: Option<&str>,
+) -> Option<Job>
+    ensures said { result ≡ job_named name.now (option_map (λ t. t.now) capacity.entry)
+        (option_map (λ t. t.now) workers.entry) (option_map (λ t. t.now) general.entry) }
     ensures range { IfSome result IsInRange }
 {
     match name {
@@ -101,7 +119,9 @@ fn job_of(name: &str, capacity: Option<&str>, general: Option<&str>) -> Option<J
         "run" => Some(Job::Run {
             capacity: number_between(capacity, 1, 16)?,
         }),
-        "audit" => Some(Job::Audit),
+        "audit" => Some(Job::Audit {
+            workers: workers_of(workers)?,
+        }),
         "accuse" => Some(Job::Accuse {
             general: general_of(general)?,
         }),
@@ -116,6 +136,7 @@ fn refusal_of(name: &str) -> WordsFault
 {
     match name {
         "run" => WordsFault::BadCapacity,
+        "audit" => WordsFault::BadWorkers,
         "accuse" => WordsFault::BadGeneral,
         _ => WordsFault::NoCommand,
     }
@@ -140,6 +161,7 @@ fn given_by<'a>(matches: &ArgMatches<'a>) -> Option<GivenCommand<'a>>
     Some(GivenCommand {
         name,
         capacity: inner.get_str("capacity"),
+        workers: inner.get_str("workers"),
         general: inner.get_str("general"),
     })
 }
@@ -163,7 +185,7 @@ fn given_in<'a>(alloc: Global, words: &'a [&'a str]) -> Result<GivenCommand<'a>,
 /// # Errors
 ///
 /// `Words` where the command line has a fault at the words, or they ask for help or the version; `NoCommand`
-/// where they name no command; `BadCapacity` or `BadGeneral` where the text behind the option isn't a decimal
+/// where they name no command; `BadCapacity`, `BadWorkers` or `BadGeneral` where the text behind the option isn't a decimal
 /// number in its range, without leading zeros or a sign; and `Memory` where memory was refused.
 pub fn read_words<'a>(alloc: Global, words: &'a [&'a str]) -> Result<Job, WordsFault>
     // The words ask for the job.
@@ -177,7 +199,7 @@ pub fn read_words<'a>(alloc: Global, words: &'a [&'a str]) -> Result<Job, WordsF
     ensures fault { IfErr result (IsFaultOf (map (λ w. w.now) words.now)) }
 {
     let given = given_in(alloc, words)?;
-    match job_of(given.name, given.capacity, given.general) {
+    match job_of(given.name, given.capacity, given.workers, given.general) {
         Some(job) => Ok(job),
         None => Err(refusal_of(given.name)),
     }

@@ -1,5 +1,5 @@
 -- Numbers of workers.
-use Rattle.std.specs.Prelude.{ℕ, ◌<◌, ◌≤◌, ◌&&◌, Option, Some, None, nat_lt, nat_le, if◌then◌else◌}
+use Rattle.std.specs.Prelude.{ℕ, ◌<◌, ◌≤◌, ◌&&◌, Option, Some, None, nat_le, if◌then◌else◌}
 
 -- from 1 to 16
 abbrev pub IsCount : ℕ → Type 0
@@ -7,4 +7,4 @@ IsCount n = (0 < n) × (n ≤ 16)
 
 -- so many workers, if there may be so many
 abbrev pub count_of : ℕ → Option ℕ
-count_of n = if nat_lt 0 n && nat_le n 16 then Some n else None
+count_of n = if nat_le 1 n && nat_le n 16 then Some n else None

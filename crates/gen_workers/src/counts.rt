@@ -38,7 +38,7 @@ impl WorkerCount {
     pub fn new(count: usize) -> Option<WorkerCount>
         ensures { result ≡ count_of count }
     {
-        if 0 < count && count <= MOST_WORKERS {
+        if 1 <= count && count <= MOST_WORKERS {
             Some(WorkerCount { count })
         } else {
             None

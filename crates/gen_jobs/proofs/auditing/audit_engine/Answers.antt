@@ -1,10 +1,7 @@
-use Rattle.std.proofs.Common.{◌≡◌}
-use Rattle.std.specs.Prelude.{IfSome}
 use Rattle.gen_jobs.specs.Audit.{IsAudited, IsAuditFault}
 use Rattle.gen_jobs.proofs.Delivering.{answered}
 use Rattle.gen_jobs.proofs.auditing.audit_engine.Goals as goal
 
 pub returns-in-Ok-clause-answers : goal.returns-in-Ok-clause-answers
 returns-in-Ok-clause-answers g c =
-    let whole : IfSome (g.R.Read.remaining c.args.reader.now) (λ input. c.deref.result.now ≡ input) = rw c.deref.ensures.value c.in-Ok.ensures.whole in
-    answered IsAudited IsAuditFault (g.R.Read.remaining c.args.reader.now) (g.W.Write.contents c.args.writer.now) (g.W.Write.contents c.deliver.new.writer) c.deref.result.now c.audit.result c.deliver.result (λ never. never) whole c.audit.ensures.answer c.audit.ensures.fault c.deliver.ensures
+    answered IsAudited IsAuditFault (g.R.Read.remaining c.args.reader.now) (g.W.Write.contents c.args.writer.now) (g.W.Write.contents c.deliver.new.writer) c.in-Ok.input.items c.audit_taken.result c.deliver.result (λ never. never) c.in-Ok.ensures.whole c.audit_taken.ensures.answer c.audit_taken.ensures.fault c.deliver.ensures

@@ -10,5 +10,6 @@ returns c =
     is_given _ _ _ met (record {
       name = refl;
       capacity = c.get_str.ensures ∙ first_value-rows (found_of c.in_ok-name.inner.now) (codes "capacity");
-      general = c.get_str-2.ensures ∙ first_value-rows (found_of c.in_ok-name.inner.now) (codes "general");
+      workers = c.get_str-2.ensures ∙ first_value-rows (found_of c.in_ok-name.inner.now) (codes "workers");
+      general = c.get_str-3.ensures ∙ first_value-rows (found_of c.in_ok-name.inner.now) (codes "general");
     })
