@@ -65,13 +65,7 @@ one_finding counted sent received (Unmatched a b l v) (Unmatched c d m w) p q e 
 one_finding counted sent received (Unmatched a b l v) _ p q e = absurd q
 one_finding counted sent received _ g p q e = absurd p
 
--- no cell, one more, and all
-pub none_before : (counted : List ℕ) (sent received : Table) → AreFindings (DifferBefore counted sent received 0) []
-none_before counted sent received = record {
-  in_order = λ i j d l m. absurd (omega (arith, m));
-  members = λ f. ((λ h. absurd (Contains_nil f h)), (λ p. absurd (omega (arith, p.1))));
-}
-
+-- one cell more, and all
 pub found_more : (counted : List ℕ) (sent received : Table) (cell : ℕ) (findings : List Finding) (f : Finding) → AreFindings (DifferBefore counted sent received cell) findings → TablesDiffer counted sent received f → finding_cell f ≡ cell → AreFindings (DifferBefore counted sent received (cell + 1)) (findings ++ f ∷ [])
 found_more counted sent received cell findings f before p e = record {
   in_order = AllPairs-append (λ x y. Precedes (finding_rank x) (finding_rank y)) findings (f ∷ []) before.in_order (λ i j d l m. absurd (omega (arith, l, m)))

@@ -21,10 +21,7 @@ ascending_mapped {X} f (x ∷ xs) up =
     (All-map (λ v. f x < v) f xs (AllPairs_head (λ (y z : X). f y < f z) x xs up))
     (ascending_mapped f xs (AllPairs_tail (λ (y z : X). f y < f z) x xs up))
 
--- no script, and one script more
-pub set_of_none : (set : List ℕ) → set ≡ [] → IsListOf set (Contains (scripted []))
-set_of_none set e = rw e (record { ascending = λ i j d l m. absurd (omega (arith, m)); members = λ v. (λ h. h, λ h. h) })
-
+-- one script more
 pub set_of_more : (old new : List ℕ) (scripts : List Script) (i g : ℕ) (d : Script) → i < length scripts → g ≡ (get_or scripts i d).general → IsListOf old (Contains (scripted (take i scripts))) → IsListOf new (λ v. Contains old v ⊎ (v ≡ g)) → IsListOf new (Contains (scripted (take (i + 1) scripts)))
 set_of_more old new scripts i g d within is before now =
     let front = scripted (take i scripts) in

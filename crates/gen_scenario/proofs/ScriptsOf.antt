@@ -9,8 +9,6 @@ use Rattle.gen_scenario.proofs.Having.{true_false, in_mapped}
 use Rattle.gen_scenario.specs.RoundEntries.{lines_in}
 use Rattle.gen_script.specs.Line.{IsScriptLine}
 use Rattle.gen_types.proofs.Among.{among_in, in_among, among_out, out_among}
-use Rattle.gen_scenario.specs.RoundsKept.{HasLawfulLines}
-use Rattle.gen_scenario.specs.SignedWorld.{sender_of}
 
 -- who is not among the generals with scripts has none
 pub script_none : (scripts : List Script) (g : ℕ) → (Contains (scripted scripts) g → ⊥) → script_of scripts g ≡ None
@@ -86,9 +84,6 @@ pub signing_line : (s : Scenario) → IsScenario s → (g : ℕ) (line : ScriptL
 signing_line s ok g line h =
     let r = line_of s.scripts g line h in
     ok.signers r.script line r.stands r.has
-
-pub lawful_part : (s : Scenario) → IsScenario s → (g : ℕ) → HasLawfulLines (sender_of s g)
-lawful_part s ok g line h = lawful_line s ok g line h
 
 -- whether a general has a script, as a test
 pub with_script : (s : Scenario) (g : ℕ) → (has_script s g ≡ true) ↔ ((lines : List ScriptLine) × (script_of s.scripts g ≡ Some lines))

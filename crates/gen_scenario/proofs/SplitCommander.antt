@@ -22,9 +22,6 @@ all_one P a p = All_of P (a ∷ []) (λ x h. elim (Contains_cases a x [] h) [ in
 all_more : {X : Type 0} (P : X → Type 0) (a : X) (xs : List X) → P a → All P xs → All P (a ∷ xs)
 all_more P a xs p all = All_of P (a ∷ xs) (λ x h. elim (Contains_cases a x xs h) [ inl e ↦ subst P e p | inr k ↦ All-contains P xs x all k ])
 
-none_paired : {X : Type 0} (R : X → X → Type 0) → AllPairs R []
-none_paired R i j x l m = absurd (omega arith)
-
 one_paired : {X : Type 0} (R : X → X → Type 0) (a : X) → AllPairs R (a ∷ [])
 one_paired R a i j x l m = absurd (omega arith)
 

@@ -1,7 +1,6 @@
-use Rattle.std.proofs.Common.{◌≡◌, ◌∙◌, List, ap, eqb}
+use Rattle.std.proofs.Common.{◌∙◌, List, ap, eqb}
 use Rattle.std.specs.List.{list_any}
 use Rattle.gen_script.specs.Script.{Script}
-use Rattle.gen_scenario.specs.Scenario.{Scenario}
 use Rattle.gen_scenario.proofs.ScriptSets.{scripted_test}
 use Rattle.gen_scenario.proofs.signed.Scenario.has_script.Goals as goal
 
