@@ -1,6 +1,6 @@
 use Rattle.std.proofs.Common.{◌+◌, ◌∙◌, List, length, inr, ap, sym, subst, arith}
 use Rattle.gen_threads.specs.declared.works.Turn.{Turn}
-use Rattle.gen_threads.specs.Faults.{IsAnswerTo, outcome_of}
+use Rattle.gen_threads.specs.Faults.{outcome_of}
 use Rattle.gen_threads.specs.Works.{IsTurn, TurnsFrom}
 use Rattle.gen_threads.proofs.Froms.{from_head, from_tail}
 use Rattle.gen_threads.proofs.Gathering.{gathered, gathered_all, goes_more, goes_well, goes_wrong, logs_none, one_fewer}
