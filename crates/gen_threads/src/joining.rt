@@ -1,9 +1,10 @@
 //! How a run of threads ends.
-ghost use Rattle.std.specs.Prelude.{ℕ, ◌≡◌, ◌<◌, ◌+◌, ◌++◌, ◌≤◌, [], length, IfErr, IfOk, OnOk, vec_len, vec_capacity};
+ghost use Rattle.std.specs.Prelude.{ℕ, ◌≡◌, ◌<◌, ◌+◌, ◌++◌, ◌≤◌, ◌⊎◌, [], length, Err, IfErr, IfOk, MatchResult, Ok, OnOk, vec_len, vec_capacity};
 ghost use Rattle.gen_scenario.specs.Rows.{logs_of_all};
 ghost use Rattle.gen_scenario.specs.Scenario as scenarios;
 ghost use Rattle.gen_threads.specs.Ending.{logs_by};
-ghost use Rattle.gen_threads.specs.Faults.{IsAnsweredFault, answered_fault, worse_of};
+ghost use Rattle.gen_threads.specs.Faults.{IsAnswerTo, IsAnsweredFault, answered_fault, outcome_of, outcome_of_turn, worse_of};
+ghost use Rattle.gen_threads.specs.declared.ends.RunFault.TheVariants.{Memory};
 ghost use Rattle.gen_threads.specs.Works.{AreParts, ArePromised, IsTurn, TurnsFrom};
 ghost use Rattle.gen_threads.specs.declared.edges.Edges.{Edges as AllEdges};
 
@@ -150,8 +151,9 @@ fn answered(fault: RunFault) -> RunFault
 
 /// Appends a general's logs, or returns why he has none.
 fn gather_one(turn: Turn, logs: &mut Vec<SealedLog>) -> Result<(), RunFault>
-    ensures { (edges : AllEdges) (s : scenarios.Scenario) (g : ℕ) → IsTurn edges s g turn
+    ensures logs { (edges : AllEdges) (s : scenarios.Scenario) (g : ℕ) → IsTurn edges s g turn
         → OnOk result (logs.new.items ≡ logs.old.items ++ logs_by s g) }
+    ensures outcome { (result ≡ outcome_of_turn turn) ⊎ (result ≡ Err Memory) }
 {
     match turn {
         Turn::Ended(end) => {
@@ -163,7 +165,8 @@ fn gather_one(turn: Turn, logs: &mut Vec<SealedLog>) -> Result<(), RunFault>
     }
 }
 
-/// Returns the logs of all, in the order of generals, or the fault of the run.
+/// Returns the logs of all, in the order of generals, or the fault of the run: that of the worst of its generals' faults,
+/// or want of memory.
 pub(crate) fn gather(
     scenario: &Scenario,
     edges: &Edges,
@@ -175,6 +178,7 @@ pub(crate) fn gather(
     requires empty { logs.items ≡ [] }
     ensures logs { IfOk result (λ logs. logs.items ≡ logs_of_all scenario.now) }
     ensures fault { IfErr result IsAnsweredFault }
+    ensures outcome { MatchResult result (λ _. outcome_of turns.items ≡ Ok tt) (IsAnswerTo (outcome_of turns.items)) }
 {
     let mut logs = logs;
     let mut outcome = Ok(());

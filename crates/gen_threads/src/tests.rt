@@ -187,7 +187,7 @@ fn has_gone(turn: &Turn) -> bool {
 #[test]
 fn logs_of_a_pair(rt: HostRuntime) -> Result<(), Fail> {
     let scenario = pair(rt.alloc())?;
-    let wrong = first_wrong(&rt, rt.alloc(), &scenario, &[1, 2, 16])?;
+    let wrong = first_wrong(&rt, rt.alloc(), &scenario, &[1, 2, 16, 17, 1000])?;
     assert_eq!(rt; wrong, None);
     Ok(())
 }

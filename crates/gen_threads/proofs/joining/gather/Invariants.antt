@@ -1,8 +1,9 @@
-use Rattle.std.proofs.Common.{◌≡◌, ℕ, ◌+◌}
+use Rattle.std.proofs.Common.{◌≡◌, ℕ, ◌+◌, length}
 use Rattle.std.specs.Prelude.{OnOk}
 use Rattle.std.specs.Vec.Iter.{into_iter_items, into_iter_len}
 use Rattle.gen_threads.specs.Works.{TurnsFrom}
-use Rattle.gen_threads.proofs.Gathering.{logs_first}
+use Rattle.gen_threads.specs.Faults.{outcome_of}
+use Rattle.gen_threads.proofs.Gathering.{Goes, logs_first}
 use Rattle.gen_threads.proofs.joining.gather.Given as goal
 
 abbrev pub invariant-loop-turn : goal.invariant-loop-turn
@@ -11,3 +12,5 @@ invariant-loop-turn l =
     (k : ℕ) × (k + into_iter_len rest ≡ l.scenario.net.generals)
     × TurnsFrom l.edges l.scenario k (into_iter_items rest)
     × OnOk l.outcome (l.logs.items ≡ logs_first l.scenario k)
+    × (into_iter_len rest ≡ length (into_iter_items rest))
+    × Goes l.outcome (outcome_of (into_iter_items rest)) (outcome_of l.fn.turns.items)
