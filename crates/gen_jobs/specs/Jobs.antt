@@ -1,5 +1,5 @@
 -- The jobs, and what each makes of its input.
-use Rattle.std.specs.Prelude.{ℕ, ◌≤◌, ◌<◌, Bool, List}
+use Rattle.std.specs.Prelude.{ℕ, Bool, List}
 use Rattle.gen_jobs.specs.Accusing.{IsAccused}
 use Rattle.gen_jobs.specs.Audit.{IsAudited, IsAuditFault}
 use Rattle.gen_jobs.specs.Checking.{IsChecked, IsEvidenceFault}
@@ -8,12 +8,6 @@ use Rattle.gen_jobs.specs.Run.{IsRun, IsRunFault}
 use Rattle.gen_jobs.specs.declared.ends.JobFault.{JobFault}
 use Rattle.gen_jobs.specs.declared.jobs.Job.{Job}
 use Rattle.gen_jobs.specs.declared.jobs.Job.TheVariants as jobs
-
--- the numbers of a job are in their ranges
-abbrev pub IsInRange : Job → Type 0
-IsInRange (jobs.Run n) = (1 ≤ n) × (n ≤ 16)
-IsInRange (jobs.Accuse g) = g < 16
-IsInRange _ = Unit {0}
 
 -- the text answers the input of the job, and says no where it does
 abbrev pub JobAnswers : Job → List ℕ → List ℕ → Bool → Type 0

@@ -6,4 +6,5 @@ pub mod Decide
 pub mod Ends
 pub mod Failing
 pub mod Jobs
+pub mod Ranges
 pub mod Run

@@ -2,7 +2,8 @@
 ghost use Rattle.std.specs.Prelude.{IfSome};
 ghost use Rattle.gen_jobs.specs.Answering.{Answers};
 ghost use Rattle.gen_jobs.specs.Ends.{IsTaken, KeepsUntilWhole};
-ghost use Rattle.gen_jobs.specs.Jobs.{IsInRange, JobAnswers, JobFails};
+ghost use Rattle.gen_jobs.specs.Jobs.{JobAnswers, JobFails};
+ghost use Rattle.gen_jobs.specs.Ranges.{IsInRange};
 
 use crate::accusing::accuse_engine;
 use crate::auditing::audit_engine;

@@ -1,8 +1,9 @@
-//! This crate has the tests of `gen_jobs`.
+//! This crate has the tests of `gen_jobs` and `gen_program`.
 //!
 //! `scenarios` has the texts, `streams` a reader and a writer that slip, and `bundles` makes bundles without
 //! the crate under test. `deciding`, `running`, `auditing`, `accusing` and `disputed` have the jobs,
-//! `over_bytes` the calls without reader and writer, `limits` the largest inputs, and `ends` how jobs end.
+//! `over_bytes` the calls without reader and writer, `limits` the largest inputs, `ends` how jobs
+//! end, and `words` the words that ask for jobs.
 #![tactic(auto)]
 
 #[cfg(test)]
@@ -27,3 +28,5 @@ mod running;
 mod scenarios;
 #[cfg(test)]
 mod streams;
+#[cfg(test)]
+mod words;

@@ -1,5 +1,5 @@
 //! The jobs over bytes, without reader and writer, and the choice of their engines.
-ghost use Rattle.gen_jobs.specs.Jobs.{IsInRange};
+ghost use Rattle.gen_jobs.specs.Ranges.{IsInRange};
 
 use crate::accusing::accused;
 use crate::bundles::bundle_of;

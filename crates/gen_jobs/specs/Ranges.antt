@@ -1,0 +1,10 @@
+-- The ranges of the numbers that jobs have.
+use Rattle.std.specs.Prelude.{◌≤◌, ◌<◌}
+use Rattle.gen_jobs.specs.declared.jobs.Job.{Job}
+use Rattle.gen_jobs.specs.declared.jobs.Job.TheVariants as jobs
+
+-- the numbers of a job are in their ranges
+abbrev pub IsInRange : Job → Type 0
+IsInRange (jobs.Run n) = (1 ≤ n) × (n ≤ 16)
+IsInRange (jobs.Accuse g) = g < 16
+IsInRange _ = Unit {0}

@@ -1,0 +1,7 @@
+use Rattle.std.proofs.Common.{inr}
+use Rattle.gen_jobs.specs.declared.ends.JobEnd.TheVariants.{Failed}
+use Rattle.gen_jobs.specs.declared.ends.JobFault.TheVariants as faults
+use Rattle.gen_program.proofs.program.refuse.Goals as goal
+
+pub returns-in-Memory-clause-status : goal.returns-in-Memory-clause-status
+returns-in-Memory-clause-status g c = inr (Failed faults.Memory, c.end_with.ensures)

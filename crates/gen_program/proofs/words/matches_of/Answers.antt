@@ -1,0 +1,15 @@
+use Rattle.std.proofs.Common.{◌≡◌, List, [], ap, map, ◌∙◌, subst}
+use Rattle.clap.specs.Words.{App, Text, fault_of, is_simple, is_simple_and_free, subcommand_of}
+use Rattle.gen_program.specs.CommandLine.{tool}
+use Rattle.gen_program.proofs.Faults.{tool_is_free, tool_is_simple}
+use Rattle.gen_program.proofs.words.matches_of.Goals as goal
+
+pub returns-clause-ok : goal.returns-clause-ok
+returns-clause-ok c =
+    let texts : List Text = map (λ w. w.now) c.args.words.now in
+    let is_tool = c.in_ok-command.ensures in
+    let free = ap is_simple_and_free is_tool ∙ tool_is_free in
+    let simple = ap is_simple is_tool ∙ tool_is_simple in
+    let none : fault_of tool texts ≡ [] = subst (λ (a : App). fault_of a texts ≡ []) is_tool (c.in_ok-try_get_matches_from.ensures.kinds free) in
+    let told = (c.in_ok-try_get_matches_from.ensures.matches simple).1 in
+    (none, told ∙ ap (λ (a : App). subcommand_of a texts) is_tool)

@@ -1,0 +1,47 @@
+-- The command line: its commands, and the option that one takes.
+use Rattle.std.specs.Prelude.{[], ◌∷◌, codes, Some, true}
+use Rattle.clap.specs.declared.builder.ArgAction.TheVariants.{Set}
+use Rattle.clap.specs.Words.{App, Rule, Text, new_app, new_rule, with_rule, with_subcommand}
+
+-- an option that stands before its one value
+abbrev pub option_named : Text → Rule
+option_named name = record (new_rule name) { long = Some name; action = Some Set; value_names = 1 }
+
+-- how many frames an edge holds; 1 where nothing is said
+abbrev pub capacity : Rule
+capacity = record (option_named (codes "capacity")) { defaults = codes "1" ∷ [] }
+
+-- who is accused; it must be said
+abbrev pub general : Rule
+general = record (option_named (codes "general")) { required = true }
+
+-- the commands with an option
+abbrev pub run : App
+run = with_rule (new_app (codes "run")) capacity
+
+abbrev pub accuse : App
+accuse = with_rule (new_app (codes "accuse")) general
+
+-- the command without its subcommands: it has a version, and one of them is required
+abbrev pub bare : App
+bare =
+    let a = new_app (codes "sm_tool") in
+    record a { top = record a.top { has_version = true; subcommand_required = true } }
+
+-- with the commands, one after another: those that read a scenario,
+abbrev pub with_decide : App
+with_decide = with_subcommand bare (new_app (codes "decide")).top
+
+abbrev pub with_runs : App
+with_runs = with_subcommand with_decide run.top
+
+-- those that read a bundle,
+abbrev pub with_audit : App
+with_audit = with_subcommand with_runs (new_app (codes "audit")).top
+
+abbrev pub with_bundles : App
+with_bundles = with_subcommand with_audit accuse.top
+
+-- and the one that reads evidence: the program's command line
+abbrev pub tool : App
+tool = with_subcommand with_bundles (new_app (codes "evidence")).top

@@ -1,0 +1,45 @@
+-- What becomes of words that ask for no job.
+use Rattle.std.specs.Prelude.{◌≡◌, ℕ, ◌⊎◌, List, ◌++◌, codes}
+use Rattle.clap.specs.declared.error.Error.{Error}
+use Rattle.clap.specs.declared.error.kind.ErrorKind.TheVariants.{DisplayHelp, DisplayVersion}
+use Rattle.clap.specs.Words.{kind_of}
+use Rattle.gen_jobs.specs.declared.ends.JobEnd.{JobEnd}
+use Rattle.gen_jobs.specs.declared.ends.JobEnd.TheVariants.{Done, Failed}
+use Rattle.gen_jobs.specs.declared.ends.JobFault.TheVariants as faults
+use Rattle.gen_program.specs.declared.words.WordsFault.{WordsFault}
+use Rattle.gen_program.specs.declared.words.WordsFault.TheVariants.{Memory, NotText, NoCommand, Words}
+use Rattle.gen_program.specs.declared.words.WordsFault.TheVariants.{BadCapacity, BadGeneral}
+use Rattle.gen_jobs.specs.Ends.{status_of}
+
+-- the exit status where words ask for no job
+abbrev pub words_status : ℕ
+words_status = 2
+
+-- an exit status of the program: that of words which ask for no job, or of a job's end
+abbrev pub IsStatus : ℕ → Type 0
+IsStatus status = (status ≡ words_status) ⊎ ((end : JobEnd) × (status ≡ status_of end))
+
+-- the words ask for help or for the version
+abbrev pub AsksToShow : Error → Type 0
+AsksToShow e = (kind_of e ≡ DisplayHelp) ⊎ (kind_of e ≡ DisplayVersion)
+
+-- what they ask for is shown, or its write failed
+abbrev pub IsShown : ℕ → Type 0
+IsShown status = (status ≡ status_of Done) ⊎ (status ≡ status_of (Failed faults.Write))
+
+-- the words are blamed, or memory for the line that does was refused
+abbrev pub IsBlamed : ℕ → Type 0
+IsBlamed status = (status ≡ words_status) ⊎ (status ≡ status_of (Failed faults.Memory))
+
+-- the exit status for this fault of the words
+abbrev pub Refuses : WordsFault → ℕ → Type 0
+Refuses Memory status = status ≡ status_of (Failed faults.Memory)
+Refuses NotText status = IsBlamed status
+Refuses NoCommand status = IsBlamed status
+Refuses BadCapacity status = IsBlamed status
+Refuses BadGeneral status = IsBlamed status
+Refuses (Words e) status = (AsksToShow e → IsShown status) × ((AsksToShow e → ⊥) → IsBlamed status)
+
+-- The line ends by saying how to ask for help.
+abbrev pub PointsAtHelp : List ℕ → Type 0
+PointsAtHelp line = (front : List ℕ) × (line ≡ front ++ codes "; for more, try '--help'")

@@ -1,0 +1,110 @@
+//! The command line of the program.
+ghost use Rattle.std.specs.Prelude.{◌≡◌, IfOk, false};
+ghost use Rattle.clap.specs.Words.{app_of, new_app, rule_of};
+ghost use Rattle.clap.specs.declared.builder.command.Command.TheViews.{out-Command as fields_of};
+ghost use Rattle.gen_program.specs.CommandLine as lines;
+
+use clap::{Arg, ArgAction, Command};
+use std::alloc::{AllocError, Global};
+
+/// Returns the option that says how many frames an edge holds.
+fn capacity_option<'a>(alloc: Global) -> Arg<'a>
+    ensures rule { rule_of result ≡ lines.capacity }
+    ensures local { result.global ≡ false }
+{
+    Arg::new(alloc, "capacity")
+        .long("capacity")
+        .value_name("N")
+        .help("How many frames an edge holds, 1 to 16")
+        .action(ArgAction::Set)
+        .default_value("1")
+}
+
+/// Returns the option that says who is accused.
+fn general_option<'a>(alloc: Global) -> Arg<'a>
+    ensures rule { rule_of result ≡ lines.general }
+    ensures local { result.global ≡ false }
+{
+    Arg::new(alloc, "general")
+        .long("general")
+        .value_name("G")
+        .help("Who is accused, 0 to 15")
+        .action(ArgAction::Set)
+        .required(true)
+}
+
+/// Returns a command of this name that takes nothing.
+fn plain_command<'a>(alloc: Global, name: &'a str, about: &'a str) -> Command<'a>
+    ensures app { app_of result ≡ new_app name.entry.now }
+    ensures local { (fields_of result).has_globals ≡ false }
+{
+    Command::new(alloc, name).about(about)
+}
+
+/// Returns the command that runs a scenario.
+fn run_command<'a>(alloc: Global) -> Result<Command<'a>, AllocError>
+    ensures app { IfOk result (λ c. app_of c ≡ lines.run) }
+    ensures local { IfOk result (λ c. (fields_of c).has_globals ≡ false) }
+{
+    let about = "Reads a scenario with a seed from standard input, runs it and writes its bundle";
+    plain_command(alloc, "run", about).arg(capacity_option(alloc))
+}
+
+/// Returns the command that accuses a general.
+fn accuse_command<'a>(alloc: Global) -> Result<Command<'a>, AllocError>
+    ensures app { IfOk result (λ c. app_of c ≡ lines.accuse) }
+    ensures local { IfOk result (λ c. (fields_of c).has_globals ≡ false) }
+{
+    let about = "Reads a bundle from standard input and writes the evidence against a general";
+    plain_command(alloc, "accuse", about).arg(general_option(alloc))
+}
+
+/// Returns the command line without its subcommands, one of which it requires.
+fn bare_command<'a>(alloc: Global) -> Command<'a>
+    ensures { app_of result ≡ lines.bare }
+{
+    Command::new(alloc, "sm_tool")
+        .about("Runs and audits signed Byzantine agreement")
+        .version("0.1.0")
+        .subcommand_required(true)
+}
+
+/// Returns the command line with the command that decides.
+fn with_decide<'a>(alloc: Global) -> Result<Command<'a>, AllocError>
+    ensures { IfOk result (λ c. app_of c ≡ lines.with_decide) }
+{
+    let about = "Reads a scenario from standard input and prints what each general decides";
+    bare_command(alloc).subcommand(plain_command(alloc, "decide", about))
+}
+
+/// Returns the command line with the commands that read a scenario.
+fn with_runs<'a>(alloc: Global) -> Result<Command<'a>, AllocError>
+    ensures { IfOk result (λ c. app_of c ≡ lines.with_runs) }
+{
+    let run = run_command(alloc)?;
+    with_decide(alloc)?.subcommand(run)
+}
+
+/// Returns the command line with the command that audits, too.
+fn with_audit<'a>(alloc: Global) -> Result<Command<'a>, AllocError>
+    ensures { IfOk result (λ c. app_of c ≡ lines.with_audit) }
+{
+    let about = "Reads a bundle of logs from standard input and prints whether a run explains them";
+    with_runs(alloc)?.subcommand(plain_command(alloc, "audit", about))
+}
+
+/// Returns the command line with the commands that read a bundle, too.
+fn with_bundles<'a>(alloc: Global) -> Result<Command<'a>, AllocError>
+    ensures { IfOk result (λ c. app_of c ≡ lines.with_bundles) }
+{
+    let accuse = accuse_command(alloc)?;
+    with_audit(alloc)?.subcommand(accuse)
+}
+
+/// Returns the command line of the program. It fails only where memory is refused.
+pub fn tool_command<'a>(alloc: Global) -> Result<Command<'a>, AllocError>
+    ensures { IfOk result (λ c. app_of c ≡ lines.tool) }
+{
+    let about = "Reads evidence from standard input and prints whether it holds";
+    with_bundles(alloc)?.subcommand(plain_command(alloc, "evidence", about))
+}

@@ -1,0 +1,184 @@
+//! The words of the command line.
+ghost use Rattle.std.specs.Prelude.{◌≡◌, [], IfOk, IfErr, IfSome, Some, IsSome, map, option_map};
+ghost use Rattle.clap.specs.Simple.{subcommand_rows_of};
+ghost use Rattle.clap.specs.Words.{fault_of};
+ghost use Rattle.gen_jobs.specs.Ranges.{IsInRange};
+ghost use Rattle.gen_program.specs.CommandLine.{tool};
+ghost use Rattle.gen_program.specs.Jobs.{job_named, number_between};
+ghost use Rattle.gen_program.specs.Commands.{Gives, HasSubcommand, IsGivenBy};
+ghost use Rattle.gen_program.specs.Tool.{asked, IsFaultOf, IsRefusal};
+ghost use Rattle.gen_program.specs.declared.words.WordsFault.TheVariants.{Memory};
+
+use crate::command_line::tool_command;
+use clap::ArgMatches;
+use clap::error::ErrorKind;
+use gen_jobs::Job;
+use gen_types::{GeneralNo, decimal_number};
+use std::alloc::{AllocError, Global};
+use thiserror::Error;
+
+/// Why words ask for no job.
+#[derive(Debug, Drop, Error)]
+pub enum WordsFault {
+    /// Memory was refused.
+    #[error("memory")]
+    Memory,
+    /// A word is not UTF-8, so that the words could not be read.
+    #[error("error: a word is not UTF-8")]
+    NotText,
+    /// The words name no command.
+    #[error("error: no command")]
+    NoCommand,
+    /// What stands behind `--capacity` is no decimal number from 1 to 16, without leading zeros or a sign.
+    #[error("error: --capacity takes a number from 1 to 16")]
+    BadCapacity,
+    /// What stands behind `--general` is no decimal number from 0 to 15, without leading zeros or a sign.
+    #[error("error: --general takes a number from 0 to 15")]
+    BadGeneral,
+    /// A mistake in the words, or a request for help or for the version.
+    #[error("{0}")]
+    Words(clap::Error),
+}
+
+impl From<AllocError> for WordsFault {
+    ghost from_gives = { λ _ e. e ≡ Memory };
+
+    fn from(_e: AllocError) -> WordsFault {
+        WordsFault::Memory
+    }
+}
+
+impl From<clap::Error> for WordsFault {
+    ghost use Rattle.gen_program.specs.Tool.{fault_from};
+
+    ghost from_gives = { λ error fault. fault_from error fault };
+
+    fn from(error: clap::Error) -> WordsFault {
+        if error.kind() == ErrorKind::OutOfMemory {
+            WordsFault::Memory
+        } else {
+            WordsFault::Words(error)
+        }
+    }
+}
+
+/// A command, with the texts of its options.
+#[derive(Clone, Copy)]
+pub(crate) struct GivenCommand<'a> {
+    /// Its name.
+    pub(crate) name: &'a str,
+    /// The text of `--capacity`, where it takes that.
+    pub(crate) capacity: Option<&'a str>,
+    /// The text of `--general`, where it takes that.
+    pub(crate) general: Option<&'a str>,
+}
+
+/// Returns the number that a text spells, where it is in the range.
+fn number_between(text: Option<&str>, least: u8, most: u8) -> Option<u8>
+    ensures { result ≡ number_between least most (option_map (λ t. t.now) text.entry) }
+{
+    match decimal_number(text?.as_bytes()) {
+        Some(number) if least <= number && number <= most => Some(number),
+        _ => None,
+    }
+}
+
+/// Returns the general whom a text names.
+fn general_of(text: Option<&str>) -> Option<GeneralNo>
+    ensures { result ≡ number_between 0 15 (option_map (λ t. t.now) text.entry) }
+{
+    GeneralNo::new(number_between(text, 0, 15)?)
+}
+
+/// Returns the job of a command, by the texts of its options.
+fn job_of(name: &str, capacity: Option<&str>, general: Option<&str>) -> Option<Job>
+    ensures said { result ≡ job_named name.now
+        (option_map (λ t. t.now) capacity.entry) (option_map (λ t. t.now) general.entry) }
+    ensures range { IfSome result IsInRange }
+{
+    match name {
+        "decide" => Some(Job::Decide),
+        "run" => Some(Job::Run {
+            capacity: number_between(capacity, 1, 16)?,
+        }),
+        "audit" => Some(Job::Audit),
+        "accuse" => Some(Job::Accuse {
+            general: general_of(general)?,
+        }),
+        "evidence" => Some(Job::Evidence),
+        _ => None,
+    }
+}
+
+/// Returns why a command has no job: its number is none, or it is no command.
+fn refusal_of(name: &str) -> WordsFault
+    ensures { IsRefusal name.now result }
+{
+    match name {
+        "run" => WordsFault::BadCapacity,
+        "accuse" => WordsFault::BadGeneral,
+        _ => WordsFault::NoCommand,
+    }
+}
+
+/// Returns what the command line makes of the words.
+fn matches_of<'a>(alloc: Global, words: &'a [&'a str]) -> Result<ArgMatches<'a>, WordsFault>
+    ensures ok { IfOk result (HasSubcommand (map (λ w. w.now) words.now)) }
+    ensures only { IfErr result (λ fault.
+        fault_of tool (map (λ w. w.now) words.now) ≡ [] → fault ≡ Memory) }
+    ensures fault { IfErr result (IsFaultOf (map (λ w. w.now) words.now)) }
+{
+    let command = tool_command(alloc)?;
+    Ok(command.try_get_matches_from(words)?)
+}
+
+/// Returns the command that was found, with the texts of its options, and None where there is none.
+fn given_by<'a>(matches: &ArgMatches<'a>) -> Option<GivenCommand<'a>>
+    ensures { IsGivenBy (subcommand_rows_of matches.now) result }
+{
+    let (name, inner) = matches.subcommand()?;
+    Some(GivenCommand {
+        name,
+        capacity: inner.get_str("capacity"),
+        general: inner.get_str("general"),
+    })
+}
+
+/// Returns the command that the words give.
+fn given_in<'a>(alloc: Global, words: &'a [&'a str]) -> Result<GivenCommand<'a>, WordsFault>
+    ensures ok { IfOk result (Gives (map (λ w. w.now) words.now)) }
+    ensures only { IfErr result (λ fault.
+        IsSome (asked (map (λ w. w.now) words.now)) → fault ≡ Memory) }
+    ensures fault { IfErr result (IsFaultOf (map (λ w. w.now) words.now)) }
+{
+    let matches = matches_of(alloc, words)?;
+    match given_by(&matches) {
+        Some(given) => Ok(given),
+        None => Err(WordsFault::NoCommand),
+    }
+}
+
+/// Returns the job that the words ask for; the first word is the program's name.
+///
+/// # Errors
+///
+/// `Words` where the command line has a fault at the words, or they ask for help or the version; `NoCommand`
+/// where they name no command; `BadCapacity` or `BadGeneral` where the text behind the option isn't a decimal
+/// number in its range, without leading zeros or a sign; and `Memory` where memory was refused.
+pub fn read_words<'a>(alloc: Global, words: &'a [&'a str]) -> Result<Job, WordsFault>
+    // The words ask for the job.
+    ensures ok { IfOk result (λ job. asked (map (λ w. w.now) words.now) ≡ Some job) }
+    // Its numbers are in their ranges.
+    ensures range { IfOk result IsInRange }
+    // Words that ask for a job fail only for want of memory.
+    ensures only { IfErr result (λ fault.
+        IsSome (asked (map (λ w. w.now) words.now)) → fault ≡ Memory) }
+    // A fault is one that the command line has at these words.
+    ensures fault { IfErr result (IsFaultOf (map (λ w. w.now) words.now)) }
+{
+    let given = given_in(alloc, words)?;
+    match job_of(given.name, given.capacity, given.general) {
+        Some(job) => Ok(job),
+        None => Err(refusal_of(given.name)),
+    }
+}
