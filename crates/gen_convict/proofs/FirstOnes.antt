@@ -2,7 +2,7 @@
 use Rattle.std.proofs.Common.{◌≤◌, length, length-append, ◌≡◌, ◌≢◌, ◌⊎◌, inl, inr, List, [], ◌∷◌, ◌++◌, Contains, refl, sym, ap, subst, ◌∙◌, arith, append_assoc}
 use Rattle.std.proofs.lemmas.Bool.{cases_eq}
 use Rattle.std.proofs.lemmas.List.Elements.{Contains-append_right, Contains-append_cases}
-use Rattle.gen_types.proofs.Lists.{split, not_nil, Contains-middle, Contains_there, Contains_cases, Contains_nil}
+use Rattle.gen_types.proofs.Lists.{split, not_nil, Contains-middle, Contains_here, Contains_there, Contains_cases, Contains_nil}
 use Rattle.gen_chain.specs.declared.statements.Statement.{Statement}
 use Rattle.gen_local.specs.declared.texts.SignedText.{SignedText}
 use Rattle.gen_local.specs.declared.texts.Text.{Text}
@@ -18,11 +18,11 @@ use Rattle.gen_convict.proofs.Refuted.{statement_same, head_or_not}
 tail_same : {X : Type 0} (x y : X) (xs ys : List X) → x ∷ xs ≡ y ∷ ys → (x ≡ y) × (xs ≡ ys)
 tail_same x y xs ys e = (cc, cc)
 
-pub first_or_none : {X : Type 0} (P : X → Type 0) → ((x : X) → P x ⊎ (P x → ⊥)) → (xs : List X) → ((x : X) × IsFirst P xs x) ⊎ ((x : X) → Contains xs x → P x → ⊥)
-first_or_none P dec [] = inr (λ x h p. Contains_nil x h)
-first_or_none P dec (x ∷ xs) = elim (dec x) [
+pub first_or_none : {X : Type 0} (P : X → Type 0) (xs : List X) → ((x : X) → Contains xs x → P x ⊎ (P x → ⊥)) → ((x : X) × IsFirst P xs x) ⊎ ((x : X) → Contains xs x → P x → ⊥)
+first_or_none P [] dec = inr (λ x h p. Contains_nil x h)
+first_or_none P (x ∷ xs) dec = elim (dec x (Contains_here x xs)) [
   | inl p ↦ inl (x, record { before = []; after = xs; split = refl; holds = p; none_before = λ z h q. Contains_nil z h })
-  | inr no_p ↦ elim (first_or_none P dec xs) [
+  | inr no_p ↦ elim (first_or_none P xs (λ y h. dec y (Contains_there x y xs h))) [
     | inr none ↦ inr (λ y h p. elim (Contains_cases x y xs h) [ inl e ↦ no_p (subst P (sym e) p) | inr k ↦ none y k p ])
     | inl f ↦ inl (
       f.0,
@@ -56,7 +56,7 @@ none_before_more R z before rest none later (f ∷ front) back u v e h r = later
 
 pub pair_or_none : {X : Type 0} (R : X → X → Type 0) → ((x y : X) → R x y ⊎ (R x y → ⊥)) → (xs : List X) → ((x : X) × (y : X) × IsFirstPair R xs x y) ⊎ NoPair R xs
 pair_or_none R dec [] = inr (λ front back u v e h r. not_nil front u back (sym e))
-pair_or_none R dec (z ∷ zs) = elim (first_or_none (R z) (dec z) zs) [
+pair_or_none R dec (z ∷ zs) = elim (first_or_none (R z) zs (λ x h. dec z x)) [
   | inl f ↦ inl (
     z,
     f.0,

@@ -196,9 +196,9 @@ module _ (h : RunHeader) (exhibits : List LogBytes) (general : ℕ) (ok : IsHead
       (MissingFromLog l.bytes o.0 x.signature, (l, refl, f, subst (IsFirst (IsMissing l.log) (texts_of h exhibits general)) e m), refl)
 
   search_logs : Searched 3
-  search_logs = elim (first_or_none (LacksSome h (texts_of h exhibits general)) (lacks_or_not h (texts_of h exhibits general)) (logs_of h exhibits general)) [
+  search_logs = elim (first_or_none (LacksSome h (texts_of h exhibits general)) (logs_of h exhibits general) (λ l c. lacks_or_not h (texts_of h exhibits general) l)) [
     | inr none ↦ inr (none_lacks none)
-    | inl f ↦ elim (first_or_none (IsMissing f.0.log) (missing_or_not f.0.log) (texts_of h exhibits general)) [
+    | inl f ↦ elim (first_or_none (IsMissing f.0.log) (texts_of h exhibits general) (λ x c. missing_or_not f.0.log x)) [
       | inl m ↦ inl (missing f.0 f.1 m.0 m.1)
       | inr none ↦ absurd (none f.1.holds.1.0 f.1.holds.1.1 f.1.holds.1.2)
     ]
@@ -214,8 +214,12 @@ module _ (h : RunHeader) (exhibits : List LogBytes) (general : ℕ) (ok : IsHead
       let d = subst (λ (log : RunLog). DepartsAt h.network general (erased log.entries) p) e.1 s.1.departs in
       none held.0 held.1 (p, (sealed_head held.0 s.1.log e.0 e.1 s.1.his.sealed, subst (λ g. DepartsAt h.network g (erased held.0.log.entries) p) (sym e.0) d))
 
-  search_departing : ((l : HeldLog) → DepartsSomewhere h l ⊎ (DepartsSomewhere h l → ⊥)) → Searched 4
-  search_departing dec = elim (first_or_none (DepartsSomewhere h) dec (logs_of h exhibits general)) [
+  -- of each of his logs it is told whether it departs
+  abbrev Told : Type 0
+  Told = (l : HeldLog) → Contains (logs_of h exhibits general) l → DepartsSomewhere h l ⊎ (DepartsSomewhere h l → ⊥)
+
+  search_departing : Told → Searched 4
+  search_departing told = elim (first_or_none (DepartsSomewhere h) (logs_of h exhibits general) told) [
     | inr none ↦ inr (none_departs none)
     | inl f ↦ inl (DepartingLog f.0.bytes f.1.holds.0, (f.0, refl, f.1, f.1.holds.1), refl)
   ]
@@ -248,8 +252,8 @@ module _ (h : RunHeader) (exhibits : List LogBytes) (general : ℕ) (ok : IsHead
   abbrev Given : Type 0
   Given = (claim : Claim) × IsFirstClaim h exhibits general claim
 
-  give : ((l : HeldLog) → DepartsSomewhere h l ⊎ (DepartsSomewhere h l → ⊥)) → (claim : Claim) → Holds claim → Given
-  give dec claim s = elim search_texts [
+  give : Told → (claim : Claim) → Holds claim → Given
+  give told claim s = elim search_texts [
     | inl f ↦ (f.0, record { first = f.1; least = λ other o. omega (arith, f.2, (kinds other).0) })
     | inr n1 ↦ elim search_orders [
       | inl f ↦ (f.0, record { first = f.1; least = λ other o. let b = behind (kind_of other) 1 (kinds other).0 (not_of 1 n1 other o) in omega (arith, f.2, b) })
@@ -264,7 +268,7 @@ module _ (h : RunHeader) (exhibits : List LogBytes) (general : ℕ) (ok : IsHead
                 omega (arith, f.2, c);
           },
         )
-        | inr n3 ↦ elim (search_departing dec) [
+        | inr n3 ↦ elim (search_departing told) [
           | inl f ↦ (
             f.0,
             record {
@@ -289,7 +293,7 @@ module _ (h : RunHeader) (exhibits : List LogBytes) (general : ℕ) (ok : IsHead
       nothing n1 n2 n3 n4 (DepartingLog bytes p) s = n4 (DepartingLog bytes p) refl s
 
 pub given_where_held : GivenWhereHeld
-given_where_held h exhibits general ok all dec = (
-  (λ s. give h exhibits general ok all dec s.0 (s.1, s.2)),
+given_where_held h exhibits general ok all told = (
+  (λ s. give h exhibits general ok all told s.0 (s.1, s.2)),
   (λ f. let k = holds_of h exhibits general ok all f.0 f.1.first in (f.0, k.0, k.1)),
 )

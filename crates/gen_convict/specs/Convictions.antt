@@ -1,11 +1,12 @@
 -- The convictions that exhibits give: of each general the first claim, if there is one.
-use Rattle.std.specs.Prelude.{ℕ, ◌≡◌, ◌<◌, ◌^◌, List, length, map, Contains, AllPairs}
+use Rattle.std.specs.Prelude.{ℕ, ◌≡◌, ◌<◌, ◌^◌, ◌↔◌, List, length, map, Contains, AllPairs}
 use Rattle.gen_net.specs.Header.{RunHeader}
 use Rattle.gen_local.specs.Report.{LocalReport}
 use Rattle.gen_log.specs.Writing.{LogBytes}
 use Rattle.gen_convict.specs.Contradictions.{Claim}
 use Rattle.gen_convict.specs.Evidence.{Accusation, IsEvidence}
 use Rattle.gen_convict.specs.First.{IsFirstClaim}
+use Rattle.gen_convict.specs.Held.{HoldContradiction}
 
 -- for each general of the network who has a first claim this claim, in ascending order of generals, and no other
 pub record AreConvictions (h : RunHeader) (exhibits : List LogBytes) (convictions : List Accusation) : Type 0 where
@@ -15,6 +16,16 @@ pub record AreConvictions (h : RunHeader) (exhibits : List LogBytes) (conviction
   pub each : (general : ℕ) (claim : Claim) → general < h.network.generals
       → IsFirstClaim h exhibits general claim
       → Contains convictions (record { accused = general; claim = claim })
+
+-- one of the convictions is the general's
+abbrev pub IsConvicted : List Accusation → ℕ → Type 0
+IsConvicted convictions general = (x : Accusation) × Contains convictions x × (x.accused ≡ general)
+
+-- a general of the network is convicted exactly where the exhibits hold a contradiction of his
+abbrev pub ConvictsWhereHeld : RunHeader → List LogBytes → List Accusation → Type 0
+ConvictsWhereHeld h exhibits convictions =
+    (general : ℕ) → general < h.network.generals
+    → HoldContradiction h exhibits general ↔ IsConvicted convictions general
 
 -- the exhibits that reports are of
 abbrev pub shown_in : List LocalReport → List LogBytes

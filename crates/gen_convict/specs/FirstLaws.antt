@@ -5,9 +5,9 @@ use Rattle.gen_local.specs.declared.texts.SignedText.{SignedText}
 use Rattle.gen_log.specs.Writing.{LogBytes}
 use Rattle.gen_convict.specs.Accused.{TextVerifies}
 use Rattle.gen_convict.specs.Contradictions.{Claim, IsContradiction}
-use Rattle.gen_convict.specs.Exhibits.{HeldLog, AllBytes, texts_of}
+use Rattle.gen_convict.specs.Exhibits.{HeldLog, AllBytes, texts_of, logs_of}
 use Rattle.gen_convict.specs.First.{DepartsSomewhere, IsFirstClaim}
-use Rattle.gen_convict.specs.Held.{AreHeld}
+use Rattle.gen_convict.specs.Held.{HoldContradiction}
 
 -- each text in a general's list verifies as his
 abbrev pub TextsVerify : Type 0
@@ -21,13 +21,14 @@ FirstHolds =
     (h : RunHeader) (exhibits : List LogBytes) (general : ℕ) (claim : Claim) → IsHeader h
     → AllBytes exhibits → IsFirstClaim h exhibits general claim → IsContradiction h general claim
 
--- a claim is made against a general exactly where the exhibits hold a contradiction of his, if it is told of each log whether it departs
+-- a claim is made against a general exactly where the exhibits hold a contradiction of his, if it is told of each of his logs
+-- whether it departs
 abbrev pub GivenWhereHeld : Type 0
 GivenWhereHeld =
     (h : RunHeader) (exhibits : List LogBytes) (general : ℕ) → IsHeader h → AllBytes exhibits
-    → ((l : HeldLog) → DepartsSomewhere h l ⊎ (DepartsSomewhere h l → ⊥))
-    → ((claim : Claim) × AreHeld h exhibits general claim × IsContradiction h general claim)
-    ↔ ((claim : Claim) × IsFirstClaim h exhibits general claim)
+    → ((l : HeldLog) → Contains (logs_of h exhibits general) l
+    → DepartsSomewhere h l ⊎ (DepartsSomewhere h l → ⊥))
+    → HoldContradiction h exhibits general ↔ ((claim : Claim) × IsFirstClaim h exhibits general claim)
 
 -- one claim at most is made against a general
 abbrev pub OneClaim : Type 0

@@ -1,10 +1,10 @@
--- When exhibits hold a claim.
+-- When exhibits hold a claim, and a contradiction of a general.
 use Rattle.std.specs.Prelude.{ℕ, ◌≡◌, List, Contains}
 use Rattle.gen_net.specs.Header.{RunHeader}
 use Rattle.gen_log.specs.Writing.{LogBytes}
 use Rattle.gen_local.specs.SignedTexts.{stated}
 use Rattle.gen_convict.specs.Accused.{command}
-use Rattle.gen_convict.specs.Contradictions.{Claim, TwoTexts, TwoOrders, MissingFromLog, DepartingLog}
+use Rattle.gen_convict.specs.Contradictions.{Claim, TwoTexts, TwoOrders, MissingFromLog, DepartingLog, IsContradiction}
 use Rattle.gen_convict.specs.Exhibits.{HeldLog, texts_of, logs_of}
 
 -- the bytes are those of one of the logs that the exhibits hold for the general
@@ -22,3 +22,8 @@ AreHeld h exhibits general (MissingFromLog bytes s signature) =
     HoldLog h exhibits general bytes
     × Contains (texts_of h exhibits general) (stated s.order s.path general signature)
 AreHeld h exhibits general (DepartingLog bytes p) = HoldLog h exhibits general bytes
+
+-- the exhibits hold a contradiction of the general
+abbrev pub HoldContradiction : RunHeader → List LogBytes → ℕ → Type 0
+HoldContradiction h exhibits general =
+    (claim : Claim) × AreHeld h exhibits general claim × IsContradiction h general claim

@@ -4,7 +4,7 @@ ghost use Rattle.std.specs.Option.{option_map};
 ghost use Rattle.std.specs.List.{range_with_len};
 ghost use Rattle.gen_log.specs.Fields.{AreBelow};
 ghost use Rattle.gen_local.specs.Report.{IsReport, LocalReport as Report};
-ghost use Rattle.gen_convict.specs.Convictions.{AreConvictions, AreEvidence, AreFirst, AreShort, AreUnderHeader, shown_in};
+ghost use Rattle.gen_convict.specs.Convictions.{AreConvictions, AreEvidence, AreFirst, AreShort, AreUnderHeader, ConvictsWhereHeld, shown_in};
 ghost use Rattle.gen_convict.specs.Evidence.{told_of};
 ghost use Rattle.gen_convict.specs.FindingClaims as finds;
 ghost use Rattle.gen_convict.specs.Told.{told};
@@ -162,9 +162,12 @@ pub fn find_evidence(
     ensures right { IfOk result (λ found.
         AreFirst header.now (shown_in reports.now) (map told_of found.items)) }
     // Where the exhibits are so short that the entry at which a log departs has four bytes, each general against
-    // whom they hold a contradiction has the first one, and nobody else has one.
+    // whom a claim can be made has the first one, and nobody else has one.
     ensures found { IfOk result (λ found. AreShort (shown_in reports.now)
         → AreConvictions header.now (shown_in reports.now) (map told_of found.items)) }
+    // So a general has one exactly where the exhibits hold a contradiction of his.
+    ensures held { IfOk result (λ found. AreShort (shown_in reports.now)
+        → ConvictsWhereHeld header.now (shown_in reports.now) (map told_of found.items)) }
     // All of it has a spelling.
     ensures lawful { IfOk result (λ found. AreShort (shown_in reports.now)
         → AreEvidence header.now (map told_of found.items)) }
