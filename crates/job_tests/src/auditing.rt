@@ -6,13 +6,15 @@ use crate::scenarios::{
     TWO_HEADS,
 };
 use crate::streams::{Slip, sink_for, source_of};
-use gen_audit::{BundleFault, read_bundle};
+use gen_audit::{BundleFault, WorkerCount, read_bundle};
 use gen_jobs::{JobEnd, JobFault, audit_engine};
 use gen_net::HeaderFault;
 use gen_types::{GeneralNo, GeneralSet, ReadError};
 use gen_walks::{Walk, Walks};
 use std::alloc::Global;
+use std::sync::Wait;
 use std::test::*;
+use std::thread::Threads;
 
 /// A scenario's text, how `audit` ends on the bundle of its run, and the verdict behind the line of the run
 /// id.
@@ -80,28 +82,54 @@ const SCRAPS_ROW: Row<'_> = (
     b"verdict agreed 1\nconvicted 1 by K4\nend\n",
 );
 
-/// Whether `audit` ends so, and writes these lines behind that of the run id.
-pub(crate) fn judges(alloc: Global, input: &[u8], wanted: JobEnd, lines: &[u8]) -> bool {
+/// Whether `audit` by so many workers ends so, and writes these lines behind that of the run id.
+fn judges_by<R: Threads + Wait + Sync>(
+    rt: &R,
+    alloc: Global,
+    workers: Option<WorkerCount>,
+    input: &[u8],
+    wanted: JobEnd,
+    lines: &[u8],
+) -> bool {
+    let Some(workers) = workers else {
+        return false;
+    };
     let mut reader = source_of(input, 65_536, 0, Slip::Fails);
     let mut writer = sink_for(alloc, 65_536, 0, Slip::Fails);
-    let end = audit_engine(alloc, &mut reader, &mut writer);
+    let end = audit_engine(rt, alloc, workers, &mut reader, &mut writer);
     end == wanted && writer.taken.len() >= 69 && &writer.taken[69..] == lines
 }
 
+/// Whether `audit` ends so, by one worker and by three, and writes these lines behind that of the run id.
+pub(crate) fn judges<R: Threads + Wait + Sync>(
+    rt: &R,
+    alloc: Global,
+    input: &[u8],
+    wanted: JobEnd,
+    lines: &[u8],
+) -> bool {
+    judges_by(rt, alloc, WorkerCount::new(1), input, wanted, lines)
+        && judges_by(rt, alloc, WorkerCount::new(3), input, wanted, lines)
+}
+
 /// Whether a row is so.
-fn is_right(alloc: Global, row: &Row<'_>) -> Result<bool, Fail> {
+fn is_right<R: Threads + Wait + Sync>(
+    rt: &R,
+    alloc: Global,
+    row: &Row<'_>,
+) -> Result<bool, Fail> {
     let (text, wanted, lines) = *row;
     let bundle = bundle_of(alloc, text)?;
-    Ok(judges(alloc, &bundle, wanted, lines))
+    Ok(judges(rt, alloc, &bundle, wanted, lines))
 }
 
 #[test]
 fn generals_who_follow_agree(rt: HostRuntime) -> Result<(), Fail> {
     let alloc = rt.alloc();
-    let right = is_right(alloc, &PAIR_ROW)?
-        && is_right(alloc, &PAIR_IN_SLOT_ROW)?
-        && is_right(alloc, &LINE_ROW)?
-        && is_right(alloc, &RING_ROW)?;
+    let right = is_right(&rt, alloc, &PAIR_ROW)?
+        && is_right(&rt, alloc, &PAIR_IN_SLOT_ROW)?
+        && is_right(&rt, alloc, &LINE_ROW)?
+        && is_right(&rt, alloc, &RING_ROW)?;
     assert!(rt; right);
     Ok(())
 }
@@ -109,10 +137,10 @@ fn generals_who_follow_agree(rt: HostRuntime) -> Result<(), Fail> {
 #[test]
 fn under_a_traitor_they_agree(rt: HostRuntime) -> Result<(), Fail> {
     let alloc = rt.alloc();
-    let right = is_right(alloc, &SPLIT_ROW)?
-        && is_right(alloc, &LATE_ROW)?
-        && is_right(alloc, &TWICE_ROW)?
-        && is_right(alloc, &FLOOD_ROW)?;
+    let right = is_right(&rt, alloc, &SPLIT_ROW)?
+        && is_right(&rt, alloc, &LATE_ROW)?
+        && is_right(&rt, alloc, &TWICE_ROW)?
+        && is_right(&rt, alloc, &FLOOD_ROW)?;
     assert!(rt; right);
     Ok(())
 }
@@ -120,14 +148,14 @@ fn under_a_traitor_they_agree(rt: HostRuntime) -> Result<(), Fail> {
 #[test]
 fn a_traitor_of_two_logs_or_of_scraps_is_convicted(rt: HostRuntime) -> Result<(), Fail> {
     let alloc = rt.alloc();
-    let right = is_right(alloc, &TWO_HEADS_ROW)? && is_right(alloc, &SCRAPS_ROW)?;
+    let right = is_right(&rt, alloc, &TWO_HEADS_ROW)? && is_right(&rt, alloc, &SCRAPS_ROW)?;
     assert!(rt; right);
     Ok(())
 }
 
 #[test]
 fn one_traitor_too_many_is_explained(rt: HostRuntime) -> Result<(), Fail> {
-    let right = is_right(rt.alloc(), &ONE_TOO_MANY_ROW)?;
+    let right = is_right(&rt, rt.alloc(), &ONE_TOO_MANY_ROW)?;
     assert!(rt; right);
     Ok(())
 }
@@ -145,19 +173,19 @@ fn cut_with_walk(alloc: Global) -> Result<Vec<u8>, Fail> {
 
 #[test]
 fn generals_who_are_parted_are_not_supported(rt: HostRuntime) -> Result<(), Fail> {
-    let right = is_right(rt.alloc(), &CUT_ROW)?;
+    let right = is_right(&rt, rt.alloc(), &CUT_ROW)?;
     assert!(rt; right);
     let (_, wanted, lines) = CUT_ROW;
     let walked = cut_with_walk(rt.alloc())?;
-    assert!(rt; walked.len() == 82_849 && judges(rt.alloc(), &walked, wanted, lines));
+    assert!(rt; walked.len() == 82_849 && judges(&rt, rt.alloc(), &walked, wanted, lines));
     Ok(())
 }
 
 /// How `audit` ends on this input where it writes nothing.
-fn refusal_of(alloc: Global, input: &[u8]) -> Option<JobEnd> {
+fn refusal_of<R: Threads + Wait + Sync>(rt: &R, alloc: Global, input: &[u8]) -> Option<JobEnd> {
     let mut reader = source_of(input, 65_536, 0, Slip::Fails);
     let mut writer = sink_for(alloc, 65_536, 0, Slip::Fails);
-    let end = audit_engine(alloc, &mut reader, &mut writer);
+    let end = audit_engine(rt, alloc, WorkerCount::one(), &mut reader, &mut writer);
     if writer.taken.is_empty() {
         Some(end)
     } else {
@@ -166,11 +194,11 @@ fn refusal_of(alloc: Global, input: &[u8]) -> Option<JobEnd> {
 }
 
 /// Whether a bundle cut at every 1,009th byte ends too early.
-fn cuts_are_short(alloc: Global, bundle: &[u8]) -> bool {
+fn cuts_are_short<R: Threads + Wait + Sync>(rt: &R, alloc: Global, bundle: &[u8]) -> bool {
     let short = Some(JobEnd::Failed(JobFault::Bundle(BundleFault::Truncated)));
     for cut in 0..66usize {
         let front = bundle.get(..cut.saturating_mul(1_009)).unwrap_or(&[]);
-        if refusal_of(alloc, front) != short {
+        if refusal_of(rt, alloc, front) != short {
             return false;
         }
     }
@@ -193,10 +221,10 @@ fn cut_bundles_are_refused(rt: HostRuntime) -> Result<(), Fail> {
     let alloc = rt.alloc();
     let mut bundle = bundle_of(alloc, PAIR)?;
     assert_eq!(rt; bundle.len(), 66_250);
-    assert!(rt; cuts_are_short(alloc, &bundle) && beginnings_are_short(alloc, &bundle));
+    assert!(rt; cuts_are_short(&rt, alloc, &bundle) && beginnings_are_short(alloc, &bundle));
     bundle.push(0)?;
     let left_over = Some(JobEnd::Failed(JobFault::Bundle(BundleFault::LeftOver)));
-    assert!(rt; refusal_of(alloc, &bundle) == left_over);
+    assert!(rt; refusal_of(&rt, alloc, &bundle) == left_over);
     Ok(())
 }
 
@@ -212,7 +240,7 @@ fn pair_without(alloc: Global, faulty: u16) -> Result<Vec<u8>, Fail> {
 fn nobody_is_left_to_agree(rt: HostRuntime) -> Result<(), Fail> {
     let alloc = rt.alloc();
     let bundle = pair_without(alloc, 3)?;
-    assert!(rt; judges(alloc, &bundle, JobEnd::Negative, b"verdict no\nN11\nend\n"));
+    assert!(rt; judges(&rt, alloc, &bundle, JobEnd::Negative, b"verdict no\nN11\nend\n"));
     Ok(())
 }
 
@@ -234,7 +262,8 @@ const CHANGES: [(usize, u8, BundleFault); 13] = [
 ];
 
 /// Whether a bundle with this byte changed is refused for this fault.
-fn is_refused(
+fn is_refused<R: Threads + Wait + Sync>(
+    rt: &R,
     alloc: Global,
     bundle: &[u8],
     (offset, value, fault): (usize, u8, BundleFault),
@@ -243,7 +272,7 @@ fn is_refused(
     if let Some(byte) = changed.get_mut(offset) {
         *byte = value;
     }
-    Ok(refusal_of(alloc, &changed) == Some(JobEnd::Failed(JobFault::Bundle(fault))))
+    Ok(refusal_of(rt, alloc, &changed) == Some(JobEnd::Failed(JobFault::Bundle(fault))))
 }
 
 #[test]
@@ -251,7 +280,7 @@ fn changed_bytes_are_refused(rt: HostRuntime) -> Result<(), Fail> {
     let alloc = rt.alloc();
     let bundle = bundle_of(alloc, PAIR)?;
     for change in CHANGES {
-        let refused = is_refused(alloc, &bundle, change)?;
+        let refused = is_refused(&rt, alloc, &bundle, change)?;
         assert!(rt; refused, "{}", change.0);
     }
     Ok(())

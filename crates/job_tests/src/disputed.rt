@@ -7,7 +7,8 @@ ghost use Rattle.gen_log.specs.Log.{IsLog};
 use crate::auditing::judges;
 use crate::bundles::{bundle_in, bundle_with, exhibits_of, scenario_of};
 use crate::scenarios::{PAIR, STOLEN, TRIANGLE};
-use gen_audit::{Bundle, audit_plain};
+use crate::workers::Open;
+use gen_audit::{Bundle, WorkerCount, audit};
 use gen_chain::{HeadText, Statement, head_digest, statement_digest};
 use gen_convict::{Evidence, Refutation, check_evidence, is_own_log, refute};
 use gen_jobs::JobEnd;
@@ -18,7 +19,9 @@ use gen_ots::SigRoom;
 use gen_tree::{KeyRing, Signature, general_seed};
 use gen_types::{GeneralNo, GeneralSet, OrderNo, Path, TreeHeight};
 use std::alloc::Global;
+use std::sync::Wait;
 use std::test::*;
+use std::thread::Threads;
 
 /// The length of a signature.
 const SIGNATURE: usize = 16_512;
@@ -106,8 +109,8 @@ fn exhibits_below(
 }
 
 /// Whether the verdict is a no with these findings.
-fn is_no(alloc: Global, bundle: &[u8], lines: &[u8]) -> bool {
-    judges(alloc, bundle, JobEnd::Negative, lines)
+fn is_no<R: Threads + Wait + Sync>(rt: &R, alloc: Global, bundle: &[u8], lines: &[u8]) -> bool {
+    judges(rt, alloc, bundle, JobEnd::Negative, lines)
 }
 
 #[test]
@@ -121,6 +124,7 @@ fn a_commander_must_have_an_order(rt: HostRuntime) -> Result<(), Fail> {
     let bundle = bundle_with(alloc, header, GeneralSet::new(), exhibits)?;
     assert!(rt;
         is_no(
+            &rt,
             alloc,
             &bundle,
             b"verdict no\nN7 general 0 entry 0\nconvicted 0 by K4\nend\n"
@@ -145,6 +149,7 @@ fn an_edge_may_be_disputed(rt: HostRuntime) -> Result<(), Fail> {
     let bundle = disputed_edge(alloc)?;
     assert!(rt;
         is_no(
+            &rt,
             alloc,
             &bundle,
             b"verdict no\nN8 from 0 to 1 round 1 order 1\nend\n"
@@ -221,8 +226,13 @@ pub(crate) fn stolen_bundle(alloc: Global) -> Result<Vec<u8>, Fail> {
 }
 
 /// Whether the verdict is that on the bundle of the stolen key.
-pub(crate) fn is_of_stolen_key(alloc: Global, bundle: &[u8]) -> bool {
+pub(crate) fn is_of_stolen_key<R: Threads + Wait + Sync>(
+    rt: &R,
+    alloc: Global,
+    bundle: &[u8],
+) -> bool {
     is_no(
+        rt,
         alloc,
         bundle,
         b"verdict no\nN9 from 3 to 2 round 2 order 0\nconvicted 0 by K2\nend\n",
@@ -233,7 +243,7 @@ pub(crate) fn is_of_stolen_key(alloc: Global, bundle: &[u8]) -> bool {
 fn a_key_may_be_stolen(rt: HostRuntime) -> Result<(), Fail> {
     let alloc = rt.alloc();
     let bundle = stolen_bundle(alloc)?;
-    assert!(rt; is_of_stolen_key(alloc, &bundle));
+    assert!(rt; is_of_stolen_key(&rt, alloc, &bundle));
     Ok(())
 }
 
@@ -269,8 +279,12 @@ fn answer_of(
 }
 
 /// What the first log of a bundle answers to the first conviction that its audit gives.
-fn answer_to_conviction(alloc: Global, bundle: &Bundle) -> Result<Refutation, Fail> {
-    let judgement = audit_plain(alloc, bundle)?;
+fn answer_to_conviction<R: Threads + Wait + Sync>(
+    rt: &R,
+    alloc: Global,
+    bundle: &Bundle,
+) -> Result<Refutation, Fail> {
+    let judgement = audit(rt, alloc, bundle, WorkerCount::one(), &Open)?;
     let evidence = judgement.convictions.first().ok_or("no conviction")?;
     let exhibit = bundle.exhibits().first().ok_or("no exhibit")?;
     let own = log_in(alloc, bundle.header(), exhibit.log())?;
@@ -291,7 +305,7 @@ fn is_forged(answer: &Refutation) -> bool {
 fn whose_key_was_stolen_answers_by_his_log(rt: HostRuntime) -> Result<(), Fail> {
     let alloc = rt.alloc();
     let bundle = bundle_in(alloc, &stolen_bundle(alloc)?)?;
-    assert!(rt; is_forged(&answer_to_conviction(alloc, &bundle)?));
+    assert!(rt; is_forged(&answer_to_conviction(&rt, alloc, &bundle)?));
     Ok(())
 }
 
@@ -320,6 +334,6 @@ fn a_signature_may_be_bent(rt: HostRuntime) -> Result<(), Fail> {
     exhibits.push(sealed(alloc, &header, 2, bent_front(alloc, last.log())?.as_slice())?)?;
     let bundle = bundle_with(alloc, header, the_thief(), exhibits)?;
     let lines = b"verdict no\nN5 general 2 entry 6\nN9 from 3 to 2 round 2 order 0\nend\n";
-    assert!(rt; is_no(alloc, &bundle, lines));
+    assert!(rt; is_no(&rt, alloc, &bundle, lines));
     Ok(())
 }

@@ -3,7 +3,7 @@
 //! `scenarios` has the texts, `streams` a reader and a writer that slip, and `bundles` makes bundles without
 //! the crate under test. `deciding`, `running`, `auditing`, `accusing` and `disputed` have the jobs,
 //! `over_bytes` the calls without reader and writer, `limits` the largest inputs, `ends` how jobs
-//! end, and `words` the words that ask for jobs.
+//! end, `words` the words that ask for jobs, and `workers` audits by several workers.
 #![tactic(auto)]
 
 #[cfg(test)]
@@ -30,3 +30,5 @@ mod scenarios;
 mod streams;
 #[cfg(test)]
 mod words;
+#[cfg(test)]
+mod workers;

@@ -1,13 +1,13 @@
 //! The jobs at their limits, each by its engine: 16 generals who are all neighbours, 16 rounds and 15 orders; a bundle
 //! of 64 exhibits; and the longest input. A job, or a call below it, that gives up on larger inputs fails here. What
 //! the jobs write was given by another program, in Python.
-ghost use Rattle.gen_jobs.specs.Jobs.{IsInRange};
+ghost use Rattle.gen_jobs.specs.Ranges.{IsInRange};
 
 use crate::bundles::bundle_in;
-use crate::over_bytes::done;
+use crate::over_bytes::{audit_job, done};
 use crate::streams::zeros;
 use gen_async::Machine;
-use gen_audit::{Bundle, write_bundle};
+use gen_audit::{Bundle, WorkerCount, write_bundle};
 use gen_chain::VerifyStore;
 use gen_jobs::{Job, JobEnd, JobFault, read_all};
 use gen_local::{Exhibit, LocalReport, Reading, local_report_with};
@@ -115,7 +115,7 @@ fn the_largest_run_is_agreed(rt: HostRuntime) -> Result<(), Fail> {
     let text = largest(alloc, "")?;
     let bundle = text_of(&rt, alloc, Job::Run { capacity: 1 }, text.as_bytes())?;
     assert_eq!(rt; bundle.len(), 7_715_812);
-    assert!(rt; writes(&rt, alloc, Job::Audit, &bundle, AGREED));
+    assert!(rt; writes(&rt, alloc, audit_job(), &bundle, AGREED));
     assert!(rt; are_clean(alloc, &bundle)?);
     Ok(())
 }
@@ -154,7 +154,7 @@ fn a_traitor_among_sixteen_is_convicted(rt: HostRuntime) -> Result<(), Fail> {
     let text = largest(alloc, TWO_ORDERS)?;
     let bundle = text_of(&rt, alloc, Job::Run { capacity: 1 }, text.as_bytes())?;
     assert_eq!(rt; bundle.len(), 19_623_803);
-    assert!(rt; writes(&rt, alloc, Job::Audit, &bundle, CONVICTED));
+    assert!(rt; writes(&rt, alloc, audit_job(), &bundle, CONVICTED));
     assert!(rt; evidence_holds(&rt, alloc, &bundle, 33_791)?);
     Ok(())
 }
@@ -239,7 +239,8 @@ fn sixty_four_exhibits_are_audited(rt: HostRuntime) -> Result<(), Fail> {
     let alloc = rt.alloc();
     let header = largest_scenario(alloc)?.header().clone()?;
     let bundle = empty_exhibits(alloc, header, 64)?;
-    let (end, text) = done(&rt, alloc, Job::Audit, &bundle);
+    let workers = WorkerCount::new(16).ok_or("no count")?;
+    let (end, text) = done(&rt, alloc, Job::Audit { workers }, &bundle);
     assert!(rt; end == JobEnd::Negative && is_no(&text));
     Ok(())
 }

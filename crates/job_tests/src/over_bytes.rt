@@ -6,7 +6,7 @@ use crate::bundles::bundle_of;
 use crate::deciding::SPLIT_DECISIONS;
 use crate::scenarios::{PAIR_WITHOUT_SEED, SPLIT};
 use crate::streams::{Slip, sink_for, source_of};
-use gen_audit::BundleFault;
+use gen_audit::{BundleFault, WorkerCount};
 use gen_convict::EvidenceFault;
 use gen_jobs::{
     Job, JobEnd, JobFault, Output, accuse, audit, decide, do_job, evidence, run, run_in_pieces,
@@ -35,9 +35,9 @@ fn is_fault(answer: &Result<Output, JobFault>, fault: JobFault) -> bool {
 }
 
 /// The evidence against the commander of the split.
-fn split_evidence(alloc: Global) -> Result<Vec<u8>, Fail> {
+fn split_evidence<R: Threads + Wait + Sync>(rt: &R, alloc: Global) -> Result<Vec<u8>, Fail> {
     let bundle = bundle_of(alloc, SPLIT)?;
-    let (_, evidence) = accused(alloc, &bundle, GeneralNo::at(0));
+    let (_, evidence) = accused(rt, alloc, WorkerCount::one(), &bundle, GeneralNo::at(0));
     Ok(evidence)
 }
 
@@ -89,10 +89,10 @@ fn runs_a_text(rt: HostRuntime) -> Result<(), Fail> {
 #[test]
 fn audits_bytes(rt: HostRuntime) -> Result<(), Fail> {
     let alloc = rt.alloc();
-    let answer = audit(alloc, &bundle_of(alloc, SPLIT)?);
+    let answer = audit(&rt, alloc, WorkerCount::one(), &bundle_of(alloc, SPLIT)?);
     let lines = b"verdict agreed 0\nconvicted 0 by K2\nend\n";
     assert!(rt; matches!(&answer, Ok(o) if !o.negative && o.text.as_slice().ends_with(lines)));
-    assert!(rt; is_fault(&audit(alloc, b""), JobFault::Bundle(BundleFault::Truncated)));
+    assert!(rt; is_fault(&audit(&rt, alloc, WorkerCount::one(), b""), JobFault::Bundle(BundleFault::Truncated)));
     Ok(())
 }
 
@@ -100,16 +100,16 @@ fn audits_bytes(rt: HostRuntime) -> Result<(), Fail> {
 fn accuses_by_bytes(rt: HostRuntime) -> Result<(), Fail> {
     let alloc = rt.alloc();
     let bundle = bundle_of(alloc, SPLIT)?;
-    let wanted = split_evidence(alloc)?;
-    assert!(rt; is_text(&accuse(alloc, GeneralNo::at(0), &bundle), &wanted, false));
-    assert!(rt; is_text(&accuse(alloc, GeneralNo::at(1), &bundle), b"", true));
+    let wanted = split_evidence(&rt, alloc)?;
+    assert!(rt; is_text(&accuse(&rt, alloc, WorkerCount::one(), GeneralNo::at(0), &bundle), &wanted, false));
+    assert!(rt; is_text(&accuse(&rt, alloc, WorkerCount::one(), GeneralNo::at(1), &bundle), b"", true));
     Ok(())
 }
 
 #[test]
 fn checks_bytes(rt: HostRuntime) -> Result<(), Fail> {
     let alloc = rt.alloc();
-    let held = evidence(alloc, &split_evidence(alloc)?);
+    let held = evidence(alloc, &split_evidence(&rt, alloc)?);
     assert!(rt; is_text(&held, b"evidence holds\n", false));
     assert!(rt;
         is_fault(
@@ -145,6 +145,15 @@ fn written<R: Threads + Wait + Sync>(rt: &R, alloc: Global, job: Job, input: &[u
     }
 }
 
+/// An audit by one worker.
+pub(crate) fn audit_job() -> Job
+    ensures { IsInRange result }
+{
+    Job::Audit {
+        workers: WorkerCount::one(),
+    }
+}
+
 #[test]
 fn a_job_is_done_by_its_engine(rt: HostRuntime) -> Result<(), Fail> {
     let alloc = rt.alloc();
@@ -157,7 +166,7 @@ fn a_job_is_done_by_its_engine(rt: HostRuntime) -> Result<(), Fail> {
         written(&rt, alloc, Job::Run { capacity: 2 }, SPLIT),
         Some(bundle.len())
     );
-    assert_eq!(rt; written(&rt, alloc, Job::Audit, &bundle), Some(108));
+    assert_eq!(rt; written(&rt, alloc, audit_job(), &bundle), Some(108));
     Ok(())
 }
 

@@ -126,7 +126,7 @@ fn bundle_of_a_stolen_key(rt: HostRuntime) -> Result<(), Fail> {
     let wanted = stolen_bundle(alloc)?;
     let left = without_last(bundle, wanted.len());
     assert!(rt; end == JobEnd::Done && left.as_slice() == wanted.as_slice());
-    assert!(rt; is_of_stolen_key(alloc, &left));
+    assert!(rt; is_of_stolen_key(&rt, alloc, &left));
     Ok(())
 }
 

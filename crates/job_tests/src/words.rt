@@ -1,5 +1,6 @@
 //! Words, and the jobs that they ask for.
 use clap::error::ErrorKind;
+use gen_audit::WorkerCount;
 use gen_jobs::Job;
 use gen_program::{WordsFault, fault_line, read_words};
 use gen_types::GeneralNo;
@@ -28,6 +29,28 @@ fn runs_take_a_capacity(rt: HostRuntime) {
     }
 }
 
+/// Returns whether the words ask for an audit by so many workers.
+fn asks_workers<'a>(alloc: Global, words: &'a [&'a str], count: usize) -> bool {
+    match WorkerCount::new(count) {
+        Some(workers) => asks(alloc, words, Job::Audit { workers }),
+        None => false,
+    }
+}
+
+#[test]
+fn audits_take_workers(rt: HostRuntime) {
+    let alloc = rt.alloc();
+    let rows: [(&[&str], usize); 4] = [
+        (&["sm_tool", "audit"], 1),
+        (&["sm_tool", "audit", "--workers", "1"], 1),
+        (&["sm_tool", "audit", "--workers=9"], 9),
+        (&["sm_tool", "audit", "--workers", "16"], 16),
+    ];
+    for (words, count) in rows {
+        assert!(rt; asks_workers(alloc, words, count), "{count}");
+    }
+}
+
 #[test]
 fn somebody_is_accused(rt: HostRuntime) {
     let alloc = rt.alloc();
@@ -50,6 +73,7 @@ fn evidence_takes_nothing(rt: HostRuntime) {
 fn is_bad_number(alloc: Global, command: &str, option: &str) -> bool {
     match &read_words(alloc, &["sm_tool", command, option]) {
         Err(WordsFault::BadCapacity) => command == "run",
+        Err(WordsFault::BadWorkers) => command == "audit",
         Err(WordsFault::BadGeneral) => command == "accuse",
         _ => false,
     }
@@ -62,6 +86,8 @@ fn numbers_are_in_their_range(rt: HostRuntime) {
         ("run", "--capacity=0"),
         ("run", "--capacity=17"),
         ("run", "--capacity=256"),
+        ("audit", "--workers=0"),
+        ("audit", "--workers=17"),
         ("accuse", "--general=16"),
         ("accuse", "--general=255"),
     ];
@@ -133,7 +159,7 @@ fn a_bad_number_is_told_in_one_line(rt: HostRuntime) -> Result<(), Fail> {
 #[test]
 fn two_commands_take_nothing(rt: HostRuntime) {
     assert!(rt; asks(rt.alloc(), &["sm_tool", "decide"], Job::Decide));
-    assert!(rt; asks(rt.alloc(), &["sm_tool", "audit"], Job::Audit));
+    assert!(rt; asks_workers(rt.alloc(), &["sm_tool", "audit"], 1));
 }
 
 /// Returns whether the words have a fault of this kind, which is told in one line that points at help.
@@ -153,7 +179,7 @@ const REFUSED: [(&[&str], ErrorKind); 8] = [
     (&["sm_tool", "Decide"], ErrorKind::InvalidSubcommand),
     (&["sm_tool", "decide", "4"], ErrorKind::UnknownArgument),
     (
-        &["sm_tool", "audit", "--workers=1"],
+        &["sm_tool", "run", "--workers=1"],
         ErrorKind::UnknownArgument,
     ),
     (&["sm_tool", "--fast", "decide"], ErrorKind::UnknownArgument),
