@@ -130,7 +130,7 @@ bundle_made h faulty walks xs is up members led shown bytes = record {
   bytes = λ x k. All-contains (λ (y : LogBytes). AreBelow 256 y.bytes) xs x bytes k;
 }
 
-checks_told : (h : RunHeader) (faulty : List ℕ) (walks : List (List ℕ)) (xs : List LogBytes) → are_below h.network.generals faulty ≡ true → walks_check h.network.generals walks ≡ Ok tt → exhibits_check h.network.generals xs ≡ Ok tt
+pub checks_told : (h : RunHeader) (faulty : List ℕ) (walks : List (List ℕ)) (xs : List LogBytes) → are_below h.network.generals faulty ≡ true → walks_check h.network.generals walks ≡ Ok tt → exhibits_check h.network.generals xs ≡ Ok tt
     → bundle_with h faulty walks xs ≡ Ok (record { header = h; faulty = faulty; walks = walks; exhibits = xs })
 unfolding bundle_with
 checks_told h faulty walks xs members led shown = rw (members, led, shown) refl
@@ -143,7 +143,7 @@ walk_passes n before walk is behind =
     let ordered = follow_told n before walk is behind in
     rw (size, known, ordered) refl
 
-walks_pass : (n : ℕ) (walks : List (List ℕ)) → AreListedWalks n walks → walks_check n walks ≡ Ok tt
+pub walks_pass : (n : ℕ) (walks : List (List ℕ)) → AreListedWalks n walks → walks_check n walks ≡ Ok tt
 unfolding walks_check
 walks_pass n walks are =
     let few : nat_le (length walks) most_walks ≡ true = le-leb _ _ are.few in
@@ -158,7 +158,7 @@ exhibit_passes n before x is behind =
     let short : nat_lt (length x.bytes) (2 ^ 32) ≡ true = lt-ltb _ _ is.short in
     rw (known, ordered, short) refl
 
-exhibits_pass : (n : ℕ) (xs : List LogBytes) → AreExhibits n xs → exhibits_check n xs ≡ Ok tt
+pub exhibits_pass : (n : ℕ) (xs : List LogBytes) → AreExhibits n xs → exhibits_check n xs ≡ Ok tt
 unfolding exhibits_check
 exhibits_pass n xs are =
     let few : nat_le (length xs) most_exhibits ≡ true = le-leb _ _ are.few in

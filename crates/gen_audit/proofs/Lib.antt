@@ -17,9 +17,11 @@ pub mod InputEnds
 pub mod Judging
 pub mod Keeping
 pub mod LocalFinds
+pub mod RunBundles
 pub mod Sorted
 pub mod Supporting
 pub mod Telling
 pub mod Verifying
+pub mod WalkParts
 pub mod Walking
 pub mod Worlds

@@ -1,13 +1,17 @@
--- The bundle of a scenario's own run, and that the auditor accepts it.
-use Rattle.std.specs.Prelude.{ℕ, ◌≡◌, List, map}
+-- The bundle of a scenario's own run: that it is one, and that the auditor accepts it.
+use Rattle.std.specs.Prelude.{ℕ, ◌≡◌, ◌⊎◌, List, [], map, Contains, Ok}
 use Rattle.gen_types.specs.Ascending.{IsListOf}
-use Rattle.gen_net.specs.Network.{IsLoyal}
-use Rattle.gen_walks.specs.Walks.{BoundsDiameter}
+use Rattle.gen_net.specs.Network.{Network, IsLoyal}
+use Rattle.gen_walks.specs.BestWalks.{AreBestWalks}
+use Rattle.gen_walks.specs.Walks.{BoundsDiameter, HasShortWalk, IsLeastBadPair}
+use Rattle.gen_log.specs.Fields.{AreBelow}
+use Rattle.gen_log.specs.Writing.{LogBytes}
 use Rattle.gen_scenario.specs.Scenario.{Scenario, IsScenario, header_of, scripted}
 use Rattle.gen_scenario.specs.SignedLaw.{HasNoRaw}
 use Rattle.gen_scenario.specs.Rows.{logs_of_all}
 use Rattle.gen_scenario.specs.WorldLogs as worlds
-use Rattle.gen_audit.specs.Bundle.{Bundle}
+use Rattle.gen_audit.specs.Bundle.{Bundle, IsBundle}
+use Rattle.gen_audit.specs.BundleMaking.{bundle_with}
 use Rattle.gen_audit.specs.Supported.{IsSupported}
 use Rattle.gen_audit.specs.declared.verdicts.Verdict.{Verdict}
 use Rattle.gen_audit.specs.Verdict.{IsVerdict}
@@ -18,6 +22,30 @@ use Rattle.gen_audit.specs.Headline.{IsYes}
 abbrev pub bundle_of : Scenario → List (List ℕ) → Bundle
 bundle_of s walks =
     record { header = header_of s; faulty = scripted s.scripts; walks = walks; exhibits = logs_of_all s }
+
+-- the best walks between the rest, or none where two of them have no short walk
+abbrev pub AreWalksOfRun : Network → List ℕ → List (List ℕ) → Type 0
+AreWalksOfRun net rest walks =
+    AreBestWalks net rest walks
+    ⊎ ((walks ≡ []) × ((a : ℕ) × (b : ℕ) × IsLeastBadPair net rest (HasShortWalk net rest) a b))
+
+-- the walks are those between the generals who have no scripts
+pub record HasWalks (s : Scenario) (walks : List (List ℕ)) : Type 0 where
+  pub rest : List ℕ
+  pub of_rest : IsListOf rest (IsLoyal s.net (scripted s.scripts))
+  pub walks_are : AreWalksOfRun s.net rest walks
+
+-- these parts break no rule of bundles
+abbrev pub WorldMakesBundle : Type 0
+WorldMakesBundle =
+    (s : Scenario) (walks : List (List ℕ)) → IsScenario s → HasWalks s walks
+    → bundle_with (header_of s) (scripted s.scripts) walks (logs_of_all s) ≡ Ok (bundle_of s walks)
+
+-- and where the logs are bytes it is a bundle
+abbrev pub WorldIsBundle : Type 0
+WorldIsBundle =
+    (s : Scenario) (walks : List (List ℕ)) → IsScenario s → HasWalks s walks
+    → ((x : LogBytes) → Contains (logs_of_all s) x → AreBelow 256 x.bytes) → IsBundle (bundle_of s walks)
 
 -- no script has a raw line, somebody has no script, and the walks bound the diameter of those who have none
 pub record IsAcceptable (s : Scenario) (walks : List (List ℕ)) : Type 0 where

@@ -14,7 +14,7 @@ ghost use Rattle.gen_audit.specs.LocalFindings.{ReportsFindLocal};
 ghost use Rattle.gen_audit.specs.Supported.{CleanAgrees, CleanIsSupported, SupportedIsClean};
 ghost use Rattle.gen_audit.specs.Telling.{ReportsTellLogs};
 ghost use Rattle.gen_audit.specs.Verdict.{EachDecidedOnce, OneVerdict, VerdictExists};
-ghost use Rattle.gen_audit.specs.WorldBundle.{ShownAreLogs, WorldIsAccepted, WorldIsSupported};
+ghost use Rattle.gen_audit.specs.WorldBundle.{ShownAreLogs, WorldIsAccepted, WorldIsBundle, WorldIsSupported, WorldMakesBundle};
 
 /// Logs of the rest, each alone one that its general could keep, and no two of which contradict each other,
 /// nor what the rest sent, come from one run (`explained`); and in the logs that the rest keep of a run nothing
@@ -83,6 +83,14 @@ pub fn own_runs_are_accepted()
     ensures supported { WorldIsSupported }
     ensures accepted { WorldIsAccepted }
     ensures shown { ShownAreLogs }
+{}
+
+/// The bundle of a scenario's own run with the walks that the run has: its parts break no rule of bundles (`made`),
+/// whoever is held for faulty and whatever the scripts say, and where the logs are bytes it is a bundle (`bundle`). So
+/// no log of a run is too long to be shown.
+pub fn own_runs_make_bundles()
+    ensures made { WorldMakesBundle }
+    ensures bundle { WorldIsBundle }
 {}
 
 /// What is found against single logs of a bundle is exactly what the reports of the rest's exhibits find.

@@ -17,6 +17,7 @@ mod deciding;
 mod ends;
 mod gates;
 mod jobs;
+pub mod laws;
 mod running;
 mod transfer;
 

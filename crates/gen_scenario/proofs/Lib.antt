@@ -25,6 +25,7 @@ pub mod Same
 pub mod ScriptPairs
 pub mod ScriptSets
 pub mod ScriptsOf
+pub mod ShortLogs
 pub mod Sorting
 pub mod SplitCommander
 pub mod Stepping

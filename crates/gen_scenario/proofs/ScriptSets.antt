@@ -1,14 +1,14 @@
 -- The generals who have scripts, as a set and as a test.
-use Rattle.std.proofs.Common.{◌≡◌, ◌<◌, ◌+◌, ◌⊎◌, inl, inr, ℕ, List, [], ◌∷◌, ◌++◌, refl, sym, ap, subst, ◌∙◌, eqb, ◌||◌, map, take, length, get_or, Contains, AllPairs, arith}
+use Rattle.std.proofs.Common.{◌≡◌, ◌<◌, ◌+◌, ◌⊎◌, inl, inr, ℕ, List, [], ◌∷◌, ◌++◌, refl, sym, ap, subst, ◌∙◌, eqb, ◌||◌, map, take, length, get_or, Contains, All, AllPairs, arith}
 use Rattle.std.specs.List.{list_any}
 use Rattle.std.proofs.lemmas.List.{take_more, map-append}
 use Rattle.std.proofs.lemmas.List.Elements.{All-map, Contains-append_left, Contains-push, Contains-push_cases}
 use Rattle.std.proofs.lemmas.List.Kept.{AllPairs-cons}
 use Rattle.gen_types.specs.Ascending.{IsListOf}
 use Rattle.gen_types.specs.Ends.{is_among}
-use Rattle.gen_types.proofs.Lists.{AllPairs_head, AllPairs_tail, ascending_one}
+use Rattle.gen_types.proofs.Lists.{All_of, AllPairs_head, AllPairs_tail, Contains_mapped, ascending_one}
 use Rattle.gen_script.specs.Script.{Script}
-use Rattle.gen_scenario.specs.Scenario.{scripted}
+use Rattle.gen_scenario.specs.Scenario.{IsScenario, Scenario, scripted}
 
 pub scripted_test : (scripts : List Script) (g : ℕ) → list_any (λ (script : Script). eqb script.general g) scripts ≡ is_among (scripted scripts) g
 scripted_test [] g = refl
@@ -20,6 +20,15 @@ ascending_mapped {X} f (x ∷ xs) up =
     AllPairs-cons (λ v w. v < w) (f x) (map f xs)
     (All-map (λ v. f x < v) f xs (AllPairs_head (λ (y z : X). f y < f z) x xs up))
     (ascending_mapped f xs (AllPairs_tail (λ (y z : X). f y < f z) x xs up))
+
+-- they ascend, and are generals of the network
+pub scripted_up : (s : Scenario) → IsScenario s → AllPairs (λ v w. v < w) (scripted s.scripts)
+scripted_up s ok = ascending_mapped (λ (script : Script). script.general) s.scripts ok.ascending
+
+pub scripted_below : (s : Scenario) → IsScenario s → All (λ v. v < s.net.generals) (scripted s.scripts)
+scripted_below s ok = All_of (λ v. v < s.net.generals) (scripted s.scripts) (λ v h.
+    let k = Contains_mapped (λ (script : Script). script.general) s.scripts v h in
+    omega (arith, ok.known k.0 k.1, k.2))
 
 -- one script more
 pub set_of_more : (old new : List ℕ) (scripts : List Script) (i g : ℕ) (d : Script) → i < length scripts → g ≡ (get_or scripts i d).general → IsListOf old (Contains (scripted (take i scripts))) → IsListOf new (λ v. Contains old v ⊎ (v ≡ g)) → IsListOf new (Contains (scripted (take (i + 1) scripts)))

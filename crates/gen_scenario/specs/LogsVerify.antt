@@ -1,6 +1,6 @@
--- Every log of a scenario verifies, those of traitors too, and their second ones.
-use Rattle.std.specs.Prelude.{ℕ, ◌<◌, Contains}
-use Rattle.gen_log.specs.Log.{RunLog}
+-- Every log of a scenario verifies, those of traitors too, and their second ones; and none is too long for a bundle.
+use Rattle.std.specs.Prelude.{ℕ, ◌<◌, ◌^◌, Contains, length}
+use Rattle.gen_log.specs.Log.{RunLog, log_spelling}
 use Rattle.gen_log.specs.Verifying.{LogVerifies}
 use Rattle.gen_scenario.specs.Scenario.{Scenario, IsScenario, header_of}
 use Rattle.gen_scenario.specs.WorldLogs.{logs_of}
@@ -10,3 +10,9 @@ abbrev pub AllVerify : Type 0
 AllVerify =
     (s : Scenario) → IsScenario s → (g : ℕ) → g < s.net.generals
     → (log : RunLog) → Contains (logs_of s g) log → LogVerifies (header_of s) g log
+
+-- each log that a general has is so short that its length is a number of four bytes
+abbrev pub AllShort : Type 0
+AllShort =
+    (s : Scenario) → IsScenario s → (g : ℕ) → g < s.net.generals
+    → (log : RunLog) → Contains (logs_of s g) log → length (log_spelling log) < 2 ^ 32

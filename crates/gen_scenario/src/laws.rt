@@ -5,7 +5,7 @@ ghost use Rattle.gen_scenario.specs.Counted.{CountsThese};
 ghost use Rattle.gen_scenario.specs.Deciding.{DecisionsHold, PlainDecisions, OneOutcome};
 ghost use Rattle.gen_scenario.specs.Derivables.{ProlongedByFaulty, SignedByFaulty};
 ghost use Rattle.gen_scenario.specs.HeardLaws.{CountedAreChains, HeardInRound, HeardIsKnown};
-ghost use Rattle.gen_scenario.specs.LogsVerify.{AllVerify};
+ghost use Rattle.gen_scenario.specs.LogsVerify.{AllShort, AllVerify};
 ghost use Rattle.gen_scenario.specs.RoundsKept.{FrameKept, SendEntriesKept, SignEntriesKept, SignsKept};
 ghost use Rattle.gen_scenario.specs.SignedLaw.{NoRawIsSigned, TheoremHoldsOfScenarios};
 ghost use Rattle.gen_scenario.specs.Steps.{MessagesCount, OneRoundMore, FrameAfter, OneSignerMore, BegunByCommander};
@@ -143,6 +143,11 @@ pub fn followers_logs()
 /// Each log of each general, a traitor's and his second one too, is a log of this run whose signatures and head verify.
 pub fn logs_verify()
     ensures { AllVerify }
+{}
+
+/// Each log of each general, a traitor's and his second one too, has fewer than 2 to the power of 32 bytes.
+pub fn logs_are_short()
+    ensures { AllShort }
 {}
 
 /// What a general knows of his own is enough: with keys that give his own signatures, and if he has a script those of all who
