@@ -36,10 +36,22 @@ fn tells(alloc: Global, evidence: &[u8], wanted: JobEnd, text: &[u8]) -> bool {
 #[test]
 fn the_commander_is_convicted(rt: HostRuntime) -> Result<(), Fail> {
     let alloc = rt.alloc();
-    let (end, evidence) = accused(&rt, alloc, WorkerCount::one(), &bundle_of(alloc, SPLIT)?, GeneralNo::at(0));
+    let (end, evidence) = accused(
+        &rt,
+        alloc,
+        WorkerCount::one(),
+        &bundle_of(alloc, SPLIT)?,
+        GeneralNo::at(0),
+    );
     assert!(rt; end == JobEnd::Done && evidence.len() == 33_141);
     let three = WorkerCount::new(3).ok_or("no count")?;
-    let by_three = accused(&rt, alloc, three, &bundle_of(alloc, SPLIT)?, GeneralNo::at(0));
+    let by_three = accused(
+        &rt,
+        alloc,
+        three,
+        &bundle_of(alloc, SPLIT)?,
+        GeneralNo::at(0),
+    );
     assert!(rt; by_three.0 == JobEnd::Done && by_three.1.as_slice() == evidence.as_slice());
     Ok(())
 }
@@ -75,7 +87,13 @@ fn a_cut_bundle_accuses_nobody(rt: HostRuntime) -> Result<(), Fail> {
 #[test]
 fn the_evidence_holds(rt: HostRuntime) -> Result<(), Fail> {
     let alloc = rt.alloc();
-    let (_, evidence) = accused(&rt, alloc, WorkerCount::one(), &bundle_of(alloc, SPLIT)?, GeneralNo::at(0));
+    let (_, evidence) = accused(
+        &rt,
+        alloc,
+        WorkerCount::one(),
+        &bundle_of(alloc, SPLIT)?,
+        GeneralNo::at(0),
+    );
     assert!(rt; tells(alloc, &evidence, JobEnd::Done, b"evidence holds\n"));
     Ok(())
 }
@@ -83,7 +101,13 @@ fn the_evidence_holds(rt: HostRuntime) -> Result<(), Fail> {
 #[test]
 fn bent_evidence_fails(rt: HostRuntime) -> Result<(), Fail> {
     let alloc = rt.alloc();
-    let (_, mut evidence) = accused(&rt, alloc, WorkerCount::one(), &bundle_of(alloc, SPLIT)?, GeneralNo::at(0));
+    let (_, mut evidence) = accused(
+        &rt,
+        alloc,
+        WorkerCount::one(),
+        &bundle_of(alloc, SPLIT)?,
+        GeneralNo::at(0),
+    );
     if let Some(last) = evidence.last_mut() {
         *last ^= 128;
     }
@@ -94,7 +118,13 @@ fn bent_evidence_fails(rt: HostRuntime) -> Result<(), Fail> {
 #[test]
 fn cut_evidence_is_refused(rt: HostRuntime) -> Result<(), Fail> {
     let alloc = rt.alloc();
-    let (_, mut evidence) = accused(&rt, alloc, WorkerCount::one(), &bundle_of(alloc, SPLIT)?, GeneralNo::at(0));
+    let (_, mut evidence) = accused(
+        &rt,
+        alloc,
+        WorkerCount::one(),
+        &bundle_of(alloc, SPLIT)?,
+        GeneralNo::at(0),
+    );
     let _ = evidence.pop();
     let wanted = JobEnd::Failed(JobFault::Evidence(EvidenceFault::Truncated));
     assert!(rt; tells(alloc, &evidence, wanted, b""));

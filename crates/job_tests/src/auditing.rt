@@ -113,11 +113,7 @@ pub(crate) fn judges<R: Threads + Wait + Sync>(
 }
 
 /// Whether a row is so.
-fn is_right<R: Threads + Wait + Sync>(
-    rt: &R,
-    alloc: Global,
-    row: &Row<'_>,
-) -> Result<bool, Fail> {
+fn is_right<R: Threads + Wait + Sync>(rt: &R, alloc: Global, row: &Row<'_>) -> Result<bool, Fail> {
     let (text, wanted, lines) = *row;
     let bundle = bundle_of(alloc, text)?;
     Ok(judges(rt, alloc, &bundle, wanted, lines))
@@ -240,7 +236,15 @@ fn pair_without(alloc: Global, faulty: u16) -> Result<Vec<u8>, Fail> {
 fn nobody_is_left_to_agree(rt: HostRuntime) -> Result<(), Fail> {
     let alloc = rt.alloc();
     let bundle = pair_without(alloc, 3)?;
-    assert!(rt; judges(&rt, alloc, &bundle, JobEnd::Negative, b"verdict no\nN11\nend\n"));
+    assert!(rt;
+        judges(
+            &rt,
+            alloc,
+            &bundle,
+            JobEnd::Negative,
+            b"verdict no\nN11\nend\n"
+        )
+    );
     Ok(())
 }
 

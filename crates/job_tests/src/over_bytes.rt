@@ -92,7 +92,12 @@ fn audits_bytes(rt: HostRuntime) -> Result<(), Fail> {
     let answer = audit(&rt, alloc, WorkerCount::one(), &bundle_of(alloc, SPLIT)?);
     let lines = b"verdict agreed 0\nconvicted 0 by K2\nend\n";
     assert!(rt; matches!(&answer, Ok(o) if !o.negative && o.text.as_slice().ends_with(lines)));
-    assert!(rt; is_fault(&audit(&rt, alloc, WorkerCount::one(), b""), JobFault::Bundle(BundleFault::Truncated)));
+    assert!(rt;
+        is_fault(
+            &audit(&rt, alloc, WorkerCount::one(), b""),
+            JobFault::Bundle(BundleFault::Truncated)
+        )
+    );
     Ok(())
 }
 
@@ -101,8 +106,20 @@ fn accuses_by_bytes(rt: HostRuntime) -> Result<(), Fail> {
     let alloc = rt.alloc();
     let bundle = bundle_of(alloc, SPLIT)?;
     let wanted = split_evidence(&rt, alloc)?;
-    assert!(rt; is_text(&accuse(&rt, alloc, WorkerCount::one(), GeneralNo::at(0), &bundle), &wanted, false));
-    assert!(rt; is_text(&accuse(&rt, alloc, WorkerCount::one(), GeneralNo::at(1), &bundle), b"", true));
+    assert!(rt;
+        is_text(
+            &accuse(&rt, alloc, WorkerCount::one(), GeneralNo::at(0), &bundle),
+            &wanted,
+            false
+        )
+    );
+    assert!(rt;
+        is_text(
+            &accuse(&rt, alloc, WorkerCount::one(), GeneralNo::at(1), &bundle),
+            b"",
+            true
+        )
+    );
     Ok(())
 }
 

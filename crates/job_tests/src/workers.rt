@@ -75,7 +75,11 @@ fn text_by<R: Threads + Wait + Sync, G: JobGate + Sync>(
 }
 
 /// Whether each number of workers gives the text that one gives.
-fn are_alike<R: Threads + Wait + Sync>(rt: &R, alloc: Global, bundle: &Bundle) -> Result<bool, Fail> {
+fn are_alike<R: Threads + Wait + Sync>(
+    rt: &R,
+    alloc: Global,
+    bundle: &Bundle,
+) -> Result<bool, Fail> {
     let wanted = text_by(rt, alloc, bundle, 1, &Open)?;
     let mut alike = true;
     for workers in [2usize, 5, 16] {
@@ -110,7 +114,10 @@ fn pair_with(alloc: Global, shown: usize) -> Result<Bundle, Fail> {
     let mut exhibits = exhibits_of(alloc, &scenario)?;
     exhibits.truncate(shown);
     let header = scenario.header().clone()?;
-    bundle_in(alloc, &bundle_with(alloc, header, GeneralSet::new(), exhibits)?)
+    bundle_in(
+        alloc,
+        &bundle_with(alloc, header, GeneralSet::new(), exhibits)?,
+    )
 }
 
 #[test]
@@ -125,7 +132,11 @@ fn workers_may_have_nothing_to_do(rt: HostRuntime) -> Result<(), Fail> {
 fn workers_are_counted_from_one_to_sixteen(rt: HostRuntime) {
     for count in 0usize..20 {
         let made = WorkerCount::new(count).map(|workers| workers.get());
-        let wanted = if (1..=16).contains(&count) { Some(count) } else { None };
+        let wanted = if (1..=16).contains(&count) {
+            Some(count)
+        } else {
+            None
+        };
         assert!(rt; made == wanted);
     }
 }
