@@ -138,9 +138,6 @@ unfolding text_at text_of_kind statement_text_at head_text_at
 text_again h general (OfStatement s) rest is = rw (statement_again h s rest is) refl
 text_again h general (OfHead head) rest is = rw (head_again h general head rest is) refl
 
-pub texts_read : (h : RunHeader) (general : ℕ) → Reads (text_at h.network general) text_spelling (IsTextFor h general)
-texts_read h general = record { takes = text_takes h general; again = text_again h general }
-
 -- ---- signatures
 
 pub signature_takes : (h : RunHeader) (bytes : List ℕ) (x : List ℕ × List ℕ) → IsBytes bytes → signature_at h bytes ≡ Ok x → Takes bytes x.0 x.1 × IsSignature h x.0

@@ -82,21 +82,7 @@ due_has round (Some y) x e = let r = due_cases round x y e in (ap (λ z. Some z)
 pub due_signed : (round : ℕ) (f : Option Heard) (x : Heard) → due_of round f ≡ Some x → option_map (λ y. round_of y + 1) f ≡ Some round
 due_signed round f x e = let r = due_has round f x e in rw (r.0) (ap (λ n. Some n) r.1)
 
--- where something is due it is signed
-pub due_relayed : (k : Keys) (me round : ℕ) (f : Option Heard) (x : Heard) → due_of round f ≡ Some x → relayed k me round f ≡ lengthened k x.chain (me ∷ []) ∷ []
-due_relayed k me round f x e =
-    let r = due_has round f x e in
-    let now : eqb (round_of x + 1) round ≡ true = eq-eqb (round_of x + 1) round r.1 in
-    rw (r.0, now) refl
-
-pub none_relayed : (k : Keys) (me round : ℕ) (f : Option Heard) → due_of round f ≡ None → relayed k me round f ≡ []
-none_relayed k me round None e = refl
-none_relayed k me round (Some y) e = elim (bool_cases (eqb (round_of y + 1) round)) [
-  | inl now ↦ let some : Some y ≡ None = sym (rw now refl) ∙ e in absurd cc
-  | inr other ↦ rw other refl
-]
-
--- and nothing else is
+-- where nothing is due, nothing is signed
 pub none_signed : (round : ℕ) (f : Option Heard) → due_of round f ≡ None → option_map (λ y. round_of y + 1) f ≡ Some round → ⊥
 none_signed round None e s = absurd cc
 none_signed round (Some y) e s =
@@ -230,14 +216,6 @@ taken_one h heard round old new order o same signed taken leaf = (
   λ k. elim k [ inl old ↦ (taken leaf).1 (inl old) | inr p ↦ (taken leaf).1 (inr (p.0 ∙ ap (leaf_of_order h) (sym same))) ],
 )
 
--- and where none was, since nothing is due
-pub taken_none : (h : RunHeader) (heard : List Heard) (round : ℕ) (old : List ℕ) (order : ℕ) → due_of round (first_of order heard) ≡ None
-    → (leaf : ℕ) → Contains old leaf ↔ (Contains old leaf ⊎ IsNext h heard round order leaf)
-taken_none h heard round old order e leaf = (
-  λ k. inl k,
-  λ k. elim k [ inl o ↦ o | inr p ↦ absurd (none_signed round (first_of order heard) e p.1) ],
-)
-
 -- ---- the commander
 
 -- he signs his order in round 1 alone
@@ -256,12 +234,6 @@ own_leaf h own leaf known = (
   λ e. record { order = own; known = known; leaf_is = e; signed = own_signed own [] },
 )
 
-pub own_other : (h : RunHeader) (own round : ℕ) (old : List ℕ) → (round ≡ 1 → ⊥) → (leaf : ℕ) → Contains old leaf ↔ (Contains old leaf ⊎ IsSignedWith h (Some own) [] round leaf)
-own_other h own round old other leaf = (
-  λ k. inl k,
-  λ k. elim k [ inl o ↦ o | inr s ↦ absurd (other (own_when own s.order round [] s.signed).1) ],
-)
-
 pub own_taken : (h : RunHeader) (own : ℕ) (old new : List ℕ) → own < h.network.orders → ((leaf : ℕ) → Contains new leaf ↔ (Contains old leaf ⊎ (leaf ≡ leaf_of_order h own)))
     → (leaf : ℕ) → Contains new leaf ↔ (Contains old leaf ⊎ IsSignedWith h (Some own) [] 1 leaf)
 own_taken h own old new known taken leaf = (
@@ -271,13 +243,6 @@ own_taken h own old new known taken leaf = (
 
 pub own_chain : (k : Keys) (own : ℕ) (round : ℕ) → round ≡ 1 → signed_in k 0 (Some own) [] round ≡ made k own (0 ∷ []) ∷ []
 own_chain k own round first = rw first refl
-
-pub no_own_chain : (k : Keys) (own round : ℕ) → (round ≡ 1 → ⊥) → signed_in k 0 (Some own) [] round ≡ []
-no_own_chain k own round other = elim (bool_cases (eqb round 1)) [ inl t ↦ absurd (other (eqb-true round 1 t)) | inr f ↦ rw f refl ]
-
-pub if_ok : {A E : Type 0} (P Q : A → Type 0) (r : Result A E) → ((x : A) → P x → Q x) → IfOk r P → IfOk r Q
-if_ok P Q (Ok x) f h = f x h
-if_ok P Q (Err e) f h = h
 
 pub on_ok : {A E : Type 0} (P Q : Type 0) (r : Result A E) → (P → Q) → OnOk r P → OnOk r Q
 on_ok P Q (Ok x) f h = f h

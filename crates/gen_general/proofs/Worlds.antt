@@ -172,9 +172,6 @@ pub senders_all : (s : Scenario) (k : ℕ) → rows_first s k s.net.generals ≡
 unfolding rows_first rows_in
 senders_all s k = refl
 
-pub rows_behind : (s : Scenario) (k : ℕ) (old new : List FrameRow) → new ≡ old ++ rows_in s (k + 1) → drop (length old) new ≡ rows_in s (k + 1)
-rows_behind s k old new e = ap (drop (length old)) e ∙ drop-append_seam old (rows_in s (k + 1))
-
 -- ---- the start
 
 pub pushed_each : {X : Type 0} (P : ℕ → X → Type 0) (old new : List X) (n : ℕ) (q : X) → length old ≡ n → new ≡ old ++ q ∷ []
@@ -216,15 +213,8 @@ rows_all s n xs stop e = e ∙ ap (λ k. flat_map (rows_in s) (range_with_len 1 
 pub decides_as_he : DecidesAsHe
 decides_as_he s g p is heard = rw (is.header, is.me, is.own, heard) refl
 
-pub decided_at : (s : Scenario) (p : Participant) (d : Decision) → StandsAfter s (rounds s.net) p.known.me p → d ≡ decided_by p.known.header.network p.known.me p.known.own p.heard
-    → d ≡ decision_of s p.known.me
-decided_at s p d at e = e ∙ decides_as_he s p.known.me p at.part at.heard
-
 pub decided_more : (s : Scenario) (n : ℕ) (old new : List Decision) → old ≡ decided_of s (range_with_len 0 n) → new ≡ old ++ decided_of s (n ∷ []) → new ≡ decided_of s (range_with_len 0 (n + 1))
 decided_more s n old new before e =
     let follows : ℕ → Bool = λ g. not (has_script s g) in
     e ∙ ap (λ (xs : List Decision). xs ++ decided_of s (n ∷ [])) before
     ∙ sym (ap (decided_of s) (one_more n) ∙ ap (map (decision_of s)) (filter-append follows (range_with_len 0 n) (n ∷ [])) ∙ map-append (decision_of s) (filter follows (range_with_len 0 n)) (filter follows (n ∷ [])))
-
-pub decided_all : (s : Scenario) (n : ℕ) (out : List Decision) → n ≡ s.net.generals → out ≡ decided_of s (range_with_len 0 n) → out ≡ decisions_of s
-decided_all s n out same e = e ∙ ap (λ k. decided_of s (range_with_len 0 k)) same

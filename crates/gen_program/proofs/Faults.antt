@@ -21,17 +21,6 @@ pub tool_is_free : is_simple_and_free tool ≡ true
 unfolding clap_on_literals
 tool_is_free = refl
 
--- where the command line has no fault, an error is want of memory
-pub is_memory : (kinds : Kinds) (error : Error) (fault : WordsFault) → HasKind kinds error → fault_from error fault → kinds ≡ [] → fault ≡ Memory
-is_memory [] error Memory has from none = refl
-is_memory [] error NotText has from none = absurd from
-is_memory [] error NoCommand has from none = absurd from
-is_memory [] error BadCapacity has from none = absurd from
-is_memory [] error BadGeneral has from none = absurd from
-is_memory [] error (Words e) (inl memory) from none = absurd (from.1 memory)
-is_memory [] error (Words e) (inr among) from none = absurd among
-is_memory (k ∷ ks) error fault has from none = absurd cc
-
 -- words that ask for a job have no fault
 pub without : (kinds : Kinds) (job : Option Job) → IsSome (without_fault kinds job) → kinds ≡ []
 without [] job asks = refl

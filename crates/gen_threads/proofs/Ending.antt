@@ -9,7 +9,7 @@ use Rattle.gen_scenario.specs.Scenario.{Scenario}
 use Rattle.gen_scenario.specs.SignedWorld.{neighbours_of}
 use Rattle.gen_threads.specs.declared.edges.Edges.{Edges}
 use Rattle.gen_threads.specs.Edges.{ArePassesIn, ArePassesOf, HaveCarried, HasPut, HasTakenBy, IsPutOn, IsTakeBy}
-use Rattle.gen_threads.specs.Turns.{AreOver, AreOverUntil, IsPutOver, IsTakeOver, place_of_next}
+use Rattle.gen_threads.specs.Turns.{AreOver, AreOverUntil, IsPutOver, IsTakeOver, index_of_next}
 use Rattle.gen_threads.proofs.Zips.{zip_weaker}
 
 pub carried_passes : (edges : Edges) (s : Scenario) (n g : ℕ) (ps : List PutPass) (ts : List TakePass) → HaveCarried edges s n g ps ts → ArePassesOf edges s g ps ts
@@ -40,11 +40,11 @@ carried_over edges s n g ps ts is = record {
 }
 
 -- and where all neighbours were looked at
-pub all_over : (edges : Edges) (net : Network) (g r n place : ℕ) (ps : List PutPass) (ts : List TakePass) → ArePassesIn edges net g ps ts → n ≡ net.generals → place ≡ place_of_next net g n → AreOverUntil r place ps ts → AreOver r ps ts
-all_over edges net g r n place ps ts are stop here over =
+pub all_over : (edges : Edges) (net : Network) (g r n index : ℕ) (ps : List PutPass) (ts : List TakePass) → ArePassesIn edges net g ps ts → n ≡ net.generals → index ≡ index_of_next net g n → AreOverUntil r index ps ts → AreOver r ps ts
+all_over edges net g r n index ps ts are stop here over =
     let a = zip_long (IsPutOn edges g) (neighbours_of net g) ps are.putting in
     let b = zip_long (IsTakeBy edges g) (neighbours_of net g) ts are.taking in
-    let whole : place ≡ length (neighbours_of net g) = here ∙ ap (place_of_next net g) stop in
+    let whole : index ≡ length (neighbours_of net g) = here ∙ ap (index_of_next net g) stop in
     record {
       putting = λ k d low. over.putting k d (omega (arith, low, a, whole));
       taking = λ k d low. over.taking k d (omega (arith, low, b, whole));

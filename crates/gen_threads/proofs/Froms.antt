@@ -1,4 +1,4 @@
--- Facts of each element of a list, by its place from a number on.
+-- Facts of each element of a list, by its index from a number on.
 use Rattle.std.proofs.Common.{◌≡◌, ℕ, zero, suc, ◌+◌, ◌<◌, List, [], ◌∷◌, ◌++◌, length, get_or, sym, refl, subst, arith}
 use Rattle.gen_scenario.specs.AllAre.{AllAre}
 

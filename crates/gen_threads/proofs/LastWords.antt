@@ -15,7 +15,7 @@ use Rattle.gen_threads.specs.declared.ends.RunFault.TheVariants.{Memory, Thread,
 use Rattle.gen_threads.specs.Faults.{HasLastWord, IsOwnFault, IsAnsweredFault, answered_fault}
 
 module _ {X : Type 0} (P : X → Type 0) (xs : List X) (i : ℕ) (low : i < length xs) where
-  -- what is written to a place is one of the list
+  -- what is written at an index is one of the list
   pub any_here : (q : X) → P q → Any P (slice_set xs i q)
   any_here q holds =
       let long : length (slice_set xs i q) ≡ length xs = length-set xs i q in
@@ -36,13 +36,3 @@ module _ {X : Type 0} (P : X → Type 0) (xs : List X) (i : ℕ) (low : i < leng
 -- a pass that takes the last word has it
 pub last_taken : (x : Frame) (p q : TakePass) → carried x ≡ gone → TakesNext (take_view p) x (take_view q) → HasLastWord q
 last_taken x p q is took = ap (λ (v : PassView). v.gone_taken) (took.1 ∙ ap (after_take (take_view p)) is)
-
-pub own_kept : (old new : List TakePass) (fault : RunFault) → (Any HasLastWord old → Any HasLastWord new) → IsOwnFault old fault → IsOwnFault new fault
-own_kept old new Memory kept own = tt
-own_kept old new Thread kept own = own
-own_kept old new Gone kept own = kept own
-
-pub is_answered : (fault : RunFault) → IsAnsweredFault (answered_fault fault)
-is_answered Memory = tt
-is_answered Thread = tt
-is_answered Gone = tt

@@ -58,9 +58,9 @@ edge_kept x old new a b e more h = elim (bool_cases (nat_lt b old.generals)) [
 ]
 
 edge_new : (x : Edge) (old new : Edges) (a b : ℕ) → HasMore (Some x) old new → b < old.generals → length old.table.items ≡ a * old.generals + b → edge_at new a b ≡ Some x
-edge_new x old new a b more low place =
+edge_new x old new a b more low cell =
     let t : nat_lt b old.generals ≡ true = lt-ltb b old.generals low in
-    let is : slice_index_or (old.table.items ++ Some x ∷ []) (a * old.generals + b) None ≡ Some x = ap (λ k. slice_index_or (old.table.items ++ Some x ∷ []) k None) (sym place) ∙ at_end old.table.items (Some x) in
+    let is : slice_index_or (old.table.items ++ Some x ∷ []) (a * old.generals + b) None ≡ Some x = ap (λ k. slice_index_or (old.table.items ++ Some x ∷ []) k None) (sym cell) ∙ at_end old.table.items (Some x) in
     rw (more.generals, more.table, t) is
 
 put_kept : (x : Option Edge) (old new : Edges) (s : Scenario) (a b : ℕ) (p : PutPass) → HasMore x old new → HasPut old s 0 a b p → HasPut new s 0 a b p
@@ -122,7 +122,7 @@ takes_before from to = let f : nat_lt to to ≡ false = le-ltb to to (omega arit
 takes_after : (from to : ℕ) → takes_below from (to + 1) to ≡ from + 1
 takes_after from to = let t : nat_lt to (to + 1) ≡ true = lt-ltb to (to + 1) (omega arith) in rw t refl
 
--- ---- a place of the table
+-- ---- a cell of the table
 
 -- where there is no edge
 near_far : (s : Scenario) (g h : ℕ) → list_any (joins g h) s.net.edges ≡ false → near_of s.net g (range_with_len 0 (h + 1)) ≡ near_of s.net g (range_with_len 0 h)
@@ -137,8 +137,8 @@ counted : (x : Option Edge) (old new : Edges) (k : ℕ) → HasMore x old new �
 counted x old new k more count = ap length more.table ∙ length-append old.table.items (x ∷ []) ∙ ap (λ n. n + 1) count
 
 module _ (s : Scenario) (from to : ℕ) (old new : Edges) (all : List Passes) where
-  place_next : (n : ℕ) → from * n + to + 1 ≡ from * n + (to + 1)
-  place_next n = omega arith
+  cell_next : (n : ℕ) → from * n + to + 1 ≡ from * n + (to + 1)
+  cell_next n = omega arith
 
   far_puts : HasMore None old new → list_any (joins from to) s.net.edges ≡ false → AreMade s from to old all → (g : ℕ) (d : Passes) → g < s.net.generals
       → ArePutsBelow new s g (puts_below s.net.generals from (to + 1) g) (slice_index_or all g d).puts.items
@@ -169,7 +169,7 @@ module _ (s : Scenario) (from to : ℕ) (old new : Edges) (all : List Passes) wh
   pub made_far : HasMore None old new → list_any (joins from to) s.net.edges ≡ false → list_any (joins to from) s.net.edges ≡ false → AreMade s from to old all → AreMade s from (to + 1) new all
   made_far more far back made = record {
     generals = more.generals ∙ made.generals;
-    count = counted None old new (from * s.net.generals + to) more made.count ∙ place_next s.net.generals;
+    count = counted None old new (from * s.net.generals + to) more made.count ∙ cell_next s.net.generals;
     passes = made.passes;
     puts = far_puts more far made;
     takes = far_takes more back made;
@@ -235,15 +235,15 @@ module _ (s : Scenario) (from to : ℕ) (old new : Edges) (all mid next : List P
 
 pub new_put : (s : Scenario) (a b : ℕ) (old new : Edges) (edge : Edge) (put : PutPass) → HasMore (Some edge) old new → b < old.generals → length old.table.items ≡ a * old.generals + b
     → IsPutPassOf edge put → put_view put ≡ putter (edge_frames s a b) → HasPut new s 0 a b put
-new_put s a b old new edge put more low place of_edge view = record {
-  on = record { edge = edge; there = edge_new edge old new a b more low place; of_edge = of_edge };
+new_put s a b old new edge put more low cell of_edge view = record {
+  on = record { edge = edge; there = edge_new edge old new a b more low cell; of_edge = of_edge };
   view = view;
 }
 
 pub new_take : (s : Scenario) (a b : ℕ) (old new : Edges) (edge : Edge) (take : TakePass) → HasMore (Some edge) old new → b < old.generals → length old.table.items ≡ a * old.generals + b
     → IsTakePassOf edge take → take_view take ≡ taker (edge_frames s a b) → HasTakenBy new s 0 b a take
-new_take s a b old new edge take more low place of_edge view = record {
-  on = record { edge = edge; there = edge_new edge old new a b more low place; of_edge = of_edge };
+new_take s a b old new edge take more low cell of_edge view = record {
+  on = record { edge = edge; there = edge_new edge old new a b more low cell; of_edge = of_edge };
   view = view;
 }
 

@@ -41,9 +41,9 @@ near_cut net g h near known =
       above = λ x m. omega (arith, (filter_range_has p (h + 1) rest x m).0);
     }
 
--- behind a neighbour one place more, and behind another general none
-pub place_behind : (net : Network) (g h : ℕ) → list_any (joins g h) net.edges ≡ true → length (near_of net g (range_with_len 0 h)) + 1 ≡ length (near_of net g (range_with_len 0 (h + 1)))
-place_behind net g h near =
+-- behind a neighbour the index is one more, and behind another general the same
+pub index_behind : (net : Network) (g h : ℕ) → list_any (joins g h) net.edges ≡ true → length (near_of net g (range_with_len 0 h)) + 1 ≡ length (near_of net g (range_with_len 0 (h + 1)))
+index_behind net g h near =
     let front = near_of net g (range_with_len 0 h) in
     let more : front ++ h ∷ [] ≡ near_of net g (range_with_len 0 (h + 1)) = sym (ap (λ (xs : List ℕ). front ++ xs) (near_in net g h near)) ∙ near_more net g h in
     sym (long front h) ∙ ap length more
@@ -52,7 +52,7 @@ place_behind net g h near =
     long [] x = omega arith
     long (y ∷ xs) x = let r = long xs x in omega (arith, r)
 
-pub place_kept : (net : Network) (g h : ℕ) → list_any (joins g h) net.edges ≡ false → length (near_of net g (range_with_len 0 h)) ≡ length (near_of net g (range_with_len 0 (h + 1)))
-place_kept net g h far =
+pub index_kept : (net : Network) (g h : ℕ) → list_any (joins g h) net.edges ≡ false → length (near_of net g (range_with_len 0 h)) ≡ length (near_of net g (range_with_len 0 (h + 1)))
+index_kept net g h far =
     let front = near_of net g (range_with_len 0 h) in
     ap length (sym (append-nil front) ∙ sym (ap (λ (xs : List ℕ). front ++ xs) (near_out net g h far)) ∙ near_more net g h)

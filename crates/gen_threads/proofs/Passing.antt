@@ -8,7 +8,7 @@ use Rattle.gen_net.specs.Network.{Network, AreNeighbours}
 use Rattle.gen_general.proofs.Worlds.{near_known}
 use Rattle.gen_scenario.specs.SignedWorld.{neighbours_of}
 use Rattle.gen_scenario.specs.SignedWorld.{near_of}
-use Rattle.gen_threads.specs.Turns.{carried_until, place_of_next}
+use Rattle.gen_threads.specs.Turns.{carried_until, index_of_next}
 use Rattle.gen_threads.proofs.Nears.{near_cut}
 use Rattle.gen_threads.proofs.Zips.{zip_some, zip_inside, zip_at, zip_set}
 
@@ -24,30 +24,30 @@ some_inside a b e = cc
 pub is_that : {X Y : Type 0} (f : X → Y) (o : Option X) (other : Option Y) (x : X) (y : Y) → option_map f o ≡ other → other ≡ Some y → o ≡ Some x → f x ≡ y
 is_that f o other x y e there found = some_inside (f x) y (sym (ap (option_map f) found) ∙ e ∙ there)
 
--- ---- at the place of a neighbour
+-- ---- at the index of a neighbour
 
 edge_joins : (net : Network) (g h : ℕ) → AreNeighbours net g h → list_any (joins g h) net.edges ≡ true
 edge_joins net g h joined = near_known net true g h ((λ _. joined), λ _. refl)
 
-module _ (net : Network) (g h : ℕ) (known : h < net.generals) (joined : AreNeighbours net g h) {P : Type 0} (passes : List P) (place : ℕ) (here : place ≡ place_of_next net g h) where
+module _ (net : Network) (g h : ℕ) (known : h < net.generals) (joined : AreNeighbours net g h) {P : Type 0} (passes : List P) (index : ℕ) (here : index ≡ index_of_next net g h) where
   pub near_some : (R : ℕ → P → Type 0) → AllZip R (neighbours_of net g) passes → (p : P) × R h p
   near_some R all =
       let cut = near_cut net g h (edge_joins net g h joined) known in
       zip_some R (near_of net g (range_with_len 0 h)) h cut.back passes (subst (λ (xs : List ℕ). AllZip R xs passes) cut.cut all)
 
-  pub near_inside : (R : ℕ → P → Type 0) → AllZip R (neighbours_of net g) passes → place < length passes
+  pub near_inside : (R : ℕ → P → Type 0) → AllZip R (neighbours_of net g) passes → index < length passes
   near_inside R all =
       let cut = near_cut net g h (edge_joins net g h joined) known in
       let r = zip_inside R (near_of net g (range_with_len 0 h)) h cut.back passes (subst (λ (xs : List ℕ). AllZip R xs passes) cut.cut all) in
       omega (arith, r, here)
 
-  pub near_at : (R : ℕ → P → Type 0) → AllZip R (neighbours_of net g) passes → (p : P) → p ≡ slice_index_or passes place p → R h p
+  pub near_at : (R : ℕ → P → Type 0) → AllZip R (neighbours_of net g) passes → (p : P) → p ≡ slice_index_or passes index p → R h p
   near_at R all p at =
       let cut = near_cut net g h (edge_joins net g h joined) known in
       let r = zip_at R (near_of net g (range_with_len 0 h)) h cut.back passes p (subst (λ (xs : List ℕ). AllZip R xs passes) cut.cut all) in
       subst (R h) (sym (at ∙ ap (λ k. slice_index_or passes k p) here)) r
 
-  pub near_set : (R S : ℕ → P → Type 0) → ((a : ℕ) (b : P) → (a < h) ⊎ (h < a) → R a b → S a b) → (p : P) → S h p → AllZip R (neighbours_of net g) passes → AllZip S (neighbours_of net g) (slice_set passes place p)
+  pub near_set : (R S : ℕ → P → Type 0) → ((a : ℕ) (b : P) → (a < h) ⊎ (h < a) → R a b → S a b) → (p : P) → S h p → AllZip R (neighbours_of net g) passes → AllZip S (neighbours_of net g) (slice_set passes index p)
   near_set R S others p one all =
       let cut = near_cut net g h (edge_joins net g h joined) known in
       let r = zip_set R S (near_of net g (range_with_len 0 h)) h cut.back passes p

@@ -22,7 +22,7 @@ use Rattle.gen_threads.specs.declared.edges.Edges.{Edges}
 use Rattle.gen_threads.specs.Edges.{HasPut, HasTakenBy, IsPutOn, IsTakeBy}
 use Rattle.gen_threads.specs.Turns.{HasPutUntil, HasTakenUntil, IsPutting, IsTaking}
 use Rattle.gen_threads.proofs.Carrying.{put_others, taken_others}
-use Rattle.gen_threads.proofs.Nears.{place_behind, place_kept}
+use Rattle.gen_threads.proofs.Nears.{index_behind, index_kept}
 use Rattle.gen_threads.proofs.Passing.{carried_above, carried_below}
 use Rattle.gen_threads.proofs.Zips.{zip_weaker}
 
@@ -61,26 +61,26 @@ module _ (edges : Edges) (s : Scenario) (k g : ℕ) where
   pub putting_first : (r : Recorder) (ps : List PutPass) → HasSent s k g [] r → AllZip (HasPut edges s k g) (neighbours_of s.net g) ps → IsPutting edges s k g 0 0 r ps
   putting_first r ps sent all = record { sent = sent; here = refl; passes = puts_begin ps all }
 
-  pub putting_far : (h place : ℕ) (r : Recorder) (ps : List PutPass) → list_any (joins g h) s.net.edges ≡ false → IsPutting edges s k g h place r ps → IsPutting edges s k g (h + 1) place r ps
-  putting_far h place r ps far is = record {
+  pub putting_far : (h index : ℕ) (r : Recorder) (ps : List PutPass) → list_any (joins g h) s.net.edges ≡ false → IsPutting edges s k g h index r ps → IsPutting edges s k g (h + 1) index r ps
+  putting_far h index r ps far is = record {
     sent = sent_far s k g h r far is.sent;
-    here = is.here ∙ place_kept s.net g h far;
+    here = is.here ∙ index_kept s.net g h far;
     passes = zip_weaker (HasPutUntil edges s k h g) (HasPutUntil edges s k (h + 1) g) (neighbours_of s.net g) ps (λ a p m has. put_others edges s k g h a p (apart s.net g h a far m) has) is.passes;
   }
 
-  pub putting_near : (h place : ℕ) (r q : Recorder) (ps qs : List PutPass) → list_any (joins g h) s.net.edges ≡ true → IsPutting edges s k g h place r ps → q ≡ with_sends r h
-      → AllZip (HasPutUntil edges s k (h + 1) g) (neighbours_of s.net g) qs → IsPutting edges s k g (h + 1) (place + 1) q qs
-  putting_near h place r q ps qs near is made all = record {
+  pub putting_near : (h index : ℕ) (r q : Recorder) (ps qs : List PutPass) → list_any (joins g h) s.net.edges ≡ true → IsPutting edges s k g h index r ps → q ≡ with_sends r h
+      → AllZip (HasPutUntil edges s k (h + 1) g) (neighbours_of s.net g) qs → IsPutting edges s k g (h + 1) (index + 1) q qs
+  putting_near h index r q ps qs near is made all = record {
     sent = sent_near s k g h r q near is.sent made;
-    here = ap (λ n. n + 1) is.here ∙ place_behind s.net g h near;
+    here = ap (λ n. n + 1) is.here ∙ index_behind s.net g h near;
     passes = all;
   }
 
-  pub putting_next : (h place : ℕ) (r : Recorder) (ps : List PutPass) → IsScenario s → g < s.net.generals → IsPutting edges s k g h place r ps → StandBefore r.standing.known.header.network r.written (send_act r.standing.round h)
-  putting_next h place r ps ok known is = may_send s ok k g h known (near_of s.net g (range_with_len 0 h)) (near_below s.net g h) r is.sent
+  pub putting_next : (h index : ℕ) (r : Recorder) (ps : List PutPass) → IsScenario s → g < s.net.generals → IsPutting edges s k g h index r ps → StandBefore r.standing.known.header.network r.written (send_act r.standing.round h)
+  putting_next h index r ps ok known is = may_send s ok k g h known (near_of s.net g (range_with_len 0 h)) (near_below s.net g h) r is.sent
 
-  pub putting_frame : (h place : ℕ) (r : Recorder) (ps : List PutPass) (frame : List (List ℕ)) → IsPutting edges s k g h place r ps → frame ≡ sends r.standing h → frame ≡ frame_at s (k + 1) g h
-  putting_frame h place r ps frame is e = e ∙ sends_frames s k g h r.standing is.sent.standing ∙ sym (frame_after s k g h)
+  pub putting_frame : (h index : ℕ) (r : Recorder) (ps : List PutPass) (frame : List (List ℕ)) → IsPutting edges s k g h index r ps → frame ≡ sends r.standing h → frame ≡ frame_at s (k + 1) g h
+  putting_frame h index r ps frame is e = e ∙ sends_frames s k g h r.standing is.sent.standing ∙ sym (frame_after s k g h)
 
   -- ---- taking
 
@@ -103,27 +103,27 @@ module _ (edges : Edges) (s : Scenario) (k g : ℕ) where
       let same : front ≡ near_of s.net g (range_with_len 0 (h + 1)) = sym (append-nil front) ∙ sym (ap (λ (xs : List ℕ). front ++ xs) (near_out s.net g h far)) ∙ near_more s.net g h in
       subst (λ (xs : List ℕ). HasHeard s k g xs r) same is
 
-  pub taking_far : (h place : ℕ) (r : Recorder) (ps : List TakePass) → list_any (joins g h) s.net.edges ≡ false → IsTaking edges s k g h place r ps → IsTaking edges s k g (h + 1) place r ps
-  taking_far h place r ps far is = record {
+  pub taking_far : (h index : ℕ) (r : Recorder) (ps : List TakePass) → list_any (joins g h) s.net.edges ≡ false → IsTaking edges s k g h index r ps → IsTaking edges s k g (h + 1) index r ps
+  taking_far h index r ps far is = record {
     heard = heard_far h r far is.heard;
-    here = is.here ∙ place_kept s.net g h far;
+    here = is.here ∙ index_kept s.net g h far;
     passes = zip_weaker (HasTakenUntil edges s k h g) (HasTakenUntil edges s k (h + 1) g) (neighbours_of s.net g) ps (λ a p m has. taken_others edges s k g h a p (apart s.net g h a far m) has) is.passes;
   }
 
-  pub taking_near : (h place : ℕ) (r q : Recorder) (ps qs : List TakePass) (frame : List (List ℕ)) → list_any (joins g h) s.net.edges ≡ true → IsTaking edges s k g h place r ps → frame ≡ frame_at s (k + 1) h g → q ≡ with_recvs r h frame
-      → AllZip (HasTakenUntil edges s k (h + 1) g) (neighbours_of s.net g) qs → IsTaking edges s k g (h + 1) (place + 1) q qs
-  taking_near h place r q ps qs frame near is framed made all =
+  pub taking_near : (h index : ℕ) (r q : Recorder) (ps qs : List TakePass) (frame : List (List ℕ)) → list_any (joins g h) s.net.edges ≡ true → IsTaking edges s k g h index r ps → frame ≡ frame_at s (k + 1) h g → q ≡ with_recvs r h frame
+      → AllZip (HasTakenUntil edges s k (h + 1) g) (neighbours_of s.net g) qs → IsTaking edges s k g (h + 1) (index + 1) q qs
+  taking_near h index r q ps qs frame near is framed made all =
       let front = near_of s.net g (range_with_len 0 h) in
       let same : front ++ near_of s.net g (h ∷ []) ≡ near_of s.net g (range_with_len 0 (h + 1)) = near_more s.net g h in
       let one : front ++ h ∷ [] ≡ front ++ near_of s.net g (h ∷ []) = ap (λ (xs : List ℕ). front ++ xs) (sym (near_in s.net g h near)) in
       record {
         heard = subst (λ (xs : List ℕ). HasHeard s k g xs q) (one ∙ same) (hears_from s k g h front r q frame is.heard framed made);
-        here = ap (λ n. n + 1) is.here ∙ place_behind s.net g h near;
+        here = ap (λ n. n + 1) is.here ∙ index_behind s.net g h near;
         passes = all;
       }
 
-  pub taking_next : (h place : ℕ) (r : Recorder) (ps : List TakePass) → IsScenario s → g < s.net.generals → IsTaking edges s k g h place r ps → StandBefore r.standing.known.header.network r.written (hear_act r.standing.round h)
-  taking_next h place r ps ok known is = may_hear s ok k g h known (near_of s.net g (range_with_len 0 h)) (near_below s.net g h) r is.heard
+  pub taking_next : (h index : ℕ) (r : Recorder) (ps : List TakePass) → IsScenario s → g < s.net.generals → IsTaking edges s k g h index r ps → StandBefore r.standing.known.header.network r.written (hear_act r.standing.round h)
+  taking_next h index r ps ok known is = may_hear s ok k g h known (near_of s.net g (range_with_len 0 h)) (near_below s.net g h) r is.heard
 
-  pub taking_last : (n place : ℕ) (r : Recorder) (ps : List TakePass) → n ≡ s.net.generals → IsTaking edges s k g n place r ps → RecordsAfter s (k + 1) g r
-  taking_last n place r ps stop is = round_ends s k g r (subst (λ m. HasHeard s k g (near_of s.net g (range_with_len 0 m)) r) stop is.heard)
+  pub taking_last : (n index : ℕ) (r : Recorder) (ps : List TakePass) → n ≡ s.net.generals → IsTaking edges s k g n index r ps → RecordsAfter s (k + 1) g r
+  taking_last n index r ps stop is = round_ends s k g r (subst (λ m. HasHeard s k g (near_of s.net g (range_with_len 0 m)) r) stop is.heard)

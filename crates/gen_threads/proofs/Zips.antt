@@ -1,4 +1,4 @@
--- Two lists side by side, and a write to one place of the second.
+-- Two lists side by side, and a write at one index of the second.
 use Rattle.std.proofs.Common.{◌<◌, List, [], ◌∷◌, ◌++◌, length, slice_index_or, slice_set, Contains, arith}
 use Rattle.std.specs.List.{AllZip}
 use Rattle.gen_types.specs.Members.{Contains_here, Contains_there}

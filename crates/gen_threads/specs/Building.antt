@@ -39,7 +39,7 @@ pub record AreMade (s : Scenario) (from to : ℕ) (edges : Edges) (all : List Pa
 abbrev pub AreEmpty : ℕ → List Passes → Type 0
 AreEmpty n all = AllAre (λ g passes. (passes.puts.items ≡ []) × (passes.takes.items ≡ [])) n all
 
--- a place is added to the table
+-- a cell is added to the table
 pub record HasMore (x : Option Edge) (old new : Edges) : Type 0 where
   pub generals : new.generals ≡ old.generals
   pub table : new.table.items ≡ old.table.items ++ x ∷ []

@@ -26,19 +26,19 @@ abbrev pub HasTakenUntil : Edges → Scenario → ℕ → ℕ → ℕ → ℕ �
 HasTakenUntil edges s gone next g h pass = HasTakenBy edges s (carried_until gone next h) g h pass
 
 -- how many neighbours stand below the next one
-abbrev pub place_of_next : Network → ℕ → ℕ → ℕ
-place_of_next net g next = length (near_of net g (range_with_len 0 next))
+abbrev pub index_of_next : Network → ℕ → ℕ → ℕ
+index_of_next net g next = length (near_of net g (range_with_len 0 next))
 
 -- he has begun the round, and has put to the neighbours below the next one
-pub record IsPutting (edges : Edges) (s : Scenario) (gone g next place : ℕ) (r : Recorder) (puts : List PutPass) : Type 0 where
+pub record IsPutting (edges : Edges) (s : Scenario) (gone g next index : ℕ) (r : Recorder) (puts : List PutPass) : Type 0 where
   pub sent : HasSent s gone g (near_of s.net g (range_with_len 0 next)) r
-  pub here : place ≡ place_of_next s.net g next
+  pub here : index ≡ index_of_next s.net g next
   pub passes : AllZip (HasPutUntil edges s gone next g) (neighbours_of s.net g) puts
 
 -- he has put to all, and has taken from the neighbours below the next one
-pub record IsTaking (edges : Edges) (s : Scenario) (gone g next place : ℕ) (r : Recorder) (takes : List TakePass) : Type 0 where
+pub record IsTaking (edges : Edges) (s : Scenario) (gone g next index : ℕ) (r : Recorder) (takes : List TakePass) : Type 0 where
   pub heard : HasHeard s gone g (near_of s.net g (range_with_len 0 next)) r
-  pub here : place ≡ place_of_next s.net g next
+  pub here : index ≡ index_of_next s.net g next
   pub passes : AllZip (HasTakenUntil edges s gone next g) (neighbours_of s.net g) takes
 
 -- ---- when he ends
@@ -50,13 +50,13 @@ IsPutOver rounds pass = (rounds ≤ (put_view pass).put) ⊎ ((put_view pass).go
 abbrev pub IsTakeOver : ℕ → TakePass → Type 0
 IsTakeOver rounds pass = (rounds ≤ (take_view pass).taken) ⊎ ((take_view pass).gone_taken ≡ true)
 
--- this holds of the passes at the first places
+-- this holds of the passes at the first indices
 abbrev pub IsOverUntil : {P : Type 0} → (P → Type 0) → ℕ → List P → Type 0
-IsOverUntil {P} IsOver place passes = (k : ℕ) (d : P) → k < place → IsOver (slice_index_or passes k d)
+IsOverUntil {P} IsOver index passes = (k : ℕ) (d : P) → k < index → IsOver (slice_index_or passes k d)
 
-pub record AreOverUntil (rounds place : ℕ) (puts : List PutPass) (takes : List TakePass) : Type 0 where
-  pub putting : IsOverUntil (IsPutOver rounds) place puts
-  pub taking : IsOverUntil (IsTakeOver rounds) place takes
+pub record AreOverUntil (rounds index : ℕ) (puts : List PutPass) (takes : List TakePass) : Type 0 where
+  pub putting : IsOverUntil (IsPutOver rounds) index puts
+  pub taking : IsOverUntil (IsTakeOver rounds) index takes
 
 -- and of all: nothing is left for him to do on his edges
 pub record AreOver (rounds : ℕ) (puts : List PutPass) (takes : List TakePass) : Type 0 where

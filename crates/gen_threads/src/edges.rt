@@ -139,8 +139,8 @@ impl Edges {
         if to.get() >= self.generals {
             return None;
         }
-        let place = usize::from(from.get()) * usize::from(self.generals) + usize::from(to.get());
-        match self.table.get(place) {
+        let cell = usize::from(from.get()) * usize::from(self.generals) + usize::from(to.get());
+        match self.table.get(cell) {
             Some(Some(edge)) => Some(edge),
             _ => None,
         }

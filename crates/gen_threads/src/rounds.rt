@@ -11,7 +11,7 @@ ghost use Rattle.gen_threads.specs.Edges.{ArePassesOf, HasPut, HasTakenBy, HaveC
 ghost use Rattle.gen_threads.specs.Ending.{RingComesBack};
 ghost use Rattle.gen_threads.specs.Faults.{HasLastWord, IsOwnFault};
 ghost use Rattle.gen_threads.specs.Rings.{HasSigned};
-ghost use Rattle.gen_threads.specs.Turns.{HasPutUntil, HasTakenUntil, IsPutting, IsTaking, place_of_next};
+ghost use Rattle.gen_threads.specs.Turns.{HasPutUntil, HasTakenUntil, IsPutting, IsTaking, index_of_next};
 
 use crate::edges::Edges;
 use crate::ends::RunFault;
@@ -23,20 +23,20 @@ use gen_types::GeneralNo;
 use std::alloc::{AllocError, Global};
 use std::sync::Wait;
 
-/// Puts a neighbour's frame of the round after the first ones. His pass is the one at the place.
+/// Puts a neighbour's frame of the round after the first ones. His pass is the one at the index.
 fn put_next<R: Wait>(
     rt: &R,
     part: &RunPart,
     edges: &Edges,
     gone: u8,
     to: GeneralNo,
-    place: usize,
+    index: usize,
     puts: &mut Vec<PutPass>,
     frame: Frame,
 )
     requires gone { gone < rounds part.now.scenario.net }
     requires to { (to < part.now.scenario.net.generals) × AreNeighbours part.now.scenario.net part.now.me to }
-    requires place { place ≡ place_of_next part.now.scenario.net part.now.me to }
+    requires index { index ≡ index_of_next part.now.scenario.net part.now.me to }
     requires frame { carried frame ≡ round (gone + 1) (frame_at part.now.scenario (gone + 1) part.now.me to) }
     requires passes { AllZip (HasPutUntil edges.now part.now.scenario gone to part.now.me)
         (neighbours_of part.now.scenario.net part.now.me) puts.old.items }
@@ -44,22 +44,22 @@ fn put_next<R: Wait>(
         (neighbours_of part.now.scenario.net part.now.me) puts.new.items }
 {
     let edge = edges.edge(part.part().me(), to).unwrap();
-    put_frame(rt, edge, &mut puts[place], frame);
+    put_frame(rt, edge, &mut puts[index], frame);
 }
 
-/// Takes a neighbour's frame of the round after the first ones, or the last word. His pass is the one at the place.
+/// Takes a neighbour's frame of the round after the first ones, or the last word. His pass is the one at the index.
 fn take_next<R: Wait>(
     rt: &R,
     part: &RunPart,
     edges: &Edges,
     gone: u8,
     from: GeneralNo,
-    place: usize,
+    index: usize,
     takes: &mut Vec<TakePass>,
 ) -> Frame
     requires gone { gone < rounds part.now.scenario.net }
     requires from { (from < part.now.scenario.net.generals) × AreNeighbours part.now.scenario.net part.now.me from }
-    requires place { place ≡ place_of_next part.now.scenario.net part.now.me from }
+    requires index { index ≡ index_of_next part.now.scenario.net part.now.me from }
     requires passes { AllZip (HasTakenUntil edges.now part.now.scenario gone from part.now.me)
         (neighbours_of part.now.scenario.net part.now.me) takes.old.items }
     ensures frame { (number : ℕ) (parcels : Parcels) → carried result ≡ round number parcels
@@ -71,11 +71,11 @@ fn take_next<R: Wait>(
     ensures last { carried result ≡ last_word → Any HasLastWord takes.new.items }
 {
     let edge = edges.edge(from, part.part().me()).unwrap();
-    take_frame(rt, edge, &mut takes[place])
+    take_frame(rt, edge, &mut takes[index])
 }
 
 /// In the round after the first ones, puts the frame to this general, if he is a neighbour. His pass is the one at the
-/// place, which moves on.
+/// index, which moves on.
 fn put_to<R: Wait>(
     rt: &R,
     alloc: Global,
@@ -83,15 +83,15 @@ fn put_to<R: Wait>(
     edges: &Edges,
     gone: u8,
     to: GeneralNo,
-    place: &mut usize,
+    index: &mut usize,
     recorder: &mut Recorder,
     puts: &mut Vec<PutPass>,
 ) -> Result<(), AllocError>
     requires gone { gone < rounds part.now.scenario.net }
     requires to { to < part.now.scenario.net.generals }
-    requires so_far { IsPutting edges.now part.now.scenario gone part.now.me to place.old recorder.old puts.old.items }
+    requires so_far { IsPutting edges.now part.now.scenario gone part.now.me to index.old recorder.old puts.old.items }
     ensures ok { OnOk result
-        (IsPutting edges.now part.now.scenario gone part.now.me (to + 1) place.new recorder.new puts.new.items) }
+        (IsPutting edges.now part.now.scenario gone part.now.me (to + 1) index.new recorder.new puts.new.items) }
     ensures passes { AllZip (IsPutOn edges.now part.now.me)
         (neighbours_of part.now.scenario.net part.now.me) puts.new.items }
     ensures ring { recorder.new.standing.ring ≡ recorder.old.standing.ring }
@@ -105,8 +105,8 @@ fn put_to<R: Wait>(
         number: gone + 1,
         parcels,
     };
-    put_next(rt, part, edges, gone, to, *place, puts, frame);
-    *place += 1;
+    put_next(rt, part, edges, gone, to, *index, puts, frame);
+    *index += 1;
     Ok(())
 }
 
@@ -131,16 +131,16 @@ fn put_all<R: Wait>(
         (neighbours_of part.now.scenario.net part.now.me) puts.new.items }
     ensures ring { recorder.new.standing.ring ≡ recorder.old.standing.ring }
 {
-    let mut place = 0;
+    let mut index = 0;
     'near: for number in 0..part.part().header().net().generals() {
         let to = GeneralNo::at(number);
-        put_to(rt, alloc, part, edges, gone, to, &mut place, recorder, puts)?;
+        put_to(rt, alloc, part, edges, gone, to, &mut index, recorder, puts)?;
     }
     Ok(())
 }
 
 /// In the round after the first ones, takes the frame from this general, if he is a neighbour. His pass is the one at
-/// the place, which moves on.
+/// the index, which moves on.
 fn take_from<R: Wait>(
     rt: &R,
     alloc: Global,
@@ -148,15 +148,15 @@ fn take_from<R: Wait>(
     edges: &Edges,
     gone: u8,
     from: GeneralNo,
-    place: &mut usize,
+    index: &mut usize,
     recorder: &mut Recorder,
     takes: &mut Vec<TakePass>,
 ) -> Result<(), RunFault>
     requires gone { gone < rounds part.now.scenario.net }
     requires from { from < part.now.scenario.net.generals }
-    requires so_far { IsTaking edges.now part.now.scenario gone part.now.me from place.old recorder.old takes.old.items }
+    requires so_far { IsTaking edges.now part.now.scenario gone part.now.me from index.old recorder.old takes.old.items }
     ensures ok { OnOk result
-        (IsTaking edges.now part.now.scenario gone part.now.me (from + 1) place.new recorder.new takes.new.items) }
+        (IsTaking edges.now part.now.scenario gone part.now.me (from + 1) index.new recorder.new takes.new.items) }
     ensures passes { AllZip (IsTakeBy edges.now part.now.me)
         (neighbours_of part.now.scenario.net part.now.me) takes.new.items }
     ensures fault { IfErr result (IsOwnFault takes.new.items) }
@@ -166,11 +166,11 @@ fn take_from<R: Wait>(
     if !known.header().net().has_edge(known.me(), from) {
         return Ok(());
     }
-    let frame = take_next(rt, part, edges, gone, from, *place, takes);
+    let frame = take_next(rt, part, edges, gone, from, *index, takes);
     let Frame::Round { parcels, .. } = frame else {
         return Err(RunFault::Gone);
     };
-    *place += 1;
+    *index += 1;
     recorder.hear(alloc, from, parcels.as_slice())?;
     Ok(())
 }
@@ -197,11 +197,11 @@ fn take_all<R: Wait>(
     ensures fault { IfErr result (IsOwnFault takes.new.items) }
     ensures ring { recorder.new.standing.ring ≡ recorder.old.standing.ring }
 {
-    let mut place = 0;
+    let mut index = 0;
     'near: for number in 0..part.part().header().net().generals() {
         let from = GeneralNo::at(number);
         take_from(
-            rt, alloc, part, edges, gone, from, &mut place, recorder, takes,
+            rt, alloc, part, edges, gone, from, &mut index, recorder, takes,
         )?;
     }
     Ok(())

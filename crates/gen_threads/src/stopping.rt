@@ -6,7 +6,7 @@ ghost use Rattle.gen_net.specs.Network.{AreNeighbours, rounds};
 ghost use Rattle.gen_scenario.specs.SignedWorld.{neighbours_of};
 ghost use Rattle.gen_threads.specs.Edges.{ArePassesIn, IsPutOn, IsTakeBy};
 ghost use Rattle.gen_threads.specs.Faults.{HasLastWord};
-ghost use Rattle.gen_threads.specs.Turns.{AreOver, AreOverUntil, IsOverUntil, IsPutOver, IsTakeOver, place_of_next};
+ghost use Rattle.gen_threads.specs.Turns.{AreOver, AreOverUntil, IsOverUntil, IsPutOver, IsTakeOver, index_of_next};
 
 use crate::edges::Edges;
 use crossbeam_utils::Backoff;
@@ -43,76 +43,76 @@ fn end_take<R: Wait>(rt: &R, edge: &Edge, rounds: u8, pass: &mut TakePass) -> bo
     pass.taken() >= rounds || pass.has_ended()
 }
 
-/// Tries once to put the last word to a neighbour. His pass is the one at the place.
+/// Tries once to put the last word to a neighbour. His pass is the one at the index.
 fn end_put_to<R: Wait>(
     rt: &R,
     edges: &Edges,
     me: GeneralNo,
     net: &Net,
     to: GeneralNo,
-    place: usize,
+    index: usize,
     puts: &mut Vec<PutPass>,
 ) -> bool
     requires to { (to < net.now.generals) × AreNeighbours net.now me to }
-    requires place { place ≡ place_of_next net.now me to }
+    requires index { index ≡ index_of_next net.now me to }
     requires passes { AllZip (IsPutOn edges.now me) (neighbours_of net.now me) puts.old.items }
     ensures passes { AllZip (IsPutOn edges.now me) (neighbours_of net.now me) puts.new.items }
-    ensures over { result ≡ true → IsOverUntil (IsPutOver (rounds net.now)) place puts.old.items
-        → IsOverUntil (IsPutOver (rounds net.now)) (place + 1) puts.new.items }
+    ensures over { result ≡ true → IsOverUntil (IsPutOver (rounds net.now)) index puts.old.items
+        → IsOverUntil (IsPutOver (rounds net.now)) (index + 1) puts.new.items }
 {
     let edge = edges.edge(me, to).unwrap();
-    end_put(rt, edge, net.rounds(), &mut puts[place])
+    end_put(rt, edge, net.rounds(), &mut puts[index])
 }
 
-/// Tries once to take from a neighbour. His pass is the one at the place.
+/// Tries once to take from a neighbour. His pass is the one at the index.
 fn end_take_from<R: Wait>(
     rt: &R,
     edges: &Edges,
     me: GeneralNo,
     net: &Net,
     from: GeneralNo,
-    place: usize,
+    index: usize,
     takes: &mut Vec<TakePass>,
 ) -> bool
     requires from { (from < net.now.generals) × AreNeighbours net.now me from }
-    requires place { place ≡ place_of_next net.now me from }
+    requires index { index ≡ index_of_next net.now me from }
     requires passes { AllZip (IsTakeBy edges.now me) (neighbours_of net.now me) takes.old.items }
     ensures passes { AllZip (IsTakeBy edges.now me) (neighbours_of net.now me) takes.new.items }
     ensures kept { Any HasLastWord takes.old.items → Any HasLastWord takes.new.items }
-    ensures over { result ≡ true → IsOverUntil (IsTakeOver (rounds net.now)) place takes.old.items
-        → IsOverUntil (IsTakeOver (rounds net.now)) (place + 1) takes.new.items }
+    ensures over { result ≡ true → IsOverUntil (IsTakeOver (rounds net.now)) index takes.old.items
+        → IsOverUntil (IsTakeOver (rounds net.now)) (index + 1) takes.new.items }
 {
     let edge = edges.edge(from, me).unwrap();
-    end_take(rt, edge, net.rounds(), &mut takes[place])
+    end_take(rt, edge, net.rounds(), &mut takes[index])
 }
 
 /// Tries once to end the edges between this general and another one, if they are neighbours: the passes are those at
-/// the place, which moves on. Returns whether nothing is left to do on them.
+/// the index, which moves on. Returns whether nothing is left to do on them.
 fn end_both<R: Wait>(
     rt: &R,
     edges: &Edges,
     me: GeneralNo,
     net: &Net,
     other: GeneralNo,
-    place: &mut usize,
+    index: &mut usize,
     puts: &mut Vec<PutPass>,
     takes: &mut Vec<TakePass>,
 ) -> bool
     requires other { other < net.now.generals }
-    requires place { place.old ≡ place_of_next net.now me other }
+    requires index { index.old ≡ index_of_next net.now me other }
     requires passes { ArePassesIn edges.now net.now me puts.old.items takes.old.items }
-    ensures place { place.new ≡ place_of_next net.now me (other + 1) }
+    ensures index { index.new ≡ index_of_next net.now me (other + 1) }
     ensures passes { ArePassesIn edges.now net.now me puts.new.items takes.new.items }
     ensures kept { Any HasLastWord takes.old.items → Any HasLastWord takes.new.items }
-    ensures over { result ≡ true → AreOverUntil (rounds net.now) place.old puts.old.items takes.old.items
-        → AreOverUntil (rounds net.now) place.new puts.new.items takes.new.items }
+    ensures over { result ≡ true → AreOverUntil (rounds net.now) index.old puts.old.items takes.old.items
+        → AreOverUntil (rounds net.now) index.new puts.new.items takes.new.items }
 {
     if !net.has_edge(me, other) {
         return true;
     }
-    let put = end_put_to(rt, edges, me, net, other, *place, puts);
-    let taken = end_take_from(rt, edges, me, net, other, *place, takes);
-    *place += 1;
+    let put = end_put_to(rt, edges, me, net, other, *index, puts);
+    let taken = end_take_from(rt, edges, me, net, other, *index, takes);
+    *index += 1;
     put & taken
 }
 
@@ -132,11 +132,11 @@ pub(crate) fn stop_once<R: Wait>(
     ensures kept { Any HasLastWord takes.old.items → Any HasLastWord takes.new.items }
     ensures over { result ≡ true → AreOver (rounds net.now) puts.new.items takes.new.items }
 {
-    let mut place = 0;
+    let mut index = 0;
     let mut over = true;
     'near: for number in 0..net.generals() {
         let other = GeneralNo::at(number);
-        let both = end_both(rt, edges, me, net, other, &mut place, puts, takes);
+        let both = end_both(rt, edges, me, net, other, &mut index, puts, takes);
         over &= both;
     }
     over

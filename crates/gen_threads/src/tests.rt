@@ -144,7 +144,7 @@ fn set_all(flags: &[AtomicBool], values: &[bool]) {
     }
 }
 
-/// What comes of the generals one after another, over edges that hold four frames: each runs, or where his place here
+/// What comes of the generals one after another, over edges that hold four frames: each runs, or where his flag here
 /// is true he does what is done for one whose thread was not started.
 fn turns_of<R: Wait>(
     rt: &R,

@@ -18,9 +18,6 @@ seen_of m = record { from = m.from; order = m.order; path = m.path }
 abbrev pub message_to : ℕ → Seen → Message
 message_to g s = record { from = s.from; to = g; order = s.order; path = s.path }
 
-pub arrivals_start : (g l : ℕ) → AreArrivals [] g l []
-arrivals_start g l s = ((λ h. absurd (Contains_nil s h)), (λ c. absurd (Contains_nil (message_to g s) c.0.0)))
-
 pub arrivals_more : (messages : List Message) (m : Message) (g l : ℕ) (seen : List Seen) → AreArrivals messages g l seen → m.to ≡ g → length m.path ≡ l → AreArrivals (messages ++ m ∷ []) g l (seen ++ seen_of m ∷ [])
 arrivals_more messages m g l seen so_far to long s = (
   (λ h. elim (Contains-push_cases seen (seen_of m) s h) [

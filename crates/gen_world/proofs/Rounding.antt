@@ -44,9 +44,6 @@ numbers_taken states numbers i d e lt =
     let at : get_or numbers i 0 ≡ (get_or states i d).me = ap (λ ns. get_or ns i 0) (sym e) ∙ get_or-map (λ (s : Lieutenant). s.me) states i d 0 lt in
     take_more numbers i 0 long ∙ ap (λ g. take i numbers ++ g ∷ []) at
 
-pub no_relays : (net : Network) (run : Run) (l : ℕ) → AreRelays net run l [] []
-no_relays net run l m = ((λ h. absurd (Contains_nil m h)), λ h. absurd (Contains_nil m.from h.0))
-
 pub relays_more : (net : Network) (run : Run) (l g : ℕ) (generals : List ℕ) (now new : List Message) → AreRelays net run l generals now → Appends (RelayedBy net run g l) now new → AreRelays net run l (generals ++ g ∷ []) new
 relays_more net run l g generals now new so_far more m = (
   (λ h. elim ((more m).0 h) [

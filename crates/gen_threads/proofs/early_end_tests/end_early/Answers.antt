@@ -7,14 +7,14 @@ use Rattle.gen_edge.proofs.RunFrames.{comes_by_pass}
 use Rattle.gen_net.specs.Network.{Network, AreNeighbours}
 use Rattle.gen_general.proofs.Worlds.{near_known}
 use Rattle.gen_threads.specs.Edges.{HasPut, edge_at}
-use Rattle.gen_threads.specs.Turns.{place_of_next}
-use Rattle.gen_threads.proofs.Nears.{place_kept}
+use Rattle.gen_threads.specs.Turns.{index_of_next}
+use Rattle.gen_threads.proofs.Nears.{index_kept}
 use Rattle.gen_threads.proofs.Passing.{is_that, near_at, near_inside}
 use Rattle.gen_threads.proofs.early_end_tests.end_early.Goals as goal
 
 -- where general 0 is no neighbour, general 1 is the least
-least : (net : Network) (from : ℕ) (b : Bool) → ((b ≡ true) ↔ AreNeighbours net from 0) → b ≡ false → 0 ≡ place_of_next net from 1
-least net from b both far = place_kept net from 0 (near_known net b from 0 both ∙ far)
+least : (net : Network) (from : ℕ) (b : Bool) → ((b ≡ true) ↔ AreNeighbours net from 0) → b ≡ false → 0 ≡ index_of_next net from 1
+least net from b both far = index_kept net from 0 (near_known net b from 0 both ∙ far)
 
 pub index_mut-requires : goal.index_mut-requires
 index_mut-requires g c =

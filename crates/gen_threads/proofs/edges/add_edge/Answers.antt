@@ -31,8 +31,8 @@ returns c =
     let new : Edges = record { generals = old.generals; table = c.push-2.new.self } in
     let more : HasMore (Some edge) old new = record { generals = refl; table = c.in_ok-push-2.ensures.items } in
     let low : c.args.to < old.generals = omega (arith, c.requires.to, c.requires.made.generals) in
-    let place = rw (sym c.requires.made.generals) at c.requires.made.count in
-    let put = new_put s c.args.from c.args.to old new edge c.in_ok-edge.put more low place c.in_ok-edge.ensures.passes.0 c.in_ok-edge.ensures.put in
-    let take = new_take s c.args.from c.args.to old new edge c.in_ok-edge.take more low place c.in_ok-edge.ensures.passes.1 c.in_ok-edge.ensures.taken in
+    let cell = rw (sym c.requires.made.generals) at c.requires.made.count in
+    let put = new_put s c.args.from c.args.to old new edge c.in_ok-edge.put more low cell c.in_ok-edge.ensures.passes.0 c.in_ok-edge.ensures.put in
+    let take = new_take s c.args.from c.args.to old new edge c.in_ok-edge.take more low cell c.in_ok-edge.ensures.passes.1 c.in_ok-edge.ensures.taken in
     made_near s c.args.from c.args.to old new c.args.all.now.items c.add_put.new.all.items c.add_take.new.all.items edge c.in_ok-edge.put c.in_ok-edge.take more c.in_ok-add_put.ensures c.in_ok-add_take.ensures
     put take near back c.requires.from c.requires.made

@@ -4,6 +4,6 @@ use Rattle.gen_threads.proofs.rounds.put_all.Given as goal
 
 abbrev pub invariant-near : goal.invariant-near
 invariant-near g l = record {
-  so_far : IsPutting l.edges l.part.scenario l.gone l.part.me l.number l.place l.recorder l.puts.items;
+  so_far : IsPutting l.edges l.part.scenario l.gone l.part.me l.number l.index l.recorder l.puts.items;
   ring : l.recorder.standing.ring ≡ l.initial.recorder.standing.ring;
 }

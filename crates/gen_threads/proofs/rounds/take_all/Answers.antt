@@ -12,7 +12,7 @@ pub returns-clause-heard : goal.returns-clause-heard
 returns-clause-heard g c =
     let s = c.args.part.now.scenario in
     let stop : c.near.number ≡ s.net.generals = omega (arith, c.near-test.false, c.near.auto.number-end, c.generals-number-end.ensures.value, ap (λ x. x.generals) c.net.ensures.value, ap (λ x. x.network.generals) c.header.ensures.value, ap (λ x. x.header.network.generals) c.part.ensures.value) in
-    taking_last c.args.edges.now s c.args.gone c.args.part.now.me c.near.number c.near.place c.near.recorder c.near.takes.items stop c.near.invariant.so_far
+    taking_last c.args.edges.now s c.args.gone c.args.part.now.me c.near.number c.near.index c.near.recorder c.near.takes.items stop c.near.invariant.so_far
 
 pub returns-clause-taken : goal.returns-clause-taken
 returns-clause-taken g c =
