@@ -1,7 +1,7 @@
 //! The audit of a bundle.
 ghost use Rattle.std.specs.Prelude.{◌≡◌, IfOk, IfSome, IfNone, map};
 ghost use Rattle.gen_types.specs.Ascending.{IsListOf};
-ghost use Rattle.gen_convict.specs.Convictions.{AreConvictions, AreEvidence};
+ghost use Rattle.gen_convict.specs.Convictions.{AreConvictions, AreEvidence, ConvictsWhereHeld};
 ghost use Rattle.gen_convict.specs.Evidence.{told_of};
 ghost use Rattle.gen_audit.specs.Bundle.{IsBundle};
 ghost use Rattle.gen_audit.specs.Collecting.{DecidesIn, IsOwnOf};
@@ -161,6 +161,8 @@ fn convictions_by(
     requires { AreReports bundle.now reports.now }
     ensures convictions { IfOk result (λ found.
         AreConvictions bundle.now.header bundle.now.exhibits (map told_of found.items)) }
+    ensures held { IfOk result (λ found.
+        ConvictsWhereHeld bundle.now.header bundle.now.exhibits (map told_of found.items)) }
     ensures lawful { IfOk result (λ found.
         AreEvidence bundle.now.header (map told_of found.items)) }
 {
@@ -181,8 +183,11 @@ pub fn audit_plain(alloc: Global, bundle: &Bundle) -> Result<Judgement, AllocErr
     // With at most m held for faulty, such a bundle's verdict is the one order that all of the rest decided, which
     // is the commander's if he is of the rest (its field `agreed`).
     ensures headline { IfOk result (λ judgement. Headline bundle.now judgement.verdict) }
-    // Each general against whom the exhibits hold a contradiction is convicted by the first one, and nobody else is.
+    // Each general against whom a claim can be made is convicted by the first one, and nobody else is.
     ensures convictions { IfOk result (λ judgement. AreConvictions bundle.now.header bundle.now.exhibits
+        (map told_of judgement.convictions.items)) }
+    // So a general is convicted exactly where the exhibits hold a contradiction of his.
+    ensures held { IfOk result (λ judgement. ConvictsWhereHeld bundle.now.header bundle.now.exhibits
         (map told_of judgement.convictions.items)) }
     // And each conviction can be written.
     ensures lawful { IfOk result (λ judgement.

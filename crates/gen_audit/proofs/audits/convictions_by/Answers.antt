@@ -15,6 +15,10 @@ pub returns-clause-convictions : goal.returns-clause-convictions
 returns-clause-convictions c =
     rw (← c.header.ensures.value, ← c.requires.exhibits) (IfOk-weaker c.find_evidence.result _ _ (λ found are. are (short_in c)) c.find_evidence.ensures.found)
 
+pub returns-clause-held : goal.returns-clause-held
+returns-clause-held c =
+    rw (← c.header.ensures.value, ← c.requires.exhibits) (IfOk-weaker c.find_evidence.result _ _ (λ found held. held (short_in c)) c.find_evidence.ensures.held)
+
 pub returns-clause-lawful : goal.returns-clause-lawful
 returns-clause-lawful c =
     rw (← c.header.ensures.value) (IfOk-weaker c.find_evidence.result _ _ (λ found lawful. lawful (short_in c)) c.find_evidence.ensures.lawful)
