@@ -2,3 +2,4 @@ pub mod Accused
 pub mod Bundling
 pub mod Delivering
 pub mod Known
+pub mod Supported

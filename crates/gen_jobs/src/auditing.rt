@@ -26,6 +26,7 @@ fn says_no(verdict: &Verdict) -> bool
 /// # Errors
 ///
 /// `Bundle` with the first fault of an input that spells no bundle, and `Memory` where memory is refused.
+#[tactic(auto, using(crate::proofs::Supported::supported))]
 pub fn audit(alloc: Global, input: &[u8]) -> Result<Output, JobFault>
     ensures answer { IfOk result (λ o. IsAudited input.now o.text.items o.negative) }
     ensures fault { IfErr result (IsAuditFault input.now) }
