@@ -1,14 +1,16 @@
 //! Audits of runs: the logs of a scenario's run in a bundle, and the verdict on it. The verdicts were given
 //! by another program, in Python.
-use crate::bundles::{bundle_of, bundle_with, exhibits_of, scenario_of};
+use crate::bundles::{bundle_along, bundle_of, bundle_with, exhibits_of, scenario_of};
 use crate::scenarios::{
-    CUT, FLOOD_IN_SLOT, LATE, LINE, ONE_TOO_MANY, PAIR, RING, SCRAPS, SPLIT, TWO_HEADS,
+    CUT, FLOOD_IN_SLOT, LATE, LINE, ONE_TOO_MANY, PAIR, PAIR_IN_SLOT, RING, SCRAPS, SPLIT, TWICE,
+    TWO_HEADS,
 };
 use crate::streams::{Slip, sink_for, source_of};
-use gen_audit::BundleFault;
+use gen_audit::{BundleFault, read_bundle};
 use gen_jobs::{JobEnd, JobFault, audit_engine};
 use gen_net::HeaderFault;
-use gen_types::GeneralSet;
+use gen_types::{GeneralNo, GeneralSet, ReadError};
+use gen_walks::{Walk, Walks};
 use std::alloc::Global;
 use std::test::*;
 
@@ -17,6 +19,8 @@ use std::test::*;
 type Row<'a> = (&'a [u8], JobEnd, &'a [u8]);
 
 const PAIR_ROW: Row<'_> = (PAIR, JobEnd::Done, b"verdict agreed 1\nend\n");
+
+const PAIR_IN_SLOT_ROW: Row<'_> = (PAIR_IN_SLOT, JobEnd::Done, b"verdict agreed 1\nend\n");
 
 const SPLIT_ROW: Row<'_> = (
     SPLIT,
@@ -49,6 +53,13 @@ const CUT_ROW: Row<'_> = (
     CUT,
     JobEnd::Negative,
     b"verdict no\nN10 pair 0 2\nconvicted 1 by K4\nend\n",
+);
+
+const TWICE_ROW: Row<'_> = (
+    TWICE,
+    JobEnd::Done,
+    b"verdict agreed 1\nconvicted 0 by K3\nconvicted 1 by K4\nconvicted 3 by K3\n\
+    convicted 4 by K4\nend\n",
 );
 
 const FLOOD_ROW: Row<'_> = (
@@ -88,6 +99,7 @@ fn is_right(alloc: Global, row: &Row<'_>) -> Result<bool, Fail> {
 fn generals_who_follow_agree(rt: HostRuntime) -> Result<(), Fail> {
     let alloc = rt.alloc();
     let right = is_right(alloc, &PAIR_ROW)?
+        && is_right(alloc, &PAIR_IN_SLOT_ROW)?
         && is_right(alloc, &LINE_ROW)?
         && is_right(alloc, &RING_ROW)?;
     assert!(rt; right);
@@ -99,6 +111,7 @@ fn under_a_traitor_they_agree(rt: HostRuntime) -> Result<(), Fail> {
     let alloc = rt.alloc();
     let right = is_right(alloc, &SPLIT_ROW)?
         && is_right(alloc, &LATE_ROW)?
+        && is_right(alloc, &TWICE_ROW)?
         && is_right(alloc, &FLOOD_ROW)?;
     assert!(rt; right);
     Ok(())
@@ -119,10 +132,24 @@ fn one_traitor_too_many_is_explained(rt: HostRuntime) -> Result<(), Fail> {
     Ok(())
 }
 
+/// The bundle of the run of those who are parted, with the walk that leads through the traitor.
+fn cut_with_walk(alloc: Global) -> Result<Vec<u8>, Fail> {
+    let scenario = scenario_of(alloc, CUT)?;
+    let exhibits = exhibits_of(alloc, &scenario)?;
+    let generals = [GeneralNo::at(0), GeneralNo::at(1), GeneralNo::at(2)];
+    let mut walks = Walks::new(alloc);
+    walks.push(Walk::new(Vec::from_slice(alloc, &generals)?))?;
+    let header = scenario.header().clone()?;
+    bundle_along(alloc, walks, header, scenario.scripted(), exhibits)
+}
+
 #[test]
 fn generals_who_are_parted_are_not_supported(rt: HostRuntime) -> Result<(), Fail> {
     let right = is_right(rt.alloc(), &CUT_ROW)?;
     assert!(rt; right);
+    let (_, wanted, lines) = CUT_ROW;
+    let walked = cut_with_walk(rt.alloc())?;
+    assert!(rt; walked.len() == 82_849 && judges(rt.alloc(), &walked, wanted, lines));
     Ok(())
 }
 
@@ -150,12 +177,23 @@ fn cuts_are_short(alloc: Global, bundle: &[u8]) -> bool {
     true
 }
 
+/// Whether each proper beginning of a bundle is read as one that ends too early.
+fn beginnings_are_short(alloc: Global, bundle: &[u8]) -> bool {
+    for end in 0..bundle.len() {
+        let fault = read_bundle(alloc, &bundle[..end]).err();
+        if fault != Some(ReadError::Fault(BundleFault::Truncated)) {
+            return false;
+        }
+    }
+    true
+}
+
 #[test]
 fn cut_bundles_are_refused(rt: HostRuntime) -> Result<(), Fail> {
     let alloc = rt.alloc();
     let mut bundle = bundle_of(alloc, PAIR)?;
     assert_eq!(rt; bundle.len(), 66_250);
-    assert!(rt; cuts_are_short(alloc, &bundle));
+    assert!(rt; cuts_are_short(alloc, &bundle) && beginnings_are_short(alloc, &bundle));
     bundle.push(0)?;
     let left_over = Some(JobEnd::Failed(JobFault::Bundle(BundleFault::LeftOver)));
     assert!(rt; refusal_of(alloc, &bundle) == left_over);

@@ -1,6 +1,6 @@
 //! Bundles of runs. Those whose traitors do everything that scripts can say stand against hashes of the
 //! bundles that another program, in Python, made of the same texts.
-use gen_audit::{Bundle, write_bundle};
+use gen_audit::{Bundle, read_bundle, write_bundle};
 use gen_local::Exhibit;
 use gen_net::Header;
 use gen_report::{ScenarioText, read_scenario};
@@ -37,6 +37,20 @@ pub(crate) fn exhibits_of(alloc: Global, scenario: &Scenario) -> Result<Vec<Exhi
     Ok(exhibits)
 }
 
+/// The bytes of the bundle of these exhibits, with these walks.
+pub(crate) fn bundle_along(
+    alloc: Global,
+    walks: Walks,
+    header: Header,
+    faulty: GeneralSet,
+    exhibits: Vec<Exhibit>,
+) -> Result<Vec<u8>, Fail> {
+    match Bundle::new(header, faulty, walks, exhibits) {
+        Ok(bundle) => Ok(write_bundle(alloc, &bundle)?),
+        Err(_) => Err("no bundle".into()),
+    }
+}
+
 /// The bytes of the bundle of these exhibits.
 pub(crate) fn bundle_with(
     alloc: Global,
@@ -45,8 +59,13 @@ pub(crate) fn bundle_with(
     exhibits: Vec<Exhibit>,
 ) -> Result<Vec<u8>, Fail> {
     let walks = walks_of(alloc, &header, &faulty);
-    match Bundle::new(header, faulty, walks, exhibits) {
-        Ok(bundle) => Ok(write_bundle(alloc, &bundle)?),
+    bundle_along(alloc, walks, header, faulty, exhibits)
+}
+
+/// The bundle that these bytes are.
+pub(crate) fn bundle_in(alloc: Global, bytes: &[u8]) -> Result<Bundle, Fail> {
+    match read_bundle(alloc, bytes) {
+        Ok(bundle) => Ok(bundle),
         Err(_) => Err("no bundle".into()),
     }
 }

@@ -1,7 +1,8 @@
 //! Scenarios: texts in, decisions out. Those of scenarios with signatures were made by another program, in
 //! Python.
 use crate::scenarios::{
-    FLOOD, LATE, LINE, LINE_WITHOUT_SEED, ONE_TOO_MANY, SPLIT, SPLIT_BY_MEDIAN, TWICE,
+    FLOOD, LATE, LINE, LINE_WITHOUT_SEED, ONE_TOO_MANY, PAIR_PAST_SLOTS, SPLIT, SPLIT_BY_MEDIAN,
+    TWICE,
 };
 use crate::streams::{Slip, sink_for, source_of};
 use gen_jobs::{JobEnd, JobFault, decide_engine};
@@ -43,6 +44,19 @@ fn answers_the_first_fault(rt: HostRuntime) {
     };
     let want = JobEnd::Failed(JobFault::Scenario(fault));
     assert!(rt; decide_engine(alloc, &mut reader, &mut writer) == want);
+    assert!(rt; writer.taken.is_empty());
+}
+
+#[test]
+fn a_slot_is_past_the_last(rt: HostRuntime) {
+    let mut reader = source_of(PAIR_PAST_SLOTS, 512, 0, Slip::Fails);
+    let mut writer = sink_for(rt.alloc(), 512, 0, Slip::Fails);
+    let fault = ScenarioFault {
+        kind: LineFault::SlotRange,
+        line: 9,
+    };
+    let want = JobEnd::Failed(JobFault::Scenario(fault));
+    assert!(rt; decide_engine(rt.alloc(), &mut reader, &mut writer) == want);
     assert!(rt; writer.taken.is_empty());
 }
 

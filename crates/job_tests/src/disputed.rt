@@ -1,15 +1,18 @@
-//! Audits of runs in dispute: logs that somebody wrote anew, a stolen key, a bent signature. The verdicts
-//! were given by another program, in Python.
+//! Audits of runs in dispute: logs that somebody wrote anew, a stolen key, a bent signature; and what the log of
+//! the one whose key was stolen answers. The verdicts were given by another program, in Python.
 ghost use Rattle.std.specs.Prelude.{◌≡◌, IfOk};
 ghost use Rattle.gen_types.specs.declared.heights.TreeHeight.TheVariants.{Four};
+ghost use Rattle.gen_log.specs.Log.{IsLog};
 
 use crate::auditing::judges;
-use crate::bundles::{bundle_with, exhibits_of, scenario_of};
+use crate::bundles::{bundle_in, bundle_with, exhibits_of, scenario_of};
 use crate::scenarios::{PAIR, STOLEN, TRIANGLE};
+use gen_audit::{Bundle, audit_plain};
 use gen_chain::{HeadText, Statement, head_digest, statement_digest};
+use gen_convict::{Evidence, Refutation, check_evidence, is_own_log, refute};
 use gen_jobs::JobEnd;
-use gen_local::Exhibit;
-use gen_log::{last_link, read_log};
+use gen_local::{Exhibit, Text};
+use gen_log::{Log, last_link, read_log};
 use gen_net::Header;
 use gen_ots::SigRoom;
 use gen_tree::{KeyRing, Signature, general_seed};
@@ -231,6 +234,64 @@ fn a_key_may_be_stolen(rt: HostRuntime) -> Result<(), Fail> {
     let alloc = rt.alloc();
     let bundle = stolen_bundle(alloc)?;
     assert!(rt; is_of_stolen_key(alloc, &bundle));
+    Ok(())
+}
+
+/// The log that these bytes are.
+fn log_in(alloc: Global, header: &Header, bytes: &[u8]) -> Result<Log, Fail>
+    ensures { IfOk result (λ log. IsLog header.now log) }
+{
+    match read_log(alloc, header, bytes) {
+        Ok(log) => Ok(log),
+        Err(_) => Err("no log".into()),
+    }
+}
+
+/// What a log answers that its general kept, to evidence that holds against him.
+fn answer_of(
+    alloc: Global,
+    header: &Header,
+    evidence: &Evidence,
+    own: &Log,
+) -> Result<Refutation, Fail>
+    requires { IsLog header.now own.now }
+{
+    if evidence.accused.get() >= header.net().generals() {
+        return Err("no general of the network".into());
+    }
+    if !is_own_log(header, evidence.accused, own) {
+        return Err("not his own".into());
+    }
+    if !check_evidence(alloc, header, evidence)? {
+        return Err("it doesn't hold".into());
+    }
+    Ok(refute(alloc, header, evidence, own)?)
+}
+
+/// What the first log of a bundle answers to the first conviction that its audit gives.
+fn answer_to_conviction(alloc: Global, bundle: &Bundle) -> Result<Refutation, Fail> {
+    let judgement = audit_plain(alloc, bundle)?;
+    let evidence = judgement.convictions.first().ok_or("no conviction")?;
+    let exhibit = bundle.exhibits().first().ok_or("no exhibit")?;
+    let own = log_in(alloc, bundle.header(), exhibit.log())?;
+    answer_of(alloc, bundle.header(), evidence, &own)
+}
+
+/// Whether the commander's statement of order 0 is said to be forged.
+fn is_forged(answer: &Refutation) -> bool {
+    let (order, path) = (OrderNo::at(0), Path::commander());
+    match answer {
+        Refutation::Forged(text) => text.signer == GeneralNo::commander()
+            && text.text == Text::OfStatement(Statement { order, path }),
+        Refutation::Collision(_, _) => false,
+    }
+}
+
+#[test]
+fn whose_key_was_stolen_answers_by_his_log(rt: HostRuntime) -> Result<(), Fail> {
+    let alloc = rt.alloc();
+    let bundle = bundle_in(alloc, &stolen_bundle(alloc)?)?;
+    assert!(rt; is_forged(&answer_to_conviction(alloc, &bundle)?));
     Ok(())
 }
 

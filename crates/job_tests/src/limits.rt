@@ -1,9 +1,16 @@
-//! The jobs at their limits: 16 generals who are all neighbours, 16 rounds and 15 orders; and a bundle of 64 exhibits.
-//! A job, or a call below it, that gives up on larger inputs fails here.
+//! The jobs at their limits, each by its engine: 16 generals who are all neighbours, 16 rounds and 15 orders; a bundle
+//! of 64 exhibits; and the longest input. A job, or a call below it, that gives up on larger inputs fails here. What
+//! the jobs write was given by another program, in Python.
+ghost use Rattle.gen_jobs.specs.Jobs.{IsInRange};
+
+use crate::bundles::bundle_in;
+use crate::over_bytes::done;
+use crate::streams::zero_source;
 use gen_async::Machine;
 use gen_audit::{Bundle, write_bundle};
-use gen_jobs::{accuse, audit, decide, evidence, run};
-use gen_local::Exhibit;
+use gen_chain::VerifyStore;
+use gen_jobs::{Job, JobEnd, JobFault, read_all};
+use gen_local::{Exhibit, LocalReport, Reading, local_report_with};
 use gen_log::SealedLog;
 use gen_net::Header;
 use gen_report::{ScenarioText, read_scenario};
@@ -36,74 +43,119 @@ fn largest(alloc: Global, scripts: &str) -> Result<String, Fail> {
     Ok(text)
 }
 
-/// The bundle of the run of the largest scenario with these scripts, over edges of one frame.
-fn bundle_of_largest<R: Threads + Wait + Sync>(
+/// What a job writes by its engine, which is done then.
+fn text_of<R: Threads + Wait + Sync>(
     rt: &R,
     alloc: Global,
-    scripts: &str,
-) -> Result<Vec<u8>, Fail> {
-    let text = largest(alloc, scripts)?;
-    match run(rt, alloc, 1, text.as_bytes()) {
-        Ok(output) => Ok(output.text),
-        Err(_) => Err("no bundle".into()),
+    job: Job,
+    input: &[u8],
+) -> Result<Vec<u8>, Fail>
+    requires { IsInRange job }
+{
+    match done(rt, alloc, job, input) {
+        (JobEnd::Done, text) => Ok(text),
+        _ => Err("not done".into()),
     }
 }
 
-/// Whether a text has these words in it.
-fn says(text: &[u8], words: &[u8]) -> bool {
-    for start in 0..text.len() {
-        if text[start..].starts_with(words) {
-            return true;
-        }
-    }
-    false
+/// Whether a job by its engine is done, and writes so many bytes that end in these.
+fn writes<R: Threads + Wait + Sync>(
+    rt: &R,
+    alloc: Global,
+    job: Job,
+    input: &[u8],
+    wanted: (usize, &[u8]),
+) -> bool
+    requires { IsInRange job }
+{
+    let (len, last) = wanted;
+    let (end, text) = done(rt, alloc, job, input);
+    end == JobEnd::Done && text.len() == len && text.ends_with(last)
 }
 
-/// Whether the audit of a bundle answers yes, and says this.
-fn agrees(alloc: Global, bundle: &[u8], words: &[u8]) -> bool {
-    match audit(alloc, bundle) {
-        Ok(output) => !output.negative && says(output.text.as_slice(), words),
-        Err(_) => false,
+/// Whether nothing is found against the log of a report.
+fn is_clean(report: &LocalReport) -> bool {
+    match report.reading() {
+        Reading::Own(log) => log.is_sealed()
+            && log.unsigned().is_none()
+            && log.departure().is_none(),
+        _ => false,
     }
 }
+
+/// Against how many exhibits nothing is found, each alone but through one store, and how many signatures of
+/// statements are verified.
+fn count_clean(
+    alloc: Global,
+    header: &Header,
+    exhibits: &[Exhibit],
+) -> Result<(usize, u64), AllocError> {
+    let mut store = VerifyStore::new(alloc)?;
+    let mut clean = 0usize;
+    'exhibits: for exhibit in exhibits {
+        let report = local_report_with(alloc, header, exhibit, &mut store)?;
+        clean = clean.saturating_add(usize::from(is_clean(&report)));
+    }
+    Ok((clean, store.runs()))
+}
+
+/// Of each general's order one signature is verified, and nothing is found against any.
+fn are_clean(alloc: Global, bundle: &[u8]) -> Result<bool, Fail> {
+    let bundle = bundle_in(alloc, bundle)?;
+    let counted = count_clean(alloc, bundle.header(), bundle.exhibits())?;
+    Ok(counted == (16, 16))
+}
+
+/// The verdict on the largest run, its last lines.
+const AGREED: (usize, &[u8]) = (91, b"\nverdict agreed 14\nend\n");
 
 #[test]
 fn the_largest_run_is_agreed(rt: HostRuntime) -> Result<(), Fail> {
-    let bundle = bundle_of_largest(&rt, rt.alloc(), "")?;
-    assert!(rt; agrees(rt.alloc(), &bundle, b"verdict agreed 14"));
+    let alloc = rt.alloc();
+    let text = largest(alloc, "")?;
+    let bundle = text_of(&rt, alloc, Job::Run { capacity: 1 }, text.as_bytes())?;
+    assert_eq!(rt; bundle.len(), 7_715_812);
+    assert!(rt; writes(&rt, alloc, Job::Audit, &bundle, AGREED));
+    assert!(rt; are_clean(alloc, &bundle)?);
     Ok(())
 }
+
+/// What is decided in it, the last line.
+const DECIDED: (usize, &[u8]) = (454, b"\ngeneral 15 set 14 decides 14\n");
 
 #[test]
 fn the_largest_scenario_is_decided(rt: HostRuntime) -> Result<(), Fail> {
     let text = largest(rt.alloc(), "")?;
-    match decide(rt.alloc(), text.as_bytes()) {
-        Ok(output) => assert!(rt; says(output.text.as_slice(), b"general 15 set 14 decides 14\n")),
-        Err(_) => assert!(rt; false),
-    }
+    assert!(rt; writes(&rt, rt.alloc(), Job::Decide, text.as_bytes(), DECIDED));
     Ok(())
 }
 
-/// The evidence against a general that a bundle holds.
-fn evidence_of(alloc: Global, bundle: &[u8], general: GeneralNo) -> Result<Vec<u8>, Fail> {
-    match accuse(alloc, general, bundle) {
-        Ok(output) => Ok(output.text),
-        Err(_) => Err("no evidence".into()),
-    }
+/// The verdict on the largest run with two orders, its last lines.
+const CONVICTED: (usize, &[u8]) = (109, b"\nverdict agreed 13\nconvicted 0 by K2\nend\n");
+
+/// Whether the evidence against the commander that a bundle holds is so long, and holds.
+fn evidence_holds<R: Threads + Wait + Sync>(
+    rt: &R,
+    alloc: Global,
+    bundle: &[u8],
+    len: usize,
+) -> Result<bool, Fail> {
+    let job = Job::Accuse {
+        general: GeneralNo::at(0),
+    };
+    let found = text_of(rt, alloc, job, bundle)?;
+    let holds = writes(rt, alloc, Job::Evidence, &found, (15, b"evidence holds\n"));
+    Ok(found.len() == len && holds)
 }
 
 #[test]
 fn a_traitor_among_sixteen_is_convicted(rt: HostRuntime) -> Result<(), Fail> {
     let alloc = rt.alloc();
-    let bundle = bundle_of_largest(&rt, alloc, TWO_ORDERS)?;
-    assert!(rt; agrees(alloc, &bundle, b"convicted 0 by K2\n"));
-    let found = evidence_of(alloc, &bundle, GeneralNo::at(0))?;
-    match evidence(alloc, &found) {
-        Ok(output) => assert!(rt;
-            !output.negative && output.text.as_slice() == b"evidence holds\n".as_slice()
-        ),
-        Err(_) => assert!(rt; false),
-    }
+    let text = largest(alloc, TWO_ORDERS)?;
+    let bundle = text_of(&rt, alloc, Job::Run { capacity: 1 }, text.as_bytes())?;
+    assert_eq!(rt; bundle.len(), 19_623_803);
+    assert!(rt; writes(&rt, alloc, Job::Audit, &bundle, CONVICTED));
+    assert!(rt; evidence_holds(&rt, alloc, &bundle, 33_791)?);
     Ok(())
 }
 
@@ -175,14 +227,37 @@ fn empty_exhibits(alloc: Global, header: Header, count: u8) -> Result<Vec<u8>, F
     }
 }
 
+/// Whether a text says a no with these findings at its front and at its end, behind the line of the run id.
+fn is_no(text: &[u8]) -> bool {
+    text.get(69..).is_some_and(|lines| lines.starts_with(
+        b"verdict no\nN1 general 0\nN1 general 2\n",
+    )) && text.ends_with(b"\nN2 general 1\nN3 general 1 L1\nN10 pair 0 1\nend\n")
+}
+
 #[test]
 fn sixty_four_exhibits_are_audited(rt: HostRuntime) -> Result<(), Fail> {
     let alloc = rt.alloc();
     let header = largest_scenario(alloc)?.header().clone()?;
     let bundle = empty_exhibits(alloc, header, 64)?;
-    match audit(alloc, &bundle) {
-        Ok(output) => assert!(rt; output.negative && says(output.text.as_slice(), b"verdict no")),
-        Err(_) => assert!(rt; false),
-    }
+    let (end, text) = done(&rt, alloc, Job::Audit, &bundle);
+    assert!(rt; end == JobEnd::Negative && is_no(&text));
     Ok(())
+}
+
+/// How many bytes are read of so many zeros, or none where reading fails.
+fn count_read(alloc: Global, zeros_given: usize) -> Option<usize> {
+    match read_all(alloc, &mut zero_source(zeros_given)) {
+        Ok(all) => Some(all.len()),
+        Err(_) => None,
+    }
+}
+
+/// The most bytes of an input.
+const MOST_BYTES: usize = 1_073_741_824;
+
+#[test]
+fn the_longest_input_is_read(rt: HostRuntime) {
+    assert!(rt; count_read(rt.alloc(), MOST_BYTES) == Some(MOST_BYTES));
+    let longer = read_all(rt.alloc(), &mut zero_source(MOST_BYTES + 1));
+    assert!(rt; matches!(longer, Err(JobFault::Read)));
 }

@@ -121,7 +121,7 @@ fn checks_bytes(rt: HostRuntime) -> Result<(), Fail> {
 }
 
 /// How a job ends on an input, and what it writes.
-fn done<R: Threads + Wait + Sync>(
+pub(crate) fn done<R: Threads + Wait + Sync>(
     rt: &R,
     alloc: Global,
     job: Job,

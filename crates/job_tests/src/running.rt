@@ -3,7 +3,7 @@ use crate::bundles::bundle_of;
 use crate::disputed::{is_of_stolen_key, stolen_bundle, stolen_text};
 use crate::scenarios::{
     CUT_BY_TWO_HEADS, FLOOD, LATE, LINE, ONE_TOO_MANY, PAIR, PAIR_IN_SLOT, PAIR_WITHOUT_SEED, RING,
-    SPLIT,
+    SPLIT, TWICE,
 };
 use crate::streams::{Slip, sink_for, source_of};
 use gen_jobs::{JobEnd, JobFault, run_engine};
@@ -14,12 +14,13 @@ use std::test::*;
 use std::thread::Threads;
 
 // Scenarios with and without traitors; in the one before the last no walks are given.
-const RUNS: [&[u8]; 7] = [
+const RUNS: [&[u8]; 8] = [
     SPLIT,
     LINE,
     RING,
     LATE,
     ONE_TOO_MANY,
+    TWICE,
     CUT_BY_TWO_HEADS,
     FLOOD,
 ];

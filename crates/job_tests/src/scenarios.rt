@@ -10,6 +10,11 @@ pub(crate) const PAIR_IN_SLOT: &[u8] = b"\
     generals 2\nedge 0 1\ntraitors 0\ndiameter 1\norders 2\nchoice 0\norder 1\n\
     seed 0000000000000000000000000000000000000000000000000000000000000000\nslot 1\nend\n";
 
+/// The same in a slot that there isn't.
+pub(crate) const PAIR_PAST_SLOTS: &[u8] = b"\
+    generals 2\nedge 0 1\ntraitors 0\ndiameter 1\norders 2\nchoice 0\norder 1\n\
+    seed 0000000000000000000000000000000000000000000000000000000000000000\nslot 4\nend\n";
+
 /// The same without a seed.
 pub(crate) const PAIR_WITHOUT_SEED: &[u8] = b"\
     generals 2\nedge 0 1\ntraitors 0\ndiameter 1\norders 2\nchoice 0\norder 1\nend\n";

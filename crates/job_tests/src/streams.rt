@@ -1,4 +1,4 @@
-//! A reader and a writer that give and take a few bytes of each call, and slip at one.
+//! A reader and a writer that give and take a few bytes of each call, and slip at one; and a reader of zeros.
 use std::alloc::Global;
 use std::io;
 use std::io::{Read, Write};
@@ -85,6 +85,26 @@ impl Write for Sink {
             _ => Ok(()),
         }
     }
+}
+
+/// Gives so many zeros, without having them.
+#[derive(Drop)]
+pub(crate) struct Zeros {
+    left: usize,
+}
+
+impl Read for Zeros {
+    fn read(&mut self, buf: &mut [u8]) -> io::Result<usize> {
+        let count = buf.len().min(self.left);
+        buf[..count].fill(0);
+        self.left -= count;
+        Ok(count)
+    }
+}
+
+/// A reader of so many zeros.
+pub(crate) fn zero_source(left: usize) -> Zeros {
+    Zeros { left }
 }
 
 /// A reader of these bytes, so many at each call, whose call of this number slips.
