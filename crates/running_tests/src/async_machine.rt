@@ -1,4 +1,5 @@
 //! Acts of the machine, and what it keeps. The answers of the two rows are worked out by hand.
+use crate::scenarios::scenario_of;
 use crate::world_runs::without_scripts;
 use gen_async::{Machine, Moved};
 use gen_log::SealedLog;
@@ -79,18 +80,34 @@ fn two_generals(rt: HostRuntime) -> Result<(), Fail> {
     Ok(())
 }
 
-/// Runs the acts of a row on three generals up to the last, which answers this, and lets them end.
+/// Runs the acts of a row on three generals, of which the last answers this, and lets them end.
 fn run_three(alloc: Global, machine: &mut Machine, last: Moved) -> Result<bool, AllocError> {
     let answers = answers_of(alloc, machine, &[0, 0, 2, 2, 1, 1, 1, 1, 1])?;
-    let right = answers.len() == 9 && answers.last() == Some(&last);
+    let expected = [
+        Moved::Put,
+        Moved::Put,
+        Moved::Put,
+        Moved::Put,
+        Moved::Put,
+        Moved::Put,
+        Moved::Took,
+        Moved::Took,
+        last,
+    ];
     run_on(alloc, machine, 24)?;
-    Ok(right && machine.mover().is_none())
+    Ok(answers.as_slice() == expected.as_slice() && machine.mover().is_none())
 }
+
+/// The paper's figure 5: a traitorous commander gives the two lieutenants different orders.
+const SPLIT: &[u8] = b"\
+    generals 3\nedge 0 1\nedge 0 2\nedge 1 2\ntraitors 1\ndiameter 1\norders 2\nchoice 0\norder 1\n\
+    seed 0000000000000000000000000000000000000000000000000000000000000000\nscript 0\n\
+    make 1 1 1 0\nmake 1 2 0 0\nend\n";
 
 #[test]
 fn three_generals(rt: HostRuntime) -> Result<(), Fail> {
     let alloc = rt.alloc();
-    let scenario = without_scripts(alloc, 3, &[(0, 1), (0, 2), (1, 2)], (1, 1))?;
+    let scenario = scenario_of(alloc, SPLIT)?;
     for (capacity, last) in [(1, Moved::Blocked), (2, Moved::Put)] {
         let mut machine = Machine::new(alloc, &scenario, capacity)?;
         let right = run_three(alloc, &mut machine, last);

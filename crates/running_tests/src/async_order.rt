@@ -1,5 +1,6 @@
-//! A ring of six generals, of whom one is a traitor who sends nothing: whoever acts when, 120 acts move, and the logs are
-//! those of the run. Besides the machine's own movers the generals act as two lists say, which are drawn from seeds.
+//! Two generals, a line of four, and a ring of six of whom one is a traitor who sends nothing: whoever acts when, so many
+//! acts move, and the logs are those of the run. Besides the machine's own movers the generals act as two lists say,
+//! which are drawn from seeds.
 use crate::async_machine::{are_equal, logs_of, moves_to_the_end};
 use crate::scenarios::scenario_of;
 use gen_async::{Machine, Moved};
@@ -12,17 +13,36 @@ use rand_core::utils::NextWord;
 use std::alloc::{AllocError, Global};
 use std::test::Fail;
 
-/// How many acts move in a ring of six with five rounds: four for each edge and round.
-const RING_ACTS: u32 = 120;
-
 /// How often somebody is drawn, which is enough for all acts.
 const DRAWS: u32 = 4000;
 
-/// The ring with order 1 in which 3 sends nothing.
-const RING: &[u8] = b"\
+/// A scenario's text, and how many acts move in its run: four for each edge and round.
+type Row<'a> = (&'a [u8], u32);
+
+/// Two generals and one round.
+const PAIR: Row<'_> = (
+    b"\
+    generals 2\nedge 0 1\ntraitors 0\ndiameter 1\norders 2\nchoice 0\norder 1\n\
+    seed 0000000000000000000000000000000000000000000000000000000000000000\nend\n",
+    4,
+);
+
+/// Four generals in a line, and three rounds.
+const LINE: Row<'_> = (
+    b"\
+    generals 4\nedge 0 1\nedge 1 2\nedge 2 3\ntraitors 0\ndiameter 3\norders 2\nchoice 0\norder 1\n\
+    seed 0000000000000000000000000000000000000000000000000000000000000000\nend\n",
+    36,
+);
+
+/// The ring with order 1 and five rounds, in which 3 sends nothing.
+const RING: Row<'_> = (
+    b"\
     generals 6\nedge 0 1\nedge 1 2\nedge 2 3\nedge 3 4\nedge 4 5\nedge 0 5\ntraitors 1\n\
     diameter 4\norders 2\nchoice 0\norder 1\n\
-    seed 0000000000000000000000000000000000000000000000000000000000000000\nscript 3\nend\n";
+    seed 0000000000000000000000000000000000000000000000000000000000000000\nscript 3\nend\n",
+    120,
+);
 
 /// Lets generals act who are drawn from a seed. How many acts moved.
 fn moves_by_lot(alloc: Global, machine: &mut Machine, seed: u8) -> Result<u32, AllocError> {
@@ -47,7 +67,7 @@ fn attempt(alloc: Global, machine: &mut Machine, number: u8) -> Result<u32, Allo
 }
 
 /// How many acts moved at this capacity, by the movers or by lots from a seed, and the logs.
-fn run_ring(
+fn run_to_the_end(
     alloc: Global,
     scenario: &Scenario,
     capacity: usize,
@@ -56,25 +76,46 @@ fn run_ring(
     let mut machine = Machine::new(alloc, scenario, capacity)?;
     let moved = match seed {
         Some(seed) => moves_by_lot(alloc, &mut machine, seed),
-        None => moves_to_the_end(alloc, &mut machine, RING_ACTS + 1),
+        None => moves_to_the_end(alloc, &mut machine, DRAWS),
     };
     let logs = logs_of(alloc, machine)?;
     Ok((moved?, logs))
 }
 
-#[test]
-fn whoever_acts_when_the_logs_are_the_same(rt: HostRuntime) -> Result<(), Fail> {
-    let alloc = rt.alloc();
-    let scenario = scenario_of(alloc, RING)?;
+/// Whether at this capacity, whoever acts when, so many acts move and the logs are these.
+fn is_the_same(
+    alloc: Global,
+    scenario: &Scenario,
+    capacity: usize,
+    acts: u32,
+    wanted: &[SealedLog],
+) -> Result<bool, AllocError> {
+    for seed in [None, Some(1), Some(2)] {
+        let (moved, logs) = run_to_the_end(alloc, scenario, capacity, seed)?;
+        if moved != acts || !are_equal(logs.as_slice(), wanted) {
+            return Ok(false);
+        }
+    }
+    Ok(true)
+}
+
+/// The first capacity at which a row is not so.
+fn first_wrong(alloc: Global, (text, acts): Row<'_>) -> Result<Option<usize>, Fail> {
+    let scenario = scenario_of(alloc, text)?;
     let run = run_world(alloc, &scenario)?;
     for capacity in [1, 2, 16] {
-        for seed in [None, Some(1), Some(2)] {
-            let (moved, logs) = run_ring(alloc, &scenario, capacity, seed)?;
-            assert!(rt;
-                moved == RING_ACTS && are_equal(logs.as_slice(), run.logs()),
-                "{capacity}"
-            );
+        if !is_the_same(alloc, &scenario, capacity, acts, run.logs())? {
+            return Ok(Some(capacity));
         }
+    }
+    Ok(None)
+}
+
+#[test]
+fn whoever_acts_when_the_logs_are_the_same(rt: HostRuntime) -> Result<(), Fail> {
+    for row in [PAIR, LINE, RING] {
+        let wrong = first_wrong(rt.alloc(), row)?;
+        assert_eq!(rt; wrong, None, "{}", row.1);
     }
     Ok(())
 }
