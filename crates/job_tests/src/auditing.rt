@@ -212,17 +212,6 @@ fn beginnings_are_short(alloc: Global, bundle: &[u8]) -> bool {
     true
 }
 
-/// Whether each proper beginning of a bundle is read as one that ends too early.
-fn beginnings_are_short(alloc: Global, bundle: &[u8]) -> bool {
-    for end in 0..bundle.len() {
-        let fault = read_bundle(alloc, &bundle[..end]).err();
-        if fault != Some(ReadError::Fault(BundleFault::Truncated)) {
-            return false;
-        }
-    }
-    true
-}
-
 #[test]
 fn cut_bundles_are_refused(rt: HostRuntime) -> Result<(), Fail> {
     let alloc = rt.alloc();

@@ -309,64 +309,6 @@ fn whose_key_was_stolen_answers_by_his_log(rt: HostRuntime) -> Result<(), Fail> 
     Ok(())
 }
 
-/// The log that these bytes are.
-fn log_in(alloc: Global, header: &Header, bytes: &[u8]) -> Result<Log, Fail>
-    ensures { IfOk result (λ log. IsLog header.now log) }
-{
-    match read_log(alloc, header, bytes) {
-        Ok(log) => Ok(log),
-        Err(_) => Err("no log".into()),
-    }
-}
-
-/// What a log answers that its general kept, to evidence that holds against him.
-fn answer_of(
-    alloc: Global,
-    header: &Header,
-    evidence: &Evidence,
-    own: &Log,
-) -> Result<Refutation, Fail>
-    requires { IsLog header.now own.now }
-{
-    if evidence.accused.get() >= header.net().generals() {
-        return Err("no general of the network".into());
-    }
-    if !is_own_log(header, evidence.accused, own) {
-        return Err("not his own".into());
-    }
-    if !check_evidence(alloc, header, evidence)? {
-        return Err("it doesn't hold".into());
-    }
-    Ok(refute(alloc, header, evidence, own)?)
-}
-
-/// What the first log of a bundle answers to the first conviction that its audit gives.
-fn answer_to_conviction(alloc: Global, bundle: &Bundle) -> Result<Refutation, Fail> {
-    let judgement = audit_plain(alloc, bundle)?;
-    let evidence = judgement.convictions.first().ok_or("no conviction")?;
-    let exhibit = bundle.exhibits().first().ok_or("no exhibit")?;
-    let own = log_in(alloc, bundle.header(), exhibit.log())?;
-    answer_of(alloc, bundle.header(), evidence, &own)
-}
-
-/// Whether the commander's statement of order 0 is said to be forged.
-fn is_forged(answer: &Refutation) -> bool {
-    let (order, path) = (OrderNo::at(0), Path::commander());
-    match answer {
-        Refutation::Forged(text) => text.signer == GeneralNo::commander()
-            && text.text == Text::OfStatement(Statement { order, path }),
-        Refutation::Collision(_, _) => false,
-    }
-}
-
-#[test]
-fn whose_key_was_stolen_answers_by_his_log(rt: HostRuntime) -> Result<(), Fail> {
-    let alloc = rt.alloc();
-    let bundle = bundle_in(alloc, &stolen_bundle(alloc)?)?;
-    assert!(rt; is_forged(&answer_to_conviction(alloc, &bundle)?));
-    Ok(())
-}
-
 /// The bytes of a log up to its head, with the commander's signature bent in what came from general 3.
 fn bent_front(alloc: Global, log: &[u8]) -> Result<Vec<u8>, Fail> {
     let mut bent = Vec::new(alloc);
