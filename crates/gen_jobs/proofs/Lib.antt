@@ -1,3 +1,4 @@
+pub mod Accepted
 pub mod Accused
 pub mod Bundling
 pub mod Delivering

@@ -1,3 +1,4 @@
+pub mod Accepted
 pub mod Accusing
 pub mod Answering
 pub mod Audit

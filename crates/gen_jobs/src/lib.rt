@@ -16,6 +16,7 @@ mod checking;
 mod deciding;
 mod ends;
 mod jobs;
+pub mod laws;
 mod running;
 mod transfer;
 

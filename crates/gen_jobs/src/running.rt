@@ -1,11 +1,12 @@
 //! The job `run`.
 ghost use Rattle.std.specs.Prelude.{◌≡◌, ◌<◌, false, IfErr, IfOk, IfSome};
 ghost use Rattle.gen_audit.specs.BundleSpelling.{bundle_spelling};
+ghost use Rattle.gen_audit.specs.WorldBundle.{AreWalksOfRun};
 ghost use Rattle.gen_report.specs.LineReading.{fault_at};
 ghost use Rattle.gen_report.specs.declared.fault.LineFault.TheVariants.{BadSeed};
 ghost use Rattle.gen_jobs.specs.Answering.{Answers};
 ghost use Rattle.gen_jobs.specs.Ends.{IsTaken, KeepsUntilWhole};
-ghost use Rattle.gen_jobs.specs.Run.{AreWalksOfRun, IsRun, IsRunFault, MakesBundle, line_after_order};
+ghost use Rattle.gen_jobs.specs.Run.{IsRun, IsRunFault, MakesBundle, line_after_order};
 ghost use Rattle.gen_jobs.specs.declared.ends.JobFault.TheVariants as faults;
 
 use crate::bundle_text::{BundleText, deliver_bundle};
@@ -78,7 +79,7 @@ fn exhibits_of(alloc: Global, logs: Vec<SealedLog>) -> Result<Vec<Exhibit>, Allo
 }
 
 /// Returns the bundle of the scenario's run: the generals who have scripts are held for faulty, and all logs
-/// are shown.
+/// are shown. What a run gives breaks no rule of bundles.
 fn bundle_of_run<T: Threads + Wait + Sync>(
     rt: &T,
     alloc: Global,
@@ -94,10 +95,7 @@ fn bundle_of_run<T: Threads + Wait + Sync>(
     let net = header.net();
     let walks = walks_between(alloc, net, &net.rest(&faulty))?;
     let exhibits = exhibits_of(alloc, logs)?;
-    match Bundle::new(header, faulty, walks, exhibits) {
-        Ok(bundle) => Ok(bundle),
-        Err(fault) => Err(JobFault::Bundle(fault)),
-    }
+    Ok(Bundle::new(header, faulty, walks, exhibits).unwrap())
 }
 
 /// Returns the bundle of the run of the scenario that the input spells.
@@ -147,8 +145,8 @@ pub fn run_in_pieces<T: Threads + Wait + Sync>(
 /// # Errors
 ///
 /// `Scenario` with the first fault of an input that spells no scenario, or `P6` at the line behind the order
-/// where it spells one without a seed; `Bundle` where what the run gives breaks a rule of bundles; `Memory`
-/// where memory is refused, and `Thread` where a thread can't be started.
+/// where it spells one without a seed; `Memory` where memory is refused, and `Thread` where a thread can't be
+/// started.
 pub fn run<T: Threads + Wait + Sync>(
     rt: &T,
     alloc: Global,

@@ -1,14 +1,16 @@
-use Rattle.std.proofs.Common.{rules, ◌≡◌, ◌∙◌, sym, ap, subst}
+use Rattle.std.proofs.Common.{rules, ◌≡◌, ◌∙◌, Ok, sym, ap, subst}
 use Rattle.gen_net.specs.Header.{RunHeader}
 use Rattle.gen_net.specs.Network.{Network}
 use Rattle.gen_scenario.specs.Scenario.{header_of, scripted}
 use Rattle.gen_scenario.specs.Rows.{logs_of_all}
-use Rattle.gen_jobs.specs.Run.{AreWalksOfRun, HasWalks}
-use Rattle.gen_jobs.proofs.Bundling.{made_of, broken_by}
+use Rattle.gen_audit.specs.WorldBundle.{AreWalksOfRun, HasWalks, bundle_of}
+use Rattle.gen_types.proofs.Steps.{ok_is}
+use Rattle.gen_audit.specs.declared.bundle_fault.BundleFault.{BundleFault}
+use Rattle.gen_jobs.proofs.Bundling.{made_of, made_ok}
 use Rattle.gen_jobs.proofs.running.bundle_of_run.Goals as goal
 
-pub returns-in-Ok : goal.returns-in-Ok
-returns-in-Ok g c =
+pub unwrap-requires : goal.unwrap-requires
+unwrap-requires g c =
     let s = c.args.scenario.now in
     let walks = c.in_ok-walks.walks in
     let is_header : c.in_ok-header.header ≡ header_of s = search rules in
@@ -17,10 +19,11 @@ returns-in-Ok g c =
     let has : HasWalks s walks = record { rest = c.rest.result; of_rest = search rules; walks_are = between } in
     let is_faulty : c.scripted-faulty.result ≡ scripted s.scripts = search rules in
     let is_shown : c.in_ok-exhibits.exhibits.items ≡ logs_of_all s = c.in_ok-exhibits.ensures ∙ c.in_ok-logs.ensures.logs in
-    (walks, has, made_of s c.in_ok-header.header c.scripted-faulty.result walks c.in_ok-exhibits.exhibits.items c.in-Ok.bundle is_header is_faulty is_shown (sym c.new.ensures ∙ c.in-Ok.is))
+    let made = made_of s c.in_ok-header.header c.scripted-faulty.result walks c.in_ok-exhibits.exhibits.items c.header.ensures.scenario has is_header is_faulty is_shown in
+    made_ok c.new.result (bundle_of s walks) (c.new.ensures ∙ made)
 
-pub returns-in-Err : goal.returns-in-Err
-returns-in-Err g c =
+pub returns : goal.returns
+returns g c =
     let s = c.args.scenario.now in
     let walks = c.in_ok-walks.walks in
     let is_header : c.in_ok-header.header ≡ header_of s = search rules in
@@ -29,4 +32,5 @@ returns-in-Err g c =
     let has : HasWalks s walks = record { rest = c.rest.result; of_rest = search rules; walks_are = between } in
     let is_faulty : c.scripted-faulty.result ≡ scripted s.scripts = search rules in
     let is_shown : c.in_ok-exhibits.exhibits.items ≡ logs_of_all s = c.in_ok-exhibits.ensures ∙ c.in_ok-logs.ensures.logs in
-    (walks, has, broken_by s c.in_ok-header.header c.scripted-faulty.result walks c.in_ok-exhibits.exhibits.items _ is_header is_faulty is_shown (sym c.new.ensures ∙ c.in-Err.is))
+    let made = made_of s c.in_ok-header.header c.scripted-faulty.result walks c.in_ok-exhibits.exhibits.items c.header.ensures.scenario has is_header is_faulty is_shown in
+    (walks, has, ok_is {F = BundleFault} c.unwrap.result (bundle_of s walks) (sym c.unwrap.ensures ∙ c.new.ensures ∙ made))

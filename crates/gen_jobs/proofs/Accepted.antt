@@ -1,0 +1,87 @@
+-- What the job run writes the job audit reads, and accepts.
+use Rattle.std.proofs.Common.{◌≡◌, ◌<◌, ◌≤◌, ◌++◌, ◌∷◌, ℕ, Bool, false, inl, inr, List, length, All, Contains, Ok, refl, sym, ap, subst, ◌∙◌}
+use Rattle.std.specs.Int.{w32, to_be_bytes}
+use Rattle.std.specs.List.{flat_map}
+use Rattle.std.proofs.lemmas.List.Elements.{All-contains, Contains-append_right}
+use Rattle.gen_types.specs.Ascending.{IsListOf}
+use Rattle.gen_types.specs.Spelled.{Spells}
+use Rattle.gen_types.proofs.Lists.{All_of, Contains_there}
+use Rattle.gen_types.proofs.Steps.{ok_is}
+use Rattle.gen_net.specs.Front.{front_spelling}
+use Rattle.gen_net.specs.Network.{IsLoyal}
+use Rattle.gen_walks.specs.Walks.{BoundsDiameter}
+use Rattle.gen_walks.proofs.Pairs.{bounds}
+use Rattle.gen_log.specs.Fields.{AreBelow, set_spelling}
+use Rattle.gen_log.specs.Writing.{LogBytes}
+use Rattle.gen_scenario.specs.Rows.{logs_of_all}
+use Rattle.gen_scenario.specs.Scenario.{Scenario, IsScenario, scripted}
+use Rattle.gen_scenario.proofs.Having.{in_flat}
+use Rattle.gen_audit.specs.declared.bundle_fault.BundleFault.{BundleFault}
+use Rattle.gen_audit.specs.declared.verdicts.Verdict.{Verdict}
+use Rattle.gen_audit.specs.declared.verdicts.Verdict.TheVariants.{Agreed, Explained, No}
+use Rattle.gen_audit.specs.Bundle.{Bundle, IsBundle}
+use Rattle.gen_audit.specs.BundleSpelling.{bundle_marks, bundle_spelling, exhibit_spelling, exhibits_spelling, walks_spelling}
+use Rattle.gen_audit.specs.Headline.{IsYes}
+use Rattle.gen_audit.specs.Verdict.{IsVerdict}
+use Rattle.gen_audit.specs.WorldBundle.{HasWalks, IsAcceptable, bundle_of}
+use Rattle.gen_audit.proofs.BundleLaws.{bundle_only}
+use Rattle.gen_audit.proofs.RunBundles.{world_is_bundle}
+use Rattle.gen_audit.proofs.Worlds.{world_is_accepted}
+use Rattle.gen_jobs.specs.Accepted.{IsSound, RunsAreAccepted, RunsAreRead}
+use Rattle.gen_jobs.specs.Audit.{is_no}
+use Rattle.gen_jobs.specs.Run.{IsRun}
+
+-- the bytes of what is shown stand in the bundle's
+shown_bytes : (b : Bundle) (x : LogBytes) (v : ℕ) → Contains b.exhibits x → Contains x.bytes v → Contains (bundle_spelling b) v
+shown_bytes b x v shown h =
+    let one : Contains (exhibit_spelling x) v = Contains_there x.general v (to_be_bytes w32 (length x.bytes) ++ x.bytes) (Contains-append_right (to_be_bytes w32 (length x.bytes)) x.bytes v h) in
+    let all : Contains (exhibits_spelling b.exhibits) v = Contains_there (length b.exhibits) v (flat_map exhibit_spelling b.exhibits) (in_flat exhibit_spelling b.exhibits x v shown one) in
+    Contains-append_right (front_spelling bundle_marks b.header) (set_spelling b.faulty ++ (walks_spelling b.walks ++ exhibits_spelling b.exhibits)) v
+    (Contains-append_right (set_spelling b.faulty) (walks_spelling b.walks ++ exhibits_spelling b.exhibits) v
+    (Contains-append_right (walks_spelling b.walks) (exhibits_spelling b.exhibits) v all))
+
+-- what was spelled in bytes is a bundle
+spelled_bundle : (s : Scenario) (walks : List (List ℕ)) (text : List ℕ) → IsScenario s → HasWalks s walks → text ≡ bundle_spelling (bundle_of s walks) → AreBelow 256 text → Spells IsBundle bundle_spelling text (bundle_of s walks)
+spelled_bundle s walks text ok has spelled below = record {
+  fits = world_is_bundle s walks ok has (λ x shown. All_of (λ v. v < 256) x.bytes (λ v h.
+      All-contains (λ v. v < 256) text v below (subst (λ (t : List ℕ). Contains t v) (sym spelled) (shown_bytes (bundle_of s walks) x v shown h))));
+  spelled = spelled;
+}
+
+is_lawful : (input text : List ℕ) (said : Bool) (run : IsRun input text said) → IsScenario run.scenario
+is_lawful input text said run = run.spelled.keys_are.lawful
+
+pub runs_are_read : RunsAreRead
+runs_are_read input text said run below =
+    bundle_only text (bundle_of run.scenario run.walks) (spelled_bundle run.scenario run.walks text (is_lawful input text said run) run.has_walks run.text_is below)
+
+-- the walks of a run bound the rest, where any two of the rest are joined
+walks_bound : (s : Scenario) (walks : List (List ℕ)) (has : HasWalks s walks) → IsSound s → BoundsDiameter s.net has.rest walks
+walks_bound s walks has sound = elim has.walks_are [
+  | inl best ↦ bounds s.net has.rest walks best
+  | inr none ↦ absurd (none.1.2.bad (sound.joined has.rest has.of_rest none.1.0 none.1.1 none.1.2.pair))
+]
+
+is_acceptable : (s : Scenario) (walks : List (List ℕ)) → IsScenario s → HasWalks s walks → IsSound s → IsAcceptable s walks
+is_acceptable s walks ok has sound = record {
+  scenario = ok;
+  no_raw = sound.no_raw;
+  somebody = sound.somebody;
+  rest = has.rest;
+  of_rest = has.of_rest;
+  bound = walks_bound s walks has sound;
+}
+
+yes_is : (verdict : Verdict) → IsYes verdict → is_no verdict ≡ false
+yes_is (Agreed order) is = refl
+yes_is (Explained decisions) is = refl
+yes_is (No findings) is = absurd is
+
+pub runs_are_accepted : RunsAreAccepted
+runs_are_accepted input text report said negative run below sound audited =
+    let s = run.scenario in
+    let ours = runs_are_read input text said run below in
+    let same : audited.bundle ≡ bundle_of s run.walks = ok_is {F = BundleFault} audited.bundle (bundle_of s run.walks) (sym (bundle_only text audited.bundle audited.spelled) ∙ ours) in
+    let judged : IsVerdict (bundle_of s run.walks) audited.verdict = subst (λ (b : Bundle). IsVerdict b audited.verdict) same audited.judged in
+    let fine = is_acceptable s run.walks (is_lawful input text said run) run.has_walks sound in
+    audited.negative_is ∙ yes_is audited.verdict (world_is_accepted s run.walks fine audited.verdict judged)

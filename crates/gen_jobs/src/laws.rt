@@ -1,0 +1,11 @@
+//! Laws of jobs. Each is a function with an empty body whose contract is the law: a caller that calls it knows
+//! the law.
+ghost use Rattle.gen_jobs.specs.Accepted.{RunsAreAccepted, RunsAreRead};
+
+/// What the job `run` writes is read as the bundle of its run (`read`); and what the job `audit` makes of it does
+/// not say no (`accepted`): where no script has a raw line, somebody has no script, and any two of those who have
+/// none are joined inside them by at most d edges.
+pub fn runs_are_accepted()
+    ensures read { RunsAreRead }
+    ensures accepted { RunsAreAccepted }
+{}
