@@ -73,15 +73,15 @@ is_acceptable s walks ok has sound = record {
 }
 
 yes_is : (verdict : Verdict) → IsYes verdict → is_no verdict ≡ false
-yes_is (Agreed order) yes = refl
-yes_is (Explained decisions) yes = refl
-yes_is (No findings) yes = absurd yes
+yes_is (Agreed order) is = refl
+yes_is (Explained decisions) is = refl
+yes_is (No findings) is = absurd is
 
 pub runs_are_accepted : RunsAreAccepted
 runs_are_accepted input text report said negative run below sound audited =
     let s = run.scenario in
     let ours = runs_are_read input text said run below in
     let same : audited.bundle ≡ bundle_of s run.walks = ok_is {F = BundleFault} audited.bundle (bundle_of s run.walks) (sym (bundle_only text audited.bundle audited.spelled) ∙ ours) in
-    let judged : IsVerdict (bundle_of s run.walks) audited.verdict = subst (λ (b : Bundle). IsVerdict b audited.verdict) same audited.judged in
+    let judged : IsVerdict (bundle_of s run.walks) audited.audits.verdict = subst (λ (b : Bundle). IsVerdict b audited.audits.verdict) same audited.audits.judged in
     let fine = is_acceptable s run.walks (is_lawful input text said run) run.has_walks sound in
-    audited.negative_is ∙ yes_is audited.verdict (world_is_accepted s run.walks fine audited.verdict judged)
+    audited.audits.negative_is ∙ yes_is audited.audits.verdict (world_is_accepted s run.walks fine audited.audits.verdict judged)
