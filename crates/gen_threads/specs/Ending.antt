@@ -1,5 +1,5 @@
 -- How a general ends.
-use Rattle.std.specs.Prelude.{ℕ, ◌≡◌, ◌<◌, ◌⊎◌, List, map, Contains, Option, Some, None, IfOk, IfErr}
+use Rattle.std.specs.Prelude.{ℕ, ◌≡◌, ◌<◌, ◌⊎◌, List, map, Contains, Option, Some, None, IfOk, IfErr, OnOk}
 use Rattle.gen_tree.specs.Rings.{Ring}
 use Rattle.gen_net.specs.Header.{RunHeader}
 use Rattle.gen_net.specs.Network.{rounds}
@@ -15,6 +15,7 @@ use Rattle.gen_threads.specs.declared.ends.GeneralEnd.{GeneralEnd}
 use Rattle.gen_threads.specs.declared.edges.Edges.{Edges}
 use Rattle.gen_threads.specs.Edges.{ArePassesOf, HaveCarried}
 use Rattle.gen_threads.specs.Faults.{IsOwnFault}
+use Rattle.gen_threads.specs.Rings.{RingSpentOn}
 
 -- the ring is that of his seed, from which no leaf of the run was taken, or none where he has a script
 abbrev pub MayRunWith : Scenario → ℕ → Option Ring → Type 0
@@ -37,11 +38,13 @@ RingComesBack h _ _ = ⊥
 abbrev pub logs_by : Scenario → ℕ → List LogBytes
 logs_by s g = map (log_bytes g) (logs_of s g)
 
--- His ring and his passes come back, in their order. Where there is no fault the logs are his of the scenario's run, and
--- each pass has carried the frames of all rounds; and a fault is one of his own.
+-- His ring and his passes come back, in their order. Where there is no fault the logs are his of the scenario's run, from the
+-- ring exactly the leaves of their texts were taken, and each pass has carried the frames of all rounds; and a fault is one of
+-- his own.
 pub record IsEndOf (edges : Edges) (s : Scenario) (g : ℕ) (ring : Option Ring) (end : GeneralEnd) : Type 0 where
   pub comes_back : RingComesBack (header_of s) ring end.ring
   pub passes : ArePassesOf edges s g end.puts.items end.takes.items
   pub logs : IfOk end.logs (λ logs. (logs.items ≡ logs_by s g)
       × HaveCarried edges s (rounds s.net) g end.puts.items end.takes.items)
+  pub spent : OnOk end.logs (RingSpentOn (header_of s) (logs_of s g) ring end.ring)
   pub fault : IfErr end.logs (IsOwnFault end.takes.items)

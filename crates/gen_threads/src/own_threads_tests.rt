@@ -3,11 +3,12 @@ ghost use Rattle.std.specs.Prelude.{◌≡◌, ◌<◌, IfOk};
 ghost use Rattle.gen_threads.specs.Edges.{HaveCarried};
 ghost use Rattle.gen_threads.specs.Ending.{MayRunWith};
 
-use crate::tests::{Meeting, is_same, pair};
+use crate::tests::{Meeting, Open, is_same, pair};
 use crate::{Edges, Gate, GeneralEnd, Passes, RunPart, run_general};
 use gen_log::SealedLog;
+use gen_net::Net;
 use gen_tree::KeyRing;
-use gen_types::GeneralNo;
+use gen_types::{GeneralNo, OrderNo};
 use gen_world::{Scenario, run_world};
 use std::alloc::Global;
 use std::sync::Wait;
@@ -197,5 +198,32 @@ fn neighbours_meet_in_threads_of_their_own(rt: HostRuntime) -> Result<(), Fail> 
     let gate = Meeting::new();
     let ends = ends_of_pair(&rt, alloc, &scenario, &gate)?;
     assert!(rt; gate.has_met() && have_logs_of_run(alloc, &scenario, &ends)?);
+    Ok(())
+}
+
+/// Two generals who are neighbours, in the second of the runs that their trees serve.
+#[tactic(auto, using(gen_scenario::proofs::ScriptPairs::no_scripts))]
+fn pair_in_slot(alloc: Global) -> Result<Scenario, Fail> {
+    let net = Net::new(alloc, 2, &[(0, 1)], 0, 1, 2, 0)?;
+    let order = OrderNo::at(1);
+    Ok(Scenario::new_in_slot(alloc, net, 1, order, &[0; 32], Vec::new(alloc))?)
+}
+
+/// Whether these leaves were taken from a general's ring, which is closed, and no others.
+fn has_taken(end: GeneralEnd, leaves: &[u8]) -> bool {
+    let mut end = end;
+    let Some(ring) = end.ring.take() else {
+        return false;
+    };
+    let taken = ring.close();
+    taken.len() == leaves.len() && leaves.iter().all(|leaf| taken.contains(*leaf))
+}
+
+#[test]
+fn leaves_of_a_pair_in_slot_1(rt: HostRuntime) -> Result<(), Fail> {
+    let alloc = rt.alloc();
+    let scenario = pair_in_slot(alloc)?;
+    let [commander, lieutenant] = ends_of_pair(&rt, alloc, &scenario, &Open)?;
+    assert!(rt; has_taken(commander, &[17, 31]) && has_taken(lieutenant, &[31]));
     Ok(())
 }

@@ -6,9 +6,11 @@ ghost use Rattle.gen_net.specs.Network.{AreNeighbours, rounds};
 ghost use Rattle.gen_general.specs.DrivenRecords.{HasSent, HasHeard, RecordsAfter};
 ghost use Rattle.gen_scenario.specs.Scenario.{header_of};
 ghost use Rattle.gen_scenario.specs.SignedWorld.{frame_at, neighbours_of};
+ghost use Rattle.gen_scenario.specs.WorldLogs.{entries_after};
 ghost use Rattle.gen_threads.specs.Edges.{ArePassesOf, HasPut, HasTakenBy, HaveCarried, IsPutOn, IsTakeBy};
 ghost use Rattle.gen_threads.specs.Ending.{RingComesBack};
 ghost use Rattle.gen_threads.specs.Faults.{HasLastWord, IsOwnFault};
+ghost use Rattle.gen_threads.specs.Rings.{HasSigned};
 ghost use Rattle.gen_threads.specs.Turns.{HasPutUntil, HasTakenUntil, IsPutting, IsTaking, place_of_next};
 
 use crate::edges::Edges;
@@ -225,6 +227,9 @@ pub(crate) fn run_round<R: Wait>(
     ensures passes { ArePassesOf edges.now part.now.scenario part.now.me puts.new.items takes.new.items }
     ensures fault { IfErr result (IsOwnFault takes.new.items) }
     ensures ring { RingComesBack (header_of part.now.scenario) recorder.old.standing.ring recorder.new.standing.ring }
+    ensures signed { OnOk result
+        (HasSigned part.now.scenario part.now.me (entries_after part.now.scenario part.now.me gone)
+        recorder.old.standing.ring recorder.new.standing.ring) }
 {
     let _lawful = part.part();
     recorder.begin_round(alloc)?;

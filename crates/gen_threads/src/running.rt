@@ -3,9 +3,11 @@ ghost use Rattle.std.specs.Prelude.{◌≡◌, IfOk, IfErr, MatchResult, OnOk};
 ghost use Rattle.gen_net.specs.Network.{rounds};
 ghost use Rattle.gen_general.specs.DrivenRecords.{RecordsAfter};
 ghost use Rattle.gen_scenario.specs.Scenario.{header_of};
+ghost use Rattle.gen_scenario.specs.WorldLogs.{logs_of, middle_of};
 ghost use Rattle.gen_threads.specs.Edges.{ArePassesOf, HaveCarried};
 ghost use Rattle.gen_threads.specs.Ending.{IsEndOf, MayRunWith, RingComesBack, logs_by};
 ghost use Rattle.gen_threads.specs.Faults.{IsOwnFault};
+ghost use Rattle.gen_threads.specs.Rings.{HasSigned, RingSpentOn};
 ghost use Rattle.gen_threads.specs.Turns.{AreOver};
 
 use crate::edges::Edges;
@@ -57,6 +59,8 @@ fn run_rounds<R: Wait, G: Gate>(
     ensures passes { ArePassesOf edges.now part.now.scenario part.now.me puts.new.items takes.new.items }
     ensures fault { IfErr result (IsOwnFault takes.new.items) }
     ensures ring { RingComesBack (header_of part.now.scenario) recorder.old.standing.ring recorder.new.standing.ring }
+    ensures signed { OnOk result (HasSigned part.now.scenario part.now.me (middle_of part.now.scenario part.now.me)
+        recorder.old.standing.ring recorder.new.standing.ring) }
 {
     let me = part.part().me();
     'rounds: for gone in 0..part.part().header().net().rounds() {
@@ -87,6 +91,8 @@ fn run_to_end<R: Wait, G: Gate>(
         (λ end. RingComesBack (header_of part.now.scenario) ring end.ring)
         (λ fault. RingComesBack (header_of part.now.scenario) ring fault.1) }
     ensures logs { IfOk result (λ end. end.logs ≡ logs_by part.now.scenario part.now.me) }
+    ensures spent { IfOk result (λ end. RingSpentOn (header_of part.now.scenario)
+        (logs_of part.now.scenario part.now.me) ring end.ring) }
     ensures carried { OnOk result (HaveCarried edges.now part.now.scenario (rounds part.now.scenario.net)
         part.now.me puts.new.items takes.new.items) }
     ensures passes { ArePassesOf edges.now part.now.scenario part.now.me puts.new.items takes.new.items }
@@ -112,7 +118,8 @@ fn run_to_end<R: Wait, G: Gate>(
 ///
 /// A general who can't go on tells his neighbours: he tries in turns to put the last word on each edge from him that
 /// hasn't had all frames, and takes what comes, until each edge to him has given its last. Whatever comes, the ring and
-/// the passes come back. His fault is Memory, or Gone, and that only where one of his passes has taken a neighbour's
+/// the passes come back; where he has logs, the leaves that were taken from the ring are exactly those of what he signed
+/// in them. His fault is Memory, or Gone, and that only where one of his passes has taken a neighbour's
 /// last word; it is never Thread.
 pub fn run_general<R: Wait, G: Gate>(
     rt: &R,

@@ -1,6 +1,6 @@
 //! Laws of runs, found here too.
 
-pub use gen_general::laws::{participants_are_generals, plans_are_frames};
+pub use gen_general::laws::{participants_are_generals, plans_are_frames, texts_take_leaves};
 pub use gen_scenario::laws::{
     counting, decisions_are_known, derivables, followers_logs, heard_is_known, known_is_enough,
     logs_verify, no_signature_is_forged, one_world, rounds_are_kept, steps_are_known, theorem_four,
