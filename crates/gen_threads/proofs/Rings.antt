@@ -21,7 +21,7 @@ use Rattle.gen_general.specs.Recording.{RingSealed}
 use Rattle.gen_general.specs.Spending.{IsLeafOfSign, IsLeafOfLog}
 use Rattle.gen_general.proofs.Spending.{signs_take_leaves, round_sign, sign_round, log_sign, one_log}
 use Rattle.gen_threads.specs.Ending.{MayRunWith, RingComesBack}
-use Rattle.gen_threads.specs.Rings.{RingSpentOn, RingSpentOnSigns, HasSigned}
+use Rattle.gen_threads.specs.Rings.{RingSpentOn, HasSigned}
 
 pub ring_then : (h : RunHeader) (a b c : Option Ring) → RingComesBack h a b → RingComesBack h b c → RingComesBack h a c
 ring_then h None None None x y = tt
@@ -80,8 +80,7 @@ signed_leaf : (s : Scenario) (k g leaf : ℕ) (p : Participant) → StandsAfter 
 signed_leaf s k g leaf p is none =
     let both = signs_take_leaves (sender_of s g) (heard_by s k g) (suc k) leaf none in
     let at : p.round + 1 ≡ suc k = let e = is.round in omega (arith, e) in
-    let signs = sign_entries (sender_of s g) (heard_by s k g) (suc k) in
-    (
+    let signs = sign_entries (sender_of s g) (heard_by s k g) (suc k) in (
       λ w. same_leaf (header_of s) signs (entries_after s g k) leaf (λ order path signature h. sign_round s g k (Sign order path signature) h)
           (both.0 (moved p.known.header (header_of s) p.known.own (own_order s g) p.heard (heard_by s k g) (p.round + 1) (suc k) leaf is.part.header is.part.own is.heard at w)),
       λ w. moved (header_of s) p.known.header (own_order s g) p.known.own (heard_by s k g) p.heard (suc k) (p.round + 1) leaf (sym is.part.header) (sym is.part.own) (sym is.heard) (sym at)
@@ -97,8 +96,7 @@ signed_round s k g p is None None ring none = tt
 signed_round s k g p is None (Some b) ring none = absurd ring
 signed_round s k g p is (Some a) None ring none = absurd ring
 signed_round s k g p is (Some a) (Some b) ring none = λ leaf.
-    let both = signed_leaf s k g leaf p is none in
-    (
+    let both = signed_leaf s k g leaf p is none in (
       λ m. elim ((ring.taken leaf).0 m) [ inl old ↦ inl old | inr signed ↦ inr (both.0 signed) ],
       λ m. elim m [ inl old ↦ (ring.taken leaf).1 (inl old) | inr sign ↦ (ring.taken leaf).1 (inr (both.1 sign)) ],
     )
@@ -125,8 +123,7 @@ signed_then s g es fs (Some a) (Some b) None x y none = absurd (y none)
 signed_then s g es fs (Some a) (Some b) (Some c) x y none = λ leaf.
     let h = header_of s in
     let left = λ (is : IsLeafOfSign h es leaf). same_leaf h es (es ++ fs) leaf (λ order path signature m. Contains-append_left es fs (Sign order path signature) m) is in
-    let right = λ (is : IsLeafOfSign h fs leaf). same_leaf h fs (es ++ fs) leaf (λ order path signature m. Contains-append_right es fs (Sign order path signature) m) is in
-    (
+    let right = λ (is : IsLeafOfSign h fs leaf). same_leaf h fs (es ++ fs) leaf (λ order path signature m. Contains-append_right es fs (Sign order path signature) m) is in (
       λ m. elim ((y none leaf).0 m) [
         | inl before ↦ elim ((x none leaf).0 before) [ inl old ↦ inl old | inr sign ↦ inr (left sign) ]
         | inr sign ↦ inr (right sign)
