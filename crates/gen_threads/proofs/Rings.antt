@@ -1,5 +1,6 @@
 -- His ring comes back.
-use Rattle.std.proofs.Common.{◌≡◌, ◌+◌, ◌↔◌, ℕ, suc, inl, inr, List, ◌++◌, [], ◌∷◌, Contains, Option, Some, None, refl, sym, ap, subst, ◌∙◌, arith}
+use Rattle.std.proofs.Common.{◌≡◌, ◌+◌, ◌↔◌, ◌⊎◌, ℕ, suc, inl, inr, List, ◌++◌, [], ◌∷◌, Contains, Option, Some, None, refl, sym, ap, subst, ◌∙◌, arith, Result, Ok, Err}
+use Rattle.std.specs.Prelude.{OnOk}
 use Rattle.std.proofs.lemmas.List.Elements.{Contains-append_left, Contains-append_right, Contains-append_cases}
 use Rattle.gen_types.proofs.Lists.{Contains_here, Contains_there, Contains_cases, Contains_nil}
 use Rattle.gen_tree.specs.Rings.{Ring}
@@ -20,7 +21,7 @@ use Rattle.gen_general.specs.Recording.{RingSealed}
 use Rattle.gen_general.specs.Spending.{IsLeafOfSign, IsLeafOfLog}
 use Rattle.gen_general.proofs.Spending.{signs_take_leaves, round_sign, sign_round, log_sign, one_log}
 use Rattle.gen_threads.specs.Ending.{MayRunWith, RingComesBack}
-use Rattle.gen_threads.specs.Rings.{RingSpentOn, RingSpentOnSigns, HasSigned}
+use Rattle.gen_threads.specs.Rings.{RingSpentOn, HasSigned}
 
 pub ring_then : (h : RunHeader) (a b c : Option Ring) → RingComesBack h a b → RingComesBack h b c → RingComesBack h a c
 ring_then h None None None x y = tt
@@ -34,6 +35,10 @@ ring_then h (Some a) (Some b) (Some c) x y = record {
   kept = λ leaf m. y.kept leaf (x.kept leaf m);
   of_run = λ leaf m. elim (y.of_run leaf m) [ inl old ↦ x.of_run leaf old | inr new ↦ inr new ];
 }
+
+pub ring_same : (h : RunHeader) (a : Option Ring) → RingComesBack h a a
+ring_same h None = tt
+ring_same h (Some a) = record { seed = refl; height = refl; kept = λ leaf m. m; of_run = λ leaf m. inl m }
 
 pub ring_begun : (s : Scenario) → IsScenario s → (p : Participant) → p.known.header ≡ header_of s → (a b : Option Ring) → RingAfter p a b → RingComesBack (header_of s) a b
 ring_begun s ok p same None None is = tt
@@ -81,6 +86,10 @@ signed_leaf s k g leaf p is none =
       λ w. moved (header_of s) p.known.header (own_order s g) p.known.own (heard_by s k g) p.heard (suc k) (p.round + 1) leaf (sym is.part.header) (sym is.part.own) (sym is.heard) (sym at)
           (both.1 (same_leaf (header_of s) (entries_after s g k) signs leaf (round_sign s g k) w)),
     )
+
+pub where_ok : {X E : Type 0} (P : Type 0) (r : Result X E) → P → OnOk r P
+where_ok P (Ok x) p = p
+where_ok P (Err e) p = record {}
 
 pub signed_round : (s : Scenario) (k g : ℕ) (p : Participant) → StandsAfter s k g p → (a b : Option Ring) → RingAfter p a b → HasSigned s g (entries_after s g k) a b
 signed_round s k g p is None None ring none = tt

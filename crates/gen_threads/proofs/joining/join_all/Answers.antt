@@ -1,4 +1,4 @@
-use Rattle.std.proofs.Common.{rules, ℕ, subst, arith, vec_len}
+use Rattle.std.proofs.Common.{◌≡◌, rules, ℕ, subst, arith, vec_len}
 use Rattle.gen_scenario.specs.Scenario.{Scenario}
 use Rattle.gen_threads.specs.declared.edges.Edges.{Edges}
 use Rattle.gen_threads.specs.Works.{IsPromise, IsTurn}
@@ -25,5 +25,15 @@ loop-turn-preserved g c =
       (let a = c.push_reserved-in-loop-turn.ensures.len in let b = c.in-Some-turn.ensures.steps.1 in let d = i.0 in omega arith),
       rw c.push_reserved-in-loop-turn.ensures.len (from_tail (IsTurn e s) n c.in-Some-turn.turn _ _ c.in-Some-turn.ensures.steps.0 i.1),
       from_push (IsTurn e s) 0 n _ _ _ c.push_reserved-in-loop-turn.ensures.items (omega (arith, c.loop-turn.turns.ok)) i.2 turn,
+      search rules,
+    )
+
+pub loop-turn-init : goal.loop-turn-init
+loop-turn-init g c =
+    let e = c.args.field.edges.now in let s = c.args.field.scenario.now in let i = c.loop-handle.invariant in
+    let all : vec_len c.loop-handle.turns ≡ vec_len c.args.handles = search rules in (
+      search rules,
+      rw all (search rules),
+      i.2,
       search rules,
     )
