@@ -2,7 +2,7 @@
 use Rattle.std.proofs.Common.{◌≡◌, Bool, List, [], ◌∷◌, Option, Some, None, true, refl, inl, inr, option_map, sym, ◌∙◌}
 use Rattle.std.specs.Prelude.{IsSome}
 use Rattle.clap.specs.declared.error.Error.{Error}
-use Rattle.clap.specs.Words.{HasKind, Kinds, Row, Text, is_simple, is_simple_and_free, subcommand_of}
+use Rattle.clap.specs.Words.{Kinds, Row, Text, is_simple, is_simple_and_free, subcommand_of}
 use Rattle.clap.proofs.OnLiterals.{clap_on_literals}
 use Rattle.gen_jobs.specs.declared.jobs.Job.{Job}
 use Rattle.gen_program.specs.declared.words.WordsFault.{WordsFault}

@@ -16,15 +16,20 @@ within least most (Some n) = if nat_le least n && nat_le n most then Some n else
 abbrev pub number_between : ℕ → ℕ → Option Text → Option ℕ
 number_between least most text = within least most (option_and_then number_of text)
 
+-- the job of a command against a general, or on evidence
+abbrev pub job_against : Text → Option Text → Option Job
+job_against name general =
+    if bytes_eq name (codes "accuse") then option_map (λ n. jobs.Accuse n) (number_between 0 15 general)
+    else if bytes_eq name (codes "evidence") then Some jobs.Evidence
+    else None
+
 -- the job of a command, whose options have these texts
 abbrev pub job_named : Text → Option Text → Option Text → Option Text → Option Job
 job_named name capacity workers general =
     if bytes_eq name (codes "decide") then Some jobs.Decide
     else if bytes_eq name (codes "run") then option_map (λ n. jobs.Run n) (number_between 1 16 capacity)
     else if bytes_eq name (codes "audit") then option_map (λ n. jobs.Audit n) (number_between 1 16 workers)
-    else if bytes_eq name (codes "accuse") then option_map (λ n. jobs.Accuse n) (number_between 0 15 general)
-    else if bytes_eq name (codes "evidence") then Some jobs.Evidence
-    else None
+    else job_against name general
 
 -- the job of a command and its arguments
 abbrev pub job_told : Text × List Row → Option Job

@@ -4,7 +4,7 @@ ghost use Rattle.clap.specs.Simple.{subcommand_rows_of};
 ghost use Rattle.clap.specs.Words.{fault_of};
 ghost use Rattle.gen_jobs.specs.Ranges.{IsInRange};
 ghost use Rattle.gen_program.specs.CommandLine.{tool};
-ghost use Rattle.gen_program.specs.Jobs.{job_named, number_between};
+ghost use Rattle.gen_program.specs.Jobs.{job_against, job_named, number_between};
 ghost use Rattle.gen_program.specs.Commands.{Gives, HasSubcommand, IsGivenBy};
 ghost use Rattle.gen_program.specs.Tool.{asked, IsFaultOf, IsRefusal};
 ghost use Rattle.gen_program.specs.declared.words.WordsFault.TheVariants.{Memory};
@@ -103,6 +103,20 @@ fn workers_of(text: Option<&str>) -> Option<WorkerCount>
     WorkerCount::new(usize::from(number_between(text, 1, 16)?))
 }
 
+/// Returns the job of a command against a general, or on evidence, by the text of its option.
+fn job_against(name: &str, general: Option<&str>) -> Option<Job>
+    ensures said { result ≡ job_against name.now (option_map (λ t. t.now) general.entry) }
+    ensures range { IfSome result IsInRange }
+{
+    match name {
+        "accuse" => Some(Job::Accuse {
+            general: general_of(general)?,
+        }),
+        "evidence" => Some(Job::Evidence),
+        _ => None,
+    }
+}
+
 /// Returns the job of a command, by the texts of its options.
 fn job_of(
     name: &str,
@@ -122,11 +136,7 @@ fn job_of(
         "audit" => Some(Job::Audit {
             workers: workers_of(workers)?,
         }),
-        "accuse" => Some(Job::Accuse {
-            general: general_of(general)?,
-        }),
-        "evidence" => Some(Job::Evidence),
-        _ => None,
+        _ => job_against(name, general),
     }
 }
 
