@@ -210,8 +210,7 @@ fn pair_in_slot(alloc: Global) -> Result<Scenario, Fail> {
 }
 
 /// Whether these leaves were taken from a general's ring, which is closed, and no others.
-fn has_taken(end: GeneralEnd, leaves: &[u8]) -> bool {
-    let mut end = end;
+fn has_taken(end: &mut GeneralEnd, leaves: &[u8]) -> bool {
     let Some(ring) = end.ring.take() else {
         return false;
     };
@@ -219,11 +218,26 @@ fn has_taken(end: GeneralEnd, leaves: &[u8]) -> bool {
     taken.len() == leaves.len() && leaves.iter().all(|leaf| taken.contains(*leaf))
 }
 
+/// The leaves that each of two neighbours takes in that run, the commander first.
+fn leaves_of(index: usize) -> &'static [u8] {
+    if index == 0 { &[17, 31] } else { &[31] }
+}
+
+/// Whether each of two neighbours took exactly his leaves. Their rings are closed.
+fn have_taken(ends: &mut [GeneralEnd]) -> bool {
+    let mut right = true;
+    for (index, end) in ends.iter_mut().enumerate() {
+        let taken = has_taken(end, leaves_of(index));
+        right = right && taken;
+    }
+    right
+}
+
 #[test]
 fn leaves_of_a_pair_in_slot_1(rt: HostRuntime) -> Result<(), Fail> {
     let alloc = rt.alloc();
     let scenario = pair_in_slot(alloc)?;
-    let [commander, lieutenant] = ends_of_pair(&rt, alloc, &scenario, &Open)?;
-    assert!(rt; has_taken(commander, &[17, 31]) && has_taken(lieutenant, &[31]));
+    let mut ends = ends_of_pair(&rt, alloc, &scenario, &Open)?;
+    assert!(rt; have_taken(&mut ends));
     Ok(())
 }

@@ -5,7 +5,7 @@ ghost use Rattle.gen_jobs.specs.Ranges.{IsInRange};
 
 use crate::bundles::bundle_in;
 use crate::over_bytes::{audit_job, done};
-use crate::streams::zeros;
+use crate::streams::zero_source;
 use gen_async::Machine;
 use gen_audit::{Bundle, WorkerCount, write_bundle};
 use gen_chain::VerifyStore;
@@ -247,7 +247,7 @@ fn sixty_four_exhibits_are_audited(rt: HostRuntime) -> Result<(), Fail> {
 
 /// How many bytes are read of so many zeros, or none where reading fails.
 fn count_read(alloc: Global, zeros_given: usize) -> Option<usize> {
-    match read_all(alloc, &mut zeros(zeros_given)) {
+    match read_all(alloc, &mut zero_source(zeros_given)) {
         Ok(all) => Some(all.len()),
         Err(_) => None,
     }
@@ -259,6 +259,6 @@ const MOST_BYTES: usize = 1_073_741_824;
 #[test]
 fn the_longest_input_is_read(rt: HostRuntime) {
     assert!(rt; count_read(rt.alloc(), MOST_BYTES) == Some(MOST_BYTES));
-    let longer = read_all(rt.alloc(), &mut zeros(MOST_BYTES + 1));
+    let longer = read_all(rt.alloc(), &mut zero_source(MOST_BYTES + 1));
     assert!(rt; matches!(longer, Err(JobFault::Read)));
 }

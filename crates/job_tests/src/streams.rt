@@ -103,7 +103,7 @@ impl Read for Zeros {
 }
 
 /// A reader of so many zeros.
-pub(crate) fn zeros(left: usize) -> Zeros {
+pub(crate) fn zero_source(left: usize) -> Zeros {
     Zeros { left }
 }
 
