@@ -18,13 +18,13 @@ use Rattle.gen_scenario.specs.RoundEntries.{lines_in}
 use Rattle.gen_scenario.specs.SignedWorld.{sender_of}
 use Rattle.gen_scenario.specs.WorldLogs.{has_two_heads, log_bytes, logs_over, middle_of}
 use Rattle.gen_audit.specs.BundleParts.{AreExhibits, AreListedWalks, AreMembers, IsExhibit, IsListedWalk}
-use Rattle.gen_audit.specs.WorldBundle.{AreWalksOfRun, WorldIsBundle, WorldMakesBundle}
+use Rattle.gen_audit.specs.WorldBundle.{AreWalksOfRun, LogsMakeBundle, WorldIsBundle, WorldMakesBundle}
 use Rattle.gen_audit.proofs.BundleParts.{below_told, checks_told, exhibits_pass, walks_pass}
 use Rattle.gen_audit.proofs.WalkParts.{best_are_listed}
 
 -- ---- who is held for faulty
 
-are_members : (s : Scenario) → IsScenario s → AreMembers s.net.generals (scripted s.scripts)
+pub are_members : (s : Scenario) → IsScenario s → AreMembers s.net.generals (scripted s.scripts)
 are_members s ok = record { ascending = scripted_up s ok; below = scripted_below s ok }
 
 -- ---- walks
@@ -32,7 +32,7 @@ are_members s ok = record { ascending = scripted_up s ok; below = scripted_below
 no_walks : (n : ℕ) → AreListedWalks n []
 no_walks n = record { few = omega arith; each = All-nil (IsListedWalk n); ascending = λ i j d l m. absurd (omega (arith, l, m)) }
 
-are_listed : (s : Scenario) (rest : List ℕ) (walks : List (List ℕ)) → IsScenario s → AreWalksOfRun s.net rest walks → AreListedWalks s.net.generals walks
+pub are_listed : (s : Scenario) (rest : List ℕ) (walks : List (List ℕ)) → IsScenario s → AreWalksOfRun s.net rest walks → AreListedWalks s.net.generals walks
 are_listed s rest walks ok are = elim are [
   | inl best ↦ best_are_listed s.net rest walks ok.network best
   | inr none ↦ subst (AreListedWalks s.net.generals) (sym none.0) (no_walks s.net.generals)
@@ -76,12 +76,16 @@ are_exhibits s ok = record {
 
 -- ---- the bundle
 
+pub logs_make_bundle : LogsMakeBundle
+logs_make_bundle s faulty walks ok below listed =
+    checks_told (header_of s) faulty walks (logs_of_all s)
+    (below_told s.net.generals faulty below)
+    (walks_pass s.net.generals walks listed)
+    (exhibits_pass s.net.generals (logs_of_all s) (are_exhibits s ok))
+
 pub world_makes_bundle : WorldMakesBundle
 world_makes_bundle s walks ok has =
-    checks_told (header_of s) (scripted s.scripts) walks (logs_of_all s)
-    (below_told s.net.generals (scripted s.scripts) (are_members s ok).below)
-    (walks_pass s.net.generals walks (are_listed s has.rest walks ok has.walks_are))
-    (exhibits_pass s.net.generals (logs_of_all s) (are_exhibits s ok))
+    logs_make_bundle s (scripted s.scripts) walks ok (are_members s ok).below (are_listed s has.rest walks ok has.walks_are)
 
 pub world_is_bundle : WorldIsBundle
 world_is_bundle s walks ok has bytes = record {

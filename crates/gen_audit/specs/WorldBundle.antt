@@ -12,16 +12,21 @@ use Rattle.gen_scenario.specs.Rows.{logs_of_all}
 use Rattle.gen_scenario.specs.WorldLogs as worlds
 use Rattle.gen_audit.specs.Bundle.{Bundle, IsBundle}
 use Rattle.gen_audit.specs.BundleMaking.{bundle_with}
+use Rattle.gen_audit.specs.BundleParts.{AreListedWalks}
 use Rattle.gen_audit.specs.Supported.{IsSupported}
 use Rattle.gen_audit.specs.declared.verdicts.Verdict.{Verdict}
 use Rattle.gen_audit.specs.Verdict.{IsVerdict}
 use Rattle.gen_audit.specs.Headline.{IsYes}
 
--- The bundle with the sealed logs of all, in the order of generals, a second log after the first. The
--- generals who have scripts are held for faulty.
+-- the bundle with the sealed logs of all, in the order of generals, a second log after the first, whoever is held for
+-- faulty and whatever the walks are
+abbrev pub run_bundle : Scenario → List ℕ → List (List ℕ) → Bundle
+run_bundle s faulty walks =
+    record { header = header_of s; faulty = faulty; walks = walks; exhibits = logs_of_all s }
+
+-- that in which the generals who have scripts are held for faulty
 abbrev pub bundle_of : Scenario → List (List ℕ) → Bundle
-bundle_of s walks =
-    record { header = header_of s; faulty = scripted s.scripts; walks = walks; exhibits = logs_of_all s }
+bundle_of s walks = run_bundle s (scripted s.scripts) walks
 
 -- the best walks between the rest, or none where two of them have no short walk
 abbrev pub AreWalksOfRun : Network → List ℕ → List (List ℕ) → Type 0
@@ -34,6 +39,13 @@ pub record HasWalks (s : Scenario) (walks : List (List ℕ)) : Type 0 where
   pub rest : List ℕ
   pub of_rest : IsListOf rest (IsLoyal s.net (scripted s.scripts))
   pub walks_are : AreWalksOfRun s.net rest walks
+
+-- where these could be held for faulty and these walks be shown in a bundle, they are in one with the logs of the run
+abbrev pub LogsMakeBundle : Type 0
+LogsMakeBundle =
+    (s : Scenario) (faulty : List ℕ) (walks : List (List ℕ)) → IsScenario s
+    → AreBelow s.net.generals faulty → AreListedWalks s.net.generals walks
+    → bundle_with (header_of s) faulty walks (logs_of_all s) ≡ Ok (run_bundle s faulty walks)
 
 -- these parts break no rule of bundles
 abbrev pub WorldMakesBundle : Type 0

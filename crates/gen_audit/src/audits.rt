@@ -172,8 +172,13 @@ fn convictions_by(
     find_evidence(alloc, bundle.header(), reports)
 }
 
-/// Returns the judgement on a bundle of which these are the reports. Its clauses are those of `audit`.
-pub(crate) fn judge_reports(
+/// Returns the judgement on a bundle of which these are the reports: of all its exhibits, in their order. Its clauses are
+/// those of `audit`, which makes the reports and calls this; it serves callers who have them already.
+///
+/// # Errors
+///
+/// `AllocError` where memory is refused.
+pub fn judge_reports(
     alloc: Global,
     bundle: &Bundle,
     reports: &[LocalReport],

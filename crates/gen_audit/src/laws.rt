@@ -14,7 +14,7 @@ ghost use Rattle.gen_audit.specs.LocalFindings.{ReportsFindLocal};
 ghost use Rattle.gen_audit.specs.Supported.{CleanAgrees, CleanIsSupported, SupportedIsClean};
 ghost use Rattle.gen_audit.specs.Telling.{ReportsTellLogs};
 ghost use Rattle.gen_audit.specs.Verdict.{EachDecidedOnce, OneVerdict, VerdictExists};
-ghost use Rattle.gen_audit.specs.WorldBundle.{ShownAreLogs, WorldIsAccepted, WorldIsBundle, WorldIsSupported, WorldMakesBundle};
+ghost use Rattle.gen_audit.specs.WorldBundle.{LogsMakeBundle, ShownAreLogs, WorldIsAccepted, WorldIsBundle, WorldIsSupported, WorldMakesBundle};
 
 /// Logs of the rest, each alone one that its general could keep, and no two of which contradict each other,
 /// nor what the rest sent, come from one run (`explained`); and in the logs that the rest keep of a run nothing
@@ -85,10 +85,11 @@ pub fn own_runs_are_accepted()
     ensures shown { ShownAreLogs }
 {}
 
-/// The bundle of a scenario's own run with the walks that the run has: its parts break no rule of bundles (`made`),
-/// whoever is held for faulty and whatever the scripts say, and where the logs are bytes it is a bundle (`bundle`). So
-/// no log of a run is too long to be shown.
+/// The logs of a scenario's own run make a bundle with whatever generals and walks could stand in one (`any`). With the
+/// generals who have scripts and the walks that the run has, the parts so break no rule of bundles (`made`), whatever the
+/// scripts say, and where the logs are bytes they are a bundle (`bundle`). So no log of a run is too long to be shown.
 pub fn own_runs_make_bundles()
+    ensures any { LogsMakeBundle }
     ensures made { WorldMakesBundle }
     ensures bundle { WorldIsBundle }
 {}

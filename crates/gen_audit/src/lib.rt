@@ -23,7 +23,7 @@ mod ranks;
 mod sorting;
 mod verdicts;
 
-pub use audits::audit;
+pub use audits::{audit, judge_reports};
 pub use bundle_fault::BundleFault;
 pub use bundle_reading::{read_bundle, read_taken_bundle};
 pub use bundle_writing::{bundle_front, exhibit_front, write_bundle};

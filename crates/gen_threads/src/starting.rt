@@ -3,11 +3,13 @@ ghost use Rattle.std.specs.Prelude.{◌≡◌, ◌<◌, ◌+◌, ◌≤◌, [], 
 ghost use Rattle.gen_threads.specs.Works.{AreParts, ArePromised, AreWorks, IsPromise, IsTurn, IsWork, TurnsFrom};
 
 use crate::edges::{Edges, Passes};
+use crate::ends::GeneralEnd;
 use crate::gates::Gate;
 use crate::run_parts::RunPart;
 use crate::running::run_general;
 use crate::works::{EndsAs, Field, Turn, Work};
 use gen_scenario::Scenario;
+use gen_types::GeneralNo;
 use std::alloc::Global;
 use std::sync::Wait;
 use std::sync::atomic::{AtomicBool, Ordering};
@@ -16,7 +18,14 @@ use std::thread::{PromisedHandle, Scope, Threads};
 /// The handles of started threads.
 pub(crate) type Handles<'s> = Vec<PromisedHandle<Turn, EndsAs<'s>>>;
 
-/// Runs a general, or hands his work back where his flag is set.
+/// Shows the gate a general's logs, if he has any.
+fn show_logs<G: Gate>(gate: &G, general: GeneralNo, end: &GeneralEnd) {
+    if let Ok(logs) = &end.logs {
+        gate.sealed(general, logs.as_slice());
+    }
+}
+
+/// Runs a general and shows the gate his logs, or hands his work back where his flag is set.
 pub(crate) fn run_work<R: Wait, G: Gate>(
     rt: &R,
     alloc: Global,
@@ -39,7 +48,9 @@ pub(crate) fn run_work<R: Wait, G: Gate>(
     }
     let (ring, passes) = work.into_parts();
     let Passes { puts, takes } = passes;
-    Turn::Ended(run_general(rt, alloc, gate, &parts[me], ring, edges, puts, takes))
+    let end = run_general(rt, alloc, gate, &parts[me], ring, edges, puts, takes);
+    show_logs(gate, parts[me].part().me(), &end);
+    Turn::Ended(end)
 }
 
 /// Starts a general's thread.

@@ -97,7 +97,7 @@ fn run_works<R: Threads + Wait + Sync, G: Gate + Sync>(
 
 /// Runs a scenario, each general in a thread of his own, over edges that hold so many frames each, at least one; and
 /// returns the logs of all, in the order of generals, a second log behind the first. The gate is called by each
-/// general's thread before each round.
+/// general's thread before each round, and with his logs once they are sealed.
 ///
 /// Threads are started in ascending order. After one that could not be started no other is, and this thread tells
 /// the neighbours of all who weren't. All rings are closed, whatever comes.
