@@ -3,10 +3,10 @@
 
     tools/prove.py LOG
 
-The script `sm_tool` runs it where a source is newer than the program. Each crate is proved by as many jobs as there are
-cores and memory for: the toolchain keeps all crates below the one that it works on locked, so no two can be proved side by
-side from here. On standard error stands one line for each crate that is done. What the toolchain writes goes to LOG, which
-is named where a crate fails; then the status is 1.
+The script `sm_tool` runs it where a source is newer than the program. As many crates are proved side by side, each by one
+job, as there are cores and memory for: several jobs of one crate each load its libraries anew. On standard error stands
+one line for each crate that is done. What the toolchain writes goes to LOG, which is named where a crate fails; then the
+status is 1.
 """
 import os
 import subprocess
@@ -15,10 +15,13 @@ import time
 
 TOP = os.path.dirname(os.path.dirname(os.path.abspath(__file__)))
 PROGRAM = "sm_tool"
+FOLDER = os.path.join(TOP, "crates", PROGRAM)
 # What one job of the prover takes at most, in the dearest crates.
 GIB_OF_A_JOB = 3
-# What a first use takes in all, by several jobs (bench/README.md).
-PROCESSOR_MINUTES = 70
+# What a first use takes in all, and how much of that can go on side by side, since crates stand on one another
+# (bench/README.md).
+PROCESSOR_MINUTES = 45
+SIDE_BY_SIDE = 2
 
 
 def read_crates():
@@ -50,30 +53,34 @@ def spell(seconds):
     return f"{minutes} min {rest} s" if minutes else f"{rest} s"
 
 
-def run(crate, words, log):
-    """Runs the toolchain in a crate's folder. Returns whether it passed."""
-    folder = os.path.join(TOP, "crates", crate)
-    return subprocess.run(["rt", *words], cwd=folder, stdin=subprocess.DEVNULL, stdout=log, stderr=log).returncode == 0
+def prove_all(crates, jobs, log):
+    """Proves all crates, so many at a time, and says each that is done. Returns whether all are proved."""
+    words = ["rt", "all", "check", "--jobs", str(jobs)]
+    done, since = [], time.monotonic()
+    with subprocess.Popen(words, cwd=FOLDER, stdin=subprocess.DEVNULL, stdout=subprocess.PIPE, stderr=log, text=True) as run:
+        for line in run.stdout:
+            log.write(line)
+            name = line[3:].strip()
+            if line.startswith("== ") and name in crates and name not in done:
+                done.append(name)
+                say(f"[{len(done)}/{len(crates)}] {name} done, {spell(time.monotonic() - since)}")
+    return run.returncode == 0
 
 
-def prove(crates, jobs, log):
-    """Proves all crates and builds the program. Returns the crate in which that failed, or None."""
-    for count, crate in enumerate(crates, 1):
-        since = time.monotonic()
-        if not run(crate, ["check" if crate == PROGRAM else "lib", "--jobs", str(jobs)], log):
-            return crate
-        say(f"[{count}/{len(crates)}] {crate} proved, {spell(time.monotonic() - since)}")
-    return None if run(PROGRAM, ["run", "--", "--version"], log) else PROGRAM
+def build(log):
+    """Builds the program. Returns whether that passed."""
+    words = ["rt", "run", "--", "--version"]
+    return subprocess.run(words, cwd=FOLDER, stdin=subprocess.DEVNULL, stdout=log, stderr=log).returncode == 0
 
 
 def main():
     crates, jobs = read_crates(), count_jobs()
-    minutes = PROCESSOR_MINUTES // jobs
+    minutes = PROCESSOR_MINUTES // min(jobs, SIDE_BY_SIDE)
     say(f"sm_tool: proving and building first, once, some {minutes} minutes; README.md has a quick way (rt try)")
-    with open(sys.argv[1], "w", encoding="utf-8") as log:
-        failed = prove(crates, jobs, log)
-    if failed:
-        sys.exit(f"sm_tool: {failed} was not proved or built; what the toolchain says is in {sys.argv[1]}")
+    with open(sys.argv[1], "w", encoding="utf-8", buffering=1) as log:
+        passed = prove_all(crates, jobs, log) and build(log)
+    if not passed:
+        sys.exit(f"sm_tool: it was not proved or built; what the toolchain says is in {sys.argv[1]}")
 
 
 if __name__ == "__main__":
