@@ -1,7 +1,7 @@
 use Rattle.std.proofs.Common.{◌≡◌, ◌<◌, ◌∙◌, ap, arith}
 use Rattle.gen_net.specs.Network.{Network}
 use Rattle.gen_match.proofs.Rest.{rest_told}
-use Rattle.gen_match.proofs.sources.is_rest.Goals as goal
+use Rattle.gen_match.proofs.entries.is_rest.Goals as goal
 
 pub returns-then-get-generals : goal.returns-then-get-generals
 returns-then-get-generals c =
