@@ -8,11 +8,11 @@ ghost use Rattle.gen_audit.specs.Headline.{Headline};
 ghost use Rattle.gen_audit.specs.Verdict.{IsVerdict};
 ghost use Rattle.gen_audit.specs.WorldBundle.{run_bundle};
 
-use crate::faults::fault_of;
+use crate::desks::{FiledRun, run_at_desk};
 use crate::judging::judge_run;
 use gen_audit::{AuditFault, JobGate, Judgement, WorkerCount};
 use gen_scenario::Scenario;
-use gen_threads::{Gate, run_threads};
+use gen_threads::Gate;
 use gen_types::GeneralSet;
 use gen_walks::Walks;
 use std::alloc::Global;
@@ -21,10 +21,12 @@ use std::thread::Threads;
 
 /// Runs a scenario, each general in a thread of his own, over edges that hold so many frames each, at least one; and
 /// returns the judgement on the bundle of the run: its header, these generals held for faulty, these walks, and the logs
-/// of all.
+/// of all. So many workers, each in a thread of his own, one alone too, report on each log once it is sealed, while
+/// other generals may still run.
 ///
-/// The gate is called by each general's thread before each round and with his sealed logs, the other gate for each
-/// exhibit by the worker who begins it.
+/// The gate is called by each general's thread before each round and with his sealed logs; then copies of them are
+/// filed. The other gate is called for each exhibit, counted from 0 in the order of generals, by the worker who begins
+/// it. Where a copy or a report is missing in the end, the logs are audited once more, and that gate is called again.
 ///
 /// # Errors
 ///
@@ -63,8 +65,10 @@ pub fn run_and_audit<R: Threads + Wait + Sync, G: Gate + Sync, J: JobGate + Sync
     ensures lawful { IfOk result (λ judgement.
         AreEvidence (run_bundle scenario.now faulty.now walks.now).header (map told_of judgement.convictions.items)) }
 {
-    match run_threads(rt, alloc, scenario, capacity, gate) {
-        Ok(logs) => judge_run(rt, alloc, scenario, faulty, walks, logs, workers, job_gate),
-        Err(fault) => Err(fault_of(fault)),
-    }
+    let FiledRun { logs, rows } = run_at_desk(
+        rt, alloc, scenario, capacity, workers, gate, job_gate,
+    )?;
+    judge_run(
+        rt, alloc, scenario, faulty, walks, logs, rows, workers, job_gate,
+    )
 }

@@ -1,4 +1,4 @@
-use Rattle.std.proofs.Common.{◌≡◌, ◌∙◌, sym}
+use Rattle.std.proofs.Common.{◌∙◌, sym}
 use Rattle.gen_audit.specs.WorldBundle.{run_bundle}
 use Rattle.gen_types.proofs.Steps.{ok_is}
 use Rattle.gen_audit.specs.declared.bundle_fault.BundleFault.{BundleFault}
