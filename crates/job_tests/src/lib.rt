@@ -1,4 +1,4 @@
-//! This crate has the tests of `gen_jobs` and `gen_program`.
+//! This crate has the tests of `gen_jobs`, `gen_judge` and `gen_program`.
 //!
 //! `scenarios` has the texts, `streams` a reader and a writer that slip, and `bundles` makes bundles without
 //! the crate under test. `deciding`, `running`, `judging`, `auditing`, `accusing` and `disputed` have the jobs,
@@ -18,6 +18,8 @@ mod deciding;
 mod disputed;
 #[cfg(test)]
 mod ends;
+#[cfg(test)]
+mod judged_gates;
 #[cfg(test)]
 mod judging;
 #[cfg(test)]
