@@ -5,12 +5,13 @@ from programs import differs, run, side_by_side, spell
 from scenarios import sixteen
 
 RUNS = 200
+AUDITS = 32
 MOST = 16
 
 
-def cases(option, text):
-    """Runs with each number from 1 to 16 as the option, every other sixteen of them on one core."""
-    for count in range(RUNS):
+def cases(option, text, runs=RUNS):
+    """So many runs with each number from 1 to 16 as the option, every other sixteen of them on one core."""
+    for count in range(runs):
         yield [*option, str(1 + count % MOST)], text, count // MOST % 2 == 1
 
 
@@ -48,6 +49,6 @@ def trials(program, tally):
     tally.hold("run, 16 generals", None if whole.status == 0 else f"status {whole.status}")
     tally.hold("audit, 16 generals", None if verdict.status == 0 else f"status {verdict.status}")
     try_alike(program, tally, cases(["run", "--capacity"], text), whole)
-    try_alike(program, tally, cases(["audit", "--workers"], whole.wrote), verdict)
+    try_alike(program, tally, cases(["audit", "--workers"], whole.wrote, AUDITS), verdict)
     if "judge" in tally.commands:
         try_alike(program, tally, judged(text), verdict)

@@ -1,8 +1,9 @@
 """Each allocation and each start of a thread refused, once and from then on: every run ends as without, or with status 4.
 
-The library that refuses is refuse.c. Where the Nth call is refused, N counts up until a run meets no refusal; of 16
-generals N grows by an eighth each time. A run whose refusals are other calls than in the run before, since threads take
-turns, is no matter: whatever is refused, it has to end in one of these two ways.
+The library that refuses is refuse.c. Where the Nth call alone is refused, N counts up until a run meets no refusal. Of 16
+generals, and where memory is refused from the Nth call on, N grows by an eighth each time. A run whose refusals are other
+calls than in the run before, since threads take turns, is no matter: whatever is refused, it has to end in one of these
+two ways.
 """
 import os
 import shutil
@@ -91,7 +92,6 @@ def scenario_cases(program, name, text):
     if ZEROS.encode() not in text:
         return
     yield name, ["run"], text
-    yield name, ["run", "--capacity", "16"], text
     yield name, ["judge"], text
     yield name, ["judge", "--workers", "3"], text
     bundle = run(program, ["run"], text).wrote
@@ -107,7 +107,7 @@ def large_cases(program):
     """Each command with 16 generals."""
     text = sixteen()
     bundle = run(program, ["run"], text).wrote
-    for words in (["decide"], ["run"], ["judge"], ["judge", "--workers", "16"]):
+    for words in (["decide"], ["run"], ["run", "--capacity", "16"], ["judge"], ["judge", "--workers", "16"]):
         yield "16 generals", words, text
     for words in (["audit"], ["audit", "--workers", "16"], ["accuse", "--general", "0"]):
         yield "16 generals", words, bundle
@@ -126,6 +126,6 @@ def trials(program, tally):
             whole = run(program, words, given)
             for kind, after in (("memory", False), ("memory", True), ("thread", False), ("thread", True)):
                 call = lambda number, k=kind, a=after: refused(program, library, words, given, k, number, a)
-                runs, wrong = count_up(call, whole, kind, is_sampled)
+                runs, wrong = count_up(call, whole, kind, is_sampled or kind == "memory" and after)
                 tally.count(runs + 1)
                 tally.hold(f"{spell(words)}, {name}, {kind}{' from then on' if after else ''}", wrong)
