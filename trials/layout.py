@@ -135,6 +135,7 @@ def small_in_evidence(data):
 
 def ends_of_parts(places, length):
     """The lengths of the prefixes that end at, before or behind a border between small bytes and the others."""
-    borders = [place for place in places if place + 1 not in places] + [place - 1 for place in places if place - 1 not in places]
+    small = set(places)
+    borders = [place for place in small if place + 1 not in small] + [place - 1 for place in small if place - 1 not in small]
     near = {border + step for border in borders for step in (0, 1, 2)}
     return sorted(place for place in near if 0 <= place < length)
