@@ -30,7 +30,7 @@ def by_shell(program, words, streams, **how):
 
 
 def to_nobody(program, words, given, restores):
-    """A run whose output is a pipe that nobody reads any more. Whether the signal for that is ignored is left to it or not."""
+    """A run whose output is a pipe that nobody reads any more. The signal for that is given back to it, or is ignored."""
     reader, writer = os.pipe()
     os.close(reader)
     try:
@@ -103,16 +103,16 @@ def try_order(program, tally):
     bundle = run(program, ["run"], text).wrote
     bad_words = by_shell(program, ["run", "--capacity", "0"], "<&- >&-")
     tally.hold("bad words, both closed", None if bad_words.status == 2 else f"{bad_words}")
-    cut = fault("fault P1 line 1")
-    nothing = End(1, b"", b"")
+    cut, unsaid = fault("fault P1 line 1"), End(3, b"", b"")
+    empty = by_shell(program, ["accuse", "--general", "1"], ">/dev/full", given=bundle)
     for name, end, wanted in [
         ("no input", by_shell(program, ["decide"], "</dev/null"), cut),
         ("a faulty text, a full device", by_shell(program, ["decide"], ">/dev/full", given=b""), cut),
         ("a faulty text, a closed output", by_shell(program, ["run"], ">&-", given=b""), cut),
         ("a folder, a full device", by_shell(program, ["decide"], "</ >/dev/full"), READ_FAILED),
-        ("a faulty text, nowhere to say so", by_shell(program, ["decide"], "2>&-", given=b""), cut._replace(said=b"")),
-        ("a faulty text, a full device to say so", by_shell(program, ["decide"], "2>/dev/full", given=b""), cut._replace(said=b"")),
-        ("nothing to write, a full device", by_shell(program, ["accuse", "--general", "1"], ">/dev/full", given=bundle), nothing),
+        ("a faulty text, nowhere to say so", by_shell(program, ["decide"], "2>&-", given=b""), unsaid),
+        ("a faulty text, a full device to say so", by_shell(program, ["decide"], "2>/dev/full", given=b""), unsaid),
+        ("nothing to write, a full device", empty, End(1, b"", b"")),
         ("a reader who leaves", to_one_who_leaves(program, ["run"], sixteen()), WRITE_FAILED),
     ]:
         tally.hold(name, differs(end, wanted))
