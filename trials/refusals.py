@@ -92,7 +92,6 @@ def scenario_cases(program, name, text):
     if ZEROS.encode() not in text:
         return
     yield name, ["run"], text
-    yield name, ["judge"], text
     yield name, ["judge", "--workers", "3"], text
     bundle = run(program, ["run"], text).wrote
     yield name, ["audit"], bundle
