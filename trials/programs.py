@@ -4,8 +4,9 @@ import os
 import subprocess
 from typing import NamedTuple
 
-# What no run takes, however busy the machine is: a run that takes longer hangs.
-SECONDS = 600
+# What no run takes, however busy the machine is: a run that takes longer hangs. It is waited for in steps, so that of the
+# time in which the machine or these trials are halted one step counts at most.
+STEPS, SECONDS = 20, 30
 
 
 class End(NamedTuple):
@@ -22,14 +23,25 @@ class Hangs(Exception):
 
 def run(program, words, given=b"", **how):
     """A run of the program on these words and this input. What is named besides goes to subprocess."""
-    where = {"stdout": subprocess.PIPE, "stderr": subprocess.PIPE, **how}
-    if "stdin" not in where:
-        where["input"] = given
-    try:
-        ran = subprocess.run([program, *words], timeout=SECONDS, **where)
-    except subprocess.TimeoutExpired:
-        raise Hangs(f"{spell(words)} had not ended after {SECONDS} seconds") from None
-    return End(ran.returncode, ran.stdout or b"", ran.stderr or b"")
+    streams = {"stdin": subprocess.PIPE, "stdout": subprocess.PIPE, "stderr": subprocess.PIPE, **how}
+    with subprocess.Popen([program, *words], **streams) as started:
+        try:
+            return waited(started, given if started.stdin else None, words)
+        except BaseException:
+            started.kill()
+            raise
+
+
+def waited(started, given, words):
+    """How a run ended that was started."""
+    for _ in range(STEPS):
+        try:
+            wrote, said = started.communicate(given, timeout=SECONDS)
+        except subprocess.TimeoutExpired:
+            given = None
+        else:
+            return End(started.returncode, wrote or b"", said or b"")
+    raise Hangs(f"{spell(words)} had not ended after {STEPS} times {SECONDS} seconds")
 
 
 def side_by_side(call, items):
