@@ -12,13 +12,13 @@ use Rattle.gen_jobs.proofs.JudgedRuns.{judges, scripted_below, walks_listed}
 use Rattle.gen_jobs.proofs.judging.judge_run.Goals as goal
 
 pub run_and_audit-requires-clause-faulty : goal.run_and_audit-requires-clause-faulty
-run_and_audit-requires-clause-faulty g c = λ κs.
+run_and_audit-requires-clause-faulty g c = λ κs _.
     let s = c.args.scenario.now in
     let is_faulty : c.scripted-faulty.result ≡ scripted s.scripts = search rules in
     subst (λ (xs : List ℕ). AreBelow s.net.generals xs) (sym is_faulty) (scripted_below s c.header.ensures.scenario)
 
 pub run_and_audit-requires-clause-walks : goal.run_and_audit-requires-clause-walks
-run_and_audit-requires-clause-walks g c = λ κs.
+run_and_audit-requires-clause-walks g c = λ κs _.
     let s = c.args.scenario.now in
     let is_net : c.net-net.result.now ≡ s.net = c.net-net.ensures.value ∙ ap (λ (h : RunHeader). h.network) c.header.ensures.value in
     let between = subst (λ (net : Network). AreWalksOfRun net c.rest.result c.in_ok-walks.walks) is_net c.in_ok-walks.ensures in
