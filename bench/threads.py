@@ -15,7 +15,7 @@ import sys
 import tempfile
 import time
 
-from decide import BUILT, PROGRAM, RUNS
+from decide import BUILT, PROGRAM, RUNS, TOP
 from kernels import KEY_CRATES, KEYS_ON, built, least
 from signed import signed
 
@@ -24,32 +24,8 @@ REFUSED = 300
 SECONDS = 60
 EVERYBODY = [(a, b) for a in range(16) for b in range(a + 1, 16)]
 
-# Refuses the allocation whose number is in REFUSE, counted from 1 over all threads, and no other.
-REFUSING = r"""
-#define _GNU_SOURCE
-#include <dlfcn.h>
-#include <stdatomic.h>
-#include <stdlib.h>
-static atomic_long count;
-static int refuses(void) {
-    static long number = -1;
-    if (number < 0) {
-        const char *said = getenv("REFUSE");
-        number = said ? atol(said) : 0;
-    }
-    return atomic_fetch_add(&count, 1) + 1 == number;
-}
-void *malloc(size_t size) {
-    static void *(*real)(size_t);
-    if (!real) real = dlsym(RTLD_NEXT, "malloc");
-    return refuses() ? NULL : real(size);
-}
-void *realloc(void *old, size_t size) {
-    static void *(*real)(void *, size_t);
-    if (!real) real = dlsym(RTLD_NEXT, "realloc");
-    return refuses() ? NULL : real(old, size);
-}
-"""
+# Refuses allocations; the trials use it too.
+REFUSING = os.path.join(TOP, "trials", "refuse.c")
 
 
 def run(text, capacity, cores=None, env=None):
@@ -79,13 +55,11 @@ def refused(text):
     """Each allocation refused in turn."""
     whole = run(text, 1)
     with tempfile.TemporaryDirectory() as scratch:
-        source, library = os.path.join(scratch, "refusing.c"), os.path.join(scratch, "refusing.so")
-        with open(source, "w") as written:
-            written.write(REFUSING)
-        subprocess.run(["cc", "-O2", "-shared", "-fPIC", source, "-o", library, "-ldl"], check=True)
+        library = os.path.join(scratch, "refuse.so")
+        subprocess.run(["cc", "-O2", "-shared", "-fPIC", REFUSING, "-o", library, "-ldl", "-pthread"], check=True)
         ends = {}
         for number in range(1, REFUSED + 1):
-            end = run(text, 1, env={**os.environ, "LD_PRELOAD": library, "REFUSE": str(number)})
+            end = run(text, 1, env={**os.environ, "LD_PRELOAD": library, "REFUSE": "memory", "REFUSE_AT": str(number)})
             if end is None:
                 kind = "did not end"
             elif end == whole:

@@ -4,14 +4,11 @@ ghost use Rattle.gen_convict.specs.Evidence.{IsEvidence, HasShortLog, told_of};
 ghost use Rattle.gen_convict.specs.EvidenceSpelling as spelling;
 ghost use Rattle.gen_convict.specs.EvidenceSpelling.{text_spelling, signed_spelling, shown_spelling, claim_spelling};
 ghost use Rattle.gen_convict.specs.EvidenceSpelling.{evidence_spelling};
-ghost use Rattle.gen_convict.specs.First.{kind_of};
 ghost use Rattle.gen_convict.specs.Told.{told};
 
 use crate::claims::Claim;
 use crate::evidence::Evidence;
-use crate::evidence_fields::{
-    DEPARTING_KIND, HEAD_KIND, MISSING_KIND, ORDERS_KIND, STATEMENT_KIND, TEXTS_KIND,
-};
+use crate::evidence_fields::{HEAD_KIND, STATEMENT_KIND};
 use crate::evidence_reading::EVIDENCE_MARKS;
 use gen_chain::{HeadText, Statement};
 use gen_local::{SignedText, Text};
@@ -78,18 +75,6 @@ fn put_log(out: &mut Vec<u8>, log: &[u8]) -> Result<(), AllocError>
     out.extend_from_slice(log)
 }
 
-/// The number of a claim's kind.
-fn kind_number(claim: &Claim) -> u8
-    ensures { result ≡ kind_of (told claim.now) }
-{
-    match claim {
-        Claim::Texts { .. } => TEXTS_KIND,
-        Claim::Orders { .. } => ORDERS_KIND,
-        Claim::Missing { .. } => MISSING_KIND,
-        Claim::Departing { .. } => DEPARTING_KIND,
-    }
-}
-
 /// Appends what is held against a general.
 fn put_claim(out: &mut Vec<u8>, claim: &Claim) -> Result<(), AllocError>
     requires { HasShortLog (told claim.now) }
@@ -136,7 +121,7 @@ pub fn write_evidence(
     ensures { IfOk result (λ bytes. bytes.items ≡ evidence_spelling header.now (told_of evidence.now)) }
 {
     let mut out = front_bytes(alloc, EVIDENCE_MARKS, header)?;
-    out.extend_from_slice(&[evidence.accused.get(), kind_number(&evidence.claim)])?;
+    out.extend_from_slice(&[evidence.accused.get(), evidence.claim.kind()])?;
     put_claim(&mut out, &evidence.claim)?;
     Ok(out)
 }

@@ -19,6 +19,7 @@ mod evidence_writing;
 mod finding;
 mod first_texts;
 mod gathered;
+mod kinds;
 pub mod laws;
 mod log_claims;
 mod own_logs;

@@ -28,7 +28,8 @@ use Rattle.gen_audit.proofs.BundleLaws.{bundle_only}
 use Rattle.gen_audit.proofs.RunBundles.{world_is_bundle}
 use Rattle.gen_audit.proofs.Worlds.{world_is_accepted}
 use Rattle.gen_jobs.specs.Accepted.{IsSound, RunsAreAccepted, RunsAreRead}
-use Rattle.gen_jobs.specs.Audit.{is_no}
+use Rattle.gen_jobs.specs.Audit.{Audits, IsAudited, is_no}
+use Rattle.gen_jobs.specs.Judging.{JudgesRun, RunsAreJudged}
 use Rattle.gen_jobs.specs.Run.{IsRun}
 
 -- the bytes of what is shown stand in the bundle's
@@ -77,11 +78,26 @@ yes_is (Agreed order) is = refl
 yes_is (Explained decisions) is = refl
 yes_is (No findings) is = absurd is
 
+-- the bundle that is audited is that of the run
+same_bundle : (input text report : List ℕ) (said negative : Bool) (run : IsRun input text said) → AreBelow 256 text → (audited : IsAudited text report negative) → audited.bundle ≡ bundle_of run.scenario run.walks
+same_bundle input text report said negative run below audited =
+    let ours = runs_are_read input text said run below in
+    ok_is {F = BundleFault} audited.bundle (bundle_of run.scenario run.walks) (sym (bundle_only text audited.bundle audited.spelled) ∙ ours)
+
 pub runs_are_accepted : RunsAreAccepted
 runs_are_accepted input text report said negative run below sound audited =
     let s = run.scenario in
-    let ours = runs_are_read input text said run below in
-    let same : audited.bundle ≡ bundle_of s run.walks = ok_is {F = BundleFault} audited.bundle (bundle_of s run.walks) (sym (bundle_only text audited.bundle audited.spelled) ∙ ours) in
+    let same = same_bundle input text report said negative run below audited in
     let judged : IsVerdict (bundle_of s run.walks) audited.audits.verdict = subst (λ (b : Bundle). IsVerdict b audited.audits.verdict) same audited.audits.judged in
     let fine = is_acceptable s run.walks (is_lawful input text said run) run.has_walks sound in
     audited.audits.negative_is ∙ yes_is audited.audits.verdict (world_is_accepted s run.walks fine audited.audits.verdict judged)
+
+pub runs_are_judged : RunsAreJudged
+runs_are_judged input text report said negative run below audited =
+    let same = same_bundle input text report said negative run below audited in
+    let judges : JudgesRun run.scenario report negative = record {
+      walks = run.walks;
+      has_walks = run.has_walks;
+      audits = subst (λ (b : Bundle). Audits b report negative) same audited.audits;
+    } in
+    record { scenario = run.scenario; spelled = run.spelled; judges = judges }

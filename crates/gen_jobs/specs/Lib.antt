@@ -7,5 +7,6 @@ pub mod Decide
 pub mod Ends
 pub mod Failing
 pub mod Jobs
+pub mod Judging
 pub mod Ranges
 pub mod Run

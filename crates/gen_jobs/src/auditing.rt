@@ -1,5 +1,7 @@
 //! The job `audit`.
-ghost use Rattle.std.specs.Prelude.{◌≡◌, IfOk, IfErr, IfSome};
+ghost use Rattle.std.specs.Prelude.{◌≡◌, IfOk, IfErr, IfSome, map};
+ghost use Rattle.gen_convict.specs.Evidence.{told_of};
+ghost use Rattle.gen_report.specs.VerdictText.{verdict_text};
 ghost use Rattle.gen_jobs.specs.Answering.{Answers};
 ghost use Rattle.gen_jobs.specs.Audit.{Audits, IsAudited, IsAuditFault, IsWant, is_no};
 ghost use Rattle.gen_jobs.specs.Ends.{IsTaken, KeepsUntilWhole};
@@ -7,9 +9,10 @@ ghost use Rattle.gen_jobs.specs.Ends.{IsTaken, KeepsUntilWhole};
 use crate::ends::{JobEnd, JobFault, Output};
 use crate::gates::Open;
 use crate::transfer::{deliver, read_all};
-use gen_audit::{Bundle, Verdict, WorkerCount, read_bundle, read_taken_bundle};
+use gen_audit::{Bundle, Judgement, Verdict, WorkerCount, read_bundle, read_taken_bundle};
+use gen_net::Header;
 use gen_report::print_verdict;
-use std::alloc::Global;
+use std::alloc::{AllocError, Global};
 use std::io::{Read, Write};
 use std::sync::Wait;
 use std::thread::Threads;
@@ -24,6 +27,23 @@ fn says_no(verdict: &Verdict) -> bool
     }
 }
 
+/// Returns the text of a judgement under a header, and whether its verdict is a no.
+pub(crate) fn judgement_text(
+    alloc: Global,
+    header: &Header,
+    judgement: &Judgement,
+) -> Result<Output, AllocError>
+    ensures text { IfOk result (λ o. o.text.items
+        ≡ verdict_text header.now judgement.now.verdict (map told_of judgement.now.convictions.items)) }
+    ensures negative { IfOk result (λ o. o.negative ≡ is_no judgement.now.verdict) }
+{
+    let text = print_verdict(alloc, header, judgement)?;
+    Ok(Output {
+        text,
+        negative: says_no(&judgement.verdict),
+    })
+}
+
 /// Returns the text of the judgement on a bundle, and whether its verdict is a no.
 #[tactic(auto, using(crate::proofs::Audited::is_want, crate::proofs::Audited::supported))]
 fn audit_of<T: Threads + Wait + Sync>(
@@ -36,11 +56,7 @@ fn audit_of<T: Threads + Wait + Sync>(
     ensures fault { IfErr result IsWant }
 {
     let judgement = gen_audit::audit(rt, alloc, bundle, workers, &Open)?;
-    let text = print_verdict(alloc, bundle.header(), &judgement)?;
-    Ok(Output {
-        text,
-        negative: says_no(&judgement.verdict),
-    })
+    Ok(judgement_text(alloc, bundle.header(), &judgement)?)
 }
 
 /// Returns the text of the judgement on the bundle that the input spells, and whether its verdict is a no, which it

@@ -1,4 +1,4 @@
-//! The five jobs, and the choice of their engines.
+//! The six jobs, and the choice of their engines.
 ghost use Rattle.std.specs.Prelude.{IfSome};
 ghost use Rattle.gen_jobs.specs.Answering.{Answers};
 ghost use Rattle.gen_jobs.specs.Ends.{IsTaken, KeepsUntilWhole};
@@ -10,6 +10,7 @@ use crate::auditing::audit_engine;
 use crate::checking::evidence_engine;
 use crate::deciding::decide_engine;
 use crate::ends::JobEnd;
+use crate::judging::judge_engine;
 use crate::running::run_engine;
 use gen_audit::WorkerCount;
 use gen_types::GeneralNo;
@@ -27,6 +28,13 @@ pub enum Job {
     Run {
         /// How many frames an edge holds, 1 to 16.
         capacity: u8,
+    },
+    /// Reads a scenario with a seed, runs it in threads while its logs are audited, and writes the verdict.
+    Judge {
+        /// How many frames an edge holds, 1 to 16.
+        capacity: u8,
+        /// How many workers read and verify logs.
+        workers: WorkerCount,
     },
     /// Reads a bundle, and writes the verdict on it.
     Audit {
@@ -67,6 +75,9 @@ pub fn do_job<T: Threads + Wait + Sync, R: Read, W: Write>(
     match job {
         Job::Decide => decide_engine(alloc, reader, writer),
         Job::Run { capacity } => run_engine(rt, alloc, capacity, reader, writer),
+        Job::Judge { capacity, workers } => {
+            judge_engine(rt, alloc, capacity, workers, reader, writer)
+        }
         Job::Audit { workers } => audit_engine(rt, alloc, workers, reader, writer),
         Job::Accuse { general } => {
             accuse_engine(rt, alloc, WorkerCount::one(), general, reader, writer)

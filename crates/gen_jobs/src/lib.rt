@@ -1,7 +1,7 @@
-//! The five jobs that can be done with an input: to decide, to run, to audit, to accuse and to check
+//! The six jobs that can be done with an input: to decide, to run, to judge, to audit, to accuse and to check
 //! evidence.
 //!
-//! `decide`, `run`, `audit`, `accuse` and `evidence` take the bytes of an input, and give the text that
+//! `decide`, `run`, `judge`, `audit`, `accuse` and `evidence` take the bytes of an input, and give the text that
 //! answers it or its first fault; they need no reader, no writer and no words. Over them stand the engines,
 //! which read an input to its end and write what answers it; `do_job` takes the engine of a `Job`. A contract
 //! of an engine says what stands behind what the writer held, as far as reader and writer are known, and that
@@ -17,6 +17,7 @@ mod deciding;
 mod ends;
 mod gates;
 mod jobs;
+mod judging;
 pub mod laws;
 mod running;
 mod transfer;
@@ -28,5 +29,6 @@ pub use checking::{evidence, evidence_engine};
 pub use deciding::{decide, decide_engine};
 pub use ends::{JobEnd, JobFault, Output};
 pub use jobs::{Job, do_job};
+pub use judging::{judge, judge_engine};
 pub use running::{run, run_engine, run_in_pieces};
 pub use transfer::{deliver, read_all, write_output};

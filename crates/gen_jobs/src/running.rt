@@ -28,7 +28,7 @@ use std::sync::Wait;
 use std::thread::Threads;
 
 /// Returns how the job fails on a scenario without a seed.
-fn missing_seed(plain: &PlainScenario) -> JobFault
+pub(crate) fn missing_seed(plain: &PlainScenario) -> JobFault
     ensures { result ≡ faults.Scenario (fault_at BadSeed (line_after_order plain.now.net)) }
 {
     JobFault::Scenario(ScenarioFault {
@@ -38,7 +38,7 @@ fn missing_seed(plain: &PlainScenario) -> JobFault
 }
 
 /// Makes the scenario of a plan. The trees of the generals' keys are made by threads.
-fn make_scenario<R: Threads + Sync>(
+pub(crate) fn make_scenario<R: Threads + Sync>(
     rt: &R,
     alloc: Global,
     plan: SignedPlan,
@@ -51,7 +51,7 @@ fn make_scenario<R: Threads + Sync>(
 }
 
 /// Returns the best walks between these generals, or none where two of them have no short one.
-fn walks_between(alloc: Global, net: &Net, rest: &GeneralSet) -> Result<Walks, AllocError>
+pub(crate) fn walks_between(alloc: Global, net: &Net, rest: &GeneralSet) -> Result<Walks, AllocError>
     ensures { IfOk result (AreWalksOfRun net.now rest.now) }
 {
     match make_walks(alloc, net, rest) {

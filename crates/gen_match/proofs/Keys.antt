@@ -1,12 +1,12 @@
 -- Numbers of paths, keys, and the search for them.
-use Rattle.std.proofs.Common.{◌≡◌, ◌⊎◌, ◌<◌, ◌≤◌, ◌+◌, ◌-◌, ◌*◌, ◌^◌, ℕ, Bool, true, false, ◌&&◌, ◌||◌, nat_lt, nat_le, ltb, inl, inr, List, [], ◌∷◌, ◌++◌, length, take, drop, get_or, Contains, All, AllPairs, Err, refl, sym, ap, ◌∙◌, subst, arith}
+use Rattle.std.proofs.Common.{◌≡◌, ◌⊎◌, ◌<◌, ◌≤◌, ◌+◌, ◌-◌, ◌*◌, ◌^◌, ℕ, Bool, true, false, ◌&&◌, ◌||◌, nat_lt, nat_le, ltb, inl, inr, List, [], ◌∷◌, ◌++◌, length, take, drop, get_or, Contains, All, AllPairs, Ok, Err, ◌==◌, refl, sym, ap, ◌∙◌, subst, arith, eq-eqb}
 use Rattle.std.specs.List.{dedup}
 use Rattle.std.specs.List.Retain.{IsFiltered, DiffersFromLast}
 use Rattle.std.specs.List.Sorted.{IsPermutation, IsSorted, IsBinarySearchResult}
 use Rattle.std.specs.Ordering.{nat_cmp}
 use Rattle.std.specs.Bool.{nat_eq}
 use Rattle.std.proofs.Math.Nat.{pow-le-pow_right}
-use Rattle.std.proofs.lemmas.Bool.{cases_eq, ltb-true, ltb-false, leb-true, lt-ltb, le-ltb, le-leb, lt-leb}
+use Rattle.std.proofs.lemmas.Bool.{cases_eq, eqb-true, ltb-true, ltb-false, leb-true, lt-ltb, le-ltb, le-leb, lt-leb}
 use Rattle.std.proofs.lemmas.List.{take-append-drop, length-take-le, length-drop}
 use Rattle.std.proofs.lemmas.List.Elements.{All-head, All-tail, All-drop, All-from_get_or}
 use Rattle.std.proofs.lemmas.List.Folds.{list_any_at, list_any_none}
@@ -15,6 +15,7 @@ use Rattle.std.proofs.lemmas.List.Kept.{AllPairs-from_increasing, Contains-dedup
 use Rattle.std.proofs.lemmas.List.Sorted.{searched, Contains-permutation, IsPermutation-sym}
 use Rattle.std.proofs.lemmas.Map.Keys.{IsStrictlyIncreasing-dedup}
 use Rattle.gen_types.specs.Ascending.{IsListOf}
+use Rattle.gen_types.specs.Ends.{is_among}
 use Rattle.gen_types.proofs.Lists.{Contains_here, Contains_there, Contains_cases, Contains_nil, bool_cases}
 use Rattle.gen_match.specs.Prefixes.{number_behind, path_number, source_key, begin_keys, has_between}
 
@@ -160,6 +161,27 @@ index_found : (xs : List ℕ) (low next : ℕ) → AllPairs (λ a b. a < b) xs �
 index_found xs low next up found =
     let r = searched xs low (Err next) found (rises xs up) in
     record { within = r.0; below = r.1; above = r.2 }
+
+pub search_found : (xs : List ℕ) (x i : ℕ) → AllPairs (λ a b. a < b) xs → IsBinarySearchResult (λ y. nat_cmp y x) xs (Ok i) → is_among xs x ≡ true
+search_found xs x i up found =
+    let r = searched xs x (Ok i) found (rises xs up) in
+    list_any_at (λ y. y == x) xs i 0 r.0 (eq-eqb (get_or xs i 0) x r.1)
+
+pub search_missed : (xs : List ℕ) (x next : ℕ) → AllPairs (λ a b. a < b) xs → IsBinarySearchResult (λ y. nat_cmp y x) xs (Err next) → is_among xs x ≡ false
+search_missed xs x next up missed =
+    let r = index_found xs x next up missed in
+    list_any_none (λ y. y == x) xs (All-from_get_or (λ y. (y == x) ≡ false) xs 0 (λ i l. apart_at r i l))
+  where
+    apart_at : IsIndexOf xs x next → (i : ℕ) → i < length xs → (get_or xs i 0 == x) ≡ false
+    apart_at r i l = elim (bool_cases (get_or xs i 0 == x)) [
+      | inl same ↦
+          let e : get_or xs i 0 ≡ x = eqb-true (get_or xs i 0) x same in
+          elim (bool_cases (nat_lt i next)) [
+            | inl before ↦ absurd (omega (arith, e, r.below i (ltb-true i next before)))
+            | inr after ↦ absurd (omega (arith, e, r.above i (ltb-false i next after) l))
+          ]
+      | inr apart ↦ apart
+    ]
 
 too_low : (low high k : ℕ) → k < low → (nat_le low k && nat_lt k high) ≡ false
 too_low low high k less = rw (lt-leb low k less) refl

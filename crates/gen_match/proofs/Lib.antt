@@ -1,8 +1,7 @@
-pub mod EdgeOrder
 pub mod Keys
+pub mod OneSided
+pub mod Ranked
 pub mod Rest
 pub mod Showing
 pub mod Sourcing
 pub mod Strays
-pub mod ToldLogs
-pub mod ToldTables

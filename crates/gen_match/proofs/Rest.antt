@@ -17,7 +17,8 @@ use Rattle.gen_log.specs.declared.entries.Entry.TheVariants.{Send}
 use Rattle.gen_log.specs.Entry.{erase}
 use Rattle.gen_match.specs.Matching.{Logs, Logged}
 use Rattle.gen_match.specs.Prefixes.{path_number, source_key, begin_keys}
-use Rattle.gen_match.specs.Underivables.{is_rest, rest_entries, entry_keys, rest_keys, IsSmall, AreSmall}
+use Rattle.gen_match.specs.Rest.{is_rest, rest_entries, over_rest, IsSmall, AreSmall}
+use Rattle.gen_match.specs.Underivables.{entry_keys, rest_keys}
 use Rattle.gen_match.proofs.Keys.{and_split, begin_in, begin_out}
 
 -- ---- who is of the rest
@@ -63,6 +64,30 @@ logged_out net faulty logs g e h = elim (bool_cases (is_rest net faulty g)) [
   | inr f ↦ absurd (Contains_nil e (subst (λ b. Contains (cond b (unwrap_or (logs g) []) []) e) f h))
 ]
 
+-- ---- what the entries of the rest give
+
+pub over_in : (given : ℕ → LogEntry → List ℕ) (net : Network) (faulty : List ℕ) (logs : Logs) (g : ℕ) (e : LogEntry) (k : ℕ) → IsLoyal net faulty g → Logged logs g e → Contains (given g e) k → Contains (over_rest given net faulty logs) k
+over_in given net faulty logs g e k loyal logged here =
+    in_flat_map (λ g. flat_map (given g) (rest_entries net faulty logs g)) (range_with_len 0 net.generals) g k
+    (Contains_in_range 0 net.generals g (omega arith) (omega (arith, loyal.0)))
+    (in_flat_map (given g) (rest_entries net faulty logs g) e k (logged_in net faulty logs g e loyal logged) here)
+
+-- by which entry of whom of the rest a number is given
+pub record IsGiven (given : ℕ → LogEntry → List ℕ) (net : Network) (faulty : List ℕ) (logs : Logs) (k : ℕ) : Type 0 where
+  pub general : ℕ
+  pub entry : LogEntry
+  pub of_rest : IsLoyal net faulty general
+  pub logged : Logged logs general entry
+  pub small : IsSmall entry
+  pub its : Contains (given general entry) k
+
+pub over_out : (given : ℕ → LogEntry → List ℕ) (net : Network) (faulty : List ℕ) (logs : Logs) (k : ℕ) → AreSmall net faulty logs net.generals → Contains (over_rest given net faulty logs) k → IsGiven given net faulty logs k
+over_out given net faulty logs k small h =
+    let r = Contains_flat_mapped (λ g. flat_map (given g) (rest_entries net faulty logs g)) (range_with_len 0 net.generals) k h in
+    let s = Contains_flat_mapped (given r.0) (rest_entries net faulty logs r.0) k r.2 in
+    let u = logged_out net faulty logs r.0 s.0 s.1 in
+    record { general = r.0; entry = s.0; of_rest = u.0; logged = u.1; small = small r.0 s.0 u.0.0 s.1; its = s.2 }
+
 -- ---- loops over generals
 
 pub range_step : (f : ℕ → List ℕ) (k : ℕ) (now new : List ℕ) → now ≡ flat_map f (range_with_len 0 k) → new ≡ now ++ f k → new ≡ flat_map f (range_with_len 0 (k + 1))
@@ -88,9 +113,7 @@ pub key_in : (net : Network) (faulty : List ℕ) (logs : Logs) (from to v : ℕ)
 key_in net faulty logs from to v source front last rest loyal bad logged parts =
     let begun : Contains (begin_keys v (length source) 1 source) (source_key (path_number (front ++ last ∷ [])) v (length source)) = subst (λ s. Contains (begin_keys v (length source) 1 s) (source_key (path_number (front ++ last ∷ [])) v (length source))) (sym (parts ∙ append_assoc front (last ∷ []) rest)) (begin_in v (length source) 1 front last rest) in
     let at_entry : Contains (entry_keys faulty (Sent to v source)) (source_key (path_number (front ++ last ∷ [])) v (length source)) = subst (λ b. Contains (cond b (begin_keys v (length source) 1 source) []) (source_key (path_number (front ++ last ∷ [])) v (length source))) (sym (in_among faulty to bad)) begun in
-    in_flat_map (λ g. flat_map (entry_keys faulty) (rest_entries net faulty logs g)) (range_with_len 0 net.generals) from (source_key (path_number (front ++ last ∷ [])) v (length source))
-    (Contains_in_range 0 net.generals from (omega arith) (omega (arith, loyal.0)))
-    (in_flat_map (entry_keys faulty) (rest_entries net faulty logs from) (Sent to v source) (source_key (path_number (front ++ last ∷ [])) v (length source)) (logged_in net faulty logs from (Sent to v source) loyal logged) at_entry)
+    over_in (λ g. entry_keys faulty) net faulty logs from (Sent to v source) (source_key (path_number (front ++ last ∷ [])) v (length source)) loyal logged at_entry
 
 record IsEntryKey (faulty : List ℕ) (e : LogEntry) (k : ℕ) : Type 0 where
   pub to : ℕ
@@ -127,23 +150,20 @@ pub record IsRestKey (net : Network) (faulty : List ℕ) (logs : Logs) (k : ℕ)
 
 pub key_out : (net : Network) (faulty : List ℕ) (logs : Logs) (k : ℕ) → AreSmall net faulty logs net.generals → Contains (rest_keys net faulty logs) k → IsRestKey net faulty logs k
 key_out net faulty logs k small h =
-    let r = Contains_flat_mapped (λ g. flat_map (entry_keys faulty) (rest_entries net faulty logs g)) (range_with_len 0 net.generals) k h in
-    let s = Contains_flat_mapped (entry_keys faulty) (rest_entries net faulty logs r.0) k r.2 in
-    let t = entry_out faulty s.0 k s.2 in
-    let here : Contains (rest_entries net faulty logs r.0) (Sent t.to t.v t.source) = subst (λ e. Contains (rest_entries net faulty logs r.0) e) t.is s.1 in
-    let u = logged_out net faulty logs r.0 (Sent t.to t.v t.source) here in
+    let r = over_out (λ g. entry_keys faulty) net faulty logs k small h in
+    let t = entry_out faulty r.entry k r.its in
     let w = begin_out t.v (length t.source) 1 t.source k t.begun in
     record {
-      from = r.0;
+      from = r.general;
       to = t.to;
       v = t.v;
       source = t.source;
       begin = w.begin;
       back = w.back;
-      from_rest = u.0;
+      from_rest = r.of_rest;
       to_faulty = t.bad;
-      sent = u.1;
+      sent = subst (Logged logs r.general) t.is r.logged;
       parts = w.parts;
       key = w.key;
-      small = small r.0 (Sent t.to t.v t.source) u.0.0 here;
+      small = subst IsSmall t.is r.small;
     }

@@ -1,25 +1,27 @@
 -- Received chains that the index of sources says nothing of, and where they are found.
-use Rattle.std.proofs.Common.{◌≡◌, ◌↔◌, ◌⊎◌, ◌<◌, ◌≤◌, ◌+◌, ◌*◌, ◌^◌, ◌/◌, ◌%◌, ℕ, Bool, true, false, ◌&&◌, not, cond, IsTrue, ltb, inl, inr, List, [], ◌∷◌, ◌++◌, length, map, Contains, All, AllPairs, Option, Some, None, Result, Ok, Err, IfOk, refl, sym, ap, ◌∙◌, subst, arith}
-use Rattle.std.specs.List.{flat_map, range_with_len}
+use Rattle.std.proofs.Common.{◌≡◌, ◌↔◌, ◌⊎◌, ◌<◌, ◌≤◌, ◌+◌, ◌*◌, ◌^◌, ℕ, Bool, true, false, ◌&&◌, not, cond, IsTrue, inl, inr, List, [], ◌∷◌, ◌++◌, length, map, Contains, All, Option, Some, None, Result, Ok, Err, IfOk, refl, sym, ap, ◌∙◌, subst, arith}
 use Rattle.std.specs.Option.{IfSome}
-use Rattle.std.proofs.lemmas.Bool.{ltb-true, ltb-false}
 use Rattle.std.proofs.lemmas.List.{append-nil}
 use Rattle.std.proofs.lemmas.List.Elements.{All-nil, All-cons, All-contains, Contains-append_left}
 use Rattle.gen_types.specs.Ascending.{IsListOf}
 use Rattle.gen_types.specs.Ends.{is_among}
 use Rattle.gen_types.proofs.Among.{among_in, in_among}
-use Rattle.gen_types.proofs.Lists.{Contains_here, Contains_there, Contains_cases, Contains_nil, Contains_flat_mapped, Contains_mapped, Contains_in_range, All_of, bool_cases}
-use Rattle.gen_core.proofs.OrderedLists.{in_flat_map, AllPairs-cons, AllPairs-head, AllPairs-tail, only}
+use Rattle.gen_types.proofs.Lists.{Contains_here, Contains_nil, All_of, bool_cases}
+use Rattle.gen_core.proofs.OrderedLists.{only}
 use Rattle.gen_net.specs.Network.{Network, IsLoyal}
-use Rattle.gen_net.specs.Log.{LogEntry, Started, Signed, Sent, Received, Decided, Precedes}
+use Rattle.gen_net.specs.Log.{LogEntry, Started, Signed, Sent, Received, Decided}
 use Rattle.gen_match.specs.declared.finding.Finding.{Finding}
-use Rattle.gen_match.specs.declared.finding.Finding.TheVariants.{Missing, Several, Unreadable, Foreign, Unsigned, Unsealed, Departs, Unmatched, Underivable, Unjoined, Nobody}
-use Rattle.gen_match.specs.Findings.{AreFindings, finding_rank}
+use Rattle.gen_match.specs.declared.finding.Finding.TheVariants.{Underivable}
+use Rattle.gen_match.specs.declared.kinds.Kind.TheVariants.{Stray}
+use Rattle.gen_match.specs.Findings.{AreFindings}
 use Rattle.gen_match.specs.Matching.{Logs, Logged, IsDerivableFromLogs, IsUnderivable, FindsUnderivable}
 use Rattle.gen_match.specs.Prefixes.{number_behind, path_number, source_key, has_between}
-use Rattle.gen_match.specs.Underivables.{is_rest, rest_entries, rest_keys, rest_begin, derives, derives_from, rank_number, found_at, found_ranks, finding_at, IsSmall, AreSmall}
+use Rattle.gen_match.specs.Ranks.{rank_number, finding_at}
+use Rattle.gen_match.specs.Rest.{is_rest, IsSmall, AreSmall}
+use Rattle.gen_match.specs.Underivables.{rest_keys, rest_begin, derives, derives_from, found_at, found_ranks}
 use Rattle.gen_match.proofs.Keys.{one_path, key_inside, between_in, between_out}
-use Rattle.gen_match.proofs.Rest.{same_test, loyal_from, rest_from, logged_in, logged_out, key_in, key_out}
+use Rattle.gen_match.proofs.Ranked.{IsRank, IsRanked, StandsAt, ranked_found}
+use Rattle.gen_match.proofs.Rest.{same_test, loyal_from, rest_from, logged_in, over_in, over_out, key_in, key_out}
 use Rattle.gen_match.proofs.Sourcing.{derivable_at_last}
 
 -- ---- the last general of the rest
@@ -190,22 +192,19 @@ record IsFoundRank (keys : List ℕ) (net : Network) (faulty : List ℕ) (logs :
 
 rank_out : (keys : List ℕ) (net : Network) (faulty : List ℕ) (logs : Logs) (k : ℕ) → AreSmall net faulty logs net.generals → Contains (found_ranks keys net faulty logs) k → IsFoundRank keys net faulty logs k
 rank_out keys net faulty logs k small h =
-    let r = Contains_flat_mapped (λ g. flat_map (found_at keys net faulty g) (rest_entries net faulty logs g)) (range_with_len 0 net.generals) k h in
-    let s = Contains_flat_mapped (found_at keys net faulty r.0) (rest_entries net faulty logs r.0) k r.2 in
-    let t = found_out keys net faulty r.0 s.0 k s.2 in
-    let here : Contains (rest_entries net faulty logs r.0) (Received t.from t.v t.path) = subst (λ e. Contains (rest_entries net faulty logs r.0) e) t.is s.1 in
-    let u = logged_out net faulty logs r.0 (Received t.from t.v t.path) here in
+    let r = over_out (found_at keys net faulty) net faulty logs k small h in
+    let t = found_out keys net faulty r.general r.entry k r.its in
     record {
       from = t.from;
-      to = r.0;
+      to = r.general;
       v = t.v;
       path = t.path;
       from_faulty = t.bad;
-      to_rest = u.0;
-      received = u.1;
+      to_rest = r.of_rest;
+      received = subst (Logged logs r.general) t.is r.logged;
       stray = t.stray;
       rank = t.rank;
-      small = small r.0 (Received t.from t.v t.path) u.0.0 here;
+      small = subst IsSmall t.is r.small;
     }
 
 rank_in : (keys : List ℕ) (net : Network) (faulty : List ℕ) (logs : Logs) (from to v : ℕ) (path : List ℕ) → Contains faulty from → IsLoyal net faulty to → Logged logs to (Received from v path) → derives keys net faulty v path ≡ false
@@ -213,68 +212,7 @@ rank_in : (keys : List ℕ) (net : Network) (faulty : List ℕ) (logs : Logs) (f
 rank_in keys net faulty logs from to v path bad loyal received stray =
     let t : (is_among faulty from && not (derives keys net faulty v path)) ≡ true = rw (in_among faulty from bad, stray) refl in
     let here : Contains (found_at keys net faulty to (Received from v path)) (rank_number from to (length path) v) = subst (λ b. Contains (cond b (rank_number from to (length path) v ∷ []) []) (rank_number from to (length path) v)) (sym t) (Contains_here (rank_number from to (length path) v) []) in
-    in_flat_map (λ g. flat_map (found_at keys net faulty g) (rest_entries net faulty logs g)) (range_with_len 0 net.generals) to (rank_number from to (length path) v)
-    (Contains_in_range 0 net.generals to (omega arith) (omega (arith, loyal.0)))
-    (in_flat_map (found_at keys net faulty to) (rest_entries net faulty logs to) (Received from v path) (rank_number from to (length path) v) (logged_in net faulty logs to (Received from v path) loyal received) here)
-
--- ---- a rank and its number
-
-pub record IsRank (from to round order : ℕ) : Type 0 where
-  pub from_small : from < 16
-  pub to_small : to < 16
-  pub round_small : round < 32
-  pub order_small : order < 16
-
-same_finding : (a a' b b' l l' v v' : ℕ) → a ≡ a' → b ≡ b' → l ≡ l' → v ≡ v' → Underivable a b l v ≡ Underivable a' b' l' v'
-same_finding a a' b b' l l' v v' p q r s = rw (p, q, r, s) refl
-
-finding_back : (a b l v : ℕ) → IsRank a b l v → finding_at (rank_number a b l v) ≡ Underivable a b l v
-finding_back a b l v p =
-    let small_a : a < 16 = p.from_small in
-    let small_b : b < 16 = p.to_small in
-    let small_l : l < 32 = p.round_small in
-    let small_v : v < 16 = p.order_small in
-    let a1 : rank_number a b l v / 8192 ≡ a = omega (arith, small_a, small_b, small_l, small_v) in
-    let a2 : a % 16 ≡ a = omega (arith, small_a) in
-    let b1 : rank_number a b l v / 512 ≡ a * 16 + b = omega (arith, small_a, small_b, small_l, small_v) in
-    let b2 : (a * 16 + b) % 16 ≡ b = omega (arith, small_b) in
-    let l1 : rank_number a b l v / 16 ≡ (a * 16 + b) * 32 + l = omega (arith, small_l, small_v) in
-    let l2 : ((a * 16 + b) * 32 + l) % 32 ≡ l = omega (arith, small_l) in
-    let v1 : rank_number a b l v % 16 ≡ v = omega (arith, small_v) in
-    same_finding (rank_number a b l v / 8192 % 16) a (rank_number a b l v / 512 % 16) b (rank_number a b l v / 16 % 32) l (rank_number a b l v % 16) v
-    (ap (λ x. x % 16) a1 ∙ a2) (ap (λ x. x % 16) b1 ∙ b2) (ap (λ x. x % 32) l1 ∙ l2) v1
-
-digit16 : (x v y w : ℕ) → x * 16 + v < y * 16 + w → v < 16 → w < 16 → (x < y) ⊎ ((x ≡ y) × (v < w))
-digit16 x v y w h a b = elim (bool_cases (ltb x y)) [
-  | inl less ↦ inl (ltb-true x y less)
-  | inr more ↦ let m : y ≤ x = ltb-false x y more in inr (omega (arith, m, h, b), omega (arith, m, h))
-]
-
-digit32 : (x v y w : ℕ) → x * 32 + v < y * 32 + w → v < 32 → w < 32 → (x < y) ⊎ ((x ≡ y) × (v < w))
-digit32 x v y w h a b = elim (bool_cases (ltb x y)) [
-  | inl less ↦ inl (ltb-true x y less)
-  | inr more ↦ let m : y ≤ x = ltb-false x y more in inr (omega (arith, m, h, b), omega (arith, m, h))
-]
-
-ranks_rise : (a b l v a' b' l' v' : ℕ) → IsRank a b l v → IsRank a' b' l' v' → rank_number a b l v < rank_number a' b' l' v' → Precedes (9 ∷ a ∷ b ∷ l ∷ v ∷ []) (9 ∷ a' ∷ b' ∷ l' ∷ v' ∷ [])
-ranks_rise a b l v a' b' l' v' p q h = inr (
-  refl,
-  elim (digit16 ((a * 16 + b) * 32 + l) v ((a' * 16 + b') * 32 + l') v' h p.order_small q.order_small) [
-    | inl less ↦ elim (digit32 (a * 16 + b) l (a' * 16 + b') l' less p.round_small q.round_small) [
-      | inl less ↦ elim (digit16 a b a' b' less p.to_small q.to_small) [
-        | inl less ↦ inl less
-        | inr more ↦ inr (more.0, inl more.1)
-      ]
-      | inr same ↦
-          let s : a ≡ a' = omega (arith, same.0, p.to_small, q.to_small) in
-          inr (s, inr (omega (arith, same.0, s), inl same.1))
-    ]
-    | inr same ↦
-        let up : a * 16 + b ≡ a' * 16 + b' = omega (arith, same.0, p.round_small, q.round_small) in
-        let s : a ≡ a' = omega (arith, up, p.to_small, q.to_small) in
-        inr (s, inr (omega (arith, up, s), inr (omega (arith, same.0, up), inl same.1)))
-  ],
-)
+    over_in (found_at keys net faulty) net faulty logs to (Received from v path) (rank_number from to (length path) v) loyal received here
 
 -- ---- the findings
 
@@ -283,24 +221,9 @@ rank_of keys net faulty logs k few f =
     let small : (f.from < 16) × (f.v < 16) × (length f.path ≤ 16) × All (λ g. g < 16) f.path = f.small in
     record { from_small = small.0; to_small = omega (arith, f.to_rest.0, few); round_small = omega (arith, small.2); order_small = small.1 }
 
-in_mapped : {X Y : Type 0} (f : X → Y) (xs : List X) (x : X) → Contains xs x → Contains (map f xs) (f x)
-in_mapped f [] x h = absurd (Contains_nil x h)
-in_mapped f (y ∷ ys) x h = elim (Contains_cases y x ys h) [
-  | inl e ↦ subst (λ z. Contains (f y ∷ map f ys) (f z)) e (Contains_here (f y) (map f ys))
-  | inr there ↦ Contains_there (f y) (f x) (map f ys) (in_mapped f ys x there)
-]
-
-pairs_mapped : {Y : Type 0} (f : ℕ → Y) (P : ℕ → Type 0) (R : Y → Y → Type 0) → ((a b : ℕ) → P a → P b → a < b → R (f a) (f b)) → (xs : List ℕ) → ((x : ℕ) → Contains xs x → P x) → AllPairs (λ a b. a < b) xs → AllPairs R (map f xs)
-pairs_mapped f P R up [] are rise = λ i j d l m. absurd (omega (arith, m))
-pairs_mapped f P R up (x ∷ xs) are rise =
-    AllPairs-cons R (f x) (map f xs)
-    (λ y h. let r = Contains_mapped f xs y h in subst (R (f x)) r.2 (up x r.0 (are x (Contains_here x xs)) (are r.0 (Contains_there x r.0 xs r.1)) (AllPairs-head (λ a b. a < b) x xs r.0 rise r.1)))
-    (pairs_mapped f P R up xs (λ y h. are y (Contains_there x y xs h)) (AllPairs-tail (λ a b. a < b) x xs rise))
-
--- the finding of a rank is one
-finds : (keys : List ℕ) (net : Network) (faulty : List ℕ) (logs : Logs) (k : ℕ) → IsListOf keys (Contains (rest_keys net faulty logs)) → net.generals ≤ 16 → IsFoundRank keys net faulty logs k → FindsUnderivable net faulty logs (finding_at k)
-finds keys net faulty logs k are few f =
-    let is : finding_at k ≡ Underivable f.from f.to (length f.path) f.v = ap finding_at f.rank ∙ finding_back f.from f.to (length f.path) f.v (rank_of keys net faulty logs k few f) in
+-- what a rank is found of is underivable
+ranked : (keys : List ℕ) (net : Network) (faulty : List ℕ) (logs : Logs) (k : ℕ) → IsListOf keys (Contains (rest_keys net faulty logs)) → net.generals ≤ 16 → IsFoundRank keys net faulty logs k → IsRanked Stray (FindsUnderivable net faulty logs) k
+ranked keys net faulty logs k are few f =
     let it : IsUnderivable net faulty logs f.from f.to (length f.path) f.v = record {
       from_faulty = f.from_faulty;
       to_rest = f.to_rest;
@@ -309,63 +232,43 @@ finds keys net faulty logs k are few f =
       received = f.received;
       forged = λ d. let t = derived_in keys net faulty logs f.v f.path are d in let s = f.stray in absurd cc;
     } in
-    subst (FindsUnderivable net faulty logs) (sym is) it
+    record {
+      from = f.from;
+      to = f.to;
+      round = length f.path;
+      order = f.v;
+      small = rank_of keys net faulty logs k few f;
+      rank = f.rank;
+      holds = it;
+    }
 
-record IsIt (net : Network) (faulty : List ℕ) (logs : Logs) (f : Finding) : Type 0 where
-  pub from : ℕ
-  pub to : ℕ
-  pub round : ℕ
-  pub order : ℕ
-  pub is : f ≡ Underivable from to round order
-  pub it : IsUnderivable net faulty logs from to round order
-
-which : (net : Network) (faulty : List ℕ) (logs : Logs) (f : Finding) → FindsUnderivable net faulty logs f → IsIt net faulty logs f
-which net faulty logs (Missing general) h = absurd h
-which net faulty logs (Several general) h = absurd h
-which net faulty logs (Unreadable general fault) h = absurd h
-which net faulty logs (Foreign general) h = absurd h
-which net faulty logs (Unsigned general entry) h = absurd h
-which net faulty logs (Unsealed general) h = absurd h
-which net faulty logs (Departs general entry) h = absurd h
-which net faulty logs (Unmatched from to round order) h = absurd h
-which net faulty logs (Underivable from to round order) h = record { from = from; to = to; round = round; order = order; is = refl; it = h }
-which net faulty logs (Unjoined first second) h = absurd h
-which net faulty logs Nobody h = absurd h
-
-found : (keys ranks : List ℕ) (net : Network) (faulty : List ℕ) (logs : Logs) (f : Finding) → IsListOf keys (Contains (rest_keys net faulty logs)) → AreSmall net faulty logs net.generals → net.generals ≤ 16 → IsListOf ranks (Contains (found_ranks keys net faulty logs))
-    → FindsUnderivable net faulty logs f → Contains (map finding_at ranks) f
-found keys ranks net faulty logs f are small few ranked h =
-    let w = which net faulty logs f h in
-    let u = w.it in
-    let here = logged_in net faulty logs w.to (Received w.from w.order u.path) u.to_rest u.received in
-    let ranges : (w.from < 16) × (w.order < 16) × (length u.path ≤ 16) × All (λ g. g < 16) u.path = small w.to (Received w.from w.order u.path) u.to_rest.0 here in
-    let stray : derives keys net faulty w.order u.path ≡ false = elim (bool_cases (derives keys net faulty w.order u.path)) [
-      | inl t ↦ absurd (u.forged (derived_out keys net faulty logs w.order u.path are small ranges.1 ranges.2 ranges.3 t))
+-- and what is underivable has its rank
+stands : (keys ranks : List ℕ) (net : Network) (faulty : List ℕ) (logs : Logs) (f : Finding) → IsListOf keys (Contains (rest_keys net faulty logs)) → AreSmall net faulty logs net.generals → net.generals ≤ 16 → IsListOf ranks (Contains (found_ranks keys net faulty logs))
+    → FindsUnderivable net faulty logs f → StandsAt Stray ranks f
+stands keys ranks net faulty logs (Underivable from to round order) are small few ranked u =
+    let here = logged_in net faulty logs to (Received from order u.path) u.to_rest u.received in
+    let ranges : (from < 16) × (order < 16) × (length u.path ≤ 16) × All (λ g. g < 16) u.path = small to (Received from order u.path) u.to_rest.0 here in
+    let stray : derives keys net faulty order u.path ≡ false = elim (bool_cases (derives keys net faulty order u.path)) [
+      | inl t ↦ absurd (u.forged (derived_out keys net faulty logs order u.path are small ranges.1 ranges.2 ranges.3 t))
       | inr f ↦ f
     ] in
-    let at : Contains ranks (rank_number w.from w.to (length u.path) w.order) = (ranked.members (rank_number w.from w.to (length u.path) w.order)).1 (rank_in keys net faulty logs w.from w.to w.order u.path u.from_faulty u.to_rest u.received stray) in
-    let back : finding_at (rank_number w.from w.to (length u.path) w.order) ≡ f =
-    finding_back w.from w.to (length u.path) w.order (record { from_small = ranges.0; to_small = omega (arith, u.to_rest.0, few); round_small = omega (arith, ranges.2); order_small = ranges.1 })
-    ∙ ap (λ l. Underivable w.from w.to l w.order) u.round ∙ sym w.is in
-    subst (λ g. Contains (map finding_at ranks) g) back (in_mapped finding_at ranks (rank_number w.from w.to (length u.path) w.order) at)
+    record {
+      from = from;
+      to = to;
+      round = length u.path;
+      order = order;
+      small = record { from_small = ranges.0; to_small = omega (arith, u.to_rest.0, few); round_small = omega (arith, ranges.2); order_small = ranges.1 };
+      is = ap (λ l. Underivable from to l order) (sym u.round);
+      stands = (ranked.members (rank_number from to (length u.path) order)).1 (rank_in keys net faulty logs from to order u.path u.from_faulty u.to_rest u.received stray);
+    }
+stands keys ranks net faulty logs _ are small few ranked h = absurd h
 
 pub strays_found : (keys ranks : List ℕ) (net : Network) (faulty : List ℕ) (logs : Logs) → IsListOf keys (Contains (rest_keys net faulty logs)) → AreSmall net faulty logs net.generals → net.generals ≤ 16 → IsListOf ranks (Contains (found_ranks keys net faulty logs))
-    → AreFindings (FindsUnderivable net faulty logs) (map finding_at ranks)
-strays_found keys ranks net faulty logs are small few ranked = record {
-  in_order = pairs_mapped finding_at (IsFoundRank keys net faulty logs) (λ x y. Precedes (finding_rank x) (finding_rank y))
-      (λ a b f g less.
-      let p = rank_of keys net faulty logs a few f in
-      let q = rank_of keys net faulty logs b few g in
-      let is_f : Underivable f.from f.to (length f.path) f.v ≡ finding_at a = sym (ap finding_at f.rank ∙ finding_back f.from f.to (length f.path) f.v p) in
-      let is_g : Underivable g.from g.to (length g.path) g.v ≡ finding_at b = sym (ap finding_at g.rank ∙ finding_back g.from g.to (length g.path) g.v q) in
-      let rise = ranks_rise f.from f.to (length f.path) f.v g.from g.to (length g.path) g.v p q (subst (λ k. rank_number f.from f.to (length f.path) f.v < k) g.rank (subst (λ k. k < b) f.rank less)) in
-      subst (λ x. Precedes (finding_rank x) (finding_rank (finding_at b))) is_f (subst (λ y. Precedes (finding_rank (Underivable f.from f.to (length f.path) f.v)) (finding_rank y)) is_g rise))
-      ranks (λ x h. rank_out keys net faulty logs x small ((ranked.members x).0 h)) ranked.ascending;
-  members = λ f. (
-    (λ h. let r = Contains_mapped finding_at ranks f h in subst (FindsUnderivable net faulty logs) r.2 (finds keys net faulty logs r.0 are few (rank_out keys net faulty logs r.0 small ((ranked.members r.0).0 r.1)))),
-    (λ h. found keys ranks net faulty logs f are small few ranked h),
-  );
-}
+    → AreFindings (FindsUnderivable net faulty logs) (map (finding_at Stray) ranks)
+strays_found keys ranks net faulty logs are small few of_all =
+    ranked_found Stray (FindsUnderivable net faulty logs) ranks of_all.ascending
+    (λ k h. ranked keys net faulty logs k are few (rank_out keys net faulty logs k small ((of_all.members k).0 h)))
+    (λ f h. stands keys ranks net faulty logs f are small few of_all h)
 
 pub then_ok : {X E : Type 0} (P Q : X → Type 0) (r : Result X E) → ((x : X) → P x → Q x) → IfOk r P → IfOk r Q
 then_ok P Q (Ok x) f h = f x h

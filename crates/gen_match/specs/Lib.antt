@@ -1,7 +1,9 @@
-pub mod EdgeCells
 pub mod Findings
 pub mod Matching
+pub mod Messages
 pub mod Prefixes
+pub mod Ranks
 pub mod Reports
+pub mod Rest
 pub mod Sources
 pub mod Underivables

@@ -7,11 +7,15 @@ ghost use Rattle.gen_local.specs.Erased.{erased};
 ghost use Rattle.gen_match.specs.Findings.{AreFindings};
 ghost use Rattle.gen_match.specs.Matching.{FindsUnderivable};
 ghost use Rattle.gen_match.specs.Reports.{AreUnder, told_logs};
+ghost use Rattle.gen_match.specs.Rest.{IsSmall, AreSmall};
 ghost use Rattle.gen_match.specs.Underivables as finding;
 
+use crate::entries::{is_rest, learn_ranges, rest_entries};
 use crate::finding::Finding;
+use crate::kinds::Kind;
 use crate::prefixes::{has_between, longer, sort_apart, source_key};
-use crate::sources::{find_sources, is_rest, rest_entries};
+use crate::ranks::{findings_at, rank_number};
+use crate::sources::find_sources;
 use gen_local::LocalReport;
 use gen_log::Entry;
 use gen_net::Header;
@@ -67,45 +71,6 @@ fn derives(
     }
 }
 
-/// The number of a finding's rank.
-fn rank_number(from: GeneralNo, to: GeneralNo, round: usize, order: OrderNo) -> u128
-    requires { round ≤ 16 }
-    ensures { result ≡ finding.rank_number from to round order }
-{
-    let generals = u128::from(from.get()) * 16 + u128::from(to.get());
-    (generals * 32 + round as u128) * 16 + u128::from(order.get())
-}
-
-/// The finding of a rank.
-fn finding_at(rank: u128) -> Finding
-    ensures { result ≡ finding.finding_at rank }
-{
-    Finding::Underivable {
-        from: GeneralNo::at((rank / 8192 % 16) as u8),
-        to: GeneralNo::at((rank / 512 % 16) as u8),
-        round: (rank / 16 % 32) as u8,
-        order: OrderNo::at((rank % 16) as u8),
-    }
-}
-
-/// Makes known the ranges of an entry's numbers, which its types keep.
-fn learn_ranges(entry: &Entry)
-    ensures { finding.IsSmall (erase entry.now) }
-{
-    match entry {
-        Entry::Send { order, path, .. } => {
-            let _order = order.get();
-            let _len = path.len();
-        }
-        Entry::Recv { from, chain } => {
-            let _from = from.get();
-            let _order = chain.order().get();
-            let _len = chain.path().len();
-        }
-        _ => {}
-    }
-}
-
 /// Puts the rank of a general's entry behind others, where it is a chain from somebody faulty that doesn't derive.
 fn find_entry(
     sources: &[u128],
@@ -145,7 +110,7 @@ fn find_entries(
     requires { AllPairs (λ a b. a < b) sources.now }
     ensures ranks { OnOk result (ranks.new.items ≡ ranks.old.items
         ++ flat_map (finding.found_at sources.now header.now.network faulty.now to) (erased entries.now)) }
-    ensures small { OnOk result (AllByRecursion finding.IsSmall (erased entries.now)) }
+    ensures small { OnOk result (AllByRecursion IsSmall (erased entries.now)) }
 {
     let mut rest = entries;
     while let Some((entry, others)) = rest.split_first() {
@@ -167,7 +132,7 @@ fn find_ranks(
     requires { AllPairs (λ a b. a < b) sources.now }
     ensures ranks { IfOk result (λ ranks. IsListOf ranks.items (Contains
         (finding.found_ranks sources.now header.now.network faulty.now (told_logs reports.now)))) }
-    ensures small { OnOk result (finding.AreSmall header.now.network faulty.now
+    ensures small { OnOk result (AreSmall header.now.network faulty.now
         (told_logs reports.now) header.now.network.generals) }
 {
     let mut ranks = Vec::new(alloc);
@@ -178,17 +143,6 @@ fn find_ranks(
     }
     sort_apart(&mut ranks)?;
     Ok(ranks)
-}
-
-/// The findings of these ranks.
-fn findings_at(alloc: Global, ranks: &[u128]) -> Result<Vec<Finding>, AllocError>
-    ensures { IfOk result (λ findings. findings.items ≡ map finding.finding_at ranks.now) }
-{
-    let mut findings = Vec::new(alloc);
-    for rank in ranks {
-        findings.push(finding_at(*rank))?;
-    }
-    Ok(findings)
 }
 
 /// Returns, in their order, the chains that faulty generals sent generals of the rest and that derive from nothing
@@ -212,5 +166,5 @@ pub fn check_derived(
     let _known = header.net();
     let sources = find_sources(alloc, header, faulty, reports)?;
     let ranks = find_ranks(alloc, sources.as_slice(), header, faulty, reports)?;
-    findings_at(alloc, ranks.as_slice())
+    findings_at(alloc, Kind::Stray, ranks.as_slice())
 }

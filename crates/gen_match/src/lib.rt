@@ -7,12 +7,15 @@
 #![tactic(auto)]
 
 mod derived;
-mod edge_sides;
-mod edge_tables;
 mod edges;
+mod entries;
 mod finding;
+mod kinds;
 pub mod laws;
+mod messages;
 mod prefixes;
+mod ranks;
+mod sides;
 mod sources;
 mod telling;
 

@@ -1,6 +1,7 @@
 //! The beginnings of paths as numbers, and the keys of those that were sent.
 ghost use Rattle.std.specs.Prelude.{ℕ, ◌≡◌, ◌+◌, ◌*◌, ◌^◌, ◌<◌, ◌≤◌, ◌++◌, OnOk, AllPairs, Contains, length};
 ghost use Rattle.gen_types.specs.Ascending.{IsListOf};
+ghost use Rattle.gen_types.specs.Ends.{is_among};
 ghost use Rattle.gen_match.specs.Prefixes as keys;
 
 use gen_types::{GeneralNo, OrderNo, Path};
@@ -23,6 +24,23 @@ pub(crate) fn source_key(number: u128, order: OrderNo, len: usize) -> u128
     ensures { result ≡ keys.source_key number order len }
 {
     (number * 16 + u128::from(order.get())) * 32 + len as u128
+}
+
+/// The number of a path.
+pub(crate) fn path_number(path: &Path) -> u128
+    ensures value { result ≡ keys.path_number path.now }
+    ensures small { result < 2 ^ 65 }
+{
+    let _at_most = path.len();
+    let mut number = 1;
+    let mut count = 0;
+    let mut rest = path.generals();
+    while let Some((general, others)) = rest.split_first() {
+        number = longer(number, count, *general);
+        count += 1;
+        rest = others;
+    }
+    number
 }
 
 /// Puts the keys of all beginnings of a path behind others.
@@ -54,6 +72,17 @@ pub(crate) fn sort_apart(numbers: &mut Vec<u128>) -> Result<(), AllocError>
     numbers.sort()?;
     numbers.dedup();
     Ok(())
+}
+
+/// Whether a number is one of ascending numbers.
+pub(crate) fn has(numbers: &[u128], number: u128) -> bool
+    requires { AllPairs (λ a b. a < b) numbers.now }
+    ensures { result ≡ is_among numbers.now number }
+{
+    match numbers.binary_search(&number) {
+        Ok(_) => true,
+        Err(_) => false,
+    }
 }
 
 /// Whether one of ascending numbers is at least low and below high, which is above low.

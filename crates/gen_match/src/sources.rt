@@ -7,40 +7,13 @@ ghost use Rattle.gen_local.specs.Erased.{erased};
 ghost use Rattle.gen_match.specs.Reports.{told_logs};
 ghost use Rattle.gen_match.specs.Underivables as finding;
 
+use crate::entries::rest_entries;
 use crate::prefixes::{put_begins, sort_apart};
-use crate::telling::told;
 use gen_local::LocalReport;
 use gen_log::Entry;
 use gen_net::Header;
 use gen_types::{GeneralNo, GeneralSet};
 use std::alloc::{AllocError, Global};
-
-/// Whether a general is of the rest.
-pub(crate) fn is_rest(header: &Header, faulty: &GeneralSet, general: GeneralNo) -> bool
-    ensures { result ≡ finding.is_rest header.now.network faulty.now general }
-{
-    general.get() < header.net().generals() && !faulty.contains(general)
-}
-
-/// The entries of the log of a general of the rest, and none where he has no log that counts or isn't of the
-/// rest.
-pub(crate) fn rest_entries<'a>(
-    header: &Header,
-    faulty: &GeneralSet,
-    reports: &'a [LocalReport],
-    general: GeneralNo,
-) -> &'a [Entry]
-    ensures { erased result.now
-        ≡ finding.rest_entries header.now.network faulty.now (told_logs reports.now) general }
-{
-    if !is_rest(header, faulty, general) {
-        return &[];
-    }
-    match told(reports, general) {
-        Some(log) => log.entries(),
-        None => &[],
-    }
-}
 
 /// Puts the keys of an entry behind others.
 fn put_entry(faulty: &GeneralSet, entry: &Entry, keys: &mut Vec<u128>) -> Result<(), AllocError>

@@ -1,5 +1,5 @@
 -- What the command line tells of words that ask for a job.
-use Rattle.std.proofs.Common.{◌≡◌, Bool, List, [], ◌∷◌, Option, Some, None, true, false, refl, option_map, subst, sym, ◌∙◌}
+use Rattle.std.proofs.Common.{◌≡◌, Bool, List, [], ◌∷◌, Option, Some, None, true, false, refl, option_map, subst, sym, if◌then◌else◌, ◌∙◌}
 use Rattle.std.specs.Prelude.{IsSome}
 use Rattle.clap.specs.Words.{Kinds, Row, Text, is_simple, is_simple_and_free, subcommand_of}
 use Rattle.clap.proofs.OnLiterals.{clap_on_literals}
@@ -9,8 +9,8 @@ use Rattle.gen_program.specs.declared.words.WordsFault.TheVariants.{Memory, NotT
 use Rattle.gen_program.specs.declared.words.GivenCommand.{GivenCommand}
 use Rattle.gen_program.specs.CommandLine.{tool}
 use Rattle.gen_program.specs.Commands.{Gives, IsGiven, IsGivenBy}
-use Rattle.gen_program.specs.Jobs.{job_named, job_said}
-use Rattle.gen_program.specs.Tool.{asked, without_fault, is_accuse, is_audit, is_run, HasBadNumber, HasNoCommand, IsFaultOf, IsRefusal}
+use Rattle.gen_program.specs.Jobs.{job_named, job_said, number_between}
+use Rattle.gen_program.specs.Tool.{asked, refusal, without_fault, IsFaultOf, IsRefused}
 
 pub tool_is_simple : is_simple tool ≡ true
 unfolding clap_on_literals
@@ -45,35 +45,31 @@ asks_nothing words given gives none asks = nothing_there (subst (λ (o : Option 
 
 -- ---- why a command has no job
 
-abbrev RefusedAt : Option (Text × List Row) → WordsFault → Type 0
-RefusedAt o NoCommand = HasNoCommand o
-RefusedAt o BadCapacity = HasBadNumber is_run o
-RefusedAt o BadWorkers = HasBadNumber is_audit o
-RefusedAt o BadGeneral = HasBadNumber is_accuse o
-RefusedAt o _ = ⊥
+abbrev refusal_in : GivenCommand → WordsFault
+refusal_in g = refusal g.name.now (number_between 1 16 (option_map (λ t. t.now) g.capacity)) (number_between 1 16 (option_map (λ t. t.now) g.workers)) (number_between 0 15 (option_map (λ t. t.now) g.general))
 
-takes_at : (takes : Text → Bool) (b : Bool) (p : Text × List Row) (given : GivenCommand) → IsGiven p given → takes given.name.now ≡ b → takes p.0 ≡ b
-takes_at takes b p given is e = subst (λ (n : Text). takes n ≡ b) is.name e
+refused_at : (o : Option (Text × List Row)) (given : GivenCommand) → IsGivenBy o (Some given) → None ≡ job_of given → IsRefused o (refusal_in given)
+refused_at None given is none = absurd is
+refused_at (Some p) given is none =
+    (told (Some p) given is ∙ sym none,
+     λ i. refusal (is.name i) (number_between 1 16 (is.capacity i)) (number_between 1 16 (is.workers i)) (number_between 0 15 (is.general i)))
 
-refused_at : (o : Option (Text × List Row)) (given : GivenCommand) (fault : WordsFault) → IsGivenBy o (Some given) → None ≡ job_of given → IsRefusal given.name.now fault → RefusedAt o fault
-refused_at None given fault is none refusal = absurd is
-refused_at (Some p) given Memory is none refusal = refusal
-refused_at (Some p) given NotText is none refusal = refusal
-refused_at (Some p) given NoCommand is none refusal =
-    (takes_at is_run false p given is refusal.0, takes_at is_audit false p given is refusal.1, takes_at is_accuse false p given is refusal.2, told (Some p) given is ∙ sym none)
-refused_at (Some p) given BadCapacity is none refusal = (takes_at is_run true p given is refusal, told (Some p) given is ∙ sym none)
-refused_at (Some p) given BadWorkers is none refusal = (takes_at is_audit true p given is refusal, told (Some p) given is ∙ sym none)
-refused_at (Some p) given BadGeneral is none refusal = (takes_at is_accuse true p given is refusal, told (Some p) given is ∙ sym none)
-refused_at (Some p) given (Words e) is none refusal = refusal
+-- a refusal is one of four
+one_of : (P : WordsFault → Type 0) (a b c : Bool) → P BadCapacity → P BadWorkers → P BadGeneral → P NoCommand
+    → P (if a then BadCapacity else if b then BadWorkers else if c then BadGeneral else NoCommand)
+one_of P true b c x y z w = x
+one_of P false true c x y z w = y
+one_of P false false true x y z w = z
+one_of P false false false x y z w = w
 
-pub refused : (words : List Text) (given : GivenCommand) (fault : WordsFault) → Gives words given → None ≡ job_of given → IsRefusal given.name.now fault → IsFaultOf words fault
-refused words given Memory gives none refusal = tt
-refused words given NotText gives none refusal = absurd refusal
-refused words given NoCommand gives none refusal = (gives.0, refused_at (subcommand_of tool words) given NoCommand gives.1 none refusal)
-refused words given BadCapacity gives none refusal = (gives.0, refused_at (subcommand_of tool words) given BadCapacity gives.1 none refusal)
-refused words given BadWorkers gives none refusal = (gives.0, refused_at (subcommand_of tool words) given BadWorkers gives.1 none refusal)
-refused words given BadGeneral gives none refusal = (gives.0, refused_at (subcommand_of tool words) given BadGeneral gives.1 none refusal)
-refused words given (Words e) gives none refusal = absurd refusal
+pub refused : (words : List Text) (given : GivenCommand) (fault : WordsFault) → Gives words given → None ≡ job_of given → fault ≡ refusal_in given → IsFaultOf words fault
+refused words given fault gives none is =
+    let at : (f : WordsFault) → f ≡ refusal_in given → IsRefused (subcommand_of tool words) f
+        = λ f e. subst (λ (g : WordsFault). IsRefused (subcommand_of tool words) g) (sym e) (refused_at (subcommand_of tool words) given gives.1 none) in
+    let any : refusal_in given ≡ refusal_in given → IsFaultOf words (refusal_in given)
+        = one_of (λ f. f ≡ refusal_in given → IsFaultOf words f) _ _ _
+          (λ e. (gives.0, at BadCapacity e)) (λ e. (gives.0, at BadWorkers e)) (λ e. (gives.0, at BadGeneral e)) (λ e. (gives.0, at NoCommand e)) in
+    subst (λ (f : WordsFault). IsFaultOf words f) (sym is) (any refl)
 
 pub is_given : (o : Option (Text × List Row)) (p : Text × List Row) (given : GivenCommand) → o ≡ Some p → IsGiven p given → IsGivenBy o (Some given)
 is_given o p given found is = rw found is

@@ -19,9 +19,12 @@ workers = record (option_named (codes "workers")) { defaults = codes "1" ∷ [] 
 abbrev pub general : Rule
 general = record (option_named (codes "general")) { required = true }
 
--- the commands with an option
+-- the commands with options
 abbrev pub run : App
 run = with_rule (new_app (codes "run")) capacity
+
+abbrev pub judge : App
+judge = with_rule (with_rule (new_app (codes "judge")) capacity) workers
 
 abbrev pub audit : App
 audit = with_rule (new_app (codes "audit")) workers
@@ -42,9 +45,12 @@ with_decide = with_subcommand bare (new_app (codes "decide")).top
 abbrev pub with_runs : App
 with_runs = with_subcommand with_decide run.top
 
+abbrev pub with_judge : App
+with_judge = with_subcommand with_runs judge.top
+
 -- those that read a bundle,
 abbrev pub with_audit : App
-with_audit = with_subcommand with_runs audit.top
+with_audit = with_subcommand with_judge audit.top
 
 abbrev pub with_bundles : App
 with_bundles = with_subcommand with_audit accuse.top

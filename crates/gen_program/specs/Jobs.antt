@@ -16,6 +16,12 @@ within least most (Some n) = if nat_le least n && nat_le n most then Some n else
 abbrev pub number_between : ℕ → ℕ → Option Text → Option ℕ
 number_between least most text = within least most (option_and_then number_of text)
 
+-- the job that runs and audits, if both numbers are in the range
+abbrev pub job_judging : Option ℕ → Option ℕ → Option Job
+job_judging None workers = None
+job_judging (Some n) None = None
+job_judging (Some n) (Some w) = Some (jobs.Judge n w)
+
 -- the job of a command against a general, or on evidence
 abbrev pub job_against : Text → Option Text → Option Job
 job_against name general =
@@ -28,6 +34,8 @@ abbrev pub job_named : Text → Option Text → Option Text → Option Text → 
 job_named name capacity workers general =
     if bytes_eq name (codes "decide") then Some jobs.Decide
     else if bytes_eq name (codes "run") then option_map (λ n. jobs.Run n) (number_between 1 16 capacity)
+    else if bytes_eq name (codes "judge") then
+      job_judging (number_between 1 16 capacity) (number_between 1 16 workers)
     else if bytes_eq name (codes "audit") then option_map (λ n. jobs.Audit n) (number_between 1 16 workers)
     else job_against name general
 

@@ -1,11 +1,12 @@
 -- The job that words ask for, and the fault of words that ask for none.
-use Rattle.std.specs.Prelude.{◌≡◌, ◌≢◌, Bool, true, false, codes, List, [], ◌∷◌, Option, Some, None}
+use Rattle.std.specs.Prelude.{ℕ, ◌≡◌, ◌≢◌, ◌&&◌, ◌||◌, if◌then◌else◌, Bool, true, false, codes, List, [], ◌∷◌}
+use Rattle.std.specs.Prelude.{Option, Some, None}
 use Rattle.std.specs.Str.{bytes_eq}
 use Rattle.clap.specs.declared.error.Error.{Error}
 use Rattle.clap.specs.declared.error.kind.ErrorKind.TheVariants.{OutOfMemory}
-use Rattle.clap.specs.Words.{Row, Text, IsAmong, Kinds, fault_of, kind_of, subcommand_of}
+use Rattle.clap.specs.Words.{Row, Text, IsAmong, Kinds, fault_of, first_of, kind_of, subcommand_of}
 use Rattle.gen_program.specs.CommandLine.{tool}
-use Rattle.gen_program.specs.Jobs.{job_said, job_told}
+use Rattle.gen_program.specs.Jobs.{job_said, job_told, number_between}
 use Rattle.gen_jobs.specs.declared.jobs.Job.{Job}
 use Rattle.gen_program.specs.declared.words.WordsFault.{WordsFault}
 use Rattle.gen_program.specs.declared.words.WordsFault.TheVariants.{Memory, NotText, NoCommand, Words}
@@ -31,41 +32,43 @@ fault_from error BadWorkers = ⊥
 fault_from error BadGeneral = ⊥
 fault_from error (Words e) = (e ≡ error) × (kind_of error ≢ OutOfMemory)
 
--- the command is one that takes a number
-abbrev pub is_run : Text → Bool
-is_run name = bytes_eq name (codes "run")
+-- the commands that take each of the numbers
+abbrev pub takes_capacity : Text → Bool
+takes_capacity name = bytes_eq name (codes "run") || bytes_eq name (codes "judge")
 
-abbrev pub is_audit : Text → Bool
-is_audit name = bytes_eq name (codes "audit")
+abbrev pub takes_workers : Text → Bool
+takes_workers name = bytes_eq name (codes "audit") || bytes_eq name (codes "judge")
 
-abbrev pub is_accuse : Text → Bool
-is_accuse name = bytes_eq name (codes "accuse")
+abbrev pub takes_general : Text → Bool
+takes_general name = bytes_eq name (codes "accuse")
 
--- there is a command of this kind, and what stands for its number is none in the range
-abbrev pub HasBadNumber : (Text → Bool) → Option (Text × List Row) → Type 0
-HasBadNumber takes None = ⊥
-HasBadNumber takes (Some p) = (takes p.0 ≡ true) × (job_told p ≡ None)
+abbrev pub is_missing : Option ℕ → Bool
+is_missing None = true
+is_missing (Some n) = false
 
--- there is no command, or it takes no number and is none of the program's
-abbrev pub HasNoCommand : Option (Text × List Row) → Type 0
-HasNoCommand None = Unit {0}
-HasNoCommand (Some p) =
-    (is_run p.0 ≡ false) × (is_audit p.0 ≡ false) × (is_accuse p.0 ≡ false) × (job_told p ≡ None)
+-- why a command has no job: the first of its numbers that is none in its range, or it is no command
+abbrev pub refusal : Text → Option ℕ → Option ℕ → Option ℕ → WordsFault
+refusal name capacity workers general =
+    if takes_capacity name && is_missing capacity then BadCapacity
+    else if takes_workers name && is_missing workers then BadWorkers
+    else if takes_general name && is_missing general then BadGeneral
+    else NoCommand
 
--- the fault of a command that has no job
-abbrev pub IsRefusal : Text → WordsFault → Type 0
-IsRefusal name NoCommand = (is_run name ≡ false) × (is_audit name ≡ false) × (is_accuse name ≡ false)
-IsRefusal name BadCapacity = is_run name ≡ true
-IsRefusal name BadWorkers = is_audit name ≡ true
-IsRefusal name BadGeneral = is_accuse name ≡ true
-IsRefusal name _ = ⊥
+abbrev pub refusal_told : Text × List Row → WordsFault
+refusal_told p = refusal p.0 (number_between 1 16 (first_of (codes "capacity") p.1))
+    (number_between 1 16 (first_of (codes "workers") p.1)) (number_between 0 15 (first_of (codes "general") p.1))
+
+-- there is no command, or it has no job for this reason
+abbrev pub IsRefused : Option (Text × List Row) → WordsFault → Type 0
+IsRefused None fault = fault ≡ NoCommand
+IsRefused (Some p) fault = (job_told p ≡ None) × (fault ≡ refusal_told p)
 
 -- The fault may come of these words.
 abbrev pub IsFaultOf : List Text → WordsFault → Type 0
 IsFaultOf words Memory = Unit {0}
 IsFaultOf words NotText = ⊥
-IsFaultOf words NoCommand = (fault_of tool words ≡ []) × HasNoCommand (subcommand_of tool words)
-IsFaultOf words BadCapacity = (fault_of tool words ≡ []) × HasBadNumber is_run (subcommand_of tool words)
-IsFaultOf words BadWorkers = (fault_of tool words ≡ []) × HasBadNumber is_audit (subcommand_of tool words)
-IsFaultOf words BadGeneral = (fault_of tool words ≡ []) × HasBadNumber is_accuse (subcommand_of tool words)
+IsFaultOf words NoCommand = (fault_of tool words ≡ []) × IsRefused (subcommand_of tool words) NoCommand
+IsFaultOf words BadCapacity = (fault_of tool words ≡ []) × IsRefused (subcommand_of tool words) BadCapacity
+IsFaultOf words BadWorkers = (fault_of tool words ≡ []) × IsRefused (subcommand_of tool words) BadWorkers
+IsFaultOf words BadGeneral = (fault_of tool words ≡ []) × IsRefused (subcommand_of tool words) BadGeneral
 IsFaultOf words (Words e) = IsAmong (kind_of e) (fault_of tool words)

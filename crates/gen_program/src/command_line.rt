@@ -63,6 +63,15 @@ fn run_command<'a>(alloc: Global) -> Result<Command<'a>, AllocError>
     plain_command(alloc, "run", about).arg(capacity_option(alloc))
 }
 
+/// Returns the command that runs a scenario and audits it.
+fn judge_command<'a>(alloc: Global) -> Result<Command<'a>, AllocError>
+    ensures app { IfOk result (λ c. app_of c ≡ lines.judge) }
+    ensures local { IfOk result (λ c. (fields_of c).has_globals ≡ false) }
+{
+    let about = "Reads a scenario with a seed from standard input, runs it while its logs are audited, and prints the verdict";
+    plain_command(alloc, "judge", about).arg(capacity_option(alloc))?.arg(workers_option(alloc))
+}
+
 /// Returns the command that audits a bundle.
 fn audit_command<'a>(alloc: Global) -> Result<Command<'a>, AllocError>
     ensures app { IfOk result (λ c. app_of c ≡ lines.audit) }
@@ -99,7 +108,7 @@ fn with_decide<'a>(alloc: Global) -> Result<Command<'a>, AllocError>
     bare_command(alloc).subcommand(plain_command(alloc, "decide", about))
 }
 
-/// Returns the command line with the commands that read a scenario.
+/// Returns the command line with the commands that decide and run.
 fn with_runs<'a>(alloc: Global) -> Result<Command<'a>, AllocError>
     ensures { IfOk result (λ c. app_of c ≡ lines.with_runs) }
 {
@@ -107,12 +116,20 @@ fn with_runs<'a>(alloc: Global) -> Result<Command<'a>, AllocError>
     with_decide(alloc)?.subcommand(run)
 }
 
+/// Returns the command line with the command that runs and audits, too.
+fn with_judge<'a>(alloc: Global) -> Result<Command<'a>, AllocError>
+    ensures { IfOk result (λ c. app_of c ≡ lines.with_judge) }
+{
+    let judge = judge_command(alloc)?;
+    with_runs(alloc)?.subcommand(judge)
+}
+
 /// Returns the command line with the command that audits, too.
 fn with_audit<'a>(alloc: Global) -> Result<Command<'a>, AllocError>
     ensures { IfOk result (λ c. app_of c ≡ lines.with_audit) }
 {
     let audit = audit_command(alloc)?;
-    with_runs(alloc)?.subcommand(audit)
+    with_judge(alloc)?.subcommand(audit)
 }
 
 /// Returns the command line with the commands that read a bundle, too.

@@ -1,12 +1,12 @@
 //! The words of the command line.
-ghost use Rattle.std.specs.Prelude.{◌≡◌, [], IfOk, IfErr, IfSome, Some, IsSome, map, option_map};
+ghost use Rattle.std.specs.Prelude.{◌≡◌, ◌&&◌, [], IfOk, IfErr, IfSome, Some, IsSome, map, option_map};
 ghost use Rattle.clap.specs.Simple.{subcommand_rows_of};
 ghost use Rattle.clap.specs.Words.{fault_of};
 ghost use Rattle.gen_jobs.specs.Ranges.{IsInRange};
 ghost use Rattle.gen_program.specs.CommandLine.{tool};
-ghost use Rattle.gen_program.specs.Jobs.{job_against, job_named, number_between};
+ghost use Rattle.gen_program.specs.Jobs.{job_against, job_judging, job_named, number_between};
 ghost use Rattle.gen_program.specs.Commands.{Gives, HasSubcommand, IsGivenBy};
-ghost use Rattle.gen_program.specs.Tool.{asked, IsFaultOf, IsRefusal};
+ghost use Rattle.gen_program.specs.Tool.{asked, is_missing, refusal, takes_capacity, takes_general, takes_workers, IsFaultOf};
 ghost use Rattle.gen_program.specs.declared.words.WordsFault.TheVariants.{Memory};
 
 use crate::command_line::tool_command;
@@ -117,6 +117,18 @@ fn job_against(name: &str, general: Option<&str>) -> Option<Job>
     }
 }
 
+/// Returns the job that runs and audits, by the texts of its options.
+fn job_judging(capacity: Option<&str>, workers: Option<&str>) -> Option<Job>
+    ensures said { result ≡ job_judging (number_between 1 16 (option_map (λ t. t.now) capacity.entry))
+        (number_between 1 16 (option_map (λ t. t.now) workers.entry)) }
+    ensures range { IfSome result IsInRange }
+{
+    Some(Job::Judge {
+        capacity: number_between(capacity, 1, 16)?,
+        workers: workers_of(workers)?,
+    })
+}
+
 /// Returns the job of a command, by the texts of its options.
 fn job_of(
     name: &str,
@@ -133,6 +145,7 @@ fn job_of(
         "run" => Some(Job::Run {
             capacity: number_between(capacity, 1, 16)?,
         }),
+        "judge" => job_judging(capacity, workers),
         "audit" => Some(Job::Audit {
             workers: workers_of(workers)?,
         }),
@@ -140,15 +153,49 @@ fn job_of(
     }
 }
 
-/// Returns why a command has no job: its number is none, or it is no command.
-fn refusal_of(name: &str) -> WordsFault
-    ensures { IsRefusal name.now result }
+/// Whether a command takes a capacity, and its text is none.
+fn lacks_capacity(name: &str, capacity: Option<&str>) -> bool
+    ensures { result ≡ (takes_capacity name.now
+        && is_missing (number_between 1 16 (option_map (λ t. t.now) capacity.entry))) }
 {
-    match name {
-        "run" => WordsFault::BadCapacity,
-        "audit" => WordsFault::BadWorkers,
-        "accuse" => WordsFault::BadGeneral,
-        _ => WordsFault::NoCommand,
+    matches!(name, "run" | "judge") && number_between(capacity, 1, 16).is_none()
+}
+
+/// Whether a command takes a number of workers, and its text is none.
+fn lacks_workers(name: &str, workers: Option<&str>) -> bool
+    ensures { result ≡ (takes_workers name.now
+        && is_missing (number_between 1 16 (option_map (λ t. t.now) workers.entry))) }
+{
+    matches!(name, "audit" | "judge") && number_between(workers, 1, 16).is_none()
+}
+
+/// Whether a command takes a general, and his text is none.
+fn lacks_general(name: &str, general: Option<&str>) -> bool
+    ensures { result ≡ (takes_general name.now
+        && is_missing (number_between 0 15 (option_map (λ t. t.now) general.entry))) }
+{
+    name == "accuse" && number_between(general, 0, 15).is_none()
+}
+
+/// Returns why a command has no job: the first of its numbers that is none in its range, or it is no command.
+fn refusal_of(
+    name: &str,
+    capacity: Option<&str>,
+    workers: Option<&str>,
+    general: Option<&str>,
+) -> WordsFault
+    ensures { result ≡ refusal name.now (number_between 1 16 (option_map (λ t. t.now) capacity.entry))
+        (number_between 1 16 (option_map (λ t. t.now) workers.entry))
+        (number_between 0 15 (option_map (λ t. t.now) general.entry)) }
+{
+    if lacks_capacity(name, capacity) {
+        WordsFault::BadCapacity
+    } else if lacks_workers(name, workers) {
+        WordsFault::BadWorkers
+    } else if lacks_general(name, general) {
+        WordsFault::BadGeneral
+    } else {
+        WordsFault::NoCommand
     }
 }
 
@@ -195,8 +242,9 @@ fn given_in<'a>(alloc: Global, words: &'a [&'a str]) -> Result<GivenCommand<'a>,
 /// # Errors
 ///
 /// `Words` where the command line has a fault at the words, or they ask for help or the version; `NoCommand`
-/// where they name no command; `BadCapacity`, `BadWorkers` or `BadGeneral` where the text behind the option isn't a decimal
-/// number in its range, without leading zeros or a sign; and `Memory` where memory was refused.
+/// where they name no command; `BadCapacity`, else `BadWorkers`, else `BadGeneral` where the command takes the option and
+/// the text behind it isn't a decimal number in its range, without leading zeros or a sign; and `Memory` where memory was
+/// refused.
 pub fn read_words<'a>(alloc: Global, words: &'a [&'a str]) -> Result<Job, WordsFault>
     // The words ask for the job.
     ensures ok { IfOk result (λ job. asked (map (λ w. w.now) words.now) ≡ Some job) }
@@ -211,6 +259,6 @@ pub fn read_words<'a>(alloc: Global, words: &'a [&'a str]) -> Result<Job, WordsF
     let given = given_in(alloc, words)?;
     match job_of(given.name, given.capacity, given.workers, given.general) {
         Some(job) => Ok(job),
-        None => Err(refusal_of(given.name)),
+        None => Err(refusal_of(given.name, given.capacity, given.workers, given.general)),
     }
 }

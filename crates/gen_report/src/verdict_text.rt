@@ -2,14 +2,12 @@
 ghost use Rattle.std.specs.Prelude.{◌≡◌, ◌++◌, OnOk, IfOk, map, string_bytes};
 ghost use Rattle.std.specs.List.{flat_map};
 ghost use Rattle.gen_convict.specs.Evidence.{told_of};
-ghost use Rattle.gen_convict.specs.First.{kind_of};
-ghost use Rattle.gen_convict.specs.Told.{told};
 ghost use Rattle.gen_report.specs.Findings.{finding_line};
 ghost use Rattle.gen_report.specs.VerdictText.{run_line, decided_line, answer_lines, convicted_line, verdict_text};
 
 use crate::findings::push_finding;
 use gen_audit::{Judgement, Verdict};
-use gen_convict::{Claim, Evidence};
+use gen_convict::Evidence;
 use gen_match::Finding;
 use gen_net::Header;
 use gen_scenario::Decision;
@@ -76,25 +74,13 @@ fn push_answer(out: &mut String, verdict: &Verdict) -> Result<(), AllocError>
     }
 }
 
-/// Returns the number of a claim's kind.
-fn kind_number(claim: &Claim) -> u8
-    ensures { result ≡ kind_of (told claim.now) }
-{
-    match claim {
-        Claim::Texts { .. } => 1,
-        Claim::Orders { .. } => 2,
-        Claim::Missing { .. } => 3,
-        Claim::Departing { .. } => 4,
-    }
-}
-
 /// Appends the line of a conviction.
 fn push_convicted(out: &mut String, evidence: &Evidence) -> Result<(), AllocError>
     ensures { OnOk result (string_bytes out.new
         ≡ string_bytes out.old ++ convicted_line (told_of evidence.now)) }
 {
     let general = evidence.accused.get();
-    let kind = kind_number(&evidence.claim);
+    let kind = evidence.claim.kind();
     write!(out, "convicted {general} by K{kind}\n")
 }
 

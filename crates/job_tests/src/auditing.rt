@@ -18,65 +18,65 @@ use std::thread::Threads;
 
 /// A scenario's text, how `audit` ends on the bundle of its run, and the verdict behind the line of the run
 /// id.
-type Row<'a> = (&'a [u8], JobEnd, &'a [u8]);
+pub(crate) type Row<'a> = (&'a [u8], JobEnd, &'a [u8]);
 
-const PAIR_ROW: Row<'_> = (PAIR, JobEnd::Done, b"verdict agreed 1\nend\n");
+pub(crate) const PAIR_ROW: Row<'_> = (PAIR, JobEnd::Done, b"verdict agreed 1\nend\n");
 
-const PAIR_IN_SLOT_ROW: Row<'_> = (PAIR_IN_SLOT, JobEnd::Done, b"verdict agreed 1\nend\n");
+pub(crate) const PAIR_IN_SLOT_ROW: Row<'_> = (PAIR_IN_SLOT, JobEnd::Done, b"verdict agreed 1\nend\n");
 
-const SPLIT_ROW: Row<'_> = (
+pub(crate) const SPLIT_ROW: Row<'_> = (
     SPLIT,
     JobEnd::Done,
     b"verdict agreed 0\nconvicted 0 by K2\nend\n",
 );
 
-const LINE_ROW: Row<'_> = (LINE, JobEnd::Done, b"verdict agreed 1\nend\n");
+pub(crate) const LINE_ROW: Row<'_> = (LINE, JobEnd::Done, b"verdict agreed 1\nend\n");
 
-const RING_ROW: Row<'_> = (
+pub(crate) const RING_ROW: Row<'_> = (
     RING,
     JobEnd::Done,
     b"verdict agreed 1\nconvicted 3 by K4\nend\n",
 );
 
-const LATE_ROW: Row<'_> = (
+pub(crate) const LATE_ROW: Row<'_> = (
     LATE,
     JobEnd::Done,
     b"verdict agreed 1\nconvicted 0 by K3\nconvicted 1 by K4\nend\n",
 );
 
-const ONE_TOO_MANY_ROW: Row<'_> = (
+pub(crate) const ONE_TOO_MANY_ROW: Row<'_> = (
     ONE_TOO_MANY,
     JobEnd::Done,
     b"verdict explained\ngeneral 2 decides 1\ngeneral 3 decides 0\n\
     convicted 0 by K3\nconvicted 1 by K4\nend\n",
 );
 
-const CUT_ROW: Row<'_> = (
+pub(crate) const CUT_ROW: Row<'_> = (
     CUT,
     JobEnd::Negative,
     b"verdict no\nN10 pair 0 2\nconvicted 1 by K4\nend\n",
 );
 
-const TWICE_ROW: Row<'_> = (
+pub(crate) const TWICE_ROW: Row<'_> = (
     TWICE,
     JobEnd::Done,
     b"verdict agreed 1\nconvicted 0 by K3\nconvicted 1 by K4\nconvicted 3 by K3\n\
     convicted 4 by K4\nend\n",
 );
 
-const FLOOD_ROW: Row<'_> = (
+pub(crate) const FLOOD_ROW: Row<'_> = (
     FLOOD_IN_SLOT,
     JobEnd::Done,
     b"verdict agreed 0\nconvicted 0 by K4\nconvicted 1 by K4\nend\n",
 );
 
-const TWO_HEADS_ROW: Row<'_> = (
+pub(crate) const TWO_HEADS_ROW: Row<'_> = (
     TWO_HEADS,
     JobEnd::Done,
     b"verdict agreed 1\nconvicted 1 by K1\nend\n",
 );
 
-const SCRAPS_ROW: Row<'_> = (
+pub(crate) const SCRAPS_ROW: Row<'_> = (
     SCRAPS,
     JobEnd::Done,
     b"verdict agreed 1\nconvicted 1 by K4\nend\n",

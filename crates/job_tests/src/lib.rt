@@ -1,7 +1,7 @@
-//! This crate has the tests of `gen_jobs` and `gen_program`.
+//! This crate has the tests of `gen_jobs`, `gen_judge` and `gen_program`.
 //!
 //! `scenarios` has the texts, `streams` a reader and a writer that slip, and `bundles` makes bundles without
-//! the crate under test. `deciding`, `running`, `auditing`, `accusing` and `disputed` have the jobs,
+//! the crate under test. `deciding`, `running`, `judging`, `auditing`, `accusing` and `disputed` have the jobs,
 //! `over_bytes` the calls without reader and writer, `limits` the largest inputs, `ends` how jobs
 //! end, `words` the words that ask for jobs, and `workers` audits by several workers.
 #![tactic(auto)]
@@ -18,6 +18,10 @@ mod deciding;
 mod disputed;
 #[cfg(test)]
 mod ends;
+#[cfg(test)]
+mod judged_gates;
+#[cfg(test)]
+mod judging;
 #[cfg(test)]
 mod limits;
 #[cfg(test)]

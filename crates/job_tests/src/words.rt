@@ -51,6 +51,45 @@ fn audits_take_workers(rt: HostRuntime) {
     }
 }
 
+/// Returns whether the words ask for a run over edges of so much room that so many workers judge.
+fn asks_judges<'a>(alloc: Global, words: &'a [&'a str], capacity: u8, count: usize) -> bool {
+    match WorkerCount::new(count) {
+        Some(workers) => asks(alloc, words, Job::Judge { capacity, workers }),
+        None => false,
+    }
+}
+
+#[test]
+fn judges_take_both(rt: HostRuntime) {
+    let alloc = rt.alloc();
+    let rows: [(&[&str], u8, usize); 4] = [
+        (&["sm_tool", "judge"], 1, 1),
+        (&["sm_tool", "judge", "--workers", "16"], 1, 16),
+        (&["sm_tool", "judge", "--capacity=16"], 16, 1),
+        (&["sm_tool", "judge", "--workers=2", "--capacity=3"], 3, 2),
+    ];
+    for (words, capacity, count) in rows {
+        assert!(rt; asks_judges(alloc, words, capacity, count), "{count}");
+    }
+}
+
+/// Returns whether a command that takes both is refused for its capacity.
+fn is_bad_capacity(alloc: Global, capacity: &str, workers: &str) -> Option<bool> {
+    match &read_words(alloc, &["sm_tool", "judge", capacity, workers]) {
+        Err(WordsFault::BadCapacity) => Some(true),
+        Err(WordsFault::BadWorkers) => Some(false),
+        _ => None,
+    }
+}
+
+#[test]
+fn the_capacity_is_looked_at_first(rt: HostRuntime) {
+    let alloc = rt.alloc();
+    assert_eq!(rt; is_bad_capacity(alloc, "--capacity=0", "--workers=0"), Some(true));
+    assert_eq!(rt; is_bad_capacity(alloc, "--capacity=1", "--workers=0"), Some(false));
+    assert_eq!(rt; is_bad_capacity(alloc, "--capacity=17", "--workers=1"), Some(true));
+}
+
 #[test]
 fn somebody_is_accused(rt: HostRuntime) {
     let alloc = rt.alloc();
@@ -175,7 +214,7 @@ fn is_refused(alloc: Global, words: &[&str], kind: ErrorKind) -> Result<bool, Fa
 // Words that ask for no job, each with the kind of its fault.
 const REFUSED: [(&[&str], ErrorKind); 8] = [
     (&["sm_tool"], ErrorKind::MissingSubcommand),
-    (&["sm_tool", "judge"], ErrorKind::InvalidSubcommand),
+    (&["sm_tool", "judges"], ErrorKind::InvalidSubcommand),
     (&["sm_tool", "Decide"], ErrorKind::InvalidSubcommand),
     (&["sm_tool", "decide", "4"], ErrorKind::UnknownArgument),
     (

@@ -1,7 +1,8 @@
 use Rattle.std.proofs.Common.{◌≡◌, ◌++◌, length}
 use Rattle.std.specs.List.{flat_map, AllByRecursion}
 use Rattle.gen_local.specs.Erased.{erased}
-use Rattle.gen_match.specs.Underivables.{found_at, IsSmall}
+use Rattle.gen_match.specs.Rest.{IsSmall}
+use Rattle.gen_match.specs.Underivables.{found_at}
 use Rattle.gen_match.proofs.derived.find_entries.Given as goal
 
 abbrev pub invariant-loop-entry : goal.invariant-loop-entry

@@ -3,7 +3,8 @@ use Rattle.std.specs.List.{flat_map}
 use Rattle.gen_net.specs.Network.{Network}
 use Rattle.gen_local.specs.Erased.{erased}
 use Rattle.gen_match.specs.Reports.{told_logs}
-use Rattle.gen_match.specs.Underivables.{rest_entries, found_at, AreSmall}
+use Rattle.gen_match.specs.Rest.{rest_entries, AreSmall}
+use Rattle.gen_match.specs.Underivables.{found_at}
 use Rattle.gen_match.proofs.Rest.{range_step, small_step}
 use Rattle.gen_match.proofs.derived.find_ranks.Goals as goal
 

@@ -1,7 +1,7 @@
 use Rattle.std.proofs.Common.{ℕ, ◌≡◌, ◌<◌, refl, sym, subst, arith, true, false}
 use Rattle.gen_net.proofs.Neighbours.{one_more, passed}
 use Rattle.gen_types.specs.Ascending.{IsListOf}
-use Rattle.gen_match.specs.EdgeCells.{Counts}
+use Rattle.gen_match.specs.Messages.{Counts}
 use Rattle.gen_match.specs.Reports.{told_logs}
 use Rattle.gen_match.proofs.edges.counted.Goals as goal
 use Rattle.gen_match.proofs.edges.counted.Goals.{then-counts, else-counts}

@@ -1,6 +1,6 @@
 use Rattle.std.proofs.Common.{◌<◌}
 use Rattle.gen_types.specs.Ascending.{IsListOf}
-use Rattle.gen_match.specs.EdgeCells.{Counts}
+use Rattle.gen_match.specs.Messages.{Counts}
 use Rattle.gen_match.specs.Reports.{told_logs}
 use Rattle.gen_match.proofs.edges.counted.Given as goal
 

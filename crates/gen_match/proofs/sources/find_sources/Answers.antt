@@ -2,7 +2,8 @@ use Rattle.std.proofs.Common.{◌≡◌, ◌∙◌, ap, arith}
 use Rattle.std.specs.List.{flat_map}
 use Rattle.gen_net.specs.Network.{Network}
 use Rattle.gen_match.specs.Reports.{told_logs}
-use Rattle.gen_match.specs.Underivables.{rest_entries, entry_keys}
+use Rattle.gen_match.specs.Rest.{rest_entries}
+use Rattle.gen_match.specs.Underivables.{entry_keys}
 use Rattle.gen_match.proofs.Rest.{range_step}
 use Rattle.gen_match.proofs.sources.find_sources.Goals as goal
 

@@ -1,0 +1,91 @@
+//! How a desk ends.
+use crate::filing::{file_all, give_up_all, logs_of, pair, report_next};
+use gen_desk::{Desk, Filed, Receipt, Row, StrangeReceipt};
+use gen_log::SealedLog;
+use gen_net::Header;
+use std::alloc::Global;
+use std::sync::Wait;
+use std::test::*;
+
+/// Whether the next two claims are of places 0 and 1, and the desk says that all is reported on after these two
+/// alone.
+fn reports_two<R: Wait>(rt: &R, alloc: Global, desk: &Desk, header: &Header) -> Result<bool, Fail> {
+    for place in 0..2 {
+        if desk.all_reported(rt) {
+            return Ok(false);
+        }
+        if report_next(rt, alloc, desk, header)? != place {
+            return Ok(false);
+        }
+    }
+    Ok(desk.all_reported(rt))
+}
+
+/// Whether this log is filed in a row and reported on.
+fn has_log(row: &Row, log: &SealedLog) -> bool {
+    match (&row.filed, &row.report) {
+        (Some(exhibit), Some(report)) => {
+            exhibit.log() == log.bytes() && report.exhibit().log() == log.bytes()
+        }
+        _ => false,
+    }
+}
+
+/// Whether each row has the log of its place.
+fn have_logs(rows: &[Row], logs: &[SealedLog]) -> bool {
+    for (place, log) in logs.iter().enumerate() {
+        match rows.get(place) {
+            Some(row) => {
+                if !has_log(row, log) {
+                    return false;
+                }
+            }
+            None => return false,
+        }
+    }
+    rows.len() == logs.len()
+}
+
+/// Whether a desk ended with these logs.
+fn is_ended_with(ended: &Result<Filed, StrangeReceipt>, logs: &[SealedLog]) -> bool {
+    match ended {
+        Ok(filed) => have_logs(filed.rows(), logs),
+        Err(_strange) => false,
+    }
+}
+
+#[test]
+fn two_logs_from_filing_to_the_end(rt: HostRuntime) -> Result<(), Fail> {
+    let alloc = rt.alloc();
+    let scenario = pair(alloc)?;
+    let logs = logs_of(alloc, &scenario)?;
+    let (desk, slips) = Desk::new(alloc, 2)?;
+    let receipts = file_all(&rt, alloc, &desk, slips, logs.as_slice());
+    assert!(rt; receipts.len() == 2 && logs.len() == 2);
+    assert!(rt; reports_two(&rt, alloc, &desk, scenario.header())?);
+    assert!(rt; is_ended_with(&desk.close(receipts), logs.as_slice()));
+    Ok(())
+}
+
+/// The receipts of a desk at which both logs are filed.
+fn receipts_elsewhere<R: Wait>(rt: &R, alloc: Global) -> Result<Vec<Receipt>, Fail> {
+    let logs = logs_of(alloc, &pair(alloc)?)?;
+    let (desk, slips) = Desk::new(alloc, 2)?;
+    Ok(file_all(rt, alloc, &desk, slips, logs.as_slice()))
+}
+
+#[test]
+fn receipts_of_another_desk(rt: HostRuntime) -> Result<(), Fail> {
+    let alloc = rt.alloc();
+    let receipts = receipts_elsewhere(&rt, alloc)?;
+    let (desk, slips) = Desk::new(alloc, 2)?;
+    give_up_all(slips);
+    match desk.close(receipts) {
+        Ok(_filed) => return Err("no strange receipt".into()),
+        Err(strange) => {
+            assert!(rt; strange.first == 0 && strange.receipts.len() == 2);
+            assert!(rt; strange.state.rows().len() == 2);
+        }
+    }
+    Ok(())
+}

@@ -1,0 +1,165 @@
+//! The desk that generals and workers share.
+ghost use Rattle.std.specs.Prelude.{◌≡◌, All, IfOk, IfErr, MatchResult, IfSome};
+ghost use Rattle.std.specs.List.{range_with_len};
+ghost use Rattle.gen_desk.specs.Filings.{HasOnce, IsFirstStrange};
+
+use crate::closing::{Filed, StrangeReceipt, end};
+use crate::faults::DeskFault;
+use crate::state::{DeskState, copied};
+use crate::tokens::{Claim, Receipt, Slip};
+use crossbeam_utils::sync::{EventCount, Key};
+use gen_local::LocalReport;
+use gen_log::SealedLog;
+use std::alloc::{AllocError, Global};
+use std::sync::{Mutex, Wait};
+
+/// A desk that threads share. Whenever nobody holds its lock its history is legal, and replays to what is filed,
+/// claimed and reported.
+#[derive(Drop)]
+pub struct Desk {
+    alloc: Global,
+    state: Mutex<DeskState>,
+    moved: EventCount,
+}
+
+/// One slip for each place.
+fn slips_of(alloc: Global, places: usize) -> Result<Vec<Slip>, AllocError>
+    ensures { IfOk result (λ slips. slips.items ≡ range_with_len 0 places) }
+{
+    let mut slips = Vec::with_capacity(alloc, places)?;
+    for place in 0..places {
+        slips.push_reserved(Slip::new(place));
+    }
+    Ok(slips)
+}
+
+impl Desk {
+    /// Returns a desk of so many places, and a slip for each.
+    ///
+    /// # Errors
+    ///
+    /// `AllocError` where memory is refused.
+    pub fn new(alloc: Global, places: usize) -> Result<(Desk, Vec<Slip>), AllocError>
+        ensures { IfOk result (λ made. made.1.items ≡ range_with_len 0 places) }
+    {
+        let state = Mutex::new(DeskState::new(alloc, places)?);
+        let slips = slips_of(alloc, places)?;
+        Ok((
+            Desk {
+                alloc,
+                state,
+                moved: EventCount::new(),
+            },
+            slips,
+        ))
+    }
+
+    /// Files a log at the place of a slip, and wakes whoever waits. It is `file_copy`, and the log ends.
+    ///
+    /// # Errors
+    ///
+    /// The slip and the log, and what `file_copy` says.
+    pub fn file<R: Wait>(
+        &self,
+        rt: &R,
+        slip: Slip,
+        log: SealedLog,
+    ) -> Result<Receipt, (Slip, SealedLog, DeskFault)>
+        ensures receipt { IfOk result (λ receipt. receipt ≡ record { place = slip; shown = log }) }
+        ensures back { IfErr result (λ back. (back.0 ≡ slip) × (back.1 ≡ log)) }
+    {
+        match self.file_copy(rt, slip, &log) {
+            Ok(receipt) => Ok(receipt),
+            Err((slip, fault)) => Err((slip, log, fault)),
+        }
+    }
+
+    /// Files a copy of a log that the caller keeps at the place of a slip, and wakes whoever waits. The place is
+    /// looked at first; the bytes are copied and the receipt is made while nobody is kept from the desk.
+    ///
+    /// # Errors
+    ///
+    /// The slip, and: WrongPlace where the place isn't this desk's or something was filed there; else Memory where
+    /// memory is refused.
+    pub fn file_copy<R: Wait>(
+        &self,
+        rt: &R,
+        slip: Slip,
+        log: &SealedLog,
+    ) -> Result<Receipt, (Slip, DeskFault)>
+        ensures receipt { IfOk result (λ receipt. receipt ≡ record { place = slip; shown = log.now }) }
+        ensures back { IfErr result (λ back. back.0 ≡ slip) }
+    {
+        if !self.state.lock(rt).is_open(slip.place()) {
+            return Err((slip, DeskFault::WrongPlace));
+        }
+        let Ok((exhibit, receipt)) = copied(self.alloc, slip.place(), log) else {
+            return Err((slip, DeskFault::Memory));
+        };
+        let outcome = self.state.lock(rt).file_made(slip, exhibit, receipt);
+        self.moved.notify_all();
+        outcome
+    }
+
+    /// Claims the least place at which something is filed that nobody claimed.
+    ///
+    /// # Errors
+    ///
+    /// `AllocError` where memory is refused.
+    pub fn claim<R: Wait>(&self, rt: &R) -> Result<Option<Claim>, AllocError> {
+        self.state.lock(rt).claim_in()
+    }
+
+    /// Reports on what was claimed.
+    ///
+    /// # Errors
+    ///
+    /// The claim and the report, and: WrongPlace where the place isn't claimed at this desk or is reported on; else
+    /// WrongExhibit where the report is not of what is filed there; else Memory where memory is refused.
+    pub fn report<R: Wait>(
+        &self,
+        rt: &R,
+        claim: Claim,
+        report: LocalReport,
+    ) -> Result<(), (Claim, LocalReport, DeskFault)>
+        ensures { IfErr result (λ back. (back.0 ≡ claim) × (back.1 ≡ report)) }
+    {
+        let outcome = self.state.lock(rt).report_in(claim, report);
+        self.moved.notify_all();
+        outcome
+    }
+
+    /// Announces that the caller is going to wait for something to be filed or reported. What is waited for is to be
+    /// looked for once more before the wait, so that a worker who waits sleeps, and nothing is missed.
+    pub fn prepare_wait(&self) -> Key<'_> {
+        self.moved.prepare_wait()
+    }
+
+    /// Wakes whoever waits.
+    pub fn wake_all(&self) {
+        self.moved.notify_all();
+    }
+
+    /// Whether each place is reported on.
+    pub fn all_reported<R: Wait>(&self, rt: &R) -> bool {
+        self.state.lock(rt).all_reported()
+    }
+
+    /// Ends the desk. It takes no memory.
+    ///
+    /// # Errors
+    ///
+    /// The first receipt whose filing the desk's history lacks, all receipts, and the state with that history.
+    pub fn close(self, receipts: Vec<Receipt>) -> Result<Filed, StrangeReceipt>
+        ensures filed { IfOk result (λ filed. All (HasOnce filed) receipts.items) }
+        ensures back { IfErr result (λ e. e.receipts ≡ receipts) }
+        ensures strange { IfErr result (λ e. IsFirstStrange e.state receipts.items e.first) }
+    {
+        let Desk {
+            alloc: _,
+            state,
+            moved: _,
+        } = self;
+        end(state.into_inner(), receipts)
+    }
+}

@@ -1,0 +1,245 @@
+//! What stands behind a desk's lock.
+ghost use Rattle.std.specs.Prelude.{◌≡◌, ◌<◌, ◌↔◌, [], IsTrue, Some, None, IfOk, IfErr, OnOk, OnErr, MatchOption, length, replicate, vec_len, vec_capacity};
+ghost use Rattle.gen_log.specs.Writing.{LogBytes};
+ghost use Rattle.gen_desk.specs.History.{Filing, Claiming, Reporting, empty, row_at, IsLegal};
+ghost use Rattle.gen_desk.specs.Histories.{rows_of, with_event, IsOpen, IsAwaited, IsFiledAt, NobodyWaits, AllReported, IsClaimed, FilingFault, ReportFault};
+
+use crate::changes::{add_claim, add_filing, add_report};
+use crate::faults::DeskFault;
+use crate::looks::{all_reported, first_waiting, is_awaited, is_filed, is_open};
+use crate::rows::{Row, Step};
+use crate::tokens::{Claim, Receipt, Slip};
+use gen_local::{Exhibit, LocalReport};
+use gen_log::SealedLog;
+use std::alloc::{AllocError, Global};
+use std::marker::Model;
+
+/// What is filed at a desk, claimed and reported. A contract sees how many places it has, and its history, which is
+/// legal: all else is what the history replays to.
+#[derive(Drop)]
+pub struct DeskState {
+    alloc: Global,
+    rows: Vec<Row>,
+    steps: Vec<Step>,
+}
+
+impl Model for DeskState {
+    ghost use Rattle.gen_desk.specs.Histories.{History};
+    ghost use Rattle.gen_desk.specs.Kept.{history_of, IsKept};
+
+    ghost Value = { History };
+
+    ghost view = { λ d. history_of d.rows.items d.steps.items };
+
+    ghost invariant = { λ d. IsKept d.rows.items d.steps.items };
+}
+
+/// A log's bytes copied, for the desk, and the receipt of it at a place, which shares them.
+pub(crate) fn copied(
+    alloc: Global,
+    place: usize,
+    log: &SealedLog,
+) -> Result<(Exhibit, Receipt), AllocError>
+    ensures exhibit { IfOk result (λ r. r.0 ≡ log.now) }
+    ensures receipt { IfOk result (λ r. r.1 ≡ record { place = place; shown = log.now }) }
+{
+    let exhibit = Exhibit::new(log.general(), Vec::from_slice(alloc, log.bytes())?)?;
+    let receipt = Receipt::new(place, exhibit.share()?);
+    Ok((exhibit, receipt))
+}
+
+/// What is filed at a place.
+fn filed_at(rows: &[Row], place: usize) -> Result<Option<Exhibit>, AllocError>
+    ensures { IfOk result (λ found. found ≡ (row_at rows.now place).filed) }
+{
+    match rows.get(place) {
+        Some(row) => match &row.filed {
+            Some(exhibit) => Ok(Some(exhibit.share()?)),
+            None => Ok(None),
+        },
+        None => Ok(None),
+    }
+}
+
+impl DeskState {
+    /// Returns the state of a desk of so many places, at which nothing happened.
+    ///
+    /// # Errors
+    ///
+    /// `AllocError` where memory is refused.
+    pub fn new(alloc: Global, places: usize) -> Result<DeskState, AllocError>
+        ensures { IfOk result (λ state. state ≡ record { places = places; events = [] }) }
+    {
+        Ok(DeskState {
+            alloc,
+            rows: empty_rows(alloc, places)?,
+            steps: Vec::new(alloc),
+        })
+    }
+
+    /// Returns what is filed, claimed and reported at each place.
+    pub fn rows(&self) -> &[Row]
+        ensures places { length result.now ≡ self.now.places }
+        ensures rows { result.now ≡ rows_of self.now }
+        ensures legal { IsLegal self.now.places self.now.events }
+    {
+        self.rows.as_slice()
+    }
+
+    /// Ends the desk, and returns what is filed, claimed and reported at each place. It takes no memory.
+    pub(crate) fn into_rows(self) -> Vec<Row>
+        ensures rows { result.items ≡ rows_of self }
+        ensures places { length result.items ≡ self.places }
+        ensures legal { IsLegal self.places self.events }
+    {
+        let DeskState {
+            alloc: _,
+            rows,
+            steps: _,
+        } = self;
+        rows
+    }
+
+    /// Whether a log may be filed at a place: it is one of the desk's, and nothing was filed there.
+    pub fn is_open(&self, place: usize) -> bool
+        ensures { IsTrue result ↔ IsOpen self.now place }
+    {
+        is_open(self.rows.as_slice(), place)
+    }
+
+    /// Files a log at the place of a slip.
+    ///
+    /// # Errors
+    ///
+    /// The slip and the log, and: WrongPlace where the place isn't this desk's or something was filed there; else
+    /// Memory where memory is refused.
+    pub fn file_in(
+        &mut self,
+        slip: Slip,
+        log: SealedLog,
+    ) -> Result<Receipt, (Slip, SealedLog, DeskFault)>
+        ensures filed { OnOk result (self.new ≡ with_event self.old (Filing slip log)) }
+        ensures open { OnOk result (IsOpen self.old slip) }
+        ensures receipt { IfOk result (λ receipt. receipt ≡ record { place = slip; shown = log }) }
+        ensures same { OnErr result (self.new ≡ self.old) }
+        ensures back { IfErr result (λ back. (back.0 ≡ slip) × (back.1 ≡ log)) }
+        ensures fault { IfErr result (λ back. FilingFault self.old slip back.2) }
+    {
+        if !self.is_open(slip.place()) {
+            return Err((slip, log, DeskFault::WrongPlace));
+        }
+        let Ok((exhibit, receipt)) = copied(self.alloc, slip.place(), &log) else {
+            return Err((slip, log, DeskFault::Memory));
+        };
+        match self.file_made(slip, exhibit, receipt) {
+            Ok(receipt) => Ok(receipt),
+            Err((slip, fault)) => Err((slip, log, fault)),
+        }
+    }
+
+    /// Files an exhibit at the place of a slip, with the receipt that was made of it, which is given back. No bytes
+    /// are copied.
+    ///
+    /// # Errors
+    ///
+    /// The slip, and: WrongPlace where the place isn't this desk's or something was filed there; else Memory where
+    /// memory is refused.
+    pub(crate) fn file_made(
+        &mut self,
+        slip: Slip,
+        exhibit: Exhibit,
+        receipt: Receipt,
+    ) -> Result<Receipt, (Slip, DeskFault)>
+        ensures filed { OnOk result (self.new ≡ with_event self.old (Filing slip exhibit)) }
+        ensures open { OnOk result (IsOpen self.old slip) }
+        ensures receipt { IfOk result (λ given. given ≡ receipt) }
+        ensures same { OnErr result (self.new ≡ self.old) }
+        ensures back { IfErr result (λ back. back.0 ≡ slip) }
+        ensures fault { IfErr result (λ back. FilingFault self.old slip back.1) }
+    {
+        if !self.is_open(slip.place()) {
+            return Err((slip, DeskFault::WrongPlace));
+        }
+        if self.steps.reserve(1).is_err() {
+            return Err((slip, DeskFault::Memory));
+        }
+        add_filing(&mut self.rows, &mut self.steps, slip.give_up(), exhibit);
+        Ok(receipt)
+    }
+
+    /// Claims the least place at which something is filed that nobody claimed.
+    ///
+    /// # Errors
+    ///
+    /// `AllocError` where memory is refused.
+    pub fn claim_in(&mut self) -> Result<Option<Claim>, AllocError>
+        ensures claimed { IfOk result (λ found. MatchOption found
+            (NobodyWaits self.old × (self.new ≡ self.old))
+            (λ claim. IsClaimed self.old claim × (self.new ≡ with_event self.old (Claiming claim.place)))) }
+        ensures same { OnErr result (self.new ≡ self.old) }
+    {
+        let Some(place) = first_waiting(self.rows.as_slice()) else {
+            return Ok(None);
+        };
+        self.steps.reserve(1)?;
+        let Some(exhibit) = filed_at(self.rows.as_slice(), place)? else {
+            unreachable!()
+        };
+        add_claim(&mut self.rows, &mut self.steps, place);
+        Ok(Some(Claim::new(place, exhibit)))
+    }
+
+    /// Reports on what was claimed.
+    ///
+    /// # Errors
+    ///
+    /// The claim and the report, and: WrongPlace where the place isn't claimed at this desk or is reported on; else
+    /// WrongExhibit where the report is not of what is filed there; else Memory where memory is refused.
+    pub fn report_in(
+        &mut self,
+        claim: Claim,
+        report: LocalReport,
+    ) -> Result<(), (Claim, LocalReport, DeskFault)>
+        ensures reported { OnOk result (self.new ≡ with_event self.old (Reporting claim.place report)) }
+        ensures awaited { OnOk result (IsAwaited self.old claim.place) }
+        ensures exhibit { OnOk result (IsFiledAt self.old claim.place report.exhibit) }
+        ensures same { OnErr result (self.new ≡ self.old) }
+        ensures back { IfErr result (λ back. (back.0 ≡ claim) × (back.1 ≡ report)) }
+        ensures fault { IfErr result (λ back. ReportFault self.old claim.place report.exhibit back.2) }
+    {
+        if !is_awaited(self.rows.as_slice(), claim.place()) {
+            return Err((claim, report, DeskFault::WrongPlace));
+        }
+        if !is_filed(self.rows.as_slice(), claim.place(), report.exhibit()) {
+            return Err((claim, report, DeskFault::WrongExhibit));
+        }
+        if self.steps.reserve(1).is_err() {
+            return Err((claim, report, DeskFault::Memory));
+        }
+        let _lawful = report.reading();
+        add_report(&mut self.rows, &mut self.steps, claim.place(), report);
+        Ok(())
+    }
+
+    /// Whether each place is reported on.
+    pub fn all_reported(&self) -> bool
+        ensures { IsTrue result ↔ AllReported self.now }
+    {
+        all_reported(self.rows.as_slice())
+    }
+}
+
+/// So many places at which nothing happened.
+fn empty_rows(alloc: Global, places: usize) -> Result<Vec<Row>, AllocError>
+    ensures { IfOk result (λ rows. rows.items ≡ replicate places empty) }
+{
+    let mut rows = Vec::with_capacity(alloc, places)?;
+    for _ in 0..places {
+        rows.push_reserved(Row {
+            filed: None,
+            claimed: false,
+            report: None,
+        });
+    }
+    Ok(rows)
+}

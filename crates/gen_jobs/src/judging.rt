@@ -1,0 +1,102 @@
+//! The job `judge`.
+ghost use Rattle.std.specs.Prelude.{◌<◌, IfOk, IfErr, IfSome};
+ghost use Rattle.gen_jobs.specs.Answering.{Answers};
+ghost use Rattle.gen_jobs.specs.Audit.{IsWant};
+ghost use Rattle.gen_jobs.specs.Ends.{IsTaken, KeepsUntilWhole};
+ghost use Rattle.gen_jobs.specs.Judging.{IsJudged, JudgesRun};
+ghost use Rattle.gen_jobs.specs.Run.{IsRunFault};
+
+use crate::auditing::judgement_text;
+use crate::ends::{JobEnd, JobFault, Output};
+use crate::gates::Open;
+use crate::running::{make_scenario, missing_seed, walks_between};
+use crate::transfer::{deliver, read_all};
+use gen_audit::WorkerCount;
+use gen_judge::run_and_audit;
+use gen_report::{ScenarioText, read_scenario};
+use gen_scenario::Scenario;
+use std::alloc::Global;
+use std::io::{Read, Write};
+use std::sync::Wait;
+use std::thread::Threads;
+
+/// Returns the text of the judgement on the bundle of a scenario's run, and whether its verdict is a no.
+fn judge_run<T: Threads + Wait + Sync>(
+    rt: &T,
+    alloc: Global,
+    capacity: u8,
+    workers: WorkerCount,
+    scenario: &Scenario,
+) -> Result<Output, JobFault>
+    requires { 0 < capacity }
+    ensures answer { IfOk result (λ o. JudgesRun scenario.now o.text.items o.negative) }
+    ensures fault { IfErr result IsWant }
+{
+    let faulty = scenario.scripted();
+    let net = scenario.header().net();
+    let walks = walks_between(alloc, net, &net.rest(&faulty))?;
+    let capacity = usize::from(capacity);
+    let judgement = run_and_audit(rt, alloc, scenario, capacity, &faulty, &walks, workers, &Open, &Open)?;
+    Ok(judgement_text(alloc, scenario.header(), &judgement)?)
+}
+
+/// Returns the text of the judgement on the run of the scenario that the input spells, and whether its verdict is a
+/// no. It is what `audit` makes of what `run` makes of the input; but each general's logs are read and verified while
+/// others may still run, and no bundle is written. The trees of keys are made by threads, each general runs in a thread
+/// of his own over edges that hold so many frames each, at least one, and each worker in one too.
+///
+/// # Errors
+///
+/// `Scenario` with the first fault of an input that spells no scenario, or `P6` at the line behind the order
+/// where it spells one without a seed; `Memory` where memory is refused, and `Thread` where a thread can't be
+/// started.
+pub fn judge<T: Threads + Wait + Sync>(
+    rt: &T,
+    alloc: Global,
+    capacity: u8,
+    workers: WorkerCount,
+    input: &[u8],
+) -> Result<Output, JobFault>
+    requires { 0 < capacity }
+    ensures answer { IfOk result (λ o. IsJudged input.now o.text.items o.negative) }
+    ensures fault { IfErr result (IsRunFault input.now) }
+{
+    match read_scenario(alloc, input)? {
+        ScenarioText::Plain(plain) => Err(missing_seed(&plain)),
+        ScenarioText::Signed(plan) => {
+            let scenario = make_scenario(rt, alloc, plan)?;
+            judge_run(rt, alloc, capacity, workers, &scenario)
+        }
+    }
+}
+
+/// Reads a scenario text with a seed to its end, runs it, each general in a thread of his own over edges that hold so
+/// many frames each, at least one, while so many workers audit the logs that are there, and writes the verdict on the
+/// bundle that `run_engine` would write. The end is negative where the verdict is a no.
+///
+/// A fault of the input is looked for once it was read whole, and nothing is written before the output
+/// is whole. Where a read, a write, memory or a thread fails the job ends so.
+#[tactic(auto, using(crate::proofs::Known::taken, crate::proofs::Delivering::answered, crate::proofs::Delivering::late, crate::proofs::Delivering::unread_answers, crate::proofs::Delivering::unread_taken, crate::proofs::Delivering::unread_late))]
+pub fn judge_engine<T: Threads + Wait + Sync, R: Read, W: Write>(
+    rt: &T,
+    alloc: Global,
+    capacity: u8,
+    workers: WorkerCount,
+    reader: &mut R,
+    writer: &mut W,
+) -> JobEnd
+    requires { 0 < capacity }
+    // What is written is the verdict on the run of the scenario that was read.
+    ensures answers { IfSome (R.remaining reader.old) (λ input.
+        Answers (IsJudged input) (IsRunFault input)
+        (W.contents writer.old) (W.contents writer.new) result) }
+    // What was read is within the limit.
+    ensures taken { IfSome (R.remaining reader.old) (λ input. IsTaken input result) }
+    // Nothing is written before the output is whole.
+    ensures late { KeepsUntilWhole (W.contents writer.old) (W.contents writer.new) result }
+{
+    match read_all(alloc, reader) {
+        Ok(input) => deliver(writer, judge(rt, alloc, capacity, workers, &input)),
+        Err(fault) => JobEnd::Failed(fault),
+    }
+}

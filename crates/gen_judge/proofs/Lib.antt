@@ -1,0 +1,3 @@
+pub mod Bundling
+pub mod Pairs
+pub mod Telling

@@ -1,0 +1,150 @@
+//! Workers beside a run.
+ghost use Rattle.std.specs.Prelude.{◌≡◌, ◌<◌, IfOk};
+ghost use Rattle.gen_scenario.specs.Rows.{logs_of_all};
+ghost use Rattle.gen_judge.specs.Faults.{ended_as};
+
+use crate::faults::fault_of;
+use crate::stopping::StopWord;
+use crate::working::work_to_end;
+use gen_audit::{AuditFault, JobGate};
+use gen_desk::Desk;
+use gen_log::SealedLog;
+use gen_net::Header;
+use gen_scenario::Scenario;
+use gen_threads::{Gate, RunFault, run_threads};
+use std::alloc::Global;
+use std::sync::Wait;
+use std::thread;
+use std::thread::{JoinHandle, Scope, Threads};
+
+/// Starts as many workers as there is room for their handles, and returns whether all could be started. After one that
+/// can't be no other is.
+fn start_workers<'s, E, R: Threads + Wait + Sync, J: JobGate + Sync>(
+    rt: &'s R,
+    alloc: Global,
+    gate: &'s J,
+    scope: &Scope<'s, E>,
+    header: &'s Header,
+    desk: &'s Desk,
+    stop: &'s StopWord,
+    count: usize,
+    handles: &mut Vec<JoinHandle<()>>,
+) -> bool {
+    for _ in 0..count {
+        if handles.len() == handles.capacity() {
+            return false;
+        }
+        match scope.spawn(move || work_to_end(rt, alloc, gate, header, desk, stop)) {
+            Ok(handle) => handles.push_reserved(handle),
+            Err(_refused) => return false,
+        }
+    }
+    true
+}
+
+/// Joins workers.
+fn join_workers<R: Threads>(rt: &R, handles: Vec<JoinHandle<()>>) {
+    for handle in handles {
+        handle.join(rt);
+    }
+}
+
+/// Returns what is answered where a run ended so beside workers who were all started or not, and memory was refused to
+/// somebody who files or reports or not.
+fn ended(
+    logs: Result<Vec<SealedLog>, RunFault>,
+    started: bool,
+    refused: bool,
+) -> Result<Vec<SealedLog>, AuditFault>
+    ensures { result ≡ ended_as logs started refused }
+{
+    if refused {
+        return Err(AuditFault::Memory);
+    }
+    match logs {
+        Err(fault) => Err(fault_of(fault)),
+        Ok(logs) => {
+            if started {
+                Ok(logs)
+            } else {
+                Err(AuditFault::Thread)
+            }
+        }
+    }
+}
+
+/// Runs the generals while workers wait for what they file, and joins the workers.
+fn run_within<'s, E, R: Threads + Wait + Sync, G: Gate + Sync, J: JobGate + Sync>(
+    rt: &'s R,
+    alloc: Global,
+    scenario: &'s Scenario,
+    capacity: usize,
+    workers: usize,
+    desk: &'s Desk,
+    stop: &'s StopWord,
+    gate: &'s G,
+    job_gate: &'s J,
+    scope: &Scope<'s, E>,
+    handles: Vec<JoinHandle<()>>,
+) -> Result<Vec<SealedLog>, AuditFault>
+    requires { 0 < capacity }
+    ensures { IfOk result (λ logs. logs.items ≡ logs_of_all scenario.entry.now) }
+{
+    let mut handles = handles;
+    let header = scenario.header();
+    let started = start_workers(
+        rt,
+        alloc,
+        job_gate,
+        scope,
+        header,
+        desk,
+        stop,
+        workers,
+        &mut handles,
+    );
+    if !started {
+        stop.set(desk);
+    }
+    let logs = run_threads(rt, alloc, scenario, capacity, gate);
+    if logs.is_err() {
+        stop.set(desk);
+    }
+    join_workers(rt, handles);
+    ended(logs, started, stop.was_refused())
+}
+
+/// Runs a scenario, whose generals file at the gate, beside so many workers, each in a thread of his own. All threads
+/// have ended then.
+///
+/// # Errors
+///
+/// `Memory` where it was refused to anybody; else `Thread` where a thread could not be started.
+pub(crate) fn run_beside<R: Threads + Wait + Sync, G: Gate + Sync, J: JobGate + Sync>(
+    rt: &R,
+    alloc: Global,
+    scenario: &Scenario,
+    capacity: usize,
+    workers: usize,
+    desk: &Desk,
+    stop: &StopWord,
+    gate: &G,
+    job_gate: &J,
+) -> Result<Vec<SealedLog>, AuditFault>
+    requires { 0 < capacity }
+    ensures { IfOk result (λ logs. logs.items ≡ logs_of_all scenario.now) }
+{
+    let handles = Vec::with_capacity(alloc, workers)?;
+    thread::scope(
+        thread::scope_env(),
+        rt,
+        move |scope| -> Result<Vec<SealedLog>, AuditFault>
+            requires { 0 < capacity }
+            ensures { IfOk result (λ logs. logs.items ≡ logs_of_all scenario.entry.now) }
+        {
+            run_within(
+                rt, alloc, scenario, capacity, workers, desk, stop, gate, job_gate, scope, handles,
+            )
+        },
+    )
+}

@@ -1,0 +1,78 @@
+//! A run at a desk.
+ghost use Rattle.std.specs.Prelude.{◌≡◌, ◌<◌, IfOk};
+ghost use Rattle.gen_scenario.specs.Rows.{logs_of_all};
+
+use crate::beside::run_beside;
+use crate::filing::FilingGate;
+use crate::places::logs_below;
+use crate::stopping::StopWord;
+use crate::trays::Tray;
+use gen_audit::{AuditFault, JobGate, WorkerCount};
+use gen_desk::{Desk, Receipt, Row};
+use gen_log::SealedLog;
+use gen_scenario::Scenario;
+use gen_threads::Gate;
+use std::alloc::Global;
+use std::sync::Wait;
+use std::thread::Threads;
+
+/// A run at a desk: its logs, and what stands at the places of the desk, if that knows all receipts.
+#[derive(Drop)]
+pub(crate) struct FiledRun {
+    pub(crate) logs: Vec<SealedLog>,
+    pub(crate) rows: Option<Vec<Row>>,
+}
+
+/// Returns what stands at the places of a desk, if it knows all receipts.
+fn rows_of(desk: Desk, receipts: Vec<Receipt>) -> Option<Vec<Row>> {
+    match desk.close(receipts) {
+        Ok(filed) => Some(filed.into_rows()),
+        Err(_strange) => None,
+    }
+}
+
+/// Runs a scenario beside so many workers, who report on each log once its general has filed it.
+///
+/// # Errors
+///
+/// `Memory` where it was refused to anybody; else `Thread` where a thread could not be started. All threads have ended
+/// then.
+pub(crate) fn run_at_desk<R: Threads + Wait + Sync, G: Gate + Sync, J: JobGate + Sync>(
+    rt: &R,
+    alloc: Global,
+    scenario: &Scenario,
+    capacity: usize,
+    workers: WorkerCount,
+    gate: &G,
+    job_gate: &J,
+) -> Result<FiledRun, AuditFault>
+    requires { 0 < capacity }
+    ensures { IfOk result (λ run. run.logs.items ≡ logs_of_all scenario.now) }
+{
+    let places = logs_below(scenario, scenario.header().net().generals());
+    let mut tray = Tray::new(alloc, places)?;
+    let (desk, slips) = Desk::new(alloc, places)?;
+    tray.put_slips(slips);
+    let stop = StopWord::new();
+    let filing = FilingGate {
+        rt,
+        gate,
+        scenario,
+        desk: &desk,
+        tray: &tray,
+        stop: &stop,
+    };
+    let logs = run_beside(
+        rt,
+        alloc,
+        scenario,
+        capacity,
+        workers.get(),
+        &desk,
+        &stop,
+        &filing,
+        job_gate,
+    )?;
+    let rows = rows_of(desk, tray.into_receipts());
+    Ok(FiledRun { logs, rows })
+}

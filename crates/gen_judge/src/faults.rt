@@ -1,0 +1,16 @@
+//! Why a run is not judged.
+ghost use Rattle.std.specs.Prelude.{◌≡◌};
+ghost use Rattle.gen_judge.specs.Faults.{fault_of_run};
+
+use gen_audit::AuditFault;
+use gen_threads::RunFault;
+
+/// Returns what is answered where a run has no logs.
+pub(crate) fn fault_of(fault: RunFault) -> AuditFault
+    ensures { result ≡ fault_of_run fault }
+{
+    match fault {
+        RunFault::Memory => AuditFault::Memory,
+        RunFault::Thread | RunFault::Gone => AuditFault::Thread,
+    }
+}

@@ -1,0 +1,74 @@
+//! A run that is judged.
+ghost use Rattle.std.specs.Prelude.{◌<◌, IfOk, map};
+ghost use Rattle.gen_log.specs.Fields.{AreBelow};
+ghost use Rattle.gen_convict.specs.Convictions.{AreConvictions, AreEvidence, ConvictsWhereHeld};
+ghost use Rattle.gen_convict.specs.Evidence.{told_of};
+ghost use Rattle.gen_audit.specs.BundleParts.{AreListedWalks};
+ghost use Rattle.gen_audit.specs.Headline.{Headline};
+ghost use Rattle.gen_audit.specs.Verdict.{IsVerdict};
+ghost use Rattle.gen_audit.specs.WorldBundle.{run_bundle};
+
+use crate::desks::{FiledRun, run_at_desk};
+use crate::judging::judge_run;
+use gen_audit::{AuditFault, JobGate, Judgement, WorkerCount};
+use gen_scenario::Scenario;
+use gen_threads::Gate;
+use gen_types::GeneralSet;
+use gen_walks::Walks;
+use std::alloc::Global;
+use std::sync::Wait;
+use std::thread::Threads;
+
+/// Runs a scenario, each general in a thread of his own, over edges that hold so many frames each, at least one; and
+/// returns the judgement on the bundle of the run: its header, these generals held for faulty, these walks, and the logs
+/// of all. So many workers, each in a thread of his own, one alone too, report on each log once it is sealed, while
+/// other generals may still run.
+///
+/// The gate is called by each general's thread before each round and with his sealed logs; then copies of them are
+/// filed. The other gate is called for each exhibit, counted from 0 in the order of generals, by the worker who begins
+/// it. Where a copy or a report is missing in the end, the logs are audited once more, and that gate is called again.
+///
+/// # Errors
+///
+/// `Memory` where it was refused to anybody; else `Thread` where a thread could not be started. All threads have ended
+/// then.
+pub fn run_and_audit<R: Threads + Wait + Sync, G: Gate + Sync, J: JobGate + Sync>(
+    rt: &R,
+    alloc: Global,
+    scenario: &Scenario,
+    capacity: usize,
+    faulty: &GeneralSet,
+    walks: &Walks,
+    workers: WorkerCount,
+    gate: &G,
+    job_gate: &J,
+) -> Result<Judgement, AuditFault>
+    requires capacity { 0 < capacity }
+    requires faulty { AreBelow scenario.now.net.generals faulty.now }
+    requires walks { AreListedWalks scenario.now.net.generals walks.now }
+    // The verdict is that on the bundle of the run.
+    ensures verdict { IfOk result (λ judgement.
+        IsVerdict (run_bundle scenario.now faulty.now walks.now) judgement.verdict) }
+    // It is a yes exactly where the bundle supports it, and with at most m held for faulty it is then the order on which
+    // the rest agree.
+    ensures headline { IfOk result (λ judgement.
+        Headline (run_bundle scenario.now faulty.now walks.now) judgement.verdict) }
+    // Each general against whom a first claim can be made is convicted by it, and nobody else is.
+    ensures convictions { IfOk result (λ judgement.
+        AreConvictions (run_bundle scenario.now faulty.now walks.now).header
+        (run_bundle scenario.now faulty.now walks.now).exhibits (map told_of judgement.convictions.items)) }
+    // So a general is convicted exactly where the logs hold a contradiction of his.
+    ensures held { IfOk result (λ judgement.
+        ConvictsWhereHeld (run_bundle scenario.now faulty.now walks.now).header
+        (run_bundle scenario.now faulty.now walks.now).exhibits (map told_of judgement.convictions.items)) }
+    // And each conviction can be written.
+    ensures lawful { IfOk result (λ judgement.
+        AreEvidence (run_bundle scenario.now faulty.now walks.now).header (map told_of judgement.convictions.items)) }
+{
+    let FiledRun { logs, rows } = run_at_desk(
+        rt, alloc, scenario, capacity, workers, gate, job_gate,
+    )?;
+    judge_run(
+        rt, alloc, scenario, faulty, walks, logs, rows, workers, job_gate,
+    )
+}

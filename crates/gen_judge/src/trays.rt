@@ -1,0 +1,98 @@
+//! Slips until they are used, and receipts.
+use gen_desk::{Receipt, Slip};
+use std::alloc::{AllocError, Global};
+use std::sync::{Mutex, Wait};
+
+/// A slip that is given up where it is dropped, so that threads can share it.
+struct HeldSlip {
+    slip: Slip,
+}
+
+impl Drop for HeldSlip {
+    fn drop(self) {
+        let HeldSlip { slip } = self;
+        let _place = slip.give_up();
+    }
+}
+
+impl HeldSlip {
+    /// Returns the slip.
+    fn into_slip(self) -> Slip {
+        let HeldSlip { slip } = self;
+        slip
+    }
+}
+
+/// The slips that nobody took yet, and the receipts of all who filed.
+#[derive(Drop)]
+pub(crate) struct Tray {
+    slips: Mutex<Vec<Option<HeldSlip>>>,
+    receipts: Mutex<Vec<Receipt>>,
+}
+
+/// Returns so many seats for slips, all of them empty.
+fn empty_seats(alloc: Global, places: usize) -> Result<Vec<Option<HeldSlip>>, AllocError> {
+    let mut seats = Vec::with_capacity(alloc, places)?;
+    for _ in 0..places {
+        seats.push(None)?;
+    }
+    Ok(seats)
+}
+
+/// Puts a slip into the seat of its place. Where there is none it is given up.
+fn put_slip(seats: &mut Vec<Option<HeldSlip>>, slip: Slip) {
+    let place = slip.place();
+    let held = HeldSlip { slip };
+    if let Some(seat) = seats.get_mut(place) {
+        *seat = Some(held);
+    }
+}
+
+impl Tray {
+    /// Returns the tray of so many places, in which is no slip yet, and room for all receipts.
+    ///
+    /// # Errors
+    ///
+    /// `AllocError` where memory is refused.
+    pub(crate) fn new(alloc: Global, places: usize) -> Result<Tray, AllocError> {
+        let seats = empty_seats(alloc, places)?;
+        let receipts = Vec::with_capacity(alloc, places)?;
+        Ok(Tray {
+            slips: Mutex::new(seats),
+            receipts: Mutex::new(receipts),
+        })
+    }
+
+    /// Puts slips into the tray, each at its place. It takes no memory.
+    pub(crate) fn put_slips(&mut self, slips: Vec<Slip>) {
+        let seats = self.slips.get_mut();
+        let mut slips = slips;
+        while let Some(slip) = slips.pop() {
+            put_slip(seats, slip);
+        }
+        slips.destroy_empty();
+    }
+
+    /// Takes the slip of a place, if it is there still.
+    pub(crate) fn take_slip<R: Wait>(&self, rt: &R, place: usize) -> Option<Slip> {
+        let mut seats = self.slips.lock(rt);
+        match seats.get_mut(place) {
+            Some(seat) => match seat.take() {
+                Some(held) => Some(held.into_slip()),
+                None => None,
+            },
+            None => None,
+        }
+    }
+
+    /// Adds a receipt, for which there is room. Without room it is dropped.
+    pub(crate) fn add_receipt<R: Wait>(&self, rt: &R, receipt: Receipt) {
+        let _added = self.receipts.lock(rt).push(receipt);
+    }
+
+    /// Returns all receipts. The slips that are left are given up.
+    pub(crate) fn into_receipts(self) -> Vec<Receipt> {
+        let Tray { slips: _, receipts } = self;
+        receipts.into_inner()
+    }
+}

@@ -1,6 +1,0 @@
-use Rattle.std.proofs.Common.{◌≡◌, take, map}
-use Rattle.gen_match.specs.Underivables.{finding_at}
-use Rattle.gen_match.proofs.derived.findings_at.Given as goal
-
-abbrev pub invariant-loop-rank : goal.invariant-loop-rank
-invariant-loop-rank l = l.findings.items ≡ map finding_at (take l.rank-index l.ranks)

@@ -1,0 +1,130 @@
+"""Each allocation and each start of a thread refused, once and from then on: every run ends as without, or with status 4.
+
+The library that refuses is refuse.c. Where the Nth call alone is refused, N counts up until a run meets no refusal. Of 16
+generals, and where memory is refused from the Nth call on, N grows by an eighth each time. A run whose refusals are other
+calls than in the run before, since threads take turns, is no matter: whatever is refused, it has to end in one of these
+two ways.
+"""
+import os
+import shutil
+import subprocess
+import tempfile
+
+from programs import End, count_cores, run, shown, side_by_side, spell
+from scenarios import ZEROS, signed, sixteen
+
+HERE = os.path.dirname(os.path.abspath(__file__))
+EXAMPLES = os.path.join(os.path.dirname(HERE), "examples")
+OF_MEMORY = End(4, b"", b"memory\n")
+OF_THREADS = End(4, b"", b"thread\n")
+# The number of runs that are started before it is seen whether one of them met no refusal.
+AT_ONCE = 4
+# No command comes near so many allocations: a count that does not end is a failed trial.
+MOST = 1_000_000
+
+
+def build(folder):
+    """The library, built in a folder."""
+    library = os.path.join(folder, "refuse.so")
+    source = os.path.join(HERE, "refuse.c")
+    subprocess.run(["cc", "-O2", "-shared", "-fPIC", source, "-o", library, "-ldl", "-pthread"], check=True)
+    return library
+
+
+def refused(program, library, words, given, kind, number, after):
+    """How a run ended in which a call was refused, and whether one was."""
+    reader, writer = os.pipe()
+    told = {"REFUSE": kind, "REFUSE_AT": str(number), "REFUSE_TELL": str(writer), "LD_PRELOAD": library}
+    told |= {"REFUSE_ALL": "1"} if after else {}
+    try:
+        end = run(program, words, given, env={**os.environ, **told}, pass_fds=[writer])
+    finally:
+        os.close(writer)
+        was_refused = os.read(reader, 1) == b"r"
+        os.close(reader)
+    return end, was_refused
+
+
+def numbers(is_sampled):
+    """Which calls are refused, ever greater: all, or ever fewer of them."""
+    number = 1
+    while number < MOST:
+        yield number
+        number += number // 8 + 1 if is_sampled else 1
+
+
+def count_up(call, whole, kind, is_sampled):
+    """Refuses one call after the other. Returns how many runs met a refusal, and what is wrong with one, or None."""
+    # A thread that gets no memory is one that could not be started.
+    lawful = [whole, OF_THREADS] + [OF_MEMORY] * (kind == "memory")
+    coming, runs, refusals = numbers(is_sampled), 0, 0
+    while True:
+        some = [number for number, _ in zip(coming, range(AT_ONCE * count_cores()))]
+        if not some:
+            return runs, f"still refused after {runs} runs"
+        for number, (end, was_refused) in zip(some, side_by_side(call, some)):
+            wanted = lawful if was_refused else [whole]
+            if end not in wanted:
+                return runs, f"{number} refused: {shown(end)}"
+            if not was_refused:
+                return runs, None if refusals or kind == "thread" else "no refusal of memory was ever answered"
+            runs, refusals = runs + 1, refusals + (end != whole)
+
+
+def small_cases(program):
+    """Each command with small inputs: a name, the words, the input."""
+    for name in sorted(name for name in os.listdir(EXAMPLES) if name.endswith(".scenario")):
+        with open(os.path.join(EXAMPLES, name), "rb") as text:
+            yield from scenario_cases(program, name.removesuffix(".scenario"), text.read())
+    texts = signed()
+    yield from scenario_cases(program, "ring with signatures", texts["ring"])
+    yield from scenario_cases(program, "pair with signatures", texts["pair"])
+    yield from scenario_cases(program, "pair in a slot", signed(slot=1)["pair"])
+    yield "faulty text", ["decide"], b"generals 2\nedge 0\n"
+    yield "no bundle", ["audit"], b"SMB1\x01"
+    yield "help", ["--help"], b""
+    yield "bad words", ["audit", "--workers", "0"], b""
+
+
+def scenario_cases(program, name, text):
+    """The commands on a scenario, and on what comes of it."""
+    yield name, ["decide"], text
+    if ZEROS.encode() not in text:
+        return
+    yield name, ["run"], text
+    yield name, ["judge", "--workers", "3"], text
+    bundle = run(program, ["run"], text).wrote
+    yield name, ["audit"], bundle
+    yield name, ["audit", "--workers", "3"], bundle
+    evidence = run(program, ["accuse", "--general", "0"], bundle).wrote
+    yield name, ["accuse", "--general", "0"], bundle
+    if evidence:
+        yield name, ["evidence"], evidence
+
+
+def large_cases(program):
+    """Each command with 16 generals."""
+    text = sixteen()
+    bundle = run(program, ["run"], text).wrote
+    for words in (["decide"], ["run"], ["run", "--capacity", "16"], ["judge"], ["judge", "--workers", "16"]):
+        yield "16 generals", words, text
+    for words in (["audit"], ["audit", "--workers", "16"], ["accuse", "--general", "0"]):
+        yield "16 generals", words, bundle
+
+
+def trials(program, tally):
+    if not shutil.which("cc"):
+        tally.fail("no C compiler (cc) is there to build refuse.c with, so nothing was refused")
+        return
+    cases = [(case, False) for case in small_cases(program)] + [(case, True) for case in large_cases(program)]
+    with tempfile.TemporaryDirectory() as scratch:
+        library = build(scratch)
+        for (name, words, given), is_sampled in cases:
+            if words[0] not in tally.commands and words[0][0] != "-":
+                continue
+            whole = run(program, words, given)
+            for kind, after in (("memory", False), ("memory", True), ("thread", False), ("thread", True)):
+                call = lambda number, k=kind, a=after: refused(program, library, words, given, k, number, a)
+                runs, wrong = count_up(call, whole, kind, is_sampled or kind == "memory" and after)
+                tally.count(runs + 1)
+                tally.hold(f"{spell(words)}, {name}, {kind}{' from then on' if after else ''}", wrong)

@@ -1,0 +1,78 @@
+/* An allocator and a starter of threads that refuse, loaded before the C library's (LD_PRELOAD).
+
+   REFUSE is "memory" or "thread", REFUSE_AT the number of the call that is refused, counted from 1 over all threads from
+   the start of the program on, and REFUSE_ALL is set where all calls after it are refused too. The memory that a new thread
+   takes of the C library is memory too. Where REFUSE_TELL is set, one byte is written to the file that is open under this
+   number, once, as soon as something is refused. */
+#define _GNU_SOURCE
+#include <dlfcn.h>
+#include <errno.h>
+#include <pthread.h>
+#include <stdatomic.h>
+#include <stdlib.h>
+#include <string.h>
+#include <unistd.h>
+
+enum { NOTHING, MEMORY, THREAD };
+
+static int what = NOTHING, all, tell = -1;
+static long at;
+static atomic_long count;
+static atomic_flag told = ATOMIC_FLAG_INIT;
+
+__attribute__((constructor)) static void begin(void)
+{
+    const char *said = getenv("REFUSE"), *number = getenv("REFUSE_AT"), *open = getenv("REFUSE_TELL");
+    all = getenv("REFUSE_ALL") != NULL;
+    at = number ? atol(number) : 0;
+    tell = open ? atoi(open) : -1;
+    what = !said ? NOTHING : !strcmp(said, "memory") ? MEMORY : !strcmp(said, "thread") ? THREAD : NOTHING;
+}
+
+static int refuses(int called)
+{
+    if (called != what)
+        return 0;
+    long number = atomic_fetch_add(&count, 1) + 1;
+    if (number != at && !(all && number > at))
+        return 0;
+    if (tell >= 0 && !atomic_flag_test_and_set(&told) && write(tell, "r", 1) != 1)
+        _exit(99);
+    errno = ENOMEM;
+    return 1;
+}
+
+#define REAL(name, type, ...) \
+    static type (*real)(__VA_ARGS__); \
+    if (!real) \
+        real = (type (*)(__VA_ARGS__))dlsym(RTLD_NEXT, name)
+
+void *malloc(size_t size)
+{
+    REAL("malloc", void *, size_t);
+    return refuses(MEMORY) ? NULL : real(size);
+}
+
+void *realloc(void *old, size_t size)
+{
+    REAL("realloc", void *, void *, size_t);
+    return refuses(MEMORY) ? NULL : real(old, size);
+}
+
+void *aligned_alloc(size_t alignment, size_t size)
+{
+    REAL("aligned_alloc", void *, size_t, size_t);
+    return refuses(MEMORY) ? NULL : real(alignment, size);
+}
+
+int posix_memalign(void **place, size_t alignment, size_t size)
+{
+    REAL("posix_memalign", int, void **, size_t, size_t);
+    return refuses(MEMORY) ? ENOMEM : real(place, alignment, size);
+}
+
+int pthread_create(pthread_t *thread, const pthread_attr_t *how, void *(*start)(void *), void *given)
+{
+    REAL("pthread_create", int, pthread_t *, const pthread_attr_t *, void *(*)(void *), void *);
+    return refuses(THREAD) ? EAGAIN : real(thread, how, start, given);
+}

@@ -1,0 +1,45 @@
+#!/usr/bin/env python3
+"""Tries a built program.
+
+    trials/run.py PROGRAM [SUBJECT ..]
+
+The subjects are the modules that README.md lists. The last line is `N passed, M failed`; the status is 1 where something
+failed.
+"""
+import importlib
+import os
+import sys
+import traceback
+
+from programs import Hangs, commands_of
+from tally import Tally
+
+SUBJECTS = ["worked", "prefixes", "bent", "refusals", "devices", "load"]
+
+
+def try_subject(subject, program, commands):
+    """The trials of one subject. A run that hangs ends them, and so does an answer that they can do nothing with."""
+    tally = Tally(subject, commands)
+    try:
+        importlib.import_module(subject).trials(program, tally)
+    except Hangs as hangs:
+        tally.fail(str(hangs))
+    except Exception:
+        tally.fail(f"the trials broke off\n{traceback.format_exc()}")
+    tally.close()
+    return tally
+
+
+def main():
+    if len(sys.argv) < 2 or not set(sys.argv[2:]) <= set(SUBJECTS):
+        sys.exit(__doc__)
+    program = os.path.abspath(sys.argv[1])
+    commands = commands_of(program)
+    tallies = [try_subject(subject, program, commands) for subject in sys.argv[2:] or SUBJECTS]
+    failed = sum(tally.failed for tally in tallies)
+    print(f"{sum(tally.passed for tally in tallies)} passed, {failed} failed", flush=True)
+    return 1 if failed else 0
+
+
+if __name__ == "__main__":
+    sys.exit(main())

@@ -1,0 +1,55 @@
+"""Scenario texts that the trials use."""
+import itertools
+
+ZEROS = "00" * 32
+
+
+def scenario(edges, traitors, diameter, order, scripts=None, orders=2, choice=0, seed=ZEROS, slot=None):
+    """The text of a scenario of the generals that its edges join; scripts are lists of lines, by their generals."""
+    generals = 1 + max(max(edge) for edge in edges)
+    lines = [f"generals {generals}", *(f"edge {a} {b}" for a, b in edges), f"traitors {traitors}"]
+    lines += [f"diameter {diameter}", f"orders {orders}", f"choice {choice}", f"order {order}"]
+    lines += [f"seed {seed}"] if seed else []
+    lines += [] if slot is None else [f"slot {slot}"]
+    for general, script in sorted((scripts or {}).items()):
+        lines += [f"script {general}", *script]
+    return "".join(f"{line}\n" for line in [*lines, "end"]).encode()
+
+
+def everybody(generals):
+    """All edges between so many generals."""
+    return list(itertools.combinations(range(generals), 2))
+
+
+def chain(generals):
+    """The edges of so many generals in a line."""
+    return [(a, a + 1) for a in range(generals - 1)]
+
+
+def ring(generals):
+    """The edges of so many generals in a ring."""
+    return [*chain(generals), (generals - 1, 0)]
+
+
+def signed(slot=None):
+    """Small scenarios with signatures, by name, in a slot or of version 1. Between them evidence of each kind is found."""
+    held = {0: [], 1: ["make 2 2 1 0,1"]}
+    told = {0: ["make 1 1 1 0", "make 1 2 0 0"]}
+    hushed = {1: ["pass 2 2 0 1 1", "hide 1 0 1", "bend 2 3 0 1"]}
+    return {
+        "pair": scenario(chain(2), 0, 1, 1, slot=slot),
+        "split": scenario(everybody(3), 1, 1, 1, told, slot=slot),
+        "line": scenario(chain(4), 0, 3, 1, slot=slot),
+        "ring": scenario(ring(6), 1, 4, 1, {3: []}, slot=slot),
+        "late": scenario(everybody(4), 2, 1, 0, held, slot=slot),
+        "one_too_many": scenario(everybody(4), 1, 1, 0, held, slot=slot),
+        "no_walk": scenario(chain(3), 1, 2, 1, {1: []}, slot=slot),
+        "two_heads": scenario(everybody(3), 1, 1, 1, {1: ["twohead"]}, slot=slot),
+        "hushed": scenario(everybody(4), 1, 1, 2, hushed, orders=3, choice=1, slot=slot),
+        "none_left": scenario(everybody(3), 1, 1, 1, {0: told[0], 1: [], 2: []}, slot=slot),
+    }
+
+
+def sixteen(slot=None):
+    """16 generals who are all neighbours, in 16 rounds."""
+    return scenario(everybody(16), 8, 8, 14, orders=15, choice=1, slot=slot)
