@@ -36,7 +36,9 @@ fn judge_run<T: Threads + Wait + Sync>(
     let net = scenario.header().net();
     let walks = walks_between(alloc, net, &net.rest(&faulty))?;
     let capacity = usize::from(capacity);
-    let judgement = run_and_audit(rt, alloc, scenario, capacity, &faulty, &walks, workers, &Open, &Open)?;
+    let judgement = run_and_audit(
+        rt, alloc, scenario, capacity, &faulty, &walks, workers, &Open, &Open,
+    )?;
     Ok(judgement_text(alloc, scenario.header(), &judgement)?)
 }
 

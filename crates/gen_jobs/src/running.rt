@@ -51,7 +51,11 @@ pub(crate) fn make_scenario<R: Threads + Sync>(
 }
 
 /// Returns the best walks between these generals, or none where two of them have no short one.
-pub(crate) fn walks_between(alloc: Global, net: &Net, rest: &GeneralSet) -> Result<Walks, AllocError>
+pub(crate) fn walks_between(
+    alloc: Global,
+    net: &Net,
+    rest: &GeneralSet,
+) -> Result<Walks, AllocError>
     ensures { IfOk result (AreWalksOfRun net.now rest.now) }
 {
     match make_walks(alloc, net, rest) {

@@ -50,9 +50,10 @@ refusal_in g = refusal g.name.now (number_between 1 16 (option_map (λ t. t.now)
 
 refused_at : (o : Option (Text × List Row)) (given : GivenCommand) → IsGivenBy o (Some given) → None ≡ job_of given → IsRefused o (refusal_in given)
 refused_at None given is none = absurd is
-refused_at (Some p) given is none =
-    (told (Some p) given is ∙ sym none,
-     λ i. refusal (is.name i) (number_between 1 16 (is.capacity i)) (number_between 1 16 (is.workers i)) (number_between 0 15 (is.general i)))
+refused_at (Some p) given is none = (
+  told (Some p) given is ∙ sym none,
+  λ i. refusal (is.name i) (number_between 1 16 (is.capacity i)) (number_between 1 16 (is.workers i)) (number_between 0 15 (is.general i)),
+)
 
 -- a refusal is one of four
 one_of : (P : WordsFault → Type 0) (a b c : Bool) → P BadCapacity → P BadWorkers → P BadGeneral → P NoCommand
@@ -65,10 +66,10 @@ one_of P false false false x y z w = w
 pub refused : (words : List Text) (given : GivenCommand) (fault : WordsFault) → Gives words given → None ≡ job_of given → fault ≡ refusal_in given → IsFaultOf words fault
 refused words given fault gives none is =
     let at : (f : WordsFault) → f ≡ refusal_in given → IsRefused (subcommand_of tool words) f
-        = λ f e. subst (λ (g : WordsFault). IsRefused (subcommand_of tool words) g) (sym e) (refused_at (subcommand_of tool words) given gives.1 none) in
+    = λ f e. subst (λ (g : WordsFault). IsRefused (subcommand_of tool words) g) (sym e) (refused_at (subcommand_of tool words) given gives.1 none) in
     let any : refusal_in given ≡ refusal_in given → IsFaultOf words (refusal_in given)
-        = one_of (λ f. f ≡ refusal_in given → IsFaultOf words f) _ _ _
-          (λ e. (gives.0, at BadCapacity e)) (λ e. (gives.0, at BadWorkers e)) (λ e. (gives.0, at BadGeneral e)) (λ e. (gives.0, at NoCommand e)) in
+    = one_of (λ f. f ≡ refusal_in given → IsFaultOf words f) _ _ _
+    (λ e. (gives.0, at BadCapacity e)) (λ e. (gives.0, at BadWorkers e)) (λ e. (gives.0, at BadGeneral e)) (λ e. (gives.0, at NoCommand e)) in
     subst (λ (f : WordsFault). IsFaultOf words f) (sym is) (any refl)
 
 pub is_given : (o : Option (Text × List Row)) (p : Text × List Row) (given : GivenCommand) → o ≡ Some p → IsGiven p given → IsGivenBy o (Some given)

@@ -68,8 +68,11 @@ fn judge_command<'a>(alloc: Global) -> Result<Command<'a>, AllocError>
     ensures app { IfOk result (λ c. app_of c ≡ lines.judge) }
     ensures local { IfOk result (λ c. (fields_of c).has_globals ≡ false) }
 {
-    let about = "Reads a scenario with a seed from standard input, runs it while its logs are audited, and prints the verdict";
-    plain_command(alloc, "judge", about).arg(capacity_option(alloc))?.arg(workers_option(alloc))
+    let about =
+        "Reads a scenario with a seed from standard input, runs it while its logs are audited, and prints the verdict";
+    plain_command(alloc, "judge", about)
+        .arg(capacity_option(alloc))?
+        .arg(workers_option(alloc))
 }
 
 /// Returns the command that audits a bundle.

@@ -22,7 +22,11 @@ pub(crate) type Row<'a> = (&'a [u8], JobEnd, &'a [u8]);
 
 pub(crate) const PAIR_ROW: Row<'_> = (PAIR, JobEnd::Done, b"verdict agreed 1\nend\n");
 
-pub(crate) const PAIR_IN_SLOT_ROW: Row<'_> = (PAIR_IN_SLOT, JobEnd::Done, b"verdict agreed 1\nend\n");
+pub(crate) const PAIR_IN_SLOT_ROW: Row<'_> = (
+    PAIR_IN_SLOT,
+    JobEnd::Done,
+    b"verdict agreed 1\nend\n",
+);
 
 pub(crate) const SPLIT_ROW: Row<'_> = (
     SPLIT,

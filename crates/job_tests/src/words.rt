@@ -85,9 +85,18 @@ fn is_bad_capacity(alloc: Global, capacity: &str, workers: &str) -> Option<bool>
 #[test]
 fn the_capacity_is_looked_at_first(rt: HostRuntime) {
     let alloc = rt.alloc();
-    assert_eq!(rt; is_bad_capacity(alloc, "--capacity=0", "--workers=0"), Some(true));
-    assert_eq!(rt; is_bad_capacity(alloc, "--capacity=1", "--workers=0"), Some(false));
-    assert_eq!(rt; is_bad_capacity(alloc, "--capacity=17", "--workers=1"), Some(true));
+    assert_eq!(rt;
+        is_bad_capacity(alloc, "--capacity=0", "--workers=0"),
+        Some(true)
+    );
+    assert_eq!(rt;
+        is_bad_capacity(alloc, "--capacity=1", "--workers=0"),
+        Some(false)
+    );
+    assert_eq!(rt;
+        is_bad_capacity(alloc, "--capacity=17", "--workers=1"),
+        Some(true)
+    );
 }
 
 #[test]

@@ -36,9 +36,9 @@ returns-clause-answer g c =
     let cs = map told_of j.judgement.convictions.items in
     let o = c.in_ok-judgement_text in
     judges s walks has j.judgement.verdict cs o.field-0.text.items o.field-0.negative
-      (subst (λ (f : List ℕ). IsVerdict (run_bundle s f walks) j.judgement.verdict) is_faulty j.ensures.verdict)
-      (subst (λ (f : List ℕ). Headline (run_bundle s f walks) j.judgement.verdict) is_faulty j.ensures.headline)
-      j.ensures.convictions
-      j.ensures.held
-      (o.ensures.text ∙ ap (λ (h : RunHeader). verdict_text h j.judgement.verdict cs) c.header-2.ensures.value)
-      o.ensures.negative
+    (subst (λ (f : List ℕ). IsVerdict (run_bundle s f walks) j.judgement.verdict) is_faulty j.ensures.verdict)
+    (subst (λ (f : List ℕ). Headline (run_bundle s f walks) j.judgement.verdict) is_faulty j.ensures.headline)
+    j.ensures.convictions
+    j.ensures.held
+    (o.ensures.text ∙ ap (λ (h : RunHeader). verdict_text h j.judgement.verdict cs) c.header-2.ensures.value)
+    o.ensures.negative
