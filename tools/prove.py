@@ -21,7 +21,7 @@ GIB_OF_A_JOB = 3
 # What a first use takes in all, and how much of that can go on side by side, since crates stand on one another
 # (bench/README.md).
 PROCESSOR_MINUTES = 45
-SIDE_BY_SIDE = 2
+SIDE_BY_SIDE = 1.5
 
 
 def read_crates():
@@ -75,7 +75,7 @@ def build(log):
 
 def main():
     crates, jobs = read_crates(), count_jobs()
-    minutes = PROCESSOR_MINUTES // min(jobs, SIDE_BY_SIDE)
+    minutes = round(PROCESSOR_MINUTES / min(jobs, SIDE_BY_SIDE))
     say(f"sm_tool: proving and building first, once, some {minutes} minutes; README.md has a quick way (rt try)")
     with open(sys.argv[1], "w", encoding="utf-8", buffering=1) as log:
         passed = prove_all(crates, jobs, log) and build(log)

@@ -80,6 +80,7 @@ def small_cases(program):
     yield from scenario_cases(program, "ring with signatures", texts["ring"])
     yield from scenario_cases(program, "pair with signatures", texts["pair"])
     yield from scenario_cases(program, "pair in a slot", signed(slot=1)["pair"])
+    yield from campaign_cases(program)
     yield "faulty text", ["decide"], b"generals 2\nedge 0\n"
     yield "no bundle", ["audit"], b"SMB1\x01"
     yield "help", ["--help"], b""
@@ -100,6 +101,20 @@ def scenario_cases(program, name, text):
     yield name, ["accuse", "--general", "0"], bundle
     if evidence:
         yield name, ["evidence"], evidence
+
+
+def campaign_cases(program):
+    """A campaign of two runs, and what is made of it; and evidence across two runs of one slot."""
+    texts = signed(slot=1)["pair"], signed(slot=2)["pair"]
+    text = b"campaign 2\n" + b"".join(texts)
+    yield "two pairs", ["campaign"], text
+    twice = [run(program, ["run"], it).wrote for it in (texts[0], texts[0].replace(b"traitors 0", b"traitors 1"))]
+    bundles = b"SMC2\2" + b"".join(twice)
+    yield "one slot twice", ["audit", "--workers", "3"], bundles
+    yield "one slot twice", ["accuse", "--general", "0"], bundles
+    evidence = run(program, ["accuse", "--general", "0"], bundles).wrote
+    if evidence:
+        yield "one slot twice", ["evidence"], evidence
 
 
 def large_cases(program):

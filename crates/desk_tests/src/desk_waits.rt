@@ -1,8 +1,9 @@
 //! That who waits at a desk is woken.
-use crate::filing::{file_last, logs_of, next_claim, pair, report_of};
+use crate::filing::{file_last, give_up_all, logs_of, next_claim, pair, report_of};
 use gen_desk::{Claim, Desk};
 use gen_local::LocalReport;
 use std::sync::Wait;
+use std::sync::atomic::{AtomicBool, Ordering};
 use std::test::*;
 use std::thread;
 
@@ -15,6 +16,23 @@ fn wait_for_reports<R: Wait>(rt: &R, desk: &Desk) {
         }
         key.wait(rt);
     }
+}
+
+/// Waits until the word is set.
+fn wait_for_word<R: Wait>(rt: &R, desk: &Desk, word: &AtomicBool) {
+    for _ in rt.forever() {
+        let key = desk.prepare_wait();
+        if word.load(Ordering::SeqCst) {
+            break;
+        }
+        key.wait(rt);
+    }
+}
+
+/// Sets the word, and wakes who waits at the desk.
+fn set_word(desk: &Desk, word: &AtomicBool) {
+    word.store(true, Ordering::SeqCst);
+    desk.wake_all();
 }
 
 /// Whether a report is taken.
@@ -38,5 +56,20 @@ fn a_report_wakes_who_waits(rt: HostRuntime) -> Result<(), Fail> {
         move || is_taken(at, with, claim, report),
     );
     assert!(rt; taken);
+    Ok(())
+}
+
+#[test]
+fn all_who_wait_can_be_woken(rt: HostRuntime) -> Result<(), Fail> {
+    let (desk, slips) = Desk::new(rt.alloc(), 1)?;
+    give_up_all(slips);
+    let word = AtomicBool::new(false);
+    let (at, with, seen) = (&rt, &desk, &word);
+    let (_woken, _set) = thread::join(
+        &rt,
+        move || wait_for_word(at, with, seen),
+        move || set_word(with, seen),
+    );
+    assert!(rt; word.load(Ordering::SeqCst));
     Ok(())
 }

@@ -10,7 +10,7 @@ use Rattle.gen_audit.specs.declared.bundle_fault.BundleFault.TheVariants as faul
 use Rattle.gen_audit.specs.BundleReading.{owner_at, walks_at}
 use Rattle.gen_audit.specs.BundleFields.{front_at, faulty_at}
 use Rattle.gen_audit.specs.BundleSpelling.{bundle_marks, walks_spelling}
-use Rattle.gen_audit.specs.Loops.Ends.{IsEndOf}
+use Rattle.gen_audit.specs.Ends.{IsEndOf}
 use Rattle.gen_audit.proofs.BundleFronts.{faulty_reads, fronts_read}
 use Rattle.gen_audit.proofs.BundleLaws.{owner_takes, walks_read}
 use Rattle.gen_net.specs.Front.{front_spelling}
@@ -20,7 +20,7 @@ use Rattle.gen_log.specs.Fields.{set_spelling}
 pub whole : (all : List ℕ) → IsEndOf all all
 whole all = record { front = []; parts = refl }
 
-goes_on : (all bytes text rest : List ℕ) → IsEndOf all bytes → bytes ≡ text ++ rest → IsEndOf all rest
+pub goes_on : (all bytes text rest : List ℕ) → IsEndOf all bytes → bytes ≡ text ++ rest → IsEndOf all rest
 goes_on all bytes text rest end parts = record {
   front = end.front ++ text;
   parts = end.parts ∙ (ap (λ (t : List ℕ). end.front ++ t) parts ∙ sym (append_assoc end.front text rest));
@@ -31,13 +31,13 @@ goes_on all bytes text rest end parts = record {
 pub behind_byte : (all bytes rest : List ℕ) (b : ℕ) → IsBytes bytes → byte_at faults.Truncated bytes ≡ Ok (b, rest) → IsEndOf all bytes → IsEndOf all rest
 behind_byte all bytes rest b fits read end = goes_on all bytes (b ∷ []) rest end (byte_takes faults.Truncated bytes b rest fits read).0.parts
 
-pub behind_walks : (all : List ℕ) (header : RunHeader × List ℕ) (faulty : List ℕ × List ℕ) (walks : List (List ℕ) × List ℕ) (n : ℕ) → n ≤ 16 → IsBytes all → front_at all ≡ Ok header → faulty_at n header.1 ≡ Ok faulty
-    → walks_at n faulty.1 ≡ Ok walks → IsEndOf all walks.1
-behind_walks all header faulty walks n few fits r0 r1 r2 =
-    let t0 = (fronts_read.takes all header fits r0).0 in
+pub behind_walks : (all bytes : List ℕ) (header : RunHeader × List ℕ) (faulty : List ℕ × List ℕ) (walks : List (List ℕ) × List ℕ) (n : ℕ) → n ≤ 16 → IsBytes bytes → front_at bytes ≡ Ok header → faulty_at n header.1 ≡ Ok faulty
+    → walks_at n faulty.1 ≡ Ok walks → IsEndOf all bytes → IsEndOf all walks.1
+behind_walks all bytes header faulty walks n few fits r0 r1 r2 end =
+    let t0 = (fronts_read.takes bytes header fits r0).0 in
     let t1 = ((faulty_reads n few).takes header.1 faulty t0.rest_fits r1).0 in
     let t2 = ((walks_read n).takes faulty.1 walks t1.rest_fits r2).0 in
-    let one = goes_on all all (front_spelling bundle_marks header.0) header.1 (whole all) t0.parts in
+    let one = goes_on all bytes (front_spelling bundle_marks header.0) header.1 end t0.parts in
     let two = goes_on all header.1 (set_spelling faulty.0) faulty.1 one t1.parts in
     goes_on all faulty.1 (walks_spelling walks.0) walks.1 two t2.parts
 

@@ -7,12 +7,12 @@ pub mod BundleParts
 pub mod BundleReading
 pub mod BundleSpelling
 pub mod Collecting
+pub mod Ends
 pub mod Explained
 pub mod Findings
 pub mod Headline
 pub mod Judgement
 pub mod LocalFindings
-pub mod Loops
 pub mod Sorting
 pub mod Supported
 pub mod Telling

@@ -15,7 +15,7 @@ ghost use Rattle.gen_audit.specs.BundleParts as parts;
 ghost use Rattle.gen_audit.specs.BundleReading.{general_at, walk_at, walks_at, owner_at, exhibit_at, exhibits_at};
 ghost use Rattle.gen_audit.specs.BundleReading.{bundle_at, whole_bundle};
 ghost use Rattle.gen_audit.specs.BundleSpelling.{bundle_spelling};
-ghost use Rattle.gen_audit.specs.Loops.Ends.{IsEndOf};
+ghost use Rattle.gen_audit.specs.Ends.{IsEndOf};
 
 use crate::bundle_fault::BundleFault;
 use crate::bundle_rules::{
@@ -221,14 +221,19 @@ fn read_exhibits<'a>(
     read_each_exhibit(alloc, input, n, count, rest)
 }
 
-/// The bundle in front of the input, which these bytes are, and the bytes after it.
+/// Returns the bundle in front of the bytes, which are the end of the input, and the bytes after it. Its exhibits share
+/// the input.
+///
+/// # Errors
+///
+/// The first fault of `BundleFault` from left to right; and Memory where memory was refused before.
 #[tactic(auto, unfolding(crate::specs::BundleReading::bundle_at))]
-fn bundle_in_front<'a>(
+pub fn bundle_in_front<'a>(
     alloc: Global,
     input: &ArcSlice<u8>,
     bytes: &'a [u8],
 ) -> Result<(Bundle, &'a [u8]), ReadError<BundleFault>>
-    requires { arc_slice_items input.now ≡ bytes.now }
+    requires { IsEndOf (arc_slice_items input.now) bytes.now }
     ensures { IsField result (bundle_at bytes.now) }
 {
     let (header, rest) = read_front_field(alloc, bytes)?;

@@ -25,7 +25,7 @@ mod verdicts;
 
 pub use audits::{audit, judge_reports};
 pub use bundle_fault::BundleFault;
-pub use bundle_reading::{read_bundle, read_taken_bundle};
+pub use bundle_reading::{bundle_in_front, read_bundle, read_taken_bundle};
 pub use bundle_writing::{bundle_front, exhibit_front, write_bundle};
 pub use bundles::Bundle;
 pub use gen_workers::{AuditFault, JobGate, WorkerCount};

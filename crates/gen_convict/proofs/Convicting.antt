@@ -43,7 +43,7 @@ accusing_in g (Some claim) x c = elim (Contains_cases (record { accused = g; cla
   | inr none ↦ absurd (Contains_nil x none)
 ]
 
-flat_contains : {X Y : Type 0} (f : X → List Y) (xs : List X) (x : X) (y : Y) → Contains xs x → Contains (f x) y → Contains (flat_map f xs) y
+pub flat_contains : {X Y : Type 0} (f : X → List Y) (xs : List X) (x : X) (y : Y) → Contains xs x → Contains (f x) y → Contains (flat_map f xs) y
 flat_contains f [] x y c d = absurd (Contains_nil x c)
 flat_contains f (z ∷ zs) x y c d = elim (Contains_cases z x zs c) [
   | inl e ↦ Contains-append_left (f z) (flat_map f zs) y (subst (λ w. Contains (f w) y) (sym e) d)

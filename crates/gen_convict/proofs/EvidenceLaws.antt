@@ -20,7 +20,8 @@ use Rattle.gen_convict.specs.declared.evidence_fault.EvidenceFault.TheVariants a
 use Rattle.gen_convict.specs.ClaimReading.{claim_at}
 use Rattle.gen_convict.specs.Contradictions.{Claim}
 use Rattle.gen_convict.specs.Evidence.{Accusation, IsEvidence}
-use Rattle.gen_convict.specs.EvidenceReading.{IsWhole, accused_at, accusation_at, front_fault, evidence_at, whole_evidence}
+use Rattle.gen_convict.specs.EvidenceReading.{IsWhole, accused_at, accusation_at, evidence_at, whole_evidence}
+use Rattle.gen_convict.specs.EvidenceFields.{front_fault}
 use Rattle.gen_convict.specs.EvidenceSpelling.{HeaderAndEvidence, evidence_marks, accusation_spelling, whole_spelling}
 use Rattle.gen_convict.proofs.EvidenceClaims.{kind_spelling, claims_read}
 use Rattle.gen_convict.proofs.EvidenceTexts.{Taken}

@@ -41,14 +41,14 @@ first_or_none P (x ∷ xs) dec = elim (dec x (Contains_here x xs)) [
 abbrev pub NoPair : {X : Type 0} → (X → X → Type 0) → List X → Type 0
 NoPair {X} R xs = (front back : List X) (u v : X) → xs ≡ front ++ u ∷ back → Contains back v → R u v → ⊥
 
-no_pair_more : {X : Type 0} (R : X → X → Type 0) (z : X) (zs : List X) → ((v : X) → Contains zs v → R z v → ⊥) → NoPair R zs → NoPair R (z ∷ zs)
+pub no_pair_more : {X : Type 0} (R : X → X → Type 0) (z : X) (zs : List X) → ((v : X) → Contains zs v → R z v → ⊥) → NoPair R zs → NoPair R (z ∷ zs)
 no_pair_more R z zs none later [] back u v e h r =
     let s = tail_same z u zs back e in
     none v (subst (λ ys. Contains ys v) (sym s.1) h) (subst (λ y. R y v) (sym s.0) r)
 no_pair_more R z zs none later (f ∷ front) back u v e h r = later front back u v (tail_same z f zs (front ++ u ∷ back) e).1 h r
 
 -- where the pair begins behind z no pair begins before it
-none_before_more : {X : Type 0} (R : X → X → Type 0) (z : X) (before rest : List X) → ((v : X) → Contains (before ++ rest) v → R z v → ⊥) → ((front back : List X) (u v : X) → before ≡ front ++ u ∷ back → Contains (back ++ rest) v → R u v → ⊥) → (front back : List X) (u v : X) → z ∷ before ≡ front ++ u ∷ back → Contains (back ++ rest) v → R u v → ⊥
+pub none_before_more : {X : Type 0} (R : X → X → Type 0) (z : X) (before rest : List X) → ((v : X) → Contains (before ++ rest) v → R z v → ⊥) → ((front back : List X) (u v : X) → before ≡ front ++ u ∷ back → Contains (back ++ rest) v → R u v → ⊥) → (front back : List X) (u v : X) → z ∷ before ≡ front ++ u ∷ back → Contains (back ++ rest) v → R u v → ⊥
 none_before_more R z before rest none later [] back u v e h r =
     let s = tail_same z u before back e in
     none v (subst (λ ys. Contains (ys ++ rest) v) (sym s.1) h) (subst (λ y. R y v) (sym s.0) r)

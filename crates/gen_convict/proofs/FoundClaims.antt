@@ -26,7 +26,7 @@ use Rattle.gen_local.specs.Report.{LocalReport, IsReading}
 use Rattle.gen_log.specs.Writing.{LogBytes}
 use Rattle.gen_local.specs.SignedTexts.{stated}
 use Rattle.gen_convict.specs.Accused.{AreDifferent, command}
-use Rattle.gen_convict.specs.Contradictions.{Claim, TwoTexts, TwoOrders, MissingFromLog, DepartingLog}
+use Rattle.gen_convict.specs.Contradictions.{Claim, TwoTexts, TwoOrders, MissingFromLog, DepartingLog, AcrossRuns}
 use Rattle.gen_convict.specs.Convictions.{shown_in, AreShort}
 use Rattle.gen_convict.specs.Exhibits.{HeldLog, is_by, is_his, texts_of, texts_in, logs_of}
 use Rattle.gen_convict.specs.Finding.{his_texts, one_each, is_unsaid}
@@ -218,6 +218,7 @@ at_least_1 (TwoTexts x y) = omega arith
 at_least_1 (TwoOrders v a w b) = omega arith
 at_least_1 (MissingFromLog bytes s a) = omega arith
 at_least_1 (DepartingLog bytes p) = omega arith
+at_least_1 (AcrossRuns x y) = omega arith
 
 module _ (h : RunHeader) (reports : List LocalReport) (general : ℕ) (are : AreOf h reports) where
   abbrev Texts : List SignedText
@@ -268,18 +269,21 @@ module _ (h : RunHeader) (reports : List LocalReport) (general : ℕ) (are : Are
   at_least_2 n1 (TwoOrders v a w b) made = omega arith
   at_least_2 n1 (MissingFromLog bytes s a) made = omega arith
   at_least_2 n1 (DepartingLog bytes p) made = omega arith
+  at_least_2 n1 (AcrossRuns x y) made = omega arith
 
   at_least_3 : NoTwoTexts Texts → (general ≡ 0 → NoOrders Texts) → (c : Claim) → Made c → 3 ≤ kind_of c
   at_least_3 n1 n2 (TwoTexts x y) made = absurd (not_texts n1 x y made)
   at_least_3 n1 n2 (TwoOrders v a w b) made = absurd (not_orders n2 v a w b made)
   at_least_3 n1 n2 (MissingFromLog bytes s a) made = omega arith
   at_least_3 n1 n2 (DepartingLog bytes p) made = omega arith
+  at_least_3 n1 n2 (AcrossRuns x y) made = omega arith
 
   at_least_4 : NoTwoTexts Texts → (general ≡ 0 → NoOrders Texts) → ((l : HeldLog) → Contains Logs l → LacksSome h Texts l → ⊥) → (c : Claim) → Made c → 4 ≤ kind_of c
   at_least_4 n1 n2 n3 (TwoTexts x y) made = absurd (not_texts n1 x y made)
   at_least_4 n1 n2 n3 (TwoOrders v a w b) made = absurd (not_orders n2 v a w b made)
   at_least_4 n1 n2 n3 (MissingFromLog bytes s a) made = absurd (not_missing n3 bytes s a made)
   at_least_4 n1 n2 n3 (DepartingLog bytes p) made = omega arith
+  at_least_4 n1 n2 n3 (AcrossRuns x y) made = omega arith
 
   abbrev IsMade : Claim → Type 0
   IsMade claim = IsFirstClaim h (shown_in reports) general claim
@@ -342,6 +346,7 @@ module _ (h : RunHeader) (reports : List LocalReport) (general : ℕ) (are : Are
   by_none ok short None e1 None e2 None e3 o4 e4 e (MissingFromLog bytes s a) made = not_missing (none_3 (none_1 e1) e3) bytes s a made
   by_none ok short None e1 None e2 None e3 o4 e4 e (DepartingLog bytes p) made =
       not_departing (departing_none h reports general are ok short (find (departs general) reports) refl (e4 ∙ e)) bytes p made
+  by_none ok short None e1 None e2 None e3 o4 e4 e (AcrossRuns x y) made = absurd made
 
   pub claim_none : IsHeader h → AreShort (shown_in reports) → claim_for reports general ≡ None → (claim : Claim) → IsMade claim → ⊥
   unfolding claim_for

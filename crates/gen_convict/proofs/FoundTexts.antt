@@ -39,7 +39,7 @@ so_not false none = refl
 same_parts : (s t : Statement) → s ≡ t → pointwise nat_eq s.path t.path ≡ true
 same_parts s t e = subst (λ (u : Statement). pointwise nat_eq s.path u.path ≡ true) e (same_list s.path)
 
-unlike_gives : (x y : Text) → is_unlike x y ≡ true → AreUnlike x y
+pub unlike_gives : (x y : Text) → is_unlike x y ≡ true → AreUnlike x y
 unlike_gives (OfStatement s) (OfStatement t) e =
     let p = both (eqb s.order t.order) (not (pointwise nat_eq s.path t.path)) e in
     (eqb-true s.order t.order p.0, λ same. opposite (pointwise nat_eq s.path t.path) p.1 (same_parts s t same))
@@ -51,7 +51,7 @@ unlike_gives (OfHead s) (OfHead t) e = λ same.
     (and_so (eqb s.general s.general) (eqb s.entries s.entries && pointwise nat_eq s.last_link s.last_link) (eq-eqb s.general s.general refl)
     (and_so (eqb s.entries s.entries) (pointwise nat_eq s.last_link s.last_link) (eq-eqb s.entries s.entries refl) (same_list s.last_link))))
 
-unlike_told : (x y : Text) → AreUnlike x y → is_unlike x y ≡ true
+pub unlike_told : (x y : Text) → AreUnlike x y → is_unlike x y ≡ true
 unlike_told (OfStatement s) (OfStatement t) d =
     and_so (eqb s.order t.order) (not (pointwise nat_eq s.path t.path)) (eq-eqb s.order t.order d.0)
     (so_not (pointwise nat_eq s.path t.path) (λ e. d.1 (λ i. record { order = d.0 i; path = same_text s.path t.path (sym e) i })))

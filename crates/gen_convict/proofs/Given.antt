@@ -23,7 +23,7 @@ use Rattle.gen_local.specs.Erased.{erased}
 use Rattle.gen_log.specs.Writing.{LogBytes}
 use Rattle.gen_local.specs.SignedTexts.{stated}
 use Rattle.gen_convict.specs.Accused.{AreDifferent, command}
-use Rattle.gen_convict.specs.Contradictions.{IsSealedLogOf, Claim, TwoTexts, TwoOrders, MissingFromLog, DepartingLog, IsContradiction}
+use Rattle.gen_convict.specs.Contradictions.{IsSealedLogOf, Claim, TwoTexts, TwoOrders, MissingFromLog, DepartingLog, AcrossRuns, IsContradiction}
 use Rattle.gen_convict.specs.Exhibits.{AllBytes, HeldLog, is_by, is_his, logs_in, logs_of, texts_in, texts_of}
 use Rattle.gen_convict.specs.First.{DifferInOrder, AreOrders, IsUnsaid, IsMissing, LacksSome, DepartsSomewhere, IsFirstOfKind, kind_of, IsFirstClaim}
 use Rattle.gen_convict.specs.Firsts.{IsFirst, IsFirstPair}
@@ -35,7 +35,7 @@ use Rattle.gen_convict.proofs.FirstOnes.{first_or_none, NoPair, pair_or_none, di
 use Rattle.gen_convict.proofs.Holding.{logs_read, first_in, pair_in, kind_holds}
 
 -- two members that are related in both directions, and not the same, make a pair of the list
-two_positions : {X : Type 0} (R : X → X → Type 0) (xs : List X) (x y : X) → NoPair R xs → Contains xs x → Contains xs y → R x y → R y x → (x ≡ y → ⊥) → ⊥
+pub two_positions : {X : Type 0} (R : X → X → Type 0) (xs : List X) (x y : X) → NoPair R xs → Contains xs x → Contains xs y → R x y → R y x → (x ≡ y → ⊥) → ⊥
 two_positions R xs x y none c d there back apart =
     let k = split xs x c in
     let d1 = subst (λ zs. Contains zs y) k.2 d in
@@ -122,6 +122,7 @@ module _ (h : RunHeader) (exhibits : List LogBytes) (general : ℕ) (ok : IsHead
   no_texts none (TwoOrders v a w b) k s = absurd (omega (arith, k))
   no_texts none (MissingFromLog bytes t signature) k s = absurd (omega (arith, k))
   no_texts none (DepartingLog bytes p) k s = absurd (omega (arith, k))
+  no_texts none (AcrossRuns x y) k s = absurd s.0
 
   search_texts : Searched 1
   search_texts = elim (pair_or_none AreDifferent differ_or_not (texts_of h exhibits general)) [
@@ -135,12 +136,14 @@ module _ (h : RunHeader) (exhibits : List LogBytes) (general : ℕ) (ok : IsHead
   no_orders none (TwoOrders v a w b) k s = two_positions AreOrders (texts_of h exhibits general) (command v a) (command w b) none s.0.0 s.0.1 (refl, refl, s.1.different) (refl, refl, λ e. s.1.different (sym e)) (λ e. s.1.different (ap (λ (t : SignedText). order_of t.text) e))
   no_orders none (MissingFromLog bytes t signature) k s = absurd (omega (arith, k))
   no_orders none (DepartingLog bytes p) k s = absurd (omega (arith, k))
+  no_orders none (AcrossRuns x y) k s = absurd s.0
 
   not_commander : general ≢ 0 → (claim : Claim) → kind_of claim ≡ 2 → Holds claim → ⊥
   not_commander ne (TwoTexts x y) k s = absurd (omega (arith, k))
   not_commander ne (TwoOrders v a w b) k s = ne s.1.commander
   not_commander ne (MissingFromLog bytes t signature) k s = absurd (omega (arith, k))
   not_commander ne (DepartingLog bytes p) k s = absurd (omega (arith, k))
+  not_commander ne (AcrossRuns x y) k s = absurd s.0
 
   -- each text in the list is signed by the general
   by_him : (t : SignedText) → Contains (texts_of h exhibits general) t → t.signer ≡ general
@@ -187,6 +190,7 @@ module _ (h : RunHeader) (exhibits : List LogBytes) (general : ℕ) (ok : IsHead
       let e = same_log bytes s.1.log held s.1.his in
       none held.0 held.1 (sealed_head held.0 s.1.log e.0 e.1 s.1.his.sealed, (stated t.order t.path general signature, s.0.1, subst (λ (log : RunLog). HasSign log t → ⊥) e.1 s.1.missing))
   none_lacks none (DepartingLog bytes p) k s = absurd (omega (arith, k))
+  none_lacks none (AcrossRuns x y) k s = absurd s.0
 
   missing : (l : HeldLog) → IsFirst (LacksSome h (texts_of h exhibits general)) (logs_of h exhibits general) l → (text : SignedText) → IsFirst (IsMissing l.log) (texts_of h exhibits general) text → (claim : Claim) × IsFirstOfKind h exhibits general claim × (kind_of claim ≡ 3)
   missing l f x m =
@@ -213,6 +217,7 @@ module _ (h : RunHeader) (exhibits : List LogBytes) (general : ℕ) (ok : IsHead
       let e = same_log bytes s.1.log held s.1.his in
       let d = subst (λ (log : RunLog). DepartsAt h.network general (erased log.entries) p) e.1 s.1.departs in
       none held.0 held.1 (p, (sealed_head held.0 s.1.log e.0 e.1 s.1.his.sealed, subst (λ g. DepartsAt h.network g (erased held.0.log.entries) p) (sym e.0) d))
+  none_departs none (AcrossRuns x y) k s = absurd s.0
 
   -- of each of his logs it is told whether it departs
   abbrev Told : Type 0
@@ -230,6 +235,7 @@ module _ (h : RunHeader) (exhibits : List LogBytes) (general : ℕ) (ok : IsHead
   held (TwoOrders v a w b) f = pair_in AreOrders (texts_of h exhibits general) (command v a) (command w b) f.1
   held (MissingFromLog bytes t a) f = ((f.0, first_in (LacksSome h (texts_of h exhibits general)) (logs_of h exhibits general) f.0 f.2, f.1), first_in (IsMissing f.0.log) (texts_of h exhibits general) (stated t.order t.path general a) f.3)
   held (DepartingLog bytes p) f = (f.0, first_in (DepartsSomewhere h) (logs_of h exhibits general) f.0 f.2, f.1)
+  held (AcrossRuns x y) f = f
 
   holds_of : (claim : Claim) → IsFirstOfKind h exhibits general claim → Holds claim
   holds_of claim f = (held claim f, kind_holds h exhibits general claim ok all f)
@@ -237,11 +243,12 @@ module _ (h : RunHeader) (exhibits : List LogBytes) (general : ℕ) (ok : IsHead
   abbrev None : ℕ → Type 0
   None k = (claim : Claim) → kind_of claim ≡ k → Holds claim → ⊥
 
-  kinds : (claim : Claim) → (1 ≤ kind_of claim) × (kind_of claim ≤ 4)
+  kinds : (claim : Claim) → (1 ≤ kind_of claim) × (kind_of claim ≤ 5)
   kinds (TwoTexts x y) = (omega arith, omega arith)
   kinds (TwoOrders v a w b) = (omega arith, omega arith)
   kinds (MissingFromLog bytes t a) = (omega arith, omega arith)
   kinds (DepartingLog bytes p) = (omega arith, omega arith)
+  kinds (AcrossRuns x y) = (omega arith, omega arith)
 
   not_of : (k : ℕ) → None k → (other : Claim) → IsFirstOfKind h exhibits general other → kind_of other ≢ k
   not_of k none other f = λ e. none other e (holds_of other f)
@@ -291,6 +298,7 @@ module _ (h : RunHeader) (exhibits : List LogBytes) (general : ℕ) (ok : IsHead
       nothing n1 n2 n3 n4 (TwoOrders v a w b) s = n2 (TwoOrders v a w b) refl s
       nothing n1 n2 n3 n4 (MissingFromLog bytes t a) s = n3 (MissingFromLog bytes t a) refl s
       nothing n1 n2 n3 n4 (DepartingLog bytes p) s = n4 (DepartingLog bytes p) refl s
+      nothing n1 n2 n3 n4 (AcrossRuns x y) s = s.0
 
 pub given_where_held : GivenWhereHeld
 given_where_held h exhibits general ok all told = (

@@ -34,7 +34,7 @@ use Rattle.gen_log.specs.Writing.{LogBytes}
 use Rattle.gen_local.specs.SignedTexts as signed
 use Rattle.gen_local.specs.SignedTexts.{stated, texts_behind, text_under, head_in, is_right, text_verifies}
 use Rattle.gen_convict.specs.Accused.{IsTextOf, HasSignedText, AreDifferent, command}
-use Rattle.gen_convict.specs.Contradictions.{IsSealedLogOf, Claim, TwoTexts, TwoOrders, MissingFromLog, DepartingLog, IsContradiction}
+use Rattle.gen_convict.specs.Contradictions.{IsSealedLogOf, Claim, TwoTexts, TwoOrders, MissingFromLog, DepartingLog, AcrossRuns, IsContradiction}
 use Rattle.gen_convict.specs.Exhibits.{AllBytes, HeldLog, held, logs_in, log_texts, texts_in, is_by, texts_of, is_his, logs_of}
 use Rattle.gen_convict.specs.First.{AreOrders, IsMissing, LacksSome, DepartsSomewhere, IsFirstOfKind}
 use Rattle.gen_convict.specs.Firsts.{IsFirst, IsFirstPair}
@@ -113,7 +113,7 @@ under_his order path signature (Some last) t e c = elim (Contains_cases (stated 
   | inr k ↦ absurd (Contains_nil t k)
 ]
 
-entry_his : (e : Entry) (t : SignedText) → Contains (signed.texts_in e) t → IsHis t
+pub entry_his : (e : Entry) (t : SignedText) → Contains (signed.texts_in e) t → IsHis t
 entry_his (Start general own) t c = absurd (Contains_nil t c)
 entry_his (Sign order path signature) t c = under_his order path signature (slice_get path (length path - 1)) t refl c
 entry_his (Send to order path) t c = absurd (Contains_nil t c)
@@ -185,6 +185,7 @@ kind_holds h exhibits general (DepartingLog bytes p) ok all f =
     let c = first_in (DepartsSomewhere h) (logs_of h exhibits general) f.0 f.2 in
     let k = sealed h exhibits general bytes f.0 ok all f.1 c f.3.0 in
     record { log = f.0.log; his = k.1; departs = subst (λ (g : ℕ). DepartsAt h.network g (erased f.0.log.entries) p) k.0 f.3.1 }
+kind_holds h exhibits general (AcrossRuns x y) ok all f = absurd f
 
 pub first_holds : FirstHolds
 first_holds h exhibits general claim ok all f = kind_holds h exhibits general claim ok all f.first

@@ -27,7 +27,7 @@ use Rattle.gen_log.specs.Writing.{LogBytes}
 use Rattle.gen_local.specs.SignedTexts as signed
 use Rattle.gen_local.specs.SignedTexts.{stated, texts_behind, text_under, head_in, text_verifies}
 use Rattle.gen_convict.specs.Accused.{HasSignedText, AreDifferent, command}
-use Rattle.gen_convict.specs.Contradictions.{Claim, TwoTexts, TwoOrders, MissingFromLog, DepartingLog}
+use Rattle.gen_convict.specs.Contradictions.{Claim, TwoTexts, TwoOrders, MissingFromLog, DepartingLog, AcrossRuns}
 use Rattle.gen_convict.specs.Convictions.{AreShort, shown_in}
 use Rattle.gen_convict.specs.Evidence.{Accusation, IsSignature, IsTextFor, IsSignedTextFor, IsLogBytes, IsClaimFor, IsEvidence}
 use Rattle.gen_convict.specs.Exhibits.{AllBytes, HeldLog, is_by, is_his, texts_of, texts_in, logs_in, logs_of, log_texts}
@@ -83,7 +83,7 @@ count_is : (signers : List Signer) → length (signed_path signers) ≡ length s
 count_is [] = refl
 count_is (s ∷ signers) = omega (arith, count_is signers)
 
-entry_fits : (h : RunHeader) (e : Entry) (t : SignedText) → IsEntryOf h e → Contains (signed.texts_in e) t → Fits h t
+pub entry_fits : (h : RunHeader) (e : Entry) (t : SignedText) → IsEntryOf h e → Contains (signed.texts_in e) t → Fits h t
 entry_fits h (Start general own) t is c = absurd (Contains_nil t c)
 entry_fits h (Sign order path signature) t is c = under_fits h order path signature (slice_get path (length path - 1)) t is.0 is.1 c
 entry_fits h (Send to order path) t is c = absurd (Contains_nil t c)
@@ -110,7 +110,7 @@ first_length h general = length-sha256 _
 head_fits : (h : RunHeader) (general : ℕ) (log : RunLog) → IsLog h log → Fits h (head_in h general log)
 head_fits h general log is = (refl, is.count, link_length (first_link h general) log.entries (first_length h general))
 
-all_at : {X : Type 0} (P : X → Type 0) (xs : List X) → AllByRecursion P xs → (x : X) → Contains xs x → P x
+pub all_at : {X : Type 0} (P : X → Type 0) (xs : List X) → AllByRecursion P xs → (x : X) → Contains xs x → P x
 all_at P [] all x c = absurd (Contains_nil x c)
 all_at P (y ∷ ys) all x c = elim (Contains_cases y x ys c) [ inl e ↦ subst P e all.0 | inr k ↦ all_at P ys all.1 x k ]
 
@@ -130,7 +130,7 @@ wide : (h : RunHeader) (general : ℕ) (text : Text) (signature : List ℕ) → 
 wide h general (OfStatement s) signature stands = stands.1.siblings
 wide h general (OfHead head) signature stands = stands.siblings
 
-text_fits : (h : RunHeader) (exhibits : List LogBytes) (general : ℕ) (t : SignedText) → IsHeader h → AllBytes exhibits → Contains (texts_of h exhibits general) t → IsSignedTextFor h general t
+pub text_fits : (h : RunHeader) (exhibits : List LogBytes) (general : ℕ) (t : SignedText) → IsHeader h → AllBytes exhibits → Contains (texts_of h exhibits general) t → IsSignedTextFor h general t
 unfolding texts_of texts_in
 text_fits h exhibits general t ok all c =
     let v = texts_verify h exhibits general t ok all c in
@@ -146,7 +146,7 @@ text_fits h exhibits general t ok all c =
 
 -- ---- claims
 
-all_bytes : (h : RunHeader) (reports : List LocalReport) → AreOf h reports → AllBytes (shown_in reports)
+pub all_bytes : (h : RunHeader) (reports : List LocalReport) → AreOf h reports → AllBytes (shown_in reports)
 all_bytes h reports are x c = let f = shown_by reports x c in subst (λ (y : LogBytes). AreBelow 256 y.bytes) f.2 (are.bytes f.0 f.1)
   where
     shown_by : (reports : List LocalReport) (x : LogBytes) → Contains (shown_in reports) x → (r : LocalReport) × Contains reports r × (r.exhibit ≡ x)
@@ -196,6 +196,7 @@ module _ (h : RunHeader) (reports : List LocalReport) (ok : IsHeader h) (are : A
       let r = read_as made.0 c in
       let few : p < 2 ^ 32 = omega (arith, made.3.1.0, length_erased made.0.log.entries, log_longer made.0.log, ap length r.reads.spelled, b.1) in
       (subst IsLogBytes (sym made.1) b, few)
+  claim_lawful (AcrossRuns x y) made = absurd made
 
 pub found_lawful : (h : RunHeader) (reports : List LocalReport) → IsHeader h → AreOf h reports → AreShort (shown_in reports) → (x : Accusation) → (x.accused < h.network.generals) × IsFirstClaim h (shown_in reports) x.accused x.claim → IsEvidence h x
 found_lawful h reports ok are short x is = record { known = is.0; claim = claim_lawful h reports ok are short x.accused x.claim is.1.first }

@@ -12,7 +12,7 @@ use Rattle.gen_local.specs.Erased.{erased}
 use Rattle.gen_log.specs.Writing.{LogBytes}
 use Rattle.gen_local.specs.SignedTexts.{stated}
 use Rattle.gen_convict.specs.Accused.{AreDifferent, command}
-use Rattle.gen_convict.specs.Contradictions.{Claim, TwoTexts, TwoOrders, MissingFromLog, DepartingLog}
+use Rattle.gen_convict.specs.Contradictions.{Claim, TwoTexts, TwoOrders, MissingFromLog, DepartingLog, AcrossRuns}
 use Rattle.gen_convict.specs.Exhibits.{HeldLog, logs_of, texts_of}
 use Rattle.gen_convict.specs.First.{AreOrders, IsMissing, LacksSome, DepartsSomewhere, IsFirstOfKind, kind_of}
 use Rattle.gen_convict.specs.Firsts.{IsFirst}
@@ -96,6 +96,11 @@ of_kind h exhibits general (DepartingLog bytes n) (DepartingLog others m) k p q 
     let d = subst (λ (l : HeldLog). DepartsAt h.network l.general (erased l.log.entries) n) same p.3.1 in
     let o : n ≡ m = departs_once h.network q.0.general (erased q.0.log.entries) n m d q.3.1 in
     ap (λ x. DepartingLog x n) e ∙ ap (λ x. DepartingLog others x) o
+of_kind h exhibits general (TwoTexts x y) (AcrossRuns z u) k p q = absurd q
+of_kind h exhibits general (TwoOrders v a w b) (AcrossRuns z u) k p q = absurd q
+of_kind h exhibits general (MissingFromLog bytes s a) (AcrossRuns z u) k p q = absurd q
+of_kind h exhibits general (DepartingLog bytes n) (AcrossRuns z u) k p q = absurd q
+of_kind h exhibits general (AcrossRuns z u) f k p q = absurd p
 
 pub one_claim : OneClaim
 one_claim h exhibits general e f a b =

@@ -5,7 +5,7 @@ use Rattle.sha2.proofs.Facts256.{length-sha256}
 use Rattle.gen_types.proofs.Lists.{decide_some, Contains_here, Contains_there, Contains_cases, Contains_nil}
 use Rattle.gen_net.specs.Log.{Signed}
 use Rattle.gen_net.specs.Departs.{IsFollowersLog, DepartsAt}
-use Rattle.gen_net.specs.Header.{RunHeader, IsHeader}
+use Rattle.gen_net.specs.Header.{RunHeader, IsHeader, run_id_of}
 use Rattle.gen_chain.specs.declared.statements.Statement.{Statement}
 use Rattle.gen_chain.specs.declared.statements.HeadText.{HeadText}
 use Rattle.gen_log.specs.declared.entries.Entry.{Entry}
@@ -19,12 +19,19 @@ use Rattle.gen_local.specs.declared.texts.Text.{Text}
 use Rattle.gen_local.specs.declared.texts.Text.TheVariants.{OfStatement, OfHead}
 use Rattle.gen_local.specs.Erased.{erased}
 use Rattle.gen_local.specs.SignedTexts.{stated, head_in}
+use Rattle.gen_convict.specs.declared.run_texts.RunText.{RunText}
+use Rattle.gen_convict.specs.Across.{IsAcrossFrom}
+use Rattle.gen_convict.specs.AcrossAnswers.{HeadersCollide, run_id_text}
 use Rattle.gen_convict.specs.Accused.{TextVerifies, AreUnlike, command}
-use Rattle.gen_convict.specs.Contradictions.{IsSealedLogOf, Claim, TwoTexts, TwoOrders, MissingFromLog, DepartingLog}
-use Rattle.gen_convict.specs.Refuting.{IsOwnLog, HasText, IsHeadIn, IsTextIn, Refutation, Forged, Collision, IsRefutation}
+use Rattle.gen_convict.specs.Contradictions.{IsSealedLogOf, Claim, TwoTexts, TwoOrders, MissingFromLog, DepartingLog, AcrossRuns}
+use Rattle.gen_convict.specs.Refuting.{IsOwnLog, IsOwnLogOfOther, IsOwnLogFor, HasText, IsHeadIn, IsTextIn, Refutation, Forged, Collision, IsForged, IsForgedIn, IsRefutation, HasHeaders}
 use Rattle.gen_convict.specs.Laws.{LinksTell, Refutes}
 use Rattle.gen_convict.proofs.Followers.{one_statement, one_order, nowhere}
 use Rattle.gen_convict.proofs.Linked.{same_or_not}
+
+-- of this claim each text that is forged answers
+abbrev Answers : RunHeader → ℕ → Claim → RunLog → Type 0
+Answers h g claim own = (text : SignedText) → IsForged h g claim own text → IsForgedIn h g claim own text
 
 abbrev Answered : RunHeader → ℕ → Claim → RunLog → Type 0
 Answered h accused claim own = (answer : Refutation) × IsRefutation h accused claim own answer
@@ -144,10 +151,10 @@ not_both_orders h g own e l v w differ hv hw =
     differ (one_order h.network (erased own.entries) commands v w (0 ∷ []) (0 ∷ []) (signed own (record { order = v; path = 0 ∷ [] }) hv) (signed own (record { order = w; path = 0 ∷ [] }) hw))
 
 -- of two texts that the log can't have both of one is forged
-one_forged : (h : RunHeader) (g : ℕ) (claim : Claim) (own : RunLog) (x y : SignedText) → IsTextIn h g claim x → IsTextIn h g claim y → TextVerifies h g x → TextVerifies h g y → (HasText h g own x.text → HasText h g own y.text → ⊥) → Answered h g claim own
-one_forged h g claim own x y in_x in_y vx vy apart = elim (has_or_not h g own x.text) [
-  | inr none ↦ (Forged x, record { inside = in_x; verifies = vx; absent = none })
-  | inl has ↦ (Forged y, record { inside = in_y; verifies = vy; absent = apart has })
+one_forged : (h : RunHeader) (g : ℕ) (claim : Claim) (own : RunLog) (x y : SignedText) → IsTextIn h g claim x → IsTextIn h g claim y → TextVerifies h g x → TextVerifies h g y → (HasText h g own x.text → HasText h g own y.text → ⊥) → Answers h g claim own → Answered h g claim own
+one_forged h g claim own x y in_x in_y vx vy apart wrap = elim (has_or_not h g own x.text) [
+  | inr none ↦ (Forged x, wrap x (record { inside = in_x; verifies = vx; absent = none }))
+  | inl has ↦ (Forged y, wrap y (record { inside = in_y; verifies = vy; absent = apart has }))
 ]
 
 -- ---- another log with a head that verifies
@@ -161,16 +168,16 @@ pub apart_departing : (h : RunHeader) (g : ℕ) (own log : RunLog) (p : ℕ) →
 apart_departing h g own log p l departs =
     λ e. nowhere h.network g (erased own.entries) p l (subst (λ (es : List Entry). DepartsAt h.network g (erased es) p) e departs)
 
-other_log : LinksTell → (h : RunHeader) (g : ℕ) (claim : Claim) (own : RunLog) (bytes : List ℕ) (log : RunLog) → IsHeader h → IsOwnLog h g own → IsSealedLogOf h g bytes log → (log.entries ≢ own.entries) → ((text : SignedText) → IsHeadIn h g bytes text → IsTextIn h g claim text) → Answered h g claim own
+other_log : LinksTell → (h : RunHeader) (g : ℕ) (claim : Claim) (own : RunLog) (bytes : List ℕ) (log : RunLog) → IsHeader h → IsOwnLog h g own → IsSealedLogOf h g bytes log → (log.entries ≢ own.entries) → ((text : SignedText) → IsHeadIn h g bytes text → IsTextIn h g claim text) → Answers h g claim own → Answered h g claim own
 unfolding first_link
-other_log tell h g claim own bytes log ok is_own sealed differ inside = elim (head_or_not (head_over h g log.entries) (head_over h g own.entries)) [
+other_log tell h g claim own bytes log ok is_own sealed differ inside wrap = elim (head_or_not (head_over h g log.entries) (head_over h g own.entries)) [
   | inr ne ↦ (
     Forged (head_in h g log),
-    record {
+    wrap (head_in h g log) (record {
       inside = inside (head_in h g log) (log, sealed.reads, refl);
       verifies = record { signer = refl; his = refl; stands = sealed.sealed };
       absent = ne;
-    },
+    }),
   )
   | inl same ↦
       let len : length log.entries ≡ length own.entries = ap (λ (x : HeadText). x.entries) same in
@@ -181,15 +188,33 @@ other_log tell h g claim own bytes log ok is_own sealed differ inside = elim (he
       ]
 ]
 
-pub refutes : LinksTell → Refutes
-refutes tell h accused (TwoTexts first second) own ok holds is_own =
-    one_forged h accused (TwoTexts first second) own first second (inl refl) (inr refl) holds.one holds.other (not_both h accused own is_own.followed first.text second.text holds.different)
-refutes tell h accused (TwoOrders v a w b) own ok holds is_own =
-    one_forged h accused (TwoOrders v a w b) own (command v a) (command w b) (inl refl) (inr refl) holds.one holds.other
-    (not_both_orders h accused own holds.commander is_own.followed v w holds.different)
-refutes tell h accused (MissingFromLog bytes statement signature) own ok holds is_own = elim (has_sign_or_not own statement) [
-  | inr none ↦ (Forged (stated statement.order statement.path accused signature), record { inside = inl refl; verifies = holds.verifies; absent = none })
-  | inl has ↦ other_log tell h accused (MissingFromLog bytes statement signature) own bytes holds.log ok is_own holds.his (apart_missing own holds.log statement has holds.missing) (λ text i. inr i)
+-- two texts of two runs are answered by the one of the run that the log isn't of, or by the headers
+across : HeadersCollide → (h : RunHeader) (g : ℕ) (x y : RunText) (own : RunLog) → HasHeaders (AcrossRuns x y) → IsAcrossFrom h g x y → Answered h g (AcrossRuns x y) own
+across collide h g x y own headers holds = elim (same_or_not (run_id_of x.header) (run_id_of y.header)) [
+  | inl same ↦ (Collision (run_id_text x.header) (run_id_text y.header), collide x.header y.header headers.0 headers.1 holds.across.rivals.runs.unequal same)
+  | inr differ ↦ elim (same_or_not own.run_id (run_id_of x.header)) [
+    | inr other ↦ (Forged x.text, inl (record { is = refl; verifies = holds.across.one; other = other }))
+    | inl of_first ↦ (Forged y.text, inr (record { is = refl; verifies = holds.across.other; other = λ e. differ (sym of_first ∙ e) }))
+  ]
 ]
-refutes tell h accused (DepartingLog bytes p) own ok holds is_own =
-    other_log tell h accused (DepartingLog bytes p) own bytes holds.log ok is_own holds.his (apart_departing h accused own holds.log p is_own.followed holds.departs) (λ text i. i)
+
+-- of a claim by one run the log is of this run
+pub of_this_run : (h : RunHeader) (g : ℕ) (own : RunLog) (claim : Claim) → (IsOwnLogOfOther g claim own → ⊥) → IsOwnLogFor h g claim own → IsOwnLog h g own
+of_this_run h g own claim none is = elim is [ inl one ↦ one | inr other ↦ absurd (none other) ]
+
+pub refutes : LinksTell → HeadersCollide → Refutes
+refutes tell collide h accused (TwoTexts first second) own ok headers holds log =
+    let is_own = of_this_run h accused own (TwoTexts first second) (λ n. n) log in
+    one_forged h accused (TwoTexts first second) own first second (inl refl) (inr refl) holds.one holds.other (not_both h accused own is_own.followed first.text second.text holds.different) (λ t f. f)
+refutes tell collide h accused (TwoOrders v a w b) own ok headers holds log =
+    let is_own = of_this_run h accused own (TwoOrders v a w b) (λ n. n) log in
+    one_forged h accused (TwoOrders v a w b) own (command v a) (command w b) (inl refl) (inr refl) holds.one holds.other
+    (not_both_orders h accused own holds.commander is_own.followed v w holds.different) (λ t f. f)
+refutes tell collide h accused (MissingFromLog bytes statement signature) own ok headers holds log = let is_own = of_this_run h accused own (MissingFromLog bytes statement signature) (λ n. n) log in elim (has_sign_or_not own statement) [
+  | inr none ↦ (Forged (stated statement.order statement.path accused signature), record { inside = inl refl; verifies = holds.verifies; absent = none })
+  | inl has ↦ other_log tell h accused (MissingFromLog bytes statement signature) own bytes holds.log ok is_own holds.his (apart_missing own holds.log statement has holds.missing) (λ text i. inr i) (λ t f. f)
+]
+refutes tell collide h accused (DepartingLog bytes p) own ok headers holds log =
+    let is_own = of_this_run h accused own (DepartingLog bytes p) (λ n. n) log in
+    other_log tell h accused (DepartingLog bytes p) own bytes holds.log ok is_own holds.his (apart_departing h accused own holds.log p is_own.followed holds.departs) (λ text i. i) (λ t f. f)
+refutes tell collide h accused (AcrossRuns x y) own ok headers holds log = across collide h accused x y own headers holds

@@ -8,9 +8,10 @@ use Rattle.gen_net.specs.Network.{Network}
 use Rattle.gen_chain.specs.declared.statements.Statement.{Statement}
 use Rattle.gen_convict.specs.declared.evidence_fault.EvidenceFault.{EvidenceFault}
 use Rattle.gen_convict.specs.declared.evidence_fault.EvidenceFault.TheVariants as faults
-use Rattle.gen_convict.specs.Contradictions.{Claim, TwoTexts, TwoOrders, MissingFromLog, DepartingLog}
-use Rattle.gen_convict.specs.EvidenceFields.{order_at, statement_at, signature_at, signed_at, log_at}
+use Rattle.gen_convict.specs.Contradictions.{Claim, TwoTexts, TwoOrders, MissingFromLog, DepartingLog, AcrossRuns}
+use Rattle.gen_convict.specs.EvidenceFields.{order_at, statement_at, signature_at, signed_at, log_at, second_header_at}
 use Rattle.gen_convict.specs.EvidenceSpelling.{statement_kind}
+use Rattle.gen_convict.specs.SharedLeaves.{is_two, share_leaves}
 
 -- two texts of the accused
 unfoldable pub two_texts_at : RunHeader → ℕ → List ℕ → Result (Claim × List ℕ) EvidenceFault
@@ -53,6 +54,16 @@ departing_at bytes = do
   entry ← number_at faults.Truncated w32 log.1
   Ok (DepartingLog log.0 entry.0, entry.1)
 
+-- the header of another run, which uses the same leaves, and a text of each run; under a header of version 2 alone
+unfoldable pub across_at : RunHeader → ℕ → List ℕ → Result (Claim × List ℕ) EvidenceFault
+across_at h accused bytes = do
+  lawful ← check (is_two h.version) faults.OutOfRange
+  other ← second_header_at bytes
+  shared ← check (share_leaves h other.0) faults.OtherLeaves
+  first ← signed_at h accused other.1
+  second ← signed_at other.0 accused first.1
+  Ok (AcrossRuns (record { header = h; text = first.0 }) (record { header = other.0; text = second.0 }), second.1)
+
 -- the claim of the kind that a byte names
 unfoldable pub claim_of_kind : RunHeader → ℕ → ℕ → List ℕ → Result (Claim × List ℕ) EvidenceFault
 claim_of_kind h accused kind bytes =
@@ -60,7 +71,8 @@ claim_of_kind h accused kind bytes =
     else (if kind == 2 then two_orders_at h bytes
     else (if kind == 3 then missing_at h bytes
     else (if kind == 4 then departing_at bytes
-    else Err faults.OutOfRange)))
+    else (if kind == 5 then across_at h accused bytes
+    else Err faults.OutOfRange))))
 
 unfoldable pub claim_at : RunHeader → ℕ → List ℕ → Result (Claim × List ℕ) EvidenceFault
 claim_at h accused bytes = do

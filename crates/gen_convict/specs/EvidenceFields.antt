@@ -4,7 +4,11 @@ use Rattle.std.specs.Int.{w32, w64}
 use Rattle.gen_types.specs.Reading.{◌>>=◌, map_fault}
 use Rattle.gen_types.specs.Bytes.{byte_at, bytes_at, number_at}
 use Rattle.gen_tree.specs.Sizes.{signature_length}
+use Rattle.gen_net.specs.declared.marks.FrontFault.{FrontFault}
+use Rattle.gen_net.specs.declared.marks.FrontFault.TheVariants as fronts
+use Rattle.gen_net.specs.FrontReading.{header_behind}
 use Rattle.gen_net.specs.Header.{RunHeader, height_of}
+use Rattle.gen_net.specs.Version.{version_two}
 use Rattle.gen_net.specs.Network.{Network}
 use Rattle.gen_chain.specs.declared.statements.Statement.{Statement}
 use Rattle.gen_chain.specs.declared.statements.HeadText.{HeadText}
@@ -81,3 +85,13 @@ unfoldable pub log_at : List ℕ → Result (List ℕ × List ℕ) EvidenceFault
 log_at bytes = do
   size ← number_at faults.Truncated w32 bytes
   bytes_at faults.Truncated size.0 size.1
+
+-- a fault of the mark and the header as one of evidence
+abbrev pub front_fault : FrontFault → EvidenceFault
+front_fault fronts.Truncated = faults.Truncated
+front_fault fronts.UnknownMark = faults.UnknownMark
+front_fault (fronts.BadHeader rule) = faults.BadHeader rule
+
+-- the header of another run, which is of version 2
+unfoldable pub second_header_at : List ℕ → Result (RunHeader × List ℕ) EvidenceFault
+second_header_at bytes = map_fault front_fault (header_behind version_two bytes)

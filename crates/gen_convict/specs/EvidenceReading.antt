@@ -2,14 +2,13 @@
 use Rattle.std.specs.Prelude.{ℕ, ◌==◌, List, length, Result, Ok, nat_lt}
 use Rattle.gen_types.specs.Reading.{◌>>=◌, check, map_fault}
 use Rattle.gen_types.specs.Bytes.{byte_at}
-use Rattle.gen_net.specs.declared.marks.FrontFault.{FrontFault}
-use Rattle.gen_net.specs.declared.marks.FrontFault.TheVariants as fronts
 use Rattle.gen_net.specs.FrontReading.{front_at}
 use Rattle.gen_net.specs.Header.{RunHeader, IsHeader}
 use Rattle.gen_convict.specs.declared.evidence_fault.EvidenceFault.{EvidenceFault}
 use Rattle.gen_convict.specs.declared.evidence_fault.EvidenceFault.TheVariants as faults
 use Rattle.gen_convict.specs.ClaimReading.{claim_at}
 use Rattle.gen_convict.specs.Evidence.{Accusation, IsEvidence}
+use Rattle.gen_convict.specs.EvidenceFields.{front_fault}
 use Rattle.gen_convict.specs.EvidenceSpelling.{HeaderAndEvidence, evidence_marks}
 
 -- what evidence in bytes keeps: its header is one, and the evidence can stand under it
@@ -28,12 +27,6 @@ accusation_at h bytes = do
   accused ← accused_at h.network.generals bytes
   claim ← claim_at h accused.0 accused.1
   Ok (record { accused = accused.0; claim = claim.0 }, claim.1)
-
--- a fault of the mark and the header as one of evidence
-abbrev pub front_fault : FrontFault → EvidenceFault
-front_fault fronts.Truncated = faults.Truncated
-front_fault fronts.UnknownMark = faults.UnknownMark
-front_fault (fronts.BadHeader rule) = faults.BadHeader rule
 
 -- the mark and the header, the evidence under it, and the bytes after it
 unfoldable pub evidence_at : List ℕ → Result (HeaderAndEvidence × List ℕ) EvidenceFault

@@ -12,7 +12,7 @@ use Rattle.gen_local.specs.Erased.{erased}
 use Rattle.gen_log.specs.Writing.{LogBytes}
 use Rattle.gen_local.specs.SignedTexts.{stated}
 use Rattle.gen_convict.specs.Accused.{AreDifferent, command}
-use Rattle.gen_convict.specs.Contradictions.{Claim, TwoTexts, TwoOrders, MissingFromLog, DepartingLog}
+use Rattle.gen_convict.specs.Contradictions.{Claim, TwoTexts, TwoOrders, MissingFromLog, DepartingLog, AcrossRuns}
 use Rattle.gen_convict.specs.Exhibits.{HeldLog, texts_of, logs_of}
 use Rattle.gen_convict.specs.Firsts.{IsFirst, IsFirstPair}
 
@@ -47,7 +47,7 @@ IsDeparting h l p =
 abbrev pub DepartsSomewhere : RunHeader → HeldLog → Type 0
 DepartsSomewhere h l = (p : ℕ) × IsDeparting h l p
 
--- the claim is the first of its kind that the exhibits hold against the general
+-- the claim is the first of its kind that the exhibits of one run hold against the general
 abbrev pub IsFirstOfKind : RunHeader → List LogBytes → ℕ → Claim → Type 0
 IsFirstOfKind h exhibits general (TwoTexts first second) =
     IsFirstPair AreDifferent (texts_of h exhibits general) first second
@@ -60,6 +60,7 @@ IsFirstOfKind h exhibits general (MissingFromLog bytes s signature) =
 IsFirstOfKind h exhibits general (DepartingLog bytes p) =
     (l : HeldLog) × (bytes ≡ l.bytes)
     × IsFirst (DepartsSomewhere h) (logs_of h exhibits general) l × IsDeparting h l p
+IsFirstOfKind h exhibits general (AcrossRuns x y) = ⊥
 
 -- the number of a kind
 abbrev pub kind_of : Claim → ℕ
@@ -67,6 +68,7 @@ kind_of (TwoTexts first second) = 1
 kind_of (TwoOrders v a w b) = 2
 kind_of (MissingFromLog bytes s signature) = 3
 kind_of (DepartingLog bytes p) = 4
+kind_of (AcrossRuns x y) = 5
 
 -- the claim is the one that is made: the first of its kind, and no other kind that the exhibits hold is less
 pub record IsFirstClaim (h : RunHeader) (exhibits : List LogBytes) (general : ℕ) (claim : Claim)

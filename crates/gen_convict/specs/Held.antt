@@ -4,7 +4,7 @@ use Rattle.gen_net.specs.Header.{RunHeader}
 use Rattle.gen_log.specs.Writing.{LogBytes}
 use Rattle.gen_local.specs.SignedTexts.{stated}
 use Rattle.gen_convict.specs.Accused.{command}
-use Rattle.gen_convict.specs.Contradictions.{Claim, TwoTexts, TwoOrders, MissingFromLog, DepartingLog, IsContradiction}
+use Rattle.gen_convict.specs.Contradictions.{Claim, TwoTexts, TwoOrders, MissingFromLog, DepartingLog, AcrossRuns, IsContradiction}
 use Rattle.gen_convict.specs.Exhibits.{HeldLog, texts_of, logs_of}
 
 -- the bytes are those of one of the logs that the exhibits hold for the general
@@ -22,6 +22,7 @@ AreHeld h exhibits general (MissingFromLog bytes s signature) =
     HoldLog h exhibits general bytes
     × Contains (texts_of h exhibits general) (stated s.order s.path general signature)
 AreHeld h exhibits general (DepartingLog bytes p) = HoldLog h exhibits general bytes
+AreHeld h exhibits general (AcrossRuns x y) = ⊥
 
 -- the exhibits hold a contradiction of the general
 abbrev pub HoldContradiction : RunHeader → List LogBytes → ℕ → Type 0

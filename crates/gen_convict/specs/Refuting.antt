@@ -3,7 +3,7 @@ use Rattle.std.specs.Prelude.{ℕ, ◌≡◌, ◌≢◌, ◌⊎◌, List, ◌∷
 use Rattle.sha2.specs.Sha256.{sha256}
 use Rattle.gen_types.specs.Spelled.{Spells}
 use Rattle.gen_net.specs.Departs.{IsFollowersLog}
-use Rattle.gen_net.specs.Header.{RunHeader, run_id_of}
+use Rattle.gen_net.specs.Header.{RunHeader, IsHeader, run_id_of}
 use Rattle.gen_log.specs.declared.entries.Entry.{Entry}
 use Rattle.gen_log.specs.Entry.{entry_spelling}
 use Rattle.gen_log.specs.Links.{link_prefix, head_over, HeadVerifies}
@@ -15,7 +15,8 @@ use Rattle.gen_local.specs.declared.texts.Text.TheVariants.{OfStatement, OfHead}
 use Rattle.gen_local.specs.Erased.{erased}
 use Rattle.gen_local.specs.SignedTexts.{stated, head_in}
 use Rattle.gen_convict.specs.Accused.{TextVerifies, command}
-use Rattle.gen_convict.specs.Contradictions.{Claim, TwoTexts, TwoOrders, MissingFromLog, DepartingLog}
+use Rattle.gen_convict.specs.Across.{IsOfOtherRun}
+use Rattle.gen_convict.specs.Contradictions.{Claim, TwoTexts, TwoOrders, MissingFromLog, DepartingLog, AcrossRuns}
 
 -- a log of this run that the general could have kept by following, whose head verifies
 pub record IsOwnLog (h : RunHeader) (general : ℕ) (own : RunLog) : Type 0 where
@@ -34,13 +35,14 @@ abbrev pub IsHeadIn : RunHeader → ℕ → List ℕ → SignedText → Type 0
 IsHeadIn h general bytes text =
     (log : RunLog) × Spells (IsLog h) log_spelling bytes log × (text ≡ head_in h general log)
 
--- the text is one of those that the claim has
+-- the text is one of those of the run that the claim has
 abbrev pub IsTextIn : RunHeader → ℕ → Claim → SignedText → Type 0
 IsTextIn h accused (TwoTexts first second) text = (text ≡ first) ⊎ (text ≡ second)
 IsTextIn h accused (TwoOrders v a w b) text = (text ≡ command v a) ⊎ (text ≡ command w b)
 IsTextIn h accused (MissingFromLog bytes s signature) text =
     (text ≡ stated s.order s.path accused signature) ⊎ IsHeadIn h accused bytes text
 IsTextIn h accused (DepartingLog bytes p) text = IsHeadIn h accused bytes text
+IsTextIn h accused (AcrossRuns x y) text = (text ≡ x.text)
 
 -- an answer to a claim: a text, or two strings of bytes
 pub data Refutation : Type 0 where
@@ -54,15 +56,45 @@ pub record IsForged (h : RunHeader) (accused : ℕ) (claim : Claim) (own : RunLo
   pub verifies : TextVerifies h accused text
   pub absent : HasText h accused own text.text → ⊥
 
+-- of a claim by two runs, the text is that of the run that his own log isn't of
+abbrev pub IsForgedIn : RunHeader → ℕ → Claim → RunLog → SignedText → Type 0
+IsForgedIn h accused (TwoTexts x y) own text = IsForged h accused (TwoTexts x y) own text
+IsForgedIn h accused (TwoOrders v a w b) own text = IsForged h accused (TwoOrders v a w b) own text
+IsForgedIn h accused (MissingFromLog bytes s signature) own text =
+    IsForged h accused (MissingFromLog bytes s signature) own text
+IsForgedIn h accused (DepartingLog bytes p) own text = IsForged h accused (DepartingLog bytes p) own text
+IsForgedIn h accused (AcrossRuns x y) own text =
+    IsOfOtherRun accused x own text ⊎ IsOfOtherRun accused y own text
+
 -- the two strings differ and have one hash
 abbrev pub AreColliding : List ℕ → List ℕ → Type 0
 AreColliding a b = (a ≢ b) × (sha256 a ≡ sha256 b)
 
 -- a text is forged, or two strings collide
 abbrev pub IsRefutation : RunHeader → ℕ → Claim → RunLog → Refutation → Type 0
-IsRefutation h accused claim own (Forged text) = IsForged h accused claim own text
+IsRefutation h accused claim own (Forged text) = IsForgedIn h accused claim own text
 IsRefutation h accused claim own (Collision a b) = AreColliding a b
 
 -- what is hashed for the link behind an entry
 abbrev pub link_text : List ℕ → Entry → List ℕ
 link_text link e = link_prefix ∷ (link ++ entry_spelling e)
+
+-- a claim by two runs has another run than that of the evidence, and the log is of this one
+abbrev pub IsOwnLogOfOther : ℕ → Claim → RunLog → Type 0
+IsOwnLogOfOther accused (TwoTexts x y) own = ⊥
+IsOwnLogOfOther accused (TwoOrders v a w b) own = ⊥
+IsOwnLogOfOther accused (MissingFromLog bytes s signature) own = ⊥
+IsOwnLogOfOther accused (DepartingLog bytes p) own = ⊥
+IsOwnLogOfOther accused (AcrossRuns x y) own = IsOwnLog y.header accused own
+
+-- the log that answers a claim is of the run of the evidence, or of the other run of a claim by two
+abbrev pub IsOwnLogFor : RunHeader → ℕ → Claim → RunLog → Type 0
+IsOwnLogFor h accused claim own = IsOwnLog h accused own ⊎ IsOwnLogOfOther accused claim own
+
+-- the headers in a claim are headers
+abbrev pub HasHeaders : Claim → Type 0
+HasHeaders (TwoTexts x y) = Unit {0}
+HasHeaders (TwoOrders v a w b) = Unit {0}
+HasHeaders (MissingFromLog bytes s signature) = Unit {0}
+HasHeaders (DepartingLog bytes p) = Unit {0}
+HasHeaders (AcrossRuns x y) = IsHeader x.header × IsHeader y.header

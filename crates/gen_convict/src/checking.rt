@@ -12,6 +12,7 @@ ghost use Rattle.gen_convict.specs.Accused as accused_texts;
 ghost use Rattle.gen_convict.specs.Contradictions.{AreTwoTexts, AreTwoOrders, IsSealedLogOf, IsMissingFrom, IsDepartingAt, IsContradiction};
 ghost use Rattle.gen_convict.specs.Told.{told};
 
+use crate::across_checking::is_across_from;
 use crate::claims::Claim;
 use crate::evidence::Evidence;
 use gen_chain::{Statement, has_signed, head_digest, leaf_of_head};
@@ -54,8 +55,8 @@ fn has_signed_text(header: &Header, general: GeneralNo, text: &Text, signature: 
     }
 }
 
-/// Whether a text verifies as the general's.
-fn text_verifies(header: &Header, general: GeneralNo, text: &SignedText) -> bool
+/// Returns whether a text verifies as the general's.
+pub fn text_verifies(header: &Header, general: GeneralNo, text: &SignedText) -> bool
     requires { general < header.now.network.generals }
     ensures { IsTrue result ↔ accused_texts.TextVerifies header.now general text.now }
 {
@@ -306,6 +307,7 @@ fn check_claim(
         Claim::Departing { log, entry } => {
             is_departing_at(alloc, header, accused, log.as_slice(), *entry)
         }
+        Claim::Across { first, second } => Ok(is_across_from(header, accused, first, second)),
     }
 }
 

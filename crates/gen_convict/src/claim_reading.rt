@@ -8,9 +8,12 @@ ghost use Rattle.gen_convict.specs.Told.{told};
 use crate::claims::Claim;
 use crate::evidence_fault::EvidenceFault;
 use crate::evidence_fields::{
-    DEPARTING_KIND, MISSING_KIND, ORDERS_KIND, STATEMENT_KIND, TEXTS_KIND, read_log_bytes,
-    read_order_field, read_signature, read_signed, read_statement,
+    ACROSS_KIND, DEPARTING_KIND, MISSING_KIND, ORDERS_KIND, STATEMENT_KIND, TEXTS_KIND,
+    read_log_bytes, read_order_field, read_second_header, read_signature, read_signed,
+    read_statement,
 };
+use crate::run_texts::RunText;
+use crate::shared_leaves::{is_two, share_leaves};
 use gen_chain::Statement;
 use gen_net::{Header, Net};
 use gen_tree::Signature;
@@ -115,6 +118,33 @@ fn read_departing(alloc: Global, bytes: &[u8]) -> Result<(Claim, &[u8]), ReadErr
     Ok((Claim::Departing { log, entry }, rest))
 }
 
+/// A header of another run that uses the same leaves, and a text of each run.
+#[tactic(auto, unfolding(crate::specs::ClaimReading::across_at))]
+fn read_across<'a>(
+    alloc: Global,
+    bytes: &'a [u8],
+    header: &Header,
+    accused: GeneralNo,
+) -> Result<(Claim, &'a [u8]), ReadError<EvidenceFault>>
+    ensures { Gives (λ x. (told x.0, x.1.now)) result
+        (reading.across_at header.now accused bytes.now) }
+{
+    check(is_two(header.version()), EvidenceFault::OutOfRange)?;
+    let (other, rest) = read_second_header(alloc, bytes)?;
+    check(share_leaves(header, &other), EvidenceFault::OtherLeaves)?;
+    let (text, rest) = read_signed(alloc, rest, header, accused)?;
+    let (other_text, rest) = read_signed(alloc, rest, &other, accused)?;
+    let first = RunText {
+        header: header.clone()?,
+        text,
+    };
+    let second = RunText {
+        header: other,
+        text: other_text,
+    };
+    Ok((Claim::Across { first, second }, rest))
+}
+
 /// The claim of the kind that a byte names.
 #[tactic(auto, unfolding(crate::specs::ClaimReading::claim_of_kind))]
 fn read_claim_of_kind<'a>(
@@ -135,6 +165,8 @@ fn read_claim_of_kind<'a>(
         read_missing(alloc, bytes, header)
     } else if kind == DEPARTING_KIND {
         read_departing(alloc, bytes)
+    } else if kind == ACROSS_KIND {
+        read_across(alloc, bytes, header, accused)
     } else {
         Err(ReadError::Fault(EvidenceFault::OutOfRange))
     }

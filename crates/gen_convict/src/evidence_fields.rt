@@ -8,7 +8,7 @@ use crate::evidence_fault::EvidenceFault;
 use gen_chain::{HeadText, Statement};
 use gen_local::{SignedText, Text};
 use gen_log::{LogFault, read_order, read_path};
-use gen_net::{Header, Net};
+use gen_net::{FrontFault, Header, Net, VERSION_TWO, read_header_of};
 use gen_ots::SigRoom;
 use gen_tree::Signature;
 use gen_tree::sizes::signature_bytes;
@@ -26,6 +26,9 @@ pub const MISSING_KIND: u8 = 3;
 
 /// The kind of a claim by a log that departs.
 pub const DEPARTING_KIND: u8 = 4;
+
+/// The kind of a claim by two texts of two runs.
+pub const ACROSS_KIND: u8 = 5;
 
 /// The byte before a statement.
 pub const STATEMENT_KIND: u8 = 1;
@@ -221,4 +224,30 @@ pub fn read_log_bytes(
     let (size, rest) = u32_at(bytes, EvidenceFault::Truncated)?;
     let (log, rest) = bytes_at(rest, size as usize, EvidenceFault::Truncated)?;
     Ok((Vec::from_slice(alloc, log)?, rest))
+}
+
+/// Returns a fault of the mark and the header as one of evidence.
+pub fn front_fault(fault: FrontFault) -> EvidenceFault
+    ensures { result ≡ field.front_fault fault }
+{
+    match fault {
+        FrontFault::Truncated => EvidenceFault::Truncated,
+        FrontFault::UnknownMark => EvidenceFault::UnknownMark,
+        FrontFault::BadHeader(rule) => EvidenceFault::BadHeader(rule),
+    }
+}
+
+/// The header of another run, which is of version 2, and the bytes after it.
+#[tactic(auto, unfolding(crate::specs::EvidenceFields::second_header_at))]
+pub fn read_second_header(
+    alloc: Global,
+    bytes: &[u8],
+) -> Result<(Header, &[u8]), ReadError<EvidenceFault>>
+    ensures { IsField result (field.second_header_at bytes.now) }
+{
+    match read_header_of(alloc, VERSION_TWO, bytes) {
+        Ok(header) => Ok(header),
+        Err(ReadError::Memory) => Err(ReadError::Memory),
+        Err(ReadError::Fault(fault)) => Err(ReadError::Fault(front_fault(fault))),
+    }
 }

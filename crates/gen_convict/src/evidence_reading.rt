@@ -4,6 +4,7 @@ ghost use Rattle.gen_types.specs.Reading.{Gives, map_fault};
 ghost use Rattle.gen_types.specs.Spelled.{IsField, Spells};
 ghost use Rattle.gen_net.specs.FrontReading.{front_at};
 ghost use Rattle.gen_convict.specs.Evidence.{told_of};
+ghost use Rattle.gen_convict.specs.EvidenceFields.{front_fault};
 ghost use Rattle.gen_convict.specs.EvidenceReading as reading;
 ghost use Rattle.gen_convict.specs.EvidenceReading.{IsWhole, evidence_at, whole_evidence};
 ghost use Rattle.gen_convict.specs.EvidenceSpelling.{HeaderAndEvidence, evidence_marks, whole_spelling};
@@ -11,7 +12,8 @@ ghost use Rattle.gen_convict.specs.EvidenceSpelling.{HeaderAndEvidence, evidence
 use crate::claim_reading::read_claim;
 use crate::evidence::Evidence;
 use crate::evidence_fault::EvidenceFault;
-use gen_net::{FrontFault, Header, Marks, read_front};
+use crate::evidence_fields::front_fault;
+use gen_net::{Header, Marks, read_front};
 use gen_types::{GeneralNo, ReadError, check, u8_at};
 use std::alloc::Global;
 
@@ -21,23 +23,12 @@ pub const EVIDENCE_MARKS: Marks = Marks {
     two: 0x534d_4532,
 };
 
-/// A fault of the mark and the header as one of evidence.
-fn front_fault(fault: FrontFault) -> EvidenceFault
-    ensures { result ≡ reading.front_fault fault }
-{
-    match fault {
-        FrontFault::Truncated => EvidenceFault::Truncated,
-        FrontFault::UnknownMark => EvidenceFault::UnknownMark,
-        FrontFault::BadHeader(rule) => EvidenceFault::BadHeader(rule),
-    }
-}
-
 /// The mark and the header.
 fn read_front_field(
     alloc: Global,
     bytes: &[u8],
 ) -> Result<(Header, &[u8]), ReadError<EvidenceFault>>
-    ensures { IsField result (map_fault reading.front_fault (front_at evidence_marks bytes.now)) }
+    ensures { IsField result (map_fault front_fault (front_at evidence_marks bytes.now)) }
 {
     match read_front(alloc, EVIDENCE_MARKS, bytes) {
         Ok(header) => Ok(header),
@@ -103,11 +94,11 @@ fn evidence_alone(
 }
 
 /// Returns the header and the evidence that all the bytes are: four bytes `SME1` or `SME2` and a header of
-/// version 1 or 2; the accused, and the kind of the claim, 1 to 4; then two texts, each with its signature; or two
+/// version 1 or 2; the accused, and the kind of the claim, 1 to 5; then two texts, each with its signature; or two
 /// orders, each with the signature of the commander's statement; or the length of a log in four bytes, the log,
-/// and a statement with its signature; or such a log, and the number of an entry in four bytes. A text is 1, an
-/// order, the length of a path and the path; or 2, a number of entries in eight bytes and a last link. The bytes of
-/// a log are not read.
+/// and a statement with its signature; or such a log, and the number of an entry in four bytes; or, in version 2
+/// alone, the header of another run, and a text of each run. A text is 1, an order, the length of a path and the
+/// path; or 2, a number of entries in eight bytes and a last link. The bytes of a log are not read.
 ///
 /// # Errors
 ///

@@ -1,5 +1,6 @@
 //! Writing evidence.
 ghost use Rattle.std.specs.Prelude.{◌≡◌, ◌<◌, ◌^◌, ◌∷◌, ◌++◌, length, IfOk, OnOk};
+ghost use Rattle.gen_net.specs.Header.{header_spelling};
 ghost use Rattle.gen_convict.specs.Evidence.{IsEvidence, HasShortLog, told_of};
 ghost use Rattle.gen_convict.specs.EvidenceSpelling as spelling;
 ghost use Rattle.gen_convict.specs.EvidenceSpelling.{text_spelling, signed_spelling, shown_spelling, claim_spelling};
@@ -13,7 +14,7 @@ use crate::evidence_reading::EVIDENCE_MARKS;
 use gen_chain::{HeadText, Statement};
 use gen_local::{SignedText, Text};
 use gen_log::put_path;
-use gen_net::{Header, front_bytes};
+use gen_net::{Header, front_bytes, header_bytes};
 use gen_tree::Signature;
 use gen_types::OrderNo;
 use std::alloc::{AllocError, Global};
@@ -75,6 +76,14 @@ fn put_log(out: &mut Vec<u8>, log: &[u8]) -> Result<(), AllocError>
     out.extend_from_slice(log)
 }
 
+/// Appends a header.
+fn put_header(out: &mut Vec<u8>, header: &Header) -> Result<(), AllocError>
+    ensures { OnOk result (out.new.items ≡ out.old.items ++ header_spelling header.now) }
+{
+    let bytes = header_bytes(*out.allocator(), header)?;
+    out.extend_from_slice(&bytes)
+}
+
 /// Appends what is held against a general.
 fn put_claim(out: &mut Vec<u8>, claim: &Claim) -> Result<(), AllocError>
     requires { HasShortLog (told claim.now) }
@@ -106,6 +115,11 @@ fn put_claim(out: &mut Vec<u8>, claim: &Claim) -> Result<(), AllocError>
         Claim::Departing { log, entry } => {
             put_log(out, log.as_slice())?;
             out.extend_from_slice(&entry.to_be_bytes())
+        }
+        Claim::Across { first, second } => {
+            put_header(out, &second.header)?;
+            put_signed(out, &first.text)?;
+            put_signed(out, &second.text)
         }
     }
 }

@@ -137,7 +137,7 @@ fn read_one(report: &LocalReport)
 }
 
 /// Makes known what each report keeps.
-fn read_all(reports: &[LocalReport])
+pub fn read_all(reports: &[LocalReport])
     ensures { (r : Report) → Contains reports.now r → IsReport r × AreBelow 256 r.exhibit.bytes }
 {
     for report in reports {

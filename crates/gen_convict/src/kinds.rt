@@ -4,11 +4,12 @@ ghost use Rattle.gen_convict.specs.First.{kind_of};
 ghost use Rattle.gen_convict.specs.Told.{told};
 
 use crate::claims::Claim;
-use crate::evidence_fields::{DEPARTING_KIND, MISSING_KIND, ORDERS_KIND, TEXTS_KIND};
+use crate::evidence_fields::{ACROSS_KIND, DEPARTING_KIND, MISSING_KIND, ORDERS_KIND, TEXTS_KIND};
 
 impl Claim {
     /// Returns the number of the claim's kind, by which evidence is written and a verdict's text names it: 1 for two
-    /// texts under one leaf, 2 for two orders of the commander, 3 for a log without a SIGN, 4 for one that departs.
+    /// texts under one leaf, 2 for two orders of the commander, 3 for a log without a SIGN, 4 for one that departs,
+    /// 5 for two texts under one leaf in two runs.
     pub fn kind(&self) -> u8
         ensures { result ≡ kind_of (told self.now) }
     {
@@ -17,6 +18,7 @@ impl Claim {
             Claim::Orders { .. } => ORDERS_KIND,
             Claim::Missing { .. } => MISSING_KIND,
             Claim::Departing { .. } => DEPARTING_KIND,
+            Claim::Across { .. } => ACROSS_KIND,
         }
     }
 }

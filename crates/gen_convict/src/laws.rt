@@ -2,13 +2,17 @@
 //! it knows the law.
 ghost use Rattle.std.specs.Prelude.{◌≡◌, Ok};
 ghost use Rattle.gen_types.specs.Spelled.{HasOneSpelling};
+ghost use Rattle.gen_convict.specs.AcrossAnswers.{HeadersCollide};
+ghost use Rattle.gen_convict.specs.AcrossLaws.{TestsSharing, TestsRivals, OneLeaf, SlotsApart, FoundWhereHeld, FirstContradict, OneFirstAcross, FirstOfTwoRuns};
 ghost use Rattle.gen_convict.specs.EvidenceReading.{IsWhole, whole_evidence};
 ghost use Rattle.gen_convict.specs.EvidenceSpelling.{HeaderAndEvidence, whole_spelling};
 ghost use Rattle.gen_convict.specs.Laws.{OneStatementOfEach, OneOrderOfCommander, NowhereDeparts, OneLinkText, LinksTell, Refutes};
 ghost use Rattle.gen_convict.specs.PairLaws.{FirstOfSubject, EarliestSubject, FirstCommand, OneOfEach, HasTwoTexts, OneFirstPair};
+ghost use Rattle.gen_convict.specs.RingLaws.{OneTextOfLeaf};
 ghost use Rattle.gen_convict.specs.FirstLaws.{TextsVerify, FirstHolds, GivenWhereHeld, OneClaim};
 
 use gen_log::laws::one_entry_spelling;
+use gen_net::laws::one_header_spelling;
 
 /// A follower signs one statement of an order at most, as the commander one order alone, and his log
 /// departs nowhere.
@@ -32,6 +36,7 @@ pub fn links_tell()
 pub fn claims_are_refuted()
     ensures { Refutes }
 {
+    headers_collide();
     links_tell();
 }
 
@@ -59,4 +64,36 @@ pub fn first_claims()
 pub fn one_evidence_spelling()
     ensures one { HasOneSpelling IsWhole whole_spelling }
     ensures again { (e : HeaderAndEvidence) → IsWhole e → whole_evidence (whole_spelling e) ≡ Ok e }
+{}
+
+/// The tests of runs that use the same leaves and of rivals say exactly what they test. Rivals stand under one leaf,
+/// and runs of different slots have no leaf in common.
+pub fn rivals_are_tested()
+    ensures sharing { TestsSharing }
+    ensures rivals { TestsRivals }
+    ensures leaf { OneLeaf }
+    ensures slots { SlotsApart }
+{}
+
+/// Texts of a general that contradict each other across runs are found exactly where the exhibits of two runs hold
+/// such texts (`found`). What is found contradicts (`holds`), it is one pair (`one`), and its texts are of two runs,
+/// the first of the earlier (`runs`).
+pub fn first_rivals()
+    ensures found { FoundWhereHeld }
+    ensures holds { FirstContradict }
+    ensures one { OneFirstAcross }
+    ensures runs { FirstOfTwoRuns }
+{}
+
+/// Where two headers that are not the same have one run id, what is hashed for it collides.
+pub fn headers_collide()
+    ensures { HeadersCollide }
+{
+    one_header_spelling();
+}
+
+/// Over logs that a general could have kept by following, of runs whose slots ascend strictly, each leaf of his ring
+/// has one text: so one ring serves all these runs.
+pub fn one_text_of_leaf()
+    ensures { OneTextOfLeaf }
 {}

@@ -3,10 +3,13 @@
 //!
 //! A general is convicted by two different texts that he signed under one leaf, as the commander by two
 //! orders, by a statement that is missing from a log that he sealed, or by such a log that departs from the
-//! algorithm. A general who follows can be convicted only by a text that he didn't sign or by a collision of
-//! SHA-256: his own log shows which.
+//! algorithm. Two runs of version 2 can use the same leaves: then two different texts of his under one leaf convict
+//! him across the runs. A general who follows can be convicted only by a text that he didn't sign or by a collision
+//! of SHA-256: his own log shows which.
 #![tactic(auto)]
 
+mod across_checking;
+mod across_finding;
 mod checking;
 mod claim_reading;
 mod claims;
@@ -25,9 +28,14 @@ mod log_claims;
 mod own_logs;
 mod refutations;
 mod refuting;
+mod rivals;
+mod run_texts;
+mod seen_texts;
+mod shared_leaves;
 mod text_claims;
 mod text_likeness;
 
+pub use across_finding::find_across;
 pub use checking::check_evidence;
 pub use claims::Claim;
 pub use evidence::Evidence;
@@ -38,3 +46,4 @@ pub use finding::find_evidence;
 pub use own_logs::is_own_log;
 pub use refutations::Refutation;
 pub use refuting::refute;
+pub use run_texts::RunText;

@@ -1,6 +1,7 @@
 -- What the job run writes the job audit reads, and accepts.
 use Rattle.std.proofs.Common.{◌≡◌, ◌<◌, ◌≤◌, ◌++◌, ◌∷◌, ℕ, Bool, false, inl, inr, List, length, All, Contains, Ok, refl, sym, ap, subst, ◌∙◌}
 use Rattle.std.specs.Int.{w32, to_be_bytes}
+use Rattle.std.proofs.lemmas.List.{append-nil}
 use Rattle.std.specs.List.{flat_map}
 use Rattle.std.proofs.lemmas.List.Elements.{All-contains, Contains-append_right}
 use Rattle.gen_types.specs.Ascending.{IsListOf}
@@ -16,19 +17,21 @@ use Rattle.gen_log.specs.Writing.{LogBytes}
 use Rattle.gen_scenario.specs.Rows.{logs_of_all}
 use Rattle.gen_scenario.specs.Scenario.{Scenario, IsScenario, scripted}
 use Rattle.gen_scenario.proofs.Having.{in_flat}
-use Rattle.gen_audit.specs.declared.bundle_fault.BundleFault.{BundleFault}
+use Rattle.gen_campaign.specs.declared.campaign_fault.CampaignFault.{CampaignFault}
+use Rattle.gen_campaign.specs.Campaign.{CampaignBundle, IsCampaign}
+use Rattle.gen_campaign.specs.CampaignSpelling.{campaign_spelling}
+use Rattle.gen_campaign.proofs.CampaignLaws.{campaign_only}
 use Rattle.gen_audit.specs.declared.verdicts.Verdict.{Verdict}
 use Rattle.gen_audit.specs.declared.verdicts.Verdict.TheVariants.{Agreed, Explained, No}
 use Rattle.gen_audit.specs.Bundle.{Bundle, IsBundle}
 use Rattle.gen_audit.specs.BundleSpelling.{bundle_marks, bundle_spelling, exhibit_spelling, exhibits_spelling, walks_spelling}
 use Rattle.gen_audit.specs.Headline.{IsYes}
-use Rattle.gen_audit.specs.Verdict.{IsVerdict}
 use Rattle.gen_audit.specs.WorldBundle.{HasWalks, IsAcceptable, bundle_of}
 use Rattle.gen_audit.proofs.BundleLaws.{bundle_only}
 use Rattle.gen_audit.proofs.RunBundles.{world_is_bundle}
 use Rattle.gen_audit.proofs.Worlds.{world_is_accepted}
-use Rattle.gen_jobs.specs.Accepted.{IsSound, RunsAreAccepted, RunsAreRead}
-use Rattle.gen_jobs.specs.Audit.{Audits, IsAudited, is_no}
+use Rattle.gen_jobs.specs.Accepted.{IsSound, RunsAreAccepted, RunsAreRead, alone}
+use Rattle.gen_jobs.specs.Audit.{Audits, AuditsForm, IsAudited, is_no}
 use Rattle.gen_jobs.specs.Judging.{JudgesRun, RunsAreJudged}
 use Rattle.gen_jobs.specs.Run.{IsRun}
 
@@ -52,9 +55,15 @@ spelled_bundle s walks text ok has spelled below = record {
 is_lawful : (input text : List ℕ) (said : Bool) (run : IsRun input text said) → IsScenario run.scenario
 is_lawful input text said run = run.spelled.keys_are.lawful
 
+-- and so it is read as one that stands alone
+spelled_alone : (b : Bundle) (text : List ℕ) → Spells IsBundle bundle_spelling text b → Spells IsCampaign campaign_spelling text (alone b)
+spelled_alone b text spelled = record { fits = spelled.fits; spelled = spelled.spelled ∙ sym (append-nil (bundle_spelling b)) }
+
 pub runs_are_read : RunsAreRead
 runs_are_read input text said run below =
-    bundle_only text (bundle_of run.scenario run.walks) (spelled_bundle run.scenario run.walks text (is_lawful input text said run) run.has_walks run.text_is below)
+    let b = bundle_of run.scenario run.walks in
+    let spelled = spelled_bundle run.scenario run.walks text (is_lawful input text said run) run.has_walks run.text_is below in
+    (bundle_only text b spelled, campaign_only text (alone b) (spelled_alone b text spelled))
 
 -- the walks of a run bound the rest, where any two of the rest are joined
 walks_bound : (s : Scenario) (walks : List (List ℕ)) (has : HasWalks s walks) → IsSound s → BoundsDiameter s.net has.rest walks
@@ -78,26 +87,29 @@ yes_is (Agreed order) is = refl
 yes_is (Explained decisions) is = refl
 yes_is (No findings) is = absurd is
 
--- the bundle that is audited is that of the run
-same_bundle : (input text report : List ℕ) (said negative : Bool) (run : IsRun input text said) → AreBelow 256 text → (audited : IsAudited text report negative) → audited.bundle ≡ bundle_of run.scenario run.walks
-same_bundle input text report said negative run below audited =
-    let ours = runs_are_read input text said run below in
-    ok_is {F = BundleFault} audited.bundle (bundle_of run.scenario run.walks) (sym (bundle_only text audited.bundle audited.spelled) ∙ ours)
+-- what is audited is the bundle of the run
+same_shown : (input text report : List ℕ) (said negative : Bool) (run : IsRun input text said) → AreBelow 256 text → (audited : IsAudited text report negative) → audited.shown ≡ alone (bundle_of run.scenario run.walks)
+same_shown input text report said negative run below audited =
+    let ours = (runs_are_read input text said run below).1 in
+    ok_is {F = CampaignFault} audited.shown (alone (bundle_of run.scenario run.walks)) (sym (campaign_only text audited.shown audited.spelled) ∙ ours)
+
+-- and what is made of it
+audits_run : (input text report : List ℕ) (said negative : Bool) (run : IsRun input text said) → AreBelow 256 text → IsAudited text report negative → Audits (bundle_of run.scenario run.walks) report negative
+audits_run input text report said negative run below audited =
+    subst (λ (c : CampaignBundle). AuditsForm c.alone c.bundles report negative) (same_shown input text report said negative run below audited) audited.audits
 
 pub runs_are_accepted : RunsAreAccepted
 runs_are_accepted input text report said negative run below sound audited =
     let s = run.scenario in
-    let same = same_bundle input text report said negative run below audited in
-    let judged : IsVerdict (bundle_of s run.walks) audited.audits.verdict = subst (λ (b : Bundle). IsVerdict b audited.audits.verdict) same audited.audits.judged in
+    let audits = audits_run input text report said negative run below audited in
     let fine = is_acceptable s run.walks (is_lawful input text said run) run.has_walks sound in
-    audited.audits.negative_is ∙ yes_is audited.audits.verdict (world_is_accepted s run.walks fine audited.audits.verdict judged)
+    audits.negative_is ∙ yes_is audits.verdict (world_is_accepted s run.walks fine audits.verdict audits.judged)
 
 pub runs_are_judged : RunsAreJudged
 runs_are_judged input text report said negative run below audited =
-    let same = same_bundle input text report said negative run below audited in
     let judges : JudgesRun run.scenario report negative = record {
       walks = run.walks;
       has_walks = run.has_walks;
-      audits = subst (λ (b : Bundle). Audits b report negative) same audited.audits;
+      audits = audits_run input text report said negative run below audited;
     } in
     record { scenario = run.scenario; spelled = run.spelled; judges = judges }

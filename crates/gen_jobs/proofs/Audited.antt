@@ -32,7 +32,7 @@ one_want input faults.Thread want = tt
 one_want input faults.Read want = want
 one_want input faults.Write want = want
 one_want input (faults.Scenario f) want = want
-one_want input (faults.Bundle f) want = absurd want
+one_want input (faults.Campaign f) want = absurd want
 one_want input (faults.Evidence f) want = want
 
 pub are_wants : {A : Type 0} (input : List ℕ) (r : Result A JobFault) → IfErr r IsWant → IfErr r (IsAuditFault input)

@@ -17,7 +17,7 @@ by_fault A F old new faults.Read never h = tt
 by_fault A F old new faults.Write never h = absurd (never h)
 by_fault A F old new faults.Thread never h = h
 by_fault A F old new (faults.Scenario s) never h = h
-by_fault A F old new (faults.Bundle b) never h = h
+by_fault A F old new (faults.Campaign b) never h = h
 by_fault A F old new (faults.Evidence e) never h = h
 
 by_write : (A : List ℕ → Bool → Type 0) (F : JobFault → Type 0) (old new : Option (List ℕ)) (text : List ℕ) (negative : Bool) (f : JobFault) → A text negative → f ≡ faults.Write → Answers A F old new (Failed f)
@@ -52,7 +52,7 @@ kept_at old new faults.Read k = k
 kept_at old new faults.Write k = tt
 kept_at old new faults.Thread k = k
 kept_at old new (faults.Scenario s) k = k
-kept_at old new (faults.Bundle b) k = k
+kept_at old new (faults.Campaign b) k = k
 kept_at old new (faults.Evidence e) k = k
 
 late_output : (old new : Option (List ℕ)) (text : List ℕ) (negative : Bool) (end : JobEnd) → IsWritten text negative old new end → KeepsUntilWhole old new end
@@ -76,7 +76,7 @@ unread A F old new faults.Read h = tt
 unread A F old new faults.Write h = absurd h
 unread A F old new faults.Thread h = absurd h
 unread A F old new (faults.Scenario s) h = absurd h
-unread A F old new (faults.Bundle b) h = absurd h
+unread A F old new (faults.Campaign b) h = absurd h
 unread A F old new (faults.Evidence e) h = absurd h
 
 -- an input that can't be read is answered by this
@@ -90,7 +90,7 @@ untaken input faults.Read h = tt
 untaken input faults.Write h = absurd h
 untaken input faults.Thread h = absurd h
 untaken input (faults.Scenario s) h = absurd h
-untaken input (faults.Bundle b) h = absurd h
+untaken input (faults.Campaign b) h = absurd h
 untaken input (faults.Evidence e) h = absurd h
 
 -- of an input that can't be read no length is said

@@ -19,7 +19,7 @@ within input (Failed faults.Read) le = tt
 within input (Failed faults.Thread) le = le
 within input (Failed faults.Write) le = le
 within input (Failed (faults.Scenario f)) le = le
-within input (Failed (faults.Bundle f)) le = le
+within input (Failed (faults.Campaign f)) le = le
 within input (Failed (faults.Evidence f)) le = le
 
 -- an input that was read whole, and whose bytes are within the limit

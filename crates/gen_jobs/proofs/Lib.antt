@@ -1,7 +1,10 @@
 pub mod Accepted
 pub mod Accused
+pub mod AccusedRuns
 pub mod Audited
 pub mod Bundling
 pub mod Delivering
 pub mod JudgedRuns
 pub mod Known
+pub mod RunsOf
+pub mod Shown

@@ -1,10 +1,14 @@
 -- What the job accuse makes of its input.
-use Rattle.std.specs.Prelude.{ℕ, ◌≡◌, ◌<◌, Bool, true, false, List, [], Contains}
+use Rattle.std.specs.Prelude.{ℕ, ◌≡◌, ◌<◌, ◌⊎◌, Bool, true, false, List, [], ◌∷◌, ◌++◌, All, Contains}
 use Rattle.gen_types.specs.Spelled.{Spells}
 use Rattle.gen_net.specs.Header.{RunHeader}
-use Rattle.gen_audit.specs.Bundle.{Bundle, IsBundle}
-use Rattle.gen_audit.specs.BundleSpelling.{bundle_spelling}
-use Rattle.gen_convict.specs.Contradictions.{Claim}
+use Rattle.gen_audit.specs.Bundle.{Bundle}
+use Rattle.gen_campaign.specs.Campaign.{CampaignBundle, IsCampaign}
+use Rattle.gen_campaign.specs.CampaignSpelling.{campaign_spelling}
+use Rattle.gen_campaign.specs.Judged.{shown_bundles}
+use Rattle.gen_convict.specs.Across.{IsFirstAcross}
+use Rattle.gen_convict.specs.declared.run_texts.RunText.{RunText}
+use Rattle.gen_convict.specs.Contradictions.{AcrossRuns, Claim}
 use Rattle.gen_convict.specs.Evidence.{Accusation}
 use Rattle.gen_convict.specs.EvidenceSpelling.{evidence_spelling}
 use Rattle.gen_convict.specs.First.{IsFirstClaim}
@@ -15,6 +19,20 @@ abbrev pub TellsOf : RunHeader → List Accusation → ℕ → List ℕ → Bool
 TellsOf h convictions general text false =
     (x : Accusation) × Contains convictions x × (x.accused ≡ general) × (text ≡ evidence_spelling h x)
 TellsOf h convictions general text true =
+    ((x : Accusation) → Contains convictions x → x.accused ≡ general → ⊥) × (text ≡ [])
+
+-- each of these convicts across two runs
+abbrev pub AreOfRuns : List Accusation → Type 0
+AreOfRuns convictions =
+    (x : Accusation) → Contains convictions x → (v : RunText) × (w : RunText) × (x.claim ≡ AcrossRuns v w)
+
+-- one of them is the general's, and the text is its spelling under its first run's header; or none is, and then the text is
+-- empty and says no
+abbrev pub TellsAcross : List Accusation → ℕ → List ℕ → Bool → Type 0
+TellsAcross convictions general text false =
+    (v : RunText) × (w : RunText) × Contains convictions (record { accused = general; claim = AcrossRuns v w })
+    × (text ≡ evidence_spelling v.header (record { accused = general; claim = AcrossRuns v w }))
+TellsAcross convictions general text true =
     ((x : Accusation) → Contains convictions x → x.accused ≡ general → ⊥) × (text ≡ [])
 
 -- the general is one of the network, and this is the first claim that the bundle's exhibits hold against him
@@ -29,8 +47,34 @@ Accuses bundle general text false =
     × (text ≡ evidence_spelling bundle.header (record { accused = general; claim = claim }))
 Accuses bundle general text true = ((claim : Claim) → IsClaimOn bundle general claim → ⊥) × (text ≡ [])
 
--- The text is the evidence against the general that the bundle holds which the input spells.
+-- the bundle holds no claim against the general
+abbrev pub HoldsNone : ℕ → Bundle → Type 0
+HoldsNone general bundle = (claim : Claim) → IsClaimOn bundle general claim → ⊥
+
+-- the text is evidence that the first of the bundles holds which hold any; or none holds any, and the text is empty
+abbrev pub AccusesWithin : List Bundle → ℕ → List ℕ → Bool → Type 0
+AccusesWithin bundles general text false =
+    (before : List Bundle) × (bundle : Bundle) × (after : List Bundle) × (bundles ≡ before ++ bundle ∷ after)
+    × All (HoldsNone general) before × Accuses bundle general text false
+AccusesWithin bundles general text true = All (HoldsNone general) bundles × (text ≡ [])
+
+-- the text is evidence of the first two texts by which the exhibits of two runs hold a claim; or there are no such two, and
+-- the text is empty
+abbrev pub AccusesAcross : List Bundle → ℕ → List ℕ → Bool → Type 0
+AccusesAcross bundles general text false =
+    (x : RunText) × (y : RunText) × (general < 16) × IsFirstAcross (shown_bundles bundles) general x y
+    × (text ≡ evidence_spelling x.header (record { accused = general; claim = AcrossRuns x y }))
+AccusesAcross bundles general text true =
+    ((x y : RunText) → general < 16 → IsFirstAcross (shown_bundles bundles) general x y → ⊥) × (text ≡ [])
+
+-- the text is evidence within a run, where any run holds it, else across runs
+abbrev pub AccusesRuns : List Bundle → ℕ → List ℕ → Bool → Type 0
+AccusesRuns bundles general text negative =
+    AccusesWithin bundles general text false × (negative ≡ false)
+    ⊎ (All (HoldsNone general) bundles × AccusesAcross bundles general text negative)
+
+-- The text is the evidence against the general that what the input spells holds.
 pub record IsAccused (general : ℕ) (input text : List ℕ) (negative : Bool) : Type 0 where
-  pub bundle : Bundle
-  pub spelled : Spells IsBundle bundle_spelling input bundle
-  pub accuses : Accuses bundle general text negative
+  pub shown : CampaignBundle
+  pub spelled : Spells IsCampaign campaign_spelling input shown
+  pub accuses : AccusesRuns shown.bundles general text negative

@@ -1,19 +1,24 @@
 -- What the job audit makes of its input.
-use Rattle.std.specs.Prelude.{◌≡◌, ◌↔◌, ℕ, Bool, true, false, List, Err}
+use Rattle.std.specs.Prelude.{◌≡◌, ◌↔◌, ℕ, Bool, true, false, List, [], ◌∷◌, All, Err}
 use Rattle.gen_types.specs.Spelled.{Spells}
-use Rattle.gen_audit.specs.Bundle.{Bundle, IsBundle}
+use Rattle.gen_audit.specs.Bundle.{Bundle}
 use Rattle.gen_audit.specs.Headline.{Headline}
 use Rattle.gen_audit.specs.Supported.{IsSupported}
 use Rattle.gen_audit.specs.Verdict.{IsVerdict}
+use Rattle.gen_audit.specs.declared.verdicts.Judgement.{Judgement}
 use Rattle.gen_audit.specs.declared.verdicts.Verdict.{Verdict}
 use Rattle.gen_audit.specs.declared.verdicts.Verdict.TheVariants.{Agreed, Explained, No}
+use Rattle.gen_convict.specs.AcrossLaws.{AreConvictedAcross}
 use Rattle.gen_convict.specs.Convictions.{AreConvictions, ConvictsWhereHeld}
 use Rattle.gen_convict.specs.Evidence.{Accusation}
 use Rattle.gen_report.specs.VerdictText.{verdict_text}
+use Rattle.gen_campaign.specs.Campaign.{CampaignBundle, IsCampaign}
+use Rattle.gen_campaign.specs.CampaignReading.{whole_campaign}
+use Rattle.gen_campaign.specs.CampaignSpelling.{campaign_spelling}
+use Rattle.gen_campaign.specs.Judged.{AreJudged, shown_bundles}
+use Rattle.gen_campaign_text.specs.CampaignVerdictText.{several_text}
 use Rattle.gen_jobs.specs.declared.ends.JobFault.{JobFault}
 use Rattle.gen_jobs.specs.declared.ends.JobFault.TheVariants as faults
-use Rattle.gen_audit.specs.BundleSpelling.{bundle_spelling}
-use Rattle.gen_audit.specs.BundleReading.{whole_bundle}
 
 -- whether a verdict is a no
 abbrev pub is_no : Verdict → Bool
@@ -34,11 +39,28 @@ pub record Audits (bundle : Bundle) (text : List ℕ) (negative : Bool) : Type 0
   pub negative_is : negative ≡ is_no verdict
   pub supported : (negative ≡ false) ↔ IsSupported bundle
 
--- The text is that of the judgement on the bundle that the input spells.
+-- The text is that of the judgements on the runs of a campaign, and of who is convicted across them. It says no exactly
+-- where some run's bundle doesn't support a yes.
+pub record AuditsRuns (bundles : List Bundle) (text : List ℕ) (negative : Bool) : Type 0 where
+  pub judgements : List Judgement
+  pub judged : AreJudged bundles judgements
+  pub across : List Accusation
+  pub convicted : AreConvictedAcross (shown_bundles bundles) across
+  pub text_is : text ≡ several_text bundles judgements across
+  pub supported : (negative ≡ false) ↔ All IsSupported bundles
+
+-- what is shown is a bundle that stands alone, or the bundles of a campaign
+abbrev pub AuditsForm : Bool → List Bundle → List ℕ → Bool → Type 0
+AuditsForm true [] text negative = ⊥
+AuditsForm true (b ∷ []) text negative = Audits b text negative
+AuditsForm true (b ∷ c ∷ others) text negative = ⊥
+AuditsForm false bundles text negative = AuditsRuns bundles text negative
+
+-- The text is that of the judgement on what the input spells.
 pub record IsAudited (input text : List ℕ) (negative : Bool) : Type 0 where
-  pub bundle : Bundle
-  pub spelled : Spells IsBundle bundle_spelling input bundle
-  pub audits : Audits bundle text negative
+  pub shown : CampaignBundle
+  pub spelled : Spells IsCampaign campaign_spelling input shown
+  pub audits : AuditsForm shown.alone shown.bundles text negative
 
 -- want of memory or of a thread
 abbrev pub IsWant : JobFault → Type 0
@@ -46,9 +68,9 @@ IsWant faults.Memory = Unit {0}
 IsWant faults.Thread = Unit {0}
 IsWant _ = ⊥
 
--- the fault is the first of an input that spells no bundle, or want of memory or of a thread
+-- the fault is the first of an input that spells no campaign and no bundle, or want of memory or of a thread
 abbrev pub IsAuditFault : List ℕ → JobFault → Type 0
 IsAuditFault input faults.Memory = Unit {0}
 IsAuditFault input faults.Thread = Unit {0}
-IsAuditFault input (faults.Bundle f) = whole_bundle input ≡ Err f
+IsAuditFault input (faults.Campaign f) = whole_campaign input ≡ Err f
 IsAuditFault input _ = ⊥

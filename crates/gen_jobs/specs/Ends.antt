@@ -9,7 +9,7 @@ use Rattle.gen_jobs.specs.declared.ends.JobFault.TheVariants as faults
 -- the exit status of a job that failed so
 abbrev pub fault_status : JobFault → ℕ
 fault_status (faults.Scenario f) = 3
-fault_status (faults.Bundle f) = 3
+fault_status (faults.Campaign f) = 3
 fault_status (faults.Evidence f) = 3
 fault_status faults.Memory = 4
 fault_status faults.Thread = 4

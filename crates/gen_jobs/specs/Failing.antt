@@ -2,7 +2,7 @@
 use Rattle.gen_types.specs.declared.reading.ReadError.{ReadError}
 use Rattle.gen_types.specs.declared.reading.ReadError.TheVariants as errors
 use Rattle.gen_report.specs.declared.fault.ScenarioFault.{ScenarioFault}
-use Rattle.gen_audit.specs.declared.bundle_fault.BundleFault.{BundleFault}
+use Rattle.gen_campaign.specs.declared.campaign_fault.CampaignFault.{CampaignFault}
 use Rattle.gen_convict.specs.declared.evidence_fault.EvidenceFault.{EvidenceFault}
 use Rattle.gen_workers.specs.declared.faults.AuditFault.{AuditFault}
 use Rattle.gen_workers.specs.declared.faults.AuditFault.TheVariants as audits
@@ -16,10 +16,10 @@ abbrev pub scenario_failure : ReadError ScenarioFault → JobFault
 scenario_failure errors.Memory = faults.Memory
 scenario_failure (errors.Fault f) = faults.Scenario f
 
--- by a bundle that can't be read
-abbrev pub bundle_failure : ReadError BundleFault → JobFault
-bundle_failure errors.Memory = faults.Memory
-bundle_failure (errors.Fault f) = faults.Bundle f
+-- by a campaign that can't be read
+abbrev pub campaign_failure : ReadError CampaignFault → JobFault
+campaign_failure errors.Memory = faults.Memory
+campaign_failure (errors.Fault f) = faults.Campaign f
 
 -- by evidence that can't be read
 abbrev pub evidence_failure : ReadError EvidenceFault → JobFault

@@ -2,6 +2,7 @@ pub mod Accepted
 pub mod Accusing
 pub mod Answering
 pub mod Audit
+pub mod Campaigning
 pub mod Checking
 pub mod Decide
 pub mod Ends

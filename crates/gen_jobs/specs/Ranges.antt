@@ -7,6 +7,7 @@ use Rattle.gen_jobs.specs.declared.jobs.Job.TheVariants as jobs
 abbrev pub IsInRange : Job → Type 0
 IsInRange (jobs.Run n) = (1 ≤ n) × (n ≤ 16)
 IsInRange (jobs.Judge n w) = (1 ≤ n) × (n ≤ 16) × (1 ≤ w) × (w ≤ 16)
+IsInRange (jobs.Campaign n) = (1 ≤ n) × (n ≤ 16)
 IsInRange (jobs.Audit w) = (1 ≤ w) × (w ≤ 16)
 IsInRange (jobs.Accuse g) = g < 16
 IsInRange _ = Unit {0}

@@ -34,9 +34,13 @@ pub record MissesSeed (input : List ℕ) (fault : ScenarioFault) : Type 0 where
   pub spelled : SpellsScenario input (texts.Plain plain)
   pub fault_is : fault ≡ fault_at BadSeed (line_after_order plain.net)
 
+-- the bundle is that of the scenario's run
+abbrev pub IsOfRun : Scenario → Bundle → Type 0
+IsOfRun s bundle = (walks : List (List ℕ)) × HasWalks s walks × (bundle ≡ bundle_of s walks)
+
 -- the run of the scenario has this bundle, or memory or a thread was refused
 abbrev pub MakesBundle : Scenario → Result Bundle JobFault → Type 0
-MakesBundle s (Ok bundle) = (walks : List (List ℕ)) × HasWalks s walks × (bundle ≡ bundle_of s walks)
+MakesBundle s (Ok bundle) = IsOfRun s bundle
 MakesBundle s (Err faults.Memory) = Unit {0}
 MakesBundle s (Err faults.Thread) = Unit {0}
 MakesBundle s (Err _) = ⊥

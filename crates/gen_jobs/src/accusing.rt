@@ -2,7 +2,9 @@
 ghost use Rattle.std.specs.Prelude.{◌≡◌, ◌==◌, IfOk, IfErr, IfSome, find, map, option_map};
 ghost use Rattle.gen_convict.specs.Convictions.{AreEvidence};
 ghost use Rattle.gen_convict.specs.Evidence.{told_of};
-ghost use Rattle.gen_jobs.specs.Accusing.{Accuses, IsAccused, TellsOf};
+ghost use Rattle.gen_convict.specs.AcrossLaws.{AreEvidenceAcross};
+ghost use Rattle.gen_campaign.specs.Judged.{AreJudged};
+ghost use Rattle.gen_jobs.specs.Accusing.{AccusesRuns, AccusesWithin, AreOfRuns, IsAccused, TellsAcross, TellsOf};
 ghost use Rattle.gen_jobs.specs.Answering.{Answers};
 ghost use Rattle.gen_jobs.specs.Audit.{IsAuditFault, IsWant};
 ghost use Rattle.gen_jobs.specs.Ends.{IsTaken, KeepsUntilWhole};
@@ -10,8 +12,9 @@ ghost use Rattle.gen_jobs.specs.Ends.{IsTaken, KeepsUntilWhole};
 use crate::ends::{JobEnd, JobFault, Output};
 use crate::gates::Open;
 use crate::transfer::{deliver, read_all};
-use gen_audit::{Bundle, WorkerCount, read_bundle, read_taken_bundle};
-use gen_convict::{Evidence, write_evidence};
+use gen_audit::{Bundle, Judgement, WorkerCount};
+use gen_campaign::{CampaignBundle, audit_campaign, read_campaign, read_taken_campaign};
+use gen_convict::{Claim, Evidence, write_evidence};
 use gen_net::Header;
 use gen_types::GeneralNo;
 use std::alloc::{AllocError, Global};
@@ -51,30 +54,83 @@ fn accusation(
     }
 }
 
-/// Returns the bytes of the evidence against a general that a bundle holds, or none, which says no.
+/// Returns the bytes of the evidence of the first run that convicts a general, or none where none does, which says no.
+fn accusation_within(
+    alloc: Global,
+    bundles: &[Bundle],
+    judgements: &[Judgement],
+    general: GeneralNo,
+) -> Result<Output, AllocError>
+    requires { AreJudged bundles.now judgements.now }
+    ensures { IfOk result (λ o. AccusesWithin bundles.now general o.text.items o.negative) }
+{
+    'runs: for place in 0..bundles.len() {
+        let convictions = judgements[place].convictions.as_slice();
+        let told = accusation(alloc, bundles[place].header(), convictions, general)?;
+        if !told.negative {
+            return Ok(told);
+        }
+    }
+    Ok(Output {
+        text: Vec::new(alloc),
+        negative: true,
+    })
+}
+
+/// Returns the bytes of a general's conviction across runs, or none where he has none, which says no.
+fn accusation_across(
+    alloc: Global,
+    across: &[Evidence],
+    general: GeneralNo,
+) -> Result<Output, AllocError>
+    requires evidence { AreEvidenceAcross (map told_of across.now) }
+    requires claims { AreOfRuns (map told_of across.now) }
+    ensures { IfOk result (λ o. TellsAcross (map told_of across.now) general o.text.items o.negative) }
+{
+    match conviction_of(across, general) {
+        Some(evidence) => match &evidence.claim {
+            Claim::Across { first, second: _ } => Ok(Output {
+                text: write_evidence(alloc, &first.header, evidence)?,
+                negative: false,
+            }),
+            _ => unreachable!(),
+        },
+        None => Ok(Output {
+            text: Vec::new(alloc),
+            negative: true,
+        }),
+    }
+}
+
+/// Returns the bytes of the evidence against a general that is held by what is shown, or none, which says no.
 #[tactic(auto, using(crate::proofs::Audited::is_want))]
 fn accuse_of<T: Threads + Wait + Sync>(
     rt: &T,
     alloc: Global,
     workers: WorkerCount,
     general: GeneralNo,
-    bundle: &Bundle,
+    campaign: &CampaignBundle,
 ) -> Result<Output, JobFault>
-    ensures answer { IfOk result (λ o. Accuses bundle.now general o.text.items o.negative) }
+    ensures answer { IfOk result (λ o. AccusesRuns campaign.now.bundles general o.text.items o.negative) }
     ensures fault { IfErr result IsWant }
 {
-    let judgement = gen_audit::audit(rt, alloc, bundle, workers, &Open)?;
-    let convictions = judgement.convictions.as_slice();
-    Ok(accusation(alloc, bundle.header(), convictions, general)?)
+    let verdict = audit_campaign(rt, alloc, campaign, workers, &Open)?;
+    let judgements = verdict.judgements.as_slice();
+    let within = accusation_within(alloc, campaign.bundles(), judgements, general)?;
+    if !within.negative {
+        return Ok(within);
+    }
+    Ok(accusation_across(alloc, verdict.across.as_slice(), general)?)
 }
 
 /// Returns the bytes of the evidence against a general that the bundle holds which the input spells: of the
-/// first claim that its exhibits hold against him. Where they hold none, or he is no general of the network,
-/// there are no bytes, and that says no. It is the same however many workers there are.
+/// first claim that its exhibits hold against him. Of a campaign it is that of the first run that holds any, else of the
+/// first claim across two runs. Where there is none, or he is no general of the network, there are no bytes, and that says
+/// no. It is the same however many workers there are.
 ///
 /// # Errors
 ///
-/// `Bundle` with the first fault of an input that spells no bundle, `Memory` where memory is refused, and `Thread`
+/// `Campaign` with the first fault of an input that spells neither, `Memory` where memory is refused, and `Thread`
 /// where a worker's thread can't be started.
 #[tactic(auto, using(crate::proofs::Audited::are_wants))]
 pub fn accuse<T: Threads + Wait + Sync>(
@@ -87,8 +143,8 @@ pub fn accuse<T: Threads + Wait + Sync>(
     ensures answer { IfOk result (λ o. IsAccused general input.now o.text.items o.negative) }
     ensures fault { IfErr result (IsAuditFault input.now) }
 {
-    let bundle = read_bundle(alloc, input)?;
-    accuse_of(rt, alloc, workers, general, &bundle)
+    let campaign = read_campaign(alloc, input)?;
+    accuse_of(rt, alloc, workers, general, &campaign)
 }
 
 /// As `accuse`, but takes the input, whose bytes are not copied.
@@ -107,13 +163,12 @@ pub fn accuse_taken<T: Threads + Wait + Sync>(
     ensures answer { IfOk result (λ o. IsAccused general input.items o.text.items o.negative) }
     ensures fault { IfErr result (IsAuditFault input.items) }
 {
-    let bundle = read_taken_bundle(alloc, input)?;
-    accuse_of(rt, alloc, workers, general, &bundle)
+    let campaign = read_taken_campaign(alloc, input)?;
+    accuse_of(rt, alloc, workers, general, &campaign)
 }
 
-/// Reads the bytes of a bundle to their end, and writes the bytes of the evidence against the general: of the
-/// first claim that the exhibits hold against him. Where they hold none, or he is no general of the network,
-/// nothing is written and the end is negative.
+/// Reads the bytes of a bundle or of a campaign to their end, and writes the bytes of the evidence against the general
+/// that `accuse` returns of them. Where there is none nothing is written, and the end is negative.
 ///
 /// A fault of the input is looked for once it was read whole, and nothing is written before the output
 /// is whole. Where a read, a write, memory or a worker's thread fails the job ends so.

@@ -3,13 +3,15 @@ ghost use Rattle.std.specs.Prelude.{◌≡◌, IfOk, IfErr, IfSome, map};
 ghost use Rattle.gen_convict.specs.Evidence.{told_of};
 ghost use Rattle.gen_report.specs.VerdictText.{verdict_text};
 ghost use Rattle.gen_jobs.specs.Answering.{Answers};
-ghost use Rattle.gen_jobs.specs.Audit.{Audits, IsAudited, IsAuditFault, IsWant, is_no};
+ghost use Rattle.gen_jobs.specs.Audit.{AuditsForm, IsAudited, IsAuditFault, IsWant, is_no};
 ghost use Rattle.gen_jobs.specs.Ends.{IsTaken, KeepsUntilWhole};
 
 use crate::ends::{JobEnd, JobFault, Output};
 use crate::gates::Open;
 use crate::transfer::{deliver, read_all};
-use gen_audit::{Bundle, Judgement, Verdict, WorkerCount, read_bundle, read_taken_bundle};
+use gen_audit::{Judgement, Verdict, WorkerCount};
+use gen_campaign::{CampaignBundle, audit_campaign, read_campaign, read_taken_campaign};
+use gen_campaign_text::print_campaign;
 use gen_net::Header;
 use gen_report::print_verdict;
 use std::alloc::{AllocError, Global};
@@ -44,27 +46,35 @@ pub(crate) fn judgement_text(
     })
 }
 
-/// Returns the text of the judgement on a bundle, and whether its verdict is a no.
-#[tactic(auto, using(crate::proofs::Audited::is_want, crate::proofs::Audited::supported))]
+/// Returns the text of the verdict on what is shown, and whether that on some run is a no.
+#[tactic(auto, using(crate::proofs::Audited::is_want))]
 fn audit_of<T: Threads + Wait + Sync>(
     rt: &T,
     alloc: Global,
     workers: WorkerCount,
-    bundle: &Bundle,
+    campaign: &CampaignBundle,
 ) -> Result<Output, JobFault>
-    ensures answer { IfOk result (λ o. Audits bundle.now o.text.items o.negative) }
+    ensures answer { IfOk result (λ o.
+        AuditsForm campaign.now.alone campaign.now.bundles o.text.items o.negative) }
     ensures fault { IfErr result IsWant }
 {
-    let judgement = gen_audit::audit(rt, alloc, bundle, workers, &Open)?;
-    Ok(judgement_text(alloc, bundle.header(), &judgement)?)
+    // What is said of the form needs what each campaign keeps, which a read of it tells.
+    let _lawful = campaign.is_alone();
+    let verdict = audit_campaign(rt, alloc, campaign, workers, &Open)?;
+    let text = print_campaign(alloc, campaign, &verdict)?;
+    Ok(Output {
+        text,
+        negative: !verdict.is_yes(),
+    })
 }
 
-/// Returns the text of the judgement on the bundle that the input spells, and whether its verdict is a no, which it
-/// is exactly where the bundle doesn't support a yes. It is the same however many workers there are.
+/// Returns the text of the judgement on the bundle that the input spells, or on the campaign, and whether its verdict is a
+/// no, or that on some run of the campaign, which it is exactly where the bundle doesn't support a yes. It is the same
+/// however many workers there are.
 ///
 /// # Errors
 ///
-/// `Bundle` with the first fault of an input that spells no bundle, `Memory` where memory is refused, and `Thread`
+/// `Campaign` with the first fault of an input that spells neither, `Memory` where memory is refused, and `Thread`
 /// where a worker's thread can't be started.
 #[tactic(auto, using(crate::proofs::Audited::are_wants))]
 pub fn audit<T: Threads + Wait + Sync>(
@@ -76,8 +86,8 @@ pub fn audit<T: Threads + Wait + Sync>(
     ensures answer { IfOk result (λ o. IsAudited input.now o.text.items o.negative) }
     ensures fault { IfErr result (IsAuditFault input.now) }
 {
-    let bundle = read_bundle(alloc, input)?;
-    audit_of(rt, alloc, workers, &bundle)
+    let campaign = read_campaign(alloc, input)?;
+    audit_of(rt, alloc, workers, &campaign)
 }
 
 /// As `audit`, but takes the input, whose bytes are not copied.
@@ -95,12 +105,12 @@ pub fn audit_taken<T: Threads + Wait + Sync>(
     ensures answer { IfOk result (λ o. IsAudited input.items o.text.items o.negative) }
     ensures fault { IfErr result (IsAuditFault input.items) }
 {
-    let bundle = read_taken_bundle(alloc, input)?;
-    audit_of(rt, alloc, workers, &bundle)
+    let campaign = read_taken_campaign(alloc, input)?;
+    audit_of(rt, alloc, workers, &campaign)
 }
 
-/// Reads the bytes of a bundle to their end, and writes the verdict on it, or nothing where they spell none.
-/// The end is negative where the verdict is a no.
+/// Reads the bytes of a bundle or of a campaign to their end, and writes the verdict on it, or nothing where they spell
+/// neither. The end is negative where the verdict is a no, or that on some run.
 ///
 /// A fault of the input is looked for once it was read whole, and nothing is written before the output
 /// is whole. Where a read, a write, memory or a worker's thread fails the job ends so.

@@ -3,7 +3,8 @@ ghost use Rattle.std.specs.Prelude.{◌≡◌};
 ghost use Rattle.gen_jobs.specs.Ends.{status_of, fault_in};
 ghost use Rattle.gen_jobs.specs.declared.ends.JobFault.TheVariants.{Memory};
 
-use gen_audit::{AuditFault, BundleFault};
+use gen_audit::AuditFault;
+use gen_campaign::CampaignFault;
 use gen_convict::EvidenceFault;
 use gen_report::ScenarioFault;
 use gen_threads::RunFault;
@@ -17,9 +18,9 @@ pub enum JobFault {
     /// The input is no scenario.
     #[error("{0}")]
     Scenario(ScenarioFault),
-    /// The input is no bundle.
+    /// The input is no campaign, and no bundle that stands alone.
     #[error("fault {0}")]
-    Bundle(BundleFault),
+    Campaign(CampaignFault),
     /// The input is no evidence.
     #[error("fault {0}")]
     Evidence(EvidenceFault),
@@ -84,15 +85,15 @@ impl From<ReadError<ScenarioFault>> for JobFault {
     }
 }
 
-impl From<ReadError<BundleFault>> for JobFault {
-    ghost use Rattle.gen_jobs.specs.Failing.{bundle_failure};
+impl From<ReadError<CampaignFault>> for JobFault {
+    ghost use Rattle.gen_jobs.specs.Failing.{campaign_failure};
 
-    ghost from_gives = { λ e fault. fault ≡ bundle_failure e };
+    ghost from_gives = { λ e fault. fault ≡ campaign_failure e };
 
-    fn from(e: ReadError<BundleFault>) -> JobFault {
+    fn from(e: ReadError<CampaignFault>) -> JobFault {
         match e {
             ReadError::Memory => JobFault::Memory,
-            ReadError::Fault(fault) => JobFault::Bundle(fault),
+            ReadError::Fault(fault) => JobFault::Campaign(fault),
         }
     }
 }
@@ -139,7 +140,7 @@ impl JobEnd {
         match self {
             JobEnd::Done => 0,
             JobEnd::Negative => 1,
-            JobEnd::Failed(JobFault::Scenario(_) | JobFault::Bundle(_) | JobFault::Evidence(_)) =>
+            JobEnd::Failed(JobFault::Scenario(_) | JobFault::Campaign(_) | JobFault::Evidence(_)) =>
                 3,
             JobEnd::Failed(JobFault::Memory | JobFault::Thread) => 4,
             JobEnd::Failed(JobFault::Read | JobFault::Write) => 5,

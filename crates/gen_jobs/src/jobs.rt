@@ -1,4 +1,4 @@
-//! The six jobs, and the choice of their engines.
+//! The seven jobs, and the choice of their engines.
 ghost use Rattle.std.specs.Prelude.{IfSome};
 ghost use Rattle.gen_jobs.specs.Answering.{Answers};
 ghost use Rattle.gen_jobs.specs.Ends.{IsTaken, KeepsUntilWhole};
@@ -7,6 +7,7 @@ ghost use Rattle.gen_jobs.specs.Ranges.{IsInRange};
 
 use crate::accusing::accuse_engine;
 use crate::auditing::audit_engine;
+use crate::campaigning::campaign_engine;
 use crate::checking::evidence_engine;
 use crate::deciding::decide_engine;
 use crate::ends::JobEnd;
@@ -36,12 +37,17 @@ pub enum Job {
         /// How many workers read and verify logs.
         workers: WorkerCount,
     },
-    /// Reads a bundle, and writes the verdict on it.
+    /// Reads the text of a campaign, and runs its scenarios one after another in threads: it writes the campaign.
+    Campaign {
+        /// How many frames an edge holds, 1 to 16.
+        capacity: u8,
+    },
+    /// Reads a bundle or a campaign, and writes the verdict on it.
     Audit {
         /// How many workers read and verify its logs.
         workers: WorkerCount,
     },
-    /// Reads a bundle, and writes the evidence that it holds against a general.
+    /// Reads a bundle or a campaign, and writes the evidence that it holds against a general.
     Accuse {
         /// Who is accused.
         general: GeneralNo,
@@ -78,6 +84,7 @@ pub fn do_job<T: Threads + Wait + Sync, R: Read, W: Write>(
         Job::Judge { capacity, workers } => {
             judge_engine(rt, alloc, capacity, workers, reader, writer)
         }
+        Job::Campaign { capacity } => campaign_engine(rt, alloc, capacity, reader, writer),
         Job::Audit { workers } => audit_engine(rt, alloc, workers, reader, writer),
         Job::Accuse { general } => {
             accuse_engine(rt, alloc, WorkerCount::one(), general, reader, writer)

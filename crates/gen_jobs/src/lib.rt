@@ -1,7 +1,7 @@
-//! The six jobs that can be done with an input: to decide, to run, to judge, to audit, to accuse and to check
-//! evidence.
+//! The seven jobs that can be done with an input: to decide, to run, to judge, to run a campaign, to audit, to accuse and
+//! to check evidence.
 //!
-//! `decide`, `run`, `judge`, `audit`, `accuse` and `evidence` take the bytes of an input, and give the text that
+//! `decide`, `run`, `judge`, `campaign`, `audit`, `accuse` and `evidence` take the bytes of an input, and give the text that
 //! answers it or its first fault; they need no reader, no writer and no words. Over them stand the engines,
 //! which read an input to its end and write what answers it; `do_job` takes the engine of a `Job`. A contract
 //! of an engine says what stands behind what the writer held, as far as reader and writer are known, and that
@@ -12,6 +12,8 @@
 mod accusing;
 mod auditing;
 mod bundle_text;
+mod campaign_text;
+mod campaigning;
 mod checking;
 mod deciding;
 mod ends;
@@ -25,6 +27,8 @@ mod transfer;
 pub use accusing::{accuse, accuse_engine, accuse_taken};
 pub use auditing::{audit, audit_engine, audit_taken};
 pub use bundle_text::{BundleText, deliver_bundle};
+pub use campaign_text::{CampaignText, deliver_campaign};
+pub use campaigning::{campaign, campaign_engine};
 pub use checking::{evidence, evidence_engine};
 pub use deciding::{decide, decide_engine};
 pub use ends::{JobEnd, JobFault, Output};

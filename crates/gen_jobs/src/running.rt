@@ -6,7 +6,8 @@ ghost use Rattle.gen_report.specs.LineReading.{fault_at};
 ghost use Rattle.gen_report.specs.declared.fault.LineFault.TheVariants.{BadSeed};
 ghost use Rattle.gen_jobs.specs.Answering.{Answers};
 ghost use Rattle.gen_jobs.specs.Ends.{IsTaken, KeepsUntilWhole};
-ghost use Rattle.gen_jobs.specs.Run.{IsRun, IsRunFault, MakesBundle, line_after_order};
+ghost use Rattle.gen_jobs.specs.Run.{IsOfRun, IsRun, IsRunFault, MakesBundle, line_after_order};
+ghost use Rattle.gen_scenario.specs.Rows.{logs_of_all};
 ghost use Rattle.gen_jobs.specs.declared.ends.JobFault.TheVariants as faults;
 
 use crate::bundle_text::{BundleText, deliver_bundle};
@@ -76,8 +77,25 @@ fn exhibits_of(alloc: Global, logs: Vec<SealedLog>) -> Result<Vec<Exhibit>, Allo
     Ok(exhibits)
 }
 
-/// Returns the bundle of the scenario's run: the generals who have scripts are held for faulty, and all logs
-/// are shown. What a run gives breaks no rule of bundles.
+/// Returns the bundle of a scenario's run, of which these are the logs: the generals who have scripts are held for faulty,
+/// and all logs are shown. What a run gives breaks no rule of bundles.
+pub(crate) fn bundle_with_logs(
+    alloc: Global,
+    scenario: &Scenario,
+    logs: Vec<SealedLog>,
+) -> Result<Bundle, AllocError>
+    requires { logs.items ≡ logs_of_all scenario.now }
+    ensures { IfOk result (IsOfRun scenario.now) }
+{
+    let faulty = scenario.scripted();
+    let header = scenario.header().clone()?;
+    let net = header.net();
+    let walks = walks_between(alloc, net, &net.rest(&faulty))?;
+    let exhibits = exhibits_of(alloc, logs)?;
+    Ok(Bundle::new(header, faulty, walks, exhibits).unwrap())
+}
+
+/// Returns the bundle of the scenario's run.
 fn bundle_of_run<T: Threads + Wait + Sync>(
     rt: &T,
     alloc: Global,
@@ -88,12 +106,7 @@ fn bundle_of_run<T: Threads + Wait + Sync>(
     ensures { MakesBundle scenario.now result }
 {
     let logs = run_threads(rt, alloc, scenario, usize::from(capacity), &Open)?;
-    let faulty = scenario.scripted();
-    let header = scenario.header().clone()?;
-    let net = header.net();
-    let walks = walks_between(alloc, net, &net.rest(&faulty))?;
-    let exhibits = exhibits_of(alloc, logs)?;
-    Ok(Bundle::new(header, faulty, walks, exhibits).unwrap())
+    Ok(bundle_with_logs(alloc, scenario, logs)?)
 }
 
 /// Returns the bundle of the run of the scenario that the input spells.

@@ -1,3 +1,2 @@
 pub mod Bundling
-pub mod Pairs
 pub mod Telling

@@ -10,7 +10,6 @@ mod bundles;
 mod desks;
 mod faults;
 mod filing;
-mod headers;
 mod judging;
 mod places;
 mod reports;

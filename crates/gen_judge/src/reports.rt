@@ -3,7 +3,6 @@ ghost use Rattle.std.specs.Prelude.{◌≡◌, ◌↔◌, ◌++◌, ◌∷◌, [
 ghost use Rattle.gen_log.specs.Writing.{LogBytes};
 ghost use Rattle.gen_local.specs.Report.{AreReportsOf};
 
-use crate::headers::is_same_header;
 use gen_desk::Row;
 use gen_local::{Exhibit, LocalReport};
 use gen_net::Header;
@@ -14,6 +13,13 @@ fn is_same(one: &Exhibit, other: &Exhibit) -> bool
     ensures { IsTrue result ↔ (one.now ≡ other.now) }
 {
     one.general() == other.general() && one.log() == other.log()
+}
+
+/// Returns whether two headers are the same.
+fn is_same_header(one: &Header, other: &Header) -> bool
+    ensures { IsTrue result ↔ (one.now ≡ other.now) }
+{
+    one == other
 }
 
 /// Returns whether a report is that of an exhibit under a header.

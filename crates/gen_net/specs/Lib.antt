@@ -12,6 +12,8 @@ pub mod NetworkOf
 pub mod NetworkReading
 pub mod NetworkSpelling
 pub mod Run
+pub mod SameHeaderLaws
+pub mod SameHeaders
 pub mod Signed
 pub mod Version
 pub mod VersionReading

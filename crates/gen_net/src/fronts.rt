@@ -52,9 +52,14 @@ fn read_header_field(alloc: Global, bytes: &[u8]) -> Result<(Header, &[u8]), Rea
     }
 }
 
-/// The header, whose first byte is the number of this version.
+/// Returns the header in front of the bytes, whose first byte is the number of this version, and the bytes after it.
+///
+/// # Errors
+///
+/// Truncated where there is no first byte; BadHeader(UnknownVersion) where it is another; then the first fault of the
+/// header, as in `read_front`; and Memory where memory was refused before.
 #[tactic(auto, unfolding(crate::specs::FrontReading::header_behind))]
-fn read_header_of(
+pub fn read_header_of(
     alloc: Global,
     version: u8,
     bytes: &[u8],

@@ -6,6 +6,7 @@
 //! algorithm, runs in which no loyal signature is forged, and the logs of followers.
 #![tactic(auto)]
 
+mod comparing;
 mod edges;
 mod fault;
 mod format;
@@ -22,7 +23,8 @@ mod version;
 mod writing;
 
 pub use fault::HeaderFault;
-pub use fronts::{front_bytes, read_front};
+pub use format::{VERSION_ONE, VERSION_TWO};
+pub use fronts::{front_bytes, read_front, read_header_of};
 pub use headers::Header;
 pub use marks::{FrontFault, Marks};
 pub use message::Message;

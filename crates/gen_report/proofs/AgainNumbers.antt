@@ -38,12 +38,12 @@ edges_again k (e ∷ es) m more fits lt going =
     let rest = edges_again (k + 1) es m more fits.1 lt going in
     (rest.0, rw (fields_again k (edge_line e) (edges_of es ++ (traitors_line m ∷ more)) (edge_fields e fits.0) (going_behind (edges_of es) (traitors_line m) more), edge_again k e fits.0, rest.1) refl)
 
-opening_again : (n : ℕ) (es : List (ℕ × ℕ)) (m : ℕ) (more : List (List ℕ)) → n < 256 → AllByRecursion FitsByte es → m < 256 → IsGoing more
-    → (j : ℕ) × (opening_at (record { line = 1; parts = line_of (said (codes "generals") n) ∷ (edges_of es ++ (traitors_line m ∷ more)) }) ≡ Ok (record { generals = n; edges = es; traitors = m; after = record { line = j + 1; parts = more } }))
+opening_again : (k n : ℕ) (es : List (ℕ × ℕ)) (m : ℕ) (more : List (List ℕ)) → n < 256 → AllByRecursion FitsByte es → m < 256 → IsGoing more
+    → (j : ℕ) × (opening_at (record { line = k; parts = line_of (said (codes "generals") n) ∷ (edges_of es ++ (traitors_line m ∷ more)) }) ≡ Ok (record { generals = n; edges = es; traitors = m; after = record { line = j + 1; parts = more } }))
 unfolding opening_at
-opening_again n es m more small fits little going =
-    let edges = edges_again 2 es m more fits little going in
-    (edges.0, rw (numbered_again 1 n (codes "generals") (edges_of es ++ (traitors_line m ∷ more)) (word (codes "generals") refl (omega arith)) small (going_behind (edges_of es) (traitors_line m) more), edges.1, behind_again edges.0 m (codes "traitors") little) refl)
+opening_again k n es m more small fits little going =
+    let edges = edges_again (k + 1) es m more fits little going in
+    (edges.0, rw (numbered_again k n (codes "generals") (edges_of es ++ (traitors_line m ∷ more)) (word (codes "generals") refl (omega arith)) small (going_behind (edges_of es) (traitors_line m) more), edges.1, behind_again edges.0 m (codes "traitors") little) refl)
 
 settings_again : (k d q c : ℕ) (more : List (List ℕ)) → d < 256 → q < 256 → c < 256 → IsGoing more
     → settings_at (record { line = k; parts = line_of (said (codes "diameter") d) ∷ line_of (said (codes "orders") q) ∷ line_of (said (codes "choice") c) ∷ more }) ≡ Ok (record { diameter = d; orders = q; choice = c; line = (k + 1) + 1; after = record { line = ((k + 1) + 1) + 1; parts = more } })
@@ -101,13 +101,13 @@ given_are_lines g n = (
   ),
 )
 
-pub plain_again : (g : Given) (net : Network) (more : List (List ℕ)) → AreBytes g → network_of g.numbers g.edges ≡ Ok net → g.order < net.orders → IsGoing more
-    → (j : ℕ) × (plain_at (record { line = 1; parts = map line_of (given_lines g) ++ more }) ≡ Ok (record { net = net; order = g.order }, record { line = j; parts = more }))
+pub plain_again : (k : ℕ) (g : Given) (net : Network) (more : List (List ℕ)) → AreBytes g → network_of g.numbers g.edges ≡ Ok net → g.order < net.orders → IsGoing more
+    → (j : ℕ) × (plain_at (record { line = k; parts = map line_of (given_lines g) ++ more }) ≡ Ok (record { net = net; order = g.order }, record { line = j; parts = more }))
 unfolding plain_at
-plain_again g net more n made known going =
+plain_again k g net more n made known going =
     let tail : List (List ℕ) = line_of (said (codes "diameter") g.numbers.diameter) ∷ line_of (said (codes "orders") g.numbers.orders) ∷ line_of (said (codes "choice") g.numbers.choice) ∷ line_of (said (codes "order") g.order) ∷ more in
     let after_traitors : IsGoing tail = going_behind [] (line_of (said (codes "diameter") g.numbers.diameter)) (line_of (said (codes "orders") g.numbers.orders) ∷ line_of (said (codes "choice") g.numbers.choice) ∷ line_of (said (codes "order") g.order) ∷ more) in
-    let o = opening_again g.numbers.generals g.edges g.numbers.traitors tail n.generals n.edges n.traitors after_traitors in
+    let o = opening_again k g.numbers.generals g.edges g.numbers.traitors tail n.generals n.edges n.traitors after_traitors in
     let made' : network_of (record { generals = g.numbers.generals; traitors = g.numbers.traitors; diameter = g.numbers.diameter; orders = g.numbers.orders; choice = g.numbers.choice }) g.edges ≡ Ok net = made in (
       (((o.0 + 1) + 1) + 1) + 1 + 1,
       rw (

@@ -59,19 +59,19 @@ record FirstOf (lines : List (List ℕ)) : Type 0 where
   going : IsGoing more
   no_slot : (k : ℕ) → slot_line_of k fields ≡ Ok None
 
-first_of : (net : Network) (blocks : List (List ℕ)) (scripts : List Script) → IsNetwork net → SpellsScripts net blocks scripts → ((s : Script) → Contains scripts s → s.general < net.generals) → FirstOf (blocks ++ last)
+first_of : (net : Network) (blocks rest : List (List ℕ)) (scripts : List Script) → IsNetwork net → SpellsScripts net blocks scripts → ((s : Script) → Contains scripts s → s.general < net.generals) → IsGoing rest → FirstOf (blocks ++ (codes "end" ∷ rest))
 unfolding slot_line_of
-first_of net blocks [] ok h known =
-    subst (λ (ls : List (List ℕ)). FirstOf (ls ++ last)) (sym h) (record { fields = codes "end" ∷ []; more = [] ∷ []; is = refl; cut = end_fields; going = refl; no_slot = λ k. refl })
-first_of net blocks (s ∷ scripts) ok h known =
+first_of net blocks rest [] ok h known more =
+    subst (λ (ls : List (List ℕ)). FirstOf (ls ++ (codes "end" ∷ rest))) (sym h) (record { fields = codes "end" ∷ []; more = rest; is = refl; cut = end_fields; going = more; no_slot = λ k. refl })
+first_of net blocks rest (s ∷ scripts) ok h known more =
     let lt = known s (Contains_here s scripts) in
-    let regrouped : blocks ++ last ≡ line_of (said (codes "script") s.general) ∷ ((h.0 ++ h.1) ++ last) = ap (λ (ls : List (List ℕ)). ls ++ last) h.2 in
+    let regrouped : blocks ++ (codes "end" ∷ rest) ≡ line_of (said (codes "script") s.general) ∷ ((h.0 ++ h.1) ++ (codes "end" ∷ rest)) = ap (λ (ls : List (List ℕ)). ls ++ (codes "end" ∷ rest)) h.2 in
     record {
       fields = said (codes "script") s.general;
-      more = (h.0 ++ h.1) ++ last;
+      more = (h.0 ++ h.1) ++ (codes "end" ∷ rest);
       is = regrouped;
       cut = script_fields s.general (omega (arith, lt, ok.ranges.few_generals));
-      going = going_behind (h.0 ++ h.1) (codes "end") ([] ∷ []);
+      going = going_behind (h.0 ++ h.1) (codes "end") rest;
       no_slot = λ k. refl;
     }
 
@@ -96,19 +96,21 @@ slot_read (Two u) k ps known f = record {
   version_is = refl;
 }
 
-record SignedRead (plain : Plain) (s : Scenario) (k : ℕ) (ps : List (List ℕ)) : Type 0 where
-  line : ℕ
-  is_read : signed_at plain s.master (record { line = k; parts = ps }) ≡ Ok (s, record { line = line; parts = [] ∷ [] })
+-- the lines from that of the slot on are those of the scenario, and these parts follow
+pub record SignedRead (plain : Plain) (s : Scenario) (k : ℕ) (ps rest : List (List ℕ)) : Type 0 where
+  pub line : ℕ
+  pub is_read : signed_at plain s.master (record { line = k; parts = ps }) ≡ Ok (s, record { line = line; parts = rest })
 
-of_parts : (b : Blocks) → b.after.parts ≡ [] ∷ [] → b.after ≡ record { line = b.after.line; parts = [] ∷ [] }
-of_parts b e = ap (λ (ps : List (List ℕ)). record { line = b.after.line; parts = ps }) e
+of_parts : (b : Blocks) (rest : List (List ℕ)) → b.after.parts ≡ rest → b.after ≡ record { line = b.after.line; parts = rest }
+of_parts b rest e = ap (λ (ps : List (List ℕ)). record { line = b.after.line; parts = ps }) e
 
-signed_read : (plain : Plain) (s : Scenario) (k : ℕ) (blocks : List (List ℕ)) → s.net ≡ plain.net → s.order ≡ plain.order → SpellsScripts s.net blocks s.scripts → IsScenario s → SignedRead plain s k (slot_lines s.version ++ (blocks ++ last))
+pub signed_read : (plain : Plain) (s : Scenario) (k : ℕ) (blocks rest : List (List ℕ)) → s.net ≡ plain.net → s.order ≡ plain.order → SpellsScripts s.net blocks s.scripts → IsScenario s → IsGoing rest
+    → SignedRead plain s k (slot_lines s.version ++ (blocks ++ (codes "end" ∷ rest))) rest
 unfolding signed_at
-signed_read plain s k blocks net order spells lawful =
-    let slot = slot_read s.version k (blocks ++ last) lawful.slot (first_of s.net blocks s.scripts lawful.network spells lawful.known) in
-    let a = blocks_again s.net slot.line blocks ([] ∷ []) s.scripts lawful.network spells lawful.known lawful.ascending refl in
-    let read : blocks_at plain.net None slot.line (blocks ++ last) ≡ Ok a.read = subst (λ (n : Network). blocks_at n None slot.line (blocks ++ last) ≡ Ok a.read) net a.is_read in
+signed_read plain s k blocks rest net order spells lawful going =
+    let slot = slot_read s.version k (blocks ++ (codes "end" ∷ rest)) lawful.slot (first_of s.net blocks rest s.scripts lawful.network spells lawful.known going) in
+    let a = blocks_again s.net slot.line blocks rest s.scripts lawful.network spells lawful.known lawful.ascending going in
+    let read : blocks_at plain.net None slot.line (blocks ++ (codes "end" ∷ rest)) ≡ Ok a.read = subst (λ (n : Network). blocks_at n None slot.line (blocks ++ (codes "end" ∷ rest)) ≡ Ok a.read) net a.is_read in
     let tested : all_scripted (scripted a.read.scripts) a.read.paths ≡ Ok tt =
     subst (λ (ss : List Script). all_scripted (scripted ss) a.read.paths ≡ Ok tt) (sym a.scripts_are) (a.tested (scripted s.scripts) (λ it among. absurd (Contains_nil it among)) (λ x it one among. lawful.signers x it one among)) in
     let same : record { version = version_with slot.slot; net = plain.net; master = s.master; order = plain.order; scripts = a.read.scripts } ≡ s =
@@ -116,7 +118,7 @@ signed_read plain s k blocks net order spells lawful =
     ∙ ap (λ (n : Network). record { version = s.version; net = n; master = s.master; order = plain.order; scripts = a.read.scripts }) (sym net)
     ∙ ap (λ (o : ℕ). record { version = s.version; net = s.net; master = s.master; order = o; scripts = a.read.scripts }) (sym order)
     ∙ ap (λ (ss : List Script). record { version = s.version; net = s.net; master = s.master; order = s.order; scripts = ss }) a.scripts_are in
-    record { line = a.read.after.line; is_read = rw (slot.is_read, read, tested, same, of_parts a.read a.after_is) refl }
+    record { line = a.read.after.line; is_read = rw (slot.is_read, read, tested, same, of_parts a.read rest a.after_is) refl }
 
 signed_tail : (plain : Plain) (s : Scenario) (k : ℕ) (keys : List (List ℕ)) → s.net ≡ plain.net → s.order ≡ plain.order → SpellsSigned keys s → TailOf plain k (keys ++ last) (texts.Signed s)
 unfolding told_at
@@ -125,7 +127,7 @@ signed_tail plain s k keys net order h =
     let regrouped : keys ++ last ≡ line_of (seed_fields h.digits) ∷ behind =
     ap (λ (ls : List (List ℕ)). ls ++ last) h.lines_are ∙ ap (λ (ls : List (List ℕ)). line_of (seed_fields h.digits) ∷ ls) (append_assoc (slot_lines s.version) h.blocks last) in
     let going : IsGoing behind = subst IsGoing (append_assoc (slot_lines s.version) h.blocks last) (going_behind (slot_lines s.version ++ h.blocks) (codes "end") ([] ∷ [])) in
-    let r = signed_read plain s (k + 1) h.blocks net order h.scripts h.lawful in
+    let r = signed_read plain s (k + 1) h.blocks ([] ∷ []) net order h.scripts h.lawful refl in
     record {
       seed = (Some s.master, record { line = k + 1; parts = behind });
       seed_is = subst (λ (ls : List (List ℕ)). seed_at (record { line = k; parts = ls }) ≡ Ok (Some s.master, record { line = k + 1; parts = behind })) (sym regrouped) (seed_again k h.digits s.master behind h.width h.seed going);
@@ -141,7 +143,7 @@ tail_again plain (texts.Signed s) k keys net order h = signed_tail plain s k key
 
 -- ---- the text
 
-append_lines : (xs ys : List (List ℕ)) → AllByRecursion IsLine xs → AllByRecursion IsLine ys → AllByRecursion IsLine (xs ++ ys)
+pub append_lines : (xs ys : List (List ℕ)) → AllByRecursion IsLine xs → AllByRecursion IsLine ys → AllByRecursion IsLine (xs ++ ys)
 append_lines [] ys h k = k
 append_lines (x ∷ xs) ys h k = (h.0, append_lines xs ys h.1 k)
 
@@ -149,7 +151,7 @@ slot_is_line : (version : Version) → slot_in version ≤ greatest_slot → All
 slot_is_line One known = tt
 slot_is_line (Two u) known = ((slot_line u known).line, tt)
 
-keys_are_lines : (told : ScenarioText) (keys : List (List ℕ)) → SpellsKeys keys told → AllByRecursion IsLine keys
+pub keys_are_lines : (told : ScenarioText) (keys : List (List ℕ)) → SpellsKeys keys told → AllByRecursion IsLine keys
 keys_are_lines (texts.Plain p) keys h = subst (AllByRecursion IsLine) (sym h) tt
 keys_are_lines (texts.Signed s) keys h =
     subst (AllByRecursion IsLine) (sym h.lines_are) ((seed_line h.digits s.master h.width h.seed).line, append_lines (slot_lines s.version) h.blocks (slot_is_line s.version h.lawful.slot) (blocks_are_lines s.net h.blocks s.scripts h.lawful.network h.scripts h.lawful.known))
@@ -164,6 +166,6 @@ scenario_again text told s =
     let all : parts text ≡ front ++ (s.keys ++ last) =
     ap parts s.text_is ∙ parts_again (front ++ (s.keys ++ codes "end" ∷ [])) each ∙ append_assoc front (s.keys ++ codes "end" ∷ []) ([] ∷ []) ∙ ap (λ (ls : List (List ℕ)). front ++ ls) (append_assoc s.keys (codes "end" ∷ []) ([] ∷ [])) in
     let known : s.given.order < (net_of told).orders = subst (λ (o : ℕ). o < (net_of told).orders) (sym s.order) s.known in
-    let p = plain_again s.given (net_of told) (s.keys ++ last) s.bytes s.network known (going_behind s.keys (codes "end") ([] ∷ [])) in
+    let p = plain_again 1 s.given (net_of told) (s.keys ++ last) s.bytes s.network known (going_behind s.keys (codes "end") ([] ∷ [])) in
     let t = tail_again plain told p.0 s.keys refl (sym s.order) s.keys_are in
     rw (all, p.1, t.seed_is, t.told_is) refl

@@ -66,15 +66,16 @@ end_found c rest e =
 abbrev scenario_with : Plain → List ℕ → Option ℕ → Blocks → Scenario
 scenario_with plain master slot b = record { version = version_with slot; net = plain.net; master = master; order = plain.order; scripts = b.scripts }
 
-record SignedOf (plain : Plain) (master : List ℕ) (c : Cursor) (x : Scenario × Cursor) : Type 0 where
-  net_is : x.0.net ≡ plain.net
-  order_is : x.0.order ≡ plain.order
-  master_is : x.0.master ≡ master
-  blocks : List (List ℕ)
-  lines : c.parts ≡ slot_lines x.0.version ++ (blocks ++ (codes "end" ∷ x.1.parts))
-  scripts : SpellsScripts x.0.net blocks x.0.scripts
-  lawful : IsScenario x.0
-  going : 0 < length x.1.parts
+-- the lines from that of the slot on, and the scenario that they make
+pub record SignedOf (plain : Plain) (master : List ℕ) (c : Cursor) (x : Scenario × Cursor) : Type 0 where
+  pub net_is : x.0.net ≡ plain.net
+  pub order_is : x.0.order ≡ plain.order
+  pub master_is : x.0.master ≡ master
+  pub blocks : List (List ℕ)
+  pub lines : c.parts ≡ slot_lines x.0.version ++ (blocks ++ (codes "end" ∷ x.1.parts))
+  pub scripts : SpellsScripts x.0.net blocks x.0.scripts
+  pub lawful : IsScenario x.0
+  pub going : 0 < length x.1.parts
 
 behind_slot : (c : Cursor) (slot : Option ℕ × Cursor) (ps : List (List ℕ)) → SlotAt c slot → slot.1.parts ≡ ps → c.parts ≡ slot_lines (version_with slot.0) ++ ps
 behind_slot c (None, rest) ps at e = ap (λ (d : Cursor). d.parts) (sym at) ∙ e
@@ -96,7 +97,7 @@ signed_made plain master c slot b network known at f tested = record {
   going = f.going;
 }
 
-signed_found : (plain : Plain) (master : List ℕ) (c : Cursor) (x : Scenario × Cursor) → IsNetwork plain.net → plain.order < plain.net.orders → signed_at plain master c ≡ Ok x → SignedOf plain master c x
+pub signed_found : (plain : Plain) (master : List ℕ) (c : Cursor) (x : Scenario × Cursor) → IsNetwork plain.net → plain.order < plain.net.orders → signed_at plain master c ≡ Ok x → SignedOf plain master c x
 unfolding signed_at
 signed_found plain master c x network known e =
     after (slot_at c) (λ slot. blocks_at plain.net None slot.1.line slot.1.parts >>= λ b. all_scripted (scripted b.scripts) b.paths >>= λ signed. done (scenario_with plain master slot.0 b, b.after)) x e (λ slot r0 e0.
@@ -108,13 +109,13 @@ signed_found plain master c x network known e =
 -- ---- what the text says
 
 -- the lines behind that of the order, and what they say
-record ToldOf (plain : Plain) (c : Cursor) (x : ScenarioText × Cursor) : Type 0 where
-  net_is : net_of x.0 ≡ plain.net
-  order_is : order_of x.0 ≡ plain.order
-  keys : List (List ℕ)
-  lines : c.parts ≡ keys ++ (codes "end" ∷ x.1.parts)
-  said_so : SpellsKeys keys x.0
-  going : 0 < length x.1.parts
+pub record ToldOf (plain : Plain) (c : Cursor) (x : ScenarioText × Cursor) : Type 0 where
+  pub net_is : net_of x.0 ≡ plain.net
+  pub order_is : order_of x.0 ≡ plain.order
+  pub keys : List (List ℕ)
+  pub lines : c.parts ≡ keys ++ (codes "end" ∷ x.1.parts)
+  pub said_so : SpellsKeys keys x.0
+  pub going : 0 < length x.1.parts
 
 told_plain : (plain : Plain) (c rest after : Cursor) → rest ≡ c → EndOf rest after → ToldOf plain c (texts.Plain plain, after)
 told_plain plain c rest behind is f = record {
@@ -126,7 +127,7 @@ told_plain plain c rest behind is f = record {
   going = f.going;
 }
 
-told_signed : (plain : Plain) (master : List ℕ) (c rest : Cursor) (x : Scenario × Cursor) → SeedAt c (Some master, rest) → SignedOf plain master rest x → ToldOf plain c (texts.Signed x.0, x.1)
+pub told_signed : (plain : Plain) (master : List ℕ) (c rest : Cursor) (x : Scenario × Cursor) → SeedAt c (Some master, rest) → SignedOf plain master rest x → ToldOf plain c (texts.Signed x.0, x.1)
 told_signed plain master c rest x seed f =
     let behind : slot_lines x.0.version ++ (f.blocks ++ (codes "end" ∷ x.1.parts)) ≡ (slot_lines x.0.version ++ f.blocks) ++ (codes "end" ∷ x.1.parts) = sym (append_assoc (slot_lines x.0.version) f.blocks (codes "end" ∷ x.1.parts)) in
     record {
@@ -148,7 +149,7 @@ told_found plain c (Some master, rest) x network known at e =
     at_end {F = ScenarioFault} (ToldOf plain c) (texts.Signed s.0, s.1) x e0 (told_signed plain master c rest s at (signed_found plain master rest s network known r)))
 
 -- the network is that of the first lines
-signed_net : (plain : Plain) (master : List ℕ) (c : Cursor) (x : Scenario × Cursor) → signed_at plain master c ≡ Ok x → x.0.net ≡ plain.net
+pub signed_net : (plain : Plain) (master : List ℕ) (c : Cursor) (x : Scenario × Cursor) → signed_at plain master c ≡ Ok x → x.0.net ≡ plain.net
 unfolding signed_at
 signed_net plain master c x e =
     after (slot_at c) (λ slot. blocks_at plain.net None slot.1.line slot.1.parts >>= λ b. all_scripted (scripted b.scripts) b.paths >>= λ signed. done (scenario_with plain master slot.0 b, b.after)) x e (λ slot r0 e0.
@@ -168,7 +169,7 @@ told_net plain (Some master) c x e =
 -- ---- the text
 
 -- parts that join to nothing, and are not none, are one empty part
-nothing_left : (rest : List (List ℕ)) → 0 < length rest → eqb (length (join_with_byte 10 rest)) 0 ≡ true → rest ≡ [] ∷ []
+pub nothing_left : (rest : List (List ℕ)) → 0 < length rest → eqb (length (join_with_byte 10 rest)) 0 ≡ true → rest ≡ [] ∷ []
 nothing_left [] long e = absurd (omega arith)
 nothing_left (x ∷ []) long e = ap (λ (y : List ℕ). y ∷ []) (nil_from_length x (eqb-true _ _ e))
 nothing_left (x ∷ y ∷ more) long e =
@@ -176,7 +177,7 @@ nothing_left (x ∷ y ∷ more) long e =
     absurd (omega (arith, none, length-append x (10 ∷ join_with_byte 10 (y ∷ more))))
 
 -- lines, and what follows the last line feed
-joined_lines : (ls : List (List ℕ)) → join_with_byte 10 (ls ++ [] ∷ []) ≡ text_of ls
+pub joined_lines : (ls : List (List ℕ)) → join_with_byte 10 (ls ++ [] ∷ []) ≡ text_of ls
 joined_lines [] = refl
 joined_lines (l ∷ []) = sym (append_assoc l (10 ∷ []) [])
 joined_lines (l ∷ m ∷ ls) = ap (λ (r : List ℕ). l ++ 10 ∷ r) (joined_lines (m ∷ ls)) ∙ sym (append_assoc l (10 ∷ []) (text_of (m ∷ ls)))

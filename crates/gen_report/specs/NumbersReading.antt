@@ -20,12 +20,17 @@ pub record Opening : Type 0 where
   pub traitors : ℕ
   pub after : Cursor
 
+-- these behind the line of the generals, of whom there are so many
+abbrev pub opening_behind : ℕ → Cursor → Result Opening ScenarioFault
+opening_behind generals c = do
+  edges ← edge_lines_at c.line c.parts
+  m ← number_behind edges.next.number (codes "traitors") edges.next.fields
+  Ok (record { generals = generals; edges = edges.found; traitors = m; after = edges.after })
+
 unfoldable pub opening_at : Cursor → Result Opening ScenarioFault
 opening_at c = do
   n ← numbered (codes "generals") c
-  edges ← edge_lines_at n.1.line n.1.parts
-  m ← number_behind edges.next.number (codes "traitors") edges.next.fields
-  Ok (record { generals = n.0.value; edges = edges.found; traitors = m; after = edges.after })
+  opening_behind n.0.value n.1
 
 -- what the three lines after that of the traitors say, the number of the last of them, and the cursor behind them
 pub record Settings : Type 0 where
@@ -58,10 +63,15 @@ order_at net c = do
   known ← check (nat_lt v.0.value net.orders) (fault_at faults.UnknownOrder v.0.line)
   Ok (record { net = net; order = v.0.value }, v.1)
 
+-- the network and the order behind the lines up to that of the traitors
+abbrev pub plain_behind : Opening → Result (Plain × Cursor) ScenarioFault
+plain_behind o = do
+  s ← settings_at o.after
+  net ← network_at s.line (network_of (numbers_said o s) o.edges)
+  order_at net s.after
+
 -- the network and the order of a text, and the cursor behind their lines
 unfoldable pub plain_at : Cursor → Result (Plain × Cursor) ScenarioFault
 plain_at c = do
   o ← opening_at c
-  s ← settings_at o.after
-  net ← network_at s.line (network_of (numbers_said o s) o.edges)
-  order_at net s.after
+  plain_behind o

@@ -68,6 +68,16 @@ impl<'a> Cursor<'a> {
         Ok((Numbered { line: 1, value }, Cursor { rest, line: 2 }))
     }
 
+    /// Returns the same cursor once more.
+    pub fn copy(&self) -> Cursor<'a>
+        ensures { result ≡ self.now }
+    {
+        Cursor {
+            rest: self.rest,
+            line: self.line,
+        }
+    }
+
     /// Returns the line that begins here, and the cursor behind it.
     #[tactic(auto, unfolding(crate::specs::CursorReading::next_line))]
     pub fn next_line(

@@ -52,9 +52,16 @@ pub enum LineFault {
     /// The slot is above 3.
     #[error("P13")]
     SlotRange,
+    /// There are not 1 to 4 texts in a campaign.
+    #[error("P14")]
+    RunCount,
+    /// A text of a campaign has another number of generals or another seed than one before it, or a slot that
+    /// isn't greater.
+    #[error("P15")]
+    Unlike,
 }
 
-/// The first fault of a scenario text, and the number of its line, counted from 1.
+/// The first fault of a scenario text, or of a campaign's, and the number of its line, counted from 1.
 #[derive(Clone, Copy, Debug, PartialEq, Eq, Error)]
 #[error("fault {kind} line {line}")]
 pub struct ScenarioFault {

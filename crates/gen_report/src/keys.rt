@@ -46,6 +46,10 @@ fn slot_in(fields: &[&[u8]], line: usize) -> Result<Option<u8>, ReadError<Scenar
 }
 
 /// Returns the seed, if its line begins here, and the cursor behind it.
+///
+/// # Errors
+///
+/// The first fault of this line; Memory where memory was refused before.
 #[tactic(auto, unfolding(crate::specs::KeysReading::seed_at))]
 pub fn read_seed<'a>(
     alloc: Global,
@@ -61,6 +65,10 @@ pub fn read_seed<'a>(
 }
 
 /// Returns the slot, if its line begins here, and the cursor behind it.
+///
+/// # Errors
+///
+/// The first fault of this line; Memory where memory was refused before.
 #[tactic(auto, unfolding(crate::specs::KeysReading::slot_at))]
 pub fn read_slot<'a>(
     alloc: Global,

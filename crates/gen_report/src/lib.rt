@@ -3,7 +3,8 @@
 //! A scenario text has one line for each number of a network and for each of its edges, and a line for
 //! the commander's order. Where generals sign, it has the seed of their keys too, perhaps the slot of the
 //! run, and the scripts of the traitors. `read_scenario` says exactly which texts are scenarios, and of each
-//! other text which fault comes first and in which line.
+//! other text which fault comes first and in which line. What it is made of is public too, for texts in which
+//! several scenarios stand one after another: a `Cursor`, and readers that begin at one.
 #![tactic(auto)]
 
 mod blocks;
@@ -19,8 +20,11 @@ mod scenario;
 mod scenario_text;
 mod verdict_text;
 
+pub use cursor::{Cursor, Line, Numbered};
 pub use decisions::print_decisions;
 pub use fault::{LineFault, ScenarioFault};
-pub use scenario::{one_scenario, read_scenario};
+pub use keys::{read_seed, read_slot};
+pub use numbers::read_plain;
+pub use scenario::{one_scenario, read_scenario, read_signed};
 pub use scenario_text::ScenarioText;
 pub use verdict_text::print_verdict;

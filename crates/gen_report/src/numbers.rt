@@ -5,7 +5,15 @@ ghost use Rattle.gen_types.specs.Spelled.{IsRead};
 ghost use Rattle.gen_net.specs.NetworkOf.{network_of};
 ghost use Rattle.gen_report.specs.Cursor.{start_of};
 ghost use Rattle.gen_report.specs.EdgeReading.{edge_lines_at};
-ghost use Rattle.gen_report.specs.NumbersReading.{opening_at, settings_at, network_at, order_at, plain_at};
+ghost use Rattle.gen_report.specs.NumbersReading.{
+  opening_behind,
+  opening_at,
+  settings_at,
+  network_at,
+  order_at,
+  plain_behind,
+  plain_at,
+};
 
 use crate::cursor::{Cursor, Line};
 use crate::fault::{LineFault, ScenarioFault};
@@ -65,9 +73,33 @@ struct Opening<'a> {
     after: Cursor<'a>,
 }
 
-/// Reads the lines up to that of the traitors.
+/// Reads the lines behind that of the generals, up to that of the traitors.
+fn opening_behind<'a>(
+    alloc: Global,
+    generals: u8,
+    start: Cursor<'a>,
+) -> Result<Opening<'a>, ReadError<ScenarioFault>>
+    ensures { Gives (λ o. record {
+      generals = o.generals;
+      edges = o.edges.items;
+      traitors = o.traitors;
+      after = o.after;
+    }) result (opening_behind generals start.entry) }
+{
+    let edges = edge_lines(alloc, start)?;
+    let next = &edges.next;
+    let traitors = number_behind(&next.fields, b"traitors", next.number)?;
+    Ok(Opening {
+        generals,
+        edges: edges.found,
+        traitors,
+        after: edges.after,
+    })
+}
+
+/// Reads the first lines of a text, up to that of the traitors.
 #[tactic(auto, unfolding(crate::specs::NumbersReading::opening_at))]
-fn read_opening(alloc: Global, text: &[u8]) -> Result<Opening<'_>, ReadError<ScenarioFault>>
+fn first_opening(alloc: Global, text: &[u8]) -> Result<Opening<'_>, ReadError<ScenarioFault>>
     ensures { Gives (λ o. record {
       generals = o.generals;
       edges = o.edges.items;
@@ -76,15 +108,24 @@ fn read_opening(alloc: Global, text: &[u8]) -> Result<Opening<'_>, ReadError<Sce
     }) result (opening_at (start_of text.now)) }
 {
     let (generals, rest) = Cursor::behind_first(alloc, text, b"generals")?;
-    let edges = edge_lines(alloc, rest)?;
-    let next = &edges.next;
-    let traitors = number_behind(&next.fields, b"traitors", next.number)?;
-    Ok(Opening {
-        generals: generals.value,
-        edges: edges.found,
-        traitors,
-        after: edges.after,
-    })
+    opening_behind(alloc, generals.value, rest)
+}
+
+/// Reads the lines up to that of the traitors.
+#[tactic(auto, unfolding(crate::specs::NumbersReading::opening_at))]
+fn read_opening<'a>(
+    alloc: Global,
+    start: &Cursor<'a>,
+) -> Result<Opening<'a>, ReadError<ScenarioFault>>
+    ensures { Gives (λ o. record {
+      generals = o.generals;
+      edges = o.edges.items;
+      traitors = o.traitors;
+      after = o.after;
+    }) result (opening_at start.now) }
+{
+    let (generals, rest) = start.numbered(alloc, b"generals")?;
+    opening_behind(alloc, generals.value, rest)
 }
 
 /// What the three lines after that of the traitors say, the number of the last of them, and the cursor
@@ -165,15 +206,19 @@ fn read_order<'a>(
     Ok((PlainScenario::new(net, OrderNo::at(order.value)), after))
 }
 
-/// Returns the network and the order of a text, and the cursor behind their lines.
-#[tactic(auto, unfolding(crate::specs::NumbersReading::plain_at))]
-pub fn read_plain(
+/// Returns the network and the order behind the lines up to that of the traitors, and the cursor behind
+/// their lines.
+fn plain_behind<'a>(
     alloc: Global,
-    text: &[u8],
-) -> Result<(PlainScenario, Cursor<'_>), ReadError<ScenarioFault>>
-    ensures { IsRead result (plain_at (start_of text.now)) }
+    opening: Opening<'a>,
+) -> Result<(PlainScenario, Cursor<'a>), ReadError<ScenarioFault>>
+    ensures { IsRead result (plain_behind (record {
+      generals = opening.entry.generals;
+      edges = opening.entry.edges.items;
+      traitors = opening.entry.traitors;
+      after = opening.entry.after;
+    })) }
 {
-    let opening = read_opening(alloc, text)?;
     let settings = read_settings(alloc, &opening.after)?;
     let numbers = NetNumbers {
         generals: opening.generals,
@@ -184,4 +229,33 @@ pub fn read_plain(
     };
     let net = make_network(alloc, numbers, &opening.edges, settings.line)?;
     read_order(alloc, net, &settings.after)
+}
+
+/// Returns the network and the order of a text, and the cursor behind their lines.
+#[tactic(auto, unfolding(crate::specs::NumbersReading::plain_at))]
+pub fn first_plain(
+    alloc: Global,
+    text: &[u8],
+) -> Result<(PlainScenario, Cursor<'_>), ReadError<ScenarioFault>>
+    ensures { IsRead result (plain_at (start_of text.now)) }
+{
+    let opening = first_opening(alloc, text)?;
+    plain_behind(alloc, opening)
+}
+
+/// Returns the network and the order whose lines begin here, and the cursor behind them.
+///
+/// # Errors
+///
+/// The first fault of these lines, with its line, as `read_scenario` has it; Memory where memory was
+/// refused before.
+#[tactic(auto, unfolding(crate::specs::NumbersReading::plain_at))]
+pub fn read_plain<'a>(
+    alloc: Global,
+    start: &Cursor<'a>,
+) -> Result<(PlainScenario, Cursor<'a>), ReadError<ScenarioFault>>
+    ensures { IsRead result (plain_at start.now) }
+{
+    let opening = read_opening(alloc, start)?;
+    plain_behind(alloc, opening)
 }

@@ -11,7 +11,7 @@ use crate::blocks::{check_paths, read_blocks};
 use crate::cursor::Cursor;
 use crate::fault::{LineFault, ScenarioFault};
 use crate::keys::{read_seed, read_slot, version_with};
-use crate::numbers::read_plain;
+use crate::numbers::first_plain;
 use crate::scenario_text::ScenarioText;
 use gen_scenario::{PlainScenario, SignedPlan};
 use gen_types::ReadError;
@@ -39,9 +39,15 @@ fn read_end<'a>(alloc: Global, start: &Cursor<'a>) -> Result<Cursor<'a>, ReadErr
     Ok(after)
 }
 
-/// Returns the scenario with this seed, and the cursor behind its scripts.
+/// Returns the scenario with this network, this order and this seed whose other lines begin here, from that of
+/// its slot on, and the cursor behind its last line.
+///
+/// # Errors
+///
+/// The first fault of these lines, with its line, as `read_scenario` has it; Memory where memory was refused
+/// before.
 #[tactic(auto, unfolding(crate::specs::ScenarioReading::signed_at))]
-fn read_signed<'a>(
+pub fn read_signed<'a>(
     alloc: Global,
     plain: PlainScenario,
     master: [u8; 32],
@@ -87,7 +93,7 @@ fn whole(alloc: Global, text: &[u8]) -> Result<ScenarioText, ReadError<ScenarioF
     ensures exact { IsRead result (scenario_of text.now) }
     ensures network { IfOk result (λ told. IsNetwork (net_of told)) }
 {
-    let (plain, rest) = read_plain(alloc, text)?;
+    let (plain, rest) = first_plain(alloc, text)?;
     let (seed, rest) = read_seed(alloc, rest)?;
     let (told, rest) = read_told(alloc, plain, seed, rest)?;
     if !rest.is_over() {

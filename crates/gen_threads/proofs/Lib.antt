@@ -2,6 +2,7 @@ pub mod Carrying
 pub mod Ending
 pub mod Froms
 pub mod Gathering
+pub mod HeldRings
 pub mod LastWords
 pub mod Making
 pub mod Nears

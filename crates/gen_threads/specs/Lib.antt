@@ -2,6 +2,7 @@ pub mod Building
 pub mod Edges
 pub mod Ending
 pub mod Faults
+pub mod HeldRings
 pub mod Parts
 pub mod Rings
 pub mod Turns

@@ -1,6 +1,7 @@
 //! How generals and runs end.
-ghost use Rattle.std.specs.Prelude.{◌≡◌};
+ghost use Rattle.std.specs.Prelude.{◌≡◌, Some};
 
+use crate::held_rings::HeldRing;
 use gen_edge::{PutPass, TakePass};
 use gen_log::SealedLog;
 use gen_tree::{KeyRing, close_ring};
@@ -46,9 +47,10 @@ pub struct GeneralEnd {
 }
 
 impl GeneralEnd {
-    /// Returns his logs, or why he has none. His ring is closed.
-    pub(crate) fn into_logs(self) -> Result<Vec<SealedLog>, RunFault>
-        ensures { result ≡ self.logs }
+    /// Returns his logs, or why he has none, and his ring if he has one.
+    pub(crate) fn into_logs(self) -> (Result<Vec<SealedLog>, RunFault>, Option<HeldRing>)
+        ensures logs { result.0 ≡ self.logs }
+        ensures ring { result.1 ≡ self.ring }
     {
         let GeneralEnd {
             logs,
@@ -56,8 +58,35 @@ impl GeneralEnd {
             puts: _,
             takes: _,
         } = self;
-        close_ring(ring);
-        logs
+        match ring {
+            Some(ring) => (logs, Some(HeldRing::new(ring))),
+            None => (logs, None),
+        }
+    }
+
+    /// Returns the same end with this ring. One that he had is closed.
+    pub(crate) fn with_ring(self, ring: KeyRing) -> GeneralEnd
+        ensures { result ≡ record {
+          logs = self.logs;
+          ring = Some ring;
+          puts = self.puts;
+          takes = self.takes;
+        } }
+    {
+        let GeneralEnd {
+            logs,
+            ring: none,
+            puts,
+            takes,
+        } = self;
+        close_ring(none);
+        let ring = Some(ring);
+        GeneralEnd {
+            logs,
+            ring,
+            puts,
+            takes,
+        }
     }
 }
 

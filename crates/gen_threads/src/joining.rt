@@ -1,29 +1,40 @@
 //! How a run of threads ends.
-ghost use Rattle.std.specs.Prelude.{ℕ, ◌≡◌, ◌<◌, ◌+◌, ◌++◌, ◌≤◌, ◌⊎◌, [], length, Err, IfErr, IfOk, MatchResult, Ok, OnOk, vec_len, vec_capacity};
+ghost use Rattle.std.specs.Prelude.{ℕ, ◌≡◌, ◌<◌, ◌+◌, ◌++◌, ◌≤◌, ◌⊎◌, List, [], ◌∷◌, length, Err, IfErr, IfOk, MatchResult, Ok, OnOk, vec_len, vec_capacity};
+ghost use Rattle.gen_tree.specs.Rings.{Ring};
 ghost use Rattle.gen_scenario.specs.Rows.{logs_of_all};
 ghost use Rattle.gen_scenario.specs.Scenario as scenarios;
 ghost use Rattle.gen_threads.specs.Ending.{logs_by};
 ghost use Rattle.gen_threads.specs.Faults.{IsAnswerTo, IsAnsweredFault, answered_fault, outcome_of, outcome_of_turn, worse_of};
 ghost use Rattle.gen_threads.specs.declared.ends.RunFault.TheVariants.{Memory};
-ghost use Rattle.gen_threads.specs.Works.{AreParts, ArePromised, IsTurn, TurnsFrom};
+ghost use Rattle.gen_threads.specs.HeldRings.{AreAfterRun, ring_in};
+ghost use Rattle.gen_threads.specs.Works.{AreParts, ArePromised, HasMoreRing, IsTurn, TurnsFrom};
 ghost use Rattle.gen_threads.specs.declared.edges.Edges.{Edges as AllEdges};
 
 use crate::edges::Edges;
 use crate::ends::RunFault;
+use crate::held_rings::HeldRing;
 use crate::run_parts::RunPart;
 use crate::starting::Handles;
 use crate::stopping::stop_once;
 use crate::works::{Field, Turn};
 use gen_log::SealedLog;
 use gen_scenario::Scenario;
+use std::alloc::AllocError;
+use std::snapshot::Snapshot;
 use std::sync::Wait;
 use std::thread;
 use std::thread::Threads;
 
 /// Does one turn for a general whose thread was not started, and returns whether nothing is left to do.
-pub(crate) fn stop_turn<R: Wait>(rt: &R, edges: &Edges, part: &RunPart, turn: &mut Turn) -> bool
-    requires { IsTurn edges.now part.now.scenario part.now.me turn.old }
-    ensures { IsTurn edges.now part.now.scenario part.now.me turn.new }
+pub(crate) fn stop_turn<R: Wait>(
+    rt: &R,
+    edges: &Edges,
+    part: &RunPart,
+    rings: &Snapshot<Vec<HeldRing>>,
+    turn: &mut Turn,
+) -> bool
+    requires { IsTurn edges.now part.now.scenario rings.now.value.items part.now.me turn.old }
+    ensures { IsTurn edges.now part.now.scenario rings.now.value.items part.now.me turn.new }
 {
     match turn {
         Turn::Ended(_) => true,
@@ -46,9 +57,10 @@ pub(crate) fn stop_turn<R: Wait>(rt: &R, edges: &Edges, part: &RunPart, turn: &m
 fn stop_each<R: Wait>(rt: &R, field: Field, first: usize, back: &mut Vec<Turn>) -> bool
     requires parts { AreParts field.scenario.now field.parts.now }
     requires count { first + length back.old.items ≡ field.scenario.now.net.generals }
-    requires turns { TurnsFrom field.edges.now field.scenario.now first back.old.items }
+    requires turns { TurnsFrom field.edges.now field.scenario.now field.rings.now.value.items first back.old.items }
     ensures count { length back.new.items ≡ length back.old.items }
-    ensures turns { TurnsFrom field.entry.edges.now field.entry.scenario.now first back.new.items }
+    ensures turns { TurnsFrom field.entry.edges.now field.entry.scenario.now
+        field.entry.rings.now.value.items first back.new.items }
 {
     let mut over = true;
     'turns: for index in 0..back.len() {
@@ -56,6 +68,7 @@ fn stop_each<R: Wait>(rt: &R, field: Field, first: usize, back: &mut Vec<Turn>) 
             rt,
             field.edges,
             &field.parts[first + index],
+            field.rings,
             &mut back[index],
         );
         over = over && one;
@@ -67,9 +80,10 @@ fn stop_each<R: Wait>(rt: &R, field: Field, first: usize, back: &mut Vec<Turn>) 
 fn stop_all<R: Wait>(rt: &R, field: Field, first: usize, back: &mut Vec<Turn>)
     requires parts { AreParts field.scenario.now field.parts.now }
     requires count { first + length back.old.items ≡ field.scenario.now.net.generals }
-    requires turns { TurnsFrom field.edges.now field.scenario.now first back.old.items }
+    requires turns { TurnsFrom field.edges.now field.scenario.now field.rings.now.value.items first back.old.items }
     ensures count { length back.new.items ≡ length back.old.items }
-    ensures turns { TurnsFrom field.entry.edges.now field.entry.scenario.now first back.new.items }
+    ensures turns { TurnsFrom field.entry.edges.now field.entry.scenario.now
+        field.entry.rings.now.value.items first back.new.items }
 {
     for _ in rt.forever() {
         if stop_each(rt, field, first, back) {
@@ -88,11 +102,13 @@ fn join_all<'s, R: Threads>(
     back: Vec<Turn>,
     turns: Vec<Turn>,
 ) -> Vec<Turn>
-    requires promised { ArePromised field.edges.now field.scenario.now handles.items }
-    requires back { TurnsFrom field.edges.now field.scenario.now (vec_len handles) back.items }
+    requires promised { ArePromised field.edges.now field.scenario.now field.rings.now.value.items handles.items }
+    requires back { TurnsFrom field.edges.now field.scenario.now field.rings.now.value.items
+        (vec_len handles) back.items }
     requires room { (turns.items ≡ []) × (vec_len handles + vec_len back ≤ vec_capacity turns) }
     ensures count { vec_len result ≡ vec_len handles.entry + vec_len back }
-    ensures turns { TurnsFrom field.entry.edges.now field.entry.scenario.now 0 result.items }
+    ensures turns { TurnsFrom field.entry.edges.now field.entry.scenario.now
+        field.entry.rings.now.value.items 0 result.items }
 {
     let mut turns = turns;
     for handle in handles {
@@ -115,11 +131,13 @@ pub(crate) fn end_all<'s, R: Threads + Wait>(
 ) -> Vec<Turn>
     requires parts { AreParts field.scenario.now field.parts.now }
     requires count { vec_len handles + vec_len back ≡ field.scenario.now.net.generals }
-    requires promised { ArePromised field.edges.now field.scenario.now handles.items }
-    requires back { TurnsFrom field.edges.now field.scenario.now (vec_len handles) back.items }
+    requires promised { ArePromised field.edges.now field.scenario.now field.rings.now.value.items handles.items }
+    requires back { TurnsFrom field.edges.now field.scenario.now field.rings.now.value.items
+        (vec_len handles) back.items }
     requires room { (turns.items ≡ []) × (vec_len handles + vec_len back ≤ vec_capacity turns) }
     ensures count { vec_len result ≡ field.entry.scenario.now.net.generals }
-    ensures turns { TurnsFrom field.entry.edges.now field.entry.scenario.now 0 result.items }
+    ensures turns { TurnsFrom field.entry.edges.now field.entry.scenario.now
+        field.entry.rings.now.value.items 0 result.items }
 {
     let mut back = back;
     stop_all(rt, field, handles.len(), &mut back);
@@ -149,15 +167,33 @@ fn answered(fault: RunFault) -> RunFault
     }
 }
 
-/// Appends a general's logs, or returns why he has none.
-fn gather_one(turn: Turn, logs: &mut Vec<SealedLog>) -> Result<(), RunFault>
-    ensures logs { (edges : AllEdges) (s : scenarios.Scenario) (g : ℕ) → IsTurn edges s g turn
+/// Appends a ring.
+fn keep_ring(rings: &mut Vec<HeldRing>, ring: HeldRing) -> Result<(), AllocError>
+    ensures { OnOk result (rings.new.items ≡ rings.old.items ++ ring ∷ []) }
+{
+    rings.push(ring)?;
+    Ok(())
+}
+
+/// Appends a general's logs and his ring, or returns why he has no logs.
+fn gather_one(
+    turn: Turn,
+    logs: &mut Vec<SealedLog>,
+    rings: &mut Vec<HeldRing>,
+) -> Result<(), RunFault>
+    ensures logs { (edges : AllEdges) (s : scenarios.Scenario) (held : List Ring) (g : ℕ) → IsTurn edges s held g turn
         → OnOk result (logs.new.items ≡ logs.old.items ++ logs_by s g) }
+    ensures rings { (edges : AllEdges) (s : scenarios.Scenario) (held : List Ring) (g : ℕ) → IsTurn edges s held g turn
+        → OnOk result (HasMoreRing s g (ring_in held g) rings.old.items rings.new.items) }
     ensures outcome { (result ≡ outcome_of_turn turn) ⊎ (result ≡ Err Memory) }
 {
     match turn {
         Turn::Ended(end) => {
-            let mut own = end.into_logs()?;
+            let (logs_or_fault, ring) = end.into_logs();
+            let mut own = logs_or_fault?;
+            if let Some(ring) = ring {
+                keep_ring(rings, ring)?;
+            }
             logs.append(&mut own)?;
             Ok(())
         }
@@ -165,28 +201,32 @@ fn gather_one(turn: Turn, logs: &mut Vec<SealedLog>) -> Result<(), RunFault>
     }
 }
 
-/// Returns the logs of all, in the order of generals, or the fault of the run: that of the worst of its generals' faults,
-/// or want of memory.
+/// Returns the logs of all and their rings, in the order of generals, or the fault of the run: that of the worst of its
+/// generals' faults, or want of memory.
 pub(crate) fn gather(
     scenario: &Scenario,
     edges: &Edges,
+    held: &Snapshot<Vec<HeldRing>>,
     turns: Vec<Turn>,
     logs: Vec<SealedLog>,
-) -> Result<Vec<SealedLog>, RunFault>
+    rings: Vec<HeldRing>,
+) -> Result<(Vec<SealedLog>, Vec<HeldRing>), RunFault>
     requires count { vec_len turns ≡ scenario.now.net.generals }
-    requires turns { TurnsFrom edges.now scenario.now 0 turns.items }
-    requires empty { logs.items ≡ [] }
-    ensures logs { IfOk result (λ logs. logs.items ≡ logs_of_all scenario.now) }
+    requires turns { TurnsFrom edges.now scenario.now held.now.value.items 0 turns.items }
+    requires empty { (logs.items ≡ []) × (rings.items ≡ []) }
+    ensures logs { IfOk result (λ r. r.0.items ≡ logs_of_all scenario.now) }
+    ensures rings { IfOk result (λ r. AreAfterRun scenario.now held.now.value.items r.1.items) }
     ensures fault { IfErr result IsAnsweredFault }
     ensures outcome { MatchResult result (λ _. outcome_of turns.items ≡ Ok tt) (IsAnswerTo (outcome_of turns.items)) }
 {
     let mut logs = logs;
+    let mut rings = rings;
     let mut outcome = Ok(());
     for turn in turns {
-        outcome = worse(outcome, gather_one(turn, &mut logs));
+        outcome = worse(outcome, gather_one(turn, &mut logs, &mut rings));
     }
     match outcome {
-        Ok(()) => Ok(logs),
+        Ok(()) => Ok((logs, rings)),
         Err(fault) => Err(answered(fault)),
     }
 }

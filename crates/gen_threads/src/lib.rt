@@ -6,6 +6,7 @@
 mod edges;
 mod ends;
 mod gates;
+mod held_rings;
 mod joining;
 mod rounds;
 mod run_parts;
@@ -20,9 +21,10 @@ mod works;
 pub use edges::{Edges, Passes};
 pub use ends::{GeneralEnd, RunFault};
 pub use gates::Gate;
+pub use held_rings::{HeldRing, open_rings};
 pub use run_parts::RunPart;
 pub use running::run_general;
-pub use together::run_threads;
+pub use together::{run_threads, run_with_rings};
 pub use trees::make_trees;
 
 #[cfg(test)]

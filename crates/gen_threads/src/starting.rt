@@ -1,16 +1,20 @@
 //! How generals' threads are started.
 ghost use Rattle.std.specs.Prelude.{◌≡◌, ◌<◌, ◌+◌, ◌≤◌, [], false, length, IfOk, IfErr, vec_len, vec_capacity};
-ghost use Rattle.gen_threads.specs.Works.{AreParts, ArePromised, AreWorks, IsPromise, IsTurn, IsWork, TurnsFrom};
+ghost use Rattle.gen_threads.specs.Edges.{HasNewPasses};
+ghost use Rattle.gen_threads.specs.HeldRings.{MayServe};
+ghost use Rattle.gen_threads.specs.Works.{AreParts, ArePromised, AreWorks, HasRun, IsPromise, IsTurn, IsWork, TurnsFrom};
 
 use crate::edges::{Edges, Passes};
 use crate::ends::GeneralEnd;
 use crate::gates::Gate;
+use crate::held_rings::HeldRing;
 use crate::run_parts::RunPart;
 use crate::running::run_general;
 use crate::works::{EndsAs, Field, Turn, Work};
 use gen_scenario::Scenario;
 use gen_types::GeneralNo;
 use std::alloc::Global;
+use std::snapshot::Snapshot;
 use std::sync::Wait;
 use std::sync::atomic::{AtomicBool, Ordering};
 use std::thread::{PromisedHandle, Scope, Threads};
@@ -25,6 +29,28 @@ fn show_logs<G: Gate>(gate: &G, general: GeneralNo, end: &GeneralEnd) {
     }
 }
 
+/// Runs a general, whose ring sits out where he has a script.
+fn run_held<R: Wait, G: Gate>(
+    rt: &R,
+    alloc: Global,
+    gate: &G,
+    edges: &Edges,
+    part: &RunPart,
+    held: HeldRing,
+    passes: Passes,
+) -> GeneralEnd
+    requires ring { MayServe part.now.scenario part.now.me held }
+    requires passes { HasNewPasses edges.now part.now.scenario part.now.me passes }
+    ensures { HasRun part.now.scenario part.now.me held result }
+{
+    let Passes { puts, takes } = passes;
+    let ring = held.into_ring();
+    match part.part().lines() {
+        None => run_general(rt, alloc, gate, part, Some(ring), edges, puts, takes),
+        Some(_) => run_general(rt, alloc, gate, part, None, edges, puts, takes).with_ring(ring),
+    }
+}
+
 /// Runs a general and shows the gate his logs, or hands his work back where his flag is set.
 pub(crate) fn run_work<R: Wait, G: Gate>(
     rt: &R,
@@ -34,21 +60,21 @@ pub(crate) fn run_work<R: Wait, G: Gate>(
     scenario: &Scenario,
     parts: &[RunPart],
     flags: &[AtomicBool],
+    rings: &Snapshot<Vec<HeldRing>>,
     me: usize,
     work: Work,
 ) -> Turn
     requires me { me < scenario.now.net.generals }
     requires parts { AreParts scenario.now parts.now }
     requires flags { length flags.now ≡ scenario.now.net.generals }
-    requires work { IsWork edges.now scenario.now me work }
-    ensures { IsTurn edges.now scenario.now me result }
+    requires work { IsWork edges.now scenario.now rings.now.value.items me work }
+    ensures { IsTurn edges.now scenario.now rings.now.value.items me result }
 {
     if flags[me].load(Ordering::SeqCst) {
         return Turn::Back(work);
     }
-    let (ring, passes) = work.into_parts();
-    let Passes { puts, takes } = passes;
-    let end = run_general(rt, alloc, gate, &parts[me], ring, edges, puts, takes);
+    let Work { ring, passes } = work;
+    let end = run_held(rt, alloc, gate, edges, &parts[me], ring, passes);
     show_logs(gate, parts[me].part().me(), &end);
     Turn::Ended(end)
 }
@@ -70,28 +96,37 @@ fn start_one<'s, E, R: Threads + Wait + Sync, G: Gate + Sync>(
     requires me { me < field.scenario.now.net.generals }
     requires parts { AreParts field.scenario.now field.parts.now }
     requires flags { length field.flags.now ≡ field.scenario.now.net.generals }
-    requires work { IsWork field.edges.now field.scenario.now me work }
-    ensures ok { IfOk result (λ h. IsPromise field.entry.edges.now field.entry.scenario.now me h.promise) }
-    ensures err { IfErr result (IsTurn field.entry.edges.now field.entry.scenario.now me) }
+    requires work { IsWork field.edges.now field.scenario.now field.rings.now.value.items me work }
+    ensures ok { IfOk result (λ h. IsPromise field.entry.edges.now field.entry.scenario.now
+        field.entry.rings.now.value.items me h.promise) }
+    ensures err { IfErr result (IsTurn field.entry.edges.now field.entry.scenario.now
+        field.entry.rings.now.value.items me) }
 {
     let Field {
         edges,
         scenario,
         parts,
         flags,
+        rings,
     } = field;
     let promise = EndsAs {
         edges,
         scenario,
+        rings,
         me,
     };
     match scope.spawn_with(
         promise,
         move || -> Turn
             requires { (me < scenario.now.net.generals) × AreParts scenario.now parts.now
-                × (length flags.now ≡ scenario.now.net.generals) × IsWork edges.now scenario.now me work }
-            ensures { IsTurn edges.entry.now scenario.entry.now me result }
-        { run_work(rt, alloc, gate, edges, scenario, parts, flags, me, work) },
+                × (length flags.now ≡ scenario.now.net.generals)
+                × IsWork edges.now scenario.now rings.now.value.items me work }
+            ensures { IsTurn edges.entry.now scenario.entry.now rings.entry.now.value.items me result }
+        {
+            run_work(
+                rt, alloc, gate, edges, scenario, parts, flags, rings, me, work,
+            )
+        },
     ) {
         Ok(handle) => Ok(handle),
         Err(refused) => {
@@ -119,10 +154,12 @@ fn start_next<'s, E, R: Threads + Wait + Sync, G: Gate + Sync>(
     requires me { me < field.scenario.now.net.generals }
     requires parts { AreParts field.scenario.now field.parts.now }
     requires flags { length field.flags.now ≡ field.scenario.now.net.generals }
-    requires work { IsWork field.edges.now field.scenario.now me work }
-    ensures ok { IfOk result (λ h. IsPromise field.entry.edges.now field.entry.scenario.now me h.promise) }
+    requires work { IsWork field.edges.now field.scenario.now field.rings.now.value.items me work }
+    ensures ok { IfOk result (λ h. IsPromise field.entry.edges.now field.entry.scenario.now
+        field.entry.rings.now.value.items me h.promise) }
     ensures started { IfOk result (λ _. stopped ≡ false) }
-    ensures err { IfErr result (IsTurn field.entry.edges.now field.entry.scenario.now me) }
+    ensures err { IfErr result (IsTurn field.entry.edges.now field.entry.scenario.now
+        field.entry.rings.now.value.items me) }
 {
     if stopped {
         return Err(Turn::Back(work));
@@ -144,12 +181,14 @@ pub(crate) fn start_all<'s, E, R: Threads + Wait + Sync, G: Gate + Sync>(
 ) -> (Handles<'s>, Vec<Turn>)
     requires parts { AreParts field.scenario.now field.parts.now }
     requires flags { length field.flags.now ≡ field.scenario.now.net.generals }
-    requires works { AreWorks field.edges.now field.scenario.now works.items }
+    requires works { AreWorks field.edges.now field.scenario.now field.rings.now.value.items works.items }
     requires empty { (handles.items ≡ []) × (back.items ≡ []) }
     requires room { (vec_len works ≤ vec_capacity handles) × (vec_len works ≤ vec_capacity back) }
     ensures count { vec_len result.0 + vec_len result.1 ≡ vec_len works }
-    ensures promised { ArePromised field.entry.edges.now field.entry.scenario.now result.0.items }
-    ensures turns { TurnsFrom field.entry.edges.now field.entry.scenario.now (vec_len result.0) result.1.items }
+    ensures promised { ArePromised field.entry.edges.now field.entry.scenario.now
+        field.entry.rings.now.value.items result.0.items }
+    ensures turns { TurnsFrom field.entry.edges.now field.entry.scenario.now
+        field.entry.rings.now.value.items (vec_len result.0) result.1.items }
 {
     let mut handles = handles;
     let mut back = back;

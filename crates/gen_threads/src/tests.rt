@@ -3,12 +3,13 @@ use crate::joining::stop_turn;
 use crate::starting::run_work;
 use crate::together::make_flags;
 use crate::works::{Turn, make_parts, make_works};
-use crate::{Gate, RunFault, run_threads};
+use crate::{Gate, RunFault, open_rings, run_threads};
 use gen_log::SealedLog;
 use gen_net::Net;
 use gen_types::{GeneralNo, OrderNo};
 use gen_world::{Scenario, run_world};
 use std::alloc::{AllocError, Global};
+use std::snapshot::Snapshot;
 use std::sync::Wait;
 use std::sync::atomic::{AtomicBool, Ordering};
 use std::test::*;
@@ -153,15 +154,19 @@ fn turns_of<R: Wait>(
     stopped: &[bool],
 ) -> Result<Vec<Turn>, AllocError> {
     let all_parts = make_parts(alloc, scenario)?;
-    let (edges, works) = make_works(alloc, scenario, 4)?;
+    let rings = open_rings(alloc, scenario)?;
+    let held = Snapshot::of(&rings);
+    let (edges, works) = make_works(alloc, scenario, 4, rings)?;
     let all_flags = make_flags(alloc, all_parts.len())?;
     set_all(all_flags.as_slice(), stopped);
     let (parts, flags) = (all_parts.as_slice(), all_flags.as_slice());
     let mut turns = Vec::new(alloc);
     let mut me = 0;
     'works: for work in works {
-        let mut turn = run_work(rt, alloc, &Open, &edges, scenario, parts, flags, me, work);
-        stop_turn(rt, &edges, &parts[me], &mut turn);
+        let mut turn = run_work(
+            rt, alloc, &Open, &edges, scenario, parts, flags, &held, me, work,
+        );
+        stop_turn(rt, &edges, &parts[me], &held, &mut turn);
         turns.push(turn)?;
         me += 1;
     }

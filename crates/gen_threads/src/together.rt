@@ -1,12 +1,15 @@
 //! All generals in threads.
 ghost use Rattle.std.specs.Prelude.{◌≡◌, ◌<◌, ◌≤◌, [], length, IfErr, IfOk, vec_len, vec_capacity};
+ghost use Rattle.gen_scenario.specs.AllAre.{AllAre};
 ghost use Rattle.gen_scenario.specs.Rows.{logs_of_all};
 ghost use Rattle.gen_threads.specs.Faults.{IsAnsweredFault};
+ghost use Rattle.gen_threads.specs.HeldRings.{AreAfterRun, MayServe};
 ghost use Rattle.gen_threads.specs.Works.{AreParts, AreWorks, TurnsFrom};
 
 use crate::edges::Edges;
 use crate::ends::RunFault;
 use crate::gates::Gate;
+use crate::held_rings::{HeldRing, open_rings};
 use crate::joining::{end_all, gather};
 use crate::run_parts::RunPart;
 use crate::starting::start_all;
@@ -14,6 +17,7 @@ use crate::works::{Field, Turn, Work, make_parts, make_works};
 use gen_log::SealedLog;
 use gen_scenario::Scenario;
 use std::alloc::{AllocError, Global};
+use std::snapshot::Snapshot;
 use std::sync::Wait;
 use std::sync::atomic::AtomicBool;
 use std::thread;
@@ -43,11 +47,12 @@ fn run_within<'s, E, R: Threads + Wait + Sync, G: Gate + Sync>(
 ) -> Result<Vec<Turn>, AllocError>
     requires parts { AreParts field.scenario.now field.parts.now }
     requires flags { length field.flags.now ≡ field.scenario.now.net.generals }
-    requires works { AreWorks field.edges.now field.scenario.now works.items }
+    requires works { AreWorks field.edges.now field.scenario.now field.rings.now.value.items works.items }
     requires empty { (turns.items ≡ []) × (back.items ≡ []) }
     requires room { (vec_len works ≤ vec_capacity turns) × (vec_len works ≤ vec_capacity back) }
     ensures count { IfOk result (λ v. vec_len v ≡ field.entry.scenario.now.net.generals) }
-    ensures turns { IfOk result (λ v. TurnsFrom field.entry.edges.now field.entry.scenario.now 0 v.items) }
+    ensures turns { IfOk result (λ v. TurnsFrom field.entry.edges.now field.entry.scenario.now
+        field.entry.rings.now.value.items 0 v.items) }
 {
     let handles = Vec::with_capacity(alloc, works.len())?;
     let (handles, back) = start_all(rt, alloc, gate, scope, field, works, handles, back);
@@ -61,13 +66,14 @@ fn run_works<R: Threads + Wait + Sync, G: Gate + Sync>(
     gate: &G,
     edges: &Edges,
     scenario: &Scenario,
+    rings: &Snapshot<Vec<HeldRing>>,
     parts: &[RunPart],
     works: Vec<Work>,
 ) -> Result<Vec<Turn>, AllocError>
     requires parts { AreParts scenario.now parts.now }
-    requires works { AreWorks edges.now scenario.now works.items }
+    requires works { AreWorks edges.now scenario.now rings.now.value.items works.items }
     ensures count { IfOk result (λ v. vec_len v ≡ scenario.now.net.generals) }
-    ensures turns { IfOk result (λ v. TurnsFrom edges.now scenario.now 0 v.items) }
+    ensures turns { IfOk result (λ v. TurnsFrom edges.now scenario.now rings.now.value.items 0 v.items) }
 {
     let count = works.len();
     let all_flags = make_flags(alloc, count)?;
@@ -79,20 +85,63 @@ fn run_works<R: Threads + Wait + Sync, G: Gate + Sync>(
         rt,
         move |scope| -> Result<Vec<Turn>, AllocError>
             requires { AreParts scenario.now parts.now × (length flags.now ≡ scenario.now.net.generals)
-                × AreWorks edges.now scenario.now works.items × (turns.items ≡ []) × (back.items ≡ [])
+                × AreWorks edges.now scenario.now rings.now.value.items works.items × (turns.items ≡ []) × (back.items ≡ [])
                 × (vec_len works ≤ vec_capacity turns) × (vec_len works ≤ vec_capacity back) }
             ensures { IfOk result (λ v. (vec_len v ≡ scenario.entry.now.net.generals)
-                × TurnsFrom edges.entry.now scenario.entry.now 0 v.items) }
+                × TurnsFrom edges.entry.now scenario.entry.now rings.entry.now.value.items 0 v.items) }
         {
             let field = Field {
                 edges,
                 scenario,
                 parts,
                 flags,
+                rings,
             };
             run_within(rt, alloc, gate, scope, field, works, back, turns)
         },
     )
+}
+
+/// Runs a scenario as `run_threads` does, with rings that are handed in, one for each general in their order: each is
+/// that of his seed, of the run's height, and no leaf of the run was taken from it. Returns the logs of all, and the
+/// rings in the same order: from each exactly the leaves of what he signed in his log were taken. The ring of one who has
+/// a script sits out the run.
+///
+/// So a ring that comes back may be handed in again to a run of another slot.
+///
+/// # Errors
+///
+/// As `run_threads`. All rings are closed then.
+pub fn run_with_rings<R: Threads + Wait + Sync, G: Gate + Sync>(
+    rt: &R,
+    alloc: Global,
+    scenario: &Scenario,
+    capacity: usize,
+    gate: &G,
+    rings: Vec<HeldRing>,
+) -> Result<(Vec<SealedLog>, Vec<HeldRing>), RunFault>
+    requires capacity { 0 < capacity }
+    requires rings { AllAre (MayServe scenario.now) scenario.now.net.generals rings.items }
+    ensures logs { IfOk result (λ r. r.0.items ≡ logs_of_all scenario.now) }
+    ensures rings { IfOk result (λ r. AreAfterRun scenario.now rings.items r.1.items) }
+    ensures fault { IfErr result IsAnsweredFault }
+{
+    let held = Snapshot::of(&rings);
+    let parts = make_parts(alloc, scenario)?;
+    let logs = Vec::with_capacity(alloc, 2 * parts.len())?;
+    let back = Vec::with_capacity(alloc, parts.len())?;
+    let (edges, works) = make_works(alloc, scenario, capacity, rings)?;
+    let turns = run_works(
+        rt,
+        alloc,
+        gate,
+        &edges,
+        scenario,
+        &held,
+        parts.as_slice(),
+        works,
+    )?;
+    gather(scenario, &edges, &held, turns, logs, back)
 }
 
 /// Runs a scenario, each general in a thread of his own, over edges that hold so many frames each, at least one; and
@@ -117,9 +166,7 @@ pub fn run_threads<R: Threads + Wait + Sync, G: Gate + Sync>(
     ensures logs { IfOk result (λ logs. logs.items ≡ logs_of_all scenario.now) }
     ensures fault { IfErr result IsAnsweredFault }
 {
-    let parts = make_parts(alloc, scenario)?;
-    let (edges, works) = make_works(alloc, scenario, capacity)?;
-    let logs = Vec::with_capacity(alloc, 2 * parts.len())?;
-    let turns = run_works(rt, alloc, gate, &edges, scenario, parts.as_slice(), works)?;
-    gather(scenario, &edges, turns, logs)
+    let rings = open_rings(alloc, scenario)?;
+    let (logs, _rings) = run_with_rings(rt, alloc, scenario, capacity, gate, rings)?;
+    Ok(logs)
 }

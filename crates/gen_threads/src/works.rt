@@ -1,39 +1,25 @@
 //! What a general's thread is started with, and what comes of it.
 ghost use Rattle.std.specs.Prelude.{◌≡◌, ◌<◌, ◌+◌, IfOk};
-ghost use Rattle.gen_scenario.specs.Rings.{ring_at};
+ghost use Rattle.gen_scenario.specs.AllAre.{AllAre};
+ghost use Rattle.gen_threads.specs.HeldRings.{MayServe};
 ghost use Rattle.gen_threads.specs.Works.{AreParts, AreWorks};
 
 use crate::edges::{Edges, Passes};
 use crate::ends::GeneralEnd;
+use crate::held_rings::HeldRing;
 use crate::run_parts::RunPart;
 use gen_scenario::Scenario;
-use gen_tree::{KeyRing, close_ring};
 use gen_types::GeneralNo;
 use std::alloc::{AllocError, Global};
+use std::snapshot::Snapshot;
 use std::sync::atomic::AtomicBool;
 use std::thread::Promise;
 
 /// A general's ring and passes, before his thread is started.
+#[derive(Drop)]
 pub(crate) struct Work {
-    pub(crate) ring: Option<KeyRing>,
+    pub(crate) ring: HeldRing,
     pub(crate) passes: Passes,
-}
-
-impl Drop for Work {
-    fn drop(self) {
-        let Work { ring, passes: _ } = self;
-        close_ring(ring);
-    }
-}
-
-impl Work {
-    /// Returns the ring and the passes.
-    pub(crate) fn into_parts(self) -> (Option<KeyRing>, Passes)
-        ensures { (result.0 ≡ self.ring) × (result.1 ≡ self.passes) }
-    {
-        let Work { ring, passes } = self;
-        (ring, passes)
-    }
 }
 
 /// What comes of a general: how he ended, or the work of one whose thread could not be started.
@@ -43,27 +29,30 @@ pub(crate) enum Turn {
     Back(Work),
 }
 
-/// What all threads share. A set flag says that the general's thread was not started.
+/// What all threads share. A set flag says that the general's thread was not started. In contracts, and there alone, it
+/// has the rings that were handed in.
 #[derive(Clone, Copy)]
 pub(crate) struct Field<'a> {
     pub(crate) edges: &'a Edges,
     pub(crate) scenario: &'a Scenario,
     pub(crate) parts: &'a [RunPart],
     pub(crate) flags: &'a [AtomicBool],
+    pub(crate) rings: &'a Snapshot<Vec<HeldRing>>,
 }
 
-/// That this general ends as in the scenario's run.
+/// That this general ends as in the scenario's run, with his ring of those that were handed in.
 #[derive(Clone, Copy)]
 pub(crate) struct EndsAs<'a> {
     pub(crate) edges: &'a Edges,
     pub(crate) scenario: &'a Scenario,
+    pub(crate) rings: &'a Snapshot<Vec<HeldRing>>,
     pub(crate) me: usize,
 }
 
 impl<'a> Promise<Turn> for EndsAs<'a> {
     ghost use Rattle.gen_threads.specs.Works.{IsTurn};
 
-    ghost kept_by = { λ p t. IsTurn p.edges.now p.scenario.now p.me t };
+    ghost kept_by = { λ p t. IsTurn p.edges.now p.scenario.now p.rings.now.value.items p.me t };
 }
 
 /// Returns what each general knows, in their order.
@@ -78,23 +67,24 @@ pub(crate) fn make_parts(alloc: Global, scenario: &Scenario) -> Result<Vec<RunPa
     Ok(parts)
 }
 
-/// Makes the edges, each of which holds so many frames, and opens the rings of all who have no scripts.
+/// Makes the edges, each of which holds so many frames, and gives each general his ring and his passes.
 pub(crate) fn make_works(
     alloc: Global,
     scenario: &Scenario,
     capacity: usize,
+    rings: Vec<HeldRing>,
 ) -> Result<(Edges, Vec<Work>), AllocError>
-    requires { 0 < capacity }
-    ensures { IfOk result (λ made. AreWorks made.0 scenario.now made.1.items) }
+    requires capacity { 0 < capacity }
+    requires rings { AllAre (MayServe scenario.now) scenario.now.net.generals rings.items }
+    ensures { IfOk result (λ made. AreWorks made.0 scenario.now rings.items made.1.items) }
 {
-    let _lawful = scenario.header();
     let (edges, all) = Edges::new(alloc, scenario, capacity)?;
     let mut works = Vec::with_capacity(alloc, all.len())?;
-    let mut me = 0u8;
+    let mut others = rings.into_iter();
     'works: for passes in all {
-        let ring = scenario.ring_if_loyal(GeneralNo::at(me))?;
-        works.push_reserved(Work { ring, passes });
-        me += 1;
+        if let Some(ring) = others.next() {
+            works.push_reserved(Work { ring, passes });
+        }
     }
     Ok((edges, works))
 }

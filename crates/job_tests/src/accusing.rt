@@ -3,6 +3,7 @@ use crate::bundles::bundle_of;
 use crate::scenarios::SPLIT;
 use crate::streams::{Slip, sink_for, source_of};
 use gen_audit::{BundleFault, WorkerCount};
+use gen_campaign::CampaignFault;
 use gen_convict::EvidenceFault;
 use gen_jobs::{JobEnd, JobFault, accuse_engine, evidence_engine};
 use gen_types::GeneralNo;
@@ -79,7 +80,9 @@ fn a_cut_bundle_accuses_nobody(rt: HostRuntime) -> Result<(), Fail> {
     let mut bundle = bundle_of(alloc, SPLIT)?;
     let _ = bundle.pop();
     let (end, evidence) = accused(&rt, alloc, WorkerCount::one(), &bundle, GeneralNo::at(0));
-    assert!(rt; end == JobEnd::Failed(JobFault::Bundle(BundleFault::Truncated)));
+    assert!(rt;
+        end == JobEnd::Failed(JobFault::Campaign(CampaignFault::Alone(BundleFault::Truncated)))
+    );
     assert!(rt; evidence.is_empty());
     Ok(())
 }

@@ -7,6 +7,7 @@ use crate::scenarios::{
 };
 use crate::streams::{Slip, sink_for, source_of};
 use gen_audit::{BundleFault, WorkerCount, read_bundle};
+use gen_campaign::CampaignFault;
 use gen_jobs::{JobEnd, JobFault, audit_engine};
 use gen_net::HeaderFault;
 use gen_types::{GeneralNo, GeneralSet, ReadError};
@@ -195,7 +196,9 @@ fn refusal_of<R: Threads + Wait + Sync>(rt: &R, alloc: Global, input: &[u8]) -> 
 
 /// Whether a bundle cut at every 1,009th byte ends too early.
 fn cuts_are_short<R: Threads + Wait + Sync>(rt: &R, alloc: Global, bundle: &[u8]) -> bool {
-    let short = Some(JobEnd::Failed(JobFault::Bundle(BundleFault::Truncated)));
+    let short = Some(JobEnd::Failed(JobFault::Campaign(CampaignFault::Alone(
+        BundleFault::Truncated,
+    ))));
     for cut in 0..66usize {
         let front = bundle.get(..cut.saturating_mul(1_009)).unwrap_or(&[]);
         if refusal_of(rt, alloc, front) != short {
@@ -223,7 +226,9 @@ fn cut_bundles_are_refused(rt: HostRuntime) -> Result<(), Fail> {
     assert_eq!(rt; bundle.len(), 66_250);
     assert!(rt; cuts_are_short(&rt, alloc, &bundle) && beginnings_are_short(alloc, &bundle));
     bundle.push(0)?;
-    let left_over = Some(JobEnd::Failed(JobFault::Bundle(BundleFault::LeftOver)));
+    let left_over = Some(JobEnd::Failed(JobFault::Campaign(CampaignFault::Alone(
+        BundleFault::LeftOver,
+    ))));
     assert!(rt; refusal_of(&rt, alloc, &bundle) == left_over);
     Ok(())
 }
@@ -280,7 +285,10 @@ fn is_refused<R: Threads + Wait + Sync>(
     if let Some(byte) = changed.get_mut(offset) {
         *byte = value;
     }
-    Ok(refusal_of(rt, alloc, &changed) == Some(JobEnd::Failed(JobFault::Bundle(fault))))
+    Ok(
+        refusal_of(rt, alloc, &changed)
+            == Some(JobEnd::Failed(JobFault::Campaign(CampaignFault::Alone(fault)))),
+    )
 }
 
 #[test]

@@ -3,6 +3,7 @@ use crate::deciding::LINE_DECISIONS;
 use crate::scenarios::LINE_WITHOUT_SEED;
 use crate::streams::{Slip, sink_for, source_of};
 use gen_audit::BundleFault;
+use gen_campaign::CampaignFault;
 use gen_convict::EvidenceFault;
 use gen_jobs::{JobEnd, JobFault, Output, deliver, read_all, write_output};
 use gen_net::HeaderFault;
@@ -40,7 +41,7 @@ fn writes_all(rt: HostRuntime) -> Result<(), Fail> {
 #[test]
 fn writes_nothing_at_a_fault(rt: HostRuntime) {
     let mut writer = sink_for(rt.alloc(), 3, 0, Slip::Fails);
-    let fault = JobFault::Bundle(BundleFault::Truncated);
+    let fault = JobFault::Campaign(CampaignFault::Alone(BundleFault::Truncated));
     assert!(rt; deliver(&mut writer, Err(fault)) == JobEnd::Failed(fault));
     assert!(rt; writer.taken.is_empty());
 }
@@ -53,13 +54,23 @@ fn shows_ends(rt: HostRuntime) -> Result<(), Fail> {
     };
     let cases = [
         (JobFault::Scenario(fault), 3, "fault P2 line 3"),
-        (JobFault::Bundle(BundleFault::Truncated), 3, "fault B1"),
         (
-            JobFault::Bundle(BundleFault::BadHeader(HeaderFault::OrderCount)),
+            JobFault::Campaign(CampaignFault::Alone(BundleFault::Truncated)),
+            3,
+            "fault B1",
+        ),
+        (
+            JobFault::Campaign(CampaignFault::Alone(BundleFault::BadHeader(
+                HeaderFault::OrderCount,
+            ))),
             3,
             "fault B3 H6",
         ),
-        (JobFault::Bundle(BundleFault::OutOfOrder), 3, "fault B9"),
+        (
+            JobFault::Campaign(CampaignFault::Alone(BundleFault::OutOfOrder)),
+            3,
+            "fault B9",
+        ),
         (JobFault::Evidence(EvidenceFault::Truncated), 3, "fault V1"),
         (JobFault::Memory, 4, "memory"),
         (JobFault::Thread, 4, "thread"),

@@ -7,6 +7,7 @@ use crate::deciding::SPLIT_DECISIONS;
 use crate::scenarios::{PAIR_WITHOUT_SEED, SPLIT};
 use crate::streams::{Slip, sink_for, source_of};
 use gen_audit::{BundleFault, WorkerCount};
+use gen_campaign::CampaignFault;
 use gen_convict::EvidenceFault;
 use gen_jobs::{
     Job, JobEnd, JobFault, Output, accuse, audit, decide, do_job, evidence, run, run_in_pieces,
@@ -95,7 +96,7 @@ fn audits_bytes(rt: HostRuntime) -> Result<(), Fail> {
     assert!(rt;
         is_fault(
             &audit(&rt, alloc, WorkerCount::one(), b""),
-            JobFault::Bundle(BundleFault::Truncated)
+            JobFault::Campaign(CampaignFault::Alone(BundleFault::Truncated))
         )
     );
     Ok(())

@@ -34,6 +34,12 @@ const MISSING: [&[u8]; 1] = [&[1, 3, 0, 0, 0, 2, 0xaa, 0xbb, 1, 0, 2, 0, 1]];
 /// The same log, and its entry 9.
 const DEPARTING: [&[u8]; 1] = [&[1, 4, 0, 0, 0, 2, 0xaa, 0xbb, 0, 0, 0, 9]];
 
+/// The beginning of evidence across runs: general 1, the kind, and another header of slot 2 up to its roots, with m = 2.
+const OTHER_HEADER: [u8; 16] = [1, 5, 2, 2, 3, 2, 1, 2, 0, 3, 0, 1, 0, 2, 1, 2];
+
+/// The order 1 that general 1 relayed.
+const RELAYED: [u8; 5] = [1, 1, 2, 0, 1];
+
 /// Evidence that begins with the front and three roots, and has a signature behind each of the parts.
 fn evidence_bytes(
     alloc: Global,
@@ -61,8 +67,22 @@ fn departing(alloc: Global) -> Result<Vec<u8>, AllocError> {
     evidence_bytes(alloc, &FRONT, &DEPARTING, &[])
 }
 
+/// Evidence across runs, under a header of version 2.
+fn across(alloc: Global) -> Result<Vec<u8>, AllocError> {
+    let mut first = Vec::new(alloc);
+    first.extend_from_slice(&OTHER_HEADER)?;
+    first.extend_from_slice(&[7; 96])?;
+    first.extend_from_slice(&RELAYED)?;
+    let parts: [&[u8]; 2] = [first.as_slice(), &RELAYED];
+    evidence_bytes(alloc, &FRONT_IN_SLOT, &parts, &[7; 16_576])
+}
+
 /// The number of the accused and the slot, where these bytes are evidence of this length which is written again so.
-fn accused_and_slot(alloc: Global, bytes: &[u8], length: usize) -> Result<(u8, u8), Fail> {
+pub(crate) fn accused_and_slot(
+    alloc: Global,
+    bytes: &[u8],
+    length: usize,
+) -> Result<(u8, u8), Fail> {
     let Ok((header, evidence)) = read_evidence(alloc, bytes) else {
         return Err("no evidence".into());
     };
@@ -194,6 +214,36 @@ fn faults_of_a_log_and_a_statement(rt: HostRuntime) -> Result<(), Fail> {
     ];
     let missing = evidence_of(rt.alloc(), &MISSING)?;
     let wrong = first_wrong(rt.alloc(), &missing, &cases)?;
+    assert!(rt; wrong.is_none());
+    Ok(())
+}
+
+#[test]
+fn evidence_across_is_read_and_written_again(rt: HostRuntime) -> Result<(), Fail> {
+    let alloc = rt.alloc();
+    let across = across(alloc)?;
+    assert_eq!(rt; accused_and_slot(alloc, &across, 33_388)?, (1, 2));
+    assert!(rt; cuts_are_short(alloc, &across, 115, 130));
+    Ok(())
+}
+
+#[test]
+fn faults_of_the_other_header(rt: HostRuntime) -> Result<(), Fail> {
+    let cases = [
+        (
+            116,
+            1,
+            EvidenceFault::BadHeader(HeaderFault::UnknownVersion),
+        ),
+        (117, 1, EvidenceFault::OtherLeaves),
+        (117, 4, EvidenceFault::BadHeader(HeaderFault::SlotRange)),
+        (119, 1, EvidenceFault::OtherLeaves),
+        (130, 8, EvidenceFault::OtherLeaves),
+        (226, 3, EvidenceFault::OutOfRange),
+        (227, 2, EvidenceFault::OutOfRange),
+    ];
+    let across = across(rt.alloc())?;
+    let wrong = first_wrong(rt.alloc(), &across, &cases)?;
     assert!(rt; wrong.is_none());
     Ok(())
 }

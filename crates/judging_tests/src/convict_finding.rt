@@ -114,6 +114,12 @@ fn claimed(reports: &[LocalReport], evidence: &Evidence) -> Claimed {
             let place = place_of(reports, log.as_slice());
             (accused, 4, (place, u64::from(*entry)), (0, 0))
         }
+        Claim::Across { first, second } => (
+            accused,
+            5,
+            numbers_of(&first.text.text),
+            numbers_of(&second.text.text),
+        ),
     }
 }
 

@@ -8,6 +8,8 @@ mod audit_cases;
 #[cfg(test)]
 mod audit_laws;
 #[cfg(test)]
+mod convict_across;
+#[cfg(test)]
 mod convict_evidence;
 #[cfg(test)]
 mod convict_finding;

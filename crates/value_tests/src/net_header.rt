@@ -152,6 +152,71 @@ fn ring_in_bytes(rt: HostRuntime) -> Result<(), Fail> {
     Ok(())
 }
 
+/// Beginnings of headers of four generals that differ in one thing each: none, m, d, q, the choice, an edge, the
+/// version and its slot.
+const UNLIKE: &[&[u8]] = &[
+    &[1, 4, 2, 3, 5, 1, 1, 0, 1],
+    &[1, 4, 1, 3, 5, 1, 1, 0, 1],
+    &[1, 4, 2, 4, 5, 1, 1, 0, 1],
+    &[1, 4, 2, 3, 6, 1, 1, 0, 1],
+    &[1, 4, 2, 3, 5, 0, 1, 0, 1],
+    &[1, 4, 2, 3, 5, 1, 1, 0, 2],
+    &[2, 0, 4, 2, 3, 5, 1, 1, 0, 1],
+    &[2, 1, 4, 2, 3, 5, 1, 1, 0, 1],
+];
+
+/// The headers that begin so, with the same roots, and one more like the first whose last root is another.
+fn unlike_headers(alloc: Global) -> Result<Vec<Header>, Fail> {
+    let mut headers = Vec::new(alloc);
+    for front in UNLIKE {
+        let bytes = bytes_with(alloc, front, 4)?;
+        let (header, _) = read_header(alloc, &bytes).map_err(|_| "no header")?;
+        headers.push(header)?;
+    }
+    let mut bytes = bytes_with(alloc, &[1, 4, 2, 3, 5, 1, 1, 0, 1], 3)?;
+    bytes.extend_from_slice(&[9; 32])?;
+    let (header, _) = read_header(alloc, &bytes).map_err(|_| "no header")?;
+    headers.push(header)?;
+    Ok(headers)
+}
+
+/// How many of the headers are equal to this one, and how many have an equal network.
+fn count_equal(headers: &[Header], one: &Header) -> (usize, usize) {
+    let equal = headers.iter().filter(|other| *other == one).count();
+    let network = headers
+        .iter()
+        .filter(|other| other.net() == one.net())
+        .count();
+    (equal, network)
+}
+
+#[test]
+fn equal_headers(rt: HostRuntime) -> Result<(), Fail> {
+    let headers = unlike_headers(rt.alloc())?;
+    for (place, one) in headers.iter().enumerate() {
+        // The first network stands in the headers of both versions and of the other root too.
+        let networks = if matches!(place, 0 | 6 | 7 | 8) { 4 } else { 1 };
+        assert_eq!(rt; count_equal(&headers, one), (1, networks), "{place}");
+        assert!(rt; *one == one.clone()?);
+    }
+    Ok(())
+}
+
+#[test]
+fn header_of_a_version(rt: HostRuntime) -> Result<(), Fail> {
+    let bytes = bytes_with(rt.alloc(), &RING, 4)?;
+    let (header, rest) = read_header_of(rt.alloc(), VERSION_ONE, &bytes).expect(
+        &rt,
+        "a ring of four",
+    );
+    assert!(rt; *header.run_id() == RUN_OF_RING && rest.is_empty());
+    assert_eq!(rt;
+        read_header_of(rt.alloc(), VERSION_TWO, &bytes).err(),
+        Some(ReadError::Fault(FrontFault::BadHeader(HeaderFault::UnknownVersion)))
+    );
+    Ok(())
+}
+
 #[test]
 fn root_counts(rt: HostRuntime) -> Result<(), Fail> {
     for (count, fault) in [

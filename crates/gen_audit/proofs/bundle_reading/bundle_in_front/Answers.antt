@@ -1,5 +1,5 @@
-use Rattle.std.proofs.Common.{◌≡◌, ◌≤◌, ◌∙◌, ap, subst, sym, List, ℕ, arith}
-use Rattle.gen_audit.specs.Loops.Ends.{IsEndOf}
+use Rattle.std.proofs.Common.{◌≡◌, ◌≤◌, ◌∙◌, ap, arith}
+use Rattle.std.specs.Arc.{arc_slice_items}
 use Rattle.gen_audit.proofs.BundleLaws.{bundle_from}
 use Rattle.gen_audit.proofs.InputEnds.{behind_walks}
 use Rattle.gen_audit.proofs.bundle_reading.bundle_in_front.Goals as goal
@@ -7,9 +7,7 @@ use Rattle.gen_audit.proofs.bundle_reading.bundle_in_front.Goals as goal
 pub read_exhibits-requires-clause-end : goal.read_exhibits-requires-clause-end
 read_exhibits-requires-clause-end c =
     let n : c.generals-n.result ≡ c.in_ok-header.header.network.generals = c.generals-n.ensures.value ∙ ap (λ k. k.generals) c.net.ensures.value in
-    let end : IsEndOf c.args.bytes.now c.in_ok-walks.rest.now =
-    behind_walks c.args.bytes.now _ _ _ c.generals-n.result (omega arith) (λ i. omega (arith, c.type_inv.bytes i)) c.in_ok-header.ensures c.in_ok-bits.ensures c.in_ok-walks.ensures in
-    subst (λ (all : List ℕ). IsEndOf all c.in_ok-walks.rest.now) (sym c.requires) end
+    behind_walks (arc_slice_items c.args.input.now) c.args.bytes.now _ _ _ c.generals-n.result (omega arith) (λ i. omega (arith, c.type_inv.bytes i)) c.in_ok-header.ensures c.in_ok-bits.ensures c.in_ok-walks.ensures c.requires
 
 pub invariant_of-bundle : goal.invariant_of-bundle
 invariant_of-bundle c =

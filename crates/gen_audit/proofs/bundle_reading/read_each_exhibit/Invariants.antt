@@ -4,7 +4,7 @@ use Rattle.gen_audit.specs.Behind.{many_behind}
 use Rattle.gen_audit.specs.BundleMaking.{shown_general}
 use Rattle.gen_audit.specs.BundleReading.{exhibit_at}
 use Rattle.std.specs.Arc.{arc_slice_items}
-use Rattle.gen_audit.specs.Loops.Ends.{IsEndOf}
+use Rattle.gen_audit.specs.Ends.{IsEndOf}
 use Rattle.gen_audit.proofs.bundle_reading.read_each_exhibit.Given as goal
 
 abbrev pub invariant-loop : goal.invariant-loop

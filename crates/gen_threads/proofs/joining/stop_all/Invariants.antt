@@ -6,4 +6,4 @@ abbrev pub invariant-loop : goal.invariant-loop
 invariant-loop g l =
     (goal.iterator-loop g).can_next l.iterator' × (goal.iterator-loop g).is_finite l.iterator'
     × (length l.back.items ≡ length l.initial.back.items)
-    × TurnsFrom l.field.edges.now l.field.scenario.now l.first l.back.items
+    × TurnsFrom l.field.edges.now l.field.scenario.now l.field.rings.now.value.items l.first l.back.items

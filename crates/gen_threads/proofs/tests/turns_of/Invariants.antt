@@ -6,5 +6,5 @@ use Rattle.gen_threads.proofs.tests.turns_of.Given as goal
 abbrev pub invariant-works : goal.invariant-works
 invariant-works g l = record {
   count : l.me + into_iter_len l.work-iterator ≡ l.scenario.net.generals;
-  left : WorksFrom l.edges l.scenario l.me (into_iter_items l.work-iterator);
+  left : WorksFrom l.edges l.scenario l.held.value.items l.me (into_iter_items l.work-iterator);
 }

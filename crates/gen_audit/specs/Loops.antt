@@ -1,2 +1,0 @@
--- Definitions that only loops and private functions speak of.
-pub mod Ends

@@ -1,0 +1,60 @@
+-- What is shown of a campaign: the bundles of its runs, or a bundle that stands alone.
+use Rattle.std.specs.Prelude.{ℕ, ◌≡◌, ◌≢◌, ◌≤◌, Bool, true, false, List, [], ◌∷◌, length, All, AllPairs}
+use Rattle.gen_net.specs.declared.version.Version.{Version}
+use Rattle.gen_net.specs.declared.version.Version.TheVariants.{One, Two}
+use Rattle.gen_net.specs.Header.{RunHeader, slot_of}
+use Rattle.gen_audit.specs.Bundle.{Bundle, IsBundle}
+
+-- whether it is a bundle that stands alone, and the bundles
+pub record CampaignBundle : Type 0 where
+  pub alone : Bool
+  pub bundles : List Bundle
+
+-- the fewest and the most runs of a campaign
+abbrev pub fewest_runs : ℕ
+fewest_runs = 1
+
+abbrev pub most_runs : ℕ
+most_runs = 4
+
+-- a run with the second header may stand behind one with the first: the generals are as many and have the same keys, the slot
+-- is no less, and it is not the same run
+pub record Joins (before h : RunHeader) : Type 0 where
+  pub generals : before.network.generals ≡ h.network.generals
+  pub roots : before.roots ≡ h.roots
+  pub slot : slot_of before ≤ slot_of h
+  pub other : before ≢ h
+
+-- the same of two bundles
+abbrev pub JoinsRun : Bundle → Bundle → Type 0
+JoinsRun before b = Joins before.header b.header
+
+-- version 2, in which a tree of keys serves several runs
+abbrev pub IsSecond : Version → Type 0
+IsSecond One = ⊥
+IsSecond (Two slot) = Unit {0}
+
+-- a bundle of that version
+pub record IsRun (b : Bundle) : Type 0 where
+  pub bundle : IsBundle b
+  pub second : IsSecond b.header.version
+
+-- the bundles of 1 to 4 runs, each of which may stand behind each one before it
+pub record AreRuns (bundles : List Bundle) : Type 0 where
+  pub some : fewest_runs ≤ length bundles
+  pub few : length bundles ≤ most_runs
+  pub each : All IsRun bundles
+  pub joined : AllPairs JoinsRun bundles
+
+-- one bundle, of either version
+abbrev pub IsAlone : List Bundle → Type 0
+IsAlone (b ∷ []) = IsBundle b
+IsAlone bundles = ⊥
+
+-- what it keeps in either form
+abbrev pub AreShown : Bool → List Bundle → Type 0
+AreShown true bundles = IsAlone bundles
+AreShown false bundles = AreRuns bundles
+
+abbrev pub IsCampaign : CampaignBundle → Type 0
+IsCampaign c = AreShown c.alone c.bundles

@@ -1,0 +1,42 @@
+//! Writing what is shown of campaigns.
+ghost use Rattle.std.specs.Prelude.{◌≡◌, ◌++◌, IfOk, OnOk};
+ghost use Rattle.std.specs.List.{flat_map};
+ghost use Rattle.gen_audit.specs.BundleSpelling.{bundle_spelling};
+ghost use Rattle.gen_campaign.specs.CampaignSpelling.{campaign_front, campaign_spelling};
+
+use crate::campaigns::{CAMPAIGN_MARK, CampaignBundle};
+use gen_audit::{Bundle, write_bundle};
+use std::alloc::{AllocError, Global};
+
+/// Appends bundles.
+fn put_bundles(alloc: Global, out: &mut Vec<u8>, bundles: &[Bundle]) -> Result<(), AllocError>
+    ensures { OnOk result (out.new.items ≡ out.old.items ++ flat_map bundle_spelling bundles.now) }
+{
+    'bundles: for bundle in bundles {
+        let bytes = write_bundle(alloc, bundle)?;
+        out.extend_from_slice(bytes.as_slice())?;
+    }
+    Ok(())
+}
+
+/// Returns what stands before the bundles.
+fn front_of(alloc: Global, campaign: &CampaignBundle) -> Result<Vec<u8>, AllocError>
+    ensures { IfOk result (λ bytes. bytes.items ≡ campaign_front campaign.now) }
+{
+    let mut out = Vec::new(alloc);
+    if !campaign.is_alone() {
+        out.extend_from_slice(&CAMPAIGN_MARK.to_be_bytes())?;
+        out.push(campaign.bundles().len() as u8)?;
+    }
+    Ok(out)
+}
+
+/// Returns the one spelling of what is shown of a campaign, as `read_campaign` reads it. It fails only where memory was
+/// refused.
+pub fn write_campaign(alloc: Global, campaign: &CampaignBundle) -> Result<Vec<u8>, AllocError>
+    ensures { IfOk result (λ bytes. bytes.items ≡ campaign_spelling campaign.now) }
+{
+    let mut out = front_of(alloc, campaign)?;
+    put_bundles(alloc, &mut out, campaign.bundles())?;
+    Ok(out)
+}

@@ -1,0 +1,51 @@
+//! What is shown of campaigns.
+ghost use Rattle.std.specs.Prelude.{◌≡◌};
+ghost use Rattle.gen_campaign.specs.Campaign.{IsCampaign};
+
+use gen_audit::Bundle;
+use std::marker::Model;
+
+/// The first four bytes of a campaign that is no bundle alone, `SMC2`.
+pub const CAMPAIGN_MARK: u32 = 0x534d_4332;
+
+/// The fewest runs of a campaign.
+pub const FEWEST_RUNS: u8 = 1;
+
+/// The most runs of a campaign.
+pub const MOST_RUNS: u8 = 4;
+
+/// What is shown of a campaign: 1 to 4 bundles of version 2, one for each run, each joined to those before it; or a
+/// bundle that stands alone, of version 1 or 2. A contract sees which form it is, and the bundles.
+#[derive(Drop)]
+pub struct CampaignBundle {
+    pub(crate) alone: bool,
+    pub(crate) bundles: Vec<Bundle>,
+}
+
+impl Model for CampaignBundle {
+    ghost use Rattle.gen_campaign.specs.Campaign.{CampaignBundle, IsCampaign};
+
+    ghost Value = { CampaignBundle };
+
+    ghost view = { λ c. record { alone = c.alone; bundles = c.bundles.items } };
+
+    ghost invariant = { λ c. IsCampaign (record { alone = c.alone; bundles = c.bundles.items }) };
+}
+
+impl CampaignBundle {
+    /// Returns whether it is a bundle that stands alone.
+    pub fn is_alone(&self) -> bool
+        ensures value { result ≡ self.now.alone }
+        ensures campaign { IsCampaign self.now }
+    {
+        self.alone
+    }
+
+    /// Returns the bundles, run by run.
+    pub fn bundles(&self) -> &[Bundle]
+        ensures value { result.now ≡ self.now.bundles }
+        ensures campaign { IsCampaign self.now }
+    {
+        self.bundles.as_slice()
+    }
+}

@@ -1,0 +1,28 @@
+//! Which runs belong to one campaign.
+ghost use Rattle.std.specs.Prelude.{◌≡◌, ◌&&◌, ◌==◌};
+ghost use Rattle.gen_net.specs.SameHeaders.{same_roots};
+ghost use Rattle.gen_campaign.specs.CampaignReading.{has_keys_of, joins, may_join};
+
+use gen_audit::Bundle;
+use gen_net::Header;
+
+/// Whether two runs have as many generals, and the same roots.
+fn has_keys_of(before: &Header, header: &Header) -> bool
+    ensures { result ≡ has_keys_of before.now header.now }
+{
+    before.net().generals() == header.net().generals() && before.roots() == header.roots()
+}
+
+/// Whether a run with this header may stand behind a run of the same campaign.
+fn joins(before: &Header, header: &Header) -> bool
+    ensures { result ≡ joins before.now header.now }
+{
+    has_keys_of(before, header) && before.slot() <= header.slot() && before != header
+}
+
+/// Whether a run with this header may stand behind these runs.
+pub fn may_join(before: &[Bundle], header: &Header) -> bool
+    ensures { result ≡ may_join before.now header.now }
+{
+    before.iter().all(|run| joins(run.header(), header))
+}

@@ -1,0 +1,9 @@
+-- The scenarios of a campaign's text make a campaign.
+use Rattle.std.specs.Prelude.{ℕ, ◌≡◌, List, Ok}
+use Rattle.gen_scenario.specs.Scenario.{Scenario}
+use Rattle.gen_series.specs.Campaign.{campaign_of}
+use Rattle.gen_campaign_text.specs.CampaignText.{SpellsCampaignText}
+
+-- each rule of campaigns is kept
+abbrev pub TextsMakeCampaigns : Type 0
+TextsMakeCampaigns = (text : List ℕ) (runs : List Scenario) → SpellsCampaignText text runs → campaign_of runs ≡ Ok runs

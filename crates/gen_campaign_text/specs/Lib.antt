@@ -1,0 +1,5 @@
+pub mod CampaignMaking
+pub mod CampaignPlaces
+pub mod CampaignText
+pub mod CampaignTextReading
+pub mod CampaignVerdictText

@@ -1,0 +1,23 @@
+-- What answers two texts of two runs: the text of the run that the log isn't of, or two headers with one hash.
+use Rattle.std.specs.Prelude.{ℕ, ◌≡◌, ◌≢◌, ◌⊎◌, List, ◌∷◌}
+use Rattle.gen_net.specs.Header.{RunHeader, IsHeader, header_spelling, run_id_of, run_id_prefix}
+use Rattle.gen_log.specs.Log.{RunLog}
+use Rattle.gen_convict.specs.declared.run_texts.RunText.{RunText}
+use Rattle.gen_convict.specs.Across.{IsOfOtherRun}
+use Rattle.gen_convict.specs.Refuting.{Refutation, Forged, Collision, AreColliding}
+
+-- the answer: one of the two texts is of the run that the log isn't of, or two strings collide
+abbrev pub IsAnswerAcross : ℕ → RunText → RunText → RunLog → Refutation → Type 0
+IsAnswerAcross general x y own (Forged text) =
+    IsOfOtherRun general x own text ⊎ IsOfOtherRun general y own text
+IsAnswerAcross general x y own (Collision a b) = AreColliding a b
+
+-- what is hashed for a run id
+abbrev pub run_id_text : RunHeader → List ℕ
+run_id_text h = run_id_prefix ∷ header_spelling h
+
+-- where two headers have one run id and are not the same, these texts collide
+abbrev pub HeadersCollide : Type 0
+HeadersCollide =
+    (h k : RunHeader) → IsHeader h → IsHeader k → h ≢ k → run_id_of h ≡ run_id_of k
+    → AreColliding (run_id_text h) (run_id_text k)

@@ -1,0 +1,137 @@
+//! Finding evidence across runs.
+ghost use Rattle.std.specs.Prelude.{◌≡◌, ◌≤◌, ◌++◌, Contains, IfOk, OnOk, length, map};
+ghost use Rattle.std.specs.List.{range_with_len};
+ghost use Rattle.gen_log.specs.Fields.{AreBelow};
+ghost use Rattle.gen_local.specs.Report.{IsReport, LocalReport as Report};
+ghost use Rattle.gen_net.specs.Header.{IsHeader};
+ghost use Rattle.gen_convict.specs.AcrossFinding as finds;
+ghost use Rattle.gen_convict.specs.AcrossFinding.{RunReports, runs_of};
+ghost use Rattle.gen_convict.specs.AcrossLaws.{AreConvictedAcross, AreEvidenceAcross, AreUnderHeaders, shown_runs};
+ghost use Rattle.gen_convict.specs.Evidence.{told_of};
+ghost use Rattle.gen_convict.specs.Seen.{seen, seen_run};
+
+use crate::claims::Claim;
+use crate::evidence::Evidence;
+use crate::finding::read_all;
+use crate::rivals::{first_rivals, texts_across};
+use crate::run_texts::RunText;
+use crate::seen_texts::{SeenRun, SeenText};
+use crate::text_claims::copied_text;
+use gen_local::LocalReport;
+use gen_net::Header;
+use gen_types::GeneralNo;
+use gen_types::limits::MOST_GENERALS;
+use std::alloc::{AllocError, Global};
+
+/// The runs of these headers and lists of reports.
+fn seen_runs<'a>(
+    alloc: Global,
+    headers: &'a [Header],
+    reports: &'a [Vec<LocalReport>],
+) -> Result<Vec<SeenRun<'a>>, AllocError>
+    requires { length headers.now ≡ length reports.now }
+    ensures { IfOk result (λ runs. map seen_run runs.items
+        ≡ runs_of headers.now (map (λ v. v.items) reports.now)) }
+{
+    let mut runs = Vec::new(alloc);
+    'runs: for place in 0..headers.len() {
+        runs.push(SeenRun {
+            header: &headers[place],
+            reports: reports[place].as_slice(),
+        })?;
+    }
+    Ok(runs)
+}
+
+/// A copy of a text with its header.
+fn copied(alloc: Global, text: SeenText) -> Result<RunText, AllocError>
+    ensures { IfOk result (λ copy. copy ≡ seen text.entry) }
+{
+    Ok(RunText {
+        header: text.header.clone()?,
+        text: copied_text(alloc, text.text)?,
+    })
+}
+
+/// Puts what is held against a general across the runs behind the others.
+fn add_rivals(
+    alloc: Global,
+    general: GeneralNo,
+    runs: &[SeenRun],
+    found: &mut Vec<Evidence>,
+) -> Result<(), AllocError>
+    ensures { OnOk result (map told_of found.new.items ≡ map told_of found.old.items
+        ++ finds.accusing_across general (finds.first_rivals (finds.his_across general (map seen_run runs.now)))) }
+{
+    let texts = texts_across(alloc, general, runs)?;
+    match first_rivals(alloc, texts.as_slice())? {
+        None => {}
+        Some((first, second)) => {
+            let first = copied(alloc, first)?;
+            let second = copied(alloc, second)?;
+            found.push(Evidence {
+                accused: general,
+                claim: Claim::Across { first, second },
+            })?;
+        }
+    }
+    Ok(())
+}
+
+/// What is held against so many generals across the runs.
+fn rivals_of_all(alloc: Global, generals: u8, runs: &[SeenRun]) -> Result<Vec<Evidence>, AllocError>
+    requires { generals ≤ 16 }
+    ensures { IfOk result (λ found. map told_of found.items
+        ≡ finds.accusations_across (map seen_run runs.now) (range_with_len 0 generals)) }
+{
+    let mut found = Vec::new(alloc);
+    for number in 0..generals {
+        add_rivals(alloc, GeneralNo::at(number), runs, &mut found)?;
+    }
+    Ok(found)
+}
+
+/// Makes known what the header and the reports of a run keep.
+fn read_run(run: SeenRun)
+    ensures header { IsHeader run.entry.header.now }
+    ensures reports { (r : Report) → Contains run.entry.reports.now r
+        → IsReport r × AreBelow 256 r.exhibit.bytes }
+{
+    let _net = run.header.net();
+    read_all(run.reports);
+}
+
+/// Makes known what the headers and the reports of runs keep.
+fn read_runs(runs: &[SeenRun])
+    ensures { (run : RunReports) → Contains (map seen_run runs.now) run → IsHeader run.header
+        × ((r : Report) → Contains run.reports r → IsReport r × AreBelow 256 r.exhibit.bytes) }
+{
+    for run in runs {
+        read_run(*run);
+    }
+}
+
+/// Returns of each general the first two texts of his, in two of these runs, that contradict each other, in
+/// ascending order of generals: two different texts under one leaf of one tree. The texts are listed run by run, and
+/// in each run in the order of its reports. There is a list of reports for each header, and they are under it.
+///
+/// # Errors
+///
+/// `AllocError` where memory is refused.
+pub fn find_across(
+    alloc: Global,
+    headers: &[Header],
+    reports: &[Vec<LocalReport>],
+) -> Result<Vec<Evidence>, AllocError>
+    requires count { length headers.now ≡ length reports.now }
+    requires under { AreUnderHeaders (runs_of headers.now (map (λ v. v.items) reports.now)) }
+    // Each general against whom the exhibits of two runs hold such texts has the first two, and nobody else has any.
+    ensures found { IfOk result (λ found. AreConvictedAcross
+        (shown_runs (runs_of headers.now (map (λ v. v.items) reports.now))) (map told_of found.items)) }
+    // All of it has a spelling.
+    ensures lawful { IfOk result (λ found. AreEvidenceAcross (map told_of found.items)) }
+{
+    let runs = seen_runs(alloc, headers, reports)?;
+    read_runs(runs.as_slice());
+    rivals_of_all(alloc, MOST_GENERALS, runs.as_slice())
+}

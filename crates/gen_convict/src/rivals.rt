@@ -1,0 +1,170 @@
+//! The first two texts of a general that contradict each other across runs.
+ghost use Rattle.std.specs.Prelude.{◌≡◌, ◌∷◌, ◌++◌, IfOk, OnOk, map};
+ghost use Rattle.std.specs.Option.{option_map};
+ghost use Rattle.std.specs.List.{find, list_any};
+ghost use Rattle.gen_convict.specs.Across.{of_run};
+ghost use Rattle.gen_convict.specs.AcrossFinding as finds;
+ghost use Rattle.gen_convict.specs.Loops.Alone.{MeetNone};
+ghost use Rattle.gen_convict.specs.Seen.{seen, seen_run};
+
+use crate::gathered::texts_by;
+use crate::seen_texts::{SeenRun, SeenText};
+use crate::shared_leaves::share_leaves;
+use crate::text_likeness::{is_like, is_unlike};
+use gen_local::SignedText;
+use gen_net::Header;
+use gen_types::GeneralNo;
+use std::alloc::{AllocError, Global};
+
+/// Whether two texts of two runs that use the same leaves stand under one leaf.
+#[tactic(auto, unfolding(crate::specs::AcrossFinding::meets))]
+fn meets(first: SeenText, second: SeenText) -> bool
+    ensures { result ≡ finds.meets (seen first.entry) (seen second.entry) }
+{
+    is_like(&first.text.text, &second.text.text) && share_leaves(first.header, second.header)
+}
+
+/// Returns whether two texts of two runs that use the same leaves stand under one leaf and are different.
+#[tactic(auto, unfolding(crate::specs::AcrossFinding::is_rival))]
+pub fn is_rival(first: SeenText, second: SeenText) -> bool
+    ensures { result ≡ finds.is_rival (seen first.entry) (seen second.entry) }
+{
+    is_like(&first.text.text, &second.text.text)
+        && share_leaves(first.header, second.header)
+        && (*first.header.run_id() != *second.header.run_id()
+            || is_unlike(&first.text.text, &second.text.text))
+}
+
+/// Whether two texts are of one run and have one subject.
+#[tactic(auto, unfolding(crate::specs::AcrossFinding::is_beside))]
+fn is_beside(first: SeenText, second: SeenText) -> bool
+    ensures { result ≡ finds.is_beside (seen first.entry) (seen second.entry) }
+{
+    is_like(&first.text.text, &second.text.text) && first.header == second.header
+}
+
+/// Whether one of these texts stands under the leaf of this one, in another run.
+fn has_meeting(text: SeenText, others: &[SeenText]) -> bool
+    ensures { result ≡ list_any (finds.meets (seen text.entry)) (map seen others.now) }
+{
+    for other in others {
+        if meets(text, *other) {
+            return true;
+        }
+    }
+    false
+}
+
+/// Whether one of these texts is of the run of this one and has its subject.
+fn has_beside(texts: &[SeenText], text: SeenText) -> bool
+    ensures { result ≡ list_any (λ x. finds.is_beside x (seen text.entry)) (map seen texts.now) }
+{
+    for other in texts {
+        if is_beside(*other, text) {
+            return true;
+        }
+    }
+    false
+}
+
+/// Returns the first of these texts that is a rival of this one.
+fn first_rival<'a>(text: SeenText, others: &[SeenText<'a>]) -> Option<SeenText<'a>>
+    ensures { option_map seen result ≡ find (finds.is_rival (seen text.entry)) (map seen others.now) }
+{
+    for other in others {
+        if is_rival(text, *other) {
+            return Some(*other);
+        }
+    }
+    None
+}
+
+/// The first of the texts behind this one that is a rival of it. Those that met nobody behind them are kept, one of
+/// each run and subject: a text beside one of these has no rival either, so that its others aren't looked at.
+fn rival_behind<'a>(
+    text: SeenText<'a>,
+    others: &[SeenText<'a>],
+    alone: &mut Vec<SeenText<'a>>,
+) -> Result<Option<SeenText<'a>>, AllocError>
+    requires { MeetNone (map seen alone.old.items) (seen text ∷ map seen others.now) }
+    ensures rival { IfOk result (λ rival.
+        option_map seen rival ≡ find (finds.is_rival (seen text.entry)) (map seen others.now)) }
+    ensures alone { OnOk result (MeetNone (map seen alone.new.items) (map seen others.now)) }
+{
+    if has_beside(alone.as_slice(), text) {
+        return Ok(None);
+    }
+    if has_meeting(text, others) {
+        return Ok(first_rival(text, others));
+    }
+    alone.push(text)?;
+    Ok(None)
+}
+
+/// Returns the first text that has a rival behind it, with the first such rival. It fails only where memory was
+/// refused.
+pub fn first_rivals<'a>(
+    alloc: Global,
+    texts: &[SeenText<'a>],
+) -> Result<Option<(SeenText<'a>, SeenText<'a>)>, AllocError>
+    ensures { IfOk result (λ found.
+        option_map (λ p. (seen p.0, seen p.1)) found ≡ finds.first_rivals (map seen texts.now)) }
+{
+    let mut alone = Vec::new(alloc);
+    let mut rest = texts;
+    while let [text, others @ ..] = rest {
+        if let Some(rival) = rival_behind(*text, others, &mut alone)? {
+            return Ok(Some((*text, rival)));
+        }
+        rest = others;
+    }
+    Ok(None)
+}
+
+/// Puts texts of a run behind those that are gathered.
+fn put_texts<'a>(
+    header: &'a Header,
+    texts: &[&'a SignedText],
+    gathered: &mut Vec<SeenText<'a>>,
+) -> Result<(), AllocError>
+    ensures { OnOk result (map seen gathered.new.items
+        ≡ map seen gathered.old.items ++ map (of_run header.now) (map (λ t. t.now) texts.now)) }
+{
+    for text in texts {
+        gathered.push(SeenText {
+            header,
+            text: *text,
+        })?;
+    }
+    Ok(())
+}
+
+/// Puts a general's texts of a run behind those that are gathered.
+fn gather_run<'a>(
+    alloc: Global,
+    general: GeneralNo,
+    run: SeenRun<'a>,
+    gathered: &mut Vec<SeenText<'a>>,
+) -> Result<(), AllocError>
+    ensures { OnOk result (map seen gathered.new.items
+        ≡ map seen gathered.old.items ++ finds.his_in_run general (seen_run run.entry)) }
+{
+    let texts = texts_by(alloc, general, run.reports)?;
+    put_texts(run.header, texts.as_slice(), gathered)
+}
+
+/// Returns the texts of a general in all the reports, run by run.
+pub fn texts_across<'a>(
+    alloc: Global,
+    general: GeneralNo,
+    runs: &[SeenRun<'a>],
+) -> Result<Vec<SeenText<'a>>, AllocError>
+    ensures { IfOk result (λ texts.
+        map seen texts.items ≡ finds.his_across general (map seen_run runs.now)) }
+{
+    let mut texts = Vec::new(alloc);
+    for run in runs {
+        gather_run(alloc, general, *run, &mut texts)?;
+    }
+    Ok(texts)
+}

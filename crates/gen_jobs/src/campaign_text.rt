@@ -1,0 +1,89 @@
+//! The bytes of a campaign, kept in pieces so that its logs need no copy.
+ghost use Rattle.std.specs.Prelude.{◌≡◌, ◌≤◌, ◌++◌, ◌∷◌, [], false, length, OnOk};
+ghost use Rattle.std.specs.Int.{w32, to_be_bytes};
+ghost use Rattle.std.specs.List.{flat_map};
+ghost use Rattle.std.specs.Io.KnownBytes.{Appends};
+ghost use Rattle.gen_campaign.specs.CampaignSpelling.{campaign_mark};
+ghost use Rattle.gen_jobs.specs.Answering.{DeliversText};
+ghost use Rattle.gen_jobs.specs.Ends.{IsWritten};
+
+use crate::bundle_text::BundleText;
+use crate::ends::{JobEnd, JobFault};
+use gen_campaign::several_front;
+use std::io;
+use std::io::Write;
+use std::marker::Model;
+
+/// The bytes of a campaign of several runs, whole in memory: what stands before the bundles, and the text of each. A
+/// contract sees the list of its bytes.
+#[derive(Drop)]
+pub struct CampaignText {
+    front: [u8; 5],
+    texts: Vec<BundleText>,
+}
+
+impl Model for CampaignText {
+    ghost use Rattle.std.specs.Prelude.{ℕ, List, ◌++◌};
+    ghost use Rattle.std.specs.List.{flat_map};
+
+    ghost Value = { List ℕ };
+
+    ghost view = { λ t. t.front ++ flat_map (λ text. text) t.texts.items };
+}
+
+/// Writes the texts of bundles one behind another.
+fn write_texts<W: Write>(writer: &mut W, texts: &[BundleText]) -> Result<(), io::Error>
+    ensures { OnOk result (Appends (W.contents writer.old) (W.contents writer.new)
+        (flat_map (λ text. text) texts.now)) }
+{
+    'texts: for text in texts {
+        text.write_to(writer)?;
+    }
+    Ok(())
+}
+
+impl CampaignText {
+    /// Returns the bytes of the campaign whose runs' bundles have these texts, at most 255.
+    pub fn new(texts: Vec<BundleText>) -> CampaignText
+        requires { length texts.items ≤ 255 }
+        ensures { result ≡ (to_be_bytes w32 campaign_mark ++ length texts.items ∷ [])
+            ++ flat_map (λ text. text) texts.items }
+    {
+        CampaignText {
+            front: several_front(texts.len() as u8),
+            texts,
+        }
+    }
+
+    /// Writes the bytes. It takes no memory.
+    ///
+    /// # Errors
+    ///
+    /// That of a write that failed.
+    pub fn write_to<W: Write>(&self, writer: &mut W) -> Result<(), io::Error>
+        ensures { OnOk result (Appends (W.contents writer.old) (W.contents writer.new) self.now) }
+    {
+        writer.write_all(&self.front)?;
+        write_texts(writer, &self.texts)
+    }
+}
+
+/// Writes all bytes of a campaign, and returns how the job ends by it.
+fn write_campaign_text<W: Write>(writer: &mut W, text: &CampaignText) -> JobEnd
+    ensures { IsWritten text.now false (W.contents writer.old) (W.contents writer.new) result }
+{
+    if text.write_to(writer).is_err() || writer.flush().is_err() {
+        return JobEnd::Failed(JobFault::Write);
+    }
+    JobEnd::Done
+}
+
+/// Writes the campaign that answers the input, and returns how the job ends: so, or by the fault in its place.
+pub fn deliver_campaign<W: Write>(writer: &mut W, answer: Result<CampaignText, JobFault>) -> JobEnd
+    ensures { DeliversText answer (W.contents writer.old) (W.contents writer.new) result }
+{
+    match answer {
+        Ok(text) => write_campaign_text(writer, &text),
+        Err(fault) => JobEnd::Failed(fault),
+    }
+}

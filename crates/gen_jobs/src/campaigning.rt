@@ -1,0 +1,127 @@
+//! The job `campaign`.
+ghost use Rattle.std.specs.Prelude.{◌≡◌, ◌<◌, Ok, IfErr, IfOk, IfSome, false, map};
+ghost use Rattle.gen_scenario.specs.Rows.{logs_of_all};
+ghost use Rattle.gen_audit.specs.BundleSpelling.{bundle_spelling};
+ghost use Rattle.gen_series.specs.Campaign.{campaign_of};
+ghost use Rattle.gen_jobs.specs.Answering.{Answers};
+ghost use Rattle.gen_jobs.specs.Audit.{IsWant};
+ghost use Rattle.gen_jobs.specs.Campaigning.{AreBundlesOf, IsCampaignFault, IsCampaignRun, MakesTexts};
+ghost use Rattle.gen_jobs.specs.Ends.{IsTaken, KeepsUntilWhole};
+
+use crate::bundle_text::BundleText;
+use crate::campaign_text::{CampaignText, deliver_campaign};
+use crate::ends::{JobEnd, JobFault};
+use crate::gates::Open;
+use crate::running::bundle_with_logs;
+use crate::transfer::read_all;
+use gen_audit::Bundle;
+use gen_campaign_text::{read_campaign_text, texts_make_campaigns};
+use gen_log::SealedLog;
+use gen_scenario::{Scenario, SignedPlan};
+use gen_series::{make_campaign, run_campaign};
+use std::alloc::{AllocError, Global};
+use std::io::{Read, Write};
+use std::sync::Wait;
+use std::thread::Threads;
+
+/// Returns the bundles of runs of these scenarios, of which these are the logs.
+fn bundles_of_runs(
+    alloc: Global,
+    scenarios: &[Scenario],
+    logs: Vec<Vec<SealedLog>>,
+) -> Result<Vec<Bundle>, AllocError>
+    requires { map (λ logs. logs.items) logs.items ≡ map logs_of_all scenarios.now }
+    ensures { IfOk result (λ bundles. AreBundlesOf scenarios.now bundles.items) }
+{
+    let mut bundles = Vec::with_capacity(alloc, scenarios.len())?;
+    let mut rest = scenarios;
+    for logs in logs {
+        let Some((scenario, others)) = rest.split_first() else {
+            unreachable!()
+        };
+        bundles.push(bundle_with_logs(alloc, scenario, logs)?)?;
+        rest = others;
+    }
+    Ok(bundles)
+}
+
+/// Returns the texts of bundles.
+fn texts_of(alloc: Global, bundles: Vec<Bundle>) -> Result<Vec<BundleText>, AllocError>
+    ensures { IfOk result (λ texts. texts.items ≡ map bundle_spelling bundles.items) }
+{
+    let mut texts = Vec::with_capacity(alloc, bundles.len())?;
+    for bundle in bundles {
+        texts.push(BundleText::new(alloc, bundle)?)?;
+    }
+    Ok(texts)
+}
+
+/// Runs the campaign of these plans, and returns the text of the bundles of its runs.
+fn run_plans<T: Threads + Wait + Sync>(
+    rt: &T,
+    alloc: Global,
+    capacity: u8,
+    plans: Vec<SignedPlan>,
+) -> Result<CampaignText, JobFault>
+    requires capacity { 0 < capacity }
+    requires lawful { campaign_of plans.items ≡ Ok plans.items }
+    ensures answer { IfOk result (MakesTexts plans.items) }
+    ensures fault { IfErr result IsWant }
+{
+    let campaign = make_campaign(rt, alloc, plans)?;
+    let (logs, _leaves) = run_campaign(rt, alloc, &campaign, usize::from(capacity), &Open)?;
+    let bundles = bundles_of_runs(alloc, campaign.scenarios(), logs)?;
+    Ok(CampaignText::new(texts_of(alloc, bundles)?))
+}
+
+/// Returns the bytes of the campaign that the input spells, kept in pieces so that its logs need no copy. They never say
+/// no. The trees of keys are made by threads, once for all runs, and each general signs with one ring in all runs in which
+/// he has no script. The runs follow one another, each as that of the job `run`; its bundle is the one of that job.
+///
+/// # Errors
+///
+/// `Scenario` with the first fault of an input that spells no campaign; `Memory` where memory is refused, and `Thread`
+/// where a thread can't be started.
+pub fn campaign<T: Threads + Wait + Sync>(
+    rt: &T,
+    alloc: Global,
+    capacity: u8,
+    input: &[u8],
+) -> Result<CampaignText, JobFault>
+    requires { 0 < capacity }
+    ensures answer { IfOk result (λ text. IsCampaignRun input.now text false) }
+    ensures fault { IfErr result (IsCampaignFault input.now) }
+{
+    texts_make_campaigns();
+    let plans = read_campaign_text(alloc, input)?;
+    run_plans(rt, alloc, capacity, plans)
+}
+
+/// Reads the text of a campaign to its end, runs its scenarios one after another, each general in a thread of his own over
+/// edges that hold so many frames each, at least one, and writes the campaign: the bundles of all runs.
+///
+/// A fault of the input is looked for once it was read whole, and nothing is written before the output
+/// is whole. Where a read, a write, memory or a thread fails the job ends so.
+#[tactic(auto, using(crate::proofs::Known::taken, crate::proofs::Delivering::answered_text, crate::proofs::Delivering::late_text, crate::proofs::Delivering::unread_answers, crate::proofs::Delivering::unread_taken, crate::proofs::Delivering::unread_late))]
+pub fn campaign_engine<T: Threads + Wait + Sync, R: Read, W: Write>(
+    rt: &T,
+    alloc: Global,
+    capacity: u8,
+    reader: &mut R,
+    writer: &mut W,
+) -> JobEnd
+    requires { 0 < capacity }
+    // What is written are the bundles of the runs of the campaign that was read.
+    ensures answers { IfSome (R.remaining reader.old) (λ input.
+        Answers (IsCampaignRun input) (IsCampaignFault input)
+        (W.contents writer.old) (W.contents writer.new) result) }
+    // What was read is within the limit.
+    ensures taken { IfSome (R.remaining reader.old) (λ input. IsTaken input result) }
+    // Nothing is written before the output is whole.
+    ensures late { KeepsUntilWhole (W.contents writer.old) (W.contents writer.new) result }
+{
+    match read_all(alloc, reader) {
+        Ok(input) => deliver_campaign(writer, campaign(rt, alloc, capacity, &input)),
+        Err(fault) => JobEnd::Failed(fault),
+    }
+}

@@ -1,5 +1,0 @@
-use Rattle.std.proofs.lemmas.Slice.Eq.{slice_eq-Decides, bytes_eq-Decides}
-use Rattle.gen_judge.proofs.headers.are_same_roots.Goals as goal
-
-pub returns : goal.returns
-returns c = slice_eq-Decides bytes_eq-Decides c.args.one.now c.args.other.now c.eq.result c.eq.ensures

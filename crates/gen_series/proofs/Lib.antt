@@ -1,0 +1,4 @@
+pub mod Keeping
+pub mod OneTexts
+pub mod Serving
+pub mod Testing

@@ -1,0 +1,46 @@
+-- Campaigns: runs that one tree of keys for each general serves, each in a slot of its own.
+use Rattle.std.specs.Prelude.{ℕ, Bool, true, false, ◌&&◌, ◌==◌, ◌+◌, List, [], ◌∷◌, length, Result, Ok, if◌then◌else◌, nat_lt}
+use Rattle.std.specs.Bool.{nat_eq}
+use Rattle.std.specs.Cmp.Lexicographic.{pointwise}
+use Rattle.std.specs.List.{list_all}
+use Rattle.gen_types.specs.Reading.{◌>>=◌, check}
+use Rattle.gen_net.specs.declared.version.Version.{Version}
+use Rattle.gen_net.specs.declared.version.Version.TheVariants.{One, Two}
+use Rattle.gen_net.specs.Version.{slot_in}
+use Rattle.gen_scenario.specs.Scenario.{Scenario}
+use Rattle.gen_series.specs.declared.fault.CampaignFault.{CampaignFault}
+use Rattle.gen_series.specs.declared.fault.CampaignFault.TheVariants.{RunCount, Unlike, SlotOrder}
+
+-- the most runs
+abbrev pub most_runs : ℕ
+most_runs = 4
+
+abbrev pub is_few : ℕ → Bool
+is_few count = if count == 0 then false else (if nat_lt most_runs count then false else true)
+
+abbrev pub is_two : Version → Bool
+is_two One = false
+is_two (Two slot) = true
+
+-- the scenario is of version 2, and has as many generals and the same master seed
+abbrev pub is_like : Scenario → Scenario → Bool
+is_like first s = is_two s.version && (s.net.generals == first.net.generals && pointwise nat_eq s.master first.master)
+
+-- each is like the first
+abbrev pub are_alike : List Scenario → Bool
+are_alike [] = true
+are_alike (first ∷ others) = list_all (is_like first) (first ∷ others)
+
+-- the slots ascend strictly, from this one on
+unfoldable pub ascend_from : ℕ → List Scenario → Bool
+ascend_from least [] = true
+ascend_from least (s ∷ others) =
+    if nat_lt (slot_in s.version) least then false else ascend_from (slot_in s.version + 1) others
+
+-- the campaign of these scenarios, or the first rule that they break
+abbrev pub campaign_of : List Scenario → Result (List Scenario) CampaignFault
+campaign_of runs = do
+  few ← check (is_few (length runs)) RunCount
+  alike ← check (are_alike runs) Unlike
+  apart ← check (ascend_from 0 runs) SlotOrder
+  Ok runs

@@ -1,0 +1,3 @@
+pub mod Campaign
+pub mod Leaves
+pub mod OneText

@@ -1,0 +1,16 @@
+//! Why scenarios make no campaign.
+use thiserror::Error;
+
+/// Which rule a list of scenarios breaks, the first in this order. The texts are `X1` to `X3`.
+#[derive(Clone, Copy, Debug, PartialEq, Eq, Error)]
+pub enum CampaignFault {
+    /// There are not 1 to 4 scenarios.
+    #[error("X1")]
+    RunCount,
+    /// A scenario is of version 1, or has another number of generals or another master seed than the first.
+    #[error("X2")]
+    Unlike,
+    /// A slot is not greater than the one before.
+    #[error("X3")]
+    SlotOrder,
+}
