@@ -1,0 +1,112 @@
+#!/usr/bin/env python3
+"""Makes the manual page man/sm_tool.1 of docs/COMMANDS.md.
+
+    tools/man.py            writes it
+    tools/man.py --check    only says whether it is the one that the document makes; else the status is 1
+
+The document is Markdown of a few forms: headings, paragraphs, tables, and lines that are indented by four spaces. The
+version stands in the first heading of CHANGELOG.md that has one.
+"""
+import os
+import re
+import sys
+
+TOP = os.path.dirname(os.path.dirname(os.path.abspath(__file__)))
+DOCUMENT = os.path.join(TOP, "docs", "COMMANDS.md")
+CHANGES = os.path.join(TOP, "CHANGELOG.md")
+PAGE = os.path.join(TOP, "man", "sm_tool.1")
+
+
+def read(path):
+    with open(path, encoding="utf-8") as file:
+        return file.read()
+
+
+def version():
+    """The version that the change log begins with."""
+    return re.search(r"^## (\d+\.\d+\.\d+)", read(CHANGES), re.MULTILINE).group(1)
+
+
+def plain(text):
+    """Text that troff takes for itself and nothing else."""
+    return text.replace("\\", "\\e").replace("-", "\\-")
+
+
+def inline(text):
+    """A piece of running text: links lose their targets, and code is set bold."""
+    text = re.sub(r"\[([^\]]*)\]\([^)]*\)", r"\1", text)
+    pieces = re.split(r"`([^`]*)`", text)
+    return "".join(f"\\fB{plain(piece)}\\fR" if at % 2 else plain(piece) for at, piece in enumerate(pieces))
+
+
+def safe(line):
+    """A line that begins with none of troff's requests."""
+    return "\\&" + line if line[:1] in (".", "'") else line
+
+
+def cells(row):
+    return [cell.strip() for cell in row.strip().strip("|").split(" | ")]
+
+
+def table(rows):
+    """A row becomes a tag and a paragraph, in which the other cells stand; those behind the first are named."""
+    names, lines = cells(rows[0]), []
+    for row in rows[2:]:
+        tag, first, *others = cells(row)
+        said = [inline(first), *(f"{inline(names[at])}: {inline(other)}" for at, other in enumerate(others, 2))]
+        lines += [".TP", safe(f"\\fB{inline(tag)}\\fR"), safe(". ".join(said) + ".")]
+    return lines
+
+
+def heading(block):
+    """A section, or a command in one."""
+    if block.startswith("### "):
+        return [f".SS {inline(block[4:])}"]
+    return [f".SH {block[3:].upper()}"]
+
+
+def shown(block):
+    """Lines that are shown as they stand."""
+    lines = [safe(plain(line[4:])) for line in block.split("\n")]
+    return [".PP", ".nf", ".RS 4", *lines, ".RE", ".fi"]
+
+
+def option(block):
+    """A paragraph that says what an option is: its forms, a colon, and the rest."""
+    forms, said = re.fullmatch(r"(`-[^:]*): (.*)", block, re.DOTALL).groups()
+    return [".TP", inline(forms), safe(inline(said))]
+
+
+def page_of(document):
+    """The manual page that the document makes."""
+    title, *blocks = re.split(r"\n{2,}", document.strip())
+    name, section = re.fullmatch(r"# (\w+)\((\d)\)", title).groups()
+    lines = ['.\\" Made of docs/COMMANDS.md by tools/man.py.', f'.TH {name.upper()} {section} "" "{name} {version()}"']
+    for block in blocks:
+        if block.startswith("#"):
+            lines += heading(block)
+        elif block.startswith("|"):
+            lines += table(block.split("\n"))
+        elif block.startswith("    "):
+            lines += shown(block)
+        elif block.startswith("`-"):
+            lines += option(block)
+        else:
+            lines += [".PP", safe(inline(block))]
+    return "\n".join(lines) + "\n"
+
+
+def main():
+    page = page_of(read(DOCUMENT))
+    if sys.argv[1:] == ["--check"]:
+        return 0 if os.path.exists(PAGE) and read(PAGE) == page else 1
+    if sys.argv[1:]:
+        sys.exit(__doc__)
+    os.makedirs(os.path.dirname(PAGE), exist_ok=True)
+    with open(PAGE, "w", encoding="utf-8") as file:
+        file.write(page)
+    return 0
+
+
+if __name__ == "__main__":
+    sys.exit(main())

@@ -1,0 +1,62 @@
+"""The runs that documents show: each command in docs/WALK.md and docs/COMMANDS.md prints what stands there.
+
+In a block of indented lines one that begins with `$ ` is a command, and the lines behind it, up to the next command or the
+end of the block, are what it prints, on standard output and standard error together. The commands of a document are run one
+after another by `sh` in a folder of their own, which has a copy of examples/, with `sm_tool` as the program. Besides,
+man/sm_tool.1 is the page that tools/man.py makes of docs/COMMANDS.md.
+"""
+import os
+import shutil
+import subprocess
+import sys
+import tempfile
+
+from programs import run
+
+TOP = os.path.join(os.path.dirname(os.path.abspath(__file__)), "..")
+DOCUMENTS = ["WALK.md", "COMMANDS.md"]
+INDENT, PROMPT = "    ", "    $ "
+
+
+def shown(document):
+    """The commands that a document shows, each with what it prints."""
+    rows, is_open = [], False
+    with open(os.path.join(TOP, "docs", document), encoding="utf-8") as lines:
+        for line in lines:
+            if line.startswith(PROMPT):
+                rows.append((line.removeprefix(PROMPT).rstrip("\n"), []))
+            elif is_open and line.startswith(INDENT):
+                rows[-1][1].append(line.removeprefix(INDENT))
+            is_open = line.startswith(PROMPT) or is_open and line.startswith(INDENT)
+    return [(command, "".join(printed)) for command, printed in rows]
+
+
+def folder_for(program, place):
+    """Puts into a folder what the commands find there: the examples, and the program by its name."""
+    shutil.copytree(os.path.join(TOP, "examples"), os.path.join(place, "examples"))
+    os.mkdir(os.path.join(place, "bin"))
+    os.symlink(program, os.path.join(place, "bin", "sm_tool"))
+
+
+def printed_by(command, place):
+    """What a command prints in a folder."""
+    path = os.path.join(place, "bin") + os.pathsep + os.environ.get("PATH", os.defpath)
+    how = {"cwd": place, "env": {**os.environ, "PATH": path}, "stderr": subprocess.STDOUT}
+    return run("/bin/sh", ["-c", command], **how).wrote.decode("ascii", "replace")
+
+
+def try_document(program, document, tally):
+    """The commands of a document, in their order."""
+    with tempfile.TemporaryDirectory() as place:
+        folder_for(program, place)
+        for command, wanted in shown(document):
+            got = printed_by(command, place)
+            tally.hold(f"{document}, {command}", None if got == wanted else f"{got!r}; it shows: {wanted!r}")
+            tally.count(command.count("sm_tool "))
+
+
+def trials(program, tally):
+    for document in DOCUMENTS:
+        try_document(program, document, tally)
+    made = run(sys.executable, ["-B", os.path.join(TOP, "tools", "man.py"), "--check"])
+    tally.hold("man/sm_tool.1", None if made.status == 0 else "tools/man.py makes another page")
