@@ -1,13 +1,15 @@
 #!/usr/bin/env python3
 """Runs the gate, `rt ci`, and prints where its processor minutes went.
 
-    python3 bench/gate.py [LOG]    at the top of the repository, with the kit's rt on the path
+    python3 bench/gate.py [LOG [CRATE..]]    at the top of the repository, with the kit's rt on the path
 
 The gate runs as ever, in this process, and its last lines are its own. Behind them stands a table: for each crate the
 processor seconds (user and system) of its proof, of its tests (which prove the crate again, and run) and of its must-fail
 edits, with the number of edits; then each edit that took more than 40 seconds. Seconds are those that the system counted for
 each program that the gate started, so other work on the machine changes them little; wall time depends on the cores. With a
 LOG a line for each of these programs is written there when it ends: seconds since the start, crate, kind, its seconds.
+With names of crates it is `rt ci CRATE..`: these and the crates below them alone, on a copy. What earlier runs on this machine
+have passed is not done again, and so not counted: the whole price is that of a machine on which nothing is kept.
 """
 import collections
 import importlib.machinery
@@ -78,7 +80,7 @@ def main():
 
     subprocess.Popen = Counted
     gate = load_gate()
-    status = gate.main(["ci"])
+    status = gate.main(["ci", *sys.argv[2:]])
     sys.stdout.flush()
     used = resource.getrusage(resource.RUSAGE_CHILDREN)
     own = resource.getrusage(resource.RUSAGE_SELF)

@@ -1,7 +1,9 @@
 -- What the command line tells of words that ask for a job.
-use Rattle.std.proofs.Common.{◌≡◌, Bool, List, [], ◌∷◌, Option, Some, None, true, false, refl, option_map, subst, sym, if◌then◌else◌, ◌∙◌}
+use Rattle.std.proofs.Common.{◌≡◌, Bool, List, [], ◌∷◌, Option, Some, None, true, false, refl, option_map, subst, sym, if◌then◌else◌, ◌∙◌, inl, inr}
 use Rattle.std.specs.Prelude.{IsSome}
-use Rattle.clap.specs.Words.{Kinds, Row, Text, is_simple, is_simple_and_free, subcommand_of}
+use Rattle.clap.specs.Words.{HasKind, Kinds, Row, Text, is_simple, is_simple_and_free, kind_of, subcommand_of}
+use Rattle.clap.specs.declared.error.Error.{Error}
+use Rattle.clap.specs.declared.error.kind.ErrorKind.TheVariants.{OutOfMemory}
 use Rattle.clap.proofs.OnLiterals.{clap_on_literals}
 use Rattle.gen_jobs.specs.declared.jobs.Job.{Job}
 use Rattle.gen_program.specs.declared.words.WordsFault.{WordsFault}
@@ -10,7 +12,7 @@ use Rattle.gen_program.specs.declared.words.GivenCommand.{GivenCommand}
 use Rattle.gen_program.specs.CommandLine.{tool}
 use Rattle.gen_program.specs.Commands.{Gives, IsGiven, IsGivenBy}
 use Rattle.gen_program.specs.Jobs.{job_named, job_said, number_between}
-use Rattle.gen_program.specs.Tool.{asked, refusal, without_fault, IsFaultOf, IsRefused}
+use Rattle.gen_program.specs.Tool.{asked, fault_from, refusal, without_fault, IsFaultOf, IsRefused}
 
 pub tool_is_simple : is_simple tool ≡ true
 unfolding clap_on_literals
@@ -24,6 +26,23 @@ tool_is_free = refl
 pub without : (kinds : Kinds) (job : Option Job) → IsSome (without_fault kinds job) → kinds ≡ []
 without [] job asks = refl
 without (k ∷ ks) job asks = absurd cc
+
+-- where no kind of error can come, only memory ran out
+runs_out : (kinds : Kinds) (error : Error) → HasKind kinds error → kinds ≡ [] → kind_of error ≡ OutOfMemory
+runs_out [] error has none = elim has [
+  | inl is ↦ is
+  | inr among ↦ absurd among
+]
+runs_out (k ∷ ks) error has none = absurd cc
+
+pub only_memory : (kinds : Kinds) (error : Error) (fault : WordsFault) → HasKind kinds error → fault_from error fault → kinds ≡ [] → fault ≡ Memory
+only_memory kinds error Memory has from none = refl
+only_memory kinds error NotText has from none = absurd from
+only_memory kinds error NoCommand has from none = absurd from
+only_memory kinds error BadCapacity has from none = absurd from
+only_memory kinds error BadWorkers has from none = absurd from
+only_memory kinds error BadGeneral has from none = absurd from
+only_memory kinds error (Words e) has from none = absurd (from.1 (runs_out kinds error has none))
 
 abbrev job_of : GivenCommand → Option Job
 job_of g = job_named g.name.now (option_map (λ t. t.now) g.capacity) (option_map (λ t. t.now) g.workers) (option_map (λ t. t.now) g.general)

@@ -26,6 +26,9 @@ run = with_rule (new_app (codes "run")) capacity
 abbrev pub judge : App
 judge = with_rule (with_rule (new_app (codes "judge")) capacity) workers
 
+abbrev pub campaign : App
+campaign = with_rule (new_app (codes "campaign")) capacity
+
 abbrev pub audit : App
 audit = with_rule (new_app (codes "audit")) workers
 
@@ -48,9 +51,12 @@ with_runs = with_subcommand with_decide run.top
 abbrev pub with_judge : App
 with_judge = with_subcommand with_runs judge.top
 
+abbrev pub with_campaign : App
+with_campaign = with_subcommand with_judge campaign.top
+
 -- those that read a bundle,
 abbrev pub with_audit : App
-with_audit = with_subcommand with_judge audit.top
+with_audit = with_subcommand with_campaign audit.top
 
 abbrev pub with_bundles : App
 with_bundles = with_subcommand with_audit accuse.top

@@ -36,6 +36,7 @@ job_named name capacity workers general =
     else if bytes_eq name (codes "run") then option_map (λ n. jobs.Run n) (number_between 1 16 capacity)
     else if bytes_eq name (codes "judge") then
     job_judging (number_between 1 16 capacity) (number_between 1 16 workers)
+    else if bytes_eq name (codes "campaign") then option_map (λ n. jobs.Campaign n) (number_between 1 16 capacity)
     else if bytes_eq name (codes "audit") then option_map (λ n. jobs.Audit n) (number_between 1 16 workers)
     else job_against name general
 

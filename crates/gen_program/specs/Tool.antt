@@ -34,7 +34,7 @@ fault_from error (Words e) = (e ≡ error) × (kind_of error ≢ OutOfMemory)
 
 -- the commands that take each of the numbers
 abbrev pub takes_capacity : Text → Bool
-takes_capacity name = bytes_eq name (codes "run") || bytes_eq name (codes "judge")
+takes_capacity name = bytes_eq name (codes "run") || bytes_eq name (codes "judge") || bytes_eq name (codes "campaign")
 
 abbrev pub takes_workers : Text → Bool
 takes_workers name = bytes_eq name (codes "audit") || bytes_eq name (codes "judge")

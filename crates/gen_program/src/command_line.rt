@@ -7,6 +7,27 @@ ghost use Rattle.gen_program.specs.CommandLine as lines;
 use clap::{Arg, ArgAction, Command};
 use std::alloc::{AllocError, Global};
 
+/// What stands at the end of the help: three examples, the exit statuses, and where more is said.
+const MORE: &str = "\
+Examples:
+  sm_tool run < split.scenario > split.bundle
+  sm_tool audit --workers 4 < split.bundle
+  sm_tool accuse --general 0 < split.bundle > split.evidence
+
+Each command reads standard input to its end, and writes nothing before its output is whole. Bundles, campaigns
+and evidence are bytes: redirect them.
+
+Exit status:
+  0  done: the output is whole, and a verdict in it is a yes
+  1  done: a verdict is a no, evidence fails, or there is no evidence against the general
+  2  the words ask for nothing that there is
+  3  the input has a fault, which standard error names
+  4  memory or a thread was refused
+  5  a read or a write failed
+
+Faults, as 'fault P6 line 8', findings, as 'N8 from 0 to 1', and convictions, as 'K2', are explained in
+docs/FORMATS.md of the sources. 'sm_tool help run' tells of one command.";
+
 /// Returns the option that says how many frames an edge holds.
 fn capacity_option<'a>(alloc: Global) -> Arg<'a>
     ensures rule { rule_of result ≡ lines.capacity }
@@ -75,12 +96,23 @@ fn judge_command<'a>(alloc: Global) -> Result<Command<'a>, AllocError>
         .arg(workers_option(alloc))
 }
 
-/// Returns the command that audits a bundle.
+/// Returns the command that runs a campaign.
+fn campaign_command<'a>(alloc: Global) -> Result<Command<'a>, AllocError>
+    ensures app { IfOk result (λ c. app_of c ≡ lines.campaign) }
+    ensures local { IfOk result (λ c. (fields_of c).has_globals ≡ false) }
+{
+    let about =
+        "Reads the text of a campaign from standard input, runs it and writes the bundles of its runs";
+    plain_command(alloc, "campaign", about).arg(capacity_option(alloc))
+}
+
+/// Returns the command that audits a bundle or a campaign.
 fn audit_command<'a>(alloc: Global) -> Result<Command<'a>, AllocError>
     ensures app { IfOk result (λ c. app_of c ≡ lines.audit) }
     ensures local { IfOk result (λ c. (fields_of c).has_globals ≡ false) }
 {
-    let about = "Reads a bundle of logs from standard input and prints whether a run explains them";
+    let about =
+        "Reads a bundle of logs, or a campaign, from standard input and prints whether a run explains them";
     plain_command(alloc, "audit", about).arg(workers_option(alloc))
 }
 
@@ -89,7 +121,8 @@ fn accuse_command<'a>(alloc: Global) -> Result<Command<'a>, AllocError>
     ensures app { IfOk result (λ c. app_of c ≡ lines.accuse) }
     ensures local { IfOk result (λ c. (fields_of c).has_globals ≡ false) }
 {
-    let about = "Reads a bundle from standard input and writes the evidence against a general";
+    let about =
+        "Reads a bundle or a campaign from standard input and writes the evidence against a general";
     plain_command(alloc, "accuse", about).arg(general_option(alloc))
 }
 
@@ -99,7 +132,8 @@ fn bare_command<'a>(alloc: Global) -> Command<'a>
 {
     Command::new(alloc, "sm_tool")
         .about("Runs and audits signed Byzantine agreement")
-        .version("0.1.0")
+        .version("0.2.0")
+        .after_help(MORE)
         .subcommand_required(true)
 }
 
@@ -127,12 +161,20 @@ fn with_judge<'a>(alloc: Global) -> Result<Command<'a>, AllocError>
     with_runs(alloc)?.subcommand(judge)
 }
 
+/// Returns the command line with the command that runs a campaign, too.
+fn with_campaign<'a>(alloc: Global) -> Result<Command<'a>, AllocError>
+    ensures { IfOk result (λ c. app_of c ≡ lines.with_campaign) }
+{
+    let campaign = campaign_command(alloc)?;
+    with_judge(alloc)?.subcommand(campaign)
+}
+
 /// Returns the command line with the command that audits, too.
 fn with_audit<'a>(alloc: Global) -> Result<Command<'a>, AllocError>
     ensures { IfOk result (λ c. app_of c ≡ lines.with_audit) }
 {
     let audit = audit_command(alloc)?;
-    with_judge(alloc)?.subcommand(audit)
+    with_campaign(alloc)?.subcommand(audit)
 }
 
 /// Returns the command line with the commands that read a bundle, too.

@@ -146,6 +146,9 @@ fn job_of(
             capacity: number_between(capacity, 1, 16)?,
         }),
         "judge" => job_judging(capacity, workers),
+        "campaign" => Some(Job::Campaign {
+            capacity: number_between(capacity, 1, 16)?,
+        }),
         "audit" => Some(Job::Audit {
             workers: workers_of(workers)?,
         }),
@@ -158,7 +161,7 @@ fn lacks_capacity(name: &str, capacity: Option<&str>) -> bool
     ensures { result ≡ (takes_capacity name.now
         && is_missing (number_between 1 16 (option_map (λ t. t.now) capacity.entry))) }
 {
-    matches!(name, "run" | "judge") && number_between(capacity, 1, 16).is_none()
+    matches!(name, "run" | "judge" | "campaign") && number_between(capacity, 1, 16).is_none()
 }
 
 /// Whether a command takes a number of workers, and its text is none.

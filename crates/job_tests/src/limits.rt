@@ -120,7 +120,30 @@ fn the_largest_run_is_agreed(rt: HostRuntime) -> Result<(), Fail> {
     Ok(())
 }
 
-/// What is decided in it, the last line.
+/// A campaign of four of the largest scenarios.
+fn largest_campaign(alloc: Global) -> Result<String, Fail> {
+    let mut text = format!(in alloc; "campaign 4\n")?;
+    for slot in 0u8..4 {
+        let line = format!(in alloc; "slot {slot}\n")?;
+        text.push_str(&largest(alloc, &line)?)?;
+    }
+    Ok(text)
+}
+
+/// The verdict on it, its last lines.
+const ALL_AGREED: (usize, &[u8]) = (388, b"\nverdict agreed 14\nend\nend campaign\n");
+
+#[test]
+fn the_largest_campaign_is_agreed(rt: HostRuntime) -> Result<(), Fail> {
+    let alloc = rt.alloc();
+    let text = largest_campaign(alloc)?;
+    let bundles = text_of(&rt, alloc, Job::Campaign { capacity: 1 }, text.as_bytes())?;
+    assert_eq!(rt; bundles.len(), 30_982_809);
+    assert!(rt; writes(&rt, alloc, audit_job(), &bundles, ALL_AGREED));
+    Ok(())
+}
+
+/// What is decided in the largest scenario, the last line.
 const DECIDED: (usize, &[u8]) = (454, b"\ngeneral 15 set 14 decides 14\n");
 
 #[test]

@@ -29,6 +29,22 @@ fn runs_take_a_capacity(rt: HostRuntime) {
     }
 }
 
+#[test]
+fn campaigns_take_a_capacity(rt: HostRuntime) {
+    let alloc = rt.alloc();
+    let rows: [(&[&str], u8); 3] = [
+        (&["sm_tool", "campaign"], 1),
+        (&["sm_tool", "campaign", "--capacity", "16"], 16),
+        (&["sm_tool", "campaign", "--capacity=9"], 9),
+    ];
+    for (words, capacity) in rows {
+        assert!(rt;
+            asks(alloc, words, Job::Campaign { capacity }),
+            "{capacity}"
+        );
+    }
+}
+
 /// Returns whether the words ask for an audit by so many workers.
 fn asks_workers<'a>(alloc: Global, words: &'a [&'a str], count: usize) -> bool {
     match WorkerCount::new(count) {
@@ -120,7 +136,7 @@ fn evidence_takes_nothing(rt: HostRuntime) {
 /// Returns whether the command is refused for its number.
 fn is_bad_number(alloc: Global, command: &str, option: &str) -> bool {
     match &read_words(alloc, &["sm_tool", command, option]) {
-        Err(WordsFault::BadCapacity) => command == "run",
+        Err(WordsFault::BadCapacity) => matches!(command, "run" | "campaign"),
         Err(WordsFault::BadWorkers) => command == "audit",
         Err(WordsFault::BadGeneral) => command == "accuse",
         _ => false,
@@ -134,6 +150,8 @@ fn numbers_are_in_their_range(rt: HostRuntime) {
         ("run", "--capacity=0"),
         ("run", "--capacity=17"),
         ("run", "--capacity=256"),
+        ("campaign", "--capacity=0"),
+        ("campaign", "--capacity=17"),
         ("audit", "--workers=0"),
         ("audit", "--workers=17"),
         ("accuse", "--general=16"),

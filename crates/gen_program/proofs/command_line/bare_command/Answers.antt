@@ -11,5 +11,6 @@ required a = record a { top = record a.top { subcommand_required = true } }
 
 pub returns : goal.returns
 returns c =
-    ap app_of_fields c.subcommand_required.ensures ∙ ap required (ap app_of_fields c.version.ensures)
+    ap app_of_fields c.subcommand_required.ensures
+    ∙ ap required (ap app_of_fields c.after_help.ensures ∙ ap app_of_fields c.version.ensures)
     ∙ ap (λ a. required (versioned a)) (ap app_of_fields c.about.ensures ∙ c.new.ensures.app)
