@@ -68,7 +68,7 @@ KINDS = {"texts": text_case, "bundles": bundle_case, "evidence": evidence_case, 
 
 
 def is_of_campaigns(given):
-    """Whether an input has the mark of a campaign, or is evidence of two runs: formats that are still to come."""
+    """Whether an input has the mark of a campaign, or is evidence of two runs: campaigns.py has such inputs."""
     if given[:4] == b"SMC2":
         return True
     if given[:4] != b"SME2" or len(given) < 12:
