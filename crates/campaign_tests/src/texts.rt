@@ -30,17 +30,66 @@ fn joined(alloc: Global, pieces: &[&[u8]]) -> Result<Vec<u8>, AllocError> {
     Ok(text)
 }
 
-/// The first case whose pieces make a text with another first fault.
-fn first_other(
-    alloc: Global,
-    cases: &[(&[&[u8]], LineFault, usize)],
-) -> Result<Option<usize>, AllocError> {
-    for i in 0..cases.len() {
-        let (pieces, kind, line) = cases[i];
-        let read = read_campaign_text(alloc, &joined(alloc, pieces)?);
-        if !matches!(&read, Err(ReadError::Fault(fault)) if fault.kind == kind && fault.line == line)
-        {
-            return Ok(Some(i));
+/// The pieces of a text, its first fault and the line of that.
+type Case<'a> = (&'a [&'a [u8]], LineFault, usize);
+
+const OF_ONE_TEXT: [Case<'static>; 9] = [
+    (&[], LineFault::Unfinished, 1),
+    (&[b"campaign 0\n"], LineFault::RunCount, 1),
+    (&[b"campaign 5\n"], LineFault::RunCount, 1),
+    (&[b"campaign x\n"], LineFault::Number, 1),
+    (&[b"campaign\n"], LineFault::Shape, 1),
+    (&[PAIR, SEED, LAST], LineFault::Shape, 1),
+    (&[b"campaign 1\n", PAIR, b"end\n"], LineFault::Shape, 9),
+    (
+        &[b"campaign 1\n", PAIR, SEED, b"end\n"],
+        LineFault::Shape,
+        10,
+    ),
+    (
+        &[b"campaign 1\n", PAIR, SEED, LAST, PAIR],
+        LineFault::Extra,
+        12,
+    ),
+];
+
+/// The first line of a campaign of two texts.
+const TWO: &[u8] = b"campaign 2\n";
+
+const OF_A_SECOND_TEXT: [Case<'static>; 6] = [
+    (&[TWO, PAIR, SEED, LAST], LineFault::Unfinished, 12),
+    (&[TWO, PAIR, SEED, LAST, THREE], LineFault::Unlike, 12),
+    (&[TWO, PAIR, SEED, LAST, PAIR, OTHER], LineFault::Unlike, 19),
+    (
+        &[TWO, PAIR, SEED, LAST, PAIR, SEED, LAST],
+        LineFault::Unlike,
+        20,
+    ),
+    (
+        &[TWO, PAIR, SEED, LAST, PAIR, SEED, b"slot 4\n"],
+        LineFault::SlotRange,
+        20,
+    ),
+    (
+        &[TWO, PAIR, SEED, LAST, PAIR, SEED, b"slot 2\n"],
+        LineFault::Unfinished,
+        21,
+    ),
+];
+
+/// Whether the pieces of a case make a text with its first fault.
+fn has_fault(alloc: Global, case: &Case<'_>) -> Result<bool, AllocError> {
+    let (pieces, kind, line) = *case;
+    let text = joined(alloc, pieces)?;
+    let read = read_campaign_text(alloc, &text);
+    Ok(matches!(&read, Err(ReadError::Fault(fault)) if fault.kind == kind && fault.line == line))
+}
+
+/// The index of the first case that is not so.
+fn first_other(alloc: Global, cases: &[Case<'_>]) -> Result<Option<usize>, AllocError> {
+    for (index, case) in cases.iter().enumerate() {
+        if !has_fault(alloc, case)? {
+            return Ok(Some(index));
         }
     }
     Ok(None)
@@ -48,74 +97,33 @@ fn first_other(
 
 #[test]
 fn faults_of_one_text(rt: HostRuntime) -> Result<(), Fail> {
-    let cases: [(&[&[u8]], LineFault, usize); 9] = [
-        (&[], LineFault::Unfinished, 1),
-        (&[b"campaign 0\n"], LineFault::RunCount, 1),
-        (&[b"campaign 5\n"], LineFault::RunCount, 1),
-        (&[b"campaign x\n"], LineFault::Number, 1),
-        (&[b"campaign\n"], LineFault::Shape, 1),
-        (&[PAIR, SEED, LAST], LineFault::Shape, 1),
-        (&[b"campaign 1\n", PAIR, b"end\n"], LineFault::Shape, 9),
-        (
-            &[b"campaign 1\n", PAIR, SEED, b"end\n"],
-            LineFault::Shape,
-            10,
-        ),
-        (
-            &[b"campaign 1\n", PAIR, SEED, LAST, PAIR],
-            LineFault::Extra,
-            12,
-        ),
-    ];
-    assert_eq!(rt; first_other(rt.alloc(), &cases)?, None);
+    assert_eq!(rt; first_other(rt.alloc(), &OF_ONE_TEXT)?, None);
     Ok(())
 }
 
 #[test]
 fn faults_of_a_second_text(rt: HostRuntime) -> Result<(), Fail> {
-    const FIRST: &[u8] = b"campaign 2\n";
-    let cases: [(&[&[u8]], LineFault, usize); 6] = [
-        (&[FIRST, PAIR, SEED, LAST], LineFault::Unfinished, 12),
-        (&[FIRST, PAIR, SEED, LAST, THREE], LineFault::Unlike, 12),
-        (
-            &[FIRST, PAIR, SEED, LAST, PAIR, OTHER],
-            LineFault::Unlike,
-            19,
-        ),
-        (
-            &[FIRST, PAIR, SEED, LAST, PAIR, SEED, LAST],
-            LineFault::Unlike,
-            20,
-        ),
-        (
-            &[FIRST, PAIR, SEED, LAST, PAIR, SEED, b"slot 4\n"],
-            LineFault::SlotRange,
-            20,
-        ),
-        (
-            &[FIRST, PAIR, SEED, LAST, PAIR, SEED, b"slot 2\n"],
-            LineFault::Unfinished,
-            21,
-        ),
-    ];
-    assert_eq!(rt; first_other(rt.alloc(), &cases)?, None);
+    assert_eq!(rt; first_other(rt.alloc(), &OF_A_SECOND_TEXT)?, None);
     Ok(())
+}
+
+/// Two texts, in slots 1 and 3.
+const SLOTS: [&[u8]; 7] = [TWO, PAIR, SEED, LAST, PAIR, SEED, b"slot 3\nend\n"];
+
+/// Whether the two texts of a campaign are in slots 1 and 3.
+fn are_in_slots(alloc: Global, text: &[u8]) -> bool {
+    match read_campaign_text(alloc, text) {
+        Ok(plans) => matches!(
+            plans.as_slice(),
+            [first, second] if first.version().slot() == 1 && second.version().slot() == 3
+        ),
+        Err(_) => false,
+    }
 }
 
 #[test]
 fn slots_of_two_texts(rt: HostRuntime) -> Result<(), Fail> {
-    let mut text = Vec::from_slice(rt.alloc(), b"campaign 2\n")?;
-    text.extend_from_slice(PAIR)?;
-    text.extend_from_slice(SEED)?;
-    text.extend_from_slice(LAST)?;
-    text.extend_from_slice(PAIR)?;
-    text.extend_from_slice(SEED)?;
-    text.extend_from_slice(b"slot 3\nend\n")?;
-    let plans = read_campaign_text(rt.alloc(), &text)?;
-    let slots = plans
-        .iter()
-        .map(|plan| plan.version().slot())
-        .collect::<Vec<u8>>(rt.alloc())?;
-    assert_eq!(rt; slots.as_slice(), [1, 3].as_slice());
+    let text = joined(rt.alloc(), &SLOTS)?;
+    assert!(rt; are_in_slots(rt.alloc(), &text));
     Ok(())
 }

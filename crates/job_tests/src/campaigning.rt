@@ -1,5 +1,6 @@
 //! The job `campaign`: it writes the bundles of a campaign's runs. What it writes, and the verdict on that, were given by
 //! another program, in Python.
+use crate::bundles::bundle_of;
 use crate::over_bytes::{audit_job, done};
 use gen_jobs::{Job, JobEnd, JobFault};
 use gen_report::{LineFault, ScenarioFault};
@@ -86,4 +87,38 @@ fn a_campaign_of_no_run_is_refused(rt: HostRuntime) {
         line: 1,
     };
     assert!(rt; end == JobEnd::Failed(JobFault::Scenario(fault)) && bytes.is_empty());
+}
+
+/// Two generals in slot 0.
+const SLOT_0: &[u8] = b"\
+    generals 2\nedge 0 1\ntraitors 0\ndiameter 1\norders 2\nchoice 0\norder 1\n\
+    seed 0000000000000000000000000000000000000000000000000000000000000000\nslot 0\nend\n";
+
+/// The same slot with the same keys once more, in a run of which one may be faulty.
+const SLOT_0_AGAIN: &[u8] = b"\
+    generals 2\nedge 0 1\ntraitors 1\ndiameter 1\norders 2\nchoice 0\norder 1\n\
+    seed 0000000000000000000000000000000000000000000000000000000000000000\nslot 0\nscript 1\nend\n";
+
+/// The bytes of both runs, as if they were a campaign.
+fn one_slot_twice(alloc: Global) -> Result<Vec<u8>, Fail> {
+    let mut bytes = Vec::from_slice(alloc, b"SMC2\x02")?;
+    bytes.extend_from_slice(&bundle_of(alloc, SLOT_0)?)?;
+    bytes.extend_from_slice(&bundle_of(alloc, SLOT_0_AGAIN)?)?;
+    Ok(bytes)
+}
+
+/// The last lines of the verdict on them.
+const ACROSS: &[u8] = b"\
+    convicted 1 by K4\nend\nconvicted 0 by K1 across 0 1\nconvicted 1 by K1 across 0 1\nend campaign\n";
+
+#[test]
+fn who_signs_twice_under_one_leaf_is_convicted(rt: HostRuntime) -> Result<(), Fail> {
+    let alloc = rt.alloc();
+    let bytes = one_slot_twice(alloc)?;
+    let (end, verdict) = done(&rt, alloc, audit_job(), &bytes);
+    assert!(rt; end == JobEnd::Done && verdict.ends_with(ACROSS));
+    let general = GeneralNo::at(0);
+    let (end, evidence) = done(&rt, alloc, Job::Accuse { general }, &bytes);
+    assert!(rt; end == JobEnd::Done && evidence.len() == 33_314);
+    Ok(())
 }
