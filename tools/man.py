@@ -33,7 +33,8 @@ def plain(text):
 
 
 def inline(text):
-    """A piece of running text: links lose their targets, and code is set bold."""
+    """A piece of running text: documents are named from the top, other links lose their targets, and code is set bold."""
+    text = re.sub(r"\[([A-Z]+\.md)\]\([^)]*\)", r"docs/\1", text)
     text = re.sub(r"\[([^\]]*)\]\([^)]*\)", r"\1", text)
     pieces = re.split(r"`([^`]*)`", text)
     return "".join(f"\\fB{plain(piece)}\\fR" if at % 2 else plain(piece) for at, piece in enumerate(pieces))
