@@ -133,7 +133,7 @@ fn sole_told(verdict: &CampaignVerdict) -> Option<(u8, u8, u8)> {
 fn one_slot_used_twice(rt: HostRuntime) -> Result<(), Fail> {
     let verdict = verdict_on(&rt, rt.alloc(), &[ALL, ONE])?;
     assert!(rt; are_agreed(&verdict, 2) && verdict.is_yes());
-    assert_eq!(rt; sole_told(&verdict), Some((0, 0, 1)));
+    assert!(rt; sole_told(&verdict) == Some((0, 0, 1)));
     Ok(())
 }
 
@@ -169,6 +169,6 @@ fn a_run_alone(rt: HostRuntime) -> Result<(), Fail> {
     let bytes = bundle_bytes(rt.alloc(), &ALL)?;
     let verdict = verdict_in(&rt, rt.alloc(), &bytes)?;
     assert!(rt; are_agreed(&verdict, 1) && verdict.is_yes() && verdict.across.is_empty());
-    assert_eq!(rt; campaign_bytes(rt.alloc(), &[ALL])?.len(), 66_512);
+    assert!(rt; campaign_bytes(rt.alloc(), &[ALL])?.len() == 66_512);
     Ok(())
 }

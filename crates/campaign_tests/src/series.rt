@@ -56,11 +56,8 @@ fn first_wrong(alloc: Global) -> Result<Option<usize>, Fail> {
 
 #[test]
 fn scenarios_that_make_no_campaign(rt: HostRuntime) -> Result<(), Fail> {
-    assert_eq!(rt; first_wrong(rt.alloc())?, None);
-    assert_eq!(rt;
-        CampaignFault::SlotOrder.to_string(rt.alloc())?.as_str(),
-        "X3"
-    );
+    assert!(rt; first_wrong(rt.alloc())? == None);
+    assert!(rt; CampaignFault::SlotOrder.to_string(rt.alloc())?.as_str() == "X3");
     Ok(())
 }
 

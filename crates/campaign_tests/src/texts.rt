@@ -97,13 +97,13 @@ fn first_other(alloc: Global, cases: &[Case<'_>]) -> Result<Option<usize>, Alloc
 
 #[test]
 fn faults_of_one_text(rt: HostRuntime) -> Result<(), Fail> {
-    assert_eq!(rt; first_other(rt.alloc(), &OF_ONE_TEXT)?, None);
+    assert!(rt; first_other(rt.alloc(), &OF_ONE_TEXT)? == None);
     Ok(())
 }
 
 #[test]
 fn faults_of_a_second_text(rt: HostRuntime) -> Result<(), Fail> {
-    assert_eq!(rt; first_other(rt.alloc(), &OF_A_SECOND_TEXT)?, None);
+    assert!(rt; first_other(rt.alloc(), &OF_A_SECOND_TEXT)? == None);
     Ok(())
 }
 

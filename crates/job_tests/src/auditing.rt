@@ -223,7 +223,7 @@ fn beginnings_are_short(alloc: Global, bundle: &[u8]) -> bool {
 fn cut_bundles_are_refused(rt: HostRuntime) -> Result<(), Fail> {
     let alloc = rt.alloc();
     let mut bundle = bundle_of(alloc, PAIR)?;
-    assert_eq!(rt; bundle.len(), 66_250);
+    assert!(rt; bundle.len() == 66_250);
     assert!(rt; cuts_are_short(&rt, alloc, &bundle) && beginnings_are_short(alloc, &bundle));
     bundle.push(0)?;
     let left_over = Some(JobEnd::Failed(JobFault::Campaign(CampaignFault::Alone(
@@ -297,7 +297,7 @@ fn changed_bytes_are_refused(rt: HostRuntime) -> Result<(), Fail> {
     let bundle = bundle_of(alloc, PAIR)?;
     for change in CHANGES {
         let refused = is_refused(&rt, alloc, &bundle, change)?;
-        assert!(rt; refused, "{}", change.0);
+        assert!(rt; refused);
     }
     Ok(())
 }

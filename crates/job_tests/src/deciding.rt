@@ -25,11 +25,8 @@ fn decides_by_pieces(rt: HostRuntime) {
     for step in [1, 7, 4096, 100_000] {
         let mut reader = source_of(LINE_WITHOUT_SEED, step, 0, Slip::Fails);
         let mut writer = sink_for(alloc, step, 0, Slip::Fails);
-        assert!(rt;
-            decide_engine(alloc, &mut reader, &mut writer) == JobEnd::Done,
-            "{step}"
-        );
-        assert!(rt; writer.taken.as_slice() == LINE_DECISIONS, "{step}");
+        assert!(rt; decide_engine(alloc, &mut reader, &mut writer) == JobEnd::Done);
+        assert!(rt; writer.taken.as_slice() == LINE_DECISIONS);
     }
 }
 
@@ -68,12 +65,12 @@ fn ends_where_a_read_fails(rt: HostRuntime) {
         let mut reader = source_of(LINE_WITHOUT_SEED, 8, k, Slip::Fails);
         let mut writer = sink_for(alloc, 8, 0, Slip::Fails);
         let end = decide_engine(alloc, &mut reader, &mut writer);
-        assert!(rt; end == JobEnd::Failed(JobFault::Read), "{k}");
-        assert!(rt; writer.taken.is_empty(), "{k}");
+        assert!(rt; end == JobEnd::Failed(JobFault::Read));
+        assert!(rt; writer.taken.is_empty());
         let mut reader = source_of(LINE_WITHOUT_SEED, 8, k, Slip::Interrupts);
         let end = decide_engine(alloc, &mut reader, &mut writer);
-        assert!(rt; end == JobEnd::Done, "{k}");
-        assert!(rt; writer.taken.as_slice() == LINE_DECISIONS, "{k}");
+        assert!(rt; end == JobEnd::Done);
+        assert!(rt; writer.taken.as_slice() == LINE_DECISIONS);
     }
 }
 
@@ -93,7 +90,7 @@ fn ends_where_a_write_fails(rt: HostRuntime) {
             } else {
                 JobEnd::Failed(JobFault::Write)
             };
-            assert!(rt; end == want, "{k}");
+            assert!(rt; end == want);
         }
     }
 }

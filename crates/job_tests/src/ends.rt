@@ -79,12 +79,12 @@ fn shows_ends(rt: HostRuntime) -> Result<(), Fail> {
     ];
     for (fault, status, line) in cases {
         let end = JobEnd::Failed(fault);
-        assert_eq!(rt; end.status(), status, "{line}");
-        assert!(rt; end.fault() == Some(fault), "{line}");
-        assert_eq!(rt; fault.to_string(rt.alloc())?.as_str(), line);
+        assert!(rt; end.status() == status);
+        assert!(rt; end.fault() == Some(fault));
+        assert!(rt; fault.to_string(rt.alloc())?.as_str() == line);
     }
     for (end, status) in [(JobEnd::Done, 0), (JobEnd::Negative, 1)] {
-        assert_eq!(rt; end.status(), status);
+        assert!(rt; end.status() == status);
         assert!(rt; end.fault().is_none());
     }
     Ok(())

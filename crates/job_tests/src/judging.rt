@@ -79,13 +79,13 @@ fn first_wrong<R: Threads + Wait + Sync>(
 
 #[test]
 fn one_worker_judges_runs(rt: HostRuntime) {
-    assert_eq!(rt; first_wrong(&rt, rt.alloc(), 1, 1), None);
+    assert!(rt; first_wrong(&rt, rt.alloc(), 1, 1) == None);
 }
 
 #[test]
 fn many_workers_judge_runs(rt: HostRuntime) {
-    assert_eq!(rt; first_wrong(&rt, rt.alloc(), 16, 5), None);
-    assert_eq!(rt; first_wrong(&rt, rt.alloc(), 2, 16), None);
+    assert!(rt; first_wrong(&rt, rt.alloc(), 16, 5) == None);
+    assert!(rt; first_wrong(&rt, rt.alloc(), 2, 16) == None);
 }
 
 #[test]

@@ -88,21 +88,21 @@ fn bundle_in_a_slot(rt: HostRuntime) -> Result<(), Fail> {
 #[test]
 fn bundles_are_of_the_run(rt: HostRuntime) -> Result<(), Fail> {
     let wrong = first_wrong(&rt, rt.alloc(), &RUNS[..4], 1)?;
-    assert_eq!(rt; wrong, None);
+    assert!(rt; wrong == None);
     Ok(())
 }
 
 #[test]
 fn bundles_are_of_more_runs(rt: HostRuntime) -> Result<(), Fail> {
     let wrong = first_wrong(&rt, rt.alloc(), &RUNS[4..], 1)?;
-    assert_eq!(rt; wrong, None);
+    assert!(rt; wrong == None);
     Ok(())
 }
 
 #[test]
 fn bundles_are_of_the_run_with_room(rt: HostRuntime) -> Result<(), Fail> {
     let wrong = first_wrong(&rt, rt.alloc(), &RUNS[..4], 16)?;
-    assert_eq!(rt; wrong, None);
+    assert!(rt; wrong == None);
     Ok(())
 }
 

@@ -25,7 +25,7 @@ fn runs_take_a_capacity(rt: HostRuntime) {
         (&["sm_tool", "run", "--capacity", "16"], 16),
     ];
     for (words, capacity) in rows {
-        assert!(rt; asks(alloc, words, Job::Run { capacity }), "{capacity}");
+        assert!(rt; asks(alloc, words, Job::Run { capacity }));
     }
 }
 
@@ -38,10 +38,7 @@ fn campaigns_take_a_capacity(rt: HostRuntime) {
         (&["sm_tool", "campaign", "--capacity=9"], 9),
     ];
     for (words, capacity) in rows {
-        assert!(rt;
-            asks(alloc, words, Job::Campaign { capacity }),
-            "{capacity}"
-        );
+        assert!(rt; asks(alloc, words, Job::Campaign { capacity }));
     }
 }
 
@@ -63,7 +60,7 @@ fn audits_take_workers(rt: HostRuntime) {
         (&["sm_tool", "audit", "--workers", "16"], 16),
     ];
     for (words, count) in rows {
-        assert!(rt; asks_workers(alloc, words, count), "{count}");
+        assert!(rt; asks_workers(alloc, words, count));
     }
 }
 
@@ -85,7 +82,7 @@ fn judges_take_both(rt: HostRuntime) {
         (&["sm_tool", "judge", "--workers=2", "--capacity=3"], 3, 2),
     ];
     for (words, capacity, count) in rows {
-        assert!(rt; asks_judges(alloc, words, capacity, count), "{count}");
+        assert!(rt; asks_judges(alloc, words, capacity, count));
     }
 }
 
@@ -101,18 +98,9 @@ fn is_bad_capacity(alloc: Global, capacity: &str, workers: &str) -> Option<bool>
 #[test]
 fn the_capacity_is_looked_at_first(rt: HostRuntime) {
     let alloc = rt.alloc();
-    assert_eq!(rt;
-        is_bad_capacity(alloc, "--capacity=0", "--workers=0"),
-        Some(true)
-    );
-    assert_eq!(rt;
-        is_bad_capacity(alloc, "--capacity=1", "--workers=0"),
-        Some(false)
-    );
-    assert_eq!(rt;
-        is_bad_capacity(alloc, "--capacity=17", "--workers=1"),
-        Some(true)
-    );
+    assert!(rt; is_bad_capacity(alloc, "--capacity=0", "--workers=0") == Some(true));
+    assert!(rt; is_bad_capacity(alloc, "--capacity=1", "--workers=0") == Some(false));
+    assert!(rt; is_bad_capacity(alloc, "--capacity=17", "--workers=1") == Some(true));
 }
 
 #[test]
@@ -158,7 +146,7 @@ fn numbers_are_in_their_range(rt: HostRuntime) {
         ("accuse", "--general=255"),
     ];
     for (command, option) in rows {
-        assert!(rt; is_bad_number(alloc, command, option), "{option}");
+        assert!(rt; is_bad_number(alloc, command, option));
     }
 }
 
@@ -175,7 +163,7 @@ fn numbers_are_decimal(rt: HostRuntime) {
         ("accuse", "--general=0x1"),
     ];
     for (command, option) in rows {
-        assert!(rt; is_bad_number(alloc, command, option), "{option}");
+        assert!(rt; is_bad_number(alloc, command, option));
     }
 }
 
@@ -201,7 +189,7 @@ fn options_stand_at_their_commands(rt: HostRuntime) {
         (&["sm_tool", "evidence", "1"], ErrorKind::UnknownArgument),
     ];
     for (words, want) in rows {
-        assert!(rt; has_kind(alloc, words, want), "{want:?}");
+        assert!(rt; has_kind(alloc, words, want));
     }
 }
 
@@ -266,6 +254,6 @@ fn first_wrong(alloc: Global, rows: &[(&[&str], ErrorKind)]) -> Result<Option<us
 #[test]
 fn other_words_are_refused(rt: HostRuntime) -> Result<(), Fail> {
     let wrong = first_wrong(rt.alloc(), &REFUSED)?;
-    assert_eq!(rt; wrong, None);
+    assert!(rt; wrong == None);
     Ok(())
 }

@@ -135,7 +135,7 @@ fn read_and_written_again(rt: HostRuntime) -> Result<(), Fail> {
 fn each_cut_and_one_byte_more(rt: HostRuntime) -> Result<(), Fail> {
     let alloc = rt.alloc();
     let mut bytes = bundle_bytes(alloc, &FRONT)?;
-    assert_eq!(rt; bytes.len(), 99);
+    assert!(rt; bytes.len() == 99);
     assert!(rt; cuts_are_short(alloc, &bytes));
     bytes.push(0)?;
     let fault = read_bundle(alloc, &bytes).err();

@@ -135,10 +135,10 @@ fn each_kind_is_read_and_written_again(rt: HostRuntime) -> Result<(), Fail> {
     let orders = evidence_of(alloc, &ORDERS)?;
     let missing = evidence_of(alloc, &MISSING)?;
     let departs = departing(alloc)?;
-    assert_eq!(rt; accused_and_slot(alloc, &texts, 33_185)?, (1, 0));
-    assert_eq!(rt; accused_and_slot(alloc, &orders, 33_141)?, (0, 0));
-    assert_eq!(rt; accused_and_slot(alloc, &missing, 16_638)?, (1, 0));
-    assert_eq!(rt; accused_and_slot(alloc, &departs, 125)?, (1, 0));
+    assert!(rt; accused_and_slot(alloc, &texts, 33_185)? == (1, 0));
+    assert!(rt; accused_and_slot(alloc, &orders, 33_141)? == (0, 0));
+    assert!(rt; accused_and_slot(alloc, &missing, 16_638)? == (1, 0));
+    assert!(rt; accused_and_slot(alloc, &departs, 125)? == (1, 0));
     Ok(())
 }
 
@@ -222,7 +222,7 @@ fn faults_of_a_log_and_a_statement(rt: HostRuntime) -> Result<(), Fail> {
 fn evidence_across_is_read_and_written_again(rt: HostRuntime) -> Result<(), Fail> {
     let alloc = rt.alloc();
     let across = across(alloc)?;
-    assert_eq!(rt; accused_and_slot(alloc, &across, 33_388)?, (1, 2));
+    assert!(rt; accused_and_slot(alloc, &across, 33_388)? == (1, 2));
     assert!(rt; cuts_are_short(alloc, &across, 115, 130));
     Ok(())
 }

@@ -271,6 +271,6 @@ const ROWS: &[Row<'_>] = &[
 
 #[test]
 fn finds_the_first_claim_against_each(rt: HostRuntime) -> Result<(), Fail> {
-    assert_eq!(rt; first_wrong(rt.alloc(), ROWS)?, None);
+    assert!(rt; first_wrong(rt.alloc(), ROWS)? == None);
     Ok(())
 }

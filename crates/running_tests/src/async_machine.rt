@@ -170,7 +170,7 @@ fn any_capacity_gives_the_logs_of_the_run(rt: HostRuntime) -> Result<(), Fail> {
     for capacity in [1, 2, 16] {
         let right = ends_as_the_run(alloc, &pair, capacity, 4)?
             && ends_as_the_run(alloc, &line, capacity, 36)?;
-        assert!(rt; right, "{capacity}");
+        assert!(rt; right);
     }
     Ok(())
 }

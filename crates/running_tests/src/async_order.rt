@@ -115,7 +115,7 @@ fn first_wrong(alloc: Global, (text, acts): Row<'_>) -> Result<Option<usize>, Fa
 fn whoever_acts_when_the_logs_are_the_same(rt: HostRuntime) -> Result<(), Fail> {
     for row in [PAIR, LINE, RING] {
         let wrong = first_wrong(rt.alloc(), row)?;
-        assert_eq!(rt; wrong, None, "{}", row.1);
+        assert!(rt; wrong == None);
     }
     Ok(())
 }

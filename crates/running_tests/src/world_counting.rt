@@ -140,7 +140,7 @@ fn who_gets_it_from_whom_and_when(rt: HostRuntime) -> Result<(), Fail> {
     for (delivery, counts) in rows {
         let found = counted(alloc, &header, delivery, frame.as_slice())?;
         let want: &[(u8, usize)] = if counts { &[(1, 3)] } else { &[] };
-        assert_eq!(rt; found.as_slice(), want, "{delivery:?}");
+        assert!(rt; found.as_slice() == want);
     }
     Ok(())
 }
@@ -157,7 +157,7 @@ fn first_of_an_order_counts(rt: HostRuntime) -> Result<(), Fail> {
     let (from, to) = (GeneralNo::at(1), GeneralNo::at(2));
     let delivery = Delivery { from, to, round: 3 };
     let chains = chains_of(alloc, &header, &delivery, frame.as_slice())?;
-    assert_eq!(rt; chains.len(), 1);
+    assert!(rt; chains.len() == 1);
     assert!(rt;
         chains
             .iter()
@@ -183,7 +183,7 @@ fn a_bent_chain_is_ignored(rt: HostRuntime) -> Result<(), Fail> {
     if let Some(last) = bent.last_mut() {
         *last ^= 1;
     }
-    assert_eq!(rt; counted_alone(rt.alloc(), &header, bent)?, 0);
+    assert!(rt; counted_alone(rt.alloc(), &header, bent)? == 0);
     Ok(())
 }
 
@@ -192,7 +192,7 @@ fn a_chain_and_a_byte_is_ignored(rt: HostRuntime) -> Result<(), Fail> {
     let header = header_of_four(rt.alloc())?;
     let mut bytes = bytes_of(rt.alloc(), &header, 1, &[1])?;
     bytes.push(0)?;
-    assert_eq!(rt; counted_alone(rt.alloc(), &header, bytes)?, 0);
+    assert!(rt; counted_alone(rt.alloc(), &header, bytes)? == 0);
     Ok(())
 }
 
@@ -222,13 +222,7 @@ fn what_was_verified_is_kept(rt: HostRuntime) -> Result<(), Fail> {
     let others = parcel(alloc, &header, 0, &[3])?;
     let frame = Vec::from_array(alloc, [others, chain])?;
     let mut store = VerifyStore::new(alloc)?;
-    assert_eq!(rt;
-        counted_by(alloc, &header, &mut store, frame.as_slice())?,
-        (1, 2)
-    );
-    assert_eq!(rt;
-        counted_by(alloc, &header, &mut store, frame.as_slice())?,
-        (1, 2)
-    );
+    assert!(rt; counted_by(alloc, &header, &mut store, frame.as_slice())? == (1, 2));
+    assert!(rt; counted_by(alloc, &header, &mut store, frame.as_slice())? == (1, 2));
     Ok(())
 }

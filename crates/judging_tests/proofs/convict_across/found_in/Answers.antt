@@ -11,9 +11,9 @@ two : (h k : RunHeader) (rs ss : List LocalReport) → AreUnderHeader h rs → A
 two h k rs ss a b r m = elim (Contains_cases (record { header = h; reports = rs }) r (record { header = k; reports = ss } ∷ []) m) [
   | inl is ↦ subst (λ (x : RunReports). AreUnderHeader x.header x.reports) is a
   | inr more ↦ elim (Contains_cases (record { header = k; reports = ss }) r [] more) [
-      | inl is ↦ subst (λ (x : RunReports). AreUnderHeader x.header x.reports) is b
-      | inr none ↦ absurd (Contains_nil r none)
-    ]
+    | inl is ↦ subst (λ (x : RunReports). AreUnderHeader x.header x.reports) is b
+    | inr none ↦ absurd (Contains_nil r none)
+  ]
 ]
 
 pub find_across-requires-clause-under : goal.find_across-requires-clause-under
