@@ -1,5 +1,7 @@
 //! The job `campaign`: it writes the bundles of a campaign's runs. What it writes, and the verdict on that, were given by
 //! another program, in Python.
+ghost use Rattle.gen_jobs.specs.Ranges.{IsInRange};
+
 use crate::bundles::bundle_of;
 use crate::over_bytes::{audit_job, done};
 use gen_jobs::{Job, JobEnd, JobFault};
@@ -37,10 +39,11 @@ const SERIES_VERDICT: &[u8] = b"\
     verdict agreed 1\nend\nrun 54494271d3b45e0055286292743093710b4744008443f167c2eedf404301fdb4\n\
     verdict agreed 0\nconvicted 0 by K2\nend\nend campaign\n";
 
-/// The bundles of the series, by edges of so much room, or nothing where the job isn't done.
-fn bundles_of_series<R: Threads + Wait + Sync>(rt: &R, alloc: Global, wide: bool) -> Vec<u8> {
-    let capacity = if wide { 16 } else { 1 };
-    match done(rt, alloc, Job::Campaign { capacity }, SERIES) {
+/// The bundles of the series by this job, or nothing where it isn't done.
+fn bundles_of_series<R: Threads + Wait + Sync>(rt: &R, alloc: Global, job: Job) -> Vec<u8>
+    requires { IsInRange job }
+{
+    match done(rt, alloc, job, SERIES) {
         (JobEnd::Done, bundles) => bundles,
         _ => Vec::new(alloc),
     }
@@ -56,14 +59,24 @@ fn is_hashed(bytes: &[u8], wanted: [u8; 32]) -> bool {
 #[test]
 fn a_series_is_run(rt: HostRuntime) {
     let alloc = rt.alloc();
-    assert!(rt; is_hashed(&bundles_of_series(&rt, alloc, false), SERIES_HASH));
-    assert!(rt; is_hashed(&bundles_of_series(&rt, alloc, true), SERIES_HASH));
+    assert!(rt;
+        is_hashed(
+            &bundles_of_series(&rt, alloc, Job::Campaign { capacity: 1 }),
+            SERIES_HASH
+        )
+    );
+    assert!(rt;
+        is_hashed(
+            &bundles_of_series(&rt, alloc, Job::Campaign { capacity: 16 }),
+            SERIES_HASH
+        )
+    );
 }
 
 #[test]
 fn a_series_is_audited(rt: HostRuntime) {
     let alloc = rt.alloc();
-    let bundles = bundles_of_series(&rt, alloc, false);
+    let bundles = bundles_of_series(&rt, alloc, Job::Campaign { capacity: 1 });
     let (end, verdict) = done(&rt, alloc, audit_job(), &bundles);
     assert!(rt; end == JobEnd::Done && verdict.as_slice() == SERIES_VERDICT);
 }
@@ -71,11 +84,11 @@ fn a_series_is_audited(rt: HostRuntime) {
 #[test]
 fn the_commander_of_a_series_is_accused(rt: HostRuntime) {
     let alloc = rt.alloc();
-    let bundles = bundles_of_series(&rt, alloc, false);
+    let bundles = bundles_of_series(&rt, alloc, Job::Campaign { capacity: 1 });
     let general = GeneralNo::at(0);
     let (_, evidence) = done(&rt, alloc, Job::Accuse { general }, &bundles);
     let (end, answer) = done(&rt, alloc, Job::Evidence, &evidence);
-    assert!(rt; end == JobEnd::Done && answer.as_slice() == b"evidence holds\n");
+    assert!(rt; end == JobEnd::Done && answer.as_slice() == b"evidence holds\n".as_slice());
 }
 
 #[test]
