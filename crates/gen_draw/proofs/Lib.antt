@@ -1,0 +1,6 @@
+pub mod Between
+pub mod Drawings
+pub mod Held
+pub mod Ranges
+pub mod Same
+pub mod Saying

@@ -1,0 +1,7 @@
+use Rattle.std.proofs.Common.{◌≡◌, ◌++◌, string_bytes}
+use Rattle.std.specs.List.{flat_map, range_with_len}
+use Rattle.gen_draw.specs.Shapes.{head_of}
+use Rattle.gen_draw.proofs.page.push_heads.Given as goal
+
+abbrev pub invariant-loop-order : goal.invariant-loop-order
+invariant-loop-order l = string_bytes l.out ≡ string_bytes l.fn.out ++ flat_map head_of (range_with_len 0 l.order)

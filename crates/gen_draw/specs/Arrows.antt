@@ -1,0 +1,58 @@
+-- The lines of messages.
+use Rattle.std.specs.Prelude.{ℕ, List, ◌++◌, codes, length}
+use Rattle.std.specs.List.{flat_map}
+use Rattle.std.specs.Fmt.{decimal}
+use Rattle.gen_net.specs.declared.message.Message.{Message}
+use Rattle.gen_draw.specs.declared.arrow.Arrow.{Arrow}
+use Rattle.gen_draw.specs.declared.arrow.ToldBy.{ToldBy}
+use Rattle.gen_draw.specs.declared.arrow.ToldBy.TheVariants.{Both, Sender, Receiver}
+use Rattle.gen_draw.specs.declared.grid.Grid.{Grid}
+use Rattle.gen_draw.specs.Grid.{lane_of, middle_at, tip_at}
+use Rattle.gen_draw.specs.Rows.{middle_of, row_of}
+use Rattle.gen_draw.specs.Shapes.{stroke_between, words_at}
+
+-- the line from the sender to the receiver, in the round and beside those of other orders
+unfoldable pub message_stroke : Grid → ℕ → ℕ → ℕ → ℕ → List ℕ
+message_stroke grid from to round order =
+    stroke_between (lane_of grid round order) (row_of from) (tip_at grid round order) (row_of to)
+
+-- solid or dashed, and in the colour of the order
+unfoldable pub arrow_opening : ToldBy → ℕ → List ℕ
+arrow_opening Both order = codes "<g class=\"both o" ++ (decimal order ++ codes "\"><title>")
+arrow_opening Sender order = codes "<g class=\"alone o" ++ (decimal order ++ codes "\"><title>")
+arrow_opening Receiver order = codes "<g class=\"alone o" ++ (decimal order ++ codes "\"><title>")
+
+-- the message in words
+unfoldable pub message_words : ℕ → ℕ → ℕ → ℕ → List ℕ
+message_words from to round order =
+    codes "from " ++ (decimal from ++ (codes " to " ++ (decimal to ++ (codes " round " ++ (decimal round
+    ++ (codes " order " ++ (decimal order ++ codes " path")))))))
+
+-- its path in words
+abbrev pub path_words : List ℕ → List ℕ
+path_words path = flat_map (λ g. codes " " ++ decimal g) path
+
+-- which logs have it
+unfoldable pub told_words : ToldBy → ℕ → ℕ → List ℕ
+told_words Both from to = codes ": both logs have it</title>"
+told_words Sender from to = codes ": only the log of " ++ (decimal from ++ codes " has it</title>")
+told_words Receiver from to = codes ": only the log of " ++ (decimal to ++ codes " has it</title>")
+
+-- all of it in words, for the title
+unfoldable pub message_title : Arrow → List ℕ
+message_title x =
+    message_words x.message.from x.message.to (length x.message.path) x.message.order
+    ++ (path_words x.message.path ++ told_words x.told x.message.from x.message.to)
+
+-- the order's number, at the middle of the line
+unfoldable pub order_label : Grid → ℕ → ℕ → ℕ → ℕ → List ℕ
+order_label grid from to round order =
+    words_at (middle_at grid round order) (middle_of from to) ++ (decimal order ++ codes "</text></g>\n")
+
+-- a message that some shown log has
+unfoldable pub arrow_line : Grid → Arrow → List ℕ
+arrow_line grid x =
+    arrow_opening x.told x.message.order
+    ++ (message_title x
+    ++ (message_stroke grid x.message.from x.message.to (length x.message.path) x.message.order
+    ++ order_label grid x.message.from x.message.to (length x.message.path) x.message.order))

@@ -1,0 +1,11 @@
+pub mod Arrows
+pub mod Drawing
+pub mod Grid
+pub mod Marks
+pub mod Page
+pub mod Picture
+pub mod Rows
+pub mod Shapes
+pub mod Shown
+pub mod Style
+pub mod Telling

@@ -1,0 +1,302 @@
+//! What is found and who is convicted, where a picture says so.
+ghost use Rattle.std.specs.Prelude.{◌≡◌, ◌++◌, OnOk, map, string_bytes};
+ghost use Rattle.std.specs.List.{flat_map};
+ghost use Rattle.gen_convict.specs.Evidence.{told_of};
+ghost use Rattle.gen_draw.specs.Marks.{
+  convicted_at,
+  convicted_span,
+  decided_at,
+  decided_span,
+  end_line,
+  found_at,
+  found_front,
+  found_message,
+  found_opening,
+  found_span,
+  found_words,
+  is_about,
+  message_mark,
+  note_line,
+};
+
+use crate::arrows::push_message_stroke;
+use crate::finding_names::push_finding_name;
+use crate::grid::Grid;
+use crate::rows::{middle_of, row_of};
+use crate::shapes::push_words;
+use gen_convict::Evidence;
+use gen_match::Finding;
+use gen_types::{GeneralNo, OrderNo};
+use std::alloc::AllocError;
+
+/// Appends the beginning of a finding.
+#[tactic(auto, unfolding(crate::specs::Marks::found_front))]
+fn push_found_front(out: &mut String) -> Result<(), AllocError>
+    ensures { OnOk result (string_bytes out.new ≡ string_bytes out.old ++ found_front) }
+{
+    out.push_str("<g class=\"found\"><title>")
+}
+
+/// Appends a finding in words, for the title.
+#[tactic(auto, unfolding(crate::specs::Marks::found_opening))]
+fn push_found_opening(out: &mut String, finding: &Finding) -> Result<(), AllocError>
+    ensures { OnOk result (string_bytes out.new ≡ string_bytes out.old ++ found_opening finding.now) }
+{
+    push_found_front(out)?;
+    push_finding_name(out, finding)?;
+    out.push_str("</title>")
+}
+
+/// Appends a finding to be read at a place.
+#[tactic(auto, unfolding(crate::specs::Marks::found_words))]
+fn push_found_words(out: &mut String, x: u32, y: u32, finding: &Finding) -> Result<(), AllocError>
+    ensures { OnOk result (string_bytes out.new ≡ string_bytes out.old ++ found_words x y finding.now) }
+{
+    push_words(out, x, y)?;
+    push_finding_name(out, finding)?;
+    out.push_str("</text></g>\n")
+}
+
+/// Appends a message that is found, marked along its line.
+#[tactic(auto, unfolding(crate::specs::Marks::found_message))]
+fn push_found_message(
+    out: &mut String,
+    grid: Grid,
+    from: GeneralNo,
+    to: GeneralNo,
+    round: u8,
+    order: OrderNo,
+    finding: &Finding,
+) -> Result<(), AllocError>
+    ensures { OnOk result (string_bytes out.new
+        ≡ string_bytes out.old ++ found_message grid from to round order finding.now) }
+{
+    let from = from.get();
+    let to = to.get();
+    let round = u16::from(round);
+    let order = order.get();
+    push_found_opening(out, finding)?;
+    push_message_stroke(out, grid, from, to, round, order)?;
+    let x = grid.middle(round, order) + 12;
+    push_found_words(out, x, middle_of(from, to), finding)
+}
+
+/// Appends what is marked of a finding at a message, or on the page where nobody is of the rest.
+#[tactic(auto, unfolding(crate::specs::Marks::message_mark))]
+fn push_message_mark(out: &mut String, grid: Grid, finding: &Finding) -> Result<(), AllocError>
+    ensures { OnOk result
+        (string_bytes out.new ≡ string_bytes out.old ++ message_mark grid finding.now) }
+{
+    match *finding {
+        Finding::Unmatched {
+            from,
+            to,
+            round,
+            order,
+        } => push_found_message(out, grid, from, to, round, order, finding),
+        Finding::Underivable {
+            from,
+            to,
+            round,
+            order,
+        } => push_found_message(out, grid, from, to, round, order, finding),
+        Finding::Nobody => {
+            push_found_opening(out, finding)?;
+            push_found_words(out, 16, 64, finding)
+        }
+        Finding::Missing { .. }
+        | Finding::Several { .. }
+        | Finding::Unreadable { .. }
+        | Finding::Foreign { .. }
+        | Finding::Unsigned { .. }
+        | Finding::Unsealed { .. }
+        | Finding::Departs { .. }
+        | Finding::Unjoined { .. } => Ok(()),
+    }
+}
+
+/// Appends what is marked of findings at messages.
+pub fn push_message_marks(
+    out: &mut String,
+    grid: Grid,
+    findings: &[Finding],
+) -> Result<(), AllocError>
+    ensures { OnOk result
+        (string_bytes out.new ≡ string_bytes out.old ++ flat_map (message_mark grid) findings.now) }
+{
+    for finding in findings {
+        push_message_mark(out, grid, finding)?;
+    }
+    Ok(())
+}
+
+/// Returns whether a finding is marked at a general.
+fn is_about(general: GeneralNo, finding: &Finding) -> bool
+    ensures { result ≡ is_about general finding.now }
+{
+    match *finding {
+        Finding::Missing { general: whose } => whose == general,
+        Finding::Several { general: whose } => whose == general,
+        Finding::Unreadable { general: whose, .. } => whose == general,
+        Finding::Foreign { general: whose } => whose == general,
+        Finding::Unsigned { general: whose, .. } => whose == general,
+        Finding::Unsealed { general: whose } => whose == general,
+        Finding::Departs { general: whose, .. } => whose == general,
+        Finding::Unmatched { .. } | Finding::Underivable { .. } | Finding::Nobody => false,
+        Finding::Unjoined { first, second } => first == general || second == general,
+    }
+}
+
+/// Appends what is found, in words behind others.
+#[tactic(auto, unfolding(crate::specs::Marks::found_span))]
+fn push_found_span(out: &mut String, finding: &Finding) -> Result<(), AllocError>
+    ensures { OnOk result (string_bytes out.new ≡ string_bytes out.old ++ found_span finding.now) }
+{
+    out.push_str("<tspan class=\"found\" dx=\"8\"><title>")?;
+    push_finding_name(out, finding)?;
+    out.push_str("</title>")?;
+    push_finding_name(out, finding)?;
+    out.push_str("</tspan>")
+}
+
+/// Appends what is found, if it is marked at this general.
+fn push_found_at(out: &mut String, general: GeneralNo, finding: &Finding) -> Result<(), AllocError>
+    ensures { OnOk result
+        (string_bytes out.new ≡ string_bytes out.old ++ found_at general finding.now) }
+{
+    if is_about(general, finding) {
+        push_found_span(out, finding)
+    } else {
+        Ok(())
+    }
+}
+
+/// Appends what is found that is marked at this general.
+fn push_found(out: &mut String, general: GeneralNo, findings: &[Finding]) -> Result<(), AllocError>
+    ensures { OnOk result
+        (string_bytes out.new ≡ string_bytes out.old ++ flat_map (found_at general) findings.now) }
+{
+    for finding in findings {
+        push_found_at(out, general, finding)?;
+    }
+    Ok(())
+}
+
+/// Appends what a general decided.
+#[tactic(auto, unfolding(crate::specs::Marks::decided_span))]
+fn push_decided_span(out: &mut String, general: u8, order: u8) -> Result<(), AllocError>
+    ensures { OnOk result
+        (string_bytes out.new ≡ string_bytes out.old ++ decided_span general order) }
+{
+    write!(
+        out,
+        "<tspan class=\"o{order}\" dx=\"8\"><title>general {general} decides order {order}</title>decides {order}</tspan>"
+    )
+}
+
+/// Appends what was decided, if it was by this general.
+fn push_decided_at(
+    out: &mut String,
+    general: GeneralNo,
+    decided: (GeneralNo, OrderNo),
+) -> Result<(), AllocError>
+    ensures { OnOk result
+        (string_bytes out.new ≡ string_bytes out.old ++ decided_at general decided) }
+{
+    if decided.0 == general {
+        push_decided_span(out, decided.0.get(), decided.1.get())
+    } else {
+        Ok(())
+    }
+}
+
+/// Appends what this general decided.
+fn push_decided(
+    out: &mut String,
+    general: GeneralNo,
+    decided: &[(GeneralNo, OrderNo)],
+) -> Result<(), AllocError>
+    ensures { OnOk result
+        (string_bytes out.new ≡ string_bytes out.old ++ flat_map (decided_at general) decided.now) }
+{
+    for one in decided {
+        push_decided_at(out, general, *one)?;
+    }
+    Ok(())
+}
+
+/// Appends by which kind of evidence somebody is convicted.
+#[tactic(auto, unfolding(crate::specs::Marks::convicted_span))]
+fn push_convicted_span(out: &mut String, general: u8, kind: u8) -> Result<(), AllocError>
+    ensures { OnOk result
+        (string_bytes out.new ≡ string_bytes out.old ++ convicted_span general kind) }
+{
+    write!(
+        out,
+        "<tspan class=\"found\" dx=\"8\"><title>general {general} is convicted by K{kind}</title>K{kind}</tspan>"
+    )
+}
+
+/// Appends a conviction, if it is this general's.
+fn push_convicted_at(
+    out: &mut String,
+    general: GeneralNo,
+    evidence: &Evidence,
+) -> Result<(), AllocError>
+    ensures { OnOk result (string_bytes out.new
+        ≡ string_bytes out.old ++ convicted_at general (told_of evidence.now)) }
+{
+    if evidence.accused == general {
+        push_convicted_span(out, evidence.accused.get(), evidence.claim.kind())
+    } else {
+        Ok(())
+    }
+}
+
+/// Appends the convictions of this general.
+fn push_convicted(
+    out: &mut String,
+    general: GeneralNo,
+    convictions: &[Evidence],
+) -> Result<(), AllocError>
+    ensures { OnOk result (string_bytes out.new
+        ≡ string_bytes out.old ++ flat_map (convicted_at general) (map told_of convictions.now)) }
+{
+    for evidence in convictions {
+        push_convicted_at(out, general, evidence)?;
+    }
+    Ok(())
+}
+
+/// Appends what stands at the end of a general's line.
+#[tactic(auto, unfolding(crate::specs::Marks::end_line))]
+pub fn push_end(
+    out: &mut String,
+    grid: Grid,
+    decided: &[(GeneralNo, OrderNo)],
+    convictions: &[Evidence],
+    general: GeneralNo,
+) -> Result<(), AllocError>
+    ensures { OnOk result (string_bytes out.new ≡ string_bytes out.old
+        ++ end_line grid decided.now (map told_of convictions.now) general) }
+{
+    push_words(out, grid.end(), row_of(general.get()) + 5)?;
+    push_decided(out, general, decided)?;
+    push_convicted(out, general, convictions)?;
+    out.push_str("</text>\n")
+}
+
+/// Appends what stands below a general's line.
+#[tactic(auto, unfolding(crate::specs::Marks::note_line))]
+pub fn push_note(
+    out: &mut String,
+    findings: &[Finding],
+    general: GeneralNo,
+) -> Result<(), AllocError>
+    ensures { OnOk result
+        (string_bytes out.new ≡ string_bytes out.old ++ note_line findings.now general) }
+{
+    push_words(out, 16, row_of(general.get()) + 16)?;
+    push_found(out, general, findings)?;
+    out.push_str("</text>\n")
+}

@@ -1,0 +1,125 @@
+//! What shown logs say was sent, was received and was decided.
+ghost use Rattle.std.specs.Prelude.{◌≡◌, ◌++◌, IfOk, OnOk, OnErr};
+ghost use Rattle.std.specs.List.{flat_map};
+ghost use Rattle.gen_draw.specs.Shown.{
+  all_decided,
+  all_received,
+  all_sent,
+  decided_by,
+  decided_in,
+  received_by,
+  received_in,
+  sent_by,
+  sent_in,
+};
+
+use gen_local::Exhibit;
+use gen_log::{Entry, read_log};
+use gen_net::{Header, Message};
+use gen_types::{GeneralNo, OrderNo, ReadError};
+use std::alloc::{AllocError, Global};
+
+/// What shown logs say.
+#[derive(Drop)]
+pub struct Told {
+    /// The messages that their generals sent.
+    pub sent: Vec<Message>,
+    /// The messages that their generals received.
+    pub received: Vec<Message>,
+    /// The orders that their generals decided.
+    pub decided: Vec<(GeneralNo, OrderNo)>,
+}
+
+/// Puts what an entry of a general's log says behind what is told.
+fn put_entry(told: &mut Told, general: GeneralNo, entry: &Entry) -> Result<(), AllocError>
+    ensures sent { OnOk result
+        (told.new.sent.items ≡ told.old.sent.items ++ sent_by general entry.now) }
+    ensures received { OnOk result
+        (told.new.received.items ≡ told.old.received.items ++ received_by general entry.now) }
+    ensures decided { OnOk result
+        (told.new.decided.items ≡ told.old.decided.items ++ decided_by general entry.now) }
+{
+    match entry {
+        Entry::Send { to, order, path } => {
+            told.sent.push(Message {
+                from: general,
+                to: *to,
+                order: *order,
+                path: *path,
+            })?;
+        }
+        Entry::Recv { from, chain } => {
+            told.received.push(Message {
+                from: *from,
+                to: general,
+                order: chain.order(),
+                path: chain.path(),
+            })?;
+        }
+        Entry::Decide { order, .. } => {
+            told.decided.push((general, *order))?;
+        }
+        Entry::Start { .. } | Entry::Sign { .. } => {}
+    }
+    Ok(())
+}
+
+/// Puts what the entries of a general's log say behind what is told.
+fn put_entries(told: &mut Told, general: GeneralNo, entries: &[Entry]) -> Result<(), AllocError>
+    ensures sent { OnOk result
+        (told.new.sent.items ≡ told.old.sent.items ++ flat_map (sent_by general) entries.now) }
+    ensures received { OnOk result
+        (told.new.received.items ≡ told.old.received.items ++ flat_map (received_by general) entries.now) }
+    ensures decided { OnOk result
+        (told.new.decided.items ≡ told.old.decided.items ++ flat_map (decided_by general) entries.now) }
+{
+    for entry in entries {
+        put_entry(told, general, entry)?;
+    }
+    Ok(())
+}
+
+/// Puts what is shown as a general's log behind what is told: nothing where it is no log.
+#[tactic(auto, unfolding(crate::specs::Shown::sent_in, crate::specs::Shown::received_in, crate::specs::Shown::decided_in))]
+fn put_exhibit(
+    alloc: Global,
+    told: &mut Told,
+    header: &Header,
+    exhibit: &Exhibit,
+) -> Result<(), AllocError>
+    ensures sent { OnOk result (told.new.sent.items ≡ told.old.sent.items
+        ++ sent_in header.now exhibit.now) }
+    ensures received { OnOk result (told.new.received.items ≡ told.old.received.items
+        ++ received_in header.now exhibit.now) }
+    ensures decided { OnOk result (told.new.decided.items ≡ told.old.decided.items
+        ++ decided_in header.now exhibit.now) }
+{
+    match read_log(alloc, header, exhibit.log()) {
+        Ok(log) => put_entries(told, exhibit.general(), log.entries()),
+        Err(ReadError::Memory) => Err(AllocError),
+        Err(ReadError::Fault(_)) => Ok(()),
+    }
+}
+
+/// Returns what all that is shown as logs says.
+///
+/// # Errors
+///
+/// `AllocError` where memory is refused.
+pub fn told_by(alloc: Global, header: &Header, exhibits: &[Exhibit]) -> Result<Told, AllocError>
+    ensures sent { IfOk result (λ told. told.sent.items ≡ all_sent header.now exhibits.now) }
+    ensures received { IfOk result (λ told.
+        told.received.items ≡ all_received header.now exhibits.now) }
+    ensures decided { IfOk result (λ told.
+        told.decided.items ≡ all_decided header.now exhibits.now) }
+{
+    let mut told = Told {
+        sent: Vec::new(alloc),
+        received: Vec::new(alloc),
+        decided: Vec::new(alloc),
+    };
+    for exhibit in exhibits {
+        put_exhibit(alloc, &mut told, header, exhibit)?;
+    }
+    Ok(told)
+}
