@@ -31,11 +31,12 @@ def build(folder):
     return library
 
 
-def refused(program, library, words, given, kind, number, after):
-    """How a run ended in which a call was refused, and whether one was."""
+def refused(program, library, words, given, kind, number, after, within=False):
+    """How a run ended in which a call was refused, and whether one was: within its first two lines alone, if so asked."""
     reader, writer = os.pipe()
     told = {"REFUSE": kind, "REFUSE_AT": str(number), "REFUSE_TELL": str(writer), "LD_PRELOAD": library}
     told |= {"REFUSE_ALL": "1"} if after else {}
+    told |= {"REFUSE_WITHIN": "1"} if within else {}
     try:
         end = run(program, words, given, env={**os.environ, **told}, pass_fds=[writer])
     finally:

@@ -3,7 +3,8 @@
    REFUSE is "memory" or "thread", REFUSE_AT the number of the call that is refused, counted from 1 over all threads from
    the start of the program on, and REFUSE_ALL is set where all calls after it are refused too. The memory that a new thread
    takes of the C library is memory too. Where REFUSE_TELL is set, one byte is written to the file that is open under this
-   number, once, as soon as something is refused. */
+   number, once, as soon as something is refused. Where REFUSE_WITHIN is set, only what is asked for behind the first write to
+   standard output and before the second counts. */
 #define _GNU_SOURCE
 #include <dlfcn.h>
 #include <errno.h>
@@ -15,15 +16,17 @@
 
 enum { NOTHING, MEMORY, THREAD };
 
-static int what = NOTHING, all, tell = -1;
+static int what = NOTHING, all, within, tell = -1;
 static long at;
 static atomic_long count;
+static atomic_int writes;
 static atomic_flag told = ATOMIC_FLAG_INIT;
 
 __attribute__((constructor)) static void begin(void)
 {
     const char *said = getenv("REFUSE"), *number = getenv("REFUSE_AT"), *open = getenv("REFUSE_TELL");
     all = getenv("REFUSE_ALL") != NULL;
+    within = getenv("REFUSE_WITHIN") != NULL;
     at = number ? atol(number) : 0;
     tell = open ? atoi(open) : -1;
     what = !said ? NOTHING : !strcmp(said, "memory") ? MEMORY : !strcmp(said, "thread") ? THREAD : NOTHING;
@@ -31,7 +34,7 @@ __attribute__((constructor)) static void begin(void)
 
 static int refuses(int called)
 {
-    if (called != what)
+    if (called != what || (within && atomic_load(&writes) != 1))
         return 0;
     long number = atomic_fetch_add(&count, 1) + 1;
     if (number != at && !(all && number > at))
@@ -46,6 +49,15 @@ static int refuses(int called)
     static type (*real)(__VA_ARGS__); \
     if (!real) \
         real = (type (*)(__VA_ARGS__))dlsym(RTLD_NEXT, name)
+
+ssize_t write(int file, const void *bytes, size_t count)
+{
+    REAL("write", ssize_t, int, const void *, size_t);
+    ssize_t written = real(file, bytes, count);
+    if (file == STDOUT_FILENO && what != NOTHING)
+        atomic_fetch_add(&writes, 1);
+    return written;
+}
 
 void *malloc(size_t size)
 {

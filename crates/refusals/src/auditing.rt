@@ -10,13 +10,13 @@ use std::thread::Threads;
 
 /// A bundle that is audited.
 #[derive(Drop)]
-struct Audited<'a> {
+struct AuditedBundle<'a> {
     bundle: &'a Bundle,
     workers: WorkerCount,
     judgement: Option<Judgement>,
 }
 
-impl Call for Audited<'_> {
+impl Call for AuditedBundle<'_> {
     fn make<R: Threads + Wait + Sync>(&mut self, rt: &R, alloc: Global) -> Answer {
         match audit(rt, alloc, self.bundle, self.workers, &Open) {
             Ok(judgement) => {
@@ -36,7 +36,7 @@ impl Call for Audited<'_> {
 }
 
 /// `audit` by so many workers.
-fn audited<R: Print + Threads + Wait + Sync>(
+fn try_audit<R: Print + Threads + Wait + Sync>(
     rt: &R,
     alloc: Global,
     input: &[u8],
@@ -44,7 +44,7 @@ fn audited<R: Print + Threads + Wait + Sync>(
 ) -> io::Result<()> {
     match bundle_in(alloc, input) {
         Some(bundle) => {
-            let mut call = Audited { bundle: &bundle, workers, judgement: None };
+            let mut call = AuditedBundle { bundle: &bundle, workers, judgement: None };
             try_call(rt, alloc, &mut call)
         }
         None => say(rt, "no bundle\n"),
@@ -57,7 +57,7 @@ pub(crate) fn by_one<R: Print + Threads + Wait + Sync>(
     alloc: Global,
     input: &[u8],
 ) -> io::Result<()> {
-    audited(rt, alloc, input, WorkerCount::one())
+    try_audit(rt, alloc, input, WorkerCount::one())
 }
 
 /// `audit` by two workers.
@@ -66,5 +66,5 @@ pub(crate) fn by_two<R: Print + Threads + Wait + Sync>(
     alloc: Global,
     input: &[u8],
 ) -> io::Result<()> {
-    audited(rt, alloc, input, two_workers())
+    try_audit(rt, alloc, input, two_workers())
 }

@@ -61,12 +61,12 @@ pub(crate) fn find<R: Print>(rt: &R, alloc: Global, input: &[u8]) -> io::Result<
 
 /// Evidence that is read.
 #[derive(Drop)]
-struct Read<'a> {
+struct ReadEvidence<'a> {
     input: &'a [u8],
     read: Option<Evidence>,
 }
 
-impl Call for Read<'_> {
+impl Call for ReadEvidence<'_> {
     fn make<R: Threads + Wait + Sync>(&mut self, _rt: &R, alloc: Global) -> Answer {
         match read_evidence(alloc, self.input) {
             Ok((_header, evidence)) => {
@@ -93,7 +93,7 @@ pub(crate) fn read<R: Print + Threads + Wait + Sync>(
     alloc: Global,
     input: &[u8],
 ) -> io::Result<()> {
-    try_call(rt, alloc, &mut Read { input, read: None })
+    try_call(rt, alloc, &mut ReadEvidence { input, read: None })
 }
 
 /// Evidence that is checked, and whether it holds.

@@ -11,11 +11,11 @@ use std::thread::Threads;
 
 /// A ring that is made from its seed, and its root.
 #[derive(Drop)]
-struct Ring {
+struct RingOfSeed {
     root: Option<[u8; 32]>,
 }
 
-impl Call for Ring {
+impl Call for RingOfSeed {
     fn make<R: Threads + Wait + Sync>(&mut self, _rt: &R, alloc: Global) -> Answer {
         match KeyRing::from_seed(alloc, &[7; 32], TreeHeight::Six) {
             Ok(ring) => {
@@ -38,7 +38,7 @@ impl Call for Ring {
 
 /// `KeyRing::from_seed`.
 pub(crate) fn ring<R: Print + Threads + Wait + Sync>(rt: &R, alloc: Global) -> io::Result<()> {
-    try_call(rt, alloc, &mut Ring { root: None })
+    try_call(rt, alloc, &mut RingOfSeed { root: None })
 }
 
 /// Room for a signature of version 2.

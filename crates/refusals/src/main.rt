@@ -14,6 +14,8 @@ mod desks;
 mod inputs;
 mod keys;
 mod logs;
+mod making;
+mod matching;
 mod reading;
 mod running;
 
@@ -39,6 +41,9 @@ fn call_on_scenario<R: Print + Threads + Wait + Sync>(
         "Machine::new" => acting::machine(rt, alloc, input),
         "Machine::act" => acting::acts(rt, alloc, input),
         "Edge::new" => acting::edge(rt, alloc, input),
+        "Scenario::of_plan" => making::scenario(rt, alloc, input),
+        "decide_world" => making::decide(rt, alloc, input),
+        "run_plain" => making::plain(rt, alloc, input),
         _ => call_on_desk(rt, alloc, name, input),
     }
 }
@@ -67,11 +72,28 @@ fn call_on_bundle<R: Print + Threads + Wait + Sync>(
 ) -> io::Result<()> {
     match name {
         "read_bundle" => reading::bundle(rt, alloc, input),
+        "write_bundle" => reading::write(rt, alloc, input),
         "read_log" => logs::read(rt, alloc, input),
         "LogWriter::new" => logs::begin(rt, alloc, input),
         "LogWriter::append" => logs::append(rt, alloc, input),
         "audit" => auditing::by_one(rt, alloc, input),
         "audit by two" => auditing::by_two(rt, alloc, input),
+        _ => call_on_exhibits(rt, alloc, name, input),
+    }
+}
+
+/// Makes a call on the exhibits of a bundle.
+fn call_on_exhibits<R: Print + Threads + Wait + Sync>(
+    rt: &R,
+    alloc: Global,
+    name: &str,
+    input: &[u8],
+) -> io::Result<()> {
+    match name {
+        "local_report" => matching::report(rt, alloc, input),
+        "match_edges" => matching::edges(rt, alloc, input),
+        "check_derived" => matching::derived(rt, alloc, input),
+        "make_walks" => matching::walks(rt, alloc, input),
         _ => call_on_evidence(rt, alloc, name, input),
     }
 }
@@ -103,6 +125,7 @@ fn call_named<R: Print + Threads + Wait + Sync>(
         "KeyRing::from_seed" => keys::ring(rt, alloc),
         "SigRoom::new" => keys::signature_room(rt, alloc),
         "ChainRoom::new" => keys::chain_room(rt, alloc),
+        "Desk::new" => making::desk(rt, alloc),
         _ => call_on_bundle(rt, alloc, name, input),
     }
 }

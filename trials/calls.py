@@ -1,0 +1,127 @@
+"""Each growth of memory and each start of a thread refused within one call of the libraries, which is then made again.
+
+The program refusals makes the call by its name, says what it answered, and where it was refused makes it again; its last
+line tells what was given. The library that refuses is refuse.c, which counts what is asked for within the call alone: the
+Nth is refused, N counting up until a call meets no refusal. Of 16 generals N grows by an eighth each time.
+"""
+import os
+import shutil
+import tempfile
+
+from programs import End, count_cores, run, shown, side_by_side
+from refusals import AT_ONCE, HERE, build, numbers, refused
+from layout import Bundle
+from scenarios import signed, sixteen
+
+PROGRAM = os.path.join(os.path.dirname(HERE), "crates", "refusals", "out", "refusals")
+FRONT = "call\n"
+GAVE = "gave\n"
+# What a call may answer where something was refused, by what that was. A thread that gets no memory can't be started.
+ANSWERS = {"memory": ("memory\n", "thread\n"), "thread": ("thread\n",)}
+
+OF_NOTHING = ["KeyRing::from_seed", "SigRoom::new", "ChainRoom::new"]
+OF_SCENARIOS = ["run_world", "Machine::new", "Machine::act", "Edge::new", "Desk::file", "Desk::claim", "Desk::report"]
+OF_RUNS = ["run_threads", "run_and_audit"]
+OF_BUNDLES = ["read_bundle", "read_log", "LogWriter::new", "LogWriter::append", "audit", "find_evidence"]
+OF_EVIDENCE = ["read_evidence", "check_evidence"]
+
+
+def small_cases(program):
+    """Each call: its name, what it is made of, its input and the kinds of refusals that it can meet."""
+    for name in OF_NOTHING:
+        yield name, "nothing", b"", ["memory"]
+    texts = signed()
+    for case in ("pair", "ring", "split"):
+        for name in OF_SCENARIOS:
+            yield name, case, texts[case], ["memory"]
+        for name in OF_RUNS:
+            yield name, case, texts[case], ["memory", "thread"]
+        bundle = run(program, ["run"], texts[case]).wrote
+        for name in OF_BUNDLES:
+            yield name, case, bundle, ["memory"]
+        yield "audit by two", case, bundle, ["memory", "thread"]
+    yield from evidence_cases(program)
+
+
+def evidence_cases(program):
+    """Evidence of each kind that one run can hold, and what the accused answers to a signature with his stolen key."""
+    late = run(program, ["run"], signed()["late"]).wrote
+    split = run(program, ["run"], signed()["split"]).wrote
+    for case, bundle, general in (("K2", split, "0"), ("K3", late, "0"), ("K4", late, "1")):
+        evidence = run(program, ["accuse", "--general", general], bundle).wrote
+        for name in OF_EVIDENCE:
+            yield name, case, evidence, ["memory"]
+    with open(os.path.join(HERE, "cases", "stolen_key.scenario"), "rb") as text:
+        stolen = Bundle(run(program, ["run"], text.read()).wrote)
+    del stolen.exhibits[3]
+    yield "refute", "stolen key", stolen.spell(), ["memory"]
+
+
+def large_cases(program):
+    """The calls at the limits."""
+    text = sixteen()
+    bundle = run(program, ["run"], text).wrote
+    yield "run_world", "16 generals", text, ["memory"]
+    yield "run_threads", "16 generals", text, ["memory", "thread"]
+    for name in ("audit", "read_bundle"):
+        yield name, "16 generals", bundle, ["memory"]
+    yield "audit by two", "16 generals", bundle, ["memory", "thread"]
+
+
+def differs(end, was_refused, whole, kind):
+    """What is wrong with the end of a run, or None."""
+    first = ANSWERS[kind] if was_refused else (GAVE,)
+    rest = whole.wrote.decode().removeprefix(FRONT + GAVE)
+    again = GAVE if was_refused else ""
+    wanted = [End(0, (FRONT + answer + again + rest).encode(), b"") for answer in first]
+    return None if end in wanted else shown(end)
+
+
+def count_up(call, whole, kind, is_sampled):
+    """Refuses one growth after the other. Returns how many runs met a refusal, and what is wrong with one, or None."""
+    coming, refusals = numbers(is_sampled), 0
+    while True:
+        some = [number for number, _ in zip(coming, range(AT_ONCE * count_cores()))]
+        if not some:
+            return refusals, f"still refused after {refusals} runs"
+        for number, (end, was_refused) in zip(some, side_by_side(call, some)):
+            wrong = differs(end, was_refused, whole, kind)
+            if wrong:
+                return refusals, f"{number} refused: {wrong}"
+            if not was_refused:
+                return refusals, None if refusals else "nothing was ever refused"
+            refusals += 1
+
+
+def try_case(library, tally, case, is_sampled):
+    """Tries one call with all kinds of refusals. Returns how many were met."""
+    name, of, given, kinds = case
+    whole = run(PROGRAM, [name], given)
+    lines = whole.wrote.decode().splitlines(True)
+    if whole.status or lines[:2] != [FRONT, GAVE] or len(lines) != 3:
+        tally.hold(f"{name}, {of}", shown(whole))
+        return 0
+    met = 0
+    for kind in kinds:
+        call = lambda number, k=kind: refused(PROGRAM, library, [name], given, k, number, False, True)
+        runs, wrong = count_up(call, whole, kind, is_sampled)
+        tally.count(runs + 1)
+        tally.hold(f"{name}, {of}, {kind}", wrong)
+        met += runs
+    return met
+
+
+def trials(program, tally):
+    if not os.access(PROGRAM, os.X_OK):
+        tally.note("crates/refusals was not built (rt ci builds it), so no call was refused")
+        return
+    if not shutil.which("cc"):
+        tally.fail("no C compiler (cc) is there to build refuse.c with, so nothing was refused")
+        return
+    met = {}
+    cases = [(case, False) for case in small_cases(program)] + [(case, True) for case in large_cases(program)]
+    with tempfile.TemporaryDirectory() as scratch:
+        library = build(scratch)
+        for case, is_sampled in cases:
+            met[case[0]] = met.get(case[0], 0) + try_case(library, tally, case, is_sampled)
+    tally.note("refusals met: " + ", ".join(f"{name} {count}" for name, count in met.items()))
