@@ -1,15 +1,15 @@
-//! What calls answer, and how a call is tried.
+//! What calls answer, and how it is said.
+use gen_audit::AuditFault;
+use gen_threads::RunFault;
+use gen_types::ReadError;
+use gen_walks::WalkFault;
 use sha2::{Digest, Sha256};
 use std::alloc::{AllocError, Global};
 use std::io::{self, Write};
-use std::sync::Wait;
-use std::thread::Threads;
 
-/// What a call answered.
+/// Why a call gave nothing.
 #[derive(Clone, Copy, Debug, PartialEq, Eq)]
-pub(crate) enum Answer {
-    /// What it is to give.
-    Gave,
+pub(crate) enum Failure {
     /// Memory was refused.
     Memory,
     /// A thread was.
@@ -18,43 +18,66 @@ pub(crate) enum Answer {
     Fault,
 }
 
-impl Answer {
-    /// Returns the line that says so.
-    fn line(self) -> &'static str {
-        match self {
-            Answer::Gave => "gave\n",
-            Answer::Memory => "memory\n",
-            Answer::Thread => "thread\n",
-            Answer::Fault => "fault\n",
-        }
-    }
+/// What a call gave, as bytes that tell it, or why it gave nothing.
+pub(crate) type Answer = Result<Vec<u8>, Failure>;
 
-    /// Whether something was refused.
-    pub(crate) fn is_refusal(self) -> bool {
-        matches!(self, Answer::Memory | Answer::Thread)
+impl From<AllocError> for Failure {
+    fn from(_refused: AllocError) -> Failure {
+        Failure::Memory
     }
+}
 
-    /// Returns the answer of a call that can fail for want of memory alone, and what it gave.
-    pub(crate) fn of<T>(made: Result<T, AllocError>) -> (Answer, Option<T>) {
-        match made {
-            Ok(given) => (Answer::Gave, Some(given)),
-            Err(_) => (Answer::Memory, None),
+impl<F: Drop> From<ReadError<F>> for Failure {
+    fn from(fault: ReadError<F>) -> Failure {
+        match fault {
+            ReadError::Memory => Failure::Memory,
+            ReadError::Fault(_) => Failure::Fault,
         }
     }
 }
 
-/// A call that can be made again where it was refused.
-pub(crate) trait Call {
-    /// Makes the call, and keeps what it gives.
-    fn make<R: Threads + Wait + Sync>(&mut self, rt: &R, alloc: Global) -> Answer;
+impl From<RunFault> for Failure {
+    fn from(fault: RunFault) -> Failure {
+        match fault {
+            RunFault::Memory => Failure::Memory,
+            RunFault::Thread => Failure::Thread,
+            RunFault::Gone => Failure::Fault,
+        }
+    }
+}
 
-    /// Returns bytes that tell what it gave last.
-    fn given(&self, alloc: Global) -> Result<Vec<u8>, AllocError>;
+impl From<AuditFault> for Failure {
+    fn from(fault: AuditFault) -> Failure {
+        match fault {
+            AuditFault::Memory => Failure::Memory,
+            AuditFault::Thread => Failure::Thread,
+        }
+    }
+}
+
+impl From<WalkFault> for Failure {
+    fn from(fault: WalkFault) -> Failure {
+        match fault {
+            WalkFault::Memory => Failure::Memory,
+            _ => Failure::Fault,
+        }
+    }
 }
 
 /// Writes a line to standard output.
 pub(crate) fn say<R: Print>(rt: &R, line: &str) -> io::Result<()> {
     io::writer(rt).write_all(line.as_bytes())
+}
+
+/// Writes the line that says how a call ended.
+pub(crate) fn say_end<R: Print>(rt: &R, failure: Option<Failure>) -> io::Result<()> {
+    let line = match failure {
+        None => "gave\n",
+        Some(Failure::Memory) => "memory\n",
+        Some(Failure::Thread) => "thread\n",
+        Some(Failure::Fault) => "fault\n",
+    };
+    say(rt, line)
 }
 
 /// Writes SHA-256 of bytes.
@@ -64,26 +87,4 @@ pub(crate) fn tell<R: Print>(rt: &R, alloc: Global, bytes: &[u8]) -> io::Result<
     let mut line = hex::encode(alloc, hasher.finalize())?;
     line.push('\n')?;
     say(rt, line.as_str())
-}
-
-/// Says what a call answered.
-pub(crate) fn say_answer<R: Print>(rt: &R, answer: Answer) -> io::Result<()> {
-    say(rt, answer.line())
-}
-
-/// Makes a call, makes it again where it was refused, and says what came of it.
-pub(crate) fn try_call<R: Print + Threads + Wait + Sync, C: Call>(
-    rt: &R,
-    alloc: Global,
-    call: &mut C,
-) -> io::Result<()> {
-    say(rt, "call\n")?;
-    let first = call.make(rt, alloc);
-    say_answer(rt, first)?;
-    if first.is_refusal() {
-        let second = call.make(rt, alloc);
-        say_answer(rt, second)?;
-    }
-    let given = call.given(alloc)?;
-    tell(rt, alloc, given.as_slice())
 }

@@ -1,50 +1,42 @@
-//! A desk at which logs are filed, claimed and reported on.
-use crate::answers::{Answer, say, say_answer, tell};
-use crate::inputs::{logs_in, scenario_in};
-use gen_desk::{Claim, Desk, DeskFault, Receipt, Row, Slip};
+//! A desk at which the logs of a run are filed, claimed and reported on.
+use crate::answers::{Failure, say, say_end, tell};
+use gen_desk::{Claim, Desk, DeskFault, Receipt, Slip};
 use gen_local::{LocalReport, local_report};
 use gen_log::SealedLog;
-use gen_net::Header;
+use gen_scenario::Scenario;
+use gen_world::run_world;
 use std::alloc::{AllocError, Global};
 use std::io;
 use std::sync::Wait;
 
-/// Returns the answer that a desk's fault is.
-fn answer_to(fault: DeskFault) -> Answer {
-    match fault {
-        DeskFault::Memory => Answer::Memory,
-        DeskFault::WrongPlace | DeskFault::WrongExhibit => Answer::Fault,
-    }
-}
-
-/// Returns bytes that tell what a row of a desk has.
-fn put_row(out: &mut Vec<u8>, row: &Row) -> Result<(), AllocError> {
-    if let Some(exhibit) = &row.filed {
-        out.push(exhibit.general().get())?;
-        out.extend_from_slice(exhibit.log())?;
-    }
-    out.push(u8::from(row.claimed))?;
-    if let Some(report) = &row.report {
-        out.extend_from_slice(report.exhibit().log())?;
-    }
-    Ok(())
-}
-
-/// Ends a desk, and tells what it has.
-fn tell_desk<R: Print>(
-    rt: &R,
-    alloc: Global,
-    desk: Desk,
-    receipts: Vec<Receipt>,
-) -> io::Result<()> {
-    let Ok(filed) = desk.close(receipts) else {
-        return say(rt, "strange receipt\n");
+/// Says what a desk answered.
+fn say_fault<R: Print>(rt: &R, fault: DeskFault) {
+    let failure = match fault {
+        DeskFault::Memory => Failure::Memory,
+        DeskFault::WrongPlace | DeskFault::WrongExhibit => Failure::Fault,
     };
-    let mut out = Vec::new(alloc);
+    let _said = say_end(rt, Some(failure));
+}
+
+/// Says that a desk answered what it is to answer.
+fn say_gave<R: Print>(rt: &R) {
+    let _said = say_end(rt, None);
+}
+
+/// Ends a desk, and tells what is filed at its places and what is reported on.
+fn tell_desk<R: Print>(rt: &R, alloc: Global, desk: Desk, receipts: Vec<Receipt>) -> io::Result<()> {
+    let Ok(filed) = desk.close(receipts) else {
+        return say(rt, "nothing\n");
+    };
+    let mut given = Vec::new(alloc);
     for row in filed.rows() {
-        put_row(&mut out, row)?;
+        if let Some(exhibit) = &row.filed {
+            given.extend_from_slice(exhibit.log())?;
+        }
+        given.push(u8::from(row.claimed))?;
+        given.push(u8::from(row.report.is_some()))?;
     }
-    tell(rt, alloc, out.as_slice())
+    tell(rt, alloc, given.as_slice())
 }
 
 /// Files a log, and says what the desk answered.
@@ -56,71 +48,63 @@ fn file<R: Print + Wait>(
 ) -> Result<Receipt, (Slip, SealedLog)> {
     match desk.file(rt, slip, log) {
         Ok(receipt) => {
-            let _said = say_answer(rt, Answer::Gave);
+            say_gave(rt);
             Ok(receipt)
         }
         Err((slip, log, fault)) => {
-            let _said = say_answer(rt, answer_to(fault));
+            say_fault(rt, fault);
             Err((slip, log))
         }
     }
 }
 
 /// Files a log, and the same log by the same slip where it was refused. Where it is refused again the slip is given up.
-fn file_again<R: Print + Wait>(
-    rt: &R,
-    desk: &Desk,
-    slip: Slip,
-    log: SealedLog,
-) -> Option<Receipt> {
-    let (slip, log) = match file(rt, desk, slip, log) {
-        Ok(receipt) => return Some(receipt),
-        Err(back) => back,
-    };
+fn file_again<R: Print + Wait>(rt: &R, desk: &Desk, slip: Slip, log: SealedLog) -> Option<Receipt> {
     match file(rt, desk, slip, log) {
         Ok(receipt) => Some(receipt),
-        Err((slip, _log)) => {
-            let _place = slip.give_up();
-            None
-        }
+        Err((slip, log)) => match file(rt, desk, slip, log) {
+            Ok(receipt) => Some(receipt),
+            Err((slip, _log)) => {
+                let _place = slip.give_up();
+                None
+            }
+        },
     }
 }
 
-/// Files the log of the last place, and gives the other slips up.
-fn file_last<R: Print + Wait>(
+/// Files the first log by the last slip, and gives the other slips up.
+fn file_one<R: Print + Wait>(
     rt: &R,
     desk: &Desk,
     slips: Vec<Slip>,
-    logs: Vec<SealedLog>,
+    log: SealedLog,
 ) -> Option<Receipt> {
-    let (mut slips, mut logs) = (slips, logs);
-    let mut receipt = None;
-    if let Some(slip) = slips.pop() {
-        match logs.pop() {
-            Some(log) => receipt = file_again(rt, desk, slip, log),
-            None => give_up(slip),
-        }
-    }
+    let mut slips = slips;
+    let receipt = match slips.pop() {
+        Some(slip) => file_again(rt, desk, slip, log),
+        None => None,
+    };
     while let Some(slip) = slips.pop() {
-        give_up(slip);
+        let _place = slip.give_up();
     }
     slips.destroy_empty();
     receipt
 }
 
-/// Gives a slip up.
-fn give_up(slip: Slip) {
-    let _place = slip.give_up();
+/// Returns the last log of a scenario's run.
+fn last_log(alloc: Global, scenario: &Scenario) -> Result<SealedLog, AllocError> {
+    match run_world(alloc, scenario)?.into_logs().pop() {
+        Some(log) => Ok(log),
+        None => Err(AllocError),
+    }
 }
 
-/// `Desk::file`: a log is filed at the last place of a desk for the logs of a run.
-pub(crate) fn filing<R: Print + Wait>(rt: &R, alloc: Global, input: &[u8]) -> io::Result<()> {
-    let Some(logs) = logs_in(alloc, input) else {
-        return say(rt, "no scenario\n");
-    };
-    let (desk, slips) = Desk::new(alloc, logs.len())?;
+/// `Desk::file`: the last log of a run is filed at a desk of two places, by the same slip again where it was refused.
+pub(crate) fn filing<R: Print + Wait>(rt: &R, alloc: Global, scenario: &Scenario) -> io::Result<()> {
+    let log = last_log(alloc, scenario)?;
+    let (desk, slips) = Desk::new(alloc, 2)?;
     let _said = say(rt, "call\n");
-    let receipt = file_last(rt, &desk, slips, logs);
+    let receipt = file_one(rt, &desk, slips, log);
     let mut receipts = Vec::new(alloc);
     if let Some(receipt) = receipt {
         receipts.push(receipt)?;
@@ -128,66 +112,59 @@ pub(crate) fn filing<R: Print + Wait>(rt: &R, alloc: Global, input: &[u8]) -> io
     tell_desk(rt, alloc, desk, receipts)
 }
 
-/// Files a log by each slip, the last place first, without a word, and gives up the slips for which there is none.
-fn file_all<R: Wait>(rt: &R, desk: &Desk, slips: Vec<Slip>, logs: Vec<SealedLog>) {
-    let (mut slips, mut logs) = (slips, logs);
+/// Files a log by the last slip without a word, and gives the other slips up.
+fn file_silently<R: Wait>(rt: &R, desk: &Desk, slips: Vec<Slip>, log: &SealedLog) {
+    let mut slips = slips;
+    if let Some(slip) = slips.pop() {
+        if let Err((slip, _fault)) = desk.file_copy(rt, slip, log) {
+            let _place = slip.give_up();
+        }
+    }
     while let Some(slip) = slips.pop() {
-        file_silently(rt, desk, slip, logs.pop());
+        let _place = slip.give_up();
     }
     slips.destroy_empty();
 }
 
-/// Files a log without a word. Where it can't be filed the slip is given up.
-fn file_silently<R: Wait>(rt: &R, desk: &Desk, slip: Slip, log: Option<SealedLog>) {
-    match log {
-        Some(log) => {
-            if let Err((slip, _fault)) = desk.file_copy(rt, slip, &log) {
-                give_up(slip);
-            }
-        }
-        None => give_up(slip),
-    }
-}
-
-/// Returns a desk at which the logs of a run are filed.
-fn filled<R: Wait>(rt: &R, alloc: Global, logs: Vec<SealedLog>) -> Result<Desk, AllocError> {
-    let (desk, slips) = Desk::new(alloc, logs.len())?;
-    file_all(rt, &desk, slips, logs);
+/// Returns a desk of two places, at which the last log of a run is filed.
+fn filled<R: Wait>(rt: &R, alloc: Global, scenario: &Scenario) -> Result<Desk, AllocError> {
+    let log = last_log(alloc, scenario)?;
+    let (desk, slips) = Desk::new(alloc, 2)?;
+    file_silently(rt, &desk, slips, &log);
     Ok(desk)
 }
 
-/// Claims what is filed first, and says what the desk answered.
-fn claim<R: Print + Wait>(rt: &R, desk: &Desk) -> Result<Option<Claim>, AllocError> {
-    let claimed = desk.claim(rt);
-    let answer = match &claimed {
-        Ok(Some(_)) => Answer::Gave,
-        Ok(None) => Answer::Fault,
-        Err(_) => Answer::Memory,
-    };
-    let _said = say_answer(rt, answer);
-    claimed
+/// Claims what is filed, and says what the desk answered.
+fn claim<R: Print + Wait>(rt: &R, desk: &Desk) -> Option<Claim> {
+    match desk.claim(rt) {
+        Ok(claim) => {
+            say_gave(rt);
+            claim
+        }
+        Err(_) => {
+            say_fault(rt, DeskFault::Memory);
+            None
+        }
+    }
 }
 
-/// `Desk::claim`: the first of the logs of a run is claimed.
-pub(crate) fn claiming<R: Print + Wait>(rt: &R, alloc: Global, input: &[u8]) -> io::Result<()> {
-    let Some(logs) = logs_in(alloc, input) else {
-        return say(rt, "no scenario\n");
-    };
-    let desk = filled(rt, alloc, logs)?;
+/// `Desk::claim`, again where it was refused: the exhibit that is claimed, and the desk.
+pub(crate) fn claiming<R: Print + Wait>(rt: &R, alloc: Global, scenario: &Scenario) -> io::Result<()> {
+    let desk = filled(rt, alloc, scenario)?;
     say(rt, "call\n")?;
     let claimed = match claim(rt, &desk) {
-        Ok(claimed) => claimed,
-        Err(_) => claim(rt, &desk)?,
+        Some(claimed) => Some(claimed),
+        None => claim(rt, &desk),
     };
-    let mut out = Vec::new(alloc);
-    if let Some(claim) = claimed {
-        out.extend_from_slice(claim.exhibit().log())?;
+    match claimed {
+        Some(claimed) if !claimed.exhibit().log().is_empty() => {
+            tell_desk(rt, alloc, desk, Vec::new(alloc))
+        }
+        _ => say(rt, "nothing\n"),
     }
-    tell(rt, alloc, out.as_slice())?;
-    tell_desk(rt, alloc, desk, Vec::new(alloc))
 }
 
-/// Reports on what is claimed, and says what the desk answered.
+/// Reports on what is claimed, and says what the desk answered. What comes back is returned.
 fn report<R: Print + Wait>(
     rt: &R,
     desk: &Desk,
@@ -196,44 +173,27 @@ fn report<R: Print + Wait>(
 ) -> Option<(Claim, LocalReport)> {
     match desk.report(rt, claim, made) {
         Ok(()) => {
-            let _said = say_answer(rt, Answer::Gave);
+            say_gave(rt);
             None
         }
         Err((claim, made, fault)) => {
-            let _said = say_answer(rt, answer_to(fault));
+            say_fault(rt, fault);
             Some((claim, made))
         }
     }
 }
 
-/// Reports on the first claim at a desk, and the same again where that was refused.
-fn report_first<R: Print + Wait>(
-    rt: &R,
-    alloc: Global,
-    desk: &Desk,
-    header: &Header,
-) -> io::Result<()> {
+/// `Desk::report`, of the same claim and report again where it was refused.
+pub(crate) fn reporting<R: Print + Wait>(rt: &R, alloc: Global, scenario: &Scenario) -> io::Result<()> {
+    let desk = filled(rt, alloc, scenario)?;
     let Some(claim) = desk.claim(rt)? else {
-        return say(rt, "no claim\n");
+        return say(rt, "nothing\n");
     };
     let exhibit = claim.exhibit();
-    let made = local_report(alloc, header, exhibit.general(), exhibit.log())?;
+    let made = local_report(alloc, scenario.header(), exhibit.general(), exhibit.log())?;
     say(rt, "call\n")?;
-    if let Some((claim, made)) = report(rt, desk, claim, made) {
-        let _back = report(rt, desk, claim, made);
+    if let Some((claim, made)) = report(rt, &desk, claim, made) {
+        let _back = report(rt, &desk, claim, made);
     }
-    Ok(())
-}
-
-/// `Desk::report`: the first of the logs of a run is reported on.
-pub(crate) fn reporting<R: Print + Wait>(rt: &R, alloc: Global, input: &[u8]) -> io::Result<()> {
-    let Some(scenario) = scenario_in(alloc, input) else {
-        return say(rt, "no scenario\n");
-    };
-    let Some(logs) = logs_in(alloc, input) else {
-        return say(rt, "no logs\n");
-    };
-    let desk = filled(rt, alloc, logs)?;
-    report_first(rt, alloc, &desk, scenario.header())?;
     tell_desk(rt, alloc, desk, Vec::new(alloc))
 }

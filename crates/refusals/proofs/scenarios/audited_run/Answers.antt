@@ -2,10 +2,10 @@ use Rattle.std.proofs.Common.{rules, ◌≡◌, List, ℕ, subst, sym}
 use Rattle.gen_log.specs.Fields.{AreBelow}
 use Rattle.gen_scenario.specs.Scenario.{scripted}
 use Rattle.gen_audit.proofs.RunBundles.{are_members}
-use Rattle.refusals.proofs.running.audited_run.Goals as goal
+use Rattle.refusals.proofs.scenarios.audited_run.Goals as goal
 
 pub run_and_audit-requires-clause-faulty : goal.run_and_audit-requires-clause-faulty
 run_and_audit-requires-clause-faulty g c = λ κs _.
     let s = c.args.scenario.now in
     let is_faulty : c.scripted-faulty.result ≡ scripted s.scripts = search rules in
-    subst (λ (xs : List ℕ). AreBelow s.net.generals xs) (sym is_faulty) (are_members s c.header.ensures.scenario).below
+    subst (λ (xs : List ℕ). AreBelow s.net.generals xs) (sym is_faulty) (are_members s c._lawful-header.ensures.scenario).below

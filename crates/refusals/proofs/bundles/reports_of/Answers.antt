@@ -1,7 +1,7 @@
 use Rattle.std.proofs.Common.{◌≡◌, Contains, subst, inl, inr}
 use Rattle.std.proofs.lemmas.List.Elements.{Contains-push_cases}
 use Rattle.gen_local.specs.Report.{LocalReport}
-use Rattle.refusals.proofs.inputs.reports_of.Goals as goal
+use Rattle.refusals.proofs.bundles.reports_of.Goals as goal
 
 pub exhibits-preserved : goal.exhibits-preserved
 exhibits-preserved c = λ r k.
