@@ -1,29 +1,28 @@
-"""Each growth of memory and each start of a thread refused within one call of the libraries, which is then made again.
+"""Each growth of memory and each start of a thread refused within one call of the libraries, which is made again.
 
-The program refusals makes the call by its name, says what it answered, and where it was refused makes it again; its last
-line tells what was given. The library that refuses is refuse.c, which counts what is asked for within the call alone: the
-Nth is refused, N counting up until a call meets no refusal. Of 16 generals N grows by an eighth each time.
+The program refusals makes the call by its name, says what it answered, and where it was refused makes it again; its
+last line tells what was given. The library that refuses is refuse.c, which counts what is asked for within the call
+alone: the Nth is refused, N counting up until a call meets no refusal. Of 16 generals N grows by an eighth each time.
 """
 import os
 import shutil
 import tempfile
 
+from layout import Bundle
 from programs import End, count_cores, run, shown, side_by_side
 from refusals import AT_ONCE, HERE, build, numbers, refused
-from layout import Bundle
 from scenarios import signed, sixteen
 
 PROGRAM = os.path.join(os.path.dirname(HERE), "crates", "refusals", "out", "refusals")
 FRONT = "call\n"
 GAVE = "gave\n"
-# What a call may answer where something was refused, by what that was. A thread that gets no memory can't be started.
+# What a call may answer where something was refused, by what that was: a thread that gets no memory can't be started.
 ANSWERS = {"memory": ("memory\n", "thread\n"), "thread": ("thread\n",)}
 
 OF_NOTHING = ["KeyRing::from_seed", "SigRoom::new", "ChainRoom::new"]
-OF_SCENARIOS = ["run_world", "Machine::new", "Machine::act", "Edge::new", "Desk::file", "Desk::claim", "Desk::report"]
+OF_SCENARIOS = ["run_world", "Machine::act", "Edge::new", "Desk::file", "Desk::claim", "Desk::report"]
 OF_RUNS = ["run_threads", "run_and_audit"]
-OF_BUNDLES = ["read_bundle", "read_log", "LogWriter::new", "LogWriter::append", "audit", "find_evidence"]
-OF_EVIDENCE = ["read_evidence", "check_evidence"]
+OF_BUNDLES = ["read_bundle", "read_log", "LogWriter::append", "audit", "find_evidence"]
 
 
 def small_cases(program):
@@ -40,21 +39,15 @@ def small_cases(program):
         for name in OF_BUNDLES:
             yield name, case, bundle, ["memory"]
         yield "audit by two", case, bundle, ["memory", "thread"]
-    yield from evidence_cases(program)
+    yield "refute", "stolen key", withheld(program), ["memory"]
 
 
-def evidence_cases(program):
-    """Evidence of each kind that one run can hold, and what the accused answers to a signature with his stolen key."""
-    late = run(program, ["run"], signed()["late"]).wrote
-    split = run(program, ["run"], signed()["split"]).wrote
-    for case, bundle, general in (("K2", split, "0"), ("K3", late, "0"), ("K4", late, "1")):
-        evidence = run(program, ["accuse", "--general", general], bundle).wrote
-        for name in OF_EVIDENCE:
-            yield name, case, evidence, ["memory"]
+def withheld(program):
+    """A bundle that holds evidence made with a stolen key: who stole it shows no log, and whose it is shows his own."""
     with open(os.path.join(HERE, "cases", "stolen_key.scenario"), "rb") as text:
         stolen = Bundle(run(program, ["run"], text.read()).wrote)
     del stolen.exhibits[3]
-    yield "refute", "stolen key", stolen.spell(), ["memory"]
+    return stolen.spell()
 
 
 def large_cases(program):
@@ -78,7 +71,7 @@ def differs(end, was_refused, whole, kind):
 
 
 def count_up(call, whole, kind, is_sampled):
-    """Refuses one growth after the other. Returns how many runs met a refusal, and what is wrong with one, or None."""
+    """Refuses one growth after the other. Returns how many runs met a refusal, and what is wrong, or None."""
     coming, refusals = numbers(is_sampled), 0
     while True:
         some = [number for number, _ in zip(coming, range(AT_ONCE * count_cores()))]

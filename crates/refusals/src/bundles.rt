@@ -98,8 +98,9 @@ fn reports_of(
 
 /// `find_evidence` of the reports of the exhibits, which are made too: what it finds.
 fn found_in(alloc: Global, bundle: &Bundle) -> Result<Vec<Evidence>, AllocError> {
-    let reports = reports_of(alloc, bundle.header(), bundle.exhibits())?;
-    find_evidence(alloc, bundle.header(), reports.as_slice())
+    let header = bundle.header();
+    let reports = reports_of(alloc, header, bundle.exhibits())?;
+    find_evidence(alloc, header, reports.as_slice())
 }
 
 /// `find_evidence`: of each general who is convicted his number and the kind of the claim.

@@ -72,7 +72,16 @@ fn file_again<R: Print + Wait>(rt: &R, desk: &Desk, slip: Slip, log: SealedLog) 
     }
 }
 
-/// Files the first log by the last slip, and gives the other slips up.
+/// Gives all slips up.
+fn give_up_all(slips: Vec<Slip>) {
+    let mut slips = slips;
+    while let Some(slip) = slips.pop() {
+        let _place = slip.give_up();
+    }
+    slips.destroy_empty();
+}
+
+/// Files a log by the last slip, and gives the other slips up.
 fn file_one<R: Print + Wait>(
     rt: &R,
     desk: &Desk,
@@ -84,10 +93,7 @@ fn file_one<R: Print + Wait>(
         Some(slip) => file_again(rt, desk, slip, log),
         None => None,
     };
-    while let Some(slip) = slips.pop() {
-        let _place = slip.give_up();
-    }
-    slips.destroy_empty();
+    give_up_all(slips);
     receipt
 }
 
@@ -120,10 +126,7 @@ fn file_silently<R: Wait>(rt: &R, desk: &Desk, slips: Vec<Slip>, log: &SealedLog
             let _place = slip.give_up();
         }
     }
-    while let Some(slip) = slips.pop() {
-        let _place = slip.give_up();
-    }
-    slips.destroy_empty();
+    give_up_all(slips);
 }
 
 /// Returns a desk of two places, at which the last log of a run is filed.

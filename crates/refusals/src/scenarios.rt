@@ -107,6 +107,6 @@ fn edge<R: Wait>(rt: &R, alloc: Global, scenario: &Scenario) -> Answer {
         Edge::new(alloc, scenario, GeneralNo::at(0), GeneralNo::at(1), 4)?;
     let left = edge.settle(rt, put, take);
     let mut given = Vec::new(alloc);
-    given.push(u8::from(left.frames.is_empty()))?;
+    given.extend_from_slice(&[u8::from(left.frames.is_empty())])?;
     Ok(given)
 }

@@ -8,4 +8,4 @@ pub run_and_audit-requires-clause-faulty : goal.run_and_audit-requires-clause-fa
 run_and_audit-requires-clause-faulty g c = λ κs _.
     let s = c.args.scenario.now in
     let is_faulty : c.scripted-faulty.result ≡ scripted s.scripts = search rules in
-    subst (λ (xs : List ℕ). AreBelow s.net.generals xs) (sym is_faulty) (are_members s c._lawful-header.ensures.scenario).below
+    subst (λ (xs : List ℕ). AreBelow s.net.generals xs) (sym is_faulty) (are_members s c.header-lawful.ensures.scenario).below
