@@ -70,11 +70,7 @@ fn verdict<R: Threads + Wait + Sync>(
 }
 
 /// Returns the report of an exhibit under a header.
-fn report_of(
-    alloc: Global,
-    header: &Header,
-    exhibit: &Exhibit,
-) -> Result<LocalReport, AllocError>
+fn report_of(alloc: Global, header: &Header, exhibit: &Exhibit) -> Result<LocalReport, AllocError>
     ensures { IfOk result (λ report. report.header ≡ header.now) }
 {
     local_report(alloc, header, exhibit.general(), exhibit.log())

@@ -24,7 +24,12 @@ fn say_gave<R: Print>(rt: &R) {
 }
 
 /// Ends a desk, and tells what is filed at its places and what is reported on.
-fn tell_desk<R: Print>(rt: &R, alloc: Global, desk: Desk, receipts: Vec<Receipt>) -> io::Result<()> {
+fn tell_desk<R: Print>(
+    rt: &R,
+    alloc: Global,
+    desk: Desk,
+    receipts: Vec<Receipt>,
+) -> io::Result<()> {
     let Ok(filed) = desk.close(receipts) else {
         return say(rt, "nothing\n");
     };
@@ -106,7 +111,11 @@ fn last_log(alloc: Global, scenario: &Scenario) -> Result<SealedLog, AllocError>
 }
 
 /// `Desk::file`: the last log of a run is filed at a desk of two places, by the same slip again where it was refused.
-pub(crate) fn filing<R: Print + Wait>(rt: &R, alloc: Global, scenario: &Scenario) -> io::Result<()> {
+pub(crate) fn filing<R: Print + Wait>(
+    rt: &R,
+    alloc: Global,
+    scenario: &Scenario,
+) -> io::Result<()> {
     let log = last_log(alloc, scenario)?;
     let (desk, slips) = Desk::new(alloc, 2)?;
     let _said = say(rt, "call\n");
@@ -152,7 +161,11 @@ fn claim<R: Print + Wait>(rt: &R, desk: &Desk) -> Option<Claim> {
 }
 
 /// `Desk::claim`, again where it was refused: the exhibit that is claimed, and the desk.
-pub(crate) fn claiming<R: Print + Wait>(rt: &R, alloc: Global, scenario: &Scenario) -> io::Result<()> {
+pub(crate) fn claiming<R: Print + Wait>(
+    rt: &R,
+    alloc: Global,
+    scenario: &Scenario,
+) -> io::Result<()> {
     let desk = filled(rt, alloc, scenario)?;
     say(rt, "call\n")?;
     let claimed = match claim(rt, &desk) {
@@ -187,7 +200,11 @@ fn report<R: Print + Wait>(
 }
 
 /// `Desk::report`, of the same claim and report again where it was refused.
-pub(crate) fn reporting<R: Print + Wait>(rt: &R, alloc: Global, scenario: &Scenario) -> io::Result<()> {
+pub(crate) fn reporting<R: Print + Wait>(
+    rt: &R,
+    alloc: Global,
+    scenario: &Scenario,
+) -> io::Result<()> {
     let desk = filled(rt, alloc, scenario)?;
     let Some(claim) = desk.claim(rt)? else {
         return say(rt, "nothing\n");

@@ -101,7 +101,12 @@ fn try_call<R: Print + Threads + Wait + Sync>(
 }
 
 /// Makes a call that changes what it is called on: where it was refused it is made again there.
-fn try_step<R: Print + Wait>(rt: &R, alloc: Global, name: &str, subject: &Subject) -> io::Result<()> {
+fn try_step<R: Print + Wait>(
+    rt: &R,
+    alloc: Global,
+    name: &str,
+    subject: &Subject,
+) -> io::Result<()> {
     match subject {
         Subject::Scene(scenario) => match name {
             "Machine::act" => acting::acts(rt, alloc, scenario),

@@ -103,8 +103,7 @@ fn judgement<R: Threads + Wait + Sync>(rt: &R, alloc: Global, scenario: &Scenari
 
 /// `Edge::new`, from general 0 to general 1: how many frames are left on it once it was settled.
 fn edge<R: Wait>(rt: &R, alloc: Global, scenario: &Scenario) -> Answer {
-    let (edge, put, take) =
-        Edge::new(alloc, scenario, GeneralNo::at(0), GeneralNo::at(1), 4)?;
+    let (edge, put, take) = Edge::new(alloc, scenario, GeneralNo::at(0), GeneralNo::at(1), 4)?;
     let left = edge.settle(rt, put, take);
     let mut given = Vec::new(alloc);
     given.extend_from_slice(&[u8::from(left.frames.is_empty())])?;
