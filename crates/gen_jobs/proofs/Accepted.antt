@@ -36,7 +36,7 @@ use Rattle.gen_jobs.specs.Judging.{JudgesRun, RunsAreJudged}
 use Rattle.gen_jobs.specs.Run.{IsRun}
 
 -- the bytes of what is shown stand in the bundle's
-shown_bytes : (b : Bundle) (x : LogBytes) (v : ℕ) → Contains b.exhibits x → Contains x.bytes v → Contains (bundle_spelling b) v
+pub shown_bytes : (b : Bundle) (x : LogBytes) (v : ℕ) → Contains b.exhibits x → Contains x.bytes v → Contains (bundle_spelling b) v
 shown_bytes b x v shown h =
     let one : Contains (exhibit_spelling x) v = Contains_there x.general v (to_be_bytes w32 (length x.bytes) ++ x.bytes) (Contains-append_right (to_be_bytes w32 (length x.bytes)) x.bytes v h) in
     let all : Contains (exhibits_spelling b.exhibits) v = Contains_there (length b.exhibits) v (flat_map exhibit_spelling b.exhibits) (in_flat exhibit_spelling b.exhibits x v shown one) in
@@ -72,7 +72,7 @@ walks_bound s walks has sound = elim has.walks_are [
   | inr none ↦ absurd (none.1.2.bad (sound.joined has.rest has.of_rest none.1.0 none.1.1 none.1.2.pair))
 ]
 
-is_acceptable : (s : Scenario) (walks : List (List ℕ)) → IsScenario s → HasWalks s walks → IsSound s → IsAcceptable s walks
+pub is_acceptable : (s : Scenario) (walks : List (List ℕ)) → IsScenario s → HasWalks s walks → IsSound s → IsAcceptable s walks
 is_acceptable s walks ok has sound = record {
   scenario = ok;
   no_raw = sound.no_raw;
