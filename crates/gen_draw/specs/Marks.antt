@@ -1,5 +1,5 @@
 -- What is found and who is convicted, where a picture says so.
-use Rattle.std.specs.Prelude.{ℕ, Bool, false, ◌||◌, ◌==◌, ◌+◌, if◌then◌else◌, List, [], ◌++◌, codes}
+use Rattle.std.specs.Prelude.{ℕ, Bool, false, ◌||◌, ◌==◌, ◌+◌, ◌*◌, if◌then◌else◌, List, [], ◌++◌, codes}
 use Rattle.std.specs.List.{flat_map}
 use Rattle.std.specs.Fmt.{decimal}
 use Rattle.gen_convict.specs.Evidence.{Accusation}
@@ -24,12 +24,12 @@ found_opening finding = found_front ++ (finding_named finding ++ codes "</title>
 unfoldable pub found_words : ℕ → ℕ → Finding → List ℕ
 found_words x y finding = words_at x y ++ (finding_named finding ++ codes "</text></g>\n")
 
--- a message that is found, marked along its line
+-- a message that is found, marked along its line; of different orders the words stand below one another
 unfoldable pub found_message : Grid → ℕ → ℕ → ℕ → ℕ → Finding → List ℕ
 found_message grid from to round order finding =
     found_opening finding
     ++ (message_stroke grid from to round order
-    ++ found_words (middle_at grid round order + 12) (middle_of from to) finding)
+    ++ found_words (middle_at grid round order + 12) (middle_of from to + 11 * order) finding)
 
 -- what is marked of a finding at a message, or on the page where nobody is of the rest
 unfoldable pub message_mark : Grid → Finding → List ℕ

@@ -82,11 +82,13 @@ closing =
     codes "<text y=\"18\" class=\"faulty\">grey: held for faulty</text>\n" ++ (
     codes "<text y=\"36\" class=\"found\">red: found by the audit, or convicted</text></g>\n</svg>\n"))
 
--- the page: its beginning, how things look, the heads of arrows, which run it is and the verdict
-unfoldable pub page_front : RunHeader → Verdict → List ℕ
-page_front h verdict =
-    opening_of (width_of (grid_of h.network)) (height_of (grid_of h.network))
-    ++ (style ++ (heads_of (grid_of h.network) ++ (run_heading h ++ verdict_heading verdict)))
+-- the page: its beginning, how things look, and the heads of arrows
+unfoldable pub page_front : Grid → List ℕ
+page_front grid = opening_of (width_of grid) (height_of grid) ++ (style ++ heads_of grid)
+
+-- which run it is, and the verdict
+unfoldable pub heading : RunHeader → Verdict → List ℕ
+heading h verdict = run_heading h ++ verdict_heading verdict
 
 -- the columns of rounds, and the lines of generals
 unfoldable pub frame : Network → List ℕ → List ℕ
@@ -107,8 +109,13 @@ notes h exhibits verdict convictions =
 unfoldable pub page_back : Grid → List ℕ
 page_back grid = legend_lines grid ++ (legend_opening grid ++ closing)
 
--- The picture of a header, those held for faulty, what is shown as logs, the verdict and the convictions.
+-- what a picture says of a header, those held for faulty, what is shown as logs, the verdict and the convictions, and its end
+unfoldable pub run_part : RunHeader → List ℕ → List LogBytes → Verdict → List Accusation → List ℕ
+run_part h faulty exhibits verdict convictions =
+    heading h verdict ++ (frame h.network faulty ++ (story h exhibits verdict
+    ++ (notes h exhibits verdict convictions ++ page_back (grid_of h.network))))
+
+-- The picture of all that: the page, and what it says.
 unfoldable pub picture : RunHeader → List ℕ → List LogBytes → Verdict → List Accusation → List ℕ
 picture h faulty exhibits verdict convictions =
-    page_front h verdict ++ (frame h.network faulty ++ (story h exhibits verdict
-    ++ (notes h exhibits verdict convictions ++ page_back (grid_of h.network))))
+    page_front (grid_of h.network) ++ run_part h faulty exhibits verdict convictions

@@ -16,9 +16,11 @@ mod marks;
 mod page;
 mod picture;
 mod rows;
+mod several;
 mod shapes;
 mod shown;
 mod style;
 mod telling;
 
 pub use picture::draw;
+pub use several::draw_campaign;

@@ -78,7 +78,7 @@ fn push_found_message(
     push_found_opening(out, finding)?;
     push_message_stroke(out, grid, from, to, round, order)?;
     let x = grid.middle(round, order) + 12;
-    push_found_words(out, x, middle_of(from, to), finding)
+    push_found_words(out, x, middle_of(from, to) + 11 * u32::from(order), finding)
 }
 
 /// Appends what is marked of a finding at a message, or on the page where nobody is of the rest.
