@@ -12,4 +12,6 @@ mod printing;
 
 pub use campaign_text::{one_campaign_text, read_campaign_text};
 pub use making::texts_make_campaigns;
-pub use printing::{one_bundle_is_printed_as_before, places_name_runs, print_campaign};
+pub use printing::{
+    one_bundle_is_printed_as_before, places_name_runs, print_campaign, push_across,
+};

@@ -1,4 +1,5 @@
--- Scenarios: a network and the commander's order, and where generals sign the master seed of all keys and the scripts of the
+-- Scenarios: a network and the commander's order, and where generals sign the master seed of all keys and the
+-- scripts of the
 -- traitors.
 use Rattle.std.specs.Prelude.{ℕ, ◌≡◌, ◌≤◌, ◌<◌, Bool, List, [], ◌∷◌, map, Contains, AllPairs, Option, Some, None, if◌then◌else◌, ◌==◌}
 use Rattle.std.specs.List.{range_with_len}
@@ -55,7 +56,8 @@ abbrev pub SignsForTraitors : List Script → ScriptLine → Type 0
 SignsForTraitors scripts line =
     (path : List ℕ) → named_path line ≡ Some path → (g : ℕ) → Contains path g → Contains (scripted scripts) g
 
--- What each scenario keeps: its network does what networks do, its slot is known, the order is one of its orders, and each of
+-- What each scenario keeps: its network does what networks do, its slot is known, the order is one of its
+-- orders, and each of
 -- its scripts is one of a general's, who has no other, with lawful lines by which traitors alone sign.
 pub record IsScenario (s : Scenario) : Type 0 where
   pub network : IsNetwork s.net
