@@ -1,5 +1,6 @@
 -- The picture of the runs of a campaign: those of its bundles, one below the other.
-use Rattle.std.specs.Prelude.{ℕ, ◌+◌, ◌*◌, nat_le, if◌then◌else◌, List, [], ◌∷◌, ◌++◌, length, map, codes, Option, Some, None}
+use Rattle.std.specs.Prelude.{ℕ, ◌+◌, ◌*◌, nat_le, if◌then◌else◌, List, [], ◌∷◌, ◌++◌, length, map, codes}
+use Rattle.std.specs.Prelude.{Option, Some, None}
 use Rattle.std.specs.List.{flat_map, position}
 use Rattle.std.specs.Fmt.{decimal}
 use Rattle.gen_net.specs.Header.{RunHeader}
@@ -53,7 +54,8 @@ run_at down b j =
 abbrev pub runs_from : ℕ → List Bundle → List Judgement → List ℕ
 runs_from down [] judgements = []
 runs_from down (b ∷ bundles) [] = []
-runs_from down (b ∷ bundles) (j ∷ judgements) = run_at down b j ++ runs_from (down + height_of (grid_in b)) bundles judgements
+runs_from down (b ∷ bundles) (j ∷ judgements) =
+    run_at down b j ++ runs_from (down + height_of (grid_in b)) bundles judgements
 
 -- the place of the first run with this header, counted from 0
 abbrev pub place_with : List Bundle → RunHeader → Option ℕ
@@ -66,12 +68,14 @@ place_words (Some place) = codes " " ++ decimal place
 
 -- who is convicted, and by what
 unfoldable pub convicted_words : ℕ → ℕ → List ℕ
-convicted_words accused kind = codes "general " ++ (decimal accused ++ (codes " is convicted by K" ++ decimal kind))
+convicted_words accused kind =
+    codes "general " ++ (decimal accused ++ (codes " is convicted by K" ++ decimal kind))
 
 -- across which runs
 unfoldable pub across_words : List Bundle → Claim → List ℕ
 across_words bundles (AcrossRuns x y) =
-    codes " across" ++ (place_words (place_with bundles x.header) ++ place_words (place_with bundles y.header))
+    codes " across"
+    ++ (place_words (place_with bundles x.header) ++ place_words (place_with bundles y.header))
 across_words bundles claim = []
 
 -- both, as a title and to be read

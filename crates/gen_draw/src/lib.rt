@@ -9,7 +9,6 @@
 
 mod arrow;
 mod arrows;
-mod finding_names;
 mod grid;
 pub mod laws;
 mod marks;

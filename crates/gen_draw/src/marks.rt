@@ -20,12 +20,12 @@ ghost use Rattle.gen_draw.specs.Marks.{
 };
 
 use crate::arrows::push_message_stroke;
-use crate::finding_names::push_finding_name;
 use crate::grid::Grid;
 use crate::rows::{middle_of, row_of};
 use crate::shapes::push_words;
 use gen_convict::Evidence;
 use gen_match::Finding;
+use gen_report::push_finding_name;
 use gen_types::{GeneralNo, OrderNo};
 use std::alloc::AllocError;
 
