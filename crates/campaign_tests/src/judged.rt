@@ -1,6 +1,5 @@
 //! Audits of campaigns: of runs of two generals whose rings are made anew for each run, so that two runs of
-//! one slot sign
-//! under the same leaves.
+//! one slot sign under the same leaves.
 use crate::scenarios::{FIRST, FIRST_OF_ONE, SECOND_OF_ONE, scenario_of};
 use gen_audit::{Bundle, JobGate, Judgement, Verdict, WorkerCount, write_bundle};
 use gen_campaign::{CampaignFault, CampaignVerdict, audit_campaign, read_campaign};

@@ -69,8 +69,7 @@ run_take s g l h (frame ∷ rest) = record {
 }
 
 -- An attempt at this act: a put appends the frame that follows from what g took, where the queue isn't full;
--- a take removes the
--- front, where there is one.
+-- a take removes the front, where there is one.
 abbrev pub run_act : {F : Type 0} → (ℕ → List (Arrival F) → ℕ → ℕ → F) → ℕ → Running F → ℕ → Option Act
     → Running F
 run_act says capacity s g None = s
@@ -97,8 +96,7 @@ pub record IsOfWorld {F : Type 0} (net : Network) (world : ℕ → ℕ → ℕ �
   pub taken_same : (g : ℕ) → s.taken g ≡ took net world s.progress g
 
 -- Whatever the acts, in a world that the participants make they put the world's frames: the queue of an edge
--- holds them from the
--- number taken plus one to the number put, in order.
+-- holds them from the number taken plus one to the number put, in order.
 pub record RunsAsWorld {F : Type 0} (net : Network) (says : ℕ → List (Arrival F) → ℕ → ℕ → F)
     (world : ℕ → ℕ → ℕ → F) (capacity : ℕ) (acts : List ℕ) : Type 0 where
   pub progress : (fold (run_step net says capacity) (run_start net) acts).progress

@@ -7,8 +7,7 @@ use Rattle.gen_async.specs.Acts.{acts_of}
 use Rattle.gen_async.specs.Machine.{at_start, next_act, put, taken, answer, has_moved, after, moves_in, mover}
 
 -- What holds of a machine at all times: each general has come some way along the list of his acts, at most to
--- its end, and no queue holds less
--- than nothing or more than the capacity.
+-- its end, and no queue holds less than nothing or more than the capacity.
 pub record IsMachine (net : Network) (capacity : ℕ) (progress : List ℕ) : Type 0 where
   pub generals : length progress ≡ net.generals
   pub within : (g : ℕ) → slice_index progress g ≤ length (acts_of net g)
@@ -26,10 +25,9 @@ QueueLaw =
     → IsMachine net capacity (after net capacity (at_start net) acts)
 
 -- Where g stands by his next act. Before his put of round l to h he has put l - 1 frames to h, taken all
--- frames of the rounds before
--- and put to each neighbour l - 1 or l frames. Before his take of round l from h he has put l frames to each
--- neighbour, taken l - 1
--- from h and l - 1 or l from each neighbour. Without a next act he has put and taken R.
+-- frames of the rounds before and put to each neighbour l - 1 or l frames. Before his take of round l from h
+-- he has put l frames to each neighbour, taken l - 1 from h and l - 1 or l from each neighbour. Without a
+-- next act he has put and taken R.
 pub record IsAtPut (net : Network) (progress : List ℕ) (g l h : ℕ) : Type 0 where
   pub joined : AreNeighbours net g h
   pub first : 1 ≤ l

@@ -21,8 +21,7 @@ pub record AreDecisions (b : Bundle) (decisions : List Decision) : Type 0 where
   pub members : (d : Decision) → Contains decisions d ↔ IsDecision b d
 
 -- The verdict is the bundle's: no with all that is found, if anything is; else, with at most m held for
--- faulty, the order on
--- which the rest agree; else what each of them decided.
+-- faulty, the order on which the rest agree; else what each of them decided.
 abbrev pub IsVerdict : Bundle → Verdict → Type 0
 IsVerdict b (Agreed order) = IsClean b × HasFew b × AgreeOn b order
 IsVerdict b (Explained decisions) =

@@ -19,8 +19,7 @@ use Rattle.gen_audit.specs.Verdict.{IsVerdict}
 use Rattle.gen_audit.specs.Headline.{IsYes}
 
 -- the bundle with the sealed logs of all, in the order of generals, a second log after the first, whoever is
--- held for
--- faulty and whatever the walks are
+-- held for faulty and whatever the walks are
 abbrev pub run_bundle : Scenario → List ℕ → List (List ℕ) → Bundle
 run_bundle s faulty walks =
     record { header = header_of s; faulty = faulty; walks = walks; exhibits = logs_of_all s }

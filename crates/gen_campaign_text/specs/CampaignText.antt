@@ -8,8 +8,7 @@ use Rattle.gen_report.specs.Fields.{line_of, said}
 use Rattle.gen_report.specs.Scenario.{SpellsScenario}
 
 -- the second scenario may stand behind the first in a campaign: the generals are as many, the seed is the
--- same, and the slot is
--- greater
+-- same, and the slot is greater
 pub record Precedes (s t : Scenario) : Type 0 where
   pub generals : s.net.generals ≡ t.net.generals
   pub seed : s.master ≡ t.master

@@ -55,8 +55,7 @@ abbrev pub runs_of : Store → ℕ
 runs_of store = min (kept_count store) (2 ^ 64 - 1)
 
 -- The store after a check: the triple is kept with the answer, all others are as they were, and one answer
--- more is kept exactly
--- where the triple was not kept before.
+-- more is kept exactly where the triple was not kept before.
 pub record IsAfter (old : Store) (t : Triple) (answer : Bool) (new : Store) : Type 0 where
   pub here : answer_of new t ≡ Some answer
   pub others : (u : Triple) → u ≢ t → answer_of new u ≡ answer_of old u

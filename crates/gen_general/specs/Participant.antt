@@ -13,8 +13,7 @@ use Rattle.gen_scenario.specs.SignerTrees.{keys_with}
 use Rattle.gen_scenario.specs.Part.{Part, own_keys}
 
 -- what he knows of his own, his ring if he has no script, what he heard so far, what of it he had heard when
--- the round began
--- that he is in, and that round, 0 before the first
+-- the round began that he is in, and that round, 0 before the first
 pub record Participant : Type 0 where
   pub known : Part
   pub ring : Option Ring

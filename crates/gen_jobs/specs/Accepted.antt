@@ -26,8 +26,7 @@ RunsAreRead =
     × (whole_campaign text ≡ Ok (alone (bundle_of run.scenario run.walks)))
 
 -- no script has a raw line, somebody has no script, and any two of those who have none are joined inside them
--- by
--- at most d edges
+-- by at most d edges
 pub record IsSound (s : Scenario) : Type 0 where
   pub no_raw : HasNoRaw s
   pub somebody : (g : ℕ) × IsLoyal s.net (scripted s.scripts) g

@@ -27,8 +27,7 @@ AreOfRuns convictions =
     (x : Accusation) → Contains convictions x → (v : RunText) × (w : RunText) × (x.claim ≡ AcrossRuns v w)
 
 -- one of them is the general's, and the text is its spelling under its first run's header; or none is, and
--- then the text is
--- empty and says no
+-- then the text is empty and says no
 abbrev pub TellsAcross : List Accusation → ℕ → List ℕ → Bool → Type 0
 TellsAcross convictions general text false =
     (v : RunText) × (w : RunText)
@@ -62,8 +61,7 @@ AccusesWithin bundles general text false =
 AccusesWithin bundles general text true = All (HoldsNone general) bundles × (text ≡ [])
 
 -- the text is evidence of the first two texts by which the exhibits of two runs hold a claim; or there are no
--- such two, and
--- the text is empty
+-- such two, and the text is empty
 abbrev pub AccusesAcross : List Bundle → ℕ → List ℕ → Bool → Type 0
 AccusesAcross bundles general text false =
     (x : RunText) × (y : RunText) × (general < 16) × IsFirstAcross (shown_bundles bundles) general x y

@@ -14,8 +14,7 @@ pub record CommanderFollows (net : Network) (run : Run) (own : ℕ) : Type 0 whe
       ↔ (AreNeighbours net 0 message.to × (message.order ≡ own) × (message.path ≡ 0 ∷ []))
 
 -- what g relays in round l + 1: an order that he added in round l, with the picked path lengthened by
--- himself, to a neighbour
--- outside that path
+-- himself, to a neighbour outside that path
 pub record IsRelayed (net : Network) (run : Run) (g l : ℕ) (pick : ℕ → List ℕ) (message : Message)
     : Type 0 where
   pub added : Adds run g l message.order

@@ -1,6 +1,5 @@
 -- The messages of a run, round by round, and what a general learns from them (SM(m), section 4 of the paper
--- of 1982, with
--- messages to neighbours only, as in section 5).
+-- of 1982, with messages to neighbours only, as in section 5).
 use Rattle.std.specs.Prelude.{ℕ, ◌≡◌, ◌<◌, ◌≤◌, List, length, Contains}
 use Rattle.gen_net.specs.declared.message.Message.{Message}
 use Rattle.gen_net.specs.Network.{Network, rounds, AreNeighbours}

@@ -1,4 +1,4 @@
--- The tests of networks and headers decide whether they are the same.
+-- Lemmas: the tests of networks and headers decide whether they are the same.
 use Rattle.std.proofs.Common.{◌≡◌, ℕ, Bool, true, false, ◌&&◌, eqb, eqb-true, eq-eqb, List, refl, subst, ap, arith}
 use Rattle.std.specs.Bool.{Decides}
 use Rattle.std.specs.Cmp.{IsEquivalence, decided}

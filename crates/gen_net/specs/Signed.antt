@@ -8,8 +8,7 @@ use Rattle.gen_net.specs.Run.{Run, IsRun}
 use Rattle.gen_net.specs.Follows.{Conduct, Follows}
 
 -- The path of the message, up to its last general of the rest, begins the path of a message of the same order
--- that somebody of
--- the rest sent to somebody faulty in a round before.
+-- that somebody of the rest sent to somebody faulty in a round before.
 pub record Derivation (net : Network) (faulty : List ℕ) (run : Run) (message : Message)
     : Type 0 where
   pub front : List ℕ

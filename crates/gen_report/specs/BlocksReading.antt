@@ -19,8 +19,7 @@ use Rattle.gen_report.specs.CursorReading.{next_line}
 use Rattle.gen_report.specs.ItemReading.{item_in}
 
 -- what lines say from one in a block on: the rest of the lines of that block, the scripts of the blocks after
--- it, the paths
--- that all these lines name, and the cursor behind the last line
+-- it, the paths that all these lines name, and the cursor behind the last line
 pub record Blocks : Type 0 where
   pub lines : List ScriptLine
   pub scripts : List Script

@@ -8,8 +8,7 @@ use Rattle.gen_chain.specs.Verifying.{ChainVerifies}
 use Rattle.gen_scenario.specs.declared.delivery.Delivery.{Delivery}
 
 -- The chain may count: it verifies, it has as many signers as rounds were begun, its sender signed it last,
--- and its receiver
--- did not sign it.
+-- and its receiver did not sign it.
 pub record MayCount (h : RunHeader) (d : Delivery) (c : Chain) : Type 0 where
   pub verifies : ChainVerifies h c
   pub in_time : length (signed_path c.signers) ≡ d.round

@@ -11,8 +11,7 @@ use Rattle.gen_scenario.specs.Heard.{round_of, first_of, heard_from}
 use Rattle.gen_scenario.specs.Signing.{Keys, made, lengthened, bent}
 
 -- what a general knows of his own: with what he signs, his number, his order if he is the commander, and the
--- lines of his script
--- if he has one
+-- lines of his script if he has one
 pub record Sender : Type 0 where
   pub keys : Keys
   pub me : ℕ

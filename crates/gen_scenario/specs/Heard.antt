@@ -1,6 +1,5 @@
 -- What a general has heard: the chains that counted at him, each with its sender, in the order of rounds, of
--- senders and of
--- parcels.
+-- senders and of parcels.
 use Rattle.std.specs.Prelude.{ℕ, ◌==◌, ◌&&◌, if◌then◌else◌, List, [], ◌∷◌, length, filter, Option, Some, None}
 use Rattle.std.specs.List.{range_with_len, list_any}
 use Rattle.gen_chain.specs.Chain.{signed_path}

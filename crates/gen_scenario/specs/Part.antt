@@ -50,8 +50,7 @@ pub record CanFollow (h : RunHeader) (g : ℕ) (order : Option ℕ) : Type 0 whe
   pub commander : IsSome order ↔ (g ≡ 0)
 
 -- What holds of it: the header is one, he is a general of its network, the commander alone has an order,
--- which is one of the
--- network's, and what the lines of his script ask for can be made.
+-- which is one of the network's, and what the lines of his script ask for can be made.
 pub record IsPart (k : Part) : Type 0 where
   pub header : IsHeader k.header
   pub me : k.me < k.header.network.generals

@@ -1,6 +1,5 @@
 -- Without raw parcels no loyal signature is forged in the run of a scenario, whatever is known of the hash.
--- So Theorem 4 holds of
--- such runs, traitors and all.
+-- So Theorem 4 holds of such runs, traitors and all.
 use Rattle.std.specs.Prelude.{◌≡◌, ◌≤◌, List, length, Contains}
 use Rattle.gen_net.specs.Network.{IsLoyal}
 use Rattle.gen_net.specs.Walks.{HasDiameter}
@@ -33,8 +32,7 @@ NoRawIsSigned =
     → IsSignedRun s.net (scripted s.scripts) (messages_of s) (conduct_of s)
 
 -- What the theorem asks of a scenario: at most m traitors, none of whom sends bytes of his own, and any two
--- of the rest joined
--- inside the rest by at most d edges.
+-- of the rest joined inside the rest by at most d edges.
 pub record IsBounded (s : Scenario) : Type 0 where
   pub few : length s.scripts ≤ s.net.traitors
   pub no_raw : HasNoRaw s

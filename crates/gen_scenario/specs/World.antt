@@ -1,6 +1,5 @@
 -- The one run of a plain scenario: everybody follows the algorithm, and of several messages of a new order
--- that arrive in one
--- round the least sender's is picked.
+-- that arrive in one round the least sender's is picked.
 use Rattle.std.specs.Prelude.{ℕ, ◌≡◌, ◌≢◌, ◌+◌, ◌<◌, ◌↔◌, List, [], ◌∷◌, ◌++◌, map, Contains, All}
 use Rattle.std.specs.List.{range_with_len}
 use Rattle.gen_net.specs.Network.{Network, rounds, AreNeighbours}

@@ -12,8 +12,7 @@ use Rattle.gen_threads.specs.declared.edges.Passes.{Passes}
 use Rattle.gen_threads.specs.Edges.{HasPut, HasTakenBy}
 
 -- Made are all edges from the first generals, and of the next one those to the first ones. So a general of n
--- puts to the
--- neighbours below the one, and takes from those below the other.
+-- puts to the neighbours below the one, and takes from those below the other.
 abbrev pub puts_below : ℕ → ℕ → ℕ → ℕ → ℕ
 puts_below n from to g = if nat_lt g from then n else (if nat_lt from g then 0 else to)
 

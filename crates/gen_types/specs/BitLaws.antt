@@ -1,4 +1,4 @@
--- A number is given back by its bits, and its members are those of its bits.
+-- Lemmas: a number is given back by its bits, and its members are those of its bits.
 use Rattle.std.specs.Prelude.{ℕ, ◌≡◌, ◌<◌, ◌^◌, List, [], ◌∷◌, Contains, AllPairs, max}
 use Rattle.std.specs.Int.{bit_at}
 use Rattle.std.proofs.Common.{sym, ◌∙◌, subst, inl, inr, arith, eqb-true, eq-eqb}

@@ -25,8 +25,7 @@ pub record IsReadFrom {A : Type 0} (Fits : A → Type 0) (spell : A → List ℕ
   pub counted : x.1 ≡ length (spell x.0)
 
 -- Each value has one spelling, and no spelling begins another: where two lists begin with spellings and are
--- equal, the values
--- are equal, and so is what follows.
+-- equal, the values are equal, and so is what follows.
 abbrev pub HasOneSpelling : {A : Type 0} → (A → Type 0) → (A → List ℕ) → Type 0
 HasOneSpelling {A} Fits spell =
     (x y : A) (rest more : List ℕ) → Fits x → Fits y → spell x ++ rest ≡ spell y ++ more

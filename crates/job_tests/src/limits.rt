@@ -1,8 +1,6 @@
 //! The jobs at their limits, each by its engine: 16 generals who are all neighbours, 16 rounds and 15 orders;
-//! a bundle
-//! of 64 exhibits; and the longest input. A job, or a call below it, that gives up on larger inputs fails
-//! here. What
-//! the jobs write was given by another program, in Python.
+//! a bundle of 64 exhibits; and the longest input. A job, or a call below it, that gives up on larger inputs
+//! fails here. What the jobs write was given by another program, in Python.
 ghost use Rattle.gen_jobs.specs.Ranges.{IsInRange};
 
 use crate::bundles::bundle_in;

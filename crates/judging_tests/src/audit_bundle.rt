@@ -39,8 +39,7 @@ fn cuts_are_short(alloc: Global, bytes: &[u8]) -> bool {
 }
 
 /// The place in the list of the first case that is not so: the byte at a place is changed to this one, and
-/// the bundle
-/// of version 1 has this fault then.
+/// the bundle of version 1 has this fault then.
 fn first_wrong(
     alloc: Global,
     cases: &[(usize, u8, BundleFault)],
@@ -86,8 +85,7 @@ fn exhibits_of(alloc: Global, generals: &[u8]) -> Result<Vec<Exhibit>, Fail> {
 }
 
 /// The fault of a bundle of two generals with these bits of the faulty, the walk from 0 to this general, and
-/// exhibits
-/// of these generals.
+/// exhibits of these generals.
 fn fault_of(
     alloc: Global,
     faulty: u16,

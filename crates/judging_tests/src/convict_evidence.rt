@@ -102,8 +102,7 @@ fn fault_of(alloc: Global, bytes: &[u8]) -> Option<ReadError<EvidenceFault>> {
 }
 
 /// The place in the list of the first case that is not so: the byte at a place is changed to this one, and
-/// the
-/// evidence has this fault then.
+/// the evidence has this fault then.
 fn first_wrong(
     alloc: Global,
     evidence: &[u8],

@@ -164,8 +164,7 @@ fn signatures_of_one_statement(rt: HostRuntime) -> Result<(), Fail> {
 }
 
 // Whether a check of what is not kept answers true and adds one verification, also where its first try was
-// refused memory, which
-// changes nothing.
+// refused memory, which changes nothing.
 fn is_made_again(
     store: &mut VerifyStore,
     header: &Header,
