@@ -65,10 +65,12 @@ def try_examples(program, tally):
     silent = run(program, ["run"], example("silent.scenario")).wrote
     for name, data in (("split", example("split.bundle")), ("silent", silent), ("disputed", example("disputed.bundle"))):
         tally.hold(f"{name}.svg", differs(run(program, ["draw"], data), End(0, example(f"{name}.svg"), b"")))
-    tally.hold("silent.decisions", differs(run(program, ["decide"], example("silent.scenario")), End(0, example("silent.decisions"), b"")))
+    decided = run(program, ["decide"], example("silent.scenario"))
+    tally.hold("silent.decisions", differs(decided, End(0, example("silent.decisions"), b"")))
     wanted = End(1, example("disputed.verdict"), b"")
     tally.hold("disputed.verdict", differs(run(program, ["audit"], example("disputed.bundle")), wanted))
-    told, untold = (run(program, ["run"], scenario(everybody(3), 1, 1, 1, scripts)).wrote for scripts in ({}, {0: ["make 1 1 1 0"]}))
+    both = [scenario(everybody(3), 1, 1, 1, scripts) for scripts in ({}, {0: ["make 1 1 1 0"]})]
+    told, untold = (run(program, ["run"], text).wrote for text in both)
     bundle = Bundle(told)
     bundle.exhibits[1:] = Bundle(untold).exhibits[1:]
     tally.hold("disputed.bundle", None if bundle.spell() == example("disputed.bundle") else "another bundle")
@@ -76,13 +78,13 @@ def try_examples(program, tally):
 
 
 def try_bundles(program, tally):
-    """The pictures of all runs that were worked out, that of 16 generals and 16 rounds among them, and of what isn't shown."""
+    """The pictures of all runs that were worked out, that of 16 generals and 16 rounds among them, and of logs that are missing."""
     for name, text in known_scenarios().items():
         data = run(program, ["run"], text).wrote
         try_picture(program, tally, name, data, picture, [data])
         tally.count(1)
     bundle = Bundle(example("split.bundle"))
-    bundle.exhibits, bundle.faulty = bundle.exhibits[1:] + bundle.exhibits[1:2], b"\0\7"
+    bundle.exhibits = bundle.exhibits[1:2] + bundle.exhibits[1:]
     for name, faulty in (("a log is missing, and one is there twice", b"\0\0"), ("nobody is left", b"\0\7")):
         bundle.faulty = faulty
         data = bundle.spell()

@@ -27,8 +27,8 @@ pub record Draws (bundle : Bundle) (text : List ℕ) : Type 0 where
   pub judged : IsJudged bundle judgement
   pub text_is : text ≡ picture_with bundle judgement
 
--- The text is the picture of the runs of a campaign, of the judgements on them, and of who is convicted across
--- them.
+-- The text is the picture of the runs of a campaign, of the judgements on them, and of who is convicted
+-- across them.
 pub record DrawsRuns (bundles : List Bundle) (text : List ℕ) : Type 0 where
   pub judgements : List Judgement
   pub judged : AreJudged bundles judgements
