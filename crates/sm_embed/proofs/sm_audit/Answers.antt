@@ -1,5 +1,5 @@
 use Rattle.gen_jobs.specs.Audit.{IsAudited, IsAuditFault}
-use Rattle.sm_embed.proofs.Handed.{is_handed}
+use Rattle.sm_embed.proofs.Given.{is_handed}
 use Rattle.sm_embed.proofs.sm_audit.Goals as goal
 
 pub returns : goal.returns

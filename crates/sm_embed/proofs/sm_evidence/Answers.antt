@@ -1,5 +1,5 @@
 use Rattle.gen_jobs.specs.Checking.{IsChecked, IsEvidenceFault}
-use Rattle.sm_embed.proofs.Handed.{is_handed}
+use Rattle.sm_embed.proofs.Given.{is_handed}
 use Rattle.sm_embed.proofs.sm_evidence.Goals as goal
 
 pub returns : goal.returns
