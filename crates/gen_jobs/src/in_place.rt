@@ -51,11 +51,7 @@ pub fn audit_in_place(alloc: Global, input: &[u8]) -> Result<Output, JobFault>
 /// # Errors
 ///
 /// Those of `accuse` but `Thread`.
-pub fn accuse_in_place(
-    alloc: Global,
-    general: GeneralNo,
-    input: &[u8],
-) -> Result<Output, JobFault>
+pub fn accuse_in_place(alloc: Global, general: GeneralNo, input: &[u8]) -> Result<Output, JobFault>
     ensures answer { IfOk result (λ o. IsAccused general input.now o.text.items o.negative) }
     ensures fault { IfErr result (IsAuditFault input.now) }
 {

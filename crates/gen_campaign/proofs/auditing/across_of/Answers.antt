@@ -23,6 +23,6 @@ pub returns-clause-alone : goal.returns-clause-alone
 returns-clause-alone c =
     let bundles = c.args.campaign.now.bundles in
     IfOk-weaker c.find_in_runs.result _ _ (λ found are is.
-      let alone : IsAlone bundles = subst (λ a. AreShown a bundles) is c.bundles.ensures.campaign in
-      let across : AreConvictedAcross (shown_bundles bundles) (map told_of found.items) = subst (λ (bs : List Bundle). AreConvictedAcross (shown_bundles bs) (map told_of found.items)) c.bundles.ensures.value are in
-      none_told told_of found.items (c.other_slots_convict_nobody.ensures (shown_bundles bundles) (map told_of found.items) (alone_apart bundles alone) across)) c.find_in_runs.ensures.found
+    let alone : IsAlone bundles = subst (λ a. AreShown a bundles) is c.bundles.ensures.campaign in
+    let across : AreConvictedAcross (shown_bundles bundles) (map told_of found.items) = subst (λ (bs : List Bundle). AreConvictedAcross (shown_bundles bs) (map told_of found.items)) c.bundles.ensures.value are in
+    none_told told_of found.items (c.other_slots_convict_nobody.ensures (shown_bundles bundles) (map told_of found.items) (alone_apart bundles alone) across)) c.find_in_runs.ensures.found
