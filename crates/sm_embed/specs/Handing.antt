@@ -6,7 +6,7 @@ use Rattle.sm_embed.specs.Statuses.{status_of_handed}
 use Rattle.sm_embed.specs.declared.handed.Handed.{Handed}
 use Rattle.sm_embed.specs.declared.handed.Handed.TheVariants.{Yes, No, Line, Nothing, Length}
 
--- the text stands at the begin of the room, the rest of which is as it was, and the count is the text's length
+-- the room begins with the text, behind which it is as it was, and the count is the text's length
 abbrev pub Fits : List ℕ → List ℕ → List ℕ → ℕ → Type 0
 Fits text old new count = (count ≡ length text) × (new ≡ text ++ drop (length text) old)
 
@@ -36,11 +36,12 @@ HandsFault fault old new count Length = (line : List ℕ) × IsTooLong line old 
 
 -- an answer was handed, or the fault in its place
 abbrev pub HandsOver : Result Output JobFault → List ℕ → List ℕ → ℕ → Handed → Type 0
-HandsOver (Ok output) old new count handed = HandsAnswer output.text.items output.negative old new count handed
+HandsOver (Ok output) old new count handed =
+    HandsAnswer output.text.items output.negative old new count handed
 HandsOver (Err fault) old new count handed = HandsFault fault old new count handed
 
--- An input has answers, each a text that says no or doesn't, and it has faults. What is handed is an answer, or
--- the line of a fault, or the length of one of these where it is longer than the room.
+-- An input has answers, each a text that says no or doesn't, and it has faults. What is handed is an answer,
+-- or the line of a fault, or the length of one of these where it is longer than the room.
 abbrev pub Hands : (List ℕ → Bool → Type 0) → (JobFault → Type 0) → List ℕ → List ℕ → ℕ → Handed → Type 0
 Hands IsAnswer IsFault old new count Yes = (text : List ℕ) × IsAnswer text false × Fits text old new count
 Hands IsAnswer IsFault old new count No = (text : List ℕ) × IsAnswer text true × Fits text old new count
