@@ -102,8 +102,8 @@ fn exhibits_of(alloc: Global, generals: &[u8]) -> Result<Vec<Exhibit>, Fail> {
     Ok(exhibits)
 }
 
-/// The fault of a bundle of two generals with these bits of the faulty, the walk from 0 to this general, and exhibits
-/// of these generals.
+/// The fault of a bundle of two generals with these bits of the faulty, the walk from 0 to this general, and
+/// exhibits of these generals.
 fn fault_of(
     alloc: Global,
     faulty: u16,

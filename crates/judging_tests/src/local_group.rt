@@ -9,8 +9,8 @@ use gen_types::GeneralNo;
 use std::alloc::Global;
 use std::test::Fail;
 
-// Whose exhibit it is, whose log it is, how many entries this has, and its pieces; a log of no entries is shown as no
-// bytes at all.
+// Whose exhibit it is, whose log it is, how many entries this has, and its pieces; a log of no entries is
+// shown as no bytes at all.
 type Shown<'a> = (u8, u8, u64, &'a [Piece<'a>]);
 
 // Six exhibits of unequal lengths, of which the third doesn't read and the fourth is another general's.

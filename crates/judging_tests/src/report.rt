@@ -115,7 +115,8 @@ fn measures_lines(rt: HostRuntime) -> Result<(), Fail> {
     Ok(())
 }
 
-/// The first length of a proper beginning of the whole text that is not unfinished, in the line in which it ends.
+/// The first length of a proper beginning of the whole text that is not unfinished, in the line in which it
+/// ends.
 fn first_finished(alloc: Global) -> Option<usize> {
     let mut line = 1;
     for (length, byte) in WHOLE.iter().enumerate() {

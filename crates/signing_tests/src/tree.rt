@@ -252,8 +252,8 @@ fn bytes_of_signatures(rt: HostRuntime) -> Result<(), Fail> {
     Ok(())
 }
 
-// The answers where leaf 3 of a new ring is asked for twice, then its last leaf, then the number behind it; and the
-// leaves that are taken then.
+// The answers where leaf 3 of a new ring is asked for twice, then its last leaf, then the number behind it;
+// and the leaves that are taken then.
 fn asked(
     alloc: Global,
     height: TreeHeight,
@@ -384,8 +384,8 @@ fn claim_of<'x>(
     }
 }
 
-// The answers to claims of a signature by leaf 3 of general 5's tree of four levels and of one by leaf 40 of that of six, each
-// twice, once something of the claim at this place is changed.
+// The answers to claims of a signature by leaf 3 of general 5's tree of four levels and of one by leaf 40 of
+// that of six, each twice, once something of the claim at this place is changed.
 fn four_answers<'x>(
     roots: &'x [[u8; 32]; 2],
     four: &'x Signature,
@@ -405,7 +405,8 @@ fn four_answers<'x>(
 // The place of the claim that is changed, or 4 for none, and what of it.
 const CHANGES: [(usize, u8); 5] = [(0, 0), (1, 1), (2, 2), (3, 3), (4, 0)];
 
-// The place of the first changed claim with which the answers are other ones than that it alone does not verify.
+// The place of the first changed claim with which the answers are other ones than that it alone does not
+// verify.
 fn first_wrong_claim(roots: &[[u8; 32]; 2], four: &Signature, six: &Signature) -> Option<usize> {
     for (place, change) in &CHANGES {
         let want = [*place != 0, *place != 1, *place != 2, *place != 3];

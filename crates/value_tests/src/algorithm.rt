@@ -148,7 +148,8 @@ fn first_wrong(alloc: Global, asked: Asked, courses: &[Course]) -> Result<Option
     )
 }
 
-/// Each relays what arrives to the next general, and never to one of the path. The last one adds the order in the last round.
+/// Each relays what arrives to the next general, and never to one of the path. The last one adds the order
+/// in the last round.
 const ON_A_LINE: [Course; 4] = [
     (
         1,
@@ -181,9 +182,9 @@ fn on_a_line(rt: HostRuntime) -> Result<(), Fail> {
     Ok(())
 }
 
-/// Of two senders of one order the lesser is picked, whichever comes first. An order that arrived before isn't added
-/// again. Sends are by receiver and order. Of two orders the choice is RETREAT. What is added in the last round is sent
-/// to nobody.
+/// Of two senders of one order the lesser is picked, whichever comes first. An order that arrived before
+/// isn't added again. Sends are by receiver and order. Of two orders the choice is RETREAT. What is added
+/// in the last round is sent to nobody.
 const WITH_ALL_JOINED: [Course; 3] = [
     (
         1,
@@ -233,7 +234,8 @@ fn first_adds(alloc: Global, net: &Net, me: u8, chains: &[Chain]) -> Option<Adds
     Some(Lieutenant::new(net, me).round(arrived.as_slice()))
 }
 
-/// Whether lieutenant 1 adds order 2 alone, which comes from the commander in the first round, and sends these chains for it.
+/// Whether lieutenant 1 adds order 2 alone, which comes from the commander in the first round, and sends
+/// these chains for it.
 fn adds_and_sends(alloc: Global, asked: Asked, relays: &[Relay]) -> Result<bool, Fail> {
     let net = net_of(alloc, asked)?;
     let adds = first_adds(alloc, &net, 1, &[(2, &[0])]).ok_or("no lieutenant")?;
@@ -244,8 +246,8 @@ fn adds_and_sends(alloc: Global, asked: Asked, relays: &[Relay]) -> Result<bool,
     )
 }
 
-/// An order that is added in the only round is relayed to nobody, though two neighbours are outside the path; with one
-/// round more it goes to both.
+/// An order that is added in the only round is relayed to nobody, though two neighbours are outside the
+/// path; with one round more it goes to both.
 #[test]
 fn last_round(rt: HostRuntime) -> Result<(), Fail> {
     assert!(rt; adds_and_sends(rt.alloc(), IN_ONE_ROUND, &[])?);
@@ -254,8 +256,8 @@ fn last_round(rt: HostRuntime) -> Result<(), Fail> {
     Ok(())
 }
 
-/// What is sent for two orders that lieutenant 2 adds by generals 1 and 2. General 1 signed the path of order 1: handed in
-/// for him, it is sent to nobody.
+/// What is sent for two orders that lieutenant 2 adds by generals 1 and 2. General 1 signed the path of
+/// order 1: handed in for him, it is sent to nobody.
 const OF_OWN_PATHS: [(u8, &[Relay]); 2] = [
     (1, &[(2, 2, &[0, 1]), (3, 2, &[0, 1])]),
     (2, &[(1, 2, &[0, 2]), (3, 1, &[0, 1, 2]), (3, 2, &[0, 2])]),
@@ -334,8 +336,8 @@ fn at_the_limits(rt: HostRuntime) -> Result<(), Fail> {
     Ok(())
 }
 
-/// How many rounds have gone for a lieutenant, and for a copy of him that took one in which order 2 arrives; None where
-/// the copy doesn't add the order.
+/// How many rounds have gone for a lieutenant, and for a copy of him that took one in which order 2
+/// arrives; None where the copy doesn't add the order.
 fn gone_for_copies(net: &Net) -> Option<(u8, u8)> {
     if net.generals() != 3 || net.rounds() == 0 {
         return None;

@@ -189,8 +189,8 @@ fn ring_in_bytes(rt: HostRuntime) -> Result<(), Fail> {
     Ok(())
 }
 
-/// Beginnings of headers of four generals that differ in one thing each: none, m, d, q, the choice, an edge, the
-/// version and its slot.
+/// Beginnings of headers of four generals that differ in one thing each: none, m, d, q, the choice, an edge,
+/// the version and its slot.
 const UNLIKE: &[&[u8]] = &[
     &[1, 4, 2, 3, 5, 1, 1, 0, 1],
     &[1, 4, 1, 3, 5, 1, 1, 0, 1],
@@ -230,8 +230,8 @@ fn count_equal(headers: &[Header], one: &Header) -> (usize, usize) {
     (equal, network)
 }
 
-/// The place of the first header that is equal to another, or has the network of other ones than it should: the first
-/// network stands in the headers of both versions and of the other root too.
+/// The place of the first header that is equal to another, or has the network of other ones than it should:
+/// the first network stands in the headers of both versions and of the other root too.
 fn first_wrongly_equal(headers: &[Header]) -> Option<usize> {
     for (place, one) in headers.iter().enumerate() {
         let networks = if matches!(place, 0 | 6 | 7 | 8) { 4 } else { 1 };
