@@ -138,14 +138,21 @@ fn is_decision(decision: Option<(OrderSet, OrderNo)>, orders: &[u8], order: u8) 
 /// A lieutenant, three rounds of his, the orders that he has then and the one that he decides.
 type Course = (u8, [Round; 3], &'static [u8], u8);
 
+/// Whether a course goes so in this network.
+fn is_right(alloc: Global, net: &Net, course: &Course) -> bool {
+    let (me, rounds, orders, order) = course;
+    is_decision(decided(alloc, net, *me, rounds), *orders, *order)
+}
+
 /// The index of the first course that goes otherwise in this network.
 fn first_wrong(alloc: Global, asked: Asked, courses: &[Course]) -> Result<Option<usize>, Fail> {
     let net = net_of(alloc, asked)?;
-    Ok(
-        courses.iter().position(|(me, rounds, orders, order)| {
-            !is_decision(decided(alloc, &net, *me, rounds), *orders, *order)
-        }),
-    )
+    for (index, course) in courses.iter().enumerate() {
+        if !is_right(alloc, &net, course) {
+            return Ok(Some(index));
+        }
+    }
+    Ok(None)
 }
 
 /// Each relays what arrives to the next general, and never to one of the path. The last one adds the order
