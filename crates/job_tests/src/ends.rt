@@ -34,7 +34,9 @@ fn is_written(alloc: Global, negative: bool, want: JobEnd) -> Result<bool, Fail>
     let delivered = deliver(&mut writer, Ok(output));
     let taken = writer.taken.as_slice();
     Ok(
-        ends && taken.len() == 2 * LINE_DECISIONS.len()
+        written == want
+            && delivered == want
+            && taken.len() == 2 * LINE_DECISIONS.len()
             && taken.starts_with(LINE_DECISIONS)
             && taken.ends_with(LINE_DECISIONS),
     )
