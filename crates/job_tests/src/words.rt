@@ -93,6 +93,35 @@ fn audits_take_workers(rt: HostRuntime) {
     assert!(rt; first_other_audit(rt.alloc()) == None);
 }
 
+/// Returns whether the words ask for a picture by so many workers.
+fn asks_drawers<'a>(alloc: Global, words: &'a [&'a str], count: usize) -> bool {
+    match WorkerCount::new(count) {
+        Some(workers) => asks(alloc, words, Job::Draw { workers }),
+        None => false,
+    }
+}
+
+const PICTURES: [Numbered; 3] = [
+    (&["sm_tool", "draw"], 1),
+    (&["sm_tool", "draw", "--workers=9"], 9),
+    (&["sm_tool", "draw", "--workers", "16"], 16),
+];
+
+/// The index of the first words that do not ask for a picture by their workers.
+fn first_other_picture(alloc: Global) -> Option<usize> {
+    for (index, (words, count)) in PICTURES.iter().enumerate() {
+        if !asks_drawers(alloc, *words, usize::from(*count)) {
+            return Some(index);
+        }
+    }
+    None
+}
+
+#[test]
+fn pictures_take_workers(rt: HostRuntime) {
+    assert!(rt; first_other_picture(rt.alloc()) == None);
+}
+
 /// Returns whether the words ask for a run over edges of so much room that so many workers judge.
 fn asks_judges<'a>(alloc: Global, words: &'a [&'a str], capacity: u8, count: usize) -> bool {
     match WorkerCount::new(count) {
@@ -172,14 +201,14 @@ fn evidence_takes_nothing(rt: HostRuntime) {
 fn is_bad_number(alloc: Global, command: &str, option: &str) -> bool {
     match &read_words(alloc, &["sm_tool", command, option]) {
         Err(WordsFault::BadCapacity) => matches!(command, "run" | "campaign"),
-        Err(WordsFault::BadWorkers) => command == "audit",
+        Err(WordsFault::BadWorkers) => command == "audit" || command == "draw",
         Err(WordsFault::BadGeneral) => command == "accuse",
         _ => false,
     }
 }
 
 /// Commands, each with an option whose number is out of range.
-const OUT_OF_RANGE: [(&str, &str); 9] = [
+const OUT_OF_RANGE: [(&str, &str); 10] = [
     ("run", "--capacity=0"),
     ("run", "--capacity=17"),
     ("run", "--capacity=256"),
@@ -187,6 +216,7 @@ const OUT_OF_RANGE: [(&str, &str); 9] = [
     ("campaign", "--capacity=17"),
     ("audit", "--workers=0"),
     ("audit", "--workers=17"),
+    ("draw", "--workers=0"),
     ("accuse", "--general=16"),
     ("accuse", "--general=255"),
 ];
