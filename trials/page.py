@@ -194,16 +194,15 @@ class Given:
 
 
 def named_files():
-    """A bundle, bent and cut; a campaign; evidence, and it bent; what is neither."""
+    """The bundles, the campaign and the evidence of the examples; some of them bent and cut; what is neither."""
+    kept = [it for it in sorted(os.listdir(EXAMPLES)) if it.endswith((".bundle", ".bundles", ".evidence"))]
     bundle, evidence = read(EXAMPLES, "split.bundle"), read(EXAMPLES, "split.evidence")
     turned = lambda data, at: data[:at] + bytes([data[at] ^ 1]) + data[at + 1 :]
     return {
-        "split.bundle": bundle,
+        **{name: read(EXAMPLES, name) for name in kept},
         "bent.bundle": turned(bundle, len(bundle) - 1),
         "cut.bundle": bundle[:1000],
         "header.bundle": turned(bundle, 8),
-        "series.bundles": read(EXAMPLES, "series.bundles"),
-        "split.evidence": evidence,
         "bent.evidence": turned(evidence, len(evidence) - 1),
         "cut.evidence": evidence[:-1],
         "README.md": read(TOP, "README.md"),
@@ -303,8 +302,10 @@ def try_browser(program, page, bases, tally, folder):
         given = Given(shown, program, folder, tally)
         told = given.give(shown.drop, named_files())
         try_answers(told, tally)
-        evidence = {"split.bundle.0.evidence": read(EXAMPLES, "split.evidence")}
-        try_saved(shown, folder, tally, {**evidence, "split.bundle.svg": read(EXAMPLES, "split.svg")})
+        links = {"split.bundle.0.evidence": read(EXAMPLES, "split.evidence")}
+        drawn = [name[:-4] for name in os.listdir(EXAMPLES) if name.endswith(".svg") and f"{name[:-4]}.bundle" in told]
+        links |= {f"{name}.bundle.svg": read(EXAMPLES, f"{name}.svg") for name in drawn}
+        try_saved(shown, folder, tally, links)
         try_network(shown, page, tally)
         try_keys(shown, tally)
         try_looks(shown, tally)
