@@ -72,14 +72,27 @@ def try_text(page, tally):
     tally.hold("meanings", wrong)
 
 
+def refused_line(folder, tools):
+    """What the maker says, which makes no page, where the path has these tools alone."""
+    page = os.path.join(folder, "none.html")
+    words = [sys.executable, "-B", MAKER, page]
+    made = subprocess.run(words, env={**os.environ, "PATH": tools}, capture_output=True, text=True, check=False)
+    return made.stderr if made.returncode == 1 and not os.path.exists(page) else f"status {made.returncode}"
+
+
 def try_refused(folder, tally):
-    """That the maker says in one line why there is no page."""
-    bare = os.path.join(folder, "bare")
-    os.makedirs(bare)
-    words = [sys.executable, "-B", MAKER, os.path.join(folder, "none.html")]
-    made = subprocess.run(words, env={**os.environ, "PATH": bare}, capture_output=True, text=True, check=False)
-    is_right = made.returncode == 1 and len(made.stderr.splitlines()) == 1 and made.stderr.startswith("make_page.py: rt")
-    tally.hold("make_page.py without rt", None if is_right else f"status {made.returncode}, {made.stderr[:200]!r}")
+    """That the maker says in one line why there is no page: there is no kit, or another."""
+    tools = os.path.join(folder, "tools")
+    os.makedirs(tools)
+    wanted = "make_page.py: rt, the command of the Rattle kit, is not on the path\n"
+    said = refused_line(folder, tools)
+    tally.hold("make_page.py without rt", None if said == wanted else repr(said[:300]))
+    with open(os.path.join(tools, "rt"), "w", encoding="ascii") as it:
+        it.write("#!/bin/sh\necho another-kit logic 0\n")
+    os.chmod(it.name, 0o755)
+    said = refused_line(folder, tools)
+    is_told = said.startswith("make_page.py: the toolchain is another-kit, ") and said.count("\n") == 1
+    tally.hold("make_page.py with another kit", None if is_told else repr(said[:300]))
 
 
 # Bent files, by Node.

@@ -51,9 +51,9 @@ async function refusals() {
   document.addEventListener("securitypolicyviolation", hear);
   const image = document.createElement("img"), frame = document.createElement("iframe");
   const script = document.createElement("script");
-  image.src = "https://localhost/", frame.src = "https://localhost/", script.textContent = "window.wasRun = true";
+  image.src = "https://nowhere.invalid/", frame.src = "https://nowhere.invalid/", script.textContent = "window.wasRun = true";
   document.body.append(image, frame, script);
-  await fetch("https://localhost/").catch(() => {});
+  await fetch("https://nowhere.invalid/").catch(() => {});
   await new Promise(done => { setTimeout(done, 200); });
   for (const it of [image, frame, script]) it.remove();
   document.removeEventListener("securitypolicyviolation", hear);
