@@ -114,8 +114,14 @@ class Browser:
             self.call(f"{part}.enable")
         self.call("Network.emulateNetworkConditions", offline=True, latency=0, downloadThroughput=0, uploadThroughput=0)
         self.events.clear()
+        self.run("window.isOld = true")
         self.call("Page.navigate", url=f"file://{path}")
-        self.wait("document.readyState === 'complete' && location.protocol === 'file:'")
+        self.wait("document.readyState === 'complete' && location.protocol === 'file:' && !window.isOld")
+
+    def run_before(self, script):
+        """A script that runs from now on before those of each page that is opened. Returns what takes it back."""
+        number = self.call("Page.addScriptToEvaluateOnNewDocument", source=script)["identifier"]
+        return lambda: self.call("Page.removeScriptToEvaluateOnNewDocument", identifier=number)
 
     def drop(self, paths):
         """Drops files on the page."""

@@ -34,6 +34,14 @@ TINY = "process.exit(WebAssembly.validate(Uint8Array.of(0, 97, 115, 109, 1, 0, 0
 # The least contrast between text and what is behind it, by WCAG 2, level AA.
 CONTRAST = 4.5
 NARROW = 320
+# Browsers that lack something, each made of this one by a script, with what the page then says of a file.
+LACKING = {
+    "64-bit memories": ("WebAssembly.validate = () => false;"
+                        "WebAssembly.compile = () => Promise.reject(new Error('lacking'));", "Not judged."),
+    "memory": ("const whole = WebAssembly.instantiate.bind(WebAssembly); WebAssembly.instantiate = async (...given) =>"
+               "({ exports: { ...(await whole(...given)).exports, room: () => 0n } });",
+               "Not judged: memory was refused."),
+}
 
 
 def read(*path):
@@ -293,6 +301,21 @@ def try_looks(shown, tally):
     tally.hold("page, narrow", None if width <= NARROW else f"{width} wide")
 
 
+def try_lacking(shown, page, tally):
+    """What the page says where the browser lacks something."""
+    for lack, (script, wanted) in LACKING.items():
+        take_back = shown.run_before(script)
+        shown.open(page)
+        shown.run(read(HERE, "page_looks.js").decode())
+        is_told = shown.run("document.getElementById('lacking').checkVisibility()")
+        shown.choose("#file", [os.path.join(EXAMPLES, "split.bundle")])
+        shown.wait("document.querySelectorAll('article').length")
+        said = shown.run("last.then(answers)")[0]["said"]
+        is_right = said == wanted and is_told == (lack == "64-bit memories")
+        tally.hold(f"page, without {lack}", None if is_right else f"{said!r}, {is_told}")
+        take_back()
+
+
 def try_network(shown, page, tally):
     """That nothing but the page was asked for, and that its policy refuses more."""
     urls = [it["params"]["request"]["url"] for it in shown.events if it["method"] == "Network.requestWillBeSent"]
@@ -328,6 +351,7 @@ def try_browser(program, page, bases, tally, folder):
         given.give(lambda paths: shown.choose("#file", paths), bent)
         faults = [it for it in shown.events if it["method"] == "Runtime.exceptionThrown"]
         tally.hold("page, no exception", f"{faults[0]['params']}"[:400] if faults else None)
+        try_lacking(shown, page, tally)
 
 
 def trials(program, tally):
