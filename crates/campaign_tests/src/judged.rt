@@ -1,5 +1,5 @@
-//! Audits of campaigns: of runs of two generals whose rings are made anew for each run, so that two runs of one slot sign
-//! under the same leaves.
+//! Audits of campaigns: of runs of two generals whose rings are made anew for each run, so that two runs of
+//! one slot sign under the same leaves.
 use crate::scenarios::{FIRST, FIRST_OF_ONE, SECOND_OF_ONE, scenario_of};
 use gen_audit::{Bundle, JobGate, Judgement, Verdict, WorkerCount, write_bundle};
 use gen_campaign::{CampaignFault, CampaignVerdict, audit_campaign, read_campaign};
@@ -21,7 +21,8 @@ impl JobGate for Open {
     fn begin(&self, _piece: usize) {}
 }
 
-/// A scenario's text, the bits of the generals who are held for faulty, and those of the generals whose logs are shown.
+/// A scenario's text, the bits of the generals who are held for faulty, and those of the generals whose logs
+/// are shown.
 type Shown<'a> = (&'a [u8], u16, u16);
 
 /// All is shown of the first run.

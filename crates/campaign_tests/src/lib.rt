@@ -1,5 +1,5 @@
-//! This crate has the tests of campaigns: of `gen_series`, which runs them, and of `gen_campaign`, which reads and judges
-//! what is shown of them.
+//! This crate has the tests of campaigns: of `gen_series`, which runs them, and of `gen_campaign`, which
+//! reads and judges what is shown of them.
 #![tactic(auto)]
 
 #[cfg(test)]

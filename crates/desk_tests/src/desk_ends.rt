@@ -7,8 +7,8 @@ use std::alloc::Global;
 use std::sync::Wait;
 use std::test::*;
 
-/// Whether the next two claims are of places 0 and 1, and the desk says that all is reported on after these two
-/// alone.
+/// Whether the next two claims are of places 0 and 1, and the desk says that all is reported on after these
+/// two alone.
 fn reports_two<R: Wait>(rt: &R, alloc: Global, desk: &Desk, header: &Header) -> Result<bool, Fail> {
     for place in 0..2 {
         if desk.all_reported(rt) {

@@ -23,7 +23,8 @@ fn claimed_once<R: Wait>(
     Ok((desk, claim))
 }
 
-/// Files by a slip what is refused: the place of the slip and the general of the log that come back, and the fault.
+/// Files by a slip what is refused: the place of the slip and the general of the log that come back, and the
+/// fault.
 fn refused_log<R: Wait>(
     rt: &R,
     desk: &Desk,
@@ -36,7 +37,8 @@ fn refused_log<R: Wait>(
     }
 }
 
-/// Files the last log by the last slip of another desk of so many places, and gives the others up: what comes back.
+/// Files the last log by the last slip of another desk of so many places, and gives the others up: what comes
+/// back.
 fn refused_by_strange_slip<R: Wait>(
     rt: &R,
     alloc: Global,
@@ -67,7 +69,8 @@ fn slips_of_another_desk(rt: HostRuntime) -> Result<(), Fail> {
     Ok(())
 }
 
-/// Reports what is refused: the place of the claim and the general of the report that come back, and the fault.
+/// Reports what is refused: the place of the claim and the general of the report that come back, and the
+/// fault.
 fn refused_report<R: Wait>(
     rt: &R,
     desk: &Desk,

@@ -75,7 +75,8 @@ StandsBefore s g (Some (Takes l h)) r = StandsAtTake s g l h r
 abbrev pub recorded_bytes : Recorder → List ℕ
 recorded_bytes r = flat_map entry_spelling (Start r.standing.known.me r.standing.known.own ∷ r.written)
 
--- he has heard the last frame of a round already, and has yet to begin the next: so much of his log stood before
+-- he has heard the last frame of a round already, and has yet to begin the next: so much of his log stood
+-- before
 pub record HasHeardLast (s : Scenario) (g progress : ℕ) (r : Recorder) (shown : ℕ) : Type 0 where
   pub gone : ℕ
   pub in_time : gone < rounds s.net
@@ -94,7 +95,8 @@ IsActing s g progress r None = StandsBefore s g (slice_get (acts_of s.net g) pro
 IsActing s g progress r (Some shown) = HasHeardLast s g progress r shown
 
 -- what the fields of a general keep
-pub record IsActor (s : Scenario) (g : ℕ) (acts : List Act) (progress : ℕ) (r : Recorder) (waiting : Option ℕ) : Type 0 where
+pub record IsActor (s : Scenario) (g : ℕ) (acts : List Act) (progress : ℕ) (r : Recorder)
+    (waiting : Option ℕ) : Type 0 where
   pub lawful : IsScenario s
   pub known : g < s.net.generals
   pub planned : acts ≡ acts_of s.net g
@@ -109,5 +111,6 @@ is_put (Some (Takes l h)) = false
 
 -- he hears a frame, unless he has heard it already
 abbrev pub HearsOnce : Recorder → Option ℕ → ℕ → List (List ℕ) → Recorder → Option ℕ → Type 0
-HearsOnce old None from frame new waiting = (new ≡ with_recvs old from frame) × (waiting ≡ Some (length (recorded_bytes old)))
+HearsOnce old None from frame new waiting =
+    (new ≡ with_recvs old from frame) × (waiting ≡ Some (length (recorded_bytes old)))
 HearsOnce old (Some shown) from frame new waiting = (new ≡ old) × (waiting ≡ Some shown)

@@ -1,4 +1,5 @@
--- What lies on the queues and what the generals took, over any world of frames: world l a b is what a sends b in round l.
+-- What lies on the queues and what the generals took, over any world of frames: world l a b is what a sends b
+-- in round l.
 use Rattle.std.specs.Prelude.{ℕ, ◌≡◌, ◌+◌, ◌-◌, ◌≤◌, ◌==◌, ◌&&◌, List, [], ◌∷◌, ◌++◌, length, map, fold, Option, Some, None, nat_lt, slice_index, slice_set, if◌then◌else◌}
 use Rattle.std.specs.List.{flat_map, range_with_len}
 use Rattle.gen_net.specs.Network.{Network, IsNetwork, rounds, AreNeighbours}
@@ -8,9 +9,11 @@ use Rattle.gen_scenario.specs.SignedWorld.{neighbours_of}
 use Rattle.gen_async.specs.Machine.{at_start, moved_acts, next_act, taken, queued, after}
 use Rattle.gen_async.specs.Laws.{AreActs}
 
--- the queue from a to b: the frames of this edge in the world, from the number taken plus one to the number put, in order
+-- the queue from a to b: the frames of this edge in the world, from the number taken plus one to the number
+-- put, in order
 unfoldable pub queue : {F : Type 0} → Network → (ℕ → ℕ → ℕ → F) → List ℕ → ℕ → ℕ → List F
-queue net world progress a b = map (λ l. world l a b) (range_with_len (taken net progress a b + 1) (queued net progress a b))
+queue net world progress a b =
+    map (λ l. world l a b) (range_with_len (taken net progress a b + 1) (queued net progress a b))
 
 -- a frame that a general took: in which round, from whom, and the frame
 pub record Arrival (F : Type 0) : Type 0 where
@@ -22,19 +25,22 @@ pub record Arrival (F : Type 0) : Type 0 where
 abbrev pub taken_by : {F : Type 0} → (ℕ → ℕ → ℕ → F) → ℕ → List Act → List (Arrival F)
 taken_by world g [] = []
 taken_by world g (Puts l h ∷ acts) = taken_by world g acts
-taken_by world g (Takes l h ∷ acts) = record { round = l; from = h; frame = world l h g } ∷ taken_by world g acts
+taken_by world g (Takes l h ∷ acts) =
+    record { round = l; from = h; frame = world l h g } ∷ taken_by world g acts
 
 -- what g has taken so far
 unfoldable pub took : {F : Type 0} → Network → (ℕ → ℕ → ℕ → F) → List ℕ → ℕ → List (Arrival F)
 took net world progress g = taken_by world g (moved_acts net progress g)
 
--- what comes to g in so many rounds from round l on: the frames from his neighbours in ascending order, round by round
+-- what comes to g in so many rounds from round l on: the frames from his neighbours in ascending order, round
+-- by round
 abbrev pub heard_in : {F : Type 0} → Network → (ℕ → ℕ → ℕ → F) → ℕ → ℕ → ℕ → List (Arrival F)
 heard_in net world g l count =
     flat_map (λ k. map (λ h. record { round = k; from = h; frame = world k h g }) (neighbours_of net g))
     (range_with_len l count)
 
--- The world is what these participants make: the frame of round l from g follows from what came to g in earlier rounds.
+-- The world is what these participants make: the frame of round l from g follows from what came to g in
+-- earlier rounds.
 abbrev pub IsMadeBy : {F : Type 0} → Network → (ℕ → List (Arrival F) → ℕ → ℕ → F) → (ℕ → ℕ → ℕ → F) → Type 0
 IsMadeBy net says world =
     (g l h : ℕ) → 1 ≤ l → l ≤ rounds net → AreNeighbours net g h
@@ -62,9 +68,10 @@ run_take s g l h (frame ∷ rest) = record {
   taken = with_one s.taken g (s.taken g ++ record { round = l; from = h; frame = frame } ∷ []);
 }
 
--- An attempt at this act: a put appends the frame that follows from what g took, where the queue isn't full; a take removes the
--- front, where there is one.
-abbrev pub run_act : {F : Type 0} → (ℕ → List (Arrival F) → ℕ → ℕ → F) → ℕ → Running F → ℕ → Option Act → Running F
+-- An attempt at this act: a put appends the frame that follows from what g took, where the queue isn't full;
+-- a take removes the front, where there is one.
+abbrev pub run_act : {F : Type 0} → (ℕ → List (Arrival F) → ℕ → ℕ → F) → ℕ → Running F → ℕ → Option Act
+    → Running F
 run_act says capacity s g None = s
 run_act says capacity s g (Some (Puts l h)) =
     if nat_lt (length (s.queues g h)) capacity
@@ -76,7 +83,8 @@ run_act says capacity s g (Some (Puts l h)) =
     else s
 run_act says capacity s g (Some (Takes l h)) = run_take s g l h (s.queues h g)
 
-unfoldable pub run_step : {F : Type 0} → Network → (ℕ → List (Arrival F) → ℕ → ℕ → F) → ℕ → Running F → ℕ → Running F
+unfoldable pub run_step : {F : Type 0} → Network → (ℕ → List (Arrival F) → ℕ → ℕ → F) → ℕ → Running F → ℕ
+    → Running F
 run_step net says capacity s g = run_act says capacity s g (next_act net s.progress g)
 
 abbrev pub run_start : {F : Type 0} → Network → Running F
@@ -87,16 +95,18 @@ pub record IsOfWorld {F : Type 0} (net : Network) (world : ℕ → ℕ → ℕ �
   pub queues_same : (a b : ℕ) → s.queues a b ≡ queue net world s.progress a b
   pub taken_same : (g : ℕ) → s.taken g ≡ took net world s.progress g
 
--- Whatever the acts, in a world that the participants make they put the world's frames: the queue of an edge holds them from the
--- number taken plus one to the number put, in order.
+-- Whatever the acts, in a world that the participants make they put the world's frames: the queue of an edge
+-- holds them from the number taken plus one to the number put, in order.
 pub record RunsAsWorld {F : Type 0} (net : Network) (says : ℕ → List (Arrival F) → ℕ → ℕ → F)
     (world : ℕ → ℕ → ℕ → F) (capacity : ℕ) (acts : List ℕ) : Type 0 where
-  pub progress : (fold (run_step net says capacity) (run_start net) acts).progress ≡ after net capacity (at_start net) acts
+  pub progress : (fold (run_step net says capacity) (run_start net) acts).progress
+      ≡ after net capacity (at_start net) acts
   pub world_holds : IsOfWorld net world (fold (run_step net says capacity) (run_start net) acts)
 
 abbrev pub RunLaw : Type 0 → Type 0
 RunLaw F =
-    (net : Network) (says : ℕ → List (Arrival F) → ℕ → ℕ → F) (world : ℕ → ℕ → ℕ → F) (capacity : ℕ) (acts : List ℕ)
+    (net : Network) (says : ℕ → List (Arrival F) → ℕ → ℕ → F) (world : ℕ → ℕ → ℕ → F) (capacity : ℕ)
+    (acts : List ℕ)
     → IsNetwork net → IsMadeBy net says world → AreActs net acts → RunsAsWorld net says world capacity acts
 
 -- What a general has taken before his put of round l is what comes to him in the rounds before.

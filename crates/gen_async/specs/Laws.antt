@@ -6,8 +6,8 @@ use Rattle.gen_async.specs.declared.acts.Act.TheVariants.{Puts, Takes}
 use Rattle.gen_async.specs.Acts.{acts_of}
 use Rattle.gen_async.specs.Machine.{at_start, next_act, put, taken, answer, has_moved, after, moves_in, mover}
 
--- What holds of a machine at all times: each general has come some way along the list of his acts, at most to its end, and no queue holds less
--- than nothing or more than the capacity.
+-- What holds of a machine at all times: each general has come some way along the list of his acts, at most to
+-- its end, and no queue holds less than nothing or more than the capacity.
 pub record IsMachine (net : Network) (capacity : ℕ) (progress : List ℕ) : Type 0 where
   pub generals : length progress ≡ net.generals
   pub within : (g : ℕ) → slice_index progress g ≤ length (acts_of net g)
@@ -24,9 +24,10 @@ QueueLaw =
     (net : Network) (capacity : ℕ) (acts : List ℕ) → IsNetwork net → AreActs net acts
     → IsMachine net capacity (after net capacity (at_start net) acts)
 
--- Where g stands by his next act. Before his put of round l to h he has put l - 1 frames to h, taken all frames of the rounds before
--- and put to each neighbour l - 1 or l frames. Before his take of round l from h he has put l frames to each neighbour, taken l - 1
--- from h and l - 1 or l from each neighbour. Without a next act he has put and taken R.
+-- Where g stands by his next act. Before his put of round l to h he has put l - 1 frames to h, taken all
+-- frames of the rounds before and put to each neighbour l - 1 or l frames. Before his take of round l from h
+-- he has put l frames to each neighbour, taken l - 1 from h and l - 1 or l from each neighbour. Without a
+-- next act he has put and taken R.
 pub record IsAtPut (net : Network) (progress : List ℕ) (g l h : ℕ) : Type 0 where
   pub joined : AreNeighbours net g h
   pub first : 1 ≤ l
@@ -40,7 +41,8 @@ pub record IsAtTake (net : Network) (progress : List ℕ) (g l h : ℕ) : Type 0
   pub first : 1 ≤ l
   pub last : l ≤ rounds net
   pub here : taken net progress h g + 1 ≡ l
-  pub others : (x : ℕ) → AreNeighbours net g x → (l ≤ taken net progress x g + 1) × (taken net progress x g ≤ l)
+  pub others : (x : ℕ) → AreNeighbours net g x → (l ≤ taken net progress x g + 1)
+      × (taken net progress x g ≤ l)
   pub gave : (x : ℕ) → AreNeighbours net g x → put net progress g x ≡ l
 
 pub record IsAtEnd (net : Network) (progress : List ℕ) (g : ℕ) : Type 0 where
@@ -54,7 +56,9 @@ IsAt net progress g (Some (Puts l h)) = IsAtPut net progress g l h
 IsAt net progress g (Some (Takes l h)) = IsAtTake net progress g l h
 
 abbrev pub ProgressLaw : Type 0
-ProgressLaw = (net : Network) (progress : List ℕ) (g : ℕ) → IsNetwork net → IsAt net progress g (next_act net progress g)
+ProgressLaw =
+    (net : Network) (progress : List ℕ) (g : ℕ) → IsNetwork net
+    → IsAt net progress g (next_act net progress g)
 
 -- nobody has an act left
 abbrev pub AllDone : Network → List ℕ → Type 0
@@ -67,10 +71,12 @@ pub record MoverNames (net : Network) (capacity : ℕ) (progress : List ℕ) (na
 
 abbrev pub MoverLaw : Type 0
 MoverLaw =
-    (net : Network) (capacity : ℕ) (progress : List ℕ) → IsNetwork net → 1 ≤ capacity → IsMachine net capacity progress
+    (net : Network) (capacity : ℕ) (progress : List ℕ) → IsNetwork net → 1 ≤ capacity
+    → IsMachine net capacity progress
     → MoverNames net capacity progress (mover net capacity progress)
 
--- as many acts have moved as the progress of all adds up to, at most four times R for each edge, and just so many once all are done
+-- as many acts have moved as the progress of all adds up to, at most four times R for each edge, and just so
+-- many once all are done
 pub record CountsMoves (net : Network) (capacity : ℕ) (acts progress : List ℕ) : Type 0 where
   pub counted : moves_in net capacity (at_start net) acts ≡ sum progress
   pub at_most : sum progress ≤ 4 * length net.edges * rounds net

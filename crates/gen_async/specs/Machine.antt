@@ -30,11 +30,14 @@ taken net progress a b = count_by (is_take_from a) (moved_acts net progress b)
 abbrev pub queued : Network → List ℕ → ℕ → ℕ → ℕ
 queued net progress a b = put net progress a b - taken net progress a b
 
--- What becomes of an attempt of g at this act: a put moves where the queue isn't full, a take where it isn't empty.
+-- What becomes of an attempt of g at this act: a put moves where the queue isn't full, a take where it isn't
+-- empty.
 abbrev pub answer_to : Network → ℕ → List ℕ → ℕ → Option Act → Moved
 answer_to net capacity progress g None = Done
-answer_to net capacity progress g (Some (Puts l h)) = if nat_lt (queued net progress g h) capacity then Put else Blocked
-answer_to net capacity progress g (Some (Takes l h)) = if nat_lt 0 (queued net progress h g) then Took else Blocked
+answer_to net capacity progress g (Some (Puts l h)) =
+    if nat_lt (queued net progress g h) capacity then Put else Blocked
+answer_to net capacity progress g (Some (Takes l h)) =
+    if nat_lt 0 (queued net progress h g) then Took else Blocked
 
 unfoldable pub answer : Network → ℕ → List ℕ → ℕ → Moved
 answer net capacity progress g = answer_to net capacity progress g (next_act net progress g)
@@ -48,7 +51,8 @@ has_moved Done = false
 -- one attempt of g at his next act
 unfoldable pub step : Network → ℕ → List ℕ → ℕ → List ℕ
 step net capacity progress g =
-    if has_moved (answer net capacity progress g) then slice_set progress g (slice_index progress g + 1) else progress
+    if has_moved (answer net capacity progress g) then slice_set progress g (slice_index progress g + 1)
+    else progress
 
 -- the attempts of these generals, one after the other
 abbrev pub after : Network → ℕ → List ℕ → List ℕ → List ℕ
@@ -58,8 +62,10 @@ after net capacity progress generals = fold (step net capacity) progress general
 abbrev pub moves_in : Network → ℕ → List ℕ → List ℕ → ℕ
 moves_in net capacity progress [] = 0
 moves_in net capacity progress (g ∷ more) =
-    cond (has_moved (answer net capacity progress g)) 1 0 + moves_in net capacity (step net capacity progress g) more
+    cond (has_moved (answer net capacity progress g)) 1 0 + moves_in net capacity
+    (step net capacity progress g) more
 
 -- the first general whose next act moves
 unfoldable pub mover : Network → ℕ → List ℕ → Option ℕ
-mover net capacity progress = find (λ g. has_moved (answer net capacity progress g)) (range_with_len 0 net.generals)
+mover net capacity progress =
+    find (λ g. has_moved (answer net capacity progress g)) (range_with_len 0 net.generals)

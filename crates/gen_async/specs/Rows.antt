@@ -9,13 +9,21 @@ use Rattle.gen_async.specs.Machine.{at_start, answer, step, after, mover}
 -- what the attempts of these generals answer, one after the other
 abbrev pub answers : Network → ℕ → List ℕ → List ℕ → List Moved
 answers net capacity progress [] = []
-answers net capacity progress (g ∷ more) = answer net capacity progress g ∷ answers net capacity (step net capacity progress g) more
+answers net capacity progress (g ∷ more) =
+    answer net capacity progress g ∷ answers net capacity (step net capacity progress g) more
 
 abbrev pub pair : Network
 pair = record { generals = 2; edges = (0, 1) ∷ []; traitors = 0; diameter = 1; orders = 2; choice = Only }
 
 abbrev pub triangle : Network
-triangle = record { generals = 3; edges = (0, 1) ∷ (0, 2) ∷ (1, 2) ∷ []; traitors = 1; diameter = 1; orders = 2; choice = Only }
+triangle = record {
+  generals = 3;
+  edges = (0, 1) ∷ (0, 2) ∷ (1, 2) ∷ [];
+  traitors = 1;
+  diameter = 1;
+  orders = 2;
+  choice = Only;
+}
 
 abbrev pub PairRow : Type 0
 PairRow =

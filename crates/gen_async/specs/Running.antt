@@ -31,13 +31,15 @@ abbrev pub with_queue : {F : Type 0} → List (List F) → ℕ → ℕ → List 
 with_queue rows a b held = slice_set rows (a * 16 + b) held
 
 -- the generals are the scenario's, in order, and the queues are what the progress of all says
-pub record IsKept (s : Scenario) (capacity : ℕ) (progress : List ℕ) (actors : List ActorState) (rows : List (List (List (List ℕ)))) : Type 0 where
+pub record IsKept (s : Scenario) (capacity : ℕ) (progress : List ℕ) (actors : List ActorState)
+    (rows : List (List (List (List ℕ)))) : Type 0 where
   pub lawful : IsScenario s
   pub machine : IsMachine s.net capacity progress
   pub all_actors : length actors ≡ s.net.generals
   pub all_rows : length rows ≡ 256
   pub acting : (g : ℕ) (d : ActorState) → g < s.net.generals
-      → ◌≡◌ {A = ActorState} (slice_index_or actors g d) (record { scenario = s; me = g; progress = slice_index progress g })
+      → ◌≡◌ {A = ActorState} (slice_index_or actors g d)
+      (record { scenario = s; me = g; progress = slice_index progress g })
   pub queued_up : (a b : ℕ) → a < 16 → b < 16 → queue_at rows a b ≡ queue s.net (frame_at s) progress a b
 
 -- ---- attempts

@@ -1,4 +1,5 @@
--- The machine of a scenario: whatever the order of acts, its generals put the frames of the scenario's run and write its logs.
+-- The machine of a scenario: whatever the order of acts, its generals put the frames of the scenario's run
+-- and write its logs.
 use Rattle.std.specs.Prelude.{ℕ, ◌≡◌, ◌-◌, ◌≤◌, List, [], ◌∷◌, ◌++◌, map, length, slice_index}
 use Rattle.std.specs.List.{flat_map}
 use Rattle.gen_log.specs.declared.entries.Entry.{Entry}
@@ -23,7 +24,8 @@ use Rattle.gen_async.specs.Logs.{log_so_far, whole_log}
 -- what counts of a frame that came to a general
 abbrev pub heard_of_arrival : Scenario → ℕ → Arrival (List (List ℕ)) → List Heard
 heard_of_arrival s g a =
-    map (λ c. record { from = a.from; chain = c }) (counted_of (header_of s) (delivery a.round a.from g) a.frame)
+    map (λ c. record { from = a.from; chain = c })
+    (counted_of (header_of s) (delivery a.round a.from g) a.frame)
 
 -- the frame that a general of the scenario puts, by what came to him
 abbrev pub puts_by : Scenario → ℕ → List (Arrival (List (List ℕ))) → ℕ → ℕ → List (List ℕ)
@@ -47,12 +49,14 @@ written_by s g Decides = decide_entry s.net (own_order s g) (middle_of s g) ∷ 
 
 -- by all his steps he writes the entries of his log in the scenario's run
 abbrev pub WritesLog : Type 0
-WritesLog = (s : Scenario) (g : ℕ) → whole_log s.net (written_by s) g ≡ entries_over (sender_of s g) (middle_of s g)
+WritesLog =
+    (s : Scenario) (g : ℕ) → whole_log s.net (written_by s) g ≡ entries_over (sender_of s g) (middle_of s g)
 
 -- however far all have come, what he has written begins them, and is all of them once he is done
 pub record BeginsLog (s : Scenario) (progress : List ℕ) (g : ℕ) : Type 0 where
   pub rest : List Entry
-  pub begins : entries_over (sender_of s g) (middle_of s g) ≡ log_so_far s.net (written_by s) progress g ++ rest
+  pub begins : entries_over (sender_of s g) (middle_of s g) ≡ log_so_far s.net (written_by s) progress g
+      ++ rest
   pub whole : length (acts_of s.net g) ≤ slice_index progress g
       → log_so_far s.net (written_by s) progress g ≡ entries_over (sender_of s g) (middle_of s g)
 

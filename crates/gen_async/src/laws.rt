@@ -20,7 +20,8 @@ pub fn movers()
     ensures { MoverLaw }
 {}
 
-/// As many acts have moved as the progress of all adds up to, and never more than four for each edge and round.
+/// As many acts have moved as the progress of all adds up to, and never more than four for each edge and
+/// round.
 pub fn counts()
     ensures { CountLaw }
 {}
@@ -53,9 +54,9 @@ pub fn rows()
     ensures roomy { TriangleTwo }
 {}
 
-/// Whatever the order of acts and the capacity, the queues hold the frames of the scenario's run (`frames`). By all his
-/// steps a general writes the entries of his first log in that run (`writes`), what he has written so far begins them
-/// and is all of them once he is done (`begins`).
+/// Whatever the order of acts and the capacity, the queues hold the frames of the scenario's run (`frames`).
+/// By all his steps a general writes the entries of his first log in that run (`writes`), what he has written
+/// so far begins them and is all of them once he is done (`begins`).
 pub fn scenario_runs()
     ensures frames { PutsFrames }
     ensures writes { WritesLog }

@@ -6,10 +6,12 @@ use Rattle.gen_walks.specs.Walks.{IsRestOf, BoundsDiameter}
 use Rattle.gen_match.specs.Matching.{Logs, Logged}
 use Rattle.gen_audit.specs.Explained.{IsExplained}
 
--- the logs agree on an order: each of the rest decides it, nobody of them another, and a commander of the rest started with it
+-- the logs agree on an order: each of the rest decides it, nobody of them another, and a commander of the
+-- rest started with it
 pub record AgreesOn (net : Network) (faulty : List ℕ) (logs : Logs) (order : ℕ) : Type 0 where
   pub decided : (g : ℕ) → IsLoyal net faulty g → (orders : List ℕ) × Logged logs g (Decided orders order)
-  pub alone : (g : ℕ) → IsLoyal net faulty g → (orders : List ℕ) (other : ℕ) → Logged logs g (Decided orders other)
+  pub alone : (g : ℕ) → IsLoyal net faulty g → (orders : List ℕ) (other : ℕ)
+      → Logged logs g (Decided orders other)
       → other ≡ order
   pub obeyed : IsLoyal net faulty 0 → (own : Option ℕ) → Logged logs 0 (Started 0 own) → own ≡ Some order
 
@@ -20,8 +22,10 @@ pub record HasFewFaulty (net : Network) (faulty rest : List ℕ) (walks : List (
   pub bound : BoundsDiameter net rest walks
   pub somebody : (g : ℕ) × IsLoyal net faulty g
 
--- then the logs that a run explains agree on an order (Theorem 4 of section 5 of the paper of 1982, said of logs)
+-- then the logs that a run explains agree on an order (Theorem 4 of section 5 of the paper of 1982, said of
+-- logs)
 abbrev pub FewFaultyAgree : Type 0
 FewFaultyAgree =
-    (net : Network) (faulty rest : List ℕ) (walks : List (List ℕ)) (logs : Logs) → HasFewFaulty net faulty rest walks
+    (net : Network) (faulty rest : List ℕ) (walks : List (List ℕ)) (logs : Logs)
+    → HasFewFaulty net faulty rest walks
     → IsExplained net faulty logs → (order : ℕ) × AgreesOn net faulty logs order

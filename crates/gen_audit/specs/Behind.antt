@@ -1,16 +1,19 @@
--- Lists of which each member is checked, or read, behind the one before it: mark is what the next one has to know of a member.
+-- Lists of which each member is checked, or read, behind the one before it: mark is what the next one has to
+-- know of a member.
 use Rattle.std.specs.Prelude.{ℕ, zero, suc, List, [], ◌∷◌, Result, Ok}
 use Rattle.gen_types.specs.Reading.{◌>>=◌}
 
 -- the first fault of a list's members
-unfoldable pub check_behind : {A S F : Type 0} → (S → A → Result (Unit {0}) F) → (A → S) → S → List A → Result (Unit {0}) F
+unfoldable pub check_behind : {A S F : Type 0} → (S → A → Result (Unit {0}) F) → (A → S) → S → List A
+    → Result (Unit {0}) F
 check_behind rule mark before [] = Ok tt
 check_behind rule mark before (x ∷ xs) = do
   here ← rule before x
   check_behind rule mark (mark x) xs
 
 -- n fields of one kind, one after another
-unfoldable pub many_behind : {A S F : Type 0} → (S → List ℕ → Result (A × List ℕ) F) → (A → S) → S → ℕ → List ℕ → Result (List A × List ℕ) F
+unfoldable pub many_behind : {A S F : Type 0} → (S → List ℕ → Result (A × List ℕ) F) → (A → S) → S → ℕ
+    → List ℕ → Result (List A × List ℕ) F
 many_behind read mark before zero bytes = Ok ([], bytes)
 many_behind read mark before (suc n) bytes = do
   first ← read before bytes

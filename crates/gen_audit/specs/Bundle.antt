@@ -19,7 +19,8 @@ pub record Bundle : Type 0 where
   pub walks : List (List ℕ)
   pub exhibits : List LogBytes
 
--- what each bundle keeps: its header is one, its parts are about the header's network, and what is shown are bytes
+-- what each bundle keeps: its header is one, its parts are about the header's network, and what is shown are
+-- bytes
 pub record IsBundle (b : Bundle) : Type 0 where
   pub header : IsHeader b.header
   pub faulty : AreMembers b.header.network.generals b.faulty

@@ -1,4 +1,5 @@
--- Reading the mark, the header and the set in front of a bundle from left to right, with the first fault that is met.
+-- Reading the mark, the header and the set in front of a bundle from left to right, with the first fault that
+-- is met.
 use Rattle.std.specs.Prelude.{ℕ, List, Result, Ok}
 use Rattle.std.specs.Int.{w16}
 use Rattle.gen_types.specs.Bits.{members_of}

@@ -8,7 +8,8 @@ use Rattle.gen_log.specs.Fields.{set_spelling}
 use Rattle.gen_log.specs.Writing.{LogBytes}
 use Rattle.gen_audit.specs.Bundle.{Bundle}
 
--- the first four bytes as a number, big-endian: `SMB1` before a header of version 1, `SMB2` before one of version 2
+-- the first four bytes as a number, big-endian: `SMB1` before a header of version 1, `SMB2` before one of
+-- version 2
 abbrev pub bundle_marks : Marks
 bundle_marks = record { one = 1397572145; two = 1397572146 }
 

@@ -55,11 +55,13 @@ IsFinding b (Missing g) = IsOfRest b g × (exhibits_of b.exhibits g ≡ [])
 IsFinding b (Several g) =
     IsOfRest b g × ((x y : LogBytes) × (more : List LogBytes) × (exhibits_of b.exhibits g ≡ x ∷ y ∷ more))
 IsFinding b (Unreadable g fault) =
-    IsOfRest b g × ((x : LogBytes) × Contains (exhibits_of b.exhibits g) x × (log_of b.header x.bytes ≡ Err fault))
+    IsOfRest b g
+    × ((x : LogBytes) × Contains (exhibits_of b.exhibits g) x × (log_of b.header x.bytes ≡ Err fault))
 IsFinding b (Foreign g) = (log : RunLog) × Shows b g log × (SaysItIsOf b.header g log → ⊥)
 IsFinding b (Unsigned g p) = (log : RunLog) × ShowsOwn b g log × FailsAt b.header log.entries p
 IsFinding b (Unsealed g) = (log : RunLog) × ShowsOwn b g log × (HeadVerifies b.header g log → ⊥)
-IsFinding b (Departs g p) = (log : RunLog) × ShowsOwn b g log × DepartsAt b.header.network g (erased log.entries) p
+IsFinding b (Departs g p) =
+    (log : RunLog) × ShowsOwn b g log × DepartsAt b.header.network g (erased log.entries) p
 IsFinding b (Unmatched a c l v) = IsUnmatched b.header.network b.faulty (logs_of b) a c l v
 IsFinding b (Underivable a c l v) = IsUnderivable b.header.network b.faulty (logs_of b) a c l v
 IsFinding b (Unjoined a c) = IsUnjoined b a c

@@ -16,8 +16,8 @@ IsYes (No findings) = ⊥
 pub record Headline (b : Bundle) (verdict : Verdict) : Type 0 where
   -- it is a yes exactly where the bundle supports it
   pub exactly : IsYes verdict ↔ IsSupported b
-  -- where it does, and at most m are held for faulty, the verdict is the one order that all of the rest decided, which
-  -- is the commander's if he is of the rest
+  -- where it does, and at most m are held for faulty, the verdict is the one order that all of the rest
+  -- decided, which is the commander's if he is of the rest
   pub agreed : IsSupported b → HasFew b → (order : ℕ) × (verdict ≡ Agreed order) × AgreeOn b order
 
 -- each verdict on a bundle means that

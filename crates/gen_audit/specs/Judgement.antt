@@ -6,7 +6,8 @@ use Rattle.gen_audit.specs.declared.verdicts.Verdict.{Verdict}
 use Rattle.gen_audit.specs.Bundle.{Bundle, IsBundle}
 use Rattle.gen_audit.specs.Verdict.{IsVerdict}
 
--- the verdict is the bundle's, and of each general against whom a claim is made the exhibits' first one stands among the convictions
+-- the verdict is the bundle's, and of each general against whom a claim is made the exhibits' first one
+-- stands among the convictions
 pub record IsJudgement (b : Bundle) (v : Verdict) (xs : List Accusation) : Type 0 where
   pub verdict : IsVerdict b v
   pub convictions : AreConvictions b.header b.exhibits xs

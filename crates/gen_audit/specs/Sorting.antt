@@ -21,4 +21,5 @@ abbrev pub rank_cmp : Rank → Rank → Ordering
 rank_cmp a b =
     ordering_then (nat_cmp a.number b.number)
     (ordering_then (nat_cmp a.general b.general)
-    (ordering_then (nat_cmp a.detail b.detail) (ordering_then (nat_cmp a.round b.round) (nat_cmp a.order b.order))))
+    (ordering_then (nat_cmp a.detail b.detail)
+    (ordering_then (nat_cmp a.round b.round) (nat_cmp a.order b.order))))

@@ -20,8 +20,9 @@ pub record HasSoleLog (b : Bundle) (g : ℕ) : Type 0 where
   pub reads : log_of b.header exhibit.bytes ≡ Ok log
   pub verifies : LogVerifies b.header g log
 
--- Somebody is of the rest; each of the rest has one log, and it verifies; the walks bound the diameter of the rest; and a run
--- explains the logs, in which everybody of the rest follows the algorithm and keeps exactly these logs.
+-- Somebody is of the rest; each of the rest has one log, and it verifies; the walks bound the diameter of the
+-- rest; and a run explains the logs, in which everybody of the rest follows the algorithm and keeps exactly
+-- these logs.
 pub record IsSupported (b : Bundle) : Type 0 where
   pub somebody : (g : ℕ) × IsOfRest b g
   pub each : (g : ℕ) → IsOfRest b g → HasSoleLog b g

@@ -12,4 +12,5 @@ pub record AreReports (b : Bundle) (reports : List LocalReport) : Type 0 where
 
 abbrev pub ReportsTellLogs : Type 0
 ReportsTellLogs =
-    (b : Bundle) (reports : List LocalReport) → AreReports b reports → (g : ℕ) → told_logs reports g ≡ logs_of b g
+    (b : Bundle) (reports : List LocalReport) → AreReports b reports → (g : ℕ)
+    → told_logs reports g ≡ logs_of b g

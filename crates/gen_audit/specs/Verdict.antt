@@ -20,16 +20,18 @@ pub record AreDecisions (b : Bundle) (decisions : List Decision) : Type 0 where
   pub in_order : AllPairs (λ x y. x.general < y.general) decisions
   pub members : (d : Decision) → Contains decisions d ↔ IsDecision b d
 
--- The verdict is the bundle's: no with all that is found, if anything is; else, with at most m held for faulty, the order on
--- which the rest agree; else what each of them decided.
+-- The verdict is the bundle's: no with all that is found, if anything is; else, with at most m held for
+-- faulty, the order on which the rest agree; else what each of them decided.
 abbrev pub IsVerdict : Bundle → Verdict → Type 0
 IsVerdict b (Agreed order) = IsClean b × HasFew b × AgreeOn b order
-IsVerdict b (Explained decisions) = IsClean b × (b.header.network.traitors < length b.faulty) × AreDecisions b decisions
+IsVerdict b (Explained decisions) =
+    IsClean b × (b.header.network.traitors < length b.faulty) × AreDecisions b decisions
 IsVerdict b (No findings) = (findings ≢ []) × AreFindings (IsFinding b) findings
 
 -- a bundle has one verdict
 abbrev pub OneVerdict : Type 0
-OneVerdict = (b : Bundle) → IsBundle b → (one other : Verdict) → IsVerdict b one → IsVerdict b other → one ≡ other
+OneVerdict =
+    (b : Bundle) → IsBundle b → (one other : Verdict) → IsVerdict b one → IsVerdict b other → one ≡ other
 
 -- whoever has all that is found has a verdict
 abbrev pub VerdictExists : Type 0

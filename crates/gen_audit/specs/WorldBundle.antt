@@ -18,8 +18,8 @@ use Rattle.gen_audit.specs.declared.verdicts.Verdict.{Verdict}
 use Rattle.gen_audit.specs.Verdict.{IsVerdict}
 use Rattle.gen_audit.specs.Headline.{IsYes}
 
--- the bundle with the sealed logs of all, in the order of generals, a second log after the first, whoever is held for
--- faulty and whatever the walks are
+-- the bundle with the sealed logs of all, in the order of generals, a second log after the first, whoever is
+-- held for faulty and whatever the walks are
 abbrev pub run_bundle : Scenario → List ℕ → List (List ℕ) → Bundle
 run_bundle s faulty walks =
     record { header = header_of s; faulty = faulty; walks = walks; exhibits = logs_of_all s }
@@ -40,7 +40,8 @@ pub record HasWalks (s : Scenario) (walks : List (List ℕ)) : Type 0 where
   pub of_rest : IsListOf rest (IsLoyal s.net (scripted s.scripts))
   pub walks_are : AreWalksOfRun s.net rest walks
 
--- where these could be held for faulty and these walks be shown in a bundle, they are in one with the logs of the run
+-- where these could be held for faulty and these walks be shown in a bundle, they are in one with the logs of
+-- the run
 abbrev pub LogsMakeBundle : Type 0
 LogsMakeBundle =
     (s : Scenario) (faulty : List ℕ) (walks : List (List ℕ)) → IsScenario s
@@ -70,7 +71,8 @@ pub record IsAcceptable (s : Scenario) (walks : List (List ℕ)) : Type 0 where
 
 -- such a scenario's bundle supports a yes
 abbrev pub WorldIsSupported : Type 0
-WorldIsSupported = (s : Scenario) (walks : List (List ℕ)) → IsAcceptable s walks → IsSupported (bundle_of s walks)
+WorldIsSupported =
+    (s : Scenario) (walks : List (List ℕ)) → IsAcceptable s walks → IsSupported (bundle_of s walks)
 
 -- so its verdict is one
 abbrev pub WorldIsAccepted : Type 0

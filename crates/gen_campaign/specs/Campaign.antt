@@ -17,8 +17,8 @@ fewest_runs = 1
 abbrev pub most_runs : ℕ
 most_runs = 4
 
--- a run with the second header may stand behind one with the first: the generals are as many and have the same keys, the slot
--- is no less, and it is not the same run
+-- a run with the second header may stand behind one with the first: the generals are as many and have the
+-- same keys, the slot is no less, and it is not the same run
 pub record Joins (before h : RunHeader) : Type 0 where
   pub generals : before.network.generals ≡ h.network.generals
   pub roots : before.roots ≡ h.roots

@@ -13,7 +13,8 @@ use Rattle.gen_audit.specs.Bundle.{Bundle}
 use Rattle.gen_audit.specs.Headline.{Headline, IsYes}
 use Rattle.gen_audit.specs.Verdict.{IsVerdict}
 
--- the judgement is the bundle's: its verdict with what a yes means, and whom its exhibits convict, as the audit of a bundle says
+-- the judgement is the bundle's: its verdict with what a yes means, and whom its exhibits convict, as the
+-- audit of a bundle says
 pub record IsJudged (b : Bundle) (j : Judgement) : Type 0 where
   pub verdict : IsVerdict b j.verdict
   pub headline : Headline b j.verdict

@@ -1,5 +1,5 @@
-//! Laws of campaigns. Each is a function with an empty body whose contract is the law: a caller that calls it knows
-//! the law.
+//! Laws of campaigns. Each is a function with an empty body whose contract is the law: a caller that calls it
+//! knows the law.
 ghost use Rattle.std.specs.Prelude.{◌≡◌, Ok};
 ghost use Rattle.gen_types.specs.Spelled.{HasOneSpelling};
 ghost use Rattle.gen_campaign.specs.Campaign.{CampaignBundle, IsCampaign};
@@ -11,15 +11,15 @@ ghost use Rattle.gen_campaign.specs.OneBundle.{OneBundleAsBefore};
 
 use gen_convict::laws::first_rivals;
 
-/// What is shown of a campaign has one spelling, and no spelling is the beginning of another (`one`); and what is
-/// written is read again (`again`).
+/// What is shown of a campaign has one spelling, and no spelling is the beginning of another (`one`); and
+/// what is written is read again (`again`).
 pub fn one_campaign_spelling()
     ensures one { HasOneSpelling IsCampaign campaign_spelling }
     ensures again { (c : CampaignBundle) → IsCampaign c → whole_campaign (campaign_spelling c) ≡ Ok c }
 {}
 
-/// Bytes that do not begin with `SMC2` are read as `read_bundle` of `gen_audit` reads them: what it reads stands alone,
-/// and its faults are answered.
+/// Bytes that do not begin with `SMC2` are read as `read_bundle` of `gen_audit` reads them: what it reads
+/// stands alone, and its faults are answered.
 pub fn one_bundle_is_read_as_before()
     ensures { OneBundleAsBefore }
 {}

@@ -1,10 +1,10 @@
 //! Campaigns: up to four runs of the signed message algorithm whose generals sign with one tree of keys each.
 //!
-//! What is shown of a campaign is a list of bundles, one for each run, in ascending order of slots. A bundle alone is
-//! read too, as what is shown of one run, and is written again in that form.
+//! What is shown of a campaign is a list of bundles, one for each run, in ascending order of slots. A bundle
+//! alone is read too, as what is shown of one run, and is written again in that form.
 //!
-//! The audit of a campaign judges each run alone, and convicts a general of whom two runs show different texts under one
-//! leaf.
+//! The audit of a campaign judges each run alone, and convicts a general of whom two runs show different
+//! texts under one leaf.
 #![tactic(auto)]
 
 mod auditing;

@@ -6,4 +6,5 @@ use Rattle.gen_campaign_text.specs.CampaignText.{SpellsCampaignText}
 
 -- each rule of campaigns is kept
 abbrev pub TextsMakeCampaigns : Type 0
-TextsMakeCampaigns = (text : List ℕ) (runs : List Scenario) → SpellsCampaignText text runs → campaign_of runs ≡ Ok runs
+TextsMakeCampaigns =
+    (text : List ℕ) (runs : List Scenario) → SpellsCampaignText text runs → campaign_of runs ≡ Ok runs

@@ -1,4 +1,5 @@
--- What the text of a campaign's verdict names: the runs by their places, and a bundle that stands alone as before.
+-- What the text of a campaign's verdict names: the runs by their places, and a bundle that stands alone as
+-- before.
 use Rattle.std.specs.Prelude.{◌≡◌, true, List, [], ◌∷◌, ◌++◌, length, map}
 use Rattle.gen_convict.specs.Evidence.{Accusation, told_of}
 use Rattle.gen_audit.specs.Bundle.{Bundle}
@@ -9,7 +10,9 @@ use Rattle.gen_campaign_text.specs.CampaignVerdictText.{place_of, campaign_text}
 
 -- the place of the header of a run is that of the run: no other one has it
 abbrev pub PlacesNameRuns : Type 0
-PlacesNameRuns = (front : List Bundle) (b : Bundle) (back : List Bundle) → AreRuns (front ++ b ∷ back) → place_of (front ++ b ∷ back) b.header ≡ length front
+PlacesNameRuns =
+    (front : List Bundle) (b : Bundle) (back : List Bundle) → AreRuns (front ++ b ∷ back)
+    → place_of (front ++ b ∷ back) b.header ≡ length front
 
 -- the text of a bundle that stands alone is that of its verdict
 abbrev pub OneBundleAsPrinted : Type 0

@@ -7,8 +7,8 @@ use Rattle.gen_report.specs.declared.scenario_text.ScenarioText.TheVariants as t
 use Rattle.gen_report.specs.Fields.{line_of, said}
 use Rattle.gen_report.specs.Scenario.{SpellsScenario}
 
--- the second scenario may stand behind the first in a campaign: the generals are as many, the seed is the same, and the slot is
--- greater
+-- the second scenario may stand behind the first in a campaign: the generals are as many, the seed is the
+-- same, and the slot is greater
 pub record Precedes (s t : Scenario) : Type 0 where
   pub generals : s.net.generals ≡ t.net.generals
   pub seed : s.master ≡ t.master
@@ -41,4 +41,5 @@ pub record SpellsCampaignText (text : List ℕ) (runs : List Scenario) : Type 0 
 -- a text spells at most one campaign
 abbrev pub OneCampaignText : Type 0
 OneCampaignText =
-    (text : List ℕ) (runs others : List Scenario) → SpellsCampaignText text runs → SpellsCampaignText text others → runs ≡ others
+    (text : List ℕ) (runs others : List Scenario) → SpellsCampaignText text runs
+    → SpellsCampaignText text others → runs ≡ others

@@ -32,8 +32,8 @@ abbrev pub owed : {A : Type 0} → ℕ → Option A → Result A ScenarioFault
 owed k None = Err (fault_at Shape k)
 owed k (Some x) = Ok x
 
--- the network and the order of a text behind these, and the cursor behind their lines: another number of generals is told of
--- its own line
+-- the network and the order of a text behind these, and the cursor behind their lines: another number of
+-- generals is told of its own line
 unfoldable pub like_plain_at : List Scenario → Cursor → Result (Plain × Cursor) ScenarioFault
 like_plain_at before c = do
   n ← numbered (codes "generals") c

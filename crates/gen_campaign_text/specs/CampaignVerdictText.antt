@@ -24,12 +24,14 @@ place_of bundles h = position_or_len (λ b. same_header b.header h) bundles
 
 -- two runs by their places
 abbrev pub places_named : ℕ → ℕ → List ℕ
-places_named first second = codes " by K1 across " ++ decimal first ++ codes " " ++ decimal second ++ codes "\n"
+places_named first second =
+    codes " by K1 across " ++ decimal first ++ codes " " ++ decimal second ++ codes "\n"
 
 -- who is convicted across which runs; evidence of one run alone is named by its kind
 abbrev pub across_line_of : List Bundle → ℕ → Claim → List ℕ
 across_line_of bundles accused (AcrossRuns x y) =
-    codes "convicted " ++ decimal accused ++ places_named (place_of bundles x.header) (place_of bundles y.header)
+    codes "convicted " ++ decimal accused
+    ++ places_named (place_of bundles x.header) (place_of bundles y.header)
 across_line_of bundles accused claim = convicted_line (record { accused = accused; claim = claim })
 
 abbrev pub across_line : List Bundle → Accusation → List ℕ

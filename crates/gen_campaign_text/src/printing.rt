@@ -38,8 +38,16 @@ fn place_of(bundles: &[Bundle], header: &Header) -> usize
     }
 }
 
-/// Appends the line of a conviction across two runs.
-fn push_across(out: &mut String, bundles: &[Bundle], evidence: &Evidence) -> Result<(), AllocError>
+/// Appends the line of a conviction across two runs: who is convicted, and the places of the two runs among these bundles.
+///
+/// # Errors
+///
+/// `AllocError` where memory is refused; then what stands in `out` isn't said.
+pub fn push_across(
+    out: &mut String,
+    bundles: &[Bundle],
+    evidence: &Evidence,
+) -> Result<(), AllocError>
     ensures { OnOk result (string_bytes out.new
         ≡ string_bytes out.old ++ across_line bundles.now (told_of evidence.now)) }
 {

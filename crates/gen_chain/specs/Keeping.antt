@@ -12,7 +12,8 @@ use Rattle.gen_chain.specs.Store.{Store, KeepsOnce, runs_of}
 abbrev pub verified_cmp : Verified → Verified → Ordering
 verified_cmp a b =
     ordering_then (nat_cmp a.signer b.signer)
-    (ordering_then (nat_cmp a.statement.order b.statement.order) (slice_cmp nat_cmp a.statement.path b.statement.path))
+    (ordering_then (nat_cmp a.statement.order b.statement.order)
+    (slice_cmp nat_cmp a.statement.path b.statement.path))
 
 -- the keys of the map, each with the list of what is kept for it
 abbrev pub items_of : List (Verified × Vec Kept) → List (Verified × List Kept)

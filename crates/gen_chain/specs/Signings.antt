@@ -29,4 +29,5 @@ triple_next order path s = record {
 -- what signers are to have signed who stand behind a path, each with those in front of him
 unfoldable pub next_triples : ℕ → List ℕ → List Signer → List Triple
 next_triples order path [] = []
-next_triples order path (s ∷ signers) = triple_next order path s ∷ next_triples order (path ++ s.general ∷ []) signers
+next_triples order path (s ∷ signers) =
+    triple_next order path s ∷ next_triples order (path ++ s.general ∷ []) signers

@@ -33,15 +33,18 @@ abbrev pub kept_at : List (Verified × List Kept) → Verified → List Kept
 kept_at kept verified = unwrap_or (lookup (same_verified verified) kept) []
 
 abbrev pub answer_in : List Kept → List ℕ → Option Bool
-answer_in kept signature = option_map (λ k. k.answer) (find (λ k. pointwise nat_eq k.signature signature) kept)
+answer_in kept signature =
+    option_map (λ k. k.answer) (find (λ k. pointwise nat_eq k.signature signature) kept)
 
 -- the answer that is kept for a triple, if it is kept
 unfoldable pub answer_of : Store → Triple → Option Bool
-answer_of store t = answer_in (kept_at store.kept (record { signer = t.signer; statement = t.statement })) t.signature
+answer_of store t =
+    answer_in (kept_at store.kept (record { signer = t.signer; statement = t.statement })) t.signature
 
 -- no signature is kept twice for a general and a statement
 abbrev pub KeepsOnce : Store → Type 0
-KeepsOnce store = (verified : Verified) → AllPairs (λ a b. a.signature ≢ b.signature) (kept_at store.kept verified)
+KeepsOnce store =
+    (verified : Verified) → AllPairs (λ a b. a.signature ≢ b.signature) (kept_at store.kept verified)
 
 -- how many answers are kept
 unfoldable pub kept_count : Store → ℕ
@@ -51,8 +54,8 @@ kept_count store = sum_by length (values_of store.kept)
 abbrev pub runs_of : Store → ℕ
 runs_of store = min (kept_count store) (2 ^ 64 - 1)
 
--- The store after a check: the triple is kept with the answer, all others are as they were, and one answer more is kept exactly
--- where the triple was not kept before.
+-- The store after a check: the triple is kept with the answer, all others are as they were, and one answer
+-- more is kept exactly where the triple was not kept before.
 pub record IsAfter (old : Store) (t : Triple) (answer : Bool) (new : Store) : Type 0 where
   pub here : answer_of new t ≡ Some answer
   pub others : (u : Triple) → u ≢ t → answer_of new u ≡ answer_of old u
@@ -60,7 +63,8 @@ pub record IsAfter (old : Store) (t : Triple) (answer : Bool) (new : Store) : Ty
 
 -- whatever the one keeps, the other keeps with the same answer
 abbrev pub KeepsAll : Store → Store → Type 0
-KeepsAll old new = (t : Triple) (answer : Bool) → answer_of old t ≡ Some answer → answer_of new t ≡ Some answer
+KeepsAll old new =
+    (t : Triple) (answer : Bool) → answer_of old t ≡ Some answer → answer_of new t ≡ Some answer
 
 -- the store serves a header: each answer that it keeps is right under it
 abbrev pub Serves : RunHeader → Store → Type 0

@@ -21,7 +21,8 @@ KeepsSigners h store order signers =
     (front back : List Signer) (s : Signer) → signers ≡ front ++ s ∷ back → AreSigned h order front
     → IsSome (answer_of store (triple_behind order front s))
 
--- The store keeps all that verifying the chain has to verify, which is nothing where its order is none of the network's.
+-- The store keeps all that verifying the chain has to verify, which is nothing where its order is none of the
+-- network's.
 abbrev pub KeepsChain : RunHeader → Store → Chain → Type 0
 KeepsChain h store c = c.order < h.network.orders → KeepsSigners h store c.order c.signers
 
@@ -30,4 +31,5 @@ abbrev pub KeepsNext : Store → ℕ → ℕ → List ℕ → List Signer → Ty
 KeepsNext store order zero path signers = Unit {0}
 KeepsNext store order (suc n) path [] = ⊥
 KeepsNext store order (suc n) path (s ∷ signers) =
-    IsSome (answer_of store (triple_next order path s)) × KeepsNext store order n (path ++ s.general ∷ []) signers
+    IsSome (answer_of store (triple_next order path s))
+    × KeepsNext store order n (path ++ s.general ∷ []) signers

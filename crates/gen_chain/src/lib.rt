@@ -7,11 +7,10 @@
 //!
 //! A store keeps the verifications that were made, so that none of them is made twice.
 //!
-//! What is promised: the texts that are signed and the bytes of a chain are exactly the
-//! definitions, each chain has one spelling, `chain_verifies` is true exactly where every signature
-//! of the chain verifies, and so with a store, a chain that is made with the signers' own keys verifies, and no
-//! statement is the head of a log. What is not: that nobody else can make a signature that
-//! verifies.
+//! What is promised: the texts that are signed and the bytes of a chain are exactly the definitions, each
+//! chain has one spelling, `chain_verifies` is true exactly where every signature of the chain verifies, and
+//! so with a store, a chain that is made with the signers' own keys verifies, and no statement is the head of
+//! a log. What is not: that nobody else can make a signature that verifies.
 #![tactic(auto)]
 
 mod chains;

@@ -14,8 +14,8 @@ use Rattle.gen_convict.specs.Accused.{TextVerifies}
 use Rattle.gen_convict.specs.Exhibits.{texts_of}
 use Rattle.gen_convict.specs.Firsts.{IsFirstPair}
 
--- two runs, whose headers are not the same, use the same leaves of the same trees: both are of version 2 and of one slot, with
--- as many generals and the same roots
+-- two runs, whose headers are not the same, use the same leaves of the same trees: both are of version 2 and
+-- of one slot, with as many generals and the same roots
 pub record ShareLeaves (h k : RunHeader) : Type 0 where
   pub slot : ℕ
   pub one : h.version ≡ Two slot
@@ -48,8 +48,8 @@ pub record IsAcrossFrom (h : RunHeader) (general : ℕ) (x y : RunText) : Type 0
   pub of_first : x.header ≡ h
   pub across : AreAcross general x y
 
--- the text is that of one run, it verifies as the general's, and his own log is of another run id: a log has no text of another
--- run id
+-- the text is that of one run, it verifies as the general's, and his own log is of another run id: a log has
+-- no text of another run id
 pub record IsOfOtherRun (general : ℕ) (x : RunText) (own : RunLog) (text : SignedText) : Type 0 where
   pub is : text ≡ x.text
   pub verifies : TextVerifies x.header general text

@@ -1,4 +1,5 @@
--- What answers two texts of two runs: the text of the run that the log isn't of, or two headers with one hash.
+-- What answers two texts of two runs: the text of the run that the log isn't of, or two headers with one
+-- hash.
 use Rattle.std.specs.Prelude.{ℕ, ◌≡◌, ◌≢◌, ◌⊎◌, List, ◌∷◌}
 use Rattle.gen_net.specs.Header.{RunHeader, IsHeader, header_spelling, run_id_of, run_id_prefix}
 use Rattle.gen_log.specs.Log.{RunLog}

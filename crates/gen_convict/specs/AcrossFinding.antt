@@ -1,4 +1,5 @@
--- How the first rivals are found: the texts of one general, run by run, as reports have them, and tests on them.
+-- How the first rivals are found: the texts of one general, run by run, as reports have them, and tests on
+-- them.
 use Rattle.std.specs.Prelude.{ℕ, Bool, ◌&&◌, ◌||◌, not, List, [], ◌∷◌, Option, Some, None, map}
 use Rattle.std.specs.Bool.{nat_eq}
 use Rattle.std.specs.List.{find, flat_map}
@@ -18,7 +19,8 @@ unfoldable pub is_rival : RunText → RunText → Bool
 is_rival x y =
     is_like x.text.text y.text.text
     && (share_leaves x.header y.header
-    && (not (pointwise nat_eq (run_id_of x.header) (run_id_of y.header)) || is_unlike x.text.text y.text.text))
+    && (not (pointwise nat_eq (run_id_of x.header) (run_id_of y.header))
+    || is_unlike x.text.text y.text.text))
 
 -- two texts stand under one leaf, in two runs that use the same leaves, different or not
 unfoldable pub meets : RunText → RunText → Bool

@@ -54,7 +54,8 @@ departing_at bytes = do
   entry ← number_at faults.Truncated w32 log.1
   Ok (DepartingLog log.0 entry.0, entry.1)
 
--- the header of another run, which uses the same leaves, and a text of each run; under a header of version 2 alone
+-- the header of another run, which uses the same leaves, and a text of each run; under a header of version 2
+-- alone
 unfoldable pub across_at : RunHeader → ℕ → List ℕ → Result (Claim × List ℕ) EvidenceFault
 across_at h accused bytes = do
   lawful ← check (is_two h.version) faults.OutOfRange
@@ -62,7 +63,11 @@ across_at h accused bytes = do
   shared ← check (share_leaves h other.0) faults.OtherLeaves
   first ← signed_at h accused other.1
   second ← signed_at other.0 accused first.1
-  Ok (AcrossRuns (record { header = h; text = first.0 }) (record { header = other.0; text = second.0 }), second.1)
+  Ok (
+    AcrossRuns (record { header = h; text = first.0 })
+        (record { header = other.0; text = second.0 }),
+    second.1,
+  )
 
 -- the claim of the kind that a byte names
 unfoldable pub claim_of_kind : RunHeader → ℕ → ℕ → List ℕ → Result (Claim × List ℕ) EvidenceFault

@@ -8,8 +8,10 @@ use Rattle.gen_convict.specs.Evidence.{Accusation, IsEvidence}
 use Rattle.gen_convict.specs.First.{IsFirstClaim}
 use Rattle.gen_convict.specs.Held.{HoldContradiction}
 
--- for each general of the network who has a first claim this claim, in ascending order of generals, and no other
-pub record AreConvictions (h : RunHeader) (exhibits : List LogBytes) (convictions : List Accusation) : Type 0 where
+-- for each general of the network who has a first claim this claim, in ascending order of generals, and no
+-- other
+pub record AreConvictions (h : RunHeader) (exhibits : List LogBytes) (convictions : List Accusation) :
+    Type 0 where
   pub in_order : AllPairs (λ x y. x.accused < y.accused) convictions
   pub first : (x : Accusation) → Contains convictions x
       → (x.accused < h.network.generals) × IsFirstClaim h exhibits x.accused x.claim

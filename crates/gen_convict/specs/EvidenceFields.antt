@@ -1,4 +1,5 @@
--- Reading the fields of evidence from left to right, with the first fault that is met: texts, signatures and logs.
+-- Reading the fields of evidence from left to right, with the first fault that is met: texts, signatures and
+-- logs.
 use Rattle.std.specs.Prelude.{ℕ, ◌==◌, if◌then◌else◌, List, Result, Ok, Err}
 use Rattle.std.specs.Int.{w32, w64}
 use Rattle.gen_types.specs.Reading.{◌>>=◌, map_fault}

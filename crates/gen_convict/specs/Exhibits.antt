@@ -21,7 +21,8 @@ pub record HeldLog : Type 0 where
   pub bytes : List ℕ
   pub log : RunLog
 
--- what an exhibit's bytes read to: the log, where it says that it is the exhibit's general's of this run, and else nothing
+-- what an exhibit's bytes read to: the log, where it says that it is the exhibit's general's of this run, and
+-- else nothing
 abbrev pub held : RunHeader → LogBytes → Result RunLog LogFault → List HeldLog
 held h exhibit (Ok log) =
     cond (says_it_is_of h exhibit.general log)

@@ -1,4 +1,5 @@
--- The claim that is made against a general: of the least kind, and the first of that kind that the exhibits hold.
+-- The claim that is made against a general: of the least kind, and the first of that kind that the exhibits
+-- hold.
 use Rattle.std.specs.Prelude.{ℕ, ◌≡◌, ◌≢◌, ◌≤◌, List, [], ◌∷◌, Contains}
 use Rattle.gen_net.specs.Departs.{DepartsAt}
 use Rattle.gen_net.specs.Header.{RunHeader}

@@ -21,8 +21,8 @@ FirstHolds =
     (h : RunHeader) (exhibits : List LogBytes) (general : ℕ) (claim : Claim) → IsHeader h
     → AllBytes exhibits → IsFirstClaim h exhibits general claim → IsContradiction h general claim
 
--- a claim is made against a general exactly where the exhibits hold a contradiction of his, if it is told of each of his logs
--- whether it departs
+-- a claim is made against a general exactly where the exhibits hold a contradiction of his, if it is told of
+-- each of his logs whether it departs
 abbrev pub GivenWhereHeld : Type 0
 GivenWhereHeld =
     (h : RunHeader) (exhibits : List LogBytes) (general : ℕ) → IsHeader h → AllBytes exhibits

@@ -17,7 +17,8 @@ abbrev pub AreHeld : RunHeader → List LogBytes → ℕ → Claim → Type 0
 AreHeld h exhibits general (TwoTexts x y) =
     Contains (texts_of h exhibits general) x × Contains (texts_of h exhibits general) y
 AreHeld h exhibits general (TwoOrders v a w b) =
-    Contains (texts_of h exhibits general) (command v a) × Contains (texts_of h exhibits general) (command w b)
+    Contains (texts_of h exhibits general) (command v a)
+    × Contains (texts_of h exhibits general) (command w b)
 AreHeld h exhibits general (MissingFromLog bytes s signature) =
     HoldLog h exhibits general bytes
     × Contains (texts_of h exhibits general) (stated s.order s.path general signature)

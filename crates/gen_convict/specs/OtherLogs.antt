@@ -6,7 +6,8 @@ use Rattle.gen_convict.specs.Accused.{TextVerifies}
 use Rattle.gen_convict.specs.Contradictions.{IsSealedLogOf}
 use Rattle.gen_convict.specs.Refuting.{HasText, IsHeadIn, Refutation, Forged, Collision, AreColliding}
 
--- the bytes are a log that says it is the general's of this run, whose head verifies, with other entries than his own log's
+-- the bytes are a log that says it is the general's of this run, whose head verifies, with other entries than
+-- his own log's
 abbrev pub IsOtherLog : RunHeader → ℕ → RunLog → List ℕ → Type 0
 IsOtherLog h general own bytes =
     (log : RunLog) × IsSealedLogOf h general bytes log × (log.entries ≢ own.entries)

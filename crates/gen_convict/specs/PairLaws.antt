@@ -15,13 +15,15 @@ subject_of (OfHead head) = 0
 abbrev pub AreAlike : SignedText → SignedText → Type 0
 AreAlike x z = subject_of z.text ≡ subject_of x.text
 
--- the first pair of different texts begins with the first text of its subject: so each need be compared with that one alone
+-- the first pair of different texts begins with the first text of its subject: so each need be compared with
+-- that one alone
 abbrev pub FirstOfSubject : Type 0
 FirstOfSubject =
     (texts : List SignedText) (x y : SignedText) → IsFirstPair AreDifferent texts x y
     → IsFirst (AreAlike x) texts x
 
--- x is the first text of its subject, and y the first text behind it that differs: what one pass keeps for each subject
+-- x is the first text of its subject, and y the first text behind it that differs: what one pass keeps for
+-- each subject
 pub record IsSubjectPair (texts : List SignedText) (x y : SignedText) : Type 0 where
   pub first : IsFirst (AreAlike x) texts x
   pub second : IsFirst (AreDifferent x) first.after y
@@ -64,7 +66,8 @@ OneFirstPair =
     (xs : List SignedText) (x y v w : SignedText) → IsFirstPair AreDifferent xs x y
     → IsFirstPair AreDifferent xs v w → (x ≡ v) × (y ≡ w)
 
--- where no two texts differ, statements of one order are the same text: so a log need be tested for 15 statements at most
+-- where no two texts differ, statements of one order are the same text: so a log need be tested for 15
+-- statements at most
 abbrev pub OneOfEach : Type 0
 OneOfEach =
     (texts : List SignedText) → NoTwoTexts texts → (x y : SignedText) → Contains texts x

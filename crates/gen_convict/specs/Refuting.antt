@@ -1,4 +1,5 @@
--- What answers a claim against a general who kept a follower's log: a text that he didn't log, or two texts with one hash.
+-- What answers a claim against a general who kept a follower's log: a text that he didn't log, or two texts
+-- with one hash.
 use Rattle.std.specs.Prelude.{ℕ, ◌≡◌, ◌≢◌, ◌⊎◌, List, ◌∷◌, ◌++◌}
 use Rattle.sha2.specs.Sha256.{sha256}
 use Rattle.gen_types.specs.Spelled.{Spells}

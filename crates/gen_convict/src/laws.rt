@@ -50,8 +50,8 @@ pub fn first_pairs()
     ensures one { OneFirstPair }
 {}
 
-/// What is claimed of a general holds. A claim is made exactly where the exhibits hold a contradiction of his,
-/// and it is one.
+/// What is claimed of a general holds. A claim is made exactly where the exhibits hold a contradiction of
+/// his, and it is one.
 pub fn first_claims()
     ensures texts { TextsVerify }
     ensures holds { FirstHolds }
@@ -59,15 +59,15 @@ pub fn first_claims()
     ensures one { OneClaim }
 {}
 
-/// Evidence under a header has one spelling, and no spelling of evidence is the beginning of another (`one`); and
-/// what is written is read again (`again`).
+/// Evidence under a header has one spelling, and no spelling of evidence is the beginning of another (`one`);
+/// and what is written is read again (`again`).
 pub fn one_evidence_spelling()
     ensures one { HasOneSpelling IsWhole whole_spelling }
     ensures again { (e : HeaderAndEvidence) → IsWhole e → whole_evidence (whole_spelling e) ≡ Ok e }
 {}
 
-/// The tests of runs that use the same leaves and of rivals say exactly what they test. Rivals stand under one leaf,
-/// and runs of different slots have no leaf in common.
+/// The tests of runs that use the same leaves and of rivals say exactly what they test. Rivals stand under
+/// one leaf, and runs of different slots have no leaf in common.
 pub fn rivals_are_tested()
     ensures sharing { TestsSharing }
     ensures rivals { TestsRivals }
@@ -75,9 +75,9 @@ pub fn rivals_are_tested()
     ensures slots { SlotsApart }
 {}
 
-/// Texts of a general that contradict each other across runs are found exactly where the exhibits of two runs hold
-/// such texts (`found`). What is found contradicts (`holds`), it is one pair (`one`), and its texts are of two runs,
-/// the first of the earlier (`runs`).
+/// Texts of a general that contradict each other across runs are found exactly where the exhibits of two runs
+/// hold such texts (`found`). What is found contradicts (`holds`), it is one pair (`one`), and its texts are
+/// of two runs, the first of the earlier (`runs`).
 pub fn first_rivals()
     ensures found { FoundWhereHeld }
     ensures holds { FirstContradict }
@@ -92,8 +92,8 @@ pub fn headers_collide()
     one_header_spelling();
 }
 
-/// Over logs that a general could have kept by following, of runs whose slots ascend strictly, each leaf of his ring
-/// has one text: so one ring serves all these runs.
+/// Over logs that a general could have kept by following, of runs whose slots ascend strictly, each leaf of
+/// his ring has one text: so one ring serves all these runs.
 pub fn one_text_of_leaf()
     ensures { OneTextOfLeaf }
 {}

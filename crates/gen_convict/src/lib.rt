@@ -3,9 +3,9 @@
 //!
 //! A general is convicted by two different texts that he signed under one leaf, as the commander by two
 //! orders, by a statement that is missing from a log that he sealed, or by such a log that departs from the
-//! algorithm. Two runs of version 2 can use the same leaves: then two different texts of his under one leaf convict
-//! him across the runs. A general who follows can be convicted only by a text that he didn't sign or by a collision
-//! of SHA-256: his own log shows which.
+//! algorithm. Two runs of version 2 can use the same leaves: then two different texts of his under one leaf
+//! convict him across the runs. A general who follows can be convicted only by a text that he didn't sign or
+//! by a collision of SHA-256: his own log shows which.
 #![tactic(auto)]
 
 mod across_checking;

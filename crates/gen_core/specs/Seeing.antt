@@ -7,7 +7,8 @@ use Rattle.gen_net.specs.declared.message.Message.{Message}
 use Rattle.gen_net.specs.Run.{Run, Arrives, OrderArrives, Adds, IsRun}
 use Rattle.gen_core.specs.declared.arrivals.Seen.{Seen}
 
--- what a lieutenant keeps: who he is, how many rounds there are and have gone, the orders that arrived, and how he chooses
+-- what a lieutenant keeps: who he is, how many rounds there are and have gone, the orders that arrived, and
+-- how he chooses
 pub record Lieutenant : Type 0 where
   pub me : ℕ
   pub rounds : ℕ
@@ -46,4 +47,5 @@ pub record IsFromLeast (run : Run) (g l v : ℕ) (path : List ℕ) : Type 0 wher
 
 -- exactly the orders that g adds in round l, each with the path from the least sender
 abbrev pub AreAdds : Run → ℕ → ℕ → List (Option (List ℕ)) → Type 0
-AreAdds run g l adds = (v : ℕ) (path : List ℕ) → Picked adds v path ↔ (Adds run g l v × IsFromLeast run g l v path)
+AreAdds run g l adds =
+    (v : ℕ) (path : List ℕ) → Picked adds v path ↔ (Adds run g l v × IsFromLeast run g l v path)

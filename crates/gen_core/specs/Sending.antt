@@ -16,8 +16,8 @@ GoesBefore x y = (x.to < y.to) ⊎ ((x.to ≡ y.to) × (x.order < y.order))
 abbrev pub IsCommand : Network → ℕ → Outgoing → Type 0
 IsCommand net own x = AreNeighbours net 0 x.to × (x.order ≡ own) × (x.path ≡ 0 ∷ [])
 
--- a lieutenant is to send a picked path, of fewer than R signers and without him, lengthened by himself, to each neighbour outside
--- the longer path
+-- a lieutenant is to send a picked path, of fewer than R signers and without him, lengthened by himself, to
+-- each neighbour outside the longer path
 pub record IsDue (net : Network) (g : ℕ) (adds : List (Option (List ℕ))) (x : Outgoing) : Type 0 where
   pub picked : List ℕ
   pub is_picked : Picked adds x.order picked

@@ -6,8 +6,8 @@ use Rattle.gen_chain.specs.Leaves.{leaf_of_order}
 use Rattle.gen_scenario.specs.declared.heard.Heard.{Heard}
 use Rattle.gen_scenario.specs.Heard.{round_of, first_of}
 
--- The round in which he signs an order, if he does: the commander his own in round 1, a lieutenant what he heard in the round
--- after the one in which he first heard it.
+-- The round in which he signs an order, if he does: the commander his own in round 1, a lieutenant what he
+-- heard in the round after the one in which he first heard it.
 abbrev pub round_signed : Option ℕ → List Heard → ℕ → Option ℕ
 round_signed (Some own) heard order = if order == own then Some 1 else None
 round_signed None heard order = option_map (λ x. round_of x + 1) (first_of order heard)

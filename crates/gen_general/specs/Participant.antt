@@ -12,8 +12,8 @@ use Rattle.gen_scenario.specs.SignedWorld.{delivery}
 use Rattle.gen_scenario.specs.SignerTrees.{keys_with}
 use Rattle.gen_scenario.specs.Part.{Part, own_keys}
 
--- what he knows of his own, his ring if he has no script, what he heard so far, what of it he had heard when the round began
--- that he is in, and that round, 0 before the first
+-- what he knows of his own, his ring if he has no script, what he heard so far, what of it he had heard when
+-- the round began that he is in, and that round, 0 before the first
 pub record Participant : Type 0 where
   pub known : Part
   pub ring : Option Ring
@@ -31,7 +31,8 @@ keys_at k None = keys_with k.header k.trees
 keys_at k (Some ring) = own_keys k.header ring.seed
 
 abbrev pub sender_at : Participant → Sender
-sender_at p = record { keys = keys_at p.known p.ring; me = p.known.me; own = p.known.own; script = p.known.script }
+sender_at p =
+    record { keys = keys_at p.known p.ring; me = p.known.me; own = p.known.own; script = p.known.script }
 
 -- the frame of this round that he sends a neighbour
 abbrev pub sends : Participant → ℕ → List (List ℕ)
@@ -40,7 +41,8 @@ sends p to = frame_of (sender_at p) p.before p.round to
 -- what he hears of a frame of this round
 abbrev pub hears : Participant → ℕ → List (List ℕ) → List Heard
 hears p from frame =
-    map (λ c. record { from = from; chain = c }) (counted_of p.known.header (delivery p.round from p.known.me) frame)
+    map (λ c. record { from = from; chain = c })
+    (counted_of p.known.header (delivery p.round from p.known.me) frame)
 
 -- when he has heard it
 abbrev pub with_frame : Participant → ℕ → List (List ℕ) → Participant
@@ -63,10 +65,12 @@ MayStart k (Some ring) = (k.script ≡ None) × IsUnused k.header ring
 MayStart k None = k.script ≡ None → ⊥
 
 -- the leaves that were taken from a ring in a round are those of the orders that he signed
-pub record IsSpentOn (h : RunHeader) (own : Option ℕ) (heard : List Heard) (round : ℕ) (old new : Ring) : Type 0 where
+pub record IsSpentOn (h : RunHeader) (own : Option ℕ) (heard : List Heard) (round : ℕ) (old new : Ring) :
+    Type 0 where
   pub seed : new.seed ≡ old.seed
   pub height : new.height ≡ old.height
-  pub taken : (leaf : ℕ) → Contains new.taken leaf ↔ (Contains old.taken leaf ⊎ IsSignedWith h own heard round leaf)
+  pub taken : (leaf : ℕ)
+      → Contains new.taken leaf ↔ (Contains old.taken leaf ⊎ IsSignedWith h own heard round leaf)
 
 abbrev pub RingAfter : Participant → Option Ring → Option Ring → Type 0
 RingAfter p (Some old) (Some new) = IsSpentOn p.known.header p.known.own p.heard (p.round + 1) old new

@@ -37,7 +37,8 @@ BeginsAsHe = (s : Scenario) (g : ℕ) (p q : Participant) → IsGeneralOf s g p 
 
 abbrev pub HearsAsHe : Type 0
 HearsAsHe =
-    (s : Scenario) (g from : ℕ) (p : Participant) (frame : List (List ℕ)) → IsGeneralOf s g p → IsGeneralOf s g (with_frame p from frame)
+    (s : Scenario) (g from : ℕ) (p : Participant) (frame : List (List ℕ)) → IsGeneralOf s g p
+    → IsGeneralOf s g (with_frame p from frame)
 
 -- he is in the round after the first k, before which he had heard what the scenario has him hear
 pub record IsIn (s : Scenario) (k g : ℕ) (p : Participant) : Type 0 where
@@ -48,12 +49,14 @@ pub record IsIn (s : Scenario) (k g : ℕ) (p : Participant) : Type 0 where
 -- then he sends the scenario's frames, and hears of a neighbour's what it has him hear
 abbrev pub SendsFrames : Type 0
 SendsFrames =
-    (s : Scenario) (k g to : ℕ) (p : Participant) → IsIn s k g p → sends p to ≡ frame_of (sender_of s g) (heard_by s k g) (k + 1) to
+    (s : Scenario) (k g to : ℕ) (p : Participant) → IsIn s k g p
+    → sends p to ≡ frame_of (sender_of s g) (heard_by s k g) (k + 1) to
 
 abbrev pub HearsFrames : Type 0
 HearsFrames =
     (s : Scenario) (k g from : ℕ) (p : Participant) → IsIn s k g p
-    → hears p from (frame_of (sender_of s from) (heard_by s k from) (k + 1) g) ≡ heard_of s (heard_by s k) (k + 1) g from
+    → hears p from (frame_of (sender_of s from) (heard_by s k from) (k + 1) g)
+    ≡ heard_of s (heard_by s k) (k + 1) g from
 
 -- and after the last round he decides what it has him decide
 abbrev pub DecidesAsHe : Type 0

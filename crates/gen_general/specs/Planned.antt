@@ -25,7 +25,8 @@ planned_of k me heard (Make round to order path) =
     map (Signed to) (signed_by_line k heard (Make round to order path))
 planned_of k me heard (Pass round to from order path) =
     map (Signed to) (signed_by_line k heard (Pass round to from order path))
-planned_of k me heard (Bend round to from order) = map (Bytes to) (parcels_of k me heard (Bend round to from order))
+planned_of k me heard (Bend round to from order) =
+    map (Bytes to) (parcels_of k me heard (Bend round to from order))
 planned_of k me heard (Raw round to parcel) = Bytes to parcel ∷ []
 planned_of k me heard _ = []
 
@@ -56,7 +57,8 @@ planned_to to planned = filter (λ one. receiver_of one == to) planned
 abbrev pub PlansFrames : Type 0
 PlansFrames =
     (k : Keys) (me : ℕ) (lines : List ScriptLine) (heard : List Heard) (round to : ℕ)
-    → map bytes_of (planned_to to (planned_in k me lines heard round)) ≡ traitors_frame k me lines heard round to
+    → map bytes_of (planned_to to (planned_in k me lines heard round))
+    ≡ traitors_frame k me lines heard round to
 
 -- its chains are what he signs, and of those that go to a neighbour what he sends
 abbrev pub PlansSigns : Type 0
@@ -67,4 +69,5 @@ PlansSigns =
 abbrev pub PlansSends : Type 0
 PlansSends =
     (p : Sender) (lines : List ScriptLine) (heard : List Heard) (round to : ℕ)
-    → flat_map chain_of (planned_to to (planned_in p.keys p.me lines heard round)) ≡ sends_by p (Some lines) heard round to
+    → flat_map chain_of (planned_to to (planned_in p.keys p.me lines heard round))
+    ≡ sends_by p (Some lines) heard round to

@@ -1,9 +1,9 @@
 //! What one general does in a run, and the log that he keeps of it.
 //!
-//! A participant is a general as he stands in a run: what he knows of his own, his ring, what he heard. A recorder is
-//! one who also writes his log. Their contracts speak of what he knows and heard, and of no scenario; laws say that
-//! whoever drives him as a scenario says has that scenario's general before him. In which order generals act is left
-//! to who drives them: rounds, a machine of interleavings, threads.
+//! A participant is a general as he stands in a run: what he knows of his own, his ring, what he heard. A
+//! recorder is one who also writes his log. Their contracts speak of what he knows and heard, and of no
+//! scenario; laws say that whoever drives him as a scenario says has that scenario's general before him. In
+//! which order generals act is left to who drives them: rounds, a machine of interleavings, threads.
 #![tactic(auto)]
 
 mod counting;

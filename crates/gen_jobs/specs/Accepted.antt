@@ -25,12 +25,13 @@ RunsAreRead =
     → (whole_bundle text ≡ Ok (bundle_of run.scenario run.walks))
     × (whole_campaign text ≡ Ok (alone (bundle_of run.scenario run.walks)))
 
--- no script has a raw line, somebody has no script, and any two of those who have none are joined inside them by
--- at most d edges
+-- no script has a raw line, somebody has no script, and any two of those who have none are joined inside them
+-- by at most d edges
 pub record IsSound (s : Scenario) : Type 0 where
   pub no_raw : HasNoRaw s
   pub somebody : (g : ℕ) × IsLoyal s.net (scripted s.scripts) g
-  pub joined : (rest : List ℕ) → IsListOf rest (IsLoyal s.net (scripted s.scripts)) → IsWithinDiameter s.net rest
+  pub joined : (rest : List ℕ) → IsListOf rest (IsLoyal s.net (scripted s.scripts))
+      → IsWithinDiameter s.net rest
 
 -- what the job audit makes of it does not say no, where the scenario is such
 abbrev pub RunsAreAccepted : Type 0

@@ -26,11 +26,12 @@ abbrev pub AreOfRuns : List Accusation → Type 0
 AreOfRuns convictions =
     (x : Accusation) → Contains convictions x → (v : RunText) × (w : RunText) × (x.claim ≡ AcrossRuns v w)
 
--- one of them is the general's, and the text is its spelling under its first run's header; or none is, and then the text is
--- empty and says no
+-- one of them is the general's, and the text is its spelling under its first run's header; or none is, and
+-- then the text is empty and says no
 abbrev pub TellsAcross : List Accusation → ℕ → List ℕ → Bool → Type 0
 TellsAcross convictions general text false =
-    (v : RunText) × (w : RunText) × Contains convictions (record { accused = general; claim = AcrossRuns v w })
+    (v : RunText) × (w : RunText)
+    × Contains convictions (record { accused = general; claim = AcrossRuns v w })
     × (text ≡ evidence_spelling v.header (record { accused = general; claim = AcrossRuns v w }))
 TellsAcross convictions general text true =
     ((x : Accusation) → Contains convictions x → x.accused ≡ general → ⊥) × (text ≡ [])
@@ -51,15 +52,16 @@ Accuses bundle general text true = ((claim : Claim) → IsClaimOn bundle general
 abbrev pub HoldsNone : ℕ → Bundle → Type 0
 HoldsNone general bundle = (claim : Claim) → IsClaimOn bundle general claim → ⊥
 
--- the text is evidence that the first of the bundles holds which hold any; or none holds any, and the text is empty
+-- the text is evidence that the first of the bundles holds which hold any; or none holds any, and the text is
+-- empty
 abbrev pub AccusesWithin : List Bundle → ℕ → List ℕ → Bool → Type 0
 AccusesWithin bundles general text false =
     (before : List Bundle) × (bundle : Bundle) × (after : List Bundle) × (bundles ≡ before ++ bundle ∷ after)
     × All (HoldsNone general) before × Accuses bundle general text false
 AccusesWithin bundles general text true = All (HoldsNone general) bundles × (text ≡ [])
 
--- the text is evidence of the first two texts by which the exhibits of two runs hold a claim; or there are no such two, and
--- the text is empty
+-- the text is evidence of the first two texts by which the exhibits of two runs hold a claim; or there are no
+-- such two, and the text is empty
 abbrev pub AccusesAcross : List Bundle → ℕ → List ℕ → Bool → Type 0
 AccusesAcross bundles general text false =
     (x : RunText) × (y : RunText) × (general < 16) × IsFirstAcross (shown_bundles bundles) general x y

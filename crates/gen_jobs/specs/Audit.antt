@@ -26,8 +26,8 @@ is_no (Agreed order) = false
 is_no (Explained decisions) = false
 is_no (No findings) = true
 
--- The text is that of the judgement on a bundle: its verdict, and the convictions that its exhibits give. It says
--- no exactly where the bundle doesn't support a yes.
+-- The text is that of the judgement on a bundle: its verdict, and the convictions that its exhibits give. It
+-- says no exactly where the bundle doesn't support a yes.
 pub record Audits (bundle : Bundle) (text : List ℕ) (negative : Bool) : Type 0 where
   pub verdict : Verdict
   pub judged : IsVerdict bundle verdict
@@ -39,8 +39,8 @@ pub record Audits (bundle : Bundle) (text : List ℕ) (negative : Bool) : Type 0
   pub negative_is : negative ≡ is_no verdict
   pub supported : (negative ≡ false) ↔ IsSupported bundle
 
--- The text is that of the judgements on the runs of a campaign, and of who is convicted across them. It says no exactly
--- where some run's bundle doesn't support a yes.
+-- The text is that of the judgements on the runs of a campaign, and of who is convicted across them. It says
+-- no exactly where some run's bundle doesn't support a yes.
 pub record AuditsRuns (bundles : List Bundle) (text : List ℕ) (negative : Bool) : Type 0 where
   pub judgements : List Judgement
   pub judged : AreJudged bundles judgements

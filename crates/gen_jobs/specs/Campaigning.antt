@@ -17,7 +17,8 @@ AreBundlesOf runs bundles = AllZip IsOfRun runs bundles
 -- the text spells the bundles of the runs of these scenarios
 abbrev pub MakesTexts : List Scenario → List ℕ → Type 0
 MakesTexts runs text =
-    (bundles : List Bundle) × AreBundlesOf runs bundles × (text ≡ campaign_spelling (record { alone = false; bundles = bundles }))
+    (bundles : List Bundle) × AreBundlesOf runs bundles
+    × (text ≡ campaign_spelling (record { alone = false; bundles = bundles }))
 
 -- The text spells the bundles of the runs of the campaign that the input spells. It never says no.
 pub record IsCampaignRun (input text : List ℕ) (negative : Bool) : Type 0 where

@@ -1,17 +1,18 @@
-//! Laws of jobs. Each is a function with an empty body whose contract is the law: a caller that calls it knows
-//! the law.
+//! Laws of jobs. Each is a function with an empty body whose contract is the law: a caller that calls it
+//! knows the law.
 ghost use Rattle.gen_jobs.specs.Accepted.{RunsAreAccepted, RunsAreRead};
 ghost use Rattle.gen_jobs.specs.Judging.{RunsAreJudged};
 
-/// What the job `run` writes is read as the bundle of its run (`read`); and what the job `audit` makes of it does
-/// not say no (`accepted`): where no script has a raw line, somebody has no script, and any two of those who have
-/// none are joined inside them by at most d edges.
+/// What the job `run` writes is read as the bundle of its run (`read`); and what the job `audit` makes of it
+/// does not say no (`accepted`): where no script has a raw line, somebody has no script, and any two of those
+/// who have none are joined inside them by at most d edges.
 pub fn runs_are_accepted()
     ensures read { RunsAreRead }
     ensures accepted { RunsAreAccepted }
 {}
 
-/// What the job `audit` makes of what the job `run` writes is what the job `judge` makes of the same scenario.
+/// What the job `audit` makes of what the job `run` writes is what the job `judge` makes of the same
+/// scenario.
 pub fn runs_are_judged()
     ensures { RunsAreJudged }
 {}

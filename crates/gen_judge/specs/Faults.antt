@@ -11,8 +11,9 @@ fault_of_run runs.Memory = Memory
 fault_of_run runs.Thread = Thread
 fault_of_run runs.Gone = Thread
 
--- What is answered where a run ended so beside workers: that memory was refused, where it was to one of those who file or
--- report; else why the run has no logs; else that a thread was wanting, where not all workers were started; else the logs.
+-- What is answered where a run ended so beside workers: that memory was refused, where it was to one of those
+-- who file or report; else why the run has no logs; else that a thread was wanting, where not all workers
+-- were started; else the logs.
 abbrev pub ended_as : {X : Type 0} → Result X RunFault → (started refused : Bool) → Result X AuditFault
 ended_as logs started true = Err Memory
 ended_as (Err fault) started false = Err (fault_of_run fault)

@@ -1,19 +1,20 @@
--- Which entry may follow the entries before it in a log that a follower keeps, judged from those entries alone.
+-- Which entry may follow the entries before it in a log that a follower keeps, judged from those entries
+-- alone.
 use Rattle.std.specs.Prelude.{ℕ, ◌≡◌, ◌≢◌, ◌<◌, ◌≤◌, ◌⊎◌, List, [], ◌∷◌, ◌++◌, length, Contains, Option, Some, None}
 use Rattle.gen_types.specs.Ascending.{IsListOf}
 use Rattle.gen_net.specs.Network.{Network, rounds, choose, AreNeighbours}
 use Rattle.gen_net.specs.Run.{IsWellFormed}
 use Rattle.gen_net.specs.Log.{LogEntry, Started, Signed, Sent, Received, Decided, place, Precedes}
 
--- The entries give g the order by this path: START gives the commander his own by the empty path, a RECV gives its
--- order by its path.
+-- The entries give g the order by this path: START gives the commander his own by the empty path, a RECV
+-- gives its order by its path.
 abbrev pub Learns : ℕ → List LogEntry → ℕ → List ℕ → Type 0
 Learns g before v path =
     (Contains before (Started g (Some v)) × (path ≡ []))
     ⊎ ((from : ℕ) × Contains before (Received from v path))
 
--- g is to sign the order with this path: one of the shortest by which he learnt the order, which is shorter than R,
--- lengthened by himself
+-- g is to sign the order with this path: one of the shortest by which he learnt the order, which is shorter
+-- than R, lengthened by himself
 pub record IsToSign (net : Network) (g : ℕ) (before : List LogEntry) (v : ℕ) (path : List ℕ)
     : Type 0 where
   pub picked : List ℕ

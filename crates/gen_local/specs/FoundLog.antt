@@ -10,8 +10,8 @@ use Rattle.gen_local.specs.declared.texts.SignedText.{SignedText}
 use Rattle.gen_local.specs.Erased.{erased}
 use Rattle.gen_local.specs.SignedTexts.{texts_in, head_in, text_verifies, texts_of}
 
--- the log, the first entry with a signature that doesn't verify, whether the head verifies, the entry at which the log
--- departs, and the texts that verify
+-- the log, the first entry with a signature that doesn't verify, whether the head verifies, the entry at
+-- which the log departs, and the texts that verify
 pub record FoundLog : Type 0 where
   pub log : RunLog
   pub unsigned : Option ℕ

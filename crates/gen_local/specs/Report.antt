@@ -10,8 +10,8 @@ use Rattle.gen_local.specs.declared.reading.Reading.TheVariants.{Unreadable, For
 use Rattle.gen_log.specs.Writing.{LogBytes}
 use Rattle.gen_local.specs.FoundLog.{FoundLog, IsFound}
 
--- The bytes don't read, with their fault; or they are a log of another run, or one whose START names another general; or
--- they are a log of this run and general, with what is found of it.
+-- The bytes don't read, with their fault; or they are a log of another run, or one whose START names another
+-- general; or they are a log of this run and general, with what is found of it.
 abbrev pub IsReading : RunHeader → ℕ → Result RunLog LogFault → Reading → Type 0
 IsReading h general (Err fault) reading = reading ≡ Unreadable fault
 IsReading h general (Ok log) (Unreadable fault) = ⊥

@@ -1,5 +1,5 @@
--- The logs of the rest matched with one another: messages that only one of two logs has, and received chains that derive from
--- none.
+-- The logs of the rest matched with one another: messages that only one of two logs has, and received chains
+-- that derive from none.
 use Rattle.std.specs.Prelude.{ℕ, ◌≡◌, ◌<◌, ◌⊎◌, List, [], ◌∷◌, ◌++◌, length, Contains, All, Option, Some}
 use Rattle.gen_net.specs.Network.{Network, IsLoyal}
 use Rattle.gen_types.specs.Ends.{BeginsWith}
@@ -25,8 +25,8 @@ IsOneSided logs a b v path =
     (Logged logs a (Sent b v path) × (Logged logs b (Received a v path) → ⊥))
     ⊎ (Logged logs b (Received a v path) × (Logged logs a (Sent b v path) → ⊥))
 
--- a and b are of the rest and have logs that count, and one of these logs has a message from a to b, of order v and round l,
--- that the other hasn't
+-- a and b are of the rest and have logs that count, and one of these logs has a message from a to b, of order
+-- v and round l, that the other hasn't
 pub record IsUnmatched (net : Network) (faulty : List ℕ) (logs : Logs) (a b l v : ℕ) : Type 0 where
   pub from_rest : IsLoyal net faulty a
   pub from_log : HasLog logs a
@@ -36,9 +36,10 @@ pub record IsUnmatched (net : Network) (faulty : List ℕ) (logs : Logs) (a b l 
   pub round : length path ≡ l
   pub one_sided : IsOneSided logs a b v path
 
--- The path, up to its last general of the rest, begins the path of a shorter SEND of this order by anybody of the rest
--- to anybody faulty.
-pub record DerivesFromLogs (net : Network) (faulty : List ℕ) (logs : Logs) (v : ℕ) (path : List ℕ) : Type 0 where
+-- The path, up to its last general of the rest, begins the path of a shorter SEND of this order by anybody of
+-- the rest to anybody faulty.
+pub record DerivesFromLogs (net : Network) (faulty : List ℕ) (logs : Logs) (v : ℕ) (path : List ℕ) :
+    Type 0 where
   pub front : List ℕ
   pub last : ℕ
   pub forged : List ℕ

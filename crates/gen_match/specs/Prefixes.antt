@@ -15,7 +15,8 @@ path_number path = number_behind 1 path
 abbrev pub source_key : ℕ → ℕ → ℕ → ℕ
 source_key number order len = (number * 16 + order) * 32 + len
 
--- the keys of the beginnings that are longer than the one with this number, which the rest of the path follows
+-- the keys of the beginnings that are longer than the one with this number, which the rest of the path
+-- follows
 abbrev pub begin_keys : ℕ → ℕ → ℕ → List ℕ → List ℕ
 begin_keys order len n [] = []
 begin_keys order len n (g ∷ path) =

@@ -5,8 +5,10 @@ use Rattle.gen_types.specs.Ends.{BeginsWith}
 use Rattle.gen_net.specs.Log.{Sent}
 use Rattle.gen_match.specs.Matching.{Logs, Logged, IsDerivableFromLogs}
 
--- Somebody of the rest logged a SEND of this order, shorter than the path, to somebody faulty, whose path begins so.
-pub record HasSource (net : Network) (faulty : List ℕ) (logs : Logs) (v : ℕ) (path begin : List ℕ) : Type 0 where
+-- Somebody of the rest logged a SEND of this order, shorter than the path, to somebody faulty, whose path
+-- begins so.
+pub record HasSource (net : Network) (faulty : List ℕ) (logs : Logs) (v : ℕ) (path begin : List ℕ) :
+    Type 0 where
   pub from : ℕ
   pub to : ℕ
   pub source : List ℕ
@@ -16,9 +18,11 @@ pub record HasSource (net : Network) (faulty : List ℕ) (logs : Logs) (v : ℕ)
   pub earlier : length source < length path
   pub begun : BeginsWith source begin
 
--- where the path is split behind its last general of the rest, it is derivable exactly where its front has a source
+-- where the path is split behind its last general of the rest, it is derivable exactly where its front has a
+-- source
 abbrev pub DerivableAtLast : Type 0
 DerivableAtLast =
     (net : Network) (faulty : List ℕ) (logs : Logs) (v : ℕ) (path front : List ℕ) (last : ℕ) (forged : List ℕ)
-    → path ≡ (front ++ last ∷ []) ++ forged → IsLoyal net faulty last → All (λ g. IsLoyal net faulty g → ⊥) forged
+    → path ≡ (front ++ last ∷ []) ++ forged → IsLoyal net faulty last
+    → All (λ g. IsLoyal net faulty g → ⊥) forged
     → IsDerivableFromLogs net faulty logs v path ↔ HasSource net faulty logs v path (front ++ last ∷ [])

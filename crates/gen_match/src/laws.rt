@@ -1,5 +1,5 @@
-//! Laws of logs that are matched. Each is a function with an empty body whose contract is the law: a caller that
-//! calls it knows the law.
+//! Laws of logs that are matched. Each is a function with an empty body whose contract is the law: a caller
+//! that calls it knows the law.
 ghost use Rattle.gen_match.specs.Sources.{DerivableAtLast};
 
 /// A received chain is derivable exactly where its path up to its last general of the rest has a source: a

@@ -1,4 +1,5 @@
--- Who follows the algorithm, and what he decides (SM(m), steps 1 to 3, section 4 of the paper of 1982; the last round relays nothing).
+-- Who follows the algorithm, and what he decides (SM(m), steps 1 to 3, section 4 of the paper of 1982; the
+-- last round relays nothing).
 use Rattle.std.specs.Prelude.{ℕ, ◌≡◌, ◌≢◌, ◌+◌, ◌<◌, ◌↔◌, List, [], ◌∷◌, ◌++◌, Contains}
 use Rattle.gen_types.specs.Ascending.{IsListOf}
 use Rattle.gen_net.specs.Network.{Network, rounds, choose, AreNeighbours}
@@ -12,8 +13,8 @@ pub record CommanderFollows (net : Network) (run : Run) (own : ℕ) : Type 0 whe
       → Contains run message
       ↔ (AreNeighbours net 0 message.to × (message.order ≡ own) × (message.path ≡ 0 ∷ []))
 
--- what g relays in round l + 1: an order that he added in round l, with the picked path lengthened by himself, to a neighbour
--- outside that path
+-- what g relays in round l + 1: an order that he added in round l, with the picked path lengthened by
+-- himself, to a neighbour outside that path
 pub record IsRelayed (net : Network) (run : Run) (g l : ℕ) (pick : ℕ → List ℕ) (message : Message)
     : Type 0 where
   pub added : Adds run g l message.order

@@ -37,7 +37,8 @@ root_length = 32
 abbrev pub AreRoots : List (List ℕ) → Type 0
 AreRoots roots = AllByRecursion (λ root. length root ≡ root_length) roots
 
--- what each header keeps: its network does what networks do, its slot is known, and there is a root for each general
+-- what each header keeps: its network does what networks do, its slot is known, and there is a root for each
+-- general
 pub record IsHeader (h : RunHeader) : Type 0 where
   pub network : IsNetwork h.network
   pub slot : slot_of h ≤ greatest_slot

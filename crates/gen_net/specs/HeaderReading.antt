@@ -1,4 +1,5 @@
--- Reading a header: another version first, then too few bytes, then the first rule that its network or its slot breaks.
+-- Reading a header: another version first, then too few bytes, then the first rule that its network or its
+-- slot breaks.
 use Rattle.std.specs.Prelude.{ℕ, List, Result, Ok}
 use Rattle.gen_types.specs.Reading.{◌>>=◌}
 use Rattle.gen_types.specs.Bytes.{bytes_at, many_at}

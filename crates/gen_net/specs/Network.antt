@@ -3,8 +3,8 @@ use Rattle.std.specs.Prelude.{ℕ, ◌≡◌, ◌+◌, ◌<◌, ◌≤◌, ◌�
 use Rattle.gen_types.specs.declared.choices.ChoiceKind.{ChoiceKind}
 use Rattle.gen_types.specs.ChoiceOf.{choice_of}
 
--- Generals 0..n-1, of whom 0 is the commander, unordered pairs of them, the numbers m of traitors and d of the diameter that
--- a run is planned for, the number q of orders 0..q-1, and the choice.
+-- Generals 0..n-1, of whom 0 is the commander, unordered pairs of them, the numbers m of traitors and d of
+-- the diameter that a run is planned for, the number q of orders 0..q-1, and the choice.
 pub record Network : Type 0 where
   pub generals : ℕ
   pub edges : List (ℕ × ℕ)

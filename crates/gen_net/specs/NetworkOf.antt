@@ -40,13 +40,15 @@ network_with numbers edges choice = record {
   choice = choice;
 }
 
--- the network of these numbers and edges, which come in any order and direction; or the first rule that they break
+-- the network of these numbers and edges, which come in any order and direction; or the first rule that they
+-- break
 unfoldable pub network_of : NetNumbers → List (ℕ × ℕ) → Result Network HeaderFault
 network_of numbers given = do
   choice ← ranges_of numbers (not (has_bad_edge numbers.generals given))
   Ok (network_with numbers (edges_of numbers.generals given) choice)
 
--- the network of these numbers and edges, which have to stand in their places; or the first rule that they break
+-- the network of these numbers and edges, which have to stand in their places; or the first rule that they
+-- break
 unfoldable pub network_in_place : NetNumbers → List (ℕ × ℕ) → Result Network HeaderFault
 network_in_place numbers edges = do
   choice ← ranges_of numbers (in_place numbers.generals edges)

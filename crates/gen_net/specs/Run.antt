@@ -1,5 +1,5 @@
--- The messages of a run, round by round, and what a general learns from them (SM(m), section 4 of the paper of 1982, with
--- messages to neighbours only, as in section 5).
+-- The messages of a run, round by round, and what a general learns from them (SM(m), section 4 of the paper
+-- of 1982, with messages to neighbours only, as in section 5).
 use Rattle.std.specs.Prelude.{ℕ, ◌≡◌, ◌<◌, ◌≤◌, List, length, Contains}
 use Rattle.gen_net.specs.declared.message.Message.{Message}
 use Rattle.gen_net.specs.Network.{Network, rounds, AreNeighbours}
@@ -14,7 +14,8 @@ Run = List Message
 abbrev pub IsSent : Run → ℕ → Message → Type 0
 IsSent run l message = Contains run message × (length message.path ≡ l)
 
--- the message may stand in a run: on an edge, with a chain of at most R signers of whom its sender is the last, to one who is none of them
+-- the message may stand in a run: on an edge, with a chain of at most R signers of whom its sender is the
+-- last, to one who is none of them
 pub record IsWellFormed (net : Network) (message : Message) : Type 0 where
   pub on_edge : AreNeighbours net message.from message.to
   pub chain : IsChain net message.order message.path

@@ -1,4 +1,5 @@
--- Walks inside the rest, the loyal generals, and the diameter of the graph that they form (section 5 of the paper of 1982).
+-- Walks inside the rest, the loyal generals, and the diameter of the graph that they form (section 5 of the
+-- paper of 1982).
 use Rattle.std.specs.Prelude.{ℕ, zero, suc, ◌≡◌, ◌≤◌, List}
 use Rattle.gen_net.specs.Network.{Network, AreNeighbours, IsLoyal}
 

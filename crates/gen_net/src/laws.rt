@@ -1,4 +1,5 @@
-//! Laws of headers. Each is a function with an empty body whose contract is the law: a caller that calls it knows the law.
+//! Laws of headers. Each is a function with an empty body whose contract is the law: a caller that calls it
+//! knows the law.
 ghost use Rattle.gen_types.specs.Spelled.{HasOneSpelling};
 ghost use Rattle.gen_net.specs.declared.marks.Marks.{Marks};
 ghost use Rattle.gen_net.specs.Front.{AreMarks, front_spelling};

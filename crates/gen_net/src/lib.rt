@@ -1,6 +1,6 @@
-//! This crate has networks of generals and the headers of runs, and it defines what a run of the signed message algorithm on
-//! one is (sections 4 and 5 of L. Lamport, R. Shostak and M. Pease, "The Byzantine Generals Problem",
-//! ACM TOPLAS 4, 1982).
+//! This crate has networks of generals and the headers of runs, and it defines what a run of the signed
+//! message algorithm on one is (sections 4 and 5 of L. Lamport, R. Shostak and M. Pease, "The Byzantine
+//! Generals Problem", ACM TOPLAS 4, 1982).
 //!
 //! The definitions that the later crates use are in `specs/`: networks, chains, runs, who follows the
 //! algorithm, runs in which no loyal signature is forged, and the logs of followers.

@@ -36,14 +36,16 @@ job_named name capacity workers general =
     else if bytes_eq name (codes "run") then option_map (λ n. jobs.Run n) (number_between 1 16 capacity)
     else if bytes_eq name (codes "judge") then
     job_judging (number_between 1 16 capacity) (number_between 1 16 workers)
-    else if bytes_eq name (codes "campaign") then option_map (λ n. jobs.Campaign n) (number_between 1 16 capacity)
+    else if bytes_eq name (codes "campaign")
+    then option_map (λ n. jobs.Campaign n) (number_between 1 16 capacity)
     else if bytes_eq name (codes "audit") then option_map (λ n. jobs.Audit n) (number_between 1 16 workers)
     else job_against name general
 
 -- the job of a command and its arguments
 abbrev pub job_told : Text × List Row → Option Job
 job_told p =
-    job_named p.0 (first_of (codes "capacity") p.1) (first_of (codes "workers") p.1) (first_of (codes "general") p.1)
+    job_named p.0 (first_of (codes "capacity") p.1) (first_of (codes "workers") p.1)
+    (first_of (codes "general") p.1)
 
 abbrev pub job_said : Option (Text × List Row) → Option Job
 job_said command = option_and_then job_told command

@@ -34,7 +34,8 @@ fault_from error (Words e) = (e ≡ error) × (kind_of error ≢ OutOfMemory)
 
 -- the commands that take each of the numbers
 abbrev pub takes_capacity : Text → Bool
-takes_capacity name = bytes_eq name (codes "run") || bytes_eq name (codes "judge") || bytes_eq name (codes "campaign")
+takes_capacity name =
+    bytes_eq name (codes "run") || bytes_eq name (codes "judge") || bytes_eq name (codes "campaign")
 
 abbrev pub takes_workers : Text → Bool
 takes_workers name = bytes_eq name (codes "audit") || bytes_eq name (codes "judge")
@@ -56,7 +57,8 @@ refusal name capacity workers general =
 
 abbrev pub refusal_told : Text × List Row → WordsFault
 refusal_told p = refusal p.0 (number_between 1 16 (first_of (codes "capacity") p.1))
-    (number_between 1 16 (first_of (codes "workers") p.1)) (number_between 0 15 (first_of (codes "general") p.1))
+    (number_between 1 16 (first_of (codes "workers") p.1))
+    (number_between 0 15 (first_of (codes "general") p.1))
 
 -- there is no command, or it has no job for this reason
 abbrev pub IsRefused : Option (Text × List Row) → WordsFault → Type 0

@@ -18,8 +18,8 @@ use Rattle.gen_report.specs.LineReading.{fault_at}
 use Rattle.gen_report.specs.CursorReading.{next_line}
 use Rattle.gen_report.specs.ItemReading.{item_in}
 
--- what lines say from one in a block on: the rest of the lines of that block, the scripts of the blocks after it, the paths
--- that all these lines name, and the cursor behind the last line
+-- what lines say from one in a block on: the rest of the lines of that block, the scripts of the blocks after
+-- it, the paths that all these lines name, and the cursor behind the last line
 pub record Blocks : Type 0 where
   pub lines : List ScriptLine
   pub scripts : List Script
@@ -64,4 +64,5 @@ blocks_at net block k (line ∷ more) = do
 unfoldable pub all_scripted : List ℕ → List PathLine → Result (Unit {0}) ScenarioFault
 all_scripted traitors [] = Ok tt
 all_scripted traitors (p ∷ more) =
-    if list_all (is_among traitors) p.path then all_scripted traitors more else Err (fault_at (faults.Script BadPath) p.line)
+    if list_all (is_among traitors) p.path then all_scripted traitors more
+    else Err (fault_at (faults.Script BadPath) p.line)

@@ -11,7 +11,9 @@ listed (v ∷ vs) = decimal v ++ flat_map (λ w. codes "," ++ decimal w) vs
 
 -- a general, the orders of his set, and the order that he decides
 abbrev pub decision_line : Decision → List ℕ
-decision_line d = codes "general " ++ decimal d.general ++ codes " set " ++ listed d.orders ++ codes " decides " ++ decimal d.order ++ codes "\n"
+decision_line d =
+    codes "general " ++ decimal d.general ++ codes " set " ++ listed d.orders ++ codes " decides "
+    ++ decimal d.order ++ codes "\n"
 
 -- a line for each decision
 abbrev pub decisions_text : List Decision → List ℕ

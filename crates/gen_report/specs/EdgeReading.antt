@@ -29,7 +29,8 @@ with_edge others e = do
   Ok (record o { found = e ∷ o.found })
 
 -- what this line and what the lines after it give make
-abbrev pub after_edge : Option (ℕ × ℕ) → Line × Cursor → Result EdgeLines ScenarioFault → Result EdgeLines ScenarioFault
+abbrev pub after_edge : Option (ℕ × ℕ) → Line × Cursor → Result EdgeLines ScenarioFault
+    → Result EdgeLines ScenarioFault
 after_edge None l others = Ok (record { found = []; next = l.0; after = l.1 })
 after_edge (Some e) l others = with_edge others e
 

@@ -19,17 +19,21 @@ log_fault_name fault = rules_named (log_fault_numbers fault)
 -- a message: from whom to whom, its round, and its order
 abbrev pub message_named : ℕ → ℕ → ℕ → ℕ → List ℕ
 message_named from to round order =
-    codes " from " ++ decimal from ++ codes " to " ++ decimal to ++ codes " round " ++ decimal round ++ codes " order " ++ decimal order
+    codes " from " ++ decimal from ++ codes " to " ++ decimal to ++ codes " round " ++ decimal round
+    ++ codes " order " ++ decimal order
 
 -- what a finding is
 abbrev pub finding_named : Finding → List ℕ
 finding_named (Missing general) = codes "N1 general " ++ decimal general
 finding_named (Several general) = codes "N2 general " ++ decimal general
-finding_named (Unreadable general fault) = codes "N3 general " ++ decimal general ++ codes " " ++ log_fault_name fault
+finding_named (Unreadable general fault) =
+    codes "N3 general " ++ decimal general ++ codes " " ++ log_fault_name fault
 finding_named (Foreign general) = codes "N4 general " ++ decimal general
-finding_named (Unsigned general entry) = codes "N5 general " ++ decimal general ++ codes " entry " ++ decimal entry
+finding_named (Unsigned general entry) =
+    codes "N5 general " ++ decimal general ++ codes " entry " ++ decimal entry
 finding_named (Unsealed general) = codes "N6 general " ++ decimal general
-finding_named (Departs general entry) = codes "N7 general " ++ decimal general ++ codes " entry " ++ decimal entry
+finding_named (Departs general entry) =
+    codes "N7 general " ++ decimal general ++ codes " entry " ++ decimal entry
 finding_named (Unmatched from to round order) = codes "N8" ++ message_named from to round order
 finding_named (Underivable from to round order) = codes "N9" ++ message_named from to round order
 finding_named (Unjoined first second) = codes "N10 pair " ++ decimal first ++ codes " " ++ decimal second

@@ -1,4 +1,5 @@
--- The lines behind that of the order that may be absent: the master seed of all keys, and the slot of the run.
+-- The lines behind that of the order that may be absent: the master seed of all keys, and the slot of the
+-- run.
 use Rattle.std.specs.Prelude.{ℕ, List, [], ◌∷◌, codes, Option, Some, None, Result, Ok, Err, nat_le, if◌then◌else◌}
 use Rattle.std.specs.Str.{bytes_eq}
 use Rattle.hex.specs.Hex.{decode_sized}

@@ -1,4 +1,5 @@
--- One line of a text and what it says, with the line's first fault: its bytes, its length, its line feed, its shape, its numbers.
+-- One line of a text and what it says, with the line's first fault: its bytes, its length, its line feed, its
+-- shape, its numbers.
 use Rattle.std.specs.Prelude.{ℕ, List, [], ◌∷◌, length, Some, None, Result, Ok, Err, nat_lt, ◌==◌, if◌then◌else◌}
 use Rattle.std.specs.List.{list_any}
 use Rattle.std.specs.Str.{bytes_eq}

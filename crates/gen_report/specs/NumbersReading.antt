@@ -32,7 +32,8 @@ opening_at c = do
   n ← numbered (codes "generals") c
   opening_behind n.0.value n.1
 
--- what the three lines after that of the traitors say, the number of the last of them, and the cursor behind them
+-- what the three lines after that of the traitors say, the number of the last of them, and the cursor behind
+-- them
 pub record Settings : Type 0 where
   pub diameter : ℕ
   pub orders : ℕ
@@ -50,7 +51,13 @@ settings_at start = do
 -- the numbers of the network that they say
 abbrev pub numbers_said : Opening → Settings → NetNumbers
 numbers_said o s =
-    record { generals = o.generals; traitors = o.traitors; diameter = s.diameter; orders = s.orders; choice = s.choice }
+    record {
+      generals = o.generals;
+      traitors = o.traitors;
+      diameter = s.diameter;
+      orders = s.orders;
+      choice = s.choice;
+    }
 
 -- A fault of the network is one of the line k.
 abbrev pub network_at : ℕ → Result Network HeaderFault → Result Network ScenarioFault

@@ -13,7 +13,8 @@ use Rattle.gen_report.specs.Fields.{line_of, said, edge_line, text_of}
 use Rattle.gen_report.specs.Scripts.{SpellsScripts}
 use Rattle.gen_report.specs.Told.{net_of, order_of}
 
--- what a text gives first: a network's numbers, its edges in their order and direction, and the commander's order
+-- what a text gives first: a network's numbers, its edges in their order and direction, and the commander's
+-- order
 pub record Given : Type 0 where
   pub numbers : NetNumbers
   pub edges : List (ℕ × ℕ)
@@ -24,7 +25,8 @@ abbrev pub given_lines : Given → List (List (List ℕ))
 given_lines g =
     said (codes "generals") g.numbers.generals ∷ (map edge_line g.edges
     ++ (said (codes "traitors") g.numbers.traitors ∷ said (codes "diameter") g.numbers.diameter
-    ∷ said (codes "orders") g.numbers.orders ∷ said (codes "choice") g.numbers.choice ∷ said (codes "order") g.order ∷ []))
+    ∷ said (codes "orders") g.numbers.orders ∷ said (codes "choice") g.numbers.choice
+    ∷ said (codes "order") g.order ∷ []))
 
 -- Each number is at most 255.
 pub record AreBytes (g : Given) : Type 0 where
@@ -56,7 +58,8 @@ abbrev pub SpellsKeys : List (List ℕ) → ScenarioText → Type 0
 SpellsKeys lines (texts.Plain plain) = lines ≡ []
 SpellsKeys lines (texts.Signed s) = SpellsSigned lines s
 
--- The text spells this: it gives numbers that make its network, its order is one of the network's, and `end` is its last line.
+-- The text spells this: it gives numbers that make its network, its order is one of the network's, and `end`
+-- is its last line.
 pub record SpellsScenario (text : List ℕ) (told : ScenarioText) : Type 0 where
   pub given : Given
   pub keys : List (List ℕ)
@@ -70,4 +73,5 @@ pub record SpellsScenario (text : List ℕ) (told : ScenarioText) : Type 0 where
 -- a text spells at most one scenario
 abbrev pub OneScenario : Type 0
 OneScenario =
-    (text : List ℕ) (told other : ScenarioText) → SpellsScenario text told → SpellsScenario text other → told ≡ other
+    (text : List ℕ) (told other : ScenarioText) → SpellsScenario text told → SpellsScenario text other
+    → told ≡ other

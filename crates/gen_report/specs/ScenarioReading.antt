@@ -17,7 +17,8 @@ use Rattle.gen_report.specs.BlocksReading.{blocks_at, all_scripted}
 -- Without a seed the line k must be `end`, and is no block of a script.
 unfoldable pub end_in : ℕ → List (List ℕ) → Result (Unit {0}) ScenarioFault
 end_in k (w ∷ []) = check (bytes_eq w (codes "end")) (fault_at Shape k)
-end_in k (w ∷ x ∷ []) = if bytes_eq w (codes "script") then Err (fault_at Unseeded k) else Err (fault_at Shape k)
+end_in k (w ∷ x ∷ []) =
+    if bytes_eq w (codes "script") then Err (fault_at Unseeded k) else Err (fault_at Shape k)
 end_in k _ = Err (fault_at Shape k)
 
 -- the cursor behind `end`

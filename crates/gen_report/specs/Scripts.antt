@@ -14,7 +14,8 @@ SpellsLines net g (line ∷ lines) (it ∷ more) =
     SpellsLine net g line it × (length line ≤ longest_line) × SpellsLines net g lines more
 SpellsLines net g _ _ = ⊥
 
--- The lines are the blocks of these scripts: each a line that names the general, and then the lines of his script.
+-- The lines are the blocks of these scripts: each a line that names the general, and then the lines of his
+-- script.
 abbrev pub SpellsScripts : Network → List (List ℕ) → List Script → Type 0
 SpellsScripts net lines [] = lines ≡ []
 SpellsScripts net lines (script ∷ others) =

@@ -27,7 +27,8 @@ answer_lines (No findings) = codes "verdict no\n" ++ flat_map finding_line findi
 
 -- who is convicted, and by which kind of evidence
 abbrev pub convicted_line : Accusation → List ℕ
-convicted_line x = codes "convicted " ++ decimal x.accused ++ codes " by K" ++ decimal (kind_of x.claim) ++ codes "\n"
+convicted_line x =
+    codes "convicted " ++ decimal x.accused ++ codes " by K" ++ decimal (kind_of x.claim) ++ codes "\n"
 
 -- the run, the verdict and what it is for, the convictions, and an end
 abbrev pub verdict_text : RunHeader → Verdict → List Accusation → List ℕ

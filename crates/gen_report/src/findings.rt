@@ -36,28 +36,46 @@ fn push_entry(out: &mut String, entry: usize) -> Result<(), AllocError>
     write!(out, " entry {entry}")
 }
 
-/// Appends a message: from whom to whom, its round, and its order.
+/// Appends the name of a finding's kind, and the message that it is about: from whom to whom, its round, and its order.
 fn push_message(
     out: &mut String,
+    kind: &str,
     from: GeneralNo,
     to: GeneralNo,
     round: u8,
     order: OrderNo,
 ) -> Result<(), AllocError>
     ensures { OnOk result (string_bytes out.new
-        ≡ string_bytes out.old ++ message_named from to round order) }
+        ≡ string_bytes out.old ++ kind.now ++ message_named from to round order) }
 {
     let from = from.get();
     let to = to.get();
     let order = order.get();
-    write!(out, " from {from} to {to} round {round} order {order}")
+    write!(
+        out,
+        "{kind} from {from} to {to} round {round} order {order}"
+    )
 }
 
-/// Appends what a finding is.
-fn push_named(out: &mut String, finding: Finding) -> Result<(), AllocError>
-    ensures { OnOk result (string_bytes out.new ≡ string_bytes out.old ++ finding_named finding) }
+/// Appends a pair of generals whom the walks don't join.
+fn push_pair(out: &mut String, first: GeneralNo, second: GeneralNo) -> Result<(), AllocError>
+    ensures { OnOk result (string_bytes out.new
+        ≡ string_bytes out.old ++ codes "N10 pair " ++ decimal first ++ codes " " ++ decimal second) }
 {
-    match finding {
+    let first = first.get();
+    let second = second.get();
+    write!(out, "N10 pair {first} {second}")
+}
+
+/// Appends what a finding is: its number, as `N8`, and what it is about, on one line without an end.
+///
+/// # Errors
+///
+/// `AllocError` where memory is refused; then what stands in `out` isn't said.
+pub fn push_finding_name(out: &mut String, finding: &Finding) -> Result<(), AllocError>
+    ensures { OnOk result (string_bytes out.new ≡ string_bytes out.old ++ finding_named finding.now) }
+{
+    match *finding {
         Finding::Missing { general } => push_against(out, "N1", general),
         Finding::Several { general } => push_against(out, "N2", general),
         Finding::Unreadable { general, fault } => {
@@ -80,24 +98,14 @@ fn push_named(out: &mut String, finding: Finding) -> Result<(), AllocError>
             to,
             round,
             order,
-        } => {
-            out.push_str("N8")?;
-            push_message(out, from, to, round, order)
-        }
+        } => push_message(out, "N8", from, to, round, order),
         Finding::Underivable {
             from,
             to,
             round,
             order,
-        } => {
-            out.push_str("N9")?;
-            push_message(out, from, to, round, order)
-        }
-        Finding::Unjoined { first, second } => {
-            let first = first.get();
-            let second = second.get();
-            write!(out, "N10 pair {first} {second}")
-        }
+        } => push_message(out, "N9", from, to, round, order),
+        Finding::Unjoined { first, second } => push_pair(out, first, second),
         Finding::Nobody => out.push_str("N11"),
     }
 }
@@ -107,6 +115,6 @@ pub fn push_finding(out: &mut String, finding: &Finding) -> Result<(), AllocErro
     ensures { OnOk result
         (string_bytes out.new ≡ string_bytes out.old ++ finding_line finding.now) }
 {
-    push_named(out, *finding)?;
+    push_finding_name(out, finding)?;
     out.push_str("\n")
 }

@@ -23,6 +23,7 @@ mod verdict_text;
 pub use cursor::{Cursor, Line, Numbered};
 pub use decisions::print_decisions;
 pub use fault::{LineFault, ScenarioFault};
+pub use findings::push_finding_name;
 pub use keys::{read_seed, read_slot};
 pub use numbers::read_plain;
 pub use scenario::{one_scenario, read_scenario, read_signed};

@@ -12,7 +12,8 @@ pub record IsChoice (choice : List ℕ → ℕ) : Type 0 where
 abbrev pub EachIsChoice : Type 0
 EachIsChoice = (net : Network) → IsChoice (choose net)
 
--- with this choice lieutenants of the rest choose alike from their sets, and choose the order of a commander of the rest
+-- with this choice lieutenants of the rest choose alike from their sets, and choose the order of a commander
+-- of the rest
 pub record ChosenAlike (here : Case) (choice : List ℕ → ℕ) : Type 0 where
   pub alike : (g h : ℕ) (orders others : List ℕ) → IsLoyalLieutenant here g → IsLoyalLieutenant here h
       → AreAccepted here g orders → AreAccepted here h others → choice orders ≡ choice others

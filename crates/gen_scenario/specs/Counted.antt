@@ -16,7 +16,8 @@ is_last [] g = false
 is_last (a ∷ []) g = a == g
 is_last (a ∷ b ∷ path) g = is_last (b ∷ path) g
 
--- the chain may count: as many signers as rounds, its sender last, its receiver not among them, and it verifies
+-- the chain may count: as many signers as rounds, its sender last, its receiver not among them, and it
+-- verifies
 unfoldable pub may_count : RunHeader → Delivery → Chain → Bool
 may_count h d c =
     (length (signed_path c.signers) == d.round && is_last (signed_path c.signers) d.from)

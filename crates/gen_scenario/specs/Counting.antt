@@ -1,4 +1,5 @@
--- Which chains of a frame count at its receiver. A frame is a list of parcels, and a parcel is a list of bytes.
+-- Which chains of a frame count at its receiver. A frame is a list of parcels, and a parcel is a list of
+-- bytes.
 use Rattle.std.specs.Prelude.{ℕ, ◌≡◌, ◌≢◌, ◌≤◌, ◌↔◌, List, ◌∷◌, ◌++◌, length, Contains, AllPairs}
 use Rattle.gen_types.specs.Ends.{EndsWith}
 use Rattle.gen_net.specs.Header.{RunHeader, height_of}
@@ -6,8 +7,8 @@ use Rattle.gen_chain.specs.Chain.{Chain, IsSignedChain, signed_path, chain_spell
 use Rattle.gen_chain.specs.Verifying.{ChainVerifies}
 use Rattle.gen_scenario.specs.declared.delivery.Delivery.{Delivery}
 
--- The chain may count: it verifies, it has as many signers as rounds were begun, its sender signed it last, and its receiver
--- did not sign it.
+-- The chain may count: it verifies, it has as many signers as rounds were begun, its sender signed it last,
+-- and its receiver did not sign it.
 pub record MayCount (h : RunHeader) (d : Delivery) (c : Chain) : Type 0 where
   pub verifies : ChainVerifies h c
   pub in_time : length (signed_path c.signers) ≡ d.round
@@ -20,7 +21,8 @@ pub record Carries (h : RunHeader) (d : Delivery) (parcel : List ℕ) (c : Chain
   pub is_chain : IsSignedChain (height_of h) c
   pub may_count : MayCount h d c
 
--- A chain of the frame counts: the frame is not too long, and no parcel before the chain's carries one of the same order.
+-- A chain of the frame counts: the frame is not too long, and no parcel before the chain's carries one of the
+-- same order.
 pub record Counts (h : RunHeader) (d : Delivery) (frame : List (List ℕ)) (c : Chain) : Type 0 where
   pub few : length frame ≤ h.network.orders
   pub before : List (List ℕ)
@@ -32,6 +34,7 @@ pub record Counts (h : RunHeader) (d : Delivery) (frame : List (List ℕ)) (c : 
       → k.order ≢ c.order
 
 -- the list has exactly the chains that count, of each order at most one
-pub record AreCounted (h : RunHeader) (d : Delivery) (frame : List (List ℕ)) (chains : List Chain) : Type 0 where
+pub record AreCounted (h : RunHeader) (d : Delivery) (frame : List (List ℕ)) (chains : List Chain) :
+    Type 0 where
   pub exactly : (c : Chain) → Contains chains c ↔ Counts h d frame c
   pub once : AllPairs (λ c k. c.order ≢ k.order) chains

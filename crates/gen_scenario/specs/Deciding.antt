@@ -33,7 +33,8 @@ decisions_of s = map (decision_of s) (followers_of s)
 
 -- each of these is a decision in the run of the scenario
 abbrev pub DecisionsHold : Type 0
-DecisionsHold = (s : Scenario) → IsScenario s → All (IsDecision s.net s.order (messages_of s)) (decisions_of s)
+DecisionsHold =
+    (s : Scenario) → IsScenario s → All (IsDecision s.net s.order (messages_of s)) (decisions_of s)
 
 -- without scripts they are those of the plain scenario
 abbrev pub PlainDecisions : Type 0
@@ -42,7 +43,8 @@ PlainDecisions = (s : Scenario) → IsScenario s → s.scripts ≡ [] → IsOutc
 -- which has one list of decisions
 abbrev pub OneOutcome : Type 0
 OneOutcome =
-    (net : Network) (order : ℕ) (decisions others : List Decision) → IsOutcome net order decisions → IsOutcome net order others
+    (net : Network) (order : ℕ) (decisions others : List Decision) → IsOutcome net order decisions
+    → IsOutcome net order others
     → decisions ≡ others
 
 -- the plain scenario with signatures: of version 1, by the keys of a master seed, and nobody has a script

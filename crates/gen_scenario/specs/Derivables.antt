@@ -12,8 +12,8 @@ pub record IsHeard (net : Network) (faulty : List ℕ) (run : Run) (message : Me
   pub from_loyal : IsLoyal net faulty message.from
   pub to_faulty : Contains faulty message.to
 
--- The message has the order of the source, comes in a later round, and its path is a front of the source's, lengthened by faulty
--- generals alone.
+-- The message has the order of the source, comes in a later round, and its path is a front of the source's,
+-- lengthened by faulty generals alone.
 pub record Prolongs (faulty : List ℕ) (source message : Message) : Type 0 where
   pub kept : List ℕ
   pub added : List ℕ

@@ -1,4 +1,5 @@
--- The frame that a general sends a neighbour in a round: what it is made of is what he knows of his own, and what he heard before.
+-- The frame that a general sends a neighbour in a round: what it is made of is what he knows of his own, and
+-- what he heard before.
 use Rattle.std.specs.Prelude.{ℕ, ◌+◌, ◌-◌, ◌==◌, ◌&&◌, not, if◌then◌else◌, Bool, false, List, [], ◌∷◌, length, map, filter, Option, Some, None}
 use Rattle.std.specs.List.{range_with_len, list_any, flat_map}
 use Rattle.gen_types.specs.Ends.{is_among}
@@ -9,8 +10,8 @@ use Rattle.gen_scenario.specs.declared.heard.Heard.{Heard}
 use Rattle.gen_scenario.specs.Heard.{round_of, first_of, heard_from}
 use Rattle.gen_scenario.specs.Signing.{Keys, made, lengthened, bent}
 
--- what a general knows of his own: with what he signs, his number, his order if he is the commander, and the lines of his script
--- if he has one
+-- what a general knows of his own: with what he signs, his number, his order if he is the commander, and the
+-- lines of his script if he has one
 pub record Sender : Type 0 where
   pub keys : Keys
   pub me : ℕ
@@ -49,7 +50,8 @@ passed k path (Some x) =
 -- the chain that a line has its general sign and send
 abbrev pub signed_by_line : Keys → List Heard → ScriptLine → List Chain
 signed_by_line k heard (Make round to order path) = made k order path ∷ []
-signed_by_line k heard (Pass round to from order path) = passed k path (heard_from (round - length path) from order heard)
+signed_by_line k heard (Pass round to from order path) =
+    passed k path (heard_from (round - length path) from order heard)
 signed_by_line k heard _ = []
 
 -- what a line puts into a frame
@@ -70,7 +72,8 @@ is_for at neighbour _ = false
 -- ---- the frame
 
 unfoldable pub followers_frame : Sender → List Heard → ℕ → ℕ → List (List ℕ)
-followers_frame p heard round to = map chain_spelling (outside_of to (signed_in p.keys p.me p.own heard round))
+followers_frame p heard round to =
+    map chain_spelling (outside_of to (signed_in p.keys p.me p.own heard round))
 
 unfoldable pub traitors_frame : Keys → ℕ → List ScriptLine → List Heard → ℕ → ℕ → List (List ℕ)
 traitors_frame k me lines heard round to = flat_map (parcels_of k me heard) (filter (is_for round to) lines)

@@ -1,5 +1,5 @@
--- What a general has heard: the chains that counted at him, each with its sender, in the order of rounds, of senders and of
--- parcels.
+-- What a general has heard: the chains that counted at him, each with its sender, in the order of rounds, of
+-- senders and of parcels.
 use Rattle.std.specs.Prelude.{ℕ, ◌==◌, ◌&&◌, if◌then◌else◌, List, [], ◌∷◌, length, filter, Option, Some, None}
 use Rattle.std.specs.List.{range_with_len, list_any}
 use Rattle.gen_chain.specs.Chain.{signed_path}
@@ -9,7 +9,8 @@ use Rattle.gen_scenario.specs.declared.heard.Heard.{Heard}
 abbrev pub round_of : Heard → ℕ
 round_of x = length (signed_path x.chain.signers)
 
--- Of what a general heard, the first chain of an order: the least sender's in the round in which he adds the order.
+-- Of what a general heard, the first chain of an order: the least sender's in the round in which he adds the
+-- order.
 unfoldable pub first_of : ℕ → List Heard → Option Heard
 first_of order [] = None
 first_of order (x ∷ others) = if x.chain.order == order then Some x else first_of order others

@@ -19,7 +19,8 @@ CountedAreChains =
     (h : RunHeader) (d : Delivery) (frame : List (List ℕ)) (c : Chain) → Contains (counted_of h d frame) c
     → IsSignedChain (height_of h) c × MayCount h d c
 
--- what was heard in the first k rounds came from a neighbour who signed it last, and the hearer didn't sign it
+-- what was heard in the first k rounds came from a neighbour who signed it last, and the hearer didn't sign
+-- it
 pub record IsHeardBy (s : Scenario) (k g : ℕ) (x : Heard) : Type 0 where
   pub near : AreNeighbours s.net g x.from
   pub is_chain : IsSignedChain (height_of (header_of s)) x.chain

@@ -1,4 +1,5 @@
--- Every log of a scenario verifies, those of traitors too, and their second ones; and none is too long for a bundle.
+-- Every log of a scenario verifies, those of traitors too, and their second ones; and none is too long for a
+-- bundle.
 use Rattle.std.specs.Prelude.{ℕ, ◌<◌, ◌^◌, Contains, length}
 use Rattle.gen_log.specs.Log.{RunLog, log_spelling}
 use Rattle.gen_log.specs.Verifying.{LogVerifies}

@@ -10,7 +10,8 @@ use Rattle.gen_scenario.specs.SignedWorld.{own_order}
 use Rattle.gen_scenario.specs.SignerTrees.{ArePlayable}
 use Rattle.gen_scenario.specs.Trees.{general_tree}
 
--- the header, his number, his order if he is the commander, and if he has a script its lines and the trees of all who have one
+-- the header, his number, his order if he is the commander, and if he has a script its lines and the trees of
+-- all who have one
 pub record Part : Type 0 where
   pub header : RunHeader
   pub me : ℕ
@@ -37,8 +38,19 @@ part_of s g = record {
   trees = trees_known s (script_of s.scripts g);
 }
 
--- What holds of it: the header is one, he is a general of its network, the commander alone has an order, which is one of the
--- network's, and what the lines of his script ask for can be made.
+-- what a general without a script knows, who was told the header, his number and, if he commands, his order
+abbrev pub followers_part : RunHeader → ℕ → Option ℕ → Part
+followers_part h g order = record { header = h; me = g; own = order; script = None; trees = [] }
+
+-- he is a general of the header's network, and he has an order, one of the network's, exactly where he
+-- commands
+pub record CanFollow (h : RunHeader) (g : ℕ) (order : Option ℕ) : Type 0 where
+  pub me : g < h.network.generals
+  pub own : IfSome order (λ v. v < h.network.orders)
+  pub commander : IsSome order ↔ (g ≡ 0)
+
+-- What holds of it: the header is one, he is a general of its network, the commander alone has an order,
+-- which is one of the network's, and what the lines of his script ask for can be made.
 pub record IsPart (k : Part) : Type 0 where
   pub header : IsHeader k.header
   pub me : k.me < k.header.network.generals

@@ -18,7 +18,8 @@ use Rattle.gen_scenario.specs.Part.{part_of, own_keys}
 pub record AreHisKeys (s : Scenario) (g : ℕ) (k : Keys) : Type 0 where
   pub header : k.header ≡ header_of s
   pub own : k.seeds g ≡ seed_of s.master g
-  pub others : Contains (scripted s.scripts) g → (h : ℕ) → Contains (scripted s.scripts) h → k.seeds h ≡ seed_of s.master h
+  pub others : Contains (scripted s.scripts) g → (h : ℕ) → Contains (scripted s.scripts) h
+      → k.seeds h ≡ seed_of s.master h
 
 -- a general of the scenario with these keys
 abbrev pub part_by : Scenario → ℕ → Keys → Sender
@@ -30,19 +31,23 @@ pub record ActAlike (p q : Sender) : Type 0 where
   pub signed : (heard : List Heard) (round : ℕ)
       → signed_in p.keys p.me p.own heard round ≡ signed_in q.keys q.me q.own heard round
   pub signs : (heard : List Heard) (round : ℕ) → sign_entries p heard round ≡ sign_entries q heard round
-  pub sends : (heard : List Heard) (round to : ℕ) → send_entries p heard round to ≡ send_entries q heard round to
-  pub recvs : (round from : ℕ) (counted : List Chain) → recv_entries p round from counted ≡ recv_entries q round from counted
+  pub sends : (heard : List Heard) (round to : ℕ)
+      → send_entries p heard round to ≡ send_entries q heard round to
+  pub recvs : (round from : ℕ) (counted : List Chain)
+      → recv_entries p round from counted ≡ recv_entries q round from counted
   pub logs : (entries : List Entry) → logs_over p entries ≡ logs_over q entries
 
 -- such keys are enough
 abbrev pub KeysAreEnough : Type 0
 KeysAreEnough =
-    (s : Scenario) → IsScenario s → (g : ℕ) (k : Keys) → AreHisKeys s g k → ActAlike (part_by s g k) (sender_of s g)
+    (s : Scenario) → IsScenario s → (g : ℕ) (k : Keys) → AreHisKeys s g k
+    → ActAlike (part_by s g k) (sender_of s g)
 
 -- who has no script has them by his own seed, and who has one by the trees that he knows
 abbrev pub OwnSeedIsEnough : Type 0
 OwnSeedIsEnough =
-    (s : Scenario) (g : ℕ) → script_of s.scripts g ≡ None → AreHisKeys s g (own_keys (header_of s) (seed_of s.master g))
+    (s : Scenario) (g : ℕ) → script_of s.scripts g ≡ None
+    → AreHisKeys s g (own_keys (header_of s) (seed_of s.master g))
 
 abbrev pub KnownTreesAreEnough : Type 0
 KnownTreesAreEnough =

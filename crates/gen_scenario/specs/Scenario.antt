@@ -1,5 +1,5 @@
--- Scenarios: a network and the commander's order, and where generals sign the master seed of all keys and the scripts of the
--- traitors.
+-- Scenarios: a network and the commander's order, and where generals sign the master seed of all keys and the
+-- scripts of the traitors.
 use Rattle.std.specs.Prelude.{ℕ, ◌≡◌, ◌≤◌, ◌<◌, Bool, List, [], ◌∷◌, map, Contains, AllPairs, Option, Some, None, if◌then◌else◌, ◌==◌}
 use Rattle.std.specs.List.{range_with_len}
 use Rattle.gen_types.specs.Ends.{is_among}
@@ -55,8 +55,9 @@ abbrev pub SignsForTraitors : List Script → ScriptLine → Type 0
 SignsForTraitors scripts line =
     (path : List ℕ) → named_path line ≡ Some path → (g : ℕ) → Contains path g → Contains (scripted scripts) g
 
--- What each scenario keeps: its network does what networks do, its slot is known, the order is one of its orders, and each of
--- its scripts is one of a general's, who has no other, with lawful lines by which traitors alone sign.
+-- What each scenario keeps: its network does what networks do, its slot is known, the order is one of its
+-- orders, and each of its scripts is one of a general's, who has no other, with lawful lines by which
+-- traitors alone sign.
 pub record IsScenario (s : Scenario) : Type 0 where
   pub network : IsNetwork s.net
   pub slot : slot_in s.version ≤ greatest_slot

@@ -1,5 +1,5 @@
--- Without raw parcels no loyal signature is forged in the run of a scenario, whatever is known of the hash. So Theorem 4 holds of
--- such runs, traitors and all.
+-- Without raw parcels no loyal signature is forged in the run of a scenario, whatever is known of the hash.
+-- So Theorem 4 holds of such runs, traitors and all.
 use Rattle.std.specs.Prelude.{◌≡◌, ◌≤◌, List, length, Contains}
 use Rattle.gen_net.specs.Network.{IsLoyal}
 use Rattle.gen_net.specs.Walks.{HasDiameter}
@@ -22,7 +22,8 @@ IsRaw _ = ⊥
 -- no line of a script is such a one
 abbrev pub HasNoRaw : Scenario → Type 0
 HasNoRaw s =
-    (script : Script) (line : ScriptLine) → Contains s.scripts script → Contains script.lines line → IsRaw line → ⊥
+    (script : Script) (line : ScriptLine) → Contains s.scripts script → Contains script.lines line
+    → IsRaw line → ⊥
 
 -- the messages are a run for the generals who have scripts
 abbrev pub NoRawIsSigned : Type 0
@@ -30,8 +31,8 @@ NoRawIsSigned =
     (s : Scenario) → IsScenario s → HasNoRaw s
     → IsSignedRun s.net (scripted s.scripts) (messages_of s) (conduct_of s)
 
--- What the theorem asks of a scenario: at most m traitors, none of whom sends bytes of his own, and any two of the rest joined
--- inside the rest by at most d edges.
+-- What the theorem asks of a scenario: at most m traitors, none of whom sends bytes of his own, and any two
+-- of the rest joined inside the rest by at most d edges.
 pub record IsBounded (s : Scenario) : Type 0 where
   pub few : length s.scripts ≤ s.net.traitors
   pub no_raw : HasNoRaw s

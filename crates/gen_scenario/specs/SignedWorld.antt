@@ -68,4 +68,5 @@ message_to g x = record { from = x.from; to = g; order = x.chain.order; path = s
 
 -- the messages of the run
 unfoldable pub messages_of : Scenario → Run
-messages_of s = flat_map (λ g. map (message_to g) (heard_by s (rounds s.net) g)) (range_with_len 0 s.net.generals)
+messages_of s =
+    flat_map (λ g. map (message_to g) (heard_by s (rounds s.net) g)) (range_with_len 0 s.net.generals)

@@ -25,7 +25,8 @@ seed_in trees g = seed_under (tree_in trees g)
 abbrev pub keys_with : RunHeader → List SignerTree → Keys
 keys_with h trees = record { header = h; seeds = seed_in trees }
 
--- the signatures of a general can be made: he is one of the network, and his tree is there, of the run's height
+-- the signatures of a general can be made: he is one of the network, and his tree is there, of the run's
+-- height
 pub record CanSign (h : RunHeader) (trees : List SignerTree) (g : ℕ) : Type 0 where
   pub known : g < h.network.generals
   pub tree : KeyTree
@@ -40,8 +41,10 @@ CanSignAll h trees path = (g : ℕ) → Contains path g → CanSign h trees g
 abbrev pub CanSignLine : RunHeader → List SignerTree → ScriptLine → Type 0
 CanSignLine h trees line = (path : List ℕ) → named_path line ≡ Some path → CanSignAll h trees path
 
--- a general can do what the lines of his script say: they are lawful, and each signature that they ask for can be made
-pub record ArePlayable (h : RunHeader) (trees : List SignerTree) (me : ℕ) (lines : List ScriptLine) : Type 0 where
+-- a general can do what the lines of his script say: they are lawful, and each signature that they ask for
+-- can be made
+pub record ArePlayable (h : RunHeader) (trees : List SignerTree) (me : ℕ) (lines : List ScriptLine) :
+    Type 0 where
   pub own : CanSign h trees me
   pub lawful : (line : ScriptLine) → Contains lines line → IsScriptLine h.network me line
   pub signers : (line : ScriptLine) → Contains lines line → CanSignLine h trees line

@@ -22,12 +22,14 @@ order_key k g order = key_of k g (leaf_of_order k.header order)
 
 -- the signer who signs the order behind a path
 abbrev pub signer_behind : Keys → ℕ → List ℕ → ℕ → Signer
-signer_behind k order path g = signed_by (order_key k g order) k.header (record { order = order; path = path ++ g ∷ [] }) g
+signer_behind k order path g =
+    signed_by (order_key k g order) k.header (record { order = order; path = path ++ g ∷ [] }) g
 
 -- the generals of a path sign the order one after another behind another path
 unfoldable pub signers_along : Keys → ℕ → List ℕ → List ℕ → List Signer
 signers_along k order path [] = []
-signers_along k order path (g ∷ others) = signer_behind k order path g ∷ signers_along k order (path ++ g ∷ []) others
+signers_along k order path (g ∷ others) =
+    signer_behind k order path g ∷ signers_along k order (path ++ g ∷ []) others
 
 -- the chain of an order that all of a path have signed
 abbrev pub made : Keys → ℕ → List ℕ → Chain

@@ -25,11 +25,13 @@ MessagesCount = (s : Scenario) → IsNetwork s.net → (m : Message) → Contain
 
 -- one round more of what is heard, and its frames
 abbrev pub OneRoundMore : Type 0
-OneRoundMore = (s : Scenario) (k g : ℕ) → heard_by s (k + 1) g ≡ heard_by s k g ++ heard_in s (heard_by s k) (k + 1) g
+OneRoundMore =
+    (s : Scenario) (k g : ℕ) → heard_by s (k + 1) g ≡ heard_by s k g ++ heard_in s (heard_by s k) (k + 1) g
 
 abbrev pub FrameAfter : Type 0
 FrameAfter =
-    (s : Scenario) (k from to : ℕ) → frame_at s (k + 1) from to ≡ frame_of (sender_of s from) (heard_by s k from) (k + 1) to
+    (s : Scenario) (k from to : ℕ)
+    → frame_at s (k + 1) from to ≡ frame_of (sender_of s from) (heard_by s k from) (k + 1) to
 
 -- one signer more: a chain is begun by the commander, and lengthened by one general after another
 abbrev pub OneSignerMore : Type 0

@@ -1,5 +1,5 @@
--- Theorem 4 of section 5 of the paper of 1982: with at most m traitors and a rest of diameter at most d, the signed messages of
--- m + d rounds bring all of the rest to one set of orders, and so to one decision.
+-- Theorem 4 of section 5 of the paper of 1982: with at most m traitors and a rest of diameter at most d, the
+-- signed messages of m + d rounds bring all of the rest to one set of orders, and so to one decision.
 use Rattle.std.specs.Prelude.{ℕ, ◌≡◌, ◌≢◌, ◌≤◌, ◌↔◌, List, length}
 use Rattle.gen_types.specs.Ascending.{IsListOf}
 use Rattle.gen_net.specs.Network.{Network, IsLoyal}
@@ -15,8 +15,8 @@ pub record Case : Type 0 where
   pub run : Run
   pub conducts : ℕ → Conduct
 
--- What the theorem asks for: a run for these faulty generals, at most m of them, and any two of the rest joined inside the rest
--- by at most d edges.
+-- What the theorem asks for: a run for these faulty generals, at most m of them, and any two of the rest
+-- joined inside the rest by at most d edges.
 pub record Premises (here : Case) : Type 0 where
   pub signed : IsSignedRun here.net here.faulty here.run here.conducts
   pub few : length here.faulty ≤ here.net.traitors

@@ -1,5 +1,6 @@
--- A run with a traitor. Of three generals, all neighbours, the commander is faulty: he gives order 0 to one lieutenant and
--- order 1 to the other. Both follow: each tells the other in round 2, so that each accepts both orders.
+-- A run with a traitor. Of three generals, all neighbours, the commander is faulty: he gives order 0 to one
+-- lieutenant and order 1 to the other. Both follow: each tells the other in round 2, so that each accepts
+-- both orders.
 use Rattle.std.specs.Prelude.{ℕ, ◌==◌, if◌then◌else◌, ◌<◌, ◌↔◌, List, [], ◌∷◌}
 use Rattle.gen_types.specs.declared.choices.ChoiceKind.TheVariants.{Only}
 use Rattle.gen_net.specs.Network.{Network}

@@ -1,5 +1,5 @@
--- The one run of a plain scenario: everybody follows the algorithm, and of several messages of a new order that arrive in one
--- round the least sender's is picked.
+-- The one run of a plain scenario: everybody follows the algorithm, and of several messages of a new order
+-- that arrive in one round the least sender's is picked.
 use Rattle.std.specs.Prelude.{ℕ, ◌≡◌, ◌≢◌, ◌+◌, ◌<◌, ◌↔◌, List, [], ◌∷◌, ◌++◌, map, Contains, All}
 use Rattle.std.specs.List.{range_with_len}
 use Rattle.gen_net.specs.Network.{Network, rounds, AreNeighbours}
@@ -9,7 +9,8 @@ use Rattle.gen_net.specs.Follows.{CommanderFollows, LieutenantDecides}
 use Rattle.gen_core.specs.Seeing.{IsFromLeast}
 use Rattle.gen_scenario.specs.declared.scenario.Decision.{Decision}
 
--- g relays in round l + 1 what he added in round l: the least sender's path lengthened by himself, to a neighbour outside it
+-- g relays in round l + 1 what he added in round l: the least sender's path lengthened by himself, to a
+-- neighbour outside it
 pub record IsRelay (net : Network) (run : Run) (g l : ℕ) (message : Message) : Type 0 where
   pub picked : List ℕ
   pub added : Adds run g l message.order

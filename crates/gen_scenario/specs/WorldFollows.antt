@@ -26,7 +26,8 @@ WorldIsSigned =
 abbrev pub nobody_faulty : Network → Run → (ℕ → Conduct) → Case
 nobody_faulty net run conducts = record { net = net; faulty = []; run = run; conducts = conducts }
 
--- where no two generals are more than d edges apart, the run meets what Theorem 4 asks for, with nobody faulty
+-- where no two generals are more than d edges apart, the run meets what Theorem 4 asks for, with nobody
+-- faulty
 abbrev pub WorldMeetsPremises : Type 0
 WorldMeetsPremises =
     (net : Network) (order : ℕ) (run : Run) → IsWorld net order run → HasDiameter net []

@@ -17,7 +17,8 @@ MessagesAreRun = (s : Scenario) → IsRun s.net (messages_of s)
 -- a commander without a script follows, with the scenario's order
 abbrev pub CommanderObeys : Type 0
 CommanderObeys =
-    (s : Scenario) → IsScenario s → IsLoyal s.net (scripted s.scripts) 0 → CommanderFollows s.net (messages_of s) s.order
+    (s : Scenario) → IsScenario s → IsLoyal s.net (scripted s.scripts) 0
+    → CommanderFollows s.net (messages_of s) s.order
 
 -- a lieutenant without a script relays exactly what he adds, each order with the least sender's path
 abbrev pub LieutenantsRelay : Type 0
@@ -30,7 +31,8 @@ abbrev pub path_heard : Option Heard → List ℕ
 path_heard None = []
 path_heard (Some x) = signed_path x.chain.signers
 
--- the conduct of each general who has no script: the commander's order, or for each order the path that he heard first
+-- the conduct of each general who has no script: the commander's order, or for each order the path that he
+-- heard first
 abbrev pub conduct_of : Scenario → ℕ → Conduct
 conduct_of s zero = Commands s.order
 conduct_of s (suc g) = Relays (λ order. path_heard (first_of order (heard_by s (rounds s.net) (suc g))))

@@ -1,9 +1,9 @@
 //! What one general alone knows of a run.
-ghost use Rattle.std.specs.Prelude.{◌≡◌, ◌<◌, map, option_map, IfOk};
+ghost use Rattle.std.specs.Prelude.{◌≡◌, ◌<◌, map, option_map, IfOk, SomeIff};
 ghost use Rattle.gen_scenario.specs.Scenario.{script_of, scripted};
 ghost use Rattle.gen_scenario.specs.SignedWorld as worlds;
 ghost use Rattle.gen_scenario.specs.Part as parts;
-ghost use Rattle.gen_scenario.specs.Part.{IsPart, part_of};
+ghost use Rattle.gen_scenario.specs.Part.{IsPart, CanFollow, part_of, followers_part};
 
 use crate::signed::Scenario;
 use crate::signer_trees::SignerTree;
@@ -51,6 +51,36 @@ impl Model for Part {
 }
 
 impl Part {
+    /// Returns what a general without a script knows, who was told the header, his number and, if he commands, his
+    /// order; and None exactly where he isn't one of the header's generals, where the commander has no order or one that isn't
+    /// the network's, or where a lieutenant has one.
+    pub fn follower(
+        alloc: Global,
+        header: Header,
+        me: GeneralNo,
+        own: Option<OrderNo>,
+    ) -> Option<Part>
+        ensures { SomeIff result (CanFollow header me own) (followers_part header me own) }
+    {
+        let net = header.net();
+        let is_his = match own {
+            None => me != GeneralNo::commander(),
+            Some(order) => me == GeneralNo::commander() && order.get() < net.orders(),
+        };
+        let trees = Vec::new(alloc);
+        if is_his && me.get() < net.generals() {
+            Some(Part {
+                header,
+                me,
+                own,
+                script: None,
+                trees,
+            })
+        } else {
+            None
+        }
+    }
+
     /// Returns the run's header.
     pub fn header(&self) -> &Header
         ensures value { result.now ≡ self.now.header }

@@ -1,4 +1,5 @@
--- The fields of a script line behind its word, each with its first fault: that it does not read, then its own rule.
+-- The fields of a script line behind its word, each with its first fault: that it does not read, then its own
+-- rule.
 use Rattle.std.specs.Prelude.{ℕ, ◌&&◌, List, [], ◌∷◌, Option, Some, None, Result, Ok, Err, nat_lt, nat_le}
 use Rattle.std.specs.List.{list_any}
 use Rattle.hex.specs.Hex.{decode_of}

@@ -21,7 +21,8 @@ HasFields fs (Pass round to from order path) =
 HasFields fs (Bend round to from order) =
     fs ≡ codes "bend" ∷ decimal round ∷ decimal to ∷ decimal from ∷ decimal order ∷ []
 HasFields fs (Raw round to parcel) =
-    (digits : List ℕ) × (fs ≡ codes "raw" ∷ decimal round ∷ decimal to ∷ digits ∷ []) × SpellsBytes digits parcel
+    (digits : List ℕ) × (fs ≡ codes "raw" ∷ decimal round ∷ decimal to ∷ digits ∷ [])
+    × SpellsBytes digits parcel
 HasFields fs (Hide round from order) = fs ≡ codes "hide" ∷ decimal round ∷ decimal from ∷ decimal order ∷ []
 HasFields fs TwoHeads = fs ≡ codes "twohead" ∷ []
 
@@ -41,12 +42,14 @@ IsScriptLine net me (Make round to order path) =
     IsRound net 1 round × AreNeighbours net me to × (order < net.orders) × IsPathTo net me path
     × BeginsWith path (0 ∷ []) × (length path ≡ round)
 IsScriptLine net me (Pass round to from order path) =
-    IsRound net 1 round × AreNeighbours net me to × AreNeighbours net me from × (order < net.orders) × IsPathTo net me path
+    IsRound net 1 round × AreNeighbours net me to × AreNeighbours net me from × (order < net.orders)
+    × IsPathTo net me path
     × (Contains path 0 → ⊥) × (length path < round)
 IsScriptLine net me (Bend round to from order) =
     IsRound net 2 round × AreNeighbours net me to × AreNeighbours net me from × (order < net.orders)
 IsScriptLine net me (Raw round to parcel) = IsRound net 1 round × AreNeighbours net me to × (parcel ≢ [])
-IsScriptLine net me (Hide round from order) = IsRound net 1 round × AreNeighbours net me from × (order < net.orders)
+IsScriptLine net me (Hide round from order) =
+    IsRound net 1 round × AreNeighbours net me from × (order < net.orders)
 IsScriptLine net me TwoHeads = Unit {0}
 
 -- The line, its fields joined by single spaces, says this in a script of the general me.

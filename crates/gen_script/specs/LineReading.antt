@@ -20,7 +20,8 @@ make_in net me round to order path = do
   p ← path_in net me Whole r path
   Ok (Make r h v p)
 
-unfoldable pub pass_in : Network → ℕ → List ℕ → List ℕ → List ℕ → List ℕ → List ℕ → Result ScriptLine ScriptFault
+unfoldable pub pass_in : Network → ℕ → List ℕ → List ℕ → List ℕ → List ℕ → List ℕ
+    → Result ScriptLine ScriptFault
 pass_in net me round to from order path = do
   r ← round_in net 1 round
   h ← neighbour_in net me to
@@ -60,7 +61,8 @@ line_in net me (w ∷ a ∷ b ∷ c ∷ []) =
 line_in net me (w ∷ a ∷ b ∷ c ∷ d ∷ []) =
     if bytes_eq w (codes "make") then make_in net me a b c d
     else (if bytes_eq w (codes "bend") then bend_in net me a b c d else Err Shape)
-line_in net me (w ∷ a ∷ b ∷ c ∷ d ∷ e ∷ []) = if bytes_eq w (codes "pass") then pass_in net me a b c d e else Err Shape
+line_in net me (w ∷ a ∷ b ∷ c ∷ d ∷ e ∷ []) =
+    if bytes_eq w (codes "pass") then pass_in net me a b c d e else Err Shape
 line_in net me _ = Err Shape
 
 -- the script line of a line's bytes

@@ -24,7 +24,8 @@ is_two (Two slot) = true
 
 -- the scenario is of version 2, and has as many generals and the same master seed
 abbrev pub is_like : Scenario → Scenario → Bool
-is_like first s = is_two s.version && (s.net.generals == first.net.generals && pointwise nat_eq s.master first.master)
+is_like first s =
+    is_two s.version && (s.net.generals == first.net.generals && pointwise nat_eq s.master first.master)
 
 -- each is like the first
 abbrev pub are_alike : List Scenario → Bool

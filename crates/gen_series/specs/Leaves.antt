@@ -19,8 +19,8 @@ AreSpentIn runs sets =
 
 -- ---- while the campaign goes from run to run
 
--- A general's ring before the rest of the runs, whose slots are this one or greater: no leaf of these was taken, and what was
--- taken, with what he signs in the rest, is what he signs in all.
+-- A general's ring before the rest of the runs, whose slots are this one or greater: no leaf of these was
+-- taken, and what was taken, with what he signs in the rest, is what he signs in all.
 pub record IsKept (first : Scenario) (runs rest : List Scenario) (least g : ℕ) (ring : Ring) : Type 0 where
   pub seed : ring.seed ≡ seed_of first.master g
   pub height : ring.height ≡ Six

@@ -24,4 +24,5 @@ pub record SignsUnder (s : Scenario) (g leaf : ℕ) (text : Option Statement) : 
 abbrev pub EachLeafHasOneText : List Scenario → Type 0
 EachLeafHasOneText runs =
     (s t : Scenario) (g leaf : ℕ) (x y : Option Statement) → Contains runs s → Contains runs t
-    → g < s.net.generals → g < t.net.generals → SignsUnder s g leaf x → SignsUnder t g leaf y → (s ≡ t) × (x ≡ y)
+    → g < s.net.generals → g < t.net.generals → SignsUnder s g leaf x → SignsUnder t g leaf y
+    → (s ≡ t) × (x ≡ y)

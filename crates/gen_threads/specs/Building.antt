@@ -11,8 +11,8 @@ use Rattle.gen_threads.specs.declared.edges.Edges.{Edges}
 use Rattle.gen_threads.specs.declared.edges.Passes.{Passes}
 use Rattle.gen_threads.specs.Edges.{HasPut, HasTakenBy}
 
--- Made are all edges from the first generals, and of the next one those to the first ones. So a general of n puts to the
--- neighbours below the one, and takes from those below the other.
+-- Made are all edges from the first generals, and of the next one those to the first ones. So a general of n
+-- puts to the neighbours below the one, and takes from those below the other.
 abbrev pub puts_below : ℕ → ℕ → ℕ → ℕ → ℕ
 puts_below n from to g = if nat_lt g from then n else (if nat_lt from g then 0 else to)
 
@@ -21,10 +21,12 @@ takes_below from to g = if nat_lt g to then from + 1 else from
 
 -- the passes of a general to and from his neighbours below one
 abbrev pub ArePutsBelow : Edges → Scenario → ℕ → ℕ → List PutPass → Type 0
-ArePutsBelow edges s g below puts = AllZip (HasPut edges s 0 g) (near_of s.net g (range_with_len 0 below)) puts
+ArePutsBelow edges s g below puts =
+    AllZip (HasPut edges s 0 g) (near_of s.net g (range_with_len 0 below)) puts
 
 abbrev pub AreTakesBelow : Edges → Scenario → ℕ → ℕ → List TakePass → Type 0
-AreTakesBelow edges s g below takes = AllZip (HasTakenBy edges s 0 g) (near_of s.net g (range_with_len 0 below)) takes
+AreTakesBelow edges s g below takes =
+    AllZip (HasTakenBy edges s 0 g) (near_of s.net g (range_with_len 0 below)) takes
 
 pub record AreMade (s : Scenario) (from to : ℕ) (edges : Edges) (all : List Passes) : Type 0 where
   pub generals : edges.generals ≡ s.net.generals
@@ -47,12 +49,14 @@ pub record HasMore (x : Option Edge) (old new : Edges) : Type 0 where
 -- general g has a pass more, and all else is as it was
 pub record HasMorePuts (g : ℕ) (put : PutPass) (old new : List Passes) : Type 0 where
   pub count : length new ≡ length old
-  pub puts : (d : Passes) → (slice_index_or new g d).puts.items ≡ (slice_index_or old g d).puts.items ++ put ∷ []
+  pub puts : (d : Passes) → (slice_index_or new g d).puts.items ≡ (slice_index_or old g d).puts.items
+      ++ put ∷ []
   pub takes : (d : Passes) → (slice_index_or new g d).takes.items ≡ (slice_index_or old g d).takes.items
   pub others : (h : ℕ) (d : Passes) → h ≢ g → slice_index_or new h d ≡ slice_index_or old h d
 
 pub record HasMoreTakes (g : ℕ) (take : TakePass) (old new : List Passes) : Type 0 where
   pub count : length new ≡ length old
   pub puts : (d : Passes) → (slice_index_or new g d).puts.items ≡ (slice_index_or old g d).puts.items
-  pub takes : (d : Passes) → (slice_index_or new g d).takes.items ≡ (slice_index_or old g d).takes.items ++ take ∷ []
+  pub takes : (d : Passes) → (slice_index_or new g d).takes.items ≡ (slice_index_or old g d).takes.items
+      ++ take ∷ []
   pub others : (h : ℕ) (d : Passes) → h ≢ g → slice_index_or new h d ≡ slice_index_or old h d

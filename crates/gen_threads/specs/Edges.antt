@@ -49,7 +49,8 @@ abbrev pub HasTakenBy : Edges → Scenario → ℕ → ℕ → ℕ → TakePass 
 HasTakenBy edges s n g h pass = HasTaken edges s n h g pass
 
 -- the passes of a general of a network, one for each neighbour in ascending order
-pub record ArePassesIn (edges : Edges) (net : Network) (g : ℕ) (puts : List PutPass) (takes : List TakePass) : Type 0 where
+pub record ArePassesIn (edges : Edges) (net : Network) (g : ℕ) (puts : List PutPass) (takes : List TakePass) :
+    Type 0 where
   pub putting : AllZip (IsPutOn edges g) (neighbours_of net g) puts
   pub taking : AllZip (IsTakeBy edges g) (neighbours_of net g) takes
 
@@ -57,7 +58,8 @@ abbrev pub ArePassesOf : Edges → Scenario → ℕ → List PutPass → List Ta
 ArePassesOf edges s g puts takes = ArePassesIn edges s.net g puts takes
 
 -- and n frames went each way
-pub record HaveCarried (edges : Edges) (s : Scenario) (n g : ℕ) (puts : List PutPass) (takes : List TakePass) : Type 0 where
+pub record HaveCarried (edges : Edges) (s : Scenario) (n g : ℕ) (puts : List PutPass)
+    (takes : List TakePass) : Type 0 where
   pub putting : AllZip (HasPut edges s n g) (neighbours_of s.net g) puts
   pub taking : AllZip (HasTakenBy edges s n g) (neighbours_of s.net g) takes
 

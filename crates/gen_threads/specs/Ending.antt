@@ -38,10 +38,11 @@ RingComesBack h _ _ = ⊥
 abbrev pub logs_by : Scenario → ℕ → List LogBytes
 logs_by s g = map (log_bytes g) (logs_of s g)
 
--- His ring and his passes come back, in their order. Where there is no fault the logs are his of the scenario's run, from the
--- ring exactly the leaves of their texts were taken, and each pass has carried the frames of all rounds; and a fault is one of
--- his own.
-pub record IsEndOf (edges : Edges) (s : Scenario) (g : ℕ) (ring : Option Ring) (end : GeneralEnd) : Type 0 where
+-- His ring and his passes come back, in their order. Where there is no fault the logs are his of the
+-- scenario's run, from the ring exactly the leaves of their texts were taken, and each pass has carried the
+-- frames of all rounds; and a fault is one of his own.
+pub record IsEndOf (edges : Edges) (s : Scenario) (g : ℕ) (ring : Option Ring) (end : GeneralEnd) :
+    Type 0 where
   pub comes_back : RingComesBack (header_of s) ring end.ring
   pub passes : ArePassesOf edges s g end.puts.items end.takes.items
   pub logs : IfOk end.logs (λ logs. (logs.items ≡ logs_by s g)

@@ -11,13 +11,15 @@ use Rattle.gen_threads.specs.declared.works.Turn.TheVariants.{Ended, Back}
 abbrev pub HasLastWord : TakePass → Type 0
 HasLastWord pass = (take_view pass).gone_taken ≡ true
 
--- why a general has none: memory was refused, or one of his passes has taken a neighbour's last word; never for want of a thread
+-- why a general has none: memory was refused, or one of his passes has taken a neighbour's last word; never
+-- for want of a thread
 abbrev pub IsOwnFault : List TakePass → RunFault → Type 0
 IsOwnFault takes Memory = Unit {0}
 IsOwnFault takes Thread = ⊥
 IsOwnFault takes Gone = Any HasLastWord takes
 
--- of two faults: want of memory before a thread that was not started, and that before a neighbour who ended early
+-- of two faults: want of memory before a thread that was not started, and that before a neighbour who ended
+-- early
 abbrev pub worse_fault : RunFault → RunFault → RunFault
 worse_fault Memory b = Memory
 worse_fault Thread Memory = Memory
@@ -30,7 +32,8 @@ worse_of (Ok _) b = b
 worse_of (Err a) (Ok _) = Err a
 worse_of (Err a) (Err b) = Err (worse_fault a b)
 
--- what came of a general: nothing wrong, or his fault; and a thread was wanting where his work was handed back
+-- what came of a general: nothing wrong, or his fault; and a thread was wanting where his work was handed
+-- back
 abbrev pub fault_alone : {X : Type 0} → Result X RunFault → Result (Unit {0}) RunFault
 fault_alone (Ok _) = Ok tt
 fault_alone (Err fault) = Err fault

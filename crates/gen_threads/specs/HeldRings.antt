@@ -27,7 +27,8 @@ pub record HasSignedUnder (s : Scenario) (g leaf : ℕ) : Type 0 where
   pub his : Contains (logs_of s g) log
   pub text : IsLeafOfLog (header_of s) log leaf
 
--- the ring as the run leaves it: it is the same, but that the leaves of what he signed were taken, which are of the run
+-- the ring as the run leaves it: it is the same, but that the leaves of what he signed were taken, which are
+-- of the run
 pub record IsAfterRun (s : Scenario) (g : ℕ) (old new : Ring) : Type 0 where
   pub seed : new.seed ≡ old.seed
   pub height : new.height ≡ old.height

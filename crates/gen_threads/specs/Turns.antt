@@ -30,13 +30,15 @@ abbrev pub index_of_next : Network → ℕ → ℕ → ℕ
 index_of_next net g next = length (near_of net g (range_with_len 0 next))
 
 -- he has begun the round, and has put to the neighbours below the next one
-pub record IsPutting (edges : Edges) (s : Scenario) (gone g next index : ℕ) (r : Recorder) (puts : List PutPass) : Type 0 where
+pub record IsPutting (edges : Edges) (s : Scenario) (gone g next index : ℕ) (r : Recorder)
+    (puts : List PutPass) : Type 0 where
   pub sent : HasSent s gone g (near_of s.net g (range_with_len 0 next)) r
   pub here : index ≡ index_of_next s.net g next
   pub passes : AllZip (HasPutUntil edges s gone next g) (neighbours_of s.net g) puts
 
 -- he has put to all, and has taken from the neighbours below the next one
-pub record IsTaking (edges : Edges) (s : Scenario) (gone g next index : ℕ) (r : Recorder) (takes : List TakePass) : Type 0 where
+pub record IsTaking (edges : Edges) (s : Scenario) (gone g next index : ℕ) (r : Recorder)
+    (takes : List TakePass) : Type 0 where
   pub heard : HasHeard s gone g (near_of s.net g (range_with_len 0 next)) r
   pub here : index ≡ index_of_next s.net g next
   pub passes : AllZip (HasTakenUntil edges s gone next g) (neighbours_of s.net g) takes

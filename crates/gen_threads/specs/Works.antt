@@ -29,7 +29,8 @@ pub record IsWork (edges : Edges) (s : Scenario) (rings : List Ring) (g : ℕ) (
 abbrev pub AreWorks : Edges → Scenario → List Ring → List Work → Type 0
 AreWorks edges s rings = AllAre (IsWork edges s rings) s.net.generals
 
--- what a general leaves who had this ring: where there is no fault his logs of the run, and the ring as the run leaves it
+-- what a general leaves who had this ring: where there is no fault his logs of the run, and the ring as the
+-- run leaves it
 pub record HasRun (s : Scenario) (g : ℕ) (old : Ring) (end : GeneralEnd) : Type 0 where
   pub logs : IfOk end.logs (λ logs. logs.items ≡ logs_by s g)
   pub ring : OnOk end.logs ((new : Ring) × (end.ring ≡ Some new) × IsAfterRun s g old new)
@@ -47,20 +48,25 @@ IsTurn edges s rings g (Back work) = ArePassesOf edges s g work.passes.puts.item
 
 -- those of the generals from one on
 abbrev pub PassesFrom : Edges → Scenario → ℕ → List Passes → Type 0
-PassesFrom edges s from all = (k : ℕ) (d : Passes) → k < length all → HasNewPasses edges s (from + k) (slice_index_or all k d)
+PassesFrom edges s from all =
+    (k : ℕ) (d : Passes) → k < length all → HasNewPasses edges s (from + k) (slice_index_or all k d)
 
 module _ (edges : Edges) (s : Scenario) (rings : List Ring) where
   abbrev pub WorksFrom : ℕ → List Work → Type 0
-  WorksFrom from works = (k : ℕ) (d : Work) → k < length works → IsWork edges s rings (from + k) (slice_index_or works k d)
+  WorksFrom from works =
+      (k : ℕ) (d : Work) → k < length works → IsWork edges s rings (from + k) (slice_index_or works k d)
 
   abbrev pub TurnsFrom : ℕ → List Turn → Type 0
-  TurnsFrom from turns = (k : ℕ) (d : Turn) → k < length turns → IsTurn edges s rings (from + k) (slice_index_or turns k d)
+  TurnsFrom from turns =
+      (k : ℕ) (d : Turn) → k < length turns → IsTurn edges s rings (from + k) (slice_index_or turns k d)
 
   abbrev pub IsPromise : ℕ → EndsAs → Type 0
-  IsPromise g p = (p.me ≡ g) × (p.edges.now ≡ edges) × (p.scenario.now ≡ s) × (p.rings.now.value.items ≡ rings)
+  IsPromise g p =
+      (p.me ≡ g) × (p.edges.now ≡ edges) × (p.scenario.now ≡ s) × (p.rings.now.value.items ≡ rings)
 
   abbrev pub PromisedFrom : ℕ → List (PromisedHandle Turn EndsAs) → Type 0
-  PromisedFrom from handles = (k : ℕ) (d : _) → k < length handles → IsPromise (from + k) (slice_index_or handles k d).promise
+  PromisedFrom from handles =
+      (k : ℕ) (d : _) → k < length handles → IsPromise (from + k) (slice_index_or handles k d).promise
 
   abbrev pub ArePromised : List (PromisedHandle Turn EndsAs) → Type 0
   ArePromised = PromisedFrom 0

@@ -1,5 +1,5 @@
--- Fields of bytes, read from left to right. A field is a value and the bytes after it; short is the fault where it does not
--- stand whole in front of the bytes.
+-- Fields of bytes, read from left to right. A field is a value and the bytes after it; short is the fault
+-- where it does not stand whole in front of the bytes.
 use Rattle.std.specs.Prelude.{ℕ, zero, suc, List, [], ◌∷◌, length, take, drop, Result, Ok, Err, nat_lt, if◌then◌else◌}
 use Rattle.std.specs.Int.{Width, byte_len, from_be_bytes}
 use Rattle.gen_types.specs.Reading.{◌>>=◌}
@@ -20,7 +20,8 @@ number_at short w bytes =
     else Ok (from_be_bytes w (take (byte_len w) bytes), drop (byte_len w) bytes)
 
 -- n fields of one kind, one after another
-unfoldable pub many_at : {A F : Type 0} → (List ℕ → Result (A × List ℕ) F) → ℕ → List ℕ → Result (List A × List ℕ) F
+unfoldable pub many_at : {A F : Type 0} → (List ℕ → Result (A × List ℕ) F) → ℕ → List ℕ
+    → Result (List A × List ℕ) F
 many_at read zero bytes = Ok ([], bytes)
 many_at read (suc n) bytes = do
   first ← read bytes

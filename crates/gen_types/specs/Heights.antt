@@ -1,4 +1,5 @@
--- Trees of keys by their height: how many levels are between a leaf and the root, and how many leaves a tree has.
+-- Trees of keys by their height: how many levels are between a leaf and the root, and how many leaves a tree
+-- has.
 use Rattle.std.specs.Prelude.{ℕ}
 use Rattle.gen_types.specs.declared.heights.TreeHeight.{TreeHeight}
 use Rattle.gen_types.specs.declared.heights.TreeHeight.TheVariants.{Four, Six}

@@ -9,14 +9,16 @@ use Rattle.gen_walks.specs.Walks.{IsWalkInside, IsPair}
 pub record IsBestWalk (net : Network) (rest : List ℕ) (a b : ℕ) (walk : List ℕ) : Type 0 where
   pub leads : IsWalkInside net rest a b walk
   pub shortest : (other : List ℕ) → IsWalkInside net rest a b other → length walk ≤ length other
-  pub least : (other : List ℕ) → IsWalkInside net rest a b other → length other ≡ length walk → Precedes other walk → ⊥
+  pub least : (other : List ℕ) → IsWalkInside net rest a b other → length other ≡ length walk
+      → Precedes other walk → ⊥
 
 -- the best walk of the pair, of at most d edges
 abbrev pub IsBestFor : Network → List ℕ → ℕ × ℕ → List ℕ → Type 0
 IsBestFor net rest pair walk = IsBestWalk net rest pair.0 pair.1 walk × (length walk ≤ net.diameter + 1)
 
 -- for each pair of which this holds its best walk, in the order of the pairs
-pub record AreBestFor (net : Network) (rest : List ℕ) (Asked : ℕ → ℕ → Type 0) (walks : List (List ℕ)) : Type 0 where
+pub record AreBestFor (net : Network) (rest : List ℕ) (Asked : ℕ → ℕ → Type 0) (walks : List (List ℕ)) :
+    Type 0 where
   pub pairs : List (ℕ × ℕ)
   pub ascending : AllPairs IsBefore pairs
   pub members : (a b : ℕ) → Contains pairs (a, b) ↔ Asked a b

@@ -6,7 +6,8 @@ use Rattle.gen_walks.specs.Levels.{level, IsDistance, IsDistanceRow, HasNoWalk}
 use Rattle.gen_walks.specs.declared.fault.WalkFault.{WalkFault}
 use Rattle.gen_walks.specs.declared.fault.WalkFault.TheVariants.{Memory, NoWalk, TooLong}
 
--- The pair is (a, b), and the levels are the distances from a: no walk leads to b, or the shortest has this many edges, more than d.
+-- The pair is (a, b), and the levels are the distances from a: no walk leads to b, or the shortest has this
+-- many edges, more than d.
 abbrev pub Explains : Network → List ℕ → ℕ → ℕ → WalkFault → Type 0
 Explains net rest a b Memory = Unit {0}
 Explains net rest a b (NoWalk pair row) =

@@ -29,7 +29,8 @@ pub record IsDistance (net : Network) (rest : List ℕ) (a b edges : ℕ) : Type
 abbrev pub HasNoWalk : Network → List ℕ → ℕ → ℕ → Type 0
 HasNoWalk net rest a b = (walk : List ℕ) → IsWalkInside net rest a b walk → ⊥
 
--- The levels are the distances from the source inside the set, and 255 where no walk leads and for the numbers of no general.
+-- The levels are the distances from the source inside the set, and 255 where no walk leads and for the
+-- numbers of no general.
 pub record IsDistanceRow (net : Network) (rest : List ℕ) (source : ℕ) (row : List ℕ) : Type 0 where
   pub levels : IsLevelRow net rest source row
   pub reached : (g : ℕ) → g < net.generals → level row g < 255 → IsDistance net rest source g (level row g)

@@ -36,7 +36,8 @@ IsPairBefore net rest a b x y = IsPair net rest x y × IsBefore (x, y) (a, b)
 abbrev pub Bridges : Network → List ℕ → List (List ℕ) → ℕ → ℕ → Type 0
 Bridges net rest walks a b = (walk : List ℕ) × Contains walks walk × IsShortWalk net rest a b walk
 
--- the walks bound the diameter of the set by d: for each pair one of them leads from the lesser to the greater
+-- the walks bound the diameter of the set by d: for each pair one of them leads from the lesser to the
+-- greater
 abbrev pub BoundsDiameter : Network → List ℕ → List (List ℕ) → Type 0
 BoundsDiameter net rest walks = (a b : ℕ) → IsPair net rest a b → Bridges net rest walks a b
 

@@ -1,5 +1,5 @@
-//! The job `campaign`: it writes the bundles of a campaign's runs. What it writes, and the verdict on that, were given by
-//! another program, in Python.
+//! The job `campaign`: it writes the bundles of a campaign's runs. What it writes, and the verdict on that,
+//! were given by another program, in Python.
 ghost use Rattle.gen_jobs.specs.Ranges.{IsInRange};
 
 use crate::bundles::bundle_of;

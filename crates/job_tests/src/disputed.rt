@@ -1,5 +1,5 @@
-//! Audits of runs in dispute: logs that somebody wrote anew, a stolen key, a bent signature; and what the log of
-//! the one whose key was stolen answers. The verdicts were given by another program, in Python.
+//! Audits of runs in dispute: logs that somebody wrote anew, a stolen key, a bent signature; and what the log
+//! of the one whose key was stolen answers. The verdicts were given by another program, in Python.
 ghost use Rattle.std.specs.Prelude.{◌≡◌, IfOk};
 ghost use Rattle.gen_types.specs.declared.heights.TreeHeight.TheVariants.{Four};
 ghost use Rattle.gen_log.specs.Log.{IsLog};

@@ -26,8 +26,8 @@ fn is_set_in_time(flag: &AtomicBool) -> bool {
     false
 }
 
-/// Two gates of the line at which general 3, before round 3, and whoever begins place 0 wait for each other; whoever
-/// begins place 2 or 3 looks whether general 3 has waited.
+/// Two gates of the line at which general 3, before round 3, and whoever begins place 0 wait for each other;
+/// whoever begins place 2 or 3 looks whether general 3 has waited.
 #[derive(Drop)]
 struct Meeting {
     waits: AtomicBool,

@@ -1,5 +1,5 @@
-//! The job `judge`: it writes what `audit` makes of what `run` writes, however much room edges have and however many
-//! workers there are.
+//! The job `judge`: it writes what `audit` makes of what `run` writes, however much room edges have and
+//! however many workers there are.
 use crate::auditing::{
     CUT_ROW, FLOOD_ROW, LATE_ROW, LINE_ROW, ONE_TOO_MANY_ROW, PAIR_IN_SLOT_ROW, PAIR_ROW, RING_ROW,
     Row, SCRAPS_ROW, SPLIT_ROW, TWICE_ROW, TWO_HEADS_ROW,

@@ -1,9 +1,9 @@
 //! This crate has the tests of `gen_jobs`, `gen_judge` and `gen_program`.
 //!
 //! `scenarios` has the texts, `streams` a reader and a writer that slip, and `bundles` makes bundles without
-//! the crate under test. `deciding`, `running`, `judging`, `campaigning`, `auditing`, `accusing` and `disputed` have the
-//! jobs, `over_bytes` the calls without reader and writer, `limits` the largest inputs, `ends` how jobs
-//! end, `words` the words that ask for jobs, and `workers` audits by several workers.
+//! the crate under test. `deciding`, `running`, `judging`, `campaigning`, `auditing`, `accusing` and
+//! `disputed` have the jobs, `over_bytes` the calls without reader and writer, `limits` the largest inputs,
+//! `ends` how jobs end, `words` the words that ask for jobs, and `workers` audits by several workers.
 #![tactic(auto)]
 
 #[cfg(test)]

@@ -1,6 +1,6 @@
-//! The jobs at their limits, each by its engine: 16 generals who are all neighbours, 16 rounds and 15 orders; a bundle
-//! of 64 exhibits; and the longest input. A job, or a call below it, that gives up on larger inputs fails here. What
-//! the jobs write was given by another program, in Python.
+//! The jobs at their limits, each by its engine: 16 generals who are all neighbours, 16 rounds and 15 orders;
+//! a bundle of 64 exhibits; and the longest input. A job, or a call below it, that gives up on larger inputs
+//! fails here. What the jobs write was given by another program, in Python.
 ghost use Rattle.gen_jobs.specs.Ranges.{IsInRange};
 
 use crate::bundles::bundle_in;
@@ -22,7 +22,8 @@ use std::sync::Wait;
 use std::test::*;
 use std::thread::Threads;
 
-/// What stands behind the edges: as many traitors, as long walks and as many orders as there can be, and the last order.
+/// What stands behind the edges: as many traitors, as long walks and as many orders as there can be, and the
+/// last order.
 const BEHIND: &str = "traitors 8\ndiameter 8\norders 15\nchoice 1\norder 14\n\
     seed 0000000000000000000000000000000000000000000000000000000000000000\n";
 

@@ -38,8 +38,8 @@ fn cuts_are_short(alloc: Global, bytes: &[u8]) -> bool {
     true
 }
 
-/// The place in the list of the first case that is not so: the byte at a place is changed to this one, and the bundle
-/// of version 1 has this fault then.
+/// The place in the list of the first case that is not so: the byte at a place is changed to this one, and
+/// the bundle of version 1 has this fault then.
 fn first_wrong(
     alloc: Global,
     cases: &[(usize, u8, BundleFault)],
@@ -84,8 +84,8 @@ fn exhibits_of(alloc: Global, generals: &[u8]) -> Result<Vec<Exhibit>, Fail> {
     Ok(exhibits)
 }
 
-/// The fault of a bundle of two generals with these bits of the faulty, the walk from 0 to this general, and exhibits
-/// of these generals.
+/// The fault of a bundle of two generals with these bits of the faulty, the walk from 0 to this general, and
+/// exhibits of these generals.
 fn fault_of(
     alloc: Global,
     faulty: u16,

@@ -1,6 +1,7 @@
 //! Evidence across two runs of two generals, whose headers differ in the slot or in how many may be faulty.
 //!
-//! The rings of each run are made anew from one master seed, so that two runs of one slot sign by the same leaves.
+//! The rings of each run are made anew from one master seed, so that two runs of one slot sign by the same
+//! leaves.
 ghost use Rattle.std.specs.Prelude.{◌≡◌, IfOk, map};
 ghost use Rattle.gen_log.specs.Log.{IsLog};
 ghost use Rattle.gen_convict.specs.AcrossLaws.{AreEvidenceAcross};

@@ -1,4 +1,5 @@
-//! Evidence: bytes laid out by hand, each kind, each fault, and cuts. Signatures are of the right length and nobody's.
+//! Evidence: bytes laid out by hand, each kind, each fault, and cuts. Signatures are of the right length and
+//! nobody's.
 use gen_convict::laws::one_evidence_spelling;
 use gen_convict::*;
 use gen_net::HeaderFault;
@@ -34,7 +35,8 @@ const MISSING: [&[u8]; 1] = [&[1, 3, 0, 0, 0, 2, 0xaa, 0xbb, 1, 0, 2, 0, 1]];
 /// The same log, and its entry 9.
 const DEPARTING: [&[u8]; 1] = [&[1, 4, 0, 0, 0, 2, 0xaa, 0xbb, 0, 0, 0, 9]];
 
-/// The beginning of evidence across runs: general 1, the kind, and another header of slot 2 up to its roots, with m = 2.
+/// The beginning of evidence across runs: general 1, the kind, and another header of slot 2 up to its roots,
+/// with m = 2.
 const OTHER_HEADER: [u8; 16] = [1, 5, 2, 2, 3, 2, 1, 2, 0, 3, 0, 1, 0, 2, 1, 2];
 
 /// The order 1 that general 1 relayed.
@@ -77,7 +79,8 @@ fn across(alloc: Global) -> Result<Vec<u8>, AllocError> {
     evidence_bytes(alloc, &FRONT_IN_SLOT, &parts, &[7; 16_576])
 }
 
-/// The number of the accused and the slot, where these bytes are evidence of this length which is written again so.
+/// The number of the accused and the slot, where these bytes are evidence of this length which is written
+/// again so.
 pub(crate) fn accused_and_slot(
     alloc: Global,
     bytes: &[u8],
@@ -98,8 +101,8 @@ fn fault_of(alloc: Global, bytes: &[u8]) -> Option<ReadError<EvidenceFault>> {
     read_evidence(alloc, bytes).err()
 }
 
-/// The place in the list of the first case that is not so: the byte at a place is changed to this one, and the
-/// evidence has this fault then.
+/// The place in the list of the first case that is not so: the byte at a place is changed to this one, and
+/// the evidence has this fault then.
 fn first_wrong(
     alloc: Global,
     evidence: &[u8],

@@ -1,5 +1,5 @@
-//! Exhibits of three generals who are all neighbours, in three rounds, with the signatures of rings made from a
-//! master seed of zeros.
+//! Exhibits of three generals who are all neighbours, in three rounds, with the signatures of rings made from
+//! a master seed of zeros.
 ghost use Rattle.std.specs.Prelude.{◌≡◌, IfOk};
 ghost use Rattle.gen_convict.specs.Convictions.{AreUnderHeader};
 
@@ -17,9 +17,9 @@ type Kept<'a> = (u8, u64, &'a [Piece<'a>]);
 // An exhibit: whose log it is said to be, the log, and the offset of the byte of it that is bent.
 type Shown<'a> = (u8, Kept<'a>, usize);
 
-// A claim: the accused, its kind, and two pairs of numbers: of a statement the order and the length of the path,
-// of a head 9 and how many entries it has, of an order 0 and the order; of a log the place of its exhibit with
-// the order of the statement or the entry, and then two zeros.
+// A claim: the accused, its kind, and two pairs of numbers: of a statement the order and the length of the
+// path, of a head 9 and how many entries it has, of an order 0 and the order; of a log the place of its
+// exhibit with the order of the statement or the entry, and then two zeros.
 type Claimed = (u8, u8, (u64, u64), (u64, u64));
 
 // No byte is bent.

@@ -1,4 +1,5 @@
-//! This crate has the tests of the crates that judge: `gen_local`, `gen_match`, `gen_convict`, `gen_audit` and `gen_report`.
+//! This crate has the tests of the crates that judge: `gen_local`, `gen_match`, `gen_convict`, `gen_audit`
+//! and `gen_report`.
 #![tactic(auto)]
 
 #[cfg(test)]

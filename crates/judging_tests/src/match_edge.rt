@@ -110,8 +110,8 @@ const RECEIVES: Shown<'_> = (
 
 const RECEIVES_NOTHING: Shown<'_> = (1, 2, &[(&[1, 1, 255], false), DECIDE_1]);
 
-// The log of general 1 who sends order 1 to general 2 by the path 0, 1, and that of general 2 at whom it comes by the
-// path 0, 2.
+// The log of general 1 who sends order 1 to general 2 by the path 0, 1, and that of general 2 at whom it
+// comes by the path 0, 2.
 const RELAYS: Shown<'_> = (
     1,
     3,

@@ -1,6 +1,6 @@
-//! Two generals, a line of four, and a ring of six of whom one is a traitor who sends nothing: whoever acts when, so many
-//! acts move, and the logs are those of the run. Besides the machine's own movers the generals act as two lists say,
-//! which are drawn from seeds.
+//! Two generals, a line of four, and a ring of six of whom one is a traitor who sends nothing: whoever acts
+//! when, so many acts move, and the logs are those of the run. Besides the machine's own movers the generals
+//! act as two lists say, which are drawn from seeds.
 use crate::async_machine::{are_equal, logs_of, moves_to_the_end};
 use crate::scenarios::scenario_of;
 use gen_async::{Machine, Moved};

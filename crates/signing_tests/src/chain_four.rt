@@ -63,8 +63,8 @@ fn chains_of_five_and_of_nine(rt: HostRuntime) -> Result<(), Fail> {
     Ok(())
 }
 
-// The first of these places in which a new store sees another signature otherwise than by so many verifications,
-// or verifies some again when it is asked again.
+// The first of these places in which a new store sees another signature otherwise than by so many
+// verifications, or verifies some again when it is asked again.
 fn first_wrong_place(
     alloc: Global,
     header: &Header,

@@ -73,7 +73,8 @@ pub(crate) fn first_wrong_chain(
     Ok(None)
 }
 
-// The first wrong answer where a chain and its front are verified, once or twice. The signature of the front is kept with the chain's.
+// The first wrong answer where a chain and its front are verified, once or twice. The signature of the front
+// is kept with the chain's.
 fn first_wrong_again(alloc: Global, header: &Header) -> Result<Option<usize>, Fail> {
     let chain = chain_of_two(alloc, header)?;
     let front = chain_of_one(alloc, header, OrderNo::at(1))?;
@@ -120,7 +121,8 @@ fn chains_by_the_pool_of_a_store(rt: HostRuntime) -> Result<(), Fail> {
     Ok(())
 }
 
-// The first wrong answer where chains don't verify. Of an order that the network does not have nothing is verified.
+// The first wrong answer where chains don't verify. Of an order that the network does not have nothing is
+// verified.
 fn first_wrong_refusal(alloc: Global, header: &Header) -> Result<Option<usize>, Fail> {
     let changed = changed_chain(alloc, header)?;
     let strange = chain_of_one(alloc, header, OrderNo::at(2))?;
@@ -161,8 +163,8 @@ fn signatures_of_one_statement(rt: HostRuntime) -> Result<(), Fail> {
     Ok(())
 }
 
-// Whether a check of what is not kept answers true and adds one verification, also where its first try was refused memory, which
-// changes nothing.
+// Whether a check of what is not kept answers true and adds one verification, also where its first try was
+// refused memory, which changes nothing.
 fn is_made_again(
     store: &mut VerifyStore,
     header: &Header,

@@ -333,8 +333,8 @@ fn claim_of<'x>(
     }
 }
 
-// The answers to claims of a signature by leaf 3 of general 5's tree of four levels and of one by leaf 40 of that of six, each
-// twice, once something of the claim at this place is changed.
+// The answers to claims of a signature by leaf 3 of general 5's tree of four levels and of one by leaf 40 of
+// that of six, each twice, once something of the claim at this place is changed.
 fn four_answers<'x>(
     roots: &'x [[u8; 32]; 2],
     four: &'x Signature,

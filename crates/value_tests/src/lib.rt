@@ -1,4 +1,5 @@
-//! This crate has the tests of the crates of values and texts: `gen_types`, `gen_net`, `gen_walks`, `gen_script` and `gen_core`.
+//! This crate has the tests of the crates of values and texts: `gen_types`, `gen_net`, `gen_walks`,
+//! `gen_script` and `gen_core`.
 #![tactic(auto)]
 
 #[cfg(test)]

@@ -48,8 +48,8 @@ fn cuts_are_short(alloc: Global, bytes: &[u8]) -> bool {
     true
 }
 
-/// The place in the list of the first case that is not so: the byte at a place is changed to this one, and the front
-/// of version 1 has this fault then.
+/// The place in the list of the first case that is not so: the byte at a place is changed to this one, and
+/// the front of version 1 has this fault then.
 fn first_wrong(
     alloc: Global,
     cases: &[(usize, u8, FrontFault)],

@@ -152,8 +152,8 @@ fn ring_in_bytes(rt: HostRuntime) -> Result<(), Fail> {
     Ok(())
 }
 
-/// Beginnings of headers of four generals that differ in one thing each: none, m, d, q, the choice, an edge, the
-/// version and its slot.
+/// Beginnings of headers of four generals that differ in one thing each: none, m, d, q, the choice, an edge,
+/// the version and its slot.
 const UNLIKE: &[&[u8]] = &[
     &[1, 4, 2, 3, 5, 1, 1, 0, 1],
     &[1, 4, 1, 3, 5, 1, 1, 0, 1],

@@ -12,7 +12,8 @@ better (Some before) seen = if nat_le before.from seen.from then before else see
 abbrev pub OrderIn : List Seen → ℕ → Type 0
 OrderIn seen v = (s : Seen) × Contains seen s × (s.order ≡ v)
 
--- the order is known or none of the chains has it; or it isn't known, and the chain is that from the least sender
+-- the order is known or none of the chains has it; or it isn't known, and the chain is that from the least
+-- sender
 abbrev pub IsBest : List ℕ → List Seen → ℕ → Option Seen → Type 0
 IsBest known seen v None = OrderIn seen v → Contains known v
 IsBest known seen v (Some s) =
@@ -26,4 +27,5 @@ pub record AreBest (known : List ℕ) (seen : List Seen) (picked : List (Option 
 
 -- these are the paths of such chains
 abbrev pub AreBestPaths : List ℕ → List Seen → List (Option (List ℕ)) → Type 0
-AreBestPaths known seen adds = (picked : List (Option Seen)) × AreBest known seen picked × (adds ≡ paths_of picked)
+AreBestPaths known seen adds =
+    (picked : List (Option Seen)) × AreBest known seen picked × (adds ≡ paths_of picked)

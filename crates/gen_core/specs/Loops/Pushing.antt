@@ -4,7 +4,8 @@ use Rattle.gen_net.specs.Network.{Network, rounds}
 use Rattle.gen_core.specs.declared.sending.Outgoing.{Outgoing}
 use Rattle.gen_core.specs.Sending.{GoesBefore, IsDue}
 
--- the picked path of fewer than R signers, without g, lengthened by himself, is this path, and `to` is outside it
+-- the picked path of fewer than R signers, without g, lengthened by himself, is this path, and `to` is
+-- outside it
 pub record GoesOn (net : Network) (g to : ℕ) (picked path : List ℕ) : Type 0 where
   pub in_time : length picked < rounds net
   pub new : Contains picked g → ⊥

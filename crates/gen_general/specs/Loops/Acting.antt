@@ -25,12 +25,14 @@ pub record IsSpent (own : Option ℕ) (heard : List Heard) (round order : ℕ) :
   pub signed : round_signed own heard order ≡ Some at
   pub past : at ≤ round
 
--- What he keeps: he signed what he had to, and each leaf of the run that was taken is that of an order which he signed.
+-- What he keeps: he signed what he had to, and each leaf of the run that was taken is that of an order which
+-- he signed.
 pub record IsHand (k : Part) (heard before : List Heard) (round : ℕ) (hand : Follower) : Type 0 where
   pub unscripted : k.script ≡ None
   pub height : hand.ring.height ≡ height_of k.header
   pub signed : hand.signed ≡ signed_in (own_keys k.header hand.ring.seed) k.me k.own before round
-  pub spent : (n : ℕ) → n < leaves_per_run → Contains hand.ring.taken (leaf_of_order k.header n) → IsSpent k.own heard round n
+  pub spent : (n : ℕ) → n < leaves_per_run → Contains hand.ring.taken (leaf_of_order k.header n)
+      → IsSpent k.own heard round n
 
 -- the leaves of what he has to sign in this round are free
 pub record IsFree (k : Part) (heard : List Heard) (round : ℕ) (hand : Follower) : Type 0 where

@@ -37,7 +37,8 @@ due_count round heard (suc n) = due_count round heard n + one_or_none (due_of ro
 
 -- what is signed of the first orders
 unfoldable pub relayed_to : Keys → ℕ → List Heard → ℕ → ℕ → List Chain
-relayed_to k me heard round n = flat_map (λ order. relayed k me round (first_of order heard)) (range_with_len 0 n)
+relayed_to k me heard round n =
+    flat_map (λ order. relayed k me round (first_of order heard)) (range_with_len 0 n)
 
 -- the leaf is that of one of the first orders, which is signed in this round
 pub record IsTakenTo (h : RunHeader) (heard : List Heard) (round n leaf : ℕ) : Type 0 where
