@@ -24,7 +24,7 @@ MAKER = os.path.join(TOP, "embed", "page", "make_page.py")
 ARCHIVE = os.path.join(TOP, "crates", "sm_embed", "out", "libsm_embed.a")
 FORMATS = os.path.join(TOP, "docs", "FORMATS.md")
 HUNDRED = 100
-# The hundreds of bent files: what is asked of the module, and of the program; of evidence, or else of bundles.
+# The hundreds of bent files: what is asked of the module, of evidence or else of bundles.
 HUNDREDS = {"sm_audit": 3, "sm_evidence": 3, "sm_accuse": 1, "sm_draw": 2}
 # So many bent files are given to the browser, beside those that are named.
 IN_BROWSER = 60
@@ -127,13 +127,18 @@ def bent_case(draws, bases, call):
     return [call, general] if call == "sm_accuse" else [call], words[call], given
 
 
-def hundreds(bases, commands):
-    """The hundreds of cases, by their names. Where the program draws nothing, audits stand in place of pictures."""
+def draws_pictures():
+    """Whether the library draws."""
+    return b" sm_draw(" in read(TOP, "embed", "sm_embed.h")
+
+
+def hundreds(bases):
+    """The hundreds of cases, by their names. Where the library doesn't draw, audits stand in place of pictures."""
     for call, count in HUNDREDS.items():
-        kind = "sm_audit" if call == "sm_draw" and "draw" not in commands else call
+        kind = "sm_audit" if call == "sm_draw" and not draws_pictures() else call
         for number in range(count):
             draws = Draws(f"page {call} {number}")
-            yield f"{kind} {number}", [bent_case(draws, bases, kind) for _ in range(HUNDRED)]
+            yield f"{call} {number}", [bent_case(draws, bases, kind) for _ in range(HUNDRED)]
 
 
 def asked(node, page, cases):
@@ -166,7 +171,7 @@ def try_bent(program, page, bases, tally):
     if not node:
         tally.note("no Node with 64-bit memories is there, so the module was not asked about bent files")
         return
-    for name, cases in hundreds(bases, tally.commands):
+    for name, cases in hundreds(bases):
         wanted = side_by_side(lambda case: spoken(run(program, case[1], case[2])), cases)
         tally.count(len(cases))
         tally.hold(f"{name}, bent", first_other(cases, asked(node, page, cases), wanted))
@@ -258,7 +263,7 @@ def try_answers(told, tally):
     for name, it in told.items():
         wants = re.findall(r"^(?:verdict|general|N|convicted|fault|evidence).*", it["text"], re.M)
         tally.hold(f"page, meanings of {name}", None if it["meanings"] == wants else f"{it['meanings']}")
-        has_run = it["end"] < 2 and not name.endswith(".evidence")
+        has_run = it["end"] < 2 and not name.endswith(".evidence") and draws_pictures()
         tally.hold(f"page, picture of {name}", None if it["drawn"] == has_run else f"{it['drawn']}")
 
 
@@ -340,7 +345,7 @@ def try_browser(program, page, bases, tally, folder):
         try_answers(told, tally)
         links = {"split.bundle.0.evidence": read(EXAMPLES, "split.evidence")}
         drawn = [name[:-4] for name in os.listdir(EXAMPLES) if name.endswith(".svg") and f"{name[:-4]}.bundle" in told]
-        links |= {f"{name}.bundle.svg": read(EXAMPLES, f"{name}.svg") for name in drawn}
+        links |= {f"{name}.bundle.svg": read(EXAMPLES, f"{name}.svg") for name in drawn if draws_pictures()}
         try_saved(shown, folder, tally, links)
         try_network(shown, page, tally)
         try_keys(shown, tally)

@@ -25,7 +25,9 @@ TOP = os.path.dirname(os.path.dirname(HERE))
 CRATE = "sm_embed"
 # The kit that this was tried with. With another the page has to be tried anew (trials/page.py) before this is changed.
 KIT = "rattle-kit-13f"
-EXPORTS = ["sm_audit", "sm_evidence", "sm_accuse", "sm_draw", "room", "give_back"]
+EXPORTS = ["sm_audit", "sm_evidence", "sm_accuse", "room", "give_back"]
+# The page shows pictures where the library draws.
+DRAWS = "sm_draw"
 # What LLVM says of the layout of values on the one target and on the other.
 NATIVE = "x86_64-unknown-linux-gnu"
 WASM = "wasm64-unknown-unknown"
@@ -140,16 +142,22 @@ def retargeted(text):
     return re.sub(r' "(probe-stack|stack-probe-size|target-cpu)"="[^"]*"', "", text)
 
 
+def names_of(text):
+    """What the page calls of the module with this text."""
+    return [*EXPORTS, DRAWS] if re.search(rf"^define .*@{DRAWS}\(", text, re.MULTILINE) else EXPORTS
+
+
 def compiled(kit, module, scratch):
     """The WebAssembly module of an LLVM module, with the heap beside it."""
     clang, at = f"{kit}/toolchain/bin/clang", lambda name: f"{scratch}/{name}"
     as_text = ["-S", "-emit-llvm", "-Xclang", "-disable-llvm-passes", "-x", "ir"]
     run(clang, "--no-default-config", *as_text, module, "-o", at("module.ll"))
-    write(at("module64.ll"), retargeted(read(at("module.ll")).decode()).encode())
+    text = retargeted(read(at("module.ll")).decode())
+    write(at("module64.ll"), text.encode())
     run(clang, *FOR_WASM, "-O3", "-c", "-x", "ir", at("module64.ll"), "-o", at("module.o"))
     run(clang, *FOR_WASM, "-O2", "-ffreestanding", "-c", f"{HERE}/heap_wasm.c", "-o", at("heap.o"))
     os.symlink(f"{kit}/toolchain/bin/clang", at("wasm-ld"))
-    names = [f"--export={it}" for it in EXPORTS]
+    names = [f"--export={it}" for it in names_of(text)]
     # The stack lies below the data, so that one that grows too long leaves the memory, which traps.
     kept = ["--stack-first", "-z", f"stack-size={STACK}", "--gc-sections", "--strip-all"]
     run(at("wasm-ld"), "-mwasm64", "--no-entry", *names, *kept, "-o", at("page.wasm"), at("module.o"), at("heap.o"))

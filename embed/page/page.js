@@ -68,6 +68,12 @@ function evidenceBy(of, given, text) {
   });
 }
 
+// The picture of a bundle or a campaign, or nothing where the module doesn't draw or has no memory for it.
+function pictureOf(of, given) {
+  const drawn = of.sm_draw ? ask(of, "sm_draw", given) : { end: MEMORY };
+  return drawn.end <= NO ? drawn.bytes : null;
+}
+
 // All that the module says of a file.
 async function judged(given) {
   const of = await freshModule(), kind = kindOf(given);
@@ -82,8 +88,7 @@ async function judged(given) {
     return { kind, end: isShort ? MEMORY : FAULT, text: `${text}\n${textOf(other.bytes)}` };
   }
   if (end > NO) return { kind, end, text };
-  const evidence = evidenceBy(of, given, text), drawn = ask(of, "sm_draw", given);
-  return { kind, end, text, evidence, picture: drawn.end <= NO ? drawn.bytes : null };
+  return { kind, end, text, evidence: evidenceBy(of, given, text), picture: pictureOf(of, given) };
 }
 
 // The answer in one sentence.
