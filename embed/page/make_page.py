@@ -121,7 +121,8 @@ def kept_module(kit, scratch):
     if not os.path.isfile(module):
         raise Refused("the toolchain has changed: it gives clang no module.bc")
     if read(archive) != read(library):
-        raise Refused(f"the archive made anew is not lib{CRATE}.a: run rt lib in crates/{CRATE} first, or the toolchain has changed")
+        first = f"run rt lib in crates/{CRATE} first"
+        raise Refused(f"the archive made anew is not lib{CRATE}.a: {first}, or the toolchain has changed")
     return module
 
 
