@@ -1,21 +1,18 @@
 -- What the job run writes the job audit reads, and accepts.
-use Rattle.std.proofs.Common.{◌≡◌, ◌<◌, ◌≤◌, ◌++◌, ◌∷◌, ℕ, Bool, false, inl, inr, List, length, All, Contains, Ok, refl, sym, ap, subst, ◌∙◌}
+use Rattle.std.proofs.Common.{◌≡◌, ◌<◌, ◌++◌, ℕ, Bool, false, inl, inr, List, length, Contains, refl, sym, subst, ◌∙◌}
 use Rattle.std.specs.Int.{w32, to_be_bytes}
 use Rattle.std.proofs.lemmas.List.{append-nil}
 use Rattle.std.specs.List.{flat_map}
 use Rattle.std.proofs.lemmas.List.Elements.{All-contains, Contains-append_right}
-use Rattle.gen_types.specs.Ascending.{IsListOf}
 use Rattle.gen_types.specs.Spelled.{Spells}
 use Rattle.gen_types.proofs.Lists.{All_of, Contains_there}
 use Rattle.gen_types.proofs.Steps.{ok_is}
 use Rattle.gen_net.specs.Front.{front_spelling}
-use Rattle.gen_net.specs.Network.{IsLoyal}
 use Rattle.gen_walks.specs.Walks.{BoundsDiameter}
 use Rattle.gen_walks.proofs.Pairs.{bounds}
 use Rattle.gen_log.specs.Fields.{AreBelow, set_spelling}
 use Rattle.gen_log.specs.Writing.{LogBytes}
-use Rattle.gen_scenario.specs.Rows.{logs_of_all}
-use Rattle.gen_scenario.specs.Scenario.{Scenario, IsScenario, scripted}
+use Rattle.gen_scenario.specs.Scenario.{Scenario, IsScenario}
 use Rattle.gen_scenario.proofs.Having.{in_flat}
 use Rattle.gen_campaign.specs.declared.campaign_fault.CampaignFault.{CampaignFault}
 use Rattle.gen_campaign.specs.Campaign.{CampaignBundle, IsCampaign}

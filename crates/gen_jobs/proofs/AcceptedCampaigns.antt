@@ -1,11 +1,10 @@
 -- What the job campaign writes the job audit reads, and accepts.
-use Rattle.std.proofs.Common.{◌≡◌, ◌<◌, ◌≤◌, ◌++◌, ◌∷◌, ℕ, Bool, false, inl, inr, List, [], length, map, All, AllPairs, Contains, Ok, refl, sym, ap, subst, arith, ◌∙◌}
+use Rattle.std.proofs.Common.{◌≡◌, ◌<◌, ◌∷◌, ℕ, Bool, inl, inr, List, [], map, All, AllPairs, Contains, refl, sym, ap, subst, arith, ◌∙◌}
 use Rattle.std.specs.List.{AllZip, flat_map, range_with_len}
 use Rattle.std.proofs.lemmas.List.Elements.{All-contains, Contains-append_right}
 use Rattle.std.proofs.lemmas.List.Kept.{AllPairs-cons}
 use Rattle.std.proofs.lemmas.Slice.Zip.{AllZip-long}
 use Rattle.gen_types.specs.Spelled.{Spells}
-use Rattle.gen_types.specs.declared.heights.TreeHeight.{TreeHeight}
 use Rattle.gen_types.specs.Members.{Contains_cases, Contains_here, Contains_nil, Contains_there}
 use Rattle.gen_types.proofs.Lists.{All_of, AllPairs_head, AllPairs_tail}
 use Rattle.gen_types.proofs.Steps.{ok_is}
@@ -21,7 +20,6 @@ use Rattle.gen_scenario.proofs.Having.{in_flat}
 use Rattle.gen_audit.specs.Bundle.{Bundle, IsBundle}
 use Rattle.gen_audit.specs.BundleSpelling.{bundle_spelling}
 use Rattle.gen_audit.specs.Supported.{IsSupported}
-use Rattle.gen_audit.specs.WorldBundle.{HasWalks, bundle_of}
 use Rattle.gen_audit.proofs.RunBundles.{world_is_bundle}
 use Rattle.gen_audit.proofs.Worlds.{world_is_supported}
 use Rattle.gen_campaign.specs.declared.campaign_fault.CampaignFault.{CampaignFault}
@@ -32,7 +30,7 @@ use Rattle.gen_campaign_text.specs.CampaignText.{HasSlot, Precedes, SpellsTexts}
 use Rattle.gen_jobs.specs.Accepted.{IsSound}
 use Rattle.gen_jobs.specs.AcceptedCampaigns.{CampaignsAreAccepted, CampaignsAreRead, together}
 use Rattle.gen_jobs.specs.Audit.{AuditsForm, AuditsRuns, IsAudited}
-use Rattle.gen_jobs.specs.Campaigning.{AreBundlesOf, IsCampaignRun}
+use Rattle.gen_jobs.specs.Campaigning.{IsCampaignRun}
 use Rattle.gen_jobs.specs.Run.{IsOfRun}
 use Rattle.gen_jobs.proofs.Accepted.{is_acceptable, shown_bytes}
 
@@ -41,8 +39,8 @@ use Rattle.gen_jobs.proofs.Accepted.{is_acceptable, shown_bytes}
 lawful : (text : List ℕ) (runs : List Scenario) → SpellsTexts text runs → (s : Scenario) → Contains runs s → IsScenario s
 lawful text [] spelled s at = absurd (Contains_nil s at)
 lawful text (first ∷ others) spelled s at = elim (Contains_cases first s others at) [
-  | inl same ↦ subst IsScenario same spelled.2.2.1.keys_are.lawful
-  | inr later ↦ lawful spelled.1 others spelled.2.2.2 s later
+  | inl same ↦ subst IsScenario same spelled.3.keys_are.lawful
+  | inr later ↦ lawful spelled.1 others spelled.4 s later
 ]
 
 same_height : (v w : Version) → IsSecond v → IsSecond w → height_in v ≡ height_in w
