@@ -14,7 +14,8 @@ import traceback
 from programs import Hangs, commands_of
 from tally import Tally
 
-SUBJECTS = ["worked", "walk", "campaigns", "prefixes", "bent", "refusals", "calls", "devices", "load"]
+SUBJECTS = ["worked", "walk", "campaigns", "pictures", "prefixes", "bent"]
+SUBJECTS += ["refusals", "calls", "devices", "load", "embed", "page"]
 
 
 def try_subject(subject, program, commands):

@@ -1,9 +1,11 @@
 pub mod Accepted
+pub mod AcceptedCampaigns
 pub mod Accused
 pub mod AccusedRuns
 pub mod Audited
 pub mod Bundling
 pub mod Delivering
+pub mod Drawn
 pub mod JudgedRuns
 pub mod Known
 pub mod RunsOf

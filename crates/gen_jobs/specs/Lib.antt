@@ -1,10 +1,12 @@
 pub mod Accepted
+pub mod AcceptedCampaigns
 pub mod Accusing
 pub mod Answering
 pub mod Audit
 pub mod Campaigning
 pub mod Checking
 pub mod Decide
+pub mod Drawing
 pub mod Ends
 pub mod Failing
 pub mod Jobs
