@@ -62,28 +62,26 @@ def large_cases(program):
 
 
 def differs(end, was_refused, whole, kind):
-    """What is wrong with the end of a run, or None."""
-    first = ANSWERS[kind] if was_refused else (GAVE,)
+    """What is wrong with the end of a run, or None. A call that can do without what was refused gives all it would."""
     rest = whole.wrote.decode().removeprefix(FRONT + GAVE)
-    again = GAVE if was_refused else ""
-    wanted = [End(0, (FRONT + answer + again + rest).encode(), b"") for answer in first]
-    return None if end in wanted else shown(end)
+    wanted = [End(0, (FRONT + answer + GAVE + rest).encode(), b"") for answer in ANSWERS[kind] if was_refused]
+    return None if end in [whole, *wanted] else shown(end)
 
 
 def count_up(call, whole, kind, is_sampled):
-    """Refuses one growth after the other. Returns how many runs met a refusal, and what is wrong, or None."""
-    coming, refusals = numbers(is_sampled), 0
+    """Refuses one growth after the other. Returns how many runs were answered so, and what is wrong with one, or None."""
+    coming, refusals, met = numbers(is_sampled), 0, 0
     while True:
         some = [number for number, _ in zip(coming, range(AT_ONCE * count_cores()))]
         if not some:
-            return refusals, f"still refused after {refusals} runs"
+            return refusals, f"still refused after {met} runs"
         for number, (end, was_refused) in zip(some, side_by_side(call, some)):
             wrong = differs(end, was_refused, whole, kind)
             if wrong:
                 return refusals, f"{number} refused: {wrong}"
             if not was_refused:
-                return refusals, None if refusals else "nothing was ever refused"
-            refusals += 1
+                return refusals, None if refusals else "no refusal was ever answered"
+            met, refusals = met + 1, refusals + (end != whole)
 
 
 def try_case(library, tally, case, is_sampled):
@@ -117,4 +115,4 @@ def trials(program, tally):
         library = build(scratch)
         for case, is_sampled in cases:
             met[case[0]] = met.get(case[0], 0) + try_case(library, tally, case, is_sampled)
-    tally.note("refusals met: " + ", ".join(f"{name} {count}" for name, count in met.items()))
+    tally.note("refusals answered: " + ", ".join(f"{name} {count}" for name, count in met.items()))
