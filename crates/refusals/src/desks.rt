@@ -127,21 +127,26 @@ pub(crate) fn filing<R: Print + Wait>(
     tell_desk(rt, alloc, desk, receipts)
 }
 
-/// Files a log by the last slip without a word, and gives the other slips up.
+/// Files a log by each slip without a word. Slips by which it can't be filed are given up.
 fn file_silently<R: Wait>(rt: &R, desk: &Desk, slips: Vec<Slip>, log: &SealedLog) {
     let mut slips = slips;
-    if let Some(slip) = slips.pop() {
+    while let Some(slip) = slips.pop() {
         if let Err((slip, _fault)) = desk.file_copy(rt, slip, log) {
             let _place = slip.give_up();
         }
     }
-    give_up_all(slips);
+    slips.destroy_empty();
 }
 
-/// Returns a desk of two places, at which the last log of a run is filed.
-fn filled<R: Wait>(rt: &R, alloc: Global, scenario: &Scenario) -> Result<Desk, AllocError> {
+/// Returns a desk of so many places, at each of which the last log of a run is filed.
+fn filled<R: Wait>(
+    rt: &R,
+    alloc: Global,
+    scenario: &Scenario,
+    places: usize,
+) -> Result<Desk, AllocError> {
     let log = last_log(alloc, scenario)?;
-    let (desk, slips) = Desk::new(alloc, 2)?;
+    let (desk, slips) = Desk::new(alloc, places)?;
     file_silently(rt, &desk, slips, &log);
     Ok(desk)
 }
@@ -166,7 +171,7 @@ pub(crate) fn claiming<R: Print + Wait>(
     alloc: Global,
     scenario: &Scenario,
 ) -> io::Result<()> {
-    let desk = filled(rt, alloc, scenario)?;
+    let desk = filled(rt, alloc, scenario, 4)?;
     say(rt, "call\n")?;
     let claimed = match claim(rt, &desk) {
         Some(claimed) => Some(claimed),
@@ -205,7 +210,7 @@ pub(crate) fn reporting<R: Print + Wait>(
     alloc: Global,
     scenario: &Scenario,
 ) -> io::Result<()> {
-    let desk = filled(rt, alloc, scenario)?;
+    let desk = filled(rt, alloc, scenario, 3)?;
     let Some(claim) = desk.claim(rt)? else {
         return say(rt, "nothing\n");
     };
