@@ -1,0 +1,5 @@
+//! This crate has the tests of `gen_node`.
+#![tactic(auto)]
+
+#[cfg(test)]
+mod driving;
