@@ -2,7 +2,7 @@
 ghost use Rattle.std.specs.Prelude.{◌≡◌, ◌<◌, ◌^◌, ◌++◌, All, IfOk, OnOk, length};
 ghost use Rattle.std.specs.List.{flat_map};
 ghost use Rattle.gen_types.specs.Spelled.{Spells};
-ghost use Rattle.gen_node.specs.Frame.{IsFrame, frame_spelling, front_spelling, parcel_spelling};
+ghost use Rattle.gen_node.specs.Frame.{IsFrame, IsFront, frame_spelling, front_spelling, parcel_spelling};
 
 use crate::frame_reading::FRAME_MARK;
 use crate::frames::FrameFront;
@@ -32,10 +32,17 @@ fn put_parcels(out: &mut Vec<u8>, parcels: &[Parcel]) -> Result<(), AllocError>
     Ok(())
 }
 
+/// What the types of a front's parts say of it.
+fn parts_fit(run_id: [u8; 32], round: u8, from: u8, to: u8)
+    ensures { IsFront (record { run_id = run_id; round = round; from = from; to = to }) }
+{}
+
 /// Appends which frame it is.
 fn put_front(out: &mut Vec<u8>, front: &FrameFront) -> Result<(), AllocError>
-    ensures { OnOk result (out.new.items ≡ out.old.items ++ front_spelling front.now) }
+    ensures ok { OnOk result (out.new.items ≡ out.old.items ++ front_spelling front.now) }
+    ensures known { IsFront front.now }
 {
+    parts_fit(front.run_id, front.round, front.from, front.to);
     out.extend_from_slice(&FRAME_MARK.to_be_bytes())?;
     out.extend_from_slice(&front.run_id)?;
     out.extend_from_slice(&[front.round, front.from, front.to])

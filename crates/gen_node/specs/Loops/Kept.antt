@@ -1,5 +1,5 @@
 -- What each node keeps, and one step of a round that begins or ends.
-use Rattle.std.specs.Prelude.{ℕ, ◌≡◌, ◌+◌, List, [], ◌∷◌, map, Bool, true, false, IsSome, Some, None, if◌then◌else◌}
+use Rattle.std.specs.Prelude.{ℕ, ◌≡◌, ◌≤◌, ◌+◌, List, [], ◌∷◌, map, Bool, true, false, IsSome, Some, None, if◌then◌else◌}
 use Rattle.std.specs.List.{range_with_len, list_any}
 use Rattle.gen_net.specs.Edges.{joins}
 use Rattle.gen_net.specs.Header.{RunHeader}
@@ -26,7 +26,8 @@ held_for r to = record { general = to; parcels = sends r.standing to }
 -- the frames that he holds are those of the neighbours to whom he has sent
 abbrev pub HoldsFrames : Stage → Recorder → List Held → Type 0
 HoldsFrames Between r out = Unit {0}
-HoldsFrames (Sending next) r out = out ≡ map (held_for r) (near_at r (range_with_len 0 next))
+HoldsFrames (Sending next) r out =
+    (next ≤ (header_at r).network.generals) × (out ≡ map (held_for r) (near_at r (range_with_len 0 next)))
 HoldsFrames Open r out = out ≡ map (held_for r) (neighbours_at r)
 HoldsFrames (Hearing next) r out = Unit {0}
 
@@ -37,11 +38,14 @@ pub record IsNode (h : RunHeader) (r : Recorder) (stage : Stage) (out : List Hel
   pub place : StandBefore h.network r.written (next_place stage r.standing.round)
   pub holds : HoldsFrames stage r out
 
+-- he is a neighbour
+abbrev pub is_near : Recorder → ℕ → Bool
+is_near r g = list_any (joins r.standing.known.me g) (header_at r).network.edges
+
 -- he has sent to one general more, if he is a neighbour
 abbrev pub sent_one : Node → ℕ → Node
 sent_one n next = record {
-  recorder = if list_any (joins n.recorder.standing.known.me next) (header_at n.recorder).network.edges
-      then with_sends n.recorder next else n.recorder;
+  recorder = if is_near n.recorder next then with_sends n.recorder next else n.recorder;
   stage = Sending (next + 1);
   inbox = n.inbox;
 }
@@ -49,8 +53,7 @@ sent_one n next = record {
 -- he has heard one general more
 abbrev pub heard_one : Node → ℕ → Node
 heard_one n next = record {
-  recorder = if list_any (joins n.recorder.standing.known.me next) (header_at n.recorder).network.edges
-      then with_recvs n.recorder next (frame_in next n.inbox) else n.recorder;
+  recorder = if is_near n.recorder next then with_recvs n.recorder next (frame_in next n.inbox) else n.recorder;
   stage = Hearing (next + 1);
   inbox = n.inbox;
 }
