@@ -20,7 +20,8 @@ def jobs(program, commands):
     bundle = run(program, ["run"], text).wrote
     evidence = run(program, ["accuse", "--general", "0"], bundle).wrote
     both = [(["decide"], text), (["run"], text), (["judge"], text), (["judge", "--workers", "3"], text)]
-    both += [(["audit"], bundle), (["audit", "--workers", "3"], bundle), (["accuse", "--general", "0"], bundle)]
+    both += [(["audit"], bundle), (["audit", "--workers", "3"], bundle), (["draw"], bundle)]
+    both += [(["accuse", "--general", "0"], bundle)]
     return [(words, given) for words, given in [*both, (["evidence"], evidence)] if words[0] in commands]
 
 

@@ -97,6 +97,7 @@ def scenario_cases(program, name, text):
     bundle = run(program, ["run"], text).wrote
     yield name, ["audit"], bundle
     yield name, ["audit", "--workers", "3"], bundle
+    yield name, ["draw"], bundle
     evidence = run(program, ["accuse", "--general", "0"], bundle).wrote
     yield name, ["accuse", "--general", "0"], bundle
     if evidence:
@@ -111,6 +112,7 @@ def campaign_cases(program):
     twice = [run(program, ["run"], it).wrote for it in (texts[0], texts[0].replace(b"traitors 0", b"traitors 1"))]
     bundles = b"SMC2\2" + b"".join(twice)
     yield "one slot twice", ["audit", "--workers", "3"], bundles
+    yield "one slot twice", ["draw"], bundles
     yield "one slot twice", ["accuse", "--general", "0"], bundles
     evidence = run(program, ["accuse", "--general", "0"], bundles).wrote
     if evidence:
@@ -123,7 +125,7 @@ def large_cases(program):
     bundle = run(program, ["run"], text).wrote
     for words in (["decide"], ["run"], ["run", "--capacity", "16"], ["judge"], ["judge", "--workers", "16"]):
         yield "16 generals", words, text
-    for words in (["audit"], ["audit", "--workers", "16"], ["accuse", "--general", "0"]):
+    for words in (["audit"], ["audit", "--workers", "16"], ["draw"], ["accuse", "--general", "0"]):
         yield "16 generals", words, bundle
 
 

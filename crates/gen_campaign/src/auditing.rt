@@ -32,7 +32,7 @@ fn reports_of_run<R: Threads + Wait + Sync, G: JobGate + Sync>(
 }
 
 /// The judgement on a bundle of which these are the reports.
-fn judgement_by(
+pub(crate) fn judgement_by(
     alloc: Global,
     bundle: &Bundle,
     reports: &[LocalReport],
@@ -60,7 +60,7 @@ fn judge_run<R: Threads + Wait + Sync, G: JobGate + Sync>(
 }
 
 /// Puts a judgement and its reports behind the others.
-fn keep_run(
+pub(crate) fn keep_run(
     judgements: &mut Vec<Judgement>,
     seen: &mut Vec<Vec<LocalReport>>,
     judgement: Judgement,
@@ -120,6 +120,22 @@ fn find_in_runs(
     find_across(alloc, headers.as_slice(), seen)
 }
 
+/// What convicts generals across the runs of what is shown, of whose bundles these are the reports.
+pub(crate) fn across_of(
+    alloc: Global,
+    campaign: &CampaignBundle,
+    seen: &[Vec<LocalReport>],
+) -> Result<Vec<Evidence>, AllocError>
+    requires { AllZip AreReports campaign.now.bundles (map (λ v. v.items) seen.now) }
+    ensures across { IfOk result (λ found.
+        AreConvictedAcross (shown_bundles campaign.now.bundles) (map told_of found.items)) }
+    ensures lawful { IfOk result (λ found. AreEvidenceAcross (map told_of found.items)) }
+    ensures alone { IfOk result (λ found. campaign.now.alone ≡ true → found.items ≡ []) }
+{
+    other_slots_convict_nobody();
+    find_in_runs(alloc, campaign.bundles(), seen)
+}
+
 /// Returns the verdict on a campaign: the judgement on each of its runs, as `audit` of `gen_audit` judges its bundle
 /// alone, one after the other; and the evidence that the exhibits of two runs hold together. It is the same however many
 /// workers there are.
@@ -149,9 +165,7 @@ pub fn audit_campaign<R: Threads + Wait + Sync, G: JobGate + Sync>(
     // A bundle that stands alone convicts nobody across runs.
     ensures alone { IfOk result (λ v. campaign.now.alone ≡ true → v.across.items ≡ []) }
 {
-    other_slots_convict_nobody();
-    let bundles = campaign.bundles();
-    let (judgements, seen) = judge_runs(rt, alloc, bundles, workers, gate)?;
-    let across = find_in_runs(alloc, bundles, seen.as_slice())?;
+    let (judgements, seen) = judge_runs(rt, alloc, campaign.bundles(), workers, gate)?;
+    let across = across_of(alloc, campaign, seen.as_slice())?;
     Ok(CampaignVerdict { judgements, across })
 }

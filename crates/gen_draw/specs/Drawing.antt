@@ -43,13 +43,16 @@ arrows_of h exhibits = arrows_between (all_sent h exhibits) (all_received h exhi
 abbrev pub IsDrawn : RunHeader → List LogBytes → ToldBy → Message → Type 0
 IsDrawn h exhibits told m = Contains (arrows_of h exhibits) (record { message = m; told = told })
 
--- It is drawn as its sender's exactly where a shown log of his says that he sent it: solid where one of its receiver says
--- that he received it, and else dashed. And dashed as its receiver's exactly where his alone has it.
+-- It is drawn as its sender's exactly where a shown log of his says that he sent it: solid where one of its
+-- receiver says that he received it, and else dashed. And dashed as its receiver's exactly where his alone
+-- has it.
 pub record DrawsWhatLogsSay (h : RunHeader) (exhibits : List LogBytes) : Type 0 where
   pub sent : (m : Message) → (IsDrawn h exhibits Both m ⊎ IsDrawn h exhibits Sender m) ↔ SaysSent h exhibits m
   pub both : (m : Message) → IsDrawn h exhibits Both m ↔ (SaysSent h exhibits m × SaysReceived h exhibits m)
-  pub sender : (m : Message) → IsDrawn h exhibits Sender m ↔ (SaysSent h exhibits m × (SaysReceived h exhibits m → ⊥))
-  pub receiver : (m : Message) → IsDrawn h exhibits Receiver m ↔ (SaysReceived h exhibits m × (SaysSent h exhibits m → ⊥))
+  pub sender : (m : Message)
+      → IsDrawn h exhibits Sender m ↔ (SaysSent h exhibits m × (SaysReceived h exhibits m → ⊥))
+  pub receiver : (m : Message)
+      → IsDrawn h exhibits Receiver m ↔ (SaysReceived h exhibits m × (SaysSent h exhibits m → ⊥))
 
 -- so of each header and all that is shown under it
 abbrev pub MessagesStandWhereLogsSay : Type 0

@@ -3,7 +3,8 @@ use Rattle.std.specs.Prelude.{ℕ, ◌+◌, ◌*◌}
 use Rattle.gen_draw.specs.declared.grid.Grid.{Grid}
 use Rattle.gen_draw.specs.Rows.{legend_row}
 
--- how far it is to the right from a message's beginning to its middle: the further, the more generals there are
+-- how far it is to the right from a message's beginning to its middle: the further, the more generals
+-- there are
 unfoldable pub half_reach : Grid → ℕ
 half_reach grid = 12 + 6 * grid.generals
 

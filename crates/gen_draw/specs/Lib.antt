@@ -5,6 +5,7 @@ pub mod Marks
 pub mod Page
 pub mod Picture
 pub mod Rows
+pub mod Several
 pub mod Shapes
 pub mod Shown
 pub mod Style

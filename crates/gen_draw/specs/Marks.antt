@@ -1,11 +1,13 @@
 -- What is found and who is convicted, where a picture says so.
-use Rattle.std.specs.Prelude.{ℕ, Bool, false, ◌||◌, ◌==◌, ◌+◌, if◌then◌else◌, List, [], ◌++◌, codes}
+use Rattle.std.specs.Prelude.{ℕ, Bool, false, ◌||◌, ◌==◌, ◌+◌, ◌*◌, if◌then◌else◌, List, [], ◌++◌, codes}
 use Rattle.std.specs.List.{flat_map}
 use Rattle.std.specs.Fmt.{decimal}
 use Rattle.gen_convict.specs.Evidence.{Accusation}
 use Rattle.gen_convict.specs.First.{kind_of}
 use Rattle.gen_match.specs.declared.finding.Finding.{Finding}
-use Rattle.gen_match.specs.declared.finding.Finding.TheVariants.{Missing, Several, Unreadable, Foreign, Unsigned, Unsealed, Departs, Unmatched, Underivable, Unjoined, Nobody}
+use Rattle.gen_match.specs.declared.finding.Finding.TheVariants.{Missing, Several, Unreadable, Foreign}
+use Rattle.gen_match.specs.declared.finding.Finding.TheVariants.{Unsigned, Unsealed, Departs, Unmatched}
+use Rattle.gen_match.specs.declared.finding.Finding.TheVariants.{Underivable, Unjoined, Nobody}
 use Rattle.gen_report.specs.Findings.{finding_named}
 use Rattle.gen_draw.specs.declared.grid.Grid.{Grid}
 use Rattle.gen_draw.specs.Arrows.{message_stroke}
@@ -24,12 +26,12 @@ found_opening finding = found_front ++ (finding_named finding ++ codes "</title>
 unfoldable pub found_words : ℕ → ℕ → Finding → List ℕ
 found_words x y finding = words_at x y ++ (finding_named finding ++ codes "</text></g>\n")
 
--- a message that is found, marked along its line
+-- a message that is found, marked along its line; of different orders the words stand below one another
 unfoldable pub found_message : Grid → ℕ → ℕ → ℕ → ℕ → Finding → List ℕ
 found_message grid from to round order finding =
     found_opening finding
     ++ (message_stroke grid from to round order
-    ++ found_words (middle_at grid round order + 12) (middle_of from to) finding)
+    ++ found_words (middle_at grid round order + 12) (middle_of from to + 11 * order) finding)
 
 -- what is marked of a finding at a message, or on the page where nobody is of the rest
 unfoldable pub message_mark : Grid → Finding → List ℕ
@@ -40,8 +42,10 @@ message_mark grid (Foreign general) = []
 message_mark grid (Unsigned general entry) = []
 message_mark grid (Unsealed general) = []
 message_mark grid (Departs general entry) = []
-message_mark grid (Unmatched from to round order) = found_message grid from to round order (Unmatched from to round order)
-message_mark grid (Underivable from to round order) = found_message grid from to round order (Underivable from to round order)
+message_mark grid (Unmatched from to round order) =
+    found_message grid from to round order (Unmatched from to round order)
+message_mark grid (Underivable from to round order) =
+    found_message grid from to round order (Underivable from to round order)
 message_mark grid (Unjoined first second) = []
 message_mark grid Nobody = found_opening Nobody ++ found_words 16 64 Nobody
 
@@ -72,7 +76,8 @@ found_at g finding = if is_about g finding then found_span finding else []
 unfoldable pub decided_span : ℕ → ℕ → List ℕ
 decided_span general order =
     codes "<tspan class=\"o" ++ (decimal order ++ (codes "\" dx=\"8\"><title>general " ++ (decimal general
-    ++ (codes " decides order " ++ (decimal order ++ (codes "</title>decides " ++ (decimal order ++ codes "</tspan>")))))))
+    ++ (codes " decides order " ++ (decimal order ++ (codes "</title>decides " ++ (decimal order
+    ++ codes "</tspan>")))))))
 
 abbrev pub decided_at : ℕ → ℕ × ℕ → List ℕ
 decided_at g d = if d.0 == g then decided_span d.0 d.1 else []
@@ -80,8 +85,9 @@ decided_at g d = if d.0 == g then decided_span d.0 d.1 else []
 -- by which kind of evidence somebody is convicted
 unfoldable pub convicted_span : ℕ → ℕ → List ℕ
 convicted_span general kind =
-    codes "<tspan class=\"found\" dx=\"8\"><title>general " ++ (decimal general ++ (codes " is convicted by K" ++ (decimal kind
-    ++ (codes "</title>K" ++ (decimal kind ++ codes "</tspan>")))))
+    codes "<tspan class=\"found\" dx=\"8\"><title>general " ++ (decimal general
+    ++ (codes " is convicted by K" ++ (decimal kind ++ (codes "</title>K" ++ (decimal kind
+    ++ codes "</tspan>")))))
 
 abbrev pub convicted_at : ℕ → Accusation → List ℕ
 convicted_at g x = if x.accused == g then convicted_span x.accused (kind_of x.claim) else []
@@ -90,7 +96,8 @@ convicted_at g x = if x.accused == g then convicted_span x.accused (kind_of x.cl
 unfoldable pub end_line : Grid → List (ℕ × ℕ) → List Accusation → ℕ → List ℕ
 end_line grid decided convictions general =
     words_at (end_of grid) (end_row general)
-    ++ (flat_map (decided_at general) decided ++ (flat_map (convicted_at general) convictions ++ codes "</text>\n"))
+    ++ (flat_map (decided_at general) decided
+    ++ (flat_map (convicted_at general) convictions ++ codes "</text>\n"))
 
 -- below a general's line: what is found against him
 unfoldable pub note_line : List Finding → ℕ → List ℕ

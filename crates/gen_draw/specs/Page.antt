@@ -18,7 +18,8 @@ round_name grid round =
 unfoldable pub round_line : Grid → ℕ → List ℕ
 round_line grid round =
     round_opening round
-    ++ (stroke_between (column_of grid round) 64 (column_of grid round) (row_of grid.generals) ++ round_name grid round)
+    ++ (stroke_between (column_of grid round) 64 (column_of grid round) (row_of grid.generals)
+    ++ round_name grid round)
 
 -- a general's line, and his number above it
 unfoldable pub life_of : Grid → ℕ → List ℕ
@@ -38,21 +39,25 @@ held_note general = words_at 16 (note_row general) ++ codes "held for faulty</te
 unfoldable pub general_line : Grid → Bool → ℕ → List ℕ
 general_line grid true general = held_opening general ++ (life_of grid general ++ held_note general)
 general_line grid false general =
-    codes "<g><title>general " ++ (decimal general ++ (codes "</title>" ++ (life_of grid general ++ codes "</g>\n")))
+    codes "<g><title>general " ++ (decimal general
+    ++ (codes "</title>" ++ (life_of grid general ++ codes "</g>\n")))
 
 -- an order in the legend, with its colour
 unfoldable pub order_opening : ℕ → List ℕ
 order_opening order =
-    codes "<g class=\"o" ++ (decimal order ++ (codes "\"><title>order " ++ (decimal order ++ codes "</title>")))
+    codes "<g class=\"o" ++ (decimal order
+    ++ (codes "\"><title>order " ++ (decimal order ++ codes "</title>")))
 
 unfoldable pub order_name : ℕ → ℕ → List ℕ
 order_name generals order =
-    words_at 64 (legend_word_row generals order) ++ (codes "order " ++ (decimal order ++ codes "</text></g>\n"))
+    words_at 64 (legend_word_row generals order)
+    ++ (codes "order " ++ (decimal order ++ codes "</text></g>\n"))
 
 unfoldable pub legend_line : ℕ → ℕ → List ℕ
 legend_line generals order =
     order_opening order
-    ++ (stroke_between 16 (legend_row generals order) 56 (legend_row generals order) ++ order_name generals order)
+    ++ (stroke_between 16 (legend_row generals order) 56 (legend_row generals order)
+    ++ order_name generals order)
 
 -- the heads of arrows, the columns of all rounds, and the legend of orders
 abbrev pub heads_of : Grid → List ℕ

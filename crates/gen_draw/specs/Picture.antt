@@ -1,5 +1,5 @@
--- The picture of a run: generals are lines from left to right, rounds are columns, and each message that a shown log has is
--- an arrow from its sender's line to its receiver's.
+-- The picture of a run: generals are lines from left to right, rounds are columns, and each message that a
+-- shown log has is an arrow from its sender's line to its receiver's.
 use Rattle.std.specs.Prelude.{ℕ, List, [], ◌++◌, codes}
 use Rattle.std.specs.List.{flat_map, range_with_len}
 use Rattle.std.specs.Fmt.{decimal}
@@ -40,7 +40,8 @@ run_heading h = run_title (encode_lower (run_id_of h)) ++ run_words (encode_lowe
 -- the verdict
 unfoldable pub agreed_heading : ℕ → List ℕ
 agreed_heading order =
-    codes "<text x=\"16\" y=\"44\"><title>the verdict</title>verdict agreed " ++ (decimal order ++ codes "</text>\n")
+    codes "<text x=\"16\" y=\"44\"><title>the verdict</title>verdict agreed "
+    ++ (decimal order ++ codes "</text>\n")
 
 unfoldable pub explained_heading : List ℕ
 explained_heading = codes "<text x=\"16\" y=\"44\"><title>the verdict</title>verdict explained</text>\n"
@@ -67,26 +68,31 @@ abbrev pub general_lines : Network → List ℕ → List ℕ
 general_lines net faulty = flat_map (line_in net faulty) (range_with_len 0 net.generals)
 
 abbrev pub end_lines : Grid → ℕ → List (ℕ × ℕ) → List Accusation → List ℕ
-end_lines grid generals decided convictions = flat_map (end_line grid decided convictions) (range_with_len 0 generals)
+end_lines grid generals decided convictions =
+    flat_map (end_line grid decided convictions) (range_with_len 0 generals)
 
 abbrev pub note_lines : Network → List Finding → List ℕ
 note_lines net findings = flat_map (note_line findings) (range_with_len 0 net.generals)
 
 -- what the lines mean, and the end
 unfoldable pub legend_opening : Grid → List ℕ
-legend_opening grid = codes "<g transform=\"translate(160 " ++ (decimal (legend_word_row grid.generals 0) ++ codes ")\">\n")
+legend_opening grid =
+    codes "<g transform=\"translate(160 " ++ (decimal (legend_word_row grid.generals 0) ++ codes ")\">\n")
 
 unfoldable pub closing : List ℕ
 closing =
-    codes "<title>what the lines mean</title><text>dashed: only one of the two logs has the message</text>\n" ++ (
+    codes "<title>what the lines mean</title><text>dashed: only one of the two logs has the message</text>\n"
+    ++ (
     codes "<text y=\"18\" class=\"faulty\">grey: held for faulty</text>\n" ++ (
     codes "<text y=\"36\" class=\"found\">red: found by the audit, or convicted</text></g>\n</svg>\n"))
 
--- the page: its beginning, how things look, the heads of arrows, which run it is and the verdict
-unfoldable pub page_front : RunHeader → Verdict → List ℕ
-page_front h verdict =
-    opening_of (width_of (grid_of h.network)) (height_of (grid_of h.network))
-    ++ (style ++ (heads_of (grid_of h.network) ++ (run_heading h ++ verdict_heading verdict)))
+-- the page: its beginning, how things look, and the heads of arrows
+unfoldable pub page_front : Grid → List ℕ
+page_front grid = opening_of (width_of grid) (height_of grid) ++ (style ++ heads_of grid)
+
+-- which run it is, and the verdict
+unfoldable pub heading : RunHeader → Verdict → List ℕ
+heading h verdict = run_heading h ++ verdict_heading verdict
 
 -- the columns of rounds, and the lines of generals
 unfoldable pub frame : Network → List ℕ → List ℕ
@@ -101,14 +107,21 @@ story h exhibits verdict =
 -- what each general decided, who is convicted, and what is found against whom
 unfoldable pub notes : RunHeader → List LogBytes → Verdict → List Accusation → List ℕ
 notes h exhibits verdict convictions =
-    end_lines (grid_of h.network) h.network.generals (all_decided h exhibits) convictions ++ note_lines h.network (findings_in verdict)
+    end_lines (grid_of h.network) h.network.generals (all_decided h exhibits) convictions
+    ++ note_lines h.network (findings_in verdict)
 
 -- the legend, and the end
 unfoldable pub page_back : Grid → List ℕ
 page_back grid = legend_lines grid ++ (legend_opening grid ++ closing)
 
--- The picture of a header, those held for faulty, what is shown as logs, the verdict and the convictions.
+-- what a picture says of a header, those held for faulty, what is shown as logs, the verdict and the
+-- convictions, and its end
+unfoldable pub run_part : RunHeader → List ℕ → List LogBytes → Verdict → List Accusation → List ℕ
+run_part h faulty exhibits verdict convictions =
+    heading h verdict ++ (frame h.network faulty ++ (story h exhibits verdict
+    ++ (notes h exhibits verdict convictions ++ page_back (grid_of h.network))))
+
+-- The picture of all that: the page, and what it says.
 unfoldable pub picture : RunHeader → List ℕ → List LogBytes → Verdict → List Accusation → List ℕ
 picture h faulty exhibits verdict convictions =
-    page_front h verdict ++ (frame h.network faulty ++ (story h exhibits verdict
-    ++ (notes h exhibits verdict convictions ++ page_back (grid_of h.network))))
+    page_front (grid_of h.network) ++ run_part h faulty exhibits verdict convictions

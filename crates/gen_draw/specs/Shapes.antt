@@ -5,8 +5,9 @@ use Rattle.std.specs.Fmt.{decimal}
 -- a picture of a width and a height begins
 unfoldable pub opening_of : ℕ → ℕ → List ℕ
 opening_of width height =
-    codes "<svg xmlns=\"http://www.w3.org/2000/svg\" width=\"" ++ (decimal width ++ (codes "\" height=\"" ++ (decimal height
-    ++ (codes "\" viewBox=\"0 0 " ++ (decimal width ++ (codes " " ++ (decimal height ++ codes "\">\n")))))))
+    codes "<svg xmlns=\"http://www.w3.org/2000/svg\" width=\"" ++ (decimal width
+    ++ (codes "\" height=\"" ++ (decimal height ++ (codes "\" viewBox=\"0 0 " ++ (decimal width
+    ++ (codes " " ++ (decimal height ++ codes "\">\n")))))))
 
 -- a straight line from one place to another
 unfoldable pub stroke_between : ℕ → ℕ → ℕ → ℕ → List ℕ
@@ -22,4 +23,5 @@ words_at x y = codes "<text x=\"" ++ (decimal x ++ (codes "\" y=\"" ++ (decimal 
 unfoldable pub head_of : ℕ → List ℕ
 head_of order =
     codes "<marker id=\"h" ++ (decimal order ++ (codes "\" class=\"o" ++ (decimal order
-    ++ codes "\" viewBox=\"0 0 8 8\" refX=\"8\" refY=\"4\" markerWidth=\"6\" markerHeight=\"6\" orient=\"auto\"><path d=\"M0 0L8 4L0 8z\"/></marker>\n")))
+    ++ (codes "\" viewBox=\"0 0 8 8\" refX=\"8\" refY=\"4\" markerWidth=\"6\" markerHeight=\"6\" "
+    ++ codes "orient=\"auto\"><path d=\"M0 0L8 4L0 8z\"/></marker>\n"))))

@@ -1,4 +1,5 @@
--- How the parts of a picture look: solid and dashed lines, a colour for each order, on light pages and on dark ones.
+-- How the parts of a picture look: solid and dashed lines, a colour for each order, on light pages and on
+-- dark ones.
 use Rattle.std.specs.Prelude.{ℕ, List, ◌++◌, codes}
 
 -- lines, words and arrow heads; grey for those held for faulty, red for findings
@@ -6,11 +7,13 @@ unfoldable pub plain_style : List ℕ
 plain_style =
     codes "<style>\n" ++ (
     codes "svg{color:#1b1b1b;font:13px sans-serif}.page{fill:#fff}text,tspan{fill:currentColor}\n" ++ (
-    codes "path{fill:none;stroke:currentColor}marker path{fill:currentColor;stroke:none;marker-end:none}\n" ++ (
-    codes ".round path{stroke:#ccc}.faulty{color:#888}.found{color:#d40000}.alone path{stroke-dasharray:6 4}\n" ++ (
+    codes "path{fill:none;stroke:currentColor}marker path{fill:currentColor;stroke:none;marker-end:none}\n"
+    ++ (
+    codes ".round path{stroke:#ccc}.faulty{color:#888}.found{color:#d40000}"
+    ++ (codes ".alone path{stroke-dasharray:6 4}\n" ++ (
     codes ".found path{stroke-width:4;stroke-dasharray:1 3}.both text,.alone text{text-anchor:middle}\n" ++ (
     codes ".both text,.alone text,.found text,tspan.found{font-size:11px}\n" ++ (
-    codes ".both text,.alone text,.found text{stroke:#fff;stroke-width:3;paint-order:stroke}\n"))))))
+    codes ".both text,.alone text,.found text{stroke:#fff;stroke-width:3;paint-order:stroke}\n")))))))
 
 -- the colours of orders
 unfoldable pub light_style : List ℕ
@@ -28,7 +31,8 @@ light_style =
 unfoldable pub dark_style : List ℕ
 dark_style =
     codes "@media(prefers-color-scheme:dark){\n" ++ (
-    codes "svg{color:#eee}.page{fill:#16181d}.round path{stroke:#444}.faulty{color:#8a8a8a}.found{color:#ff5a4a}\n" ++ (
+    codes "svg{color:#eee}.page{fill:#16181d}.round path{stroke:#444}"
+    ++ (codes ".faulty{color:#8a8a8a}.found{color:#ff5a4a}\n" ++ (
     codes ".both text,.alone text,.found text{stroke:#16181d}\n" ++ (
     codes ".o0{color:#56b4e9}.o1{color:#e69f00}.o2{color:#9900ff}.o3{color:#ffffdd}\n" ++ (
     codes ".o4{color:#557755}.o5{color:#55ff77}.o6{color:#bb3399}.o7{color:#9977ff}\n" ++ (
@@ -36,7 +40,7 @@ dark_style =
     codes ".o12{color:#bbbb77}.o13{color:#ff55bb}.o14{color:#5555dd}\n" ++ (
     codes "}\n" ++ (
     codes "</style>\n" ++ (
-    codes "<rect class=\"page\" width=\"100%\" height=\"100%\"/>\n")))))))))
+    codes "<rect class=\"page\" width=\"100%\" height=\"100%\"/>\n"))))))))))
 
 -- all of it
 abbrev pub style : List ℕ

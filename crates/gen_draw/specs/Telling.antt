@@ -8,7 +8,8 @@ use Rattle.gen_draw.specs.declared.arrow.ToldBy.TheVariants.{Both, Sender, Recei
 
 -- whether two messages are the same, by their paths too
 abbrev pub is_same : Message → Message → Bool
-is_same a b = (a.from == b.from) && ((a.to == b.to) && ((a.order == b.order) && pointwise nat_eq a.path b.path))
+is_same a b =
+    (a.from == b.from) && ((a.to == b.to) && ((a.order == b.order) && pointwise nat_eq a.path b.path))
 
 -- whether a message is among others
 abbrev pub tells : List Message → Message → Bool

@@ -87,7 +87,8 @@ impl Grid {
     /// Returns the height of the picture.
     #[tactic(auto, unfolding(crate::specs::Grid::height_of))]
     pub fn height(self) -> u32
-        ensures { result ≡ height_of self }
+        ensures value { result ≡ height_of self }
+        ensures small { result < 2 ^ 15 }
     {
         legend_row(self.generals, self.orders) + 60
     }

@@ -10,16 +10,17 @@
 
 mod arrow;
 mod arrows;
-mod finding_names;
 mod grid;
 pub mod laws;
 mod marks;
 mod page;
 mod picture;
 mod rows;
+mod several;
 mod shapes;
 mod shown;
 mod style;
 mod telling;
 
 pub use picture::draw;
+pub use several::draw_campaign;

@@ -20,12 +20,12 @@ ghost use Rattle.gen_draw.specs.Marks.{
 };
 
 use crate::arrows::push_message_stroke;
-use crate::finding_names::push_finding_name;
 use crate::grid::Grid;
 use crate::rows::{middle_of, row_of};
 use crate::shapes::push_words;
 use gen_convict::Evidence;
 use gen_match::Finding;
+use gen_report::push_finding_name;
 use gen_types::{GeneralNo, OrderNo};
 use std::alloc::AllocError;
 
@@ -78,7 +78,7 @@ fn push_found_message(
     push_found_opening(out, finding)?;
     push_message_stroke(out, grid, from, to, round, order)?;
     let x = grid.middle(round, order) + 12;
-    push_found_words(out, x, middle_of(from, to), finding)
+    push_found_words(out, x, middle_of(from, to) + 11 * u32::from(order), finding)
 }
 
 /// Appends what is marked of a finding at a message, or on the page where nobody is of the rest.

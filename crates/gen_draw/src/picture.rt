@@ -14,6 +14,7 @@ ghost use Rattle.gen_draw.specs.Picture.{
   frame,
   general_lines,
   grid_of,
+  heading,
   legend_opening,
   line_in,
   note_lines,
@@ -22,6 +23,7 @@ ghost use Rattle.gen_draw.specs.Picture.{
   page_front,
   picture,
   run_heading,
+  run_part,
   story,
   verdict_heading,
 };
@@ -54,7 +56,7 @@ const CLOSING: &str = "\
 
 /// Returns how large the picture of a network's run is.
 #[tactic(auto, unfolding(crate::specs::Picture::grid_of))]
-fn grid_of(net: &Net) -> Grid
+pub(crate) fn grid_of(net: &Net) -> Grid
     ensures { result ≡ grid_of net.now }
 {
     Grid {
@@ -147,19 +149,25 @@ fn push_verdict(out: &mut String, verdict: &Verdict) -> Result<(), AllocError>
 
 /// Appends the beginning of the page.
 #[tactic(auto, unfolding(crate::specs::Picture::page_front))]
-fn push_front(
+fn push_front(out: &mut String, grid: Grid) -> Result<(), AllocError>
+    ensures { OnOk result (string_bytes out.new ≡ string_bytes out.old ++ page_front grid) }
+{
+    push_opening(out, grid.width(), grid.height())?;
+    push_style(out)?;
+    push_heads(out, grid)
+}
+
+/// Appends which run it is, and the verdict.
+#[tactic(auto, unfolding(crate::specs::Picture::heading))]
+fn push_heading(
     alloc: Global,
     out: &mut String,
     header: &Header,
     verdict: &Verdict,
 ) -> Result<(), AllocError>
     ensures { OnOk result
-        (string_bytes out.new ≡ string_bytes out.old ++ page_front header.now verdict.now) }
+        (string_bytes out.new ≡ string_bytes out.old ++ heading header.now verdict.now) }
 {
-    let grid = grid_of(header.net());
-    push_opening(out, grid.width(), grid.height())?;
-    push_style(out)?;
-    push_heads(out, grid)?;
     push_run(alloc, out, header)?;
     push_verdict(out, verdict)
 }
@@ -296,6 +304,28 @@ fn push_all_notes(
     push_notes(out, net, findings_in(&judgement.verdict))
 }
 
+/// Appends what a picture says of a bundle and of the judgement on it, and its end.
+#[tactic(auto, unfolding(crate::specs::Picture::run_part))]
+pub(crate) fn push_run_part(
+    alloc: Global,
+    out: &mut String,
+    bundle: &Bundle,
+    judgement: &Judgement,
+) -> Result<(), AllocError>
+    ensures { OnOk result (string_bytes out.new ≡ string_bytes out.old
+        ++ run_part bundle.now.header bundle.now.faulty bundle.now.exhibits judgement.now.verdict
+        (map told_of judgement.now.convictions.items)) }
+{
+    let header = bundle.header();
+    let told = told_by(alloc, header, bundle.exhibits())?;
+    let arrows = arrows_between(alloc, told.sent.as_slice(), told.received.as_slice())?;
+    push_heading(alloc, out, header, &judgement.verdict)?;
+    push_frame(out, header.net(), bundle.faulty())?;
+    push_story(out, bundle, arrows.as_slice(), &judgement.verdict)?;
+    push_all_notes(out, bundle, told.decided.as_slice(), judgement)?;
+    push_back(out, grid_of(header.net()))
+}
+
 /// Returns the picture of a bundle and of the judgement on it, as an SVG text: each general is a line from left to
 /// right and each round a column; each message that a shown log has is an arrow in the colour of its order, dashed
 /// where only one of the logs of its sender and its receiver has it; who is held for faulty is grey; each finding
@@ -312,14 +342,8 @@ pub fn draw(alloc: Global, bundle: &Bundle, judgement: &Judgement) -> Result<Vec
     ensures { IfOk result (λ v. v.items ≡ picture bundle.now.header bundle.now.faulty
         bundle.now.exhibits judgement.now.verdict (map told_of judgement.now.convictions.items)) }
 {
-    let header = bundle.header();
-    let told = told_by(alloc, header, bundle.exhibits())?;
-    let arrows = arrows_between(alloc, told.sent.as_slice(), told.received.as_slice())?;
     let mut out = String::new(alloc);
-    push_front(alloc, &mut out, header, &judgement.verdict)?;
-    push_frame(&mut out, header.net(), bundle.faulty())?;
-    push_story(&mut out, bundle, arrows.as_slice(), &judgement.verdict)?;
-    push_all_notes(&mut out, bundle, told.decided.as_slice(), judgement)?;
-    push_back(&mut out, grid_of(header.net()))?;
+    push_front(&mut out, grid_of(bundle.header().net()))?;
+    push_run_part(alloc, &mut out, bundle, judgement)?;
     Ok(out.into_bytes())
 }

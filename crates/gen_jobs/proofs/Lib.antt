@@ -4,6 +4,7 @@ pub mod AccusedRuns
 pub mod Audited
 pub mod Bundling
 pub mod Delivering
+pub mod Drawn
 pub mod JudgedRuns
 pub mod Known
 pub mod RunsOf

@@ -5,6 +5,7 @@ use Rattle.gen_jobs.specs.Audit.{IsAudited, IsAuditFault}
 use Rattle.gen_jobs.specs.Campaigning.{IsCampaignFault, IsCampaignRun}
 use Rattle.gen_jobs.specs.Checking.{IsChecked, IsEvidenceFault}
 use Rattle.gen_jobs.specs.Decide.{IsDecided, IsDecideFault}
+use Rattle.gen_jobs.specs.Drawing.{IsDrawn}
 use Rattle.gen_jobs.specs.Judging.{IsJudged}
 use Rattle.gen_jobs.specs.Run.{IsRun, IsRunFault}
 use Rattle.gen_jobs.specs.declared.ends.JobFault.{JobFault}
@@ -18,6 +19,7 @@ JobAnswers (jobs.Run n) input text negative = IsRun input text negative
 JobAnswers (jobs.Judge n w) input text negative = IsJudged input text negative
 JobAnswers (jobs.Campaign n) input text negative = IsCampaignRun input text negative
 JobAnswers (jobs.Audit w) input text negative = IsAudited input text negative
+JobAnswers (jobs.Draw w) input text negative = IsDrawn input text negative
 JobAnswers (jobs.Accuse g) input text negative = IsAccused g input text negative
 JobAnswers jobs.Evidence input text negative = IsChecked input text negative
 
@@ -28,5 +30,6 @@ JobFails (jobs.Run n) input fault = IsRunFault input fault
 JobFails (jobs.Judge n w) input fault = IsRunFault input fault
 JobFails (jobs.Campaign n) input fault = IsCampaignFault input fault
 JobFails (jobs.Audit w) input fault = IsAuditFault input fault
+JobFails (jobs.Draw w) input fault = IsAuditFault input fault
 JobFails (jobs.Accuse g) input fault = IsAuditFault input fault
 JobFails jobs.Evidence input fault = IsEvidenceFault input fault

@@ -5,6 +5,7 @@ pub mod Audit
 pub mod Campaigning
 pub mod Checking
 pub mod Decide
+pub mod Drawing
 pub mod Ends
 pub mod Failing
 pub mod Jobs

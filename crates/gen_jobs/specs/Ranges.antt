@@ -9,5 +9,6 @@ IsInRange (jobs.Run n) = (1 ≤ n) × (n ≤ 16)
 IsInRange (jobs.Judge n w) = (1 ≤ n) × (n ≤ 16) × (1 ≤ w) × (w ≤ 16)
 IsInRange (jobs.Campaign n) = (1 ≤ n) × (n ≤ 16)
 IsInRange (jobs.Audit w) = (1 ≤ w) × (w ≤ 16)
+IsInRange (jobs.Draw w) = (1 ≤ w) × (w ≤ 16)
 IsInRange (jobs.Accuse g) = g < 16
 IsInRange _ = Unit {0}

@@ -2,8 +2,8 @@
 ghost use Rattle.std.specs.Prelude.{◌≡◌, ◌==◌, IfOk, IfErr, IfSome, find, map, option_map};
 ghost use Rattle.gen_convict.specs.Convictions.{AreEvidence};
 ghost use Rattle.gen_convict.specs.Evidence.{told_of};
-ghost use Rattle.gen_convict.specs.AcrossLaws.{AreEvidenceAcross};
-ghost use Rattle.gen_campaign.specs.Judged.{AreJudged};
+ghost use Rattle.gen_convict.specs.AcrossLaws.{AreConvictedAcross, AreEvidenceAcross};
+ghost use Rattle.gen_campaign.specs.Judged.{AreJudged, shown_bundles};
 ghost use Rattle.gen_jobs.specs.Accusing.{AccusesRuns, AccusesWithin, AreOfRuns, IsAccused, TellsAcross, TellsOf};
 ghost use Rattle.gen_jobs.specs.Answering.{Answers};
 ghost use Rattle.gen_jobs.specs.Audit.{IsAuditFault, IsWant};
@@ -13,7 +13,9 @@ use crate::ends::{JobEnd, JobFault, Output};
 use crate::gates::Open;
 use crate::transfer::{deliver, read_all};
 use gen_audit::{Bundle, Judgement, WorkerCount};
-use gen_campaign::{CampaignBundle, audit_campaign, read_campaign, read_taken_campaign};
+use gen_campaign::{
+    CampaignBundle, CampaignVerdict, audit_campaign, read_campaign, read_taken_campaign,
+};
 use gen_convict::{Claim, Evidence, write_evidence};
 use gen_net::Header;
 use gen_types::GeneralNo;
@@ -102,6 +104,27 @@ fn accusation_across(
     }
 }
 
+/// Returns the bytes of the evidence against a general by the verdict on what is shown, or none, which says no.
+pub(crate) fn evidence_by(
+    alloc: Global,
+    general: GeneralNo,
+    campaign: &CampaignBundle,
+    verdict: &CampaignVerdict,
+) -> Result<Output, AllocError>
+    requires judged { AreJudged campaign.now.bundles verdict.now.judgements.items }
+    requires across { AreConvictedAcross (shown_bundles campaign.now.bundles)
+        (map told_of verdict.now.across.items) }
+    requires lawful { AreEvidenceAcross (map told_of verdict.now.across.items) }
+    ensures { IfOk result (λ o. AccusesRuns campaign.now.bundles general o.text.items o.negative) }
+{
+    let judgements = verdict.judgements.as_slice();
+    let within = accusation_within(alloc, campaign.bundles(), judgements, general)?;
+    if !within.negative {
+        return Ok(within);
+    }
+    accusation_across(alloc, verdict.across.as_slice(), general)
+}
+
 /// Returns the bytes of the evidence against a general that is held by what is shown, or none, which says no.
 #[tactic(auto, using(crate::proofs::Audited::is_want))]
 fn accuse_of<T: Threads + Wait + Sync>(
@@ -115,12 +138,7 @@ fn accuse_of<T: Threads + Wait + Sync>(
     ensures fault { IfErr result IsWant }
 {
     let verdict = audit_campaign(rt, alloc, campaign, workers, &Open)?;
-    let judgements = verdict.judgements.as_slice();
-    let within = accusation_within(alloc, campaign.bundles(), judgements, general)?;
-    if !within.negative {
-        return Ok(within);
-    }
-    Ok(accusation_across(alloc, verdict.across.as_slice(), general)?)
+    Ok(evidence_by(alloc, general, campaign, &verdict)?)
 }
 
 /// Returns the bytes of the evidence against a general that the bundle holds which the input spells: of the

@@ -1,6 +1,8 @@
 //! The job `audit`.
 ghost use Rattle.std.specs.Prelude.{◌≡◌, IfOk, IfErr, IfSome, map};
+ghost use Rattle.gen_convict.specs.AcrossLaws.{AreConvictedAcross};
 ghost use Rattle.gen_convict.specs.Evidence.{told_of};
+ghost use Rattle.gen_campaign.specs.Judged.{AreJudged, shown_bundles};
 ghost use Rattle.gen_report.specs.VerdictText.{verdict_text};
 ghost use Rattle.gen_jobs.specs.Answering.{Answers};
 ghost use Rattle.gen_jobs.specs.Audit.{AuditsForm, IsAudited, IsAuditFault, IsWant, is_no};
@@ -10,7 +12,9 @@ use crate::ends::{JobEnd, JobFault, Output};
 use crate::gates::Open;
 use crate::transfer::{deliver, read_all};
 use gen_audit::{Judgement, Verdict, WorkerCount};
-use gen_campaign::{CampaignBundle, audit_campaign, read_campaign, read_taken_campaign};
+use gen_campaign::{
+    CampaignBundle, CampaignVerdict, audit_campaign, read_campaign, read_taken_campaign,
+};
 use gen_campaign_text::print_campaign;
 use gen_net::Header;
 use gen_report::print_verdict;
@@ -46,6 +50,27 @@ pub(crate) fn judgement_text(
     })
 }
 
+/// Returns the text of a verdict on what is shown, and whether that on some run is a no.
+pub(crate) fn output_by(
+    alloc: Global,
+    campaign: &CampaignBundle,
+    verdict: &CampaignVerdict,
+) -> Result<Output, AllocError>
+    requires judged { AreJudged campaign.now.bundles verdict.now.judgements.items }
+    requires across { AreConvictedAcross (shown_bundles campaign.now.bundles)
+        (map told_of verdict.now.across.items) }
+    ensures { IfOk result (λ o.
+        AuditsForm campaign.now.alone campaign.now.bundles o.text.items o.negative) }
+{
+    // What is said of the form needs what each campaign keeps, which a read of it tells.
+    let _lawful = campaign.is_alone();
+    let text = print_campaign(alloc, campaign, verdict)?;
+    Ok(Output {
+        text,
+        negative: !verdict.is_yes(),
+    })
+}
+
 /// Returns the text of the verdict on what is shown, and whether that on some run is a no.
 #[tactic(auto, using(crate::proofs::Audited::is_want))]
 fn audit_of<T: Threads + Wait + Sync>(
@@ -58,14 +83,8 @@ fn audit_of<T: Threads + Wait + Sync>(
         AuditsForm campaign.now.alone campaign.now.bundles o.text.items o.negative) }
     ensures fault { IfErr result IsWant }
 {
-    // What is said of the form needs what each campaign keeps, which a read of it tells.
-    let _lawful = campaign.is_alone();
     let verdict = audit_campaign(rt, alloc, campaign, workers, &Open)?;
-    let text = print_campaign(alloc, campaign, &verdict)?;
-    Ok(Output {
-        text,
-        negative: !verdict.is_yes(),
-    })
+    Ok(output_by(alloc, campaign, &verdict)?)
 }
 
 /// Returns the text of the judgement on the bundle that the input spells, or on the campaign, and whether its verdict is a

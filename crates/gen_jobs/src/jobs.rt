@@ -1,4 +1,4 @@
-//! The seven jobs, and the choice of their engines.
+//! The eight jobs, and the choice of their engines.
 ghost use Rattle.std.specs.Prelude.{IfSome};
 ghost use Rattle.gen_jobs.specs.Answering.{Answers};
 ghost use Rattle.gen_jobs.specs.Ends.{IsTaken, KeepsUntilWhole};
@@ -10,6 +10,7 @@ use crate::auditing::audit_engine;
 use crate::campaigning::campaign_engine;
 use crate::checking::evidence_engine;
 use crate::deciding::decide_engine;
+use crate::drawing::draw_engine;
 use crate::ends::JobEnd;
 use crate::judging::judge_engine;
 use crate::running::run_engine;
@@ -44,6 +45,11 @@ pub enum Job {
     },
     /// Reads a bundle or a campaign, and writes the verdict on it.
     Audit {
+        /// How many workers read and verify its logs.
+        workers: WorkerCount,
+    },
+    /// Reads a bundle or a campaign, and writes the picture of it and of the judgement on it.
+    Draw {
         /// How many workers read and verify its logs.
         workers: WorkerCount,
     },
@@ -86,6 +92,7 @@ pub fn do_job<T: Threads + Wait + Sync, R: Read, W: Write>(
         }
         Job::Campaign { capacity } => campaign_engine(rt, alloc, capacity, reader, writer),
         Job::Audit { workers } => audit_engine(rt, alloc, workers, reader, writer),
+        Job::Draw { workers } => draw_engine(rt, alloc, workers, reader, writer),
         Job::Accuse { general } => {
             accuse_engine(rt, alloc, WorkerCount::one(), general, reader, writer)
         }

@@ -1,12 +1,12 @@
-//! The seven jobs that can be done with an input: to decide, to run, to judge, to run a campaign, to audit,
-//! to accuse and to check evidence.
+//! The eight jobs that can be done with an input: to decide, to run, to judge, to run a campaign, to audit,
+//! to draw, to accuse and to check evidence.
 //!
-//! `decide`, `run`, `judge`, `campaign`, `audit`, `accuse` and `evidence` take the bytes of an input, and
-//! give the text that answers it or its first fault; they need no reader, no writer and no words. Over them
-//! stand the engines, which read an input to its end and write what answers it; `do_job` takes the engine of
-//! a `Job`. A contract of an engine says what stands behind what the writer held, as far as reader and writer
-//! are known, and that nothing is written before the text is whole. It doesn't say when a reader, a writer,
-//! memory or a thread fails.
+//! `decide`, `run`, `judge`, `campaign`, `audit`, `draw`, `accuse` and `evidence` take the bytes of an input,
+//! and give the text that answers it or its first fault; they need no reader, no writer and no words. Over
+//! them stand the engines, which read an input to its end and write what answers it; `do_job` takes the engine
+//! of a `Job`. A contract of an engine says what stands behind what the writer held, as far as reader and
+//! writer are known, and that nothing is written before the text is whole. It doesn't say when a reader, a
+//! writer, memory or a thread fails.
 #![tactic(auto)]
 
 mod accusing;
@@ -16,8 +16,10 @@ mod campaign_text;
 mod campaigning;
 mod checking;
 mod deciding;
+mod drawing;
 mod ends;
 mod gates;
+mod in_place;
 mod jobs;
 mod judging;
 pub mod laws;
@@ -31,7 +33,9 @@ pub use campaign_text::{CampaignText, deliver_campaign};
 pub use campaigning::{campaign, campaign_engine};
 pub use checking::{evidence, evidence_engine};
 pub use deciding::{decide, decide_engine};
+pub use drawing::{draw, draw_engine, draw_taken};
 pub use ends::{JobEnd, JobFault, Output};
+pub use in_place::{accuse_in_place, audit_in_place};
 pub use jobs::{Job, do_job};
 pub use judging::{judge, judge_engine};
 pub use running::{run, run_engine, run_in_pieces};

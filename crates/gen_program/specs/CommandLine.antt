@@ -32,6 +32,9 @@ campaign = with_rule (new_app (codes "campaign")) capacity
 abbrev pub audit : App
 audit = with_rule (new_app (codes "audit")) workers
 
+abbrev pub draw : App
+draw = with_rule (new_app (codes "draw")) workers
+
 abbrev pub accuse : App
 accuse = with_rule (new_app (codes "accuse")) general
 
@@ -58,8 +61,11 @@ with_campaign = with_subcommand with_judge campaign.top
 abbrev pub with_audit : App
 with_audit = with_subcommand with_campaign audit.top
 
+abbrev pub with_draw : App
+with_draw = with_subcommand with_audit draw.top
+
 abbrev pub with_bundles : App
-with_bundles = with_subcommand with_audit accuse.top
+with_bundles = with_subcommand with_draw accuse.top
 
 -- and the one that reads evidence: the program's command line
 abbrev pub tool : App

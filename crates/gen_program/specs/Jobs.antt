@@ -1,5 +1,5 @@
 -- The job of a command, and of the number that stands behind its option.
-use Rattle.std.specs.Prelude.{ℕ, ◌&&◌, List, codes, Option, Some, None, option_and_then, option_map}
+use Rattle.std.specs.Prelude.{ℕ, ◌&&◌, ◌||◌, List, codes, Option, Some, None, option_and_then, option_map}
 use Rattle.std.specs.Prelude.{nat_le, if◌then◌else◌}
 use Rattle.std.specs.Str.{bytes_eq}
 use Rattle.clap.specs.Words.{Row, Text, first_of}
@@ -22,6 +22,11 @@ job_judging None workers = None
 job_judging (Some n) None = None
 job_judging (Some n) (Some w) = Some (jobs.Judge n w)
 
+-- the job that reads what is shown, if the number of workers is in the range
+abbrev pub job_reading : Text → Option ℕ → Option Job
+job_reading name None = None
+job_reading name (Some w) = Some (if bytes_eq name (codes "draw") then jobs.Draw w else jobs.Audit w)
+
 -- the job of a command against a general, or on evidence
 abbrev pub job_against : Text → Option Text → Option Job
 job_against name general =
@@ -38,7 +43,8 @@ job_named name capacity workers general =
     job_judging (number_between 1 16 capacity) (number_between 1 16 workers)
     else if bytes_eq name (codes "campaign")
     then option_map (λ n. jobs.Campaign n) (number_between 1 16 capacity)
-    else if bytes_eq name (codes "audit") then option_map (λ n. jobs.Audit n) (number_between 1 16 workers)
+    else if bytes_eq name (codes "audit") || bytes_eq name (codes "draw") then
+    job_reading name (number_between 1 16 workers)
     else job_against name general
 
 -- the job of a command and its arguments

@@ -38,7 +38,8 @@ takes_capacity name =
     bytes_eq name (codes "run") || bytes_eq name (codes "judge") || bytes_eq name (codes "campaign")
 
 abbrev pub takes_workers : Text → Bool
-takes_workers name = bytes_eq name (codes "audit") || bytes_eq name (codes "judge")
+takes_workers name =
+    bytes_eq name (codes "audit") || bytes_eq name (codes "draw") || bytes_eq name (codes "judge")
 
 abbrev pub takes_general : Text → Bool
 takes_general name = bytes_eq name (codes "accuse")

@@ -7,11 +7,12 @@ ghost use Rattle.gen_program.specs.CommandLine as lines;
 use clap::{Arg, ArgAction, Command};
 use std::alloc::{AllocError, Global};
 
-/// What stands at the end of the help: three examples, the exit statuses, and where more is said.
+/// What stands at the end of the help: four examples, the exit statuses, and where more is said.
 const MORE: &str = "\
 Examples:
   sm_tool run < split.scenario > split.bundle
   sm_tool audit --workers 4 < split.bundle
+  sm_tool draw < split.bundle > split.svg
   sm_tool accuse --general 0 < split.bundle > split.evidence
 
 Each command reads standard input to its end, and writes nothing before its output is whole. Bundles, campaigns
@@ -116,6 +117,16 @@ fn audit_command<'a>(alloc: Global) -> Result<Command<'a>, AllocError>
     plain_command(alloc, "audit", about).arg(workers_option(alloc))
 }
 
+/// Returns the command that draws a bundle or a campaign.
+fn draw_command<'a>(alloc: Global) -> Result<Command<'a>, AllocError>
+    ensures app { IfOk result (λ c. app_of c ≡ lines.draw) }
+    ensures local { IfOk result (λ c. (fields_of c).has_globals ≡ false) }
+{
+    let about =
+        "Reads a bundle of logs, or a campaign, from standard input and writes its picture, an SVG text";
+    plain_command(alloc, "draw", about).arg(workers_option(alloc))
+}
+
 /// Returns the command that accuses a general.
 fn accuse_command<'a>(alloc: Global) -> Result<Command<'a>, AllocError>
     ensures app { IfOk result (λ c. app_of c ≡ lines.accuse) }
@@ -177,12 +188,20 @@ fn with_audit<'a>(alloc: Global) -> Result<Command<'a>, AllocError>
     with_campaign(alloc)?.subcommand(audit)
 }
 
+/// Returns the command line with the command that draws, too.
+fn with_draw<'a>(alloc: Global) -> Result<Command<'a>, AllocError>
+    ensures { IfOk result (λ c. app_of c ≡ lines.with_draw) }
+{
+    let draw = draw_command(alloc)?;
+    with_audit(alloc)?.subcommand(draw)
+}
+
 /// Returns the command line with the commands that read a bundle, too.
 fn with_bundles<'a>(alloc: Global) -> Result<Command<'a>, AllocError>
     ensures { IfOk result (λ c. app_of c ≡ lines.with_bundles) }
 {
     let accuse = accuse_command(alloc)?;
-    with_audit(alloc)?.subcommand(accuse)
+    with_draw(alloc)?.subcommand(accuse)
 }
 
 /// Returns the command line of the program. It fails only where memory is refused.

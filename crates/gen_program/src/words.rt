@@ -4,7 +4,7 @@ ghost use Rattle.clap.specs.Simple.{subcommand_rows_of};
 ghost use Rattle.clap.specs.Words.{fault_of};
 ghost use Rattle.gen_jobs.specs.Ranges.{IsInRange};
 ghost use Rattle.gen_program.specs.CommandLine.{tool};
-ghost use Rattle.gen_program.specs.Jobs.{job_against, job_judging, job_named, number_between};
+ghost use Rattle.gen_program.specs.Jobs.{job_against, job_judging, job_named, job_reading, number_between};
 ghost use Rattle.gen_program.specs.Commands.{Gives, HasSubcommand, IsGivenBy};
 ghost use Rattle.gen_program.specs.Tool.{asked, is_missing, refusal, takes_capacity, takes_general, takes_workers, IsFaultOf};
 ghost use Rattle.gen_program.specs.declared.words.WordsFault.TheVariants.{Memory};
@@ -129,6 +129,19 @@ fn job_judging(capacity: Option<&str>, workers: Option<&str>) -> Option<Job>
     })
 }
 
+/// Returns the job that reads what is shown, by the text of its option.
+fn job_reading(name: &str, workers: Option<&str>) -> Option<Job>
+    ensures said { result ≡ job_reading name.now (number_between 1 16 (option_map (λ t. t.now) workers.entry)) }
+    ensures range { IfSome result IsInRange }
+{
+    let workers = workers_of(workers)?;
+    if name == "draw" {
+        Some(Job::Draw { workers })
+    } else {
+        Some(Job::Audit { workers })
+    }
+}
+
 /// Returns the job of a command, by the texts of its options.
 fn job_of(
     name: &str,
@@ -149,9 +162,7 @@ fn job_of(
         "campaign" => Some(Job::Campaign {
             capacity: number_between(capacity, 1, 16)?,
         }),
-        "audit" => Some(Job::Audit {
-            workers: workers_of(workers)?,
-        }),
+        "audit" | "draw" => job_reading(name, workers),
         _ => job_against(name, general),
     }
 }
@@ -169,7 +180,7 @@ fn lacks_workers(name: &str, workers: Option<&str>) -> bool
     ensures { result ≡ (takes_workers name.now
         && is_missing (number_between 1 16 (option_map (λ t. t.now) workers.entry))) }
 {
-    matches!(name, "audit" | "judge") && number_between(workers, 1, 16).is_none()
+    matches!(name, "audit" | "draw" | "judge") && number_between(workers, 1, 16).is_none()
 }
 
 /// Whether a command takes a general, and his text is none.

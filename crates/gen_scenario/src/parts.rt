@@ -60,7 +60,7 @@ impl Part {
         me: GeneralNo,
         own: Option<OrderNo>,
     ) -> Option<Part>
-        ensures { SomeIff result (CanFollow header.old me own) (followers_part header.old me own) }
+        ensures { SomeIff result (CanFollow header me own) (followers_part header me own) }
     {
         let net = header.net();
         let is_his = match own {

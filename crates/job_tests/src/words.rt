@@ -64,6 +64,27 @@ fn audits_take_workers(rt: HostRuntime) {
     }
 }
 
+/// Returns whether the words ask for a picture by so many workers.
+fn asks_drawers<'a>(alloc: Global, words: &'a [&'a str], count: usize) -> bool {
+    match WorkerCount::new(count) {
+        Some(workers) => asks(alloc, words, Job::Draw { workers }),
+        None => false,
+    }
+}
+
+#[test]
+fn pictures_take_workers(rt: HostRuntime) {
+    let alloc = rt.alloc();
+    let rows: [(&[&str], usize); 3] = [
+        (&["sm_tool", "draw"], 1),
+        (&["sm_tool", "draw", "--workers=9"], 9),
+        (&["sm_tool", "draw", "--workers", "16"], 16),
+    ];
+    for (words, count) in rows {
+        assert!(rt; asks_drawers(alloc, words, count));
+    }
+}
+
 /// Returns whether the words ask for a run over edges of so much room that so many workers judge.
 fn asks_judges<'a>(alloc: Global, words: &'a [&'a str], capacity: u8, count: usize) -> bool {
     match WorkerCount::new(count) {
@@ -125,7 +146,7 @@ fn evidence_takes_nothing(rt: HostRuntime) {
 fn is_bad_number(alloc: Global, command: &str, option: &str) -> bool {
     match &read_words(alloc, &["sm_tool", command, option]) {
         Err(WordsFault::BadCapacity) => matches!(command, "run" | "campaign"),
-        Err(WordsFault::BadWorkers) => command == "audit",
+        Err(WordsFault::BadWorkers) => command == "audit" || command == "draw",
         Err(WordsFault::BadGeneral) => command == "accuse",
         _ => false,
     }
@@ -142,6 +163,7 @@ fn numbers_are_in_their_range(rt: HostRuntime) {
         ("campaign", "--capacity=17"),
         ("audit", "--workers=0"),
         ("audit", "--workers=17"),
+        ("draw", "--workers=0"),
         ("accuse", "--general=16"),
         ("accuse", "--general=255"),
     ];

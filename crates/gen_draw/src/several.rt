@@ -1,0 +1,332 @@
+//! The picture of the runs of a campaign.
+ghost use Rattle.std.specs.Prelude.{◌≡◌, ◌≤◌, ◌<◌, ◌+◌, ◌*◌, ◌^◌, ◌++◌, IfOk, OnOk, codes, length, map, string_bytes};
+ghost use Rattle.std.specs.List.{flat_map, position};
+ghost use Rattle.gen_net.specs.SameHeaders.{same_header};
+ghost use Rattle.gen_convict.specs.Evidence.{told_of};
+ghost use Rattle.gen_convict.specs.Told.{told};
+ghost use Rattle.gen_draw.specs.Grid.{height_of};
+ghost use Rattle.gen_draw.specs.Several.{
+  across_height,
+  across_opening,
+  across_part,
+  across_span,
+  across_words,
+  all_heads,
+  both_words,
+  bottom_from,
+  convicted_words,
+  grid_in,
+  lines_for,
+  place_with,
+  place_words,
+  run_at,
+  run_opening,
+  runs_from,
+  several_front,
+  several_picture,
+  several_title,
+  wider,
+  widest_from,
+};
+
+use crate::grid::Grid;
+use crate::page::push_heads;
+use crate::picture::{grid_of, push_run_part};
+use crate::shapes::push_opening;
+use crate::style::push_style;
+use gen_audit::{Bundle, Judgement};
+use gen_convict::{Claim, Evidence};
+use gen_net::Header;
+use std::alloc::{AllocError, Global};
+
+/// Returns how large the picture of a bundle is.
+fn grid_in(bundle: &Bundle) -> Grid
+    ensures { result ≡ grid_in bundle.now }
+{
+    grid_of(bundle.header().net())
+}
+
+/// Returns how far down the pictures of bundles end that begin at the top.
+fn bottom_of(bundles: &[Bundle]) -> u32
+    requires { length bundles.now < 2 ^ 16 }
+    ensures value { result ≡ bottom_from 0 bundles.now }
+    ensures small { result < 2 ^ 31 }
+{
+    let mut down = 0u32;
+    let mut runs = bundles;
+    'runs: while let Some((run, others)) = runs.split_first() {
+        down += grid_in(run).height();
+        runs = others;
+    }
+    down
+}
+
+/// Returns the greater of two widths.
+fn wider(width: u32, other: u32) -> u32
+    ensures { result ≡ wider width other }
+{
+    if width <= other { other } else { width }
+}
+
+/// Returns the width of the widest picture of bundles.
+fn widest_of(bundles: &[Bundle]) -> u32
+    ensures { result ≡ widest_from 0 bundles.now }
+{
+    let mut width = 0u32;
+    let mut runs = bundles;
+    'runs: while let Some((run, others)) = runs.split_first() {
+        width = wider(width, grid_in(run).width());
+        runs = others;
+    }
+    width
+}
+
+/// Returns how many lines those have who are convicted across runs.
+fn lines_for(count: usize) -> u32
+    ensures value { result ≡ lines_for count }
+    ensures small { result ≤ 16 }
+{
+    if count <= 16 { count as u32 } else { 16 }
+}
+
+/// Returns the height of these lines.
+#[tactic(auto, unfolding(crate::specs::Several::across_height))]
+fn across_height(count: usize) -> u32
+    ensures value { result ≡ across_height count }
+    ensures small { result < 2 ^ 10 }
+{
+    24 + 18 * lines_for(count)
+}
+
+/// Appends the beginning of a run at a height.
+#[tactic(auto, unfolding(crate::specs::Several::run_opening))]
+fn push_run_opening(out: &mut String, down: u32) -> Result<(), AllocError>
+    ensures { OnOk result (string_bytes out.new ≡ string_bytes out.old ++ run_opening down) }
+{
+    write!(out, "<g transform=\"translate(0 {down})\">\n")
+}
+
+/// Appends the picture of a run at a height.
+#[tactic(auto, unfolding(crate::specs::Several::run_at))]
+fn push_run_at(
+    alloc: Global,
+    out: &mut String,
+    down: u32,
+    bundle: &Bundle,
+    judgement: &Judgement,
+) -> Result<(), AllocError>
+    ensures { OnOk result
+        (string_bytes out.new ≡ string_bytes out.old ++ run_at down bundle.now judgement.now) }
+{
+    let grid = grid_in(bundle);
+    push_run_opening(out, down)?;
+    push_opening(out, grid.width(), grid.height())?;
+    push_run_part(alloc, out, bundle, judgement)?;
+    out.push_str("</g>\n")
+}
+
+/// Appends the pictures of runs, each below the one before it, as far as there are judgements.
+fn push_runs(
+    alloc: Global,
+    out: &mut String,
+    bundles: &[Bundle],
+    judgements: &[Judgement],
+) -> Result<(), AllocError>
+    requires { length bundles.now < 2 ^ 16 }
+    ensures { OnOk result (string_bytes out.new
+        ≡ string_bytes out.old ++ runs_from 0 bundles.now judgements.now) }
+{
+    let mut down = 0u32;
+    let mut runs = bundles;
+    let mut rest = judgements;
+    'runs: while let Some((run, others)) = runs.split_first() {
+        let Some((judgement, more)) = rest.split_first() else {
+            return Ok(());
+        };
+        push_run_at(alloc, out, down, run, judgement)?;
+        down += grid_in(run).height();
+        runs = others;
+        rest = more;
+    }
+    Ok(())
+}
+
+/// Returns the place of the first run with this header, counted from 0.
+fn place_with(bundles: &[Bundle], header: &Header) -> Option<usize>
+    ensures { result ≡ place_with bundles.now header.now }
+{
+    bundles.iter().position(|run| run.header() == header)
+}
+
+/// Appends a run by its place, where it has one.
+fn push_place(out: &mut String, place: Option<usize>) -> Result<(), AllocError>
+    ensures { OnOk result (string_bytes out.new ≡ string_bytes out.old ++ place_words place) }
+{
+    match place {
+        None => Ok(()),
+        Some(place) => write!(out, " {place}"),
+    }
+}
+
+/// Appends who is convicted, and by what.
+#[tactic(auto, unfolding(crate::specs::Several::convicted_words))]
+fn push_convicted_words(out: &mut String, accused: u8, kind: u8) -> Result<(), AllocError>
+    ensures { OnOk result
+        (string_bytes out.new ≡ string_bytes out.old ++ convicted_words accused kind) }
+{
+    write!(out, "general {accused} is convicted by K{kind}")
+}
+
+/// Appends across which runs a claim is.
+#[tactic(auto, unfolding(crate::specs::Several::across_words))]
+fn push_across_words(out: &mut String, bundles: &[Bundle], claim: &Claim) -> Result<(), AllocError>
+    ensures { OnOk result (string_bytes out.new
+        ≡ string_bytes out.old ++ across_words bundles.now (told claim.now)) }
+{
+    match claim {
+        Claim::Across { first, second } => {
+            out.push_str(" across")?;
+            push_place(out, place_with(bundles, &first.header))?;
+            push_place(out, place_with(bundles, &second.header))
+        }
+        Claim::Texts { .. }
+        | Claim::Orders { .. }
+        | Claim::Missing { .. }
+        | Claim::Departing { .. } => Ok(()),
+    }
+}
+
+/// Appends who is convicted, by what, and across which runs.
+fn push_both_words(
+    out: &mut String,
+    bundles: &[Bundle],
+    evidence: &Evidence,
+) -> Result<(), AllocError>
+    ensures { OnOk result (string_bytes out.new
+        ≡ string_bytes out.old ++ both_words bundles.now (told_of evidence.now)) }
+{
+    push_convicted_words(out, evidence.accused.get(), evidence.claim.kind())?;
+    push_across_words(out, bundles, &evidence.claim)
+}
+
+/// Appends the line of somebody who is convicted across runs.
+#[tactic(auto, unfolding(crate::specs::Several::across_span))]
+fn push_across_span(
+    out: &mut String,
+    bundles: &[Bundle],
+    evidence: &Evidence,
+) -> Result<(), AllocError>
+    ensures { OnOk result (string_bytes out.new
+        ≡ string_bytes out.old ++ across_span bundles.now (told_of evidence.now)) }
+{
+    out.push_str("<tspan class=\"found\" x=\"16\" dy=\"18\"><title>")?;
+    push_both_words(out, bundles, evidence)?;
+    out.push_str("</title>")?;
+    push_both_words(out, bundles, evidence)?;
+    out.push_str("</tspan>\n")
+}
+
+/// Appends the lines of all who are convicted across runs.
+fn push_across_spans(
+    out: &mut String,
+    bundles: &[Bundle],
+    across: &[Evidence],
+) -> Result<(), AllocError>
+    ensures { OnOk result (string_bytes out.new ≡ string_bytes out.old
+        ++ flat_map (across_span bundles.now) (map told_of across.now)) }
+{
+    for evidence in across {
+        push_across_span(out, bundles, evidence)?;
+    }
+    Ok(())
+}
+
+/// Appends the beginning of these lines.
+#[tactic(auto, unfolding(crate::specs::Several::across_opening))]
+fn push_across_opening(out: &mut String, down: u32) -> Result<(), AllocError>
+    ensures { OnOk result (string_bytes out.new ≡ string_bytes out.old ++ across_opening down) }
+{
+    write!(out, "<text x=\"16\" y=\"{down}\">\n")
+}
+
+/// Appends those who are convicted across runs, below these, and the end.
+#[tactic(auto, unfolding(crate::specs::Several::across_part))]
+fn push_across(
+    out: &mut String,
+    down: u32,
+    bundles: &[Bundle],
+    across: &[Evidence],
+) -> Result<(), AllocError>
+    ensures { OnOk result (string_bytes out.new
+        ≡ string_bytes out.old ++ across_part down bundles.now (map told_of across.now)) }
+{
+    push_across_opening(out, down)?;
+    push_across_spans(out, bundles, across)?;
+    out.push_str("</text>\n</svg>\n")
+}
+
+/// Appends the heads of arrows for all orders that there may be.
+fn push_all_heads(out: &mut String) -> Result<(), AllocError>
+    ensures { OnOk result (string_bytes out.new ≡ string_bytes out.old ++ all_heads) }
+{
+    let grid = Grid {
+        generals: 16,
+        orders: 15,
+        rounds: 16,
+    };
+    push_heads(out, grid)
+}
+
+/// Appends how many runs there are, as the title of the whole.
+#[tactic(auto, unfolding(crate::specs::Several::several_title))]
+fn push_several_title(out: &mut String, count: usize) -> Result<(), AllocError>
+    ensures { OnOk result (string_bytes out.new ≡ string_bytes out.old ++ several_title count) }
+{
+    write!(out, "<title>campaign of {count} runs</title>\n")
+}
+
+/// Appends the beginning of the page.
+#[tactic(auto, unfolding(crate::specs::Several::several_front))]
+fn push_several_front(
+    out: &mut String,
+    bundles: &[Bundle],
+    convicted: usize,
+) -> Result<(), AllocError>
+    requires { length bundles.now < 2 ^ 16 }
+    ensures { OnOk result (string_bytes out.new
+        ≡ string_bytes out.old ++ several_front bundles.now convicted) }
+{
+    let height = bottom_of(bundles) + across_height(convicted);
+    push_opening(out, widest_of(bundles), height)?;
+    push_style(out)?;
+    push_all_heads(out)?;
+    push_several_title(out, bundles.len())
+}
+
+/// Returns the picture of a campaign as one SVG text: the pictures that `draw` makes of its bundles and of the judgements
+/// on them, one below the other, and below them in red who is convicted across runs, with the places of the runs, counted
+/// from 0. The judgements are meant to be those of an audit of the campaign, one for each bundle and in their order; where
+/// there are fewer, the bundles behind them are left out.
+///
+/// The text is well-formed XML, fetches nothing and runs nothing, and its size is linear in the number of entries.
+///
+/// # Errors
+///
+/// `AllocError` where memory is refused.
+#[tactic(auto, unfolding(crate::specs::Several::several_picture))]
+pub fn draw_campaign(
+    alloc: Global,
+    bundles: &[Bundle],
+    judgements: &[Judgement],
+    across: &[Evidence],
+) -> Result<Vec<u8>, AllocError>
+    requires { length bundles.now < 2 ^ 16 }
+    ensures { IfOk result (λ v. v.items
+        ≡ several_picture bundles.now judgements.now (map told_of across.now)) }
+{
+    let mut out = String::new(alloc);
+    push_several_front(&mut out, bundles, across.len())?;
+    push_runs(alloc, &mut out, bundles, judgements)?;
+    push_across(&mut out, bottom_of(bundles), bundles, across)?;
+    Ok(out.into_bytes())
+}

@@ -1,0 +1,151 @@
+//! The job `draw`.
+ghost use Rattle.std.specs.Prelude.{◌≡◌, ◌≤◌, false, IfOk, IfErr, IfSome, if◌then◌else◌, length, map};
+ghost use Rattle.gen_convict.specs.Evidence.{told_of};
+ghost use Rattle.gen_campaign.specs.Judged.{AreJudged};
+ghost use Rattle.gen_draw.specs.Several.{several_picture};
+ghost use Rattle.gen_jobs.specs.Answering.{Answers};
+ghost use Rattle.gen_jobs.specs.Audit.{IsAuditFault, IsWant};
+ghost use Rattle.gen_jobs.specs.Drawing.{DrawsForm, IsDrawn, first_picture};
+ghost use Rattle.gen_jobs.specs.Ends.{IsTaken, KeepsUntilWhole};
+
+use crate::ends::{JobEnd, JobFault, Output};
+use crate::gates::Open;
+use crate::transfer::{deliver, read_all};
+use gen_audit::{Bundle, Judgement, WorkerCount};
+use gen_campaign::{
+    CampaignBundle, CampaignVerdict, audit_campaign, read_campaign, read_taken_campaign,
+};
+use gen_draw::{draw as draw_bundle, draw_campaign};
+use std::alloc::{AllocError, Global};
+use std::io::{Read, Write};
+use std::sync::Wait;
+use std::thread::Threads;
+
+/// Returns the picture of the first bundle and of the first judgement, or no bytes where one of them is missing.
+fn first_picture(
+    alloc: Global,
+    bundles: &[Bundle],
+    judgements: &[Judgement],
+) -> Result<Vec<u8>, AllocError>
+    ensures { IfOk result (λ v. v.items ≡ first_picture bundles.now judgements.now) }
+{
+    let Some((bundle, _)) = bundles.split_first() else {
+        return Ok(Vec::new(alloc));
+    };
+    let Some((judgement, _)) = judgements.split_first() else {
+        return Ok(Vec::new(alloc));
+    };
+    draw_bundle(alloc, bundle, judgement)
+}
+
+/// Returns the picture of what is shown and of the verdict on it.
+#[tactic(auto, using(crate::proofs::Drawn::few))]
+fn picture_of(
+    alloc: Global,
+    campaign: &CampaignBundle,
+    verdict: &CampaignVerdict,
+) -> Result<Vec<u8>, AllocError>
+    ensures { IfOk result (λ v. v.items ≡ (if campaign.now.alone
+        then first_picture campaign.now.bundles verdict.now.judgements.items
+        else several_picture campaign.now.bundles verdict.now.judgements.items
+        (map told_of verdict.now.across.items))) }
+{
+    let bundles = campaign.bundles();
+    let judgements = verdict.judgements.as_slice();
+    if campaign.is_alone() {
+        first_picture(alloc, bundles, judgements)
+    } else {
+        draw_campaign(alloc, bundles, judgements, verdict.across.as_slice())
+    }
+}
+
+/// Returns the picture of what is shown and of the judgement on it.
+#[tactic(auto, using(crate::proofs::Audited::is_want))]
+fn draw_of<T: Threads + Wait + Sync>(
+    rt: &T,
+    alloc: Global,
+    workers: WorkerCount,
+    campaign: &CampaignBundle,
+) -> Result<Output, JobFault>
+    ensures answer { IfOk result (λ o. DrawsForm campaign.now.alone campaign.now.bundles o.text.items) }
+    ensures positive { IfOk result (λ o. o.negative ≡ false) }
+    ensures fault { IfErr result IsWant }
+{
+    // What is said of the form needs what each campaign keeps, which a read of it tells.
+    let _lawful = campaign.is_alone();
+    let verdict = audit_campaign(rt, alloc, campaign, workers, &Open)?;
+    let text = picture_of(alloc, campaign, &verdict)?;
+    Ok(Output {
+        text,
+        negative: false,
+    })
+}
+
+/// Returns the picture of the bundle that the input spells and of the judgement on it, as an SVG text, or that of the
+/// runs of the campaign, one below the other. It never says no, whatever the verdict is, and it is the same however many
+/// workers there are.
+///
+/// # Errors
+///
+/// `Campaign` with the first fault of an input that spells neither, `Memory` where memory is refused, and `Thread`
+/// where a worker's thread can't be started.
+#[tactic(auto, using(crate::proofs::Audited::are_wants))]
+pub fn draw<T: Threads + Wait + Sync>(
+    rt: &T,
+    alloc: Global,
+    workers: WorkerCount,
+    input: &[u8],
+) -> Result<Output, JobFault>
+    ensures answer { IfOk result (λ o. IsDrawn input.now o.text.items o.negative) }
+    ensures fault { IfErr result (IsAuditFault input.now) }
+{
+    let campaign = read_campaign(alloc, input)?;
+    draw_of(rt, alloc, workers, &campaign)
+}
+
+/// As `draw`, but takes the input, whose bytes are not copied.
+///
+/// # Errors
+///
+/// Those of `draw`.
+#[tactic(auto, using(crate::proofs::Audited::are_wants))]
+pub fn draw_taken<T: Threads + Wait + Sync>(
+    rt: &T,
+    alloc: Global,
+    workers: WorkerCount,
+    input: Vec<u8>,
+) -> Result<Output, JobFault>
+    ensures answer { IfOk result (λ o. IsDrawn input.items o.text.items o.negative) }
+    ensures fault { IfErr result (IsAuditFault input.items) }
+{
+    let campaign = read_taken_campaign(alloc, input)?;
+    draw_of(rt, alloc, workers, &campaign)
+}
+
+/// Reads the bytes of a bundle or of a campaign to their end, and writes the picture of it and of the judgement on it, or
+/// nothing where they spell neither. The end is never negative.
+///
+/// A fault of the input is looked for once it was read whole, and nothing is written before the output
+/// is whole. Where a read, a write, memory or a worker's thread fails the job ends so.
+#[tactic(auto, using(crate::proofs::Known::taken, crate::proofs::Delivering::answered, crate::proofs::Delivering::late, crate::proofs::Delivering::unread_answers, crate::proofs::Delivering::unread_taken, crate::proofs::Delivering::unread_late))]
+pub fn draw_engine<T: Threads + Wait + Sync, R: Read, W: Write>(
+    rt: &T,
+    alloc: Global,
+    workers: WorkerCount,
+    reader: &mut R,
+    writer: &mut W,
+) -> JobEnd
+    // What is written is the picture of what was read.
+    ensures answers { IfSome (R.remaining reader.old) (λ input.
+        Answers (IsDrawn input) (IsAuditFault input)
+        (W.contents writer.old) (W.contents writer.new) result) }
+    // What was read is within the limit.
+    ensures taken { IfSome (R.remaining reader.old) (λ input. IsTaken input result) }
+    // Nothing is written before the output is whole.
+    ensures late { KeepsUntilWhole (W.contents writer.old) (W.contents writer.new) result }
+{
+    match read_all(alloc, reader) {
+        Ok(input) => deliver(writer, draw_taken(rt, alloc, workers, input)),
+        Err(fault) => JobEnd::Failed(fault),
+    }
+}

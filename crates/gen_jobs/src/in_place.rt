@@ -1,0 +1,60 @@
+//! The jobs `audit` and `accuse` in the thread that calls: no thread is started, and none is waited for.
+//!
+//! They serve callers who have no threads to give, as a library for C; `decide` and `evidence` start none anyway.
+ghost use Rattle.std.specs.Prelude.{IfErr, IfOk};
+ghost use Rattle.gen_jobs.specs.Accusing.{AccusesRuns, IsAccused};
+ghost use Rattle.gen_jobs.specs.Audit.{AuditsForm, IsAudited, IsAuditFault};
+
+use crate::accusing::evidence_by;
+use crate::auditing::output_by;
+use crate::ends::{JobFault, Output};
+use gen_campaign::{CampaignBundle, audit_campaign_in_place, read_campaign};
+use gen_types::GeneralNo;
+use std::alloc::{AllocError, Global};
+
+/// Returns the text of the verdict on what is shown, and whether that on some run is a no.
+fn audit_shown(alloc: Global, campaign: &CampaignBundle) -> Result<Output, AllocError>
+    ensures { IfOk result (λ o.
+        AuditsForm campaign.now.alone campaign.now.bundles o.text.items o.negative) }
+{
+    let verdict = audit_campaign_in_place(alloc, campaign)?;
+    output_by(alloc, campaign, &verdict)
+}
+
+/// Returns the bytes of the evidence against a general that is held by what is shown, or none, which says no.
+fn accuse_shown(
+    alloc: Global,
+    general: GeneralNo,
+    campaign: &CampaignBundle,
+) -> Result<Output, AllocError>
+    ensures { IfOk result (λ o. AccusesRuns campaign.now.bundles general o.text.items o.negative) }
+{
+    let verdict = audit_campaign_in_place(alloc, campaign)?;
+    evidence_by(alloc, general, campaign, &verdict)
+}
+
+/// Returns what `audit` returns of the input, in the thread that calls.
+///
+/// # Errors
+///
+/// Those of `audit` but `Thread`.
+pub fn audit_in_place(alloc: Global, input: &[u8]) -> Result<Output, JobFault>
+    ensures answer { IfOk result (λ o. IsAudited input.now o.text.items o.negative) }
+    ensures fault { IfErr result (IsAuditFault input.now) }
+{
+    let campaign = read_campaign(alloc, input)?;
+    Ok(audit_shown(alloc, &campaign)?)
+}
+
+/// Returns what `accuse` returns of the input, in the thread that calls.
+///
+/// # Errors
+///
+/// Those of `accuse` but `Thread`.
+pub fn accuse_in_place(alloc: Global, general: GeneralNo, input: &[u8]) -> Result<Output, JobFault>
+    ensures answer { IfOk result (λ o. IsAccused general input.now o.text.items o.negative) }
+    ensures fault { IfErr result (IsAuditFault input.now) }
+{
+    let campaign = read_campaign(alloc, input)?;
+    Ok(accuse_shown(alloc, general, &campaign)?)
+}

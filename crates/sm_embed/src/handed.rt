@@ -1,0 +1,39 @@
+//! What a caller is handed.
+ghost use Rattle.std.specs.Prelude.{◌≡◌};
+ghost use Rattle.sm_embed.specs.Statuses.{status_of_handed};
+
+use gen_jobs::{JobEnd, JobFault};
+
+/// What a caller was handed, whose number the call returns.
+#[derive(Clone, Copy, Debug, PartialEq, Eq)]
+pub enum Handed {
+    /// A text that doesn't say no.
+    Yes,
+    /// A text that says no.
+    No,
+    /// The line of the input's fault.
+    Line(JobFault),
+    /// Nothing, since memory was refused.
+    Nothing,
+    /// The length alone of a text or a line that is longer than the room.
+    Length,
+}
+
+/// The number of a length that was handed.
+const LENGTH: u8 = 5;
+
+impl Handed {
+    /// Returns the number: the program's exit status where the job ends so, and 5 for a length.
+    pub fn status(self) -> u32
+        ensures { result ≡ status_of_handed self }
+    {
+        let status = match self {
+            Handed::Yes => JobEnd::Done.status(),
+            Handed::No => JobEnd::Negative.status(),
+            Handed::Line(fault) => JobEnd::Failed(fault).status(),
+            Handed::Nothing => JobEnd::Failed(JobFault::Memory).status(),
+            Handed::Length => LENGTH,
+        };
+        u32::from(status)
+    }
+}
