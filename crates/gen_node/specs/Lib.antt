@@ -1,3 +1,4 @@
+pub mod BundleBytes
 pub mod FaultNumber
 pub mod Frame
 pub mod FrameReading

@@ -10,6 +10,7 @@
 //! not: that frames come in time, or from whom the transport says.
 #![tactic(auto)]
 
+mod bundles;
 mod frame_fault;
 mod frame_reading;
 mod frame_writing;
@@ -22,6 +23,7 @@ mod nodes;
 mod roots;
 mod stages;
 
+pub use bundles::make_bundle;
 pub use frame_fault::FrameFault;
 pub use frame_reading::{FRAME_MARK, read_frame};
 pub use frame_writing::frame_bytes;
