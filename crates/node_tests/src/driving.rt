@@ -19,7 +19,7 @@ pub(crate) const SPLIT: &[u8] = b"\
 /// Two generals, one round, and order 1.
 pub(crate) const PAIR: &[u8] = b"\
     generals 2\nedge 0 1\ntraitors 0\ndiameter 1\norders 2\nchoice 0\norder 1\n\
-    seed 0000000000000000000000000000000000000000000000000000000000000000\nend\n";
+    seed 0000000000000000000000000000000000000000000000000000000000000000\nslot 2\nend\n";
 
 /// The scenario of a text.
 pub(crate) fn scenario_of(alloc: Global, text: &[u8]) -> Result<Scenario, Fail> {
@@ -132,8 +132,13 @@ fn are_of(run: &WorldRun, log: &SealedLog, decision: Decision) -> bool {
 }
 
 /// Whether a general of the scenario, driven alone with the frames of its run, sends, keeps and decides what it has.
-fn is_driven(alloc: Global, scenario: &Scenario, run: &WorldRun, me: u8) -> Result<bool, Fail> {
-    let mut node = node_of(alloc, scenario, GeneralNo::at(me))?;
+fn is_driven(
+    alloc: Global,
+    scenario: &Scenario,
+    run: &WorldRun,
+    me: GeneralNo,
+) -> Result<bool, Fail> {
+    let mut node = node_of(alloc, scenario, me)?;
     match all_rounds(alloc, &mut node, run.frames()) {
         Ok(alike) => {
             let (log, decision) = end_of(alloc, node)?;
@@ -147,27 +152,21 @@ fn is_driven(alloc: Global, scenario: &Scenario, run: &WorldRun, me: u8) -> Resu
 }
 
 #[test]
-fn a_scenario(rt: HostRuntime) -> Result<(), Fail> {
-    let alloc = rt.alloc();
-    let pair = scenario_of(alloc, PAIR)?;
-    assert!(rt; pair.header().net().generals() == 2);
-    Ok(())
-}
-
-#[test]
-fn b_world(rt: HostRuntime) -> Result<(), Fail> {
+fn nodes_keep_the_logs_of_the_run(rt: HostRuntime) -> Result<(), Fail> {
     let alloc = rt.alloc();
     let pair = scenario_of(alloc, PAIR)?;
     let run = run_world(alloc, &pair)?;
-    assert!(rt; run.logs().len() == 2);
+    assert!(rt; is_driven(alloc, &pair, &run, GeneralNo::at(0))?);
+    assert!(rt; is_driven(alloc, &pair, &run, GeneralNo::at(1))?);
     Ok(())
 }
 
 #[test]
-fn c_node(rt: HostRuntime) -> Result<(), Fail> {
+fn a_traitor_changes_nothing_of_that(rt: HostRuntime) -> Result<(), Fail> {
     let alloc = rt.alloc();
-    let pair = scenario_of(alloc, PAIR)?;
-    let node = node_of(alloc, &pair, GeneralNo::at(0))?;
-    node.close().close();
+    let split = scenario_of(alloc, SPLIT)?;
+    let run = run_world(alloc, &split)?;
+    assert!(rt; is_driven(alloc, &split, &run, GeneralNo::at(1))?);
+    assert!(rt; is_driven(alloc, &split, &run, GeneralNo::at(2))?);
     Ok(())
 }

@@ -3,3 +3,5 @@
 
 #[cfg(test)]
 mod driving;
+#[cfg(test)]
+mod refusals;
