@@ -129,6 +129,10 @@ frames_read = record { takes = frame_takes; again = frame_again }
 
 -- ---- the whole
 
+nil_by : (xs : List ℕ) → length xs ≡ 0 → xs ≡ []
+nil_by [] e = refl
+nil_by (x ∷ xs) e = absurd (omega (arith, e))
+
 pub frame_found : (bytes : List ℕ) (f : Frame) → IsBytes bytes → whole_frame bytes ≡ Ok f → Spells IsFrame frame_spelling bytes f
 unfolding whole_frame
 frame_found bytes f fits e =
@@ -138,10 +142,6 @@ frame_found bytes f fits e =
     let none : frame.1 ≡ [] = nil_by frame.1 (eqb-true _ _ all) in
     let whole : bytes ≡ frame_spelling frame.0 = t.0.parts ∙ ap (λ (r : List ℕ). frame_spelling frame.0 ++ r) none ∙ append-nil (frame_spelling frame.0) in
     at_end {F = FrameFault} (Spells IsFrame frame_spelling bytes) frame.0 f e1 (record { fits = t.1; spelled = whole })))
-
-nil_by : (xs : List ℕ) → length xs ≡ 0 → xs ≡ []
-nil_by [] e = refl
-nil_by (x ∷ xs) e = absurd (omega (arith, e))
 
 pub frame_only : (bytes : List ℕ) (f : Frame) → Spells IsFrame frame_spelling bytes f → whole_frame bytes ≡ Ok f
 unfolding whole_frame

@@ -6,3 +6,4 @@ pub mod Rounds
 pub mod Keeping
 pub mod Scenarios
 pub mod Runs
+pub mod Steps

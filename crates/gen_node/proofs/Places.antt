@@ -11,7 +11,6 @@ use Rattle.gen_chain.specs.Chain.{Chain, signed_path}
 use Rattle.gen_log.specs.declared.entries.Entry.{Entry}
 use Rattle.gen_log.specs.declared.entries.Entry.TheVariants.{Recv}
 use Rattle.gen_log.specs.Place.{place_of}
-use Rattle.gen_log.proofs.Preceding.{Precedes_then}
 use Rattle.gen_scenario.specs.declared.heard.Heard.{Heard}
 use Rattle.gen_scenario.specs.declared.delivery.Delivery.{Delivery}
 use Rattle.gen_scenario.specs.Counted.{counted_of}
@@ -110,8 +109,25 @@ recv_place net p h d frame e k =
 
 -- ---- what stands before a place
 
+precedes_then : (x y z : List ℕ) → Precedes x y → Precedes y z → Precedes x z
+precedes_then [] [] z h k = absurd h
+precedes_then [] (b ∷ ys) [] h k = absurd k
+precedes_then [] (b ∷ ys) (d ∷ zs) h k = tt
+precedes_then (a ∷ xs) [] z h k = absurd h
+precedes_then (a ∷ xs) (b ∷ ys) [] h k = absurd k
+precedes_then (a ∷ xs) (b ∷ ys) (d ∷ zs) h k = elim h [
+  | inl less ↦ elim k [
+    | inl more ↦ inl (omega (arith, less, more))
+    | inr same ↦ inl (omega (arith, less, same.0))
+  ]
+  | inr alike ↦ elim k [
+    | inl more ↦ inl (omega (arith, alike.0, more))
+    | inr same ↦ inr (alike.0 ∙ same.0, precedes_then xs ys zs alike.1 same.1)
+  ]
+]
+
 pub stand_later : (net : Network) (es : List Entry) (at later : List ℕ) → StandBefore net es at → Precedes at later → StandBefore net es later
-stand_later net es at later stand less e h = Precedes_then (place_of net e) at later (stand e h) less
+stand_later net es at later stand less e h = precedes_then (place_of net e) at later (stand e h) less
 
 pub stand_both : (net : Network) (es more : List Entry) (at : List ℕ) → StandBefore net es at → StandBefore net more at → StandBefore net (es ++ more) at
 stand_both net es more at one two e h = elim (Contains-append_cases es more e h) [ inl a ↦ one e a | inr b ↦ two e b ]

@@ -39,6 +39,10 @@ sends_near r next gs e = ap (λ (xs : List ℕ). sends_all xs r) (near_cons r ne
 sends_far : (r : Recorder) (next : ℕ) (gs : List ℕ) → is_near r next ≡ false → sends_all (near_at r (next ∷ gs)) r ≡ sends_all (near_at r gs) r
 sends_far r next gs e = ap (λ (xs : List ℕ). sends_all xs r) (near_skip r next gs e)
 
+sent_chosen : (n : Node) (next : ℕ) (b : Bool) → is_near n.recorder next ≡ b → sent_from (next + 1) (sent_one n next) ≡ opened n.inbox (sends_all (near_at n.recorder (from_on n.recorder (next + 1))) (if b then with_sends n.recorder next else n.recorder))
+sent_chosen n next true e = rw e refl
+sent_chosen n next false e = rw e refl
+
 pub sent_step : (n : Node) (next : ℕ) → next < (header_at n.recorder).network.generals → sent_from next n ≡ sent_from (next + 1) (sent_one n next)
 sent_step n next lt =
     let r = n.recorder in
@@ -48,10 +52,6 @@ sent_step n next lt =
       | inl near ↦ first ∙ ap (opened n.inbox) (sends_near r next gs near) ∙ sym (sent_chosen n next true near)
       | inr far ↦ first ∙ ap (opened n.inbox) (sends_far r next gs far) ∙ sym (sent_chosen n next false far)
     ]
-
-sent_chosen : (n : Node) (next : ℕ) (b : Bool) → is_near n.recorder next ≡ b → sent_from (next + 1) (sent_one n next) ≡ opened n.inbox (sends_all (near_at n.recorder (from_on n.recorder (next + 1))) (if b then with_sends n.recorder next else n.recorder))
-sent_chosen n next true e = rw e refl
-sent_chosen n next false e = rw e refl
 
 pub sent_over : (n : Node) (next : ℕ) → (header_at n.recorder).network.generals ≤ next → opened n.inbox n.recorder ≡ sent_from next n
 unfolding sends_all

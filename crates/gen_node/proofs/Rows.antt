@@ -32,12 +32,9 @@ pub held_mapped : (r : Recorder) (g : ℕ) (gs : List ℕ) → held_of g (map (h
 unfolding held_of
 held_mapped r g [] = refl
 held_mapped r g (x ∷ gs) = elim (bool_cases (eqb x g)) [
-  | inl t ↦ rw t (ap (λ v. Some (sends r.standing v)) (same_number x g t))
+  | inl t ↦ rw t (ap (λ v. Some (sends r.standing v)) (eqb-true x g t))
   | inr f ↦ rw f (held_mapped r g gs)
 ]
-
-same_number : (x g : ℕ) → eqb x g ≡ true → x ≡ g
-same_number x g t = eqb-true x g t
 
 is_held_if : (b : Bool) (frame : List (List ℕ)) → is_some (if b then Some frame else None) ≡ b
 is_held_if true frame = refl

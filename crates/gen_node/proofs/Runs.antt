@@ -84,8 +84,8 @@ nodes_logs s x ok none on =
     (λ g h. nodes_log s g (x.after (rounds s.net) g) (last s x ok on g (record { known = omega (arith, (Contains_range 0 s.net.generals g h).1); unscripted = nobody s g none })))
 
 all_kept : (p : ℕ → Bool) (gs : List ℕ) → ((g : ℕ) → p g ≡ true) → filter p gs ≡ gs
-all_kept p [] yes = refl
-all_kept p (g ∷ gs) yes = rw (yes g) (ap (λ (xs : List ℕ). g ∷ xs) (all_kept p gs yes))
+all_kept p [] each = refl
+all_kept p (g ∷ gs) each = rw (each g) (ap (λ (xs : List ℕ). g ∷ xs) (all_kept p gs each))
 
 mapped_alike : {Y : Type 0} (f h : ℕ → Y) (gs : List ℕ) → ((g : ℕ) → Contains gs g → f g ≡ h g) → map f gs ≡ map h gs
 mapped_alike f h [] same = refl

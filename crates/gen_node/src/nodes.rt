@@ -28,7 +28,7 @@ use gen_general::Recorder;
 use gen_net::Header;
 use gen_scenario::Part;
 use gen_tree::KeyRing;
-use gen_types::{GeneralNo, OrderNo, ReadError, check};
+use gen_types::{GeneralNo, OrderNo, ReadError, TreeHeight, check};
 use std::alloc::{AllocError, Global};
 use std::marker::Model;
 
@@ -63,6 +63,13 @@ fn same_bytes(left: &[u8], right: &[u8]) -> bool
     ensures same { IsTrue result ↔ (left.now ≡ right.now) }
 {
     left == right
+}
+
+/// Whether two heights are the same.
+fn same_height(one: TreeHeight, other: TreeHeight) -> bool
+    ensures { IsTrue result ↔ (one ≡ other) }
+{
+    one == other
 }
 
 impl Node {
@@ -121,7 +128,7 @@ impl Node {
             → ring_root ring.seed ring.height ≡ root_of header me → ⊥) }
         ensures height { IfErr result (λ e. e.0 ≡ OtherHeight → ring.height ≡ height_of header → ⊥) }
     {
-        if ring.height() != header.height() {
+        if !same_height(ring.height(), header.height()) {
             return Err((NodeFault::OtherHeight, ring));
         }
         let Ok(copy) = header.clone() else {
@@ -255,9 +262,9 @@ impl Node {
         ensures ok { OnOk result (IsSignedFrom self.old.stage self.old self.new) }
         ensures err { OnErr result (self.new ≡ self.old) }
     {
-        if self.stage != Stage::Between {
+        let Stage::Between = self.stage else {
             return Ok(());
-        }
+        };
         let inbox = Vec::new(alloc);
         let outbox = Vec::new(alloc);
         self.recorder.begin_round(alloc)?;

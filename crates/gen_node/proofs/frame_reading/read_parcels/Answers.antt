@@ -5,7 +5,7 @@ use Rattle.gen_node.proofs.frame_reading.read_parcels.Goals as goal
 
 pub returns-in_err-parcel : goal.returns-in_err-parcel
 returns-in_err-parcel c =
-    let p = err_from_is_err_and c.from_residual-in_err-parcel.result c.from_residual-in_err-parcel.ensures.1 in
+    let p = err_from_is_err_and c.from_residual.result c.from_residual.ensures.1 in
     rw (p.1, p.2) (ends parcel_at c.in_err-parcel.field-0.0 c.loop.parcels.items c.args.count c.loop.counter c.loop.rest.now _ c.loop-test.true c.in_err-parcel.ensures c.loop.invariant)
 
 pub loop-preserved : goal.loop-preserved
