@@ -1,9 +1,9 @@
 //! Why a node isn't made.
-use std::alloc::AllocError;
-use thiserror::Error;
-
 ghost use Rattle.std.specs.Prelude.{◌≡◌};
 ghost use Rattle.gen_node.specs.declared.node_fault.NodeFault.TheVariants.{Memory};
+
+use std::alloc::AllocError;
+use thiserror::Error;
 
 /// Why there is no node of a header, a general, his order and his keys.
 #[derive(Clone, Copy, Debug, PartialEq, Eq, Error)]

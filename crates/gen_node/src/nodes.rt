@@ -381,9 +381,15 @@ impl Node {
         ensures { IsRead result (front_check self.now.recorder from front) }
     {
         let me = self.recorder.me();
-        check(same_bytes(&front.run_id, self.header.run_id()), FrameFault::OtherRun)?;
+        check(
+            same_bytes(&front.run_id, self.header.run_id()),
+            FrameFault::OtherRun,
+        )?;
         check(front.round == self.recorder.round(), FrameFault::OtherRound)?;
-        check(front.from == from.get() && front.to == me.get(), FrameFault::OtherEnds)
+        check(
+            front.from == from.get() && front.to == me.get(),
+            FrameFault::OtherEnds,
+        )
     }
 
     /// Ends the round: he hears his neighbours' frames. A neighbour of whom nothing was handed in counts as one who sent
