@@ -125,9 +125,7 @@ pub(crate) fn end_of(alloc: Global, node: Node) -> Result<(SealedLog, Decision),
 
 /// Whether a log and a decision are those of a run.
 fn are_of(run: &WorldRun, log: &SealedLog, decision: Decision) -> bool {
-    run.logs()
-        .iter()
-        .any(|other| other.general() == log.general() && other.bytes() == log.bytes())
+    run.logs().iter().any(|other| other.general() == log.general() && other.bytes() == log.bytes())
         && run.decisions().iter().any(|other| *other == decision)
 }
 

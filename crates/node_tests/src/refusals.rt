@@ -17,7 +17,13 @@ fn refusal(alloc: Global, node: &mut Node, from: GeneralNo, bytes: &[u8]) -> u8 
 }
 
 /// The bytes of an empty frame to general 1: the byte of the run id, the round and the sender are as given.
-fn empty_frame(alloc: Global, first: u8, round: u8, from: u8, node: &Node) -> Result<Vec<u8>, Fail> {
+fn empty_frame(
+    alloc: Global,
+    first: u8,
+    round: u8,
+    from: u8,
+    node: &Node,
+) -> Result<Vec<u8>, Fail> {
     let mut run_id = *node.header().run_id();
     run_id[0] ^= first;
     let front = FrameFront {
