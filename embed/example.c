@@ -1,6 +1,6 @@
 /* The library called from C: what sm_tool writes for the bytes on standard input.
 
-       example audit|evidence|decide
+       example audit|draw|evidence|decide
        example accuse GENERAL
 
    The exit status is that of sm_tool; 5 where the input can't be read or the text not be written. */
@@ -49,6 +49,7 @@ static uint32_t call(struct job job, struct bytes input, struct bytes room, size
     if (strcmp(job.name, "accuse") == 0)
         return sm_accuse(job.general, input.at, input.length, room.at, room.length, count);
     if (strcmp(job.name, "audit") == 0) return sm_audit(input.at, input.length, room.at, room.length, count);
+    if (strcmp(job.name, "draw") == 0) return sm_draw(input.at, input.length, room.at, room.length, count);
     if (strcmp(job.name, "evidence") == 0) return sm_evidence(input.at, input.length, room.at, room.length, count);
     return sm_decide(input.at, input.length, room.at, room.length, count);
 }
@@ -85,14 +86,16 @@ static struct job job_of(int words, char **word) {
         unsigned long general = strtoul(word[2], &end, 10);
         return end > word[2] && *end == '\0' && general < 16 ? (struct job){word[1], (uint32_t)general} : none;
     }
-    bool is_known = words == 2 && (!strcmp(word[1], "audit") || !strcmp(word[1], "evidence") || !strcmp(word[1], "decide"));
-    return is_known ? (struct job){word[1], 0} : none;
+    static const char *const names[] = {"audit", "draw", "evidence", "decide"};
+    for (size_t at = 0; words == 2 && at < sizeof names / sizeof *names; at++)
+        if (strcmp(word[1], names[at]) == 0) return (struct job){names[at], 0};
+    return none;
 }
 
 int main(int words, char **word) {
     struct job job = job_of(words, word);
     if (job.name == NULL) {
-        fprintf(stderr, "usage: example audit|evidence|decide|accuse GENERAL\n");
+        fprintf(stderr, "usage: example audit|draw|evidence|decide|accuse GENERAL\n");
         return 2;
     }
     struct bytes input = read_all(), text = {NULL, 0};

@@ -1,6 +1,6 @@
 // The library called from C++: what sm_tool writes for the bytes on standard input.
 //
-//     example audit|evidence|decide
+//     example audit|draw|evidence|decide
 //     example accuse GENERAL
 //
 // The exit status is that of sm_tool.
@@ -28,7 +28,7 @@ using Call = std::function<std::uint32_t(std::uint8_t *, std::size_t, std::size_
 
 // The jobs that need no more than an input.
 const std::map<std::string, decltype(&sm_audit)> jobs = {
-    {"audit", sm_audit}, {"evidence", sm_evidence}, {"decide", sm_decide}};
+    {"audit", sm_audit}, {"draw", sm_draw}, {"evidence", sm_evidence}, {"decide", sm_decide}};
 
 // Calls in as much room as it takes. Throws std::bad_alloc where the library is refused memory, as this does itself.
 Answer in_room(const Call &call) {
@@ -60,7 +60,7 @@ int main(int words, char **word) try {
     const std::string job = words > 1 ? word[1] : "";
     const bool is_known = job == "accuse" ? words == 3 : words == 2 && jobs.count(job) == 1;
     if (!is_known) {
-        std::cerr << "usage: example audit|evidence|decide|accuse GENERAL\n";
+        std::cerr << "usage: example audit|draw|evidence|decide|accuse GENERAL\n";
         return 2;
     }
     const std::uint32_t general = job == "accuse" ? static_cast<std::uint32_t>(std::stoul(word[2])) : 0;

@@ -1,7 +1,7 @@
 #!/usr/bin/env python3
 """The library called from Python: what sm_tool writes for the bytes on standard input.
 
-    example.py LIBRARY audit|evidence|decide
+    example.py LIBRARY audit|draw|evidence|decide
     example.py LIBRARY accuse GENERAL
 
 LIBRARY is the shared library that CMakeLists.txt builds. The exit status is that of sm_tool.
@@ -10,7 +10,7 @@ import ctypes
 import sys
 
 YES, NO, GENERAL, FAULT, MEMORY, LENGTH = range(6)
-JOBS = ("audit", "evidence", "decide", "accuse")
+JOBS = ("audit", "draw", "evidence", "decide", "accuse")
 
 
 class Library:

@@ -42,6 +42,9 @@ enum sm_status { SM_YES = 0, SM_NO = 1, SM_GENERAL = 2, SM_FAULT = 3, SM_MEMORY 
 /* The verdict on a bundle or a campaign, as sm_tool audit. It says no where the verdict does. */
 uint32_t sm_audit(const uint8_t *input, size_t input_bytes, uint8_t *room, size_t room_bytes, size_t *count);
 
+/* The picture of a bundle or a campaign and of the verdict on it, as sm_tool draw: an SVG text. It never says no. */
+uint32_t sm_draw(const uint8_t *input, size_t input_bytes, uint8_t *room, size_t room_bytes, size_t *count);
+
 /* The evidence against a general that a bundle or a campaign holds, as sm_tool accuse --general N: bytes, and no text.
    Where there is none they are no bytes, and it says no. */
 uint32_t sm_accuse(uint32_t general, const uint8_t *input, size_t input_bytes, uint8_t *room, size_t room_bytes,

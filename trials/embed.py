@@ -81,7 +81,7 @@ def by_cmake(folder):
 
 def example_cases(program):
     """The jobs of the library on each example, and on what comes of scenarios; of the bundles one is of 16 generals."""
-    jobs = [["audit"], ["evidence"], ["decide"], *(["accuse", str(general)] for general in (0, 1, 2, 15))]
+    jobs = [["audit"], ["draw"], ["evidence"], ["decide"], *(["accuse", str(general)] for general in (0, 1, 2, 15))]
     inputs = [b""]
     for name in sorted(os.listdir(EXAMPLES)):
         with open(os.path.join(EXAMPLES, name), "rb") as kept:
@@ -95,7 +95,7 @@ def bent_cases(program):
     """A hundred bent texts, as many bundles, and as many pieces of evidence."""
     draws, bases, cases = Draws(SEED), Bases(program), []
     for _ in range(HUNDRED):
-        words = draws.one_of([["audit"], ["audit"], ["accuse", str(draws.below(6))]])
+        words = draws.one_of([["audit"], ["audit"], ["draw"], ["accuse", str(draws.below(6))]])
         cases.append((["decide"], bend_text(draws, draws.one_of(bases.texts))))
         cases.append((words, bend_bundle(draws, draws.one_of(bases.bundles))))
         cases.append((["evidence"], bend_evidence(draws, draws.one_of(bases.evidence))))
@@ -167,7 +167,7 @@ def try_refusals(program, tally, folder, example):
     refusing = build_refusing(folder)
     split = run(program, ["run"], signed()["split"]).wrote
     evidence = run(program, ["accuse", "--general", "0"], split).wrote
-    cases = [(["audit"], split), (["accuse", "0"], split), (["evidence"], evidence), (["decide"], signed()["split"])]
+    cases = [(["audit"], split), (["draw"], split), (["accuse", "0"], split), (["evidence"], evidence), (["decide"], signed()["split"])]
     for job, given in cases:
         whole = run(example, job, given)
         for after in (False, True):

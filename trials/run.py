@@ -14,7 +14,7 @@ import traceback
 from programs import Hangs, commands_of
 from tally import Tally
 
-SUBJECTS = ["worked", "walk", "campaigns", "pictures", "prefixes", "bent", "refusals", "devices", "load", "embed"]
+SUBJECTS = ["worked", "walk", "campaigns", "pictures", "prefixes", "bent", "refusals", "devices", "load", "embed", "page"]
 
 
 def try_subject(subject, program, commands):

@@ -1,5 +1,5 @@
 //! How a desk ends.
-use crate::filing::{file_all, give_up_all, logs_of, pair, report_next};
+use crate::filing::{file_all, give_up_all, header_of_pair, logs_of_pair, report_next};
 use gen_desk::{Desk, Filed, Receipt, Row, StrangeReceipt};
 use gen_log::SealedLog;
 use gen_net::Header;
@@ -57,19 +57,19 @@ fn is_ended_with(ended: &Result<Filed, StrangeReceipt>, logs: &[SealedLog]) -> b
 #[test]
 fn two_logs_from_filing_to_the_end(rt: HostRuntime) -> Result<(), Fail> {
     let alloc = rt.alloc();
-    let scenario = pair(alloc)?;
-    let logs = logs_of(alloc, &scenario)?;
+    let header = header_of_pair(alloc)?;
+    let logs = logs_of_pair(alloc)?;
     let (desk, slips) = Desk::new(alloc, 2)?;
     let receipts = file_all(&rt, alloc, &desk, slips, logs.as_slice());
     assert!(rt; receipts.len() == 2 && logs.len() == 2);
-    assert!(rt; reports_two(&rt, alloc, &desk, scenario.header())?);
+    assert!(rt; reports_two(&rt, alloc, &desk, &header)?);
     assert!(rt; is_ended_with(&desk.close(receipts), logs.as_slice()));
     Ok(())
 }
 
 /// The receipts of a desk at which both logs are filed.
 fn receipts_elsewhere<R: Wait>(rt: &R, alloc: Global) -> Result<Vec<Receipt>, Fail> {
-    let logs = logs_of(alloc, &pair(alloc)?)?;
+    let logs = logs_of_pair(alloc)?;
     let (desk, slips) = Desk::new(alloc, 2)?;
     Ok(file_all(rt, alloc, &desk, slips, logs.as_slice()))
 }

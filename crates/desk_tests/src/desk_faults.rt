@@ -1,21 +1,16 @@
 //! What a desk refuses, and what comes back.
-use crate::filing::{file_last, give_up_all, logs_of, next_claim, pair, report_of};
+use crate::filing::{file_last, give_up_all, header_of_pair, logs_of_pair, next_claim, report_of};
 use gen_desk::{Claim, Desk, DeskFault, Slip};
 use gen_local::{LocalReport, local_report};
 use gen_log::SealedLog;
 use gen_types::GeneralNo;
-use gen_world::Scenario;
 use std::alloc::Global;
 use std::sync::Wait;
 use std::test::*;
 
 /// A desk of one place, at which the log of general 0 is filed, and which is claimed.
-fn claimed_once<R: Wait>(
-    rt: &R,
-    alloc: Global,
-    scenario: &Scenario,
-) -> Result<(Desk, Claim), Fail> {
-    let logs = logs_of(alloc, scenario)?;
+fn claimed_once<R: Wait>(rt: &R, alloc: Global) -> Result<(Desk, Claim), Fail> {
+    let logs = logs_of_pair(alloc)?;
     let (desk, slips) = Desk::new(alloc, 1)?;
     let filed = file_last(rt, &desk, slips, logs.as_slice());
     filed.ok_or("nothing is filed")?;
@@ -37,6 +32,12 @@ fn refused_log<R: Wait>(
     }
 }
 
+/// The log of general 1.
+fn last_log(alloc: Global) -> Result<SealedLog, Fail> {
+    let mut logs = logs_of_pair(alloc)?;
+    Ok(logs.pop().ok_or("no log")?)
+}
+
 /// Files the last log by the last slip of another desk of so many places, and gives the others up: what comes
 /// back.
 fn refused_by_strange_slip<R: Wait>(
@@ -44,10 +45,8 @@ fn refused_by_strange_slip<R: Wait>(
     alloc: Global,
     desk: &Desk,
     places: usize,
-    logs: Vec<SealedLog>,
 ) -> Result<Option<(usize, u8, DeskFault)>, Fail> {
-    let mut logs = logs;
-    let log = logs.pop().ok_or("no log")?;
+    let log = last_log(alloc)?;
     let (_other, mut slips) = Desk::new(alloc, places)?;
     let back = match slips.pop() {
         Some(slip) => refused_log(rt, desk, slip, log),
@@ -60,11 +59,10 @@ fn refused_by_strange_slip<R: Wait>(
 #[test]
 fn slips_of_another_desk(rt: HostRuntime) -> Result<(), Fail> {
     let alloc = rt.alloc();
-    let scenario = pair(alloc)?;
-    let (desk, _claim) = claimed_once(&rt, alloc, &scenario)?;
-    let filed = refused_by_strange_slip(&rt, alloc, &desk, 1, logs_of(alloc, &scenario)?)?;
+    let (desk, _claim) = claimed_once(&rt, alloc)?;
+    let filed = refused_by_strange_slip(&rt, alloc, &desk, 1)?;
     assert!(rt; filed == Some((0, 1, DeskFault::WrongPlace)));
-    let outside = refused_by_strange_slip(&rt, alloc, &desk, 2, logs_of(alloc, &scenario)?)?;
+    let outside = refused_by_strange_slip(&rt, alloc, &desk, 2)?;
     assert!(rt; outside == Some((1, 1, DeskFault::WrongPlace)));
     Ok(())
 }
@@ -88,22 +86,25 @@ fn refused_report<R: Wait>(
 #[test]
 fn a_claim_of_another_desk(rt: HostRuntime) -> Result<(), Fail> {
     let alloc = rt.alloc();
-    let scenario = pair(alloc)?;
-    let (_other, claim) = claimed_once(&rt, alloc, &scenario)?;
+    let (_other, claim) = claimed_once(&rt, alloc)?;
+    let report = report_of(alloc, &header_of_pair(alloc)?, &claim)?;
     let (desk, slips) = Desk::new(alloc, 1)?;
     give_up_all(slips);
-    let report = report_of(alloc, scenario.header(), &claim)?;
     let back = refused_report(&rt, &desk, claim, report);
     assert!(rt; back == Some((0, 0, DeskFault::WrongPlace)));
     Ok(())
 }
 
+/// The report of three bytes as the log of general 1.
+fn another_report(alloc: Global) -> Result<LocalReport, Fail> {
+    let header = header_of_pair(alloc)?;
+    Ok(local_report(alloc, &header, GeneralNo::at(1), &[1, 2, 3])?)
+}
+
 #[test]
 fn a_report_of_another_exhibit(rt: HostRuntime) -> Result<(), Fail> {
-    let alloc = rt.alloc();
-    let scenario = pair(alloc)?;
-    let (desk, claim) = claimed_once(&rt, alloc, &scenario)?;
-    let report = local_report(alloc, scenario.header(), GeneralNo::at(1), &[1, 2, 3])?;
+    let report = another_report(rt.alloc())?;
+    let (desk, claim) = claimed_once(&rt, rt.alloc())?;
     let back = refused_report(&rt, &desk, claim, report);
     assert!(rt; back == Some((0, 1, DeskFault::WrongExhibit)));
     Ok(())
@@ -111,13 +112,8 @@ fn a_report_of_another_exhibit(rt: HostRuntime) -> Result<(), Fail> {
 
 #[test]
 fn texts_of_faults(rt: HostRuntime) -> Result<(), Fail> {
-    let texts = [
-        (DeskFault::WrongPlace, "Y1"),
-        (DeskFault::WrongExhibit, "Y2"),
-        (DeskFault::Memory, "memory"),
-    ];
-    for (fault, text) in texts {
-        assert_eq!(rt; fault.to_string(rt.alloc())?.as_str(), text);
-    }
+    assert!(rt; DeskFault::WrongPlace.to_string(rt.alloc())?.as_str() == "Y1");
+    assert!(rt; DeskFault::WrongExhibit.to_string(rt.alloc())?.as_str() == "Y2");
+    assert!(rt; DeskFault::Memory.to_string(rt.alloc())?.as_str() == "memory");
     Ok(())
 }

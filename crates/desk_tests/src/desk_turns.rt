@@ -1,5 +1,5 @@
 //! What a desk's calls answer, one after another: nothing of this is known across the lock.
-use crate::filing::{file_last, give_up_all, logs_of, pair};
+use crate::filing::{file_last, give_up_all, logs_of_pair};
 use gen_desk::Desk;
 use std::sync::Wait;
 use std::test::*;
@@ -15,13 +15,13 @@ fn next_place<R: Wait>(rt: &R, desk: &Desk) -> Result<Option<usize>, Fail> {
 #[test]
 fn what_is_filed_is_claimed_once(rt: HostRuntime) -> Result<(), Fail> {
     let alloc = rt.alloc();
-    let logs = logs_of(alloc, &pair(alloc)?)?;
+    let logs = logs_of_pair(alloc)?;
     let (desk, slips) = Desk::new(alloc, 2)?;
     let before = desk.claim(&rt);
     let filed = file_last(&rt, &desk, slips, logs.as_slice());
     assert!(rt; matches!(before, Ok(None)) && filed.is_some());
-    assert_eq!(rt; next_place(&rt, &desk)?, Some(1));
-    assert_eq!(rt; next_place(&rt, &desk)?, None);
+    assert!(rt; next_place(&rt, &desk)? == Some(1));
+    assert!(rt; next_place(&rt, &desk)? == None);
     Ok(())
 }
 
@@ -32,7 +32,7 @@ fn a_desk_of_no_places(rt: HostRuntime) -> Result<(), Fail> {
     let slip_count = slips.len();
     give_up_all(slips);
     assert!(rt; slip_count == 0 && desk.all_reported(&rt));
-    assert_eq!(rt; next_place(&rt, &desk)?, None);
+    assert!(rt; next_place(&rt, &desk)? == None);
     match desk.close(Vec::new(alloc)) {
         Ok(filed) => assert!(rt; filed.into_rows().is_empty()),
         Err(_strange) => return Err("a strange receipt".into()),

@@ -1,7 +1,8 @@
 //! That who waits at a desk is woken.
-use crate::filing::{file_last, give_up_all, logs_of, next_claim, pair, report_of};
+use crate::filing::{file_last, give_up_all, header_of_pair, logs_of_pair, next_claim, report_of};
 use gen_desk::{Claim, Desk};
 use gen_local::LocalReport;
+use std::alloc::Global;
 use std::sync::Wait;
 use std::sync::atomic::{AtomicBool, Ordering};
 use std::test::*;
@@ -40,15 +41,20 @@ fn is_taken<R: Wait>(rt: &R, desk: &Desk, claim: Claim, report: LocalReport) -> 
     desk.report(rt, claim, report).is_ok()
 }
 
+/// A desk of one place, at which a log is filed, and which is claimed.
+fn claimed<R: Wait>(rt: &R, alloc: Global) -> Result<(Desk, Claim), Fail> {
+    let logs = logs_of_pair(alloc)?;
+    let (desk, slips) = Desk::new(alloc, 1)?;
+    let _receipt = file_last(rt, &desk, slips, logs.as_slice());
+    let claim = next_claim(rt, &desk)?;
+    Ok((desk, claim))
+}
+
 #[test]
 fn a_report_wakes_who_waits(rt: HostRuntime) -> Result<(), Fail> {
-    let alloc = rt.alloc();
-    let scenario = pair(alloc)?;
-    let logs = logs_of(alloc, &scenario)?;
-    let (desk, slips) = Desk::new(alloc, 1)?;
-    let _receipt = file_last(&rt, &desk, slips, logs.as_slice());
-    let claim = next_claim(&rt, &desk)?;
-    let report = report_of(alloc, scenario.header(), &claim)?;
+    let (desk, claim) = claimed(&rt, rt.alloc())?;
+    let header = header_of_pair(rt.alloc())?;
+    let report = report_of(rt.alloc(), &header, &claim)?;
     let (at, with) = (&rt, &desk);
     let (_woken, taken) = thread::join(
         &rt,

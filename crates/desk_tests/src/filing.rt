@@ -11,15 +11,22 @@ use std::test::Fail;
 
 /// The scenario of two generals with order 1, in which nobody has a script.
 #[tactic(auto, using(gen_scenario::proofs::ScriptPairs::no_scripts))]
-pub(crate) fn pair(alloc: Global) -> Result<Scenario, Fail> {
+fn pair(alloc: Global) -> Result<Scenario, Fail> {
     let net = Net::new(alloc, 2, &[(0, 1)], 0, 1, 2, 0)?;
     let _few = net.generals();
     Ok(Scenario::new(alloc, net, OrderNo::at(1), &[0; 32], Vec::new(alloc))?)
 }
 
+/// The header of that scenario.
+pub(crate) fn header_of_pair(alloc: Global) -> Result<Header, Fail> {
+    let scenario = pair(alloc)?;
+    Ok(scenario.header().clone()?)
+}
+
 /// The logs of its run, those of general 0 and of general 1.
-pub(crate) fn logs_of(alloc: Global, scenario: &Scenario) -> Result<Vec<SealedLog>, Fail> {
-    Ok(run_world(alloc, scenario)?.into_logs())
+pub(crate) fn logs_of_pair(alloc: Global) -> Result<Vec<SealedLog>, Fail> {
+    let scenario = pair(alloc)?;
+    Ok(run_world(alloc, &scenario)?.into_logs())
 }
 
 /// Gives all slips up.

@@ -1,21 +1,18 @@
 -- What the job run writes the job audit reads, and accepts.
-use Rattle.std.proofs.Common.{◌≡◌, ◌<◌, ◌≤◌, ◌++◌, ◌∷◌, ℕ, Bool, false, inl, inr, List, length, All, Contains, Ok, refl, sym, ap, subst, ◌∙◌}
+use Rattle.std.proofs.Common.{◌≡◌, ◌<◌, ◌++◌, ℕ, Bool, false, inl, inr, List, length, Contains, refl, sym, subst, ◌∙◌}
 use Rattle.std.specs.Int.{w32, to_be_bytes}
 use Rattle.std.proofs.lemmas.List.{append-nil}
 use Rattle.std.specs.List.{flat_map}
 use Rattle.std.proofs.lemmas.List.Elements.{All-contains, Contains-append_right}
-use Rattle.gen_types.specs.Ascending.{IsListOf}
 use Rattle.gen_types.specs.Spelled.{Spells}
 use Rattle.gen_types.proofs.Lists.{All_of, Contains_there}
 use Rattle.gen_types.proofs.Steps.{ok_is}
 use Rattle.gen_net.specs.Front.{front_spelling}
-use Rattle.gen_net.specs.Network.{IsLoyal}
 use Rattle.gen_walks.specs.Walks.{BoundsDiameter}
 use Rattle.gen_walks.proofs.Pairs.{bounds}
 use Rattle.gen_log.specs.Fields.{AreBelow, set_spelling}
 use Rattle.gen_log.specs.Writing.{LogBytes}
-use Rattle.gen_scenario.specs.Rows.{logs_of_all}
-use Rattle.gen_scenario.specs.Scenario.{Scenario, IsScenario, scripted}
+use Rattle.gen_scenario.specs.Scenario.{Scenario, IsScenario}
 use Rattle.gen_scenario.proofs.Having.{in_flat}
 use Rattle.gen_campaign.specs.declared.campaign_fault.CampaignFault.{CampaignFault}
 use Rattle.gen_campaign.specs.Campaign.{CampaignBundle, IsCampaign}
@@ -36,7 +33,7 @@ use Rattle.gen_jobs.specs.Judging.{JudgesRun, RunsAreJudged}
 use Rattle.gen_jobs.specs.Run.{IsRun}
 
 -- the bytes of what is shown stand in the bundle's
-shown_bytes : (b : Bundle) (x : LogBytes) (v : ℕ) → Contains b.exhibits x → Contains x.bytes v → Contains (bundle_spelling b) v
+pub shown_bytes : (b : Bundle) (x : LogBytes) (v : ℕ) → Contains b.exhibits x → Contains x.bytes v → Contains (bundle_spelling b) v
 shown_bytes b x v shown h =
     let one : Contains (exhibit_spelling x) v = Contains_there x.general v (to_be_bytes w32 (length x.bytes) ++ x.bytes) (Contains-append_right (to_be_bytes w32 (length x.bytes)) x.bytes v h) in
     let all : Contains (exhibits_spelling b.exhibits) v = Contains_there (length b.exhibits) v (flat_map exhibit_spelling b.exhibits) (in_flat exhibit_spelling b.exhibits x v shown one) in
@@ -72,7 +69,7 @@ walks_bound s walks has sound = elim has.walks_are [
   | inr none ↦ absurd (none.1.2.bad (sound.joined has.rest has.of_rest none.1.0 none.1.1 none.1.2.pair))
 ]
 
-is_acceptable : (s : Scenario) (walks : List (List ℕ)) → IsScenario s → HasWalks s walks → IsSound s → IsAcceptable s walks
+pub is_acceptable : (s : Scenario) (walks : List (List ℕ)) → IsScenario s → HasWalks s walks → IsSound s → IsAcceptable s walks
 is_acceptable s walks ok has sound = record {
   scenario = ok;
   no_raw = sound.no_raw;

@@ -1,4 +1,5 @@
 pub mod Accepted
+pub mod AcceptedCampaigns
 pub mod Accused
 pub mod AccusedRuns
 pub mod Audited

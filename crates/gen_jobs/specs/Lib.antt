@@ -1,4 +1,5 @@
 pub mod Accepted
+pub mod AcceptedCampaigns
 pub mod Accusing
 pub mod Answering
 pub mod Audit

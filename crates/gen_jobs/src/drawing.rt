@@ -1,7 +1,8 @@
 //! The job `draw`.
 ghost use Rattle.std.specs.Prelude.{◌≡◌, ◌≤◌, false, IfOk, IfErr, IfSome, if◌then◌else◌, length, map};
+ghost use Rattle.gen_convict.specs.AcrossLaws.{AreConvictedAcross};
 ghost use Rattle.gen_convict.specs.Evidence.{told_of};
-ghost use Rattle.gen_campaign.specs.Judged.{AreJudged};
+ghost use Rattle.gen_campaign.specs.Judged.{AreJudged, shown_bundles};
 ghost use Rattle.gen_draw.specs.Several.{several_picture};
 ghost use Rattle.gen_jobs.specs.Answering.{Answers};
 ghost use Rattle.gen_jobs.specs.Audit.{IsAuditFault, IsWant};
@@ -59,6 +60,27 @@ fn picture_of(
     }
 }
 
+/// Returns the picture of what is shown and of the verdict on it, which doesn't say no.
+pub(crate) fn picture_by(
+    alloc: Global,
+    campaign: &CampaignBundle,
+    verdict: &CampaignVerdict,
+) -> Result<Output, AllocError>
+    requires judged { AreJudged campaign.now.bundles verdict.now.judgements.items }
+    requires across { AreConvictedAcross (shown_bundles campaign.now.bundles)
+        (map told_of verdict.now.across.items) }
+    ensures answer { IfOk result (λ o. DrawsForm campaign.now.alone campaign.now.bundles o.text.items) }
+    ensures positive { IfOk result (λ o. o.negative ≡ false) }
+{
+    // What is said of the form needs what each campaign keeps, which a read of it tells.
+    let _lawful = campaign.is_alone();
+    let text = picture_of(alloc, campaign, verdict)?;
+    Ok(Output {
+        text,
+        negative: false,
+    })
+}
+
 /// Returns the picture of what is shown and of the judgement on it.
 #[tactic(auto, using(crate::proofs::Audited::is_want))]
 fn draw_of<T: Threads + Wait + Sync>(
@@ -71,14 +93,8 @@ fn draw_of<T: Threads + Wait + Sync>(
     ensures positive { IfOk result (λ o. o.negative ≡ false) }
     ensures fault { IfErr result IsWant }
 {
-    // What is said of the form needs what each campaign keeps, which a read of it tells.
-    let _lawful = campaign.is_alone();
     let verdict = audit_campaign(rt, alloc, campaign, workers, &Open)?;
-    let text = picture_of(alloc, campaign, &verdict)?;
-    Ok(Output {
-        text,
-        negative: false,
-    })
+    Ok(picture_by(alloc, campaign, &verdict)?)
 }
 
 /// Returns the picture of the bundle that the input spells and of the judgement on it, as an SVG text, or that of the

@@ -1,12 +1,14 @@
-//! The jobs `audit` and `accuse` in the thread that calls: no thread is started, and none is waited for.
+//! The jobs `audit`, `draw` and `accuse` in the thread that calls: no thread is started, and none is waited for.
 //!
 //! They serve callers who have no threads to give, as a library for C; `decide` and `evidence` start none anyway.
-ghost use Rattle.std.specs.Prelude.{IfErr, IfOk};
+ghost use Rattle.std.specs.Prelude.{◌≡◌, false, IfErr, IfOk};
 ghost use Rattle.gen_jobs.specs.Accusing.{AccusesRuns, IsAccused};
 ghost use Rattle.gen_jobs.specs.Audit.{AuditsForm, IsAudited, IsAuditFault};
+ghost use Rattle.gen_jobs.specs.Drawing.{DrawsForm, IsDrawn};
 
 use crate::accusing::evidence_by;
 use crate::auditing::output_by;
+use crate::drawing::picture_by;
 use crate::ends::{JobFault, Output};
 use gen_campaign::{CampaignBundle, audit_campaign_in_place, read_campaign};
 use gen_types::GeneralNo;
@@ -19,6 +21,15 @@ fn audit_shown(alloc: Global, campaign: &CampaignBundle) -> Result<Output, Alloc
 {
     let verdict = audit_campaign_in_place(alloc, campaign)?;
     output_by(alloc, campaign, &verdict)
+}
+
+/// Returns the picture of what is shown and of the judgement on it.
+fn draw_shown(alloc: Global, campaign: &CampaignBundle) -> Result<Output, AllocError>
+    ensures answer { IfOk result (λ o. DrawsForm campaign.now.alone campaign.now.bundles o.text.items) }
+    ensures positive { IfOk result (λ o. o.negative ≡ false) }
+{
+    let verdict = audit_campaign_in_place(alloc, campaign)?;
+    picture_by(alloc, campaign, &verdict)
 }
 
 /// Returns the bytes of the evidence against a general that is held by what is shown, or none, which says no.
@@ -44,6 +55,19 @@ pub fn audit_in_place(alloc: Global, input: &[u8]) -> Result<Output, JobFault>
 {
     let campaign = read_campaign(alloc, input)?;
     Ok(audit_shown(alloc, &campaign)?)
+}
+
+/// Returns what `draw` returns of the input, in the thread that calls.
+///
+/// # Errors
+///
+/// Those of `draw` but `Thread`.
+pub fn draw_in_place(alloc: Global, input: &[u8]) -> Result<Output, JobFault>
+    ensures answer { IfOk result (λ o. IsDrawn input.now o.text.items o.negative) }
+    ensures fault { IfErr result (IsAuditFault input.now) }
+{
+    let campaign = read_campaign(alloc, input)?;
+    Ok(draw_shown(alloc, &campaign)?)
 }
 
 /// Returns what `accuse` returns of the input, in the thread that calls.

@@ -1,6 +1,7 @@
 //! Laws of jobs. Each is a function with an empty body whose contract is the law: a caller that calls it
 //! knows the law.
 ghost use Rattle.gen_jobs.specs.Accepted.{RunsAreAccepted, RunsAreRead};
+ghost use Rattle.gen_jobs.specs.AcceptedCampaigns.{CampaignsAreAccepted, CampaignsAreRead};
 ghost use Rattle.gen_jobs.specs.Judging.{RunsAreJudged};
 
 /// What the job `run` writes is read as the bundle of its run (`read`); and what the job `audit` makes of it
@@ -15,4 +16,12 @@ pub fn runs_are_accepted()
 /// scenario.
 pub fn runs_are_judged()
     ensures { RunsAreJudged }
+{}
+
+/// What the job `campaign` writes is read as the bundles of its runs (`read`); and what the job `audit` makes
+/// of it does not say no (`accepted`): where in each of its scenarios no script has a raw line, somebody has
+/// no script, and any two of those who have none are joined inside them by at most d edges.
+pub fn campaigns_are_accepted()
+    ensures read { CampaignsAreRead }
+    ensures accepted { CampaignsAreAccepted }
 {}

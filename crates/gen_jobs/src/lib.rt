@@ -35,7 +35,7 @@ pub use checking::{evidence, evidence_engine};
 pub use deciding::{decide, decide_engine};
 pub use drawing::{draw, draw_engine, draw_taken};
 pub use ends::{JobEnd, JobFault, Output};
-pub use in_place::{accuse_in_place, audit_in_place};
+pub use in_place::{accuse_in_place, audit_in_place, draw_in_place};
 pub use jobs::{Job, do_job};
 pub use judging::{judge, judge_engine};
 pub use running::{run, run_engine, run_in_pieces};

@@ -87,8 +87,8 @@ pub record HasSigned (old new : Node) : Type 0 where
   pub stage : new.stage ≡ Sending 0
   pub inbox : new.inbox ≡ []
 
--- The round has begun: he has signed, and made the frames to all his neighbours; where it was half begun, those
--- that were left.
+-- The round has begun: he has signed, and made the frames to all his neighbours; where it was half begun,
+-- those that were left.
 abbrev pub IsBegunFrom : Stage → Node → Node → Type 0
 IsBegunFrom Between old new = (signed : Node) × HasSigned old signed × (new ≡ sent_from 0 signed)
 IsBegunFrom (Sending next) old new = new ≡ sent_from next old
@@ -158,7 +158,8 @@ hears_all frames (from ∷ froms) r = hears_all frames froms (with_recvs r from 
 -- he has heard all from a number on, and of whom nothing was handed in as of one who sent nothing
 abbrev pub heard_from : ℕ → Node → Node
 heard_from next n = record {
-  recorder = hears_all (λ from. frame_in from n.inbox) (near_at n.recorder (from_on n.recorder next)) n.recorder;
+  recorder = hears_all (λ from. frame_in from n.inbox)
+      (near_at n.recorder (from_on n.recorder next)) n.recorder;
   stage = Between;
   inbox = [];
 }

@@ -1,5 +1,5 @@
--- Laws of nodes: one who is driven as a scenario says is its general, and nodes that hand their frames to each other
--- make its run.
+-- Laws of nodes: one who is driven as a scenario says is its general, and nodes that hand their frames to
+-- each other make its run.
 use Rattle.std.specs.Prelude.{ℕ, ◌≡◌, ◌<◌, ◌+◌, List, [], ◌∷◌, map, Contains, None, Ok}
 use Rattle.std.specs.List.{range_with_len}
 use Rattle.gen_types.specs.Spelled.{Spells}
@@ -39,7 +39,8 @@ frame_between s round from to = record {
   parcels = frame_at s round from to;
 }
 
--- his neighbours' frames of the round after the first k were handed in; of whom none was handed in sent nothing
+-- his neighbours' frames of the round after the first k were handed in; of whom none was handed in sent
+-- nothing
 abbrev pub HoldsRound : Scenario → ℕ → ℕ → Node → Type 0
 HoldsRound s k g n =
     (from : ℕ) → Contains (neighbours_of s.net g) from → frame_in from n.inbox ≡ frame_at s (k + 1) from g
@@ -63,7 +64,8 @@ NodesSend =
 -- when bytes are handed in,
 abbrev pub NodesHear : Type 0
 NodesHear =
-    (s : Scenario) (k g from : ℕ) (n m : Node) (bytes : List ℕ) → IsWithin s k g n → handed n from bytes ≡ Ok m
+    (s : Scenario) (k g from : ℕ) (n m : Node) (bytes : List ℕ) → IsWithin s k g n
+    → handed n from bytes ≡ Ok m
     → IsWithin s k g m
 
 -- of which the scenario's frame is taken,
@@ -77,7 +79,8 @@ NodesTake =
 -- and when the round ends
 abbrev pub NodesEnd : Type 0
 NodesEnd =
-    (s : Scenario) (k g : ℕ) (n : Node) → IsWithin s k g n → HoldsRound s k g n → IsAfter s (k + 1) g (ended n)
+    (s : Scenario) (k g : ℕ) (n : Node) → IsWithin s k g n → HoldsRound s k g n
+    → IsAfter s (k + 1) g (ended n)
 
 -- after the last round his log is the scenario's, and so is what he decides
 abbrev pub NodesLog : Type 0
@@ -92,8 +95,8 @@ NodesDecide =
 
 -- ---- a run of nodes
 
--- the generals without a script as nodes: how each stands after so many rounds, when the next has begun, and when his
--- frames of it were handed in
+-- the generals without a script as nodes: how each stands after so many rounds, when the next has begun, and
+-- when his frames of it were handed in
 pub record Nodes : Type 0 where
   pub after : ℕ → ℕ → Node
   pub begun : ℕ → ℕ → Node
@@ -104,9 +107,9 @@ pub record IsHonest (s : Scenario) (g : ℕ) : Type 0 where
   pub known : g < s.net.generals
   pub unscripted : script_of s.scripts g ≡ None
 
--- Each starts with the scenario's header, his order and his seed; each round begins and ends at all; what is handed in
--- leaves the rest of him as he was; and each neighbour's frame is handed on: that of an honest one as he sends it,
--- that of another as the scenario has it.
+-- Each starts with the scenario's header, his order and his seed; each round begins and ends at all; what is
+-- handed in leaves the rest of him as he was; and each neighbour's frame is handed on: that of an honest one
+-- as he sends it, that of another as the scenario has it.
 pub record HandOn (s : Scenario) (x : Nodes) : Type 0 where
   pub starts : (g : ℕ) → IsHonest s g
       → (ring : Ring) × (ring.seed ≡ seed_of s.master g)
@@ -130,7 +133,8 @@ NodesRun =
 abbrev pub NodesLogs : Type 0
 NodesLogs =
     (s : Scenario) (x : Nodes) → IsScenario s → s.scripts ≡ [] → HandOn s x
-    → map (λ g. log_of_node (x.after (rounds s.net) g).recorder) (range_with_len 0 s.net.generals) ≡ logs_of_all s
+    → map (λ g. log_of_node (x.after (rounds s.net) g).recorder) (range_with_len 0 s.net.generals)
+    ≡ logs_of_all s
 
 abbrev pub NodesDecisions : Type 0
 NodesDecisions =

@@ -34,102 +34,85 @@ fn tells(alloc: Global, evidence: &[u8], wanted: JobEnd, text: &[u8]) -> bool {
     end == wanted && writer.taken.as_slice() == text
 }
 
+/// How `accuse` by so many workers ends on the split and its commander, and the evidence.
+fn commander_accused<R: Threads + Wait + Sync>(
+    rt: &R,
+    alloc: Global,
+    workers: usize,
+) -> Result<(JobEnd, Vec<u8>), Fail> {
+    let workers = WorkerCount::new(workers).ok_or("no count")?;
+    let bundle = bundle_of(alloc, SPLIT)?;
+    Ok(accused(rt, alloc, workers, &bundle, GeneralNo::at(0)))
+}
+
 #[test]
 fn the_commander_is_convicted(rt: HostRuntime) -> Result<(), Fail> {
-    let alloc = rt.alloc();
-    let (end, evidence) = accused(
-        &rt,
-        alloc,
-        WorkerCount::one(),
-        &bundle_of(alloc, SPLIT)?,
-        GeneralNo::at(0),
-    );
+    let (end, evidence) = commander_accused(&rt, rt.alloc(), 1)?;
     assert!(rt; end == JobEnd::Done && evidence.len() == 33_141);
-    let three = WorkerCount::new(3).ok_or("no count")?;
-    let by_three = accused(
-        &rt,
-        alloc,
-        three,
-        &bundle_of(alloc, SPLIT)?,
-        GeneralNo::at(0),
-    );
-    assert!(rt; by_three.0 == JobEnd::Done && by_three.1.as_slice() == evidence.as_slice());
+    let (end, by_three) = commander_accused(&rt, rt.alloc(), 3)?;
+    assert!(rt; end == JobEnd::Done && by_three.as_slice() == evidence.as_slice());
     Ok(())
+}
+
+/// The numbers of three generals, and of one whom the split hasn't.
+const OTHERS: [u8; 4] = [1, 2, 3, 15];
+
+/// The first of them of whom `accuse` doesn't say no, or writes something.
+fn first_convicted<R: Threads + Wait + Sync>(rt: &R, alloc: Global, bundle: &[u8]) -> Option<u8> {
+    for number in OTHERS {
+        let general = GeneralNo::at(number % 16);
+        let (end, evidence) = accused(rt, alloc, WorkerCount::one(), bundle, general);
+        if end != JobEnd::Negative || !evidence.is_empty() {
+            return Some(number);
+        }
+    }
+    None
 }
 
 #[test]
 fn nobody_else_is_convicted(rt: HostRuntime) -> Result<(), Fail> {
-    let alloc = rt.alloc();
-    let bundle = bundle_of(alloc, SPLIT)?;
-    let generals = [
-        GeneralNo::at(1),
-        GeneralNo::at(2),
-        GeneralNo::at(3),
-        GeneralNo::at(15),
-    ];
-    for general in generals {
-        let (end, evidence) = accused(&rt, alloc, WorkerCount::one(), &bundle, general);
-        assert!(rt; end == JobEnd::Negative && evidence.is_empty());
-    }
+    let bundle = bundle_of(rt.alloc(), SPLIT)?;
+    assert!(rt; first_convicted(&rt, rt.alloc(), &bundle) == None);
     Ok(())
 }
 
+/// How `accuse` ends on a bundle that is cut.
+const CUT_SHORT: JobEnd = JobEnd::Failed(JobFault::Campaign(CampaignFault::Alone(
+    BundleFault::Truncated,
+)));
+
 #[test]
 fn a_cut_bundle_accuses_nobody(rt: HostRuntime) -> Result<(), Fail> {
-    let alloc = rt.alloc();
-    let mut bundle = bundle_of(alloc, SPLIT)?;
+    let mut bundle = bundle_of(rt.alloc(), SPLIT)?;
     let _ = bundle.pop();
-    let (end, evidence) = accused(&rt, alloc, WorkerCount::one(), &bundle, GeneralNo::at(0));
-    assert!(rt;
-        end == JobEnd::Failed(JobFault::Campaign(CampaignFault::Alone(BundleFault::Truncated)))
-    );
-    assert!(rt; evidence.is_empty());
+    let general = GeneralNo::at(0);
+    let (end, evidence) = accused(&rt, rt.alloc(), WorkerCount::one(), &bundle, general);
+    assert!(rt; end == CUT_SHORT && evidence.is_empty());
     Ok(())
 }
 
 #[test]
 fn the_evidence_holds(rt: HostRuntime) -> Result<(), Fail> {
-    let alloc = rt.alloc();
-    let (_, evidence) = accused(
-        &rt,
-        alloc,
-        WorkerCount::one(),
-        &bundle_of(alloc, SPLIT)?,
-        GeneralNo::at(0),
-    );
-    assert!(rt; tells(alloc, &evidence, JobEnd::Done, b"evidence holds\n"));
+    let (_, evidence) = commander_accused(&rt, rt.alloc(), 1)?;
+    assert!(rt; tells(rt.alloc(), &evidence, JobEnd::Done, b"evidence holds\n"));
     Ok(())
 }
 
 #[test]
 fn bent_evidence_fails(rt: HostRuntime) -> Result<(), Fail> {
-    let alloc = rt.alloc();
-    let (_, mut evidence) = accused(
-        &rt,
-        alloc,
-        WorkerCount::one(),
-        &bundle_of(alloc, SPLIT)?,
-        GeneralNo::at(0),
-    );
+    let (_, mut evidence) = commander_accused(&rt, rt.alloc(), 1)?;
     if let Some(last) = evidence.last_mut() {
         *last ^= 128;
     }
-    assert!(rt; tells(alloc, &evidence, JobEnd::Negative, b"evidence fails\n"));
+    assert!(rt; tells(rt.alloc(), &evidence, JobEnd::Negative, b"evidence fails\n"));
     Ok(())
 }
 
 #[test]
 fn cut_evidence_is_refused(rt: HostRuntime) -> Result<(), Fail> {
-    let alloc = rt.alloc();
-    let (_, mut evidence) = accused(
-        &rt,
-        alloc,
-        WorkerCount::one(),
-        &bundle_of(alloc, SPLIT)?,
-        GeneralNo::at(0),
-    );
+    let (_, mut evidence) = commander_accused(&rt, rt.alloc(), 1)?;
     let _ = evidence.pop();
     let wanted = JobEnd::Failed(JobFault::Evidence(EvidenceFault::Truncated));
-    assert!(rt; tells(alloc, &evidence, wanted, b""));
+    assert!(rt; tells(rt.alloc(), &evidence, wanted, b""));
     Ok(())
 }

@@ -260,21 +260,18 @@ fn first_wrong(alloc: Global, runs: &[Hashed<'_>]) -> Result<Option<usize>, Fail
 
 #[test]
 fn bundles_of_runs(rt: HostRuntime) -> Result<(), Fail> {
-    let wrong = first_wrong(rt.alloc(), &RUNS[..4])?;
-    assert!(rt; wrong == None);
+    assert!(rt; first_wrong(rt.alloc(), &RUNS[..4])? == None);
     Ok(())
 }
 
 #[test]
 fn bundles_of_more_runs(rt: HostRuntime) -> Result<(), Fail> {
-    let wrong = first_wrong(rt.alloc(), &RUNS[4..8])?;
-    assert!(rt; wrong == None);
+    assert!(rt; first_wrong(rt.alloc(), &RUNS[4..8])? == None);
     Ok(())
 }
 
 #[test]
 fn bundles_of_the_last_runs(rt: HostRuntime) -> Result<(), Fail> {
-    let wrong = first_wrong(rt.alloc(), &RUNS[8..])?;
-    assert!(rt; wrong == None);
+    assert!(rt; first_wrong(rt.alloc(), &RUNS[8..])? == None);
     Ok(())
 }

@@ -58,19 +58,10 @@ fn is_hashed(bytes: &[u8], wanted: [u8; 32]) -> bool {
 
 #[test]
 fn a_series_is_run(rt: HostRuntime) {
-    let alloc = rt.alloc();
-    assert!(rt;
-        is_hashed(
-            &bundles_of_series(&rt, alloc, Job::Campaign { capacity: 1 }),
-            SERIES_HASH
-        )
-    );
-    assert!(rt;
-        is_hashed(
-            &bundles_of_series(&rt, alloc, Job::Campaign { capacity: 16 }),
-            SERIES_HASH
-        )
-    );
+    let bundles = bundles_of_series(&rt, rt.alloc(), Job::Campaign { capacity: 1 });
+    assert!(rt; is_hashed(&bundles, SERIES_HASH));
+    let bundles = bundles_of_series(&rt, rt.alloc(), Job::Campaign { capacity: 16 });
+    assert!(rt; is_hashed(&bundles, SERIES_HASH));
 }
 
 #[test]
@@ -81,25 +72,31 @@ fn a_series_is_audited(rt: HostRuntime) {
     assert!(rt; end == JobEnd::Done && verdict.as_slice() == SERIES_VERDICT);
 }
 
-#[test]
-fn the_commander_of_a_series_is_accused(rt: HostRuntime) {
-    let alloc = rt.alloc();
-    let bundles = bundles_of_series(&rt, alloc, Job::Campaign { capacity: 1 });
+/// How `evidence` ends on what the job `accuse` writes of these bytes and the commander, and what it writes.
+fn evidence_of<R: Threads + Wait + Sync>(rt: &R, alloc: Global, bytes: &[u8]) -> (JobEnd, Vec<u8>) {
     let general = GeneralNo::at(0);
-    let (_, evidence) = done(&rt, alloc, Job::Accuse { general }, &bundles);
-    let (end, answer) = done(&rt, alloc, Job::Evidence, &evidence);
-    assert!(rt; end == JobEnd::Done && answer.as_slice() == b"evidence holds\n".as_slice());
+    let (_, evidence) = done(rt, alloc, Job::Accuse { general }, bytes);
+    done(rt, alloc, Job::Evidence, &evidence)
 }
 
 #[test]
+fn the_commander_of_a_series_is_accused(rt: HostRuntime) {
+    let bundles = bundles_of_series(&rt, rt.alloc(), Job::Campaign { capacity: 1 });
+    let (end, answer) = evidence_of(&rt, rt.alloc(), &bundles);
+    assert!(rt; end == JobEnd::Done && answer.as_slice() == b"evidence holds\n".as_slice());
+}
+
+/// How the job ends on a campaign of no run.
+const NO_RUN: JobEnd = JobEnd::Failed(JobFault::Scenario(ScenarioFault {
+    kind: LineFault::RunCount,
+    line: 1,
+}));
+
+#[test]
 fn a_campaign_of_no_run_is_refused(rt: HostRuntime) {
-    let alloc = rt.alloc();
-    let (end, bytes) = done(&rt, alloc, Job::Campaign { capacity: 1 }, b"campaign 0\n");
-    let fault = ScenarioFault {
-        kind: LineFault::RunCount,
-        line: 1,
-    };
-    assert!(rt; end == JobEnd::Failed(JobFault::Scenario(fault)) && bytes.is_empty());
+    let job = Job::Campaign { capacity: 1 };
+    let (end, bytes) = done(&rt, rt.alloc(), job, b"campaign 0\n");
+    assert!(rt; end == NO_RUN && bytes.is_empty());
 }
 
 /// Two generals in slot 0.

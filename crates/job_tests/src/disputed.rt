@@ -16,6 +16,7 @@ use gen_local::{Exhibit, Text};
 use gen_log::{Log, last_link, read_log};
 use gen_net::Header;
 use gen_ots::SigRoom;
+use gen_scenario::Scenario;
 use gen_tree::{KeyRing, Signature, general_seed};
 use gen_types::{GeneralNo, GeneralSet, OrderNo, Path, TreeHeight};
 use std::alloc::Global;
@@ -69,14 +70,25 @@ fn digest_of(
     Ok(head_digest(header, &head))
 }
 
-/// The exhibit of a log with these bytes up to its head, which its general seals.
-fn sealed(alloc: Global, header: &Header, number: u8, front: &[u8]) -> Result<Exhibit, Fail> {
-    let general = GeneralNo::new(number).ok_or("no general")?;
+/// The digest of the head of the log with these bytes up to its head.
+fn digest_behind(
+    alloc: Global,
+    header: &Header,
+    general: GeneralNo,
+    front: &[u8],
+) -> Result<[u8; 32], Fail> {
     let mut log = Vec::new(alloc);
     log.extend_from_slice(front)?;
     log.extend_from_slice(&[0; SIGNATURE])?;
-    let digest = digest_of(alloc, header, general, log.as_slice())?;
-    log.truncate(front.len());
+    digest_of(alloc, header, general, log.as_slice())
+}
+
+/// The exhibit of a log with these bytes up to its head, which its general seals.
+fn sealed(alloc: Global, header: &Header, number: u8, front: &[u8]) -> Result<Exhibit, Fail> {
+    let general = GeneralNo::new(number).ok_or("no general")?;
+    let digest = digest_behind(alloc, header, general, front)?;
+    let mut log = Vec::new(alloc);
+    log.extend_from_slice(front)?;
     signed(alloc, general, 15, &digest)?.append_to(&mut log)?;
     Ok(Exhibit::new(general, log)?)
 }
@@ -87,6 +99,21 @@ fn silent(alloc: Global, header: &Header, number: u8) -> Result<Exhibit, Fail> {
     front.extend_from_slice(header.run_id())?;
     front.extend_from_slice(&[0, 0, 0, 0, 0, 0, 0, 2, 1, number, 255, 5, 0, 0, 0])?;
     sealed(alloc, header, number, front.as_slice())
+}
+
+/// Such logs of all generals below this number.
+fn all_silent(alloc: Global, header: &Header, end: u8) -> Result<Vec<Exhibit>, Fail> {
+    let mut exhibits = Vec::new(alloc);
+    for number in 0..end {
+        exhibits.push(silent(alloc, header, number)?)?;
+    }
+    Ok(exhibits)
+}
+
+/// The header of the scenario that a text tells.
+fn header_of(alloc: Global, text: &[u8]) -> Result<Header, Fail> {
+    let scenario = scenario_of(alloc, text)?;
+    Ok(scenario.header().clone()?)
 }
 
 /// The exhibits whose generals have numbers below this, and then those.
@@ -113,48 +140,52 @@ fn is_no<R: Threads + Wait + Sync>(rt: &R, alloc: Global, bundle: &[u8], lines: 
     judges(rt, alloc, bundle, JobEnd::Negative, lines)
 }
 
-#[test]
-fn a_commander_must_have_an_order(rt: HostRuntime) -> Result<(), Fail> {
-    let alloc = rt.alloc();
-    let header = scenario_of(alloc, TRIANGLE)?.header().clone()?;
-    let mut exhibits = Vec::new(alloc);
-    for number in 0..3 {
-        exhibits.push(silent(alloc, &header, number)?)?;
-    }
-    let bundle = bundle_with(alloc, header, GeneralSet::new(), exhibits)?;
-    assert!(rt;
-        is_no(
-            &rt,
-            alloc,
-            &bundle,
-            b"verdict no\nN7 general 0 entry 0\nconvicted 0 by K4\nend\n"
-        )
-    );
-    Ok(())
-}
-
-/// The bundle of the smallest run in which general 1 says that nothing came.
-fn disputed_edge(alloc: Global) -> Result<Vec<u8>, Fail> {
-    let scenario = scenario_of(alloc, PAIR)?;
-    let header = scenario.header().clone()?;
-    let mut others = Vec::new(alloc);
-    others.push(silent(alloc, &header, 1)?)?;
-    let exhibits = exhibits_below(alloc, exhibits_of(alloc, &scenario)?, 1, others)?;
+/// The bundle of three who all say that nothing came.
+fn silence(alloc: Global) -> Result<Vec<u8>, Fail> {
+    let header = header_of(alloc, TRIANGLE)?;
+    let exhibits = all_silent(alloc, &header, 3)?;
     bundle_with(alloc, header, GeneralSet::new(), exhibits)
 }
 
 #[test]
+fn a_commander_must_have_an_order(rt: HostRuntime) -> Result<(), Fail> {
+    let bundle = silence(rt.alloc())?;
+    let lines = b"verdict no\nN7 general 0 entry 0\nconvicted 0 by K4\nend\n";
+    assert!(rt; is_no(&rt, rt.alloc(), &bundle, lines));
+    Ok(())
+}
+
+/// The log of general 1 who says that nothing came.
+fn silent_1(alloc: Global, header: &Header) -> Result<Vec<Exhibit>, Fail> {
+    let mut exhibits = Vec::new(alloc);
+    exhibits.push(silent(alloc, header, 1)?)?;
+    Ok(exhibits)
+}
+
+/// The exhibits of the smallest run in which general 1 says that nothing came.
+fn disputed_exhibits(alloc: Global, scenario: &Scenario) -> Result<Vec<Exhibit>, Fail> {
+    let shown = exhibits_of(alloc, scenario)?;
+    let others = silent_1(alloc, scenario.header())?;
+    exhibits_below(alloc, shown, 1, others)
+}
+
+/// The bundle of that.
+fn disputed_edge(alloc: Global) -> Result<Vec<u8>, Fail> {
+    let scenario = scenario_of(alloc, PAIR)?;
+    let exhibits = disputed_exhibits(alloc, &scenario)?;
+    bundle_with(
+        alloc,
+        scenario.header().clone()?,
+        GeneralSet::new(),
+        exhibits,
+    )
+}
+
+#[test]
 fn an_edge_may_be_disputed(rt: HostRuntime) -> Result<(), Fail> {
-    let alloc = rt.alloc();
-    let bundle = disputed_edge(alloc)?;
-    assert!(rt;
-        is_no(
-            &rt,
-            alloc,
-            &bundle,
-            b"verdict no\nN8 from 0 to 1 round 1 order 1\nend\n"
-        )
-    );
+    let bundle = disputed_edge(rt.alloc())?;
+    let lines = b"verdict no\nN8 from 0 to 1 round 1 order 1\nend\n";
+    assert!(rt; is_no(&rt, rt.alloc(), &bundle, lines));
     Ok(())
 }
 
@@ -202,16 +233,24 @@ fn text_with(alloc: Global, bytes: &[u8]) -> Result<Vec<u8>, Fail> {
 /// The text of the scenario in which general 3 sends the chain of the stolen key.
 pub(crate) fn stolen_text(alloc: Global) -> Result<Vec<u8>, Fail> {
     let no_bytes = text_with(alloc, &[0])?;
-    let header = scenario_of(alloc, &no_bytes)?.header().clone()?;
-    text_with(alloc, stolen_chain(alloc, &header)?.as_slice())
+    let header = header_of(alloc, &no_bytes)?;
+    let chain = stolen_chain(alloc, &header)?;
+    text_with(alloc, chain.as_slice())
+}
+
+/// The scenario with the stolen key.
+fn stolen_scenario(alloc: Global) -> Result<Scenario, Fail> {
+    let text = stolen_text(alloc)?;
+    scenario_of(alloc, &text)
 }
 
 /// The exhibits of 0, 1 and 2 in the run with the stolen key, and its header.
 fn stolen_run(alloc: Global) -> Result<(Header, Vec<Exhibit>), Fail> {
-    let scenario = scenario_of(alloc, &stolen_text(alloc)?)?;
+    let scenario = stolen_scenario(alloc)?;
+    let header = scenario.header().clone()?;
     let shown = exhibits_of(alloc, &scenario)?;
     let exhibits = exhibits_below(alloc, shown, 3, Vec::new(alloc))?;
-    Ok((scenario.header().clone()?, exhibits))
+    Ok((header, exhibits))
 }
 
 /// The general 3 alone.
@@ -301,11 +340,17 @@ fn is_forged(answer: &Refutation) -> bool {
     }
 }
 
+/// The bundle of the stolen key, as it is read.
+fn stolen_bundle_read(alloc: Global) -> Result<Bundle, Fail> {
+    let bytes = stolen_bundle(alloc)?;
+    bundle_in(alloc, &bytes)
+}
+
 #[test]
 fn whose_key_was_stolen_answers_by_his_log(rt: HostRuntime) -> Result<(), Fail> {
-    let alloc = rt.alloc();
-    let bundle = bundle_in(alloc, &stolen_bundle(alloc)?)?;
-    assert!(rt; is_forged(&answer_to_conviction(&rt, alloc, &bundle)?));
+    let bundle = stolen_bundle_read(rt.alloc())?;
+    let answer = answer_to_conviction(&rt, rt.alloc(), &bundle)?;
+    assert!(rt; is_forged(&answer));
     Ok(())
 }
 
@@ -326,14 +371,24 @@ fn bent_front(alloc: Global, log: &[u8]) -> Result<Vec<u8>, Fail> {
     Err("no such chain".into())
 }
 
-#[test]
-fn a_signature_may_be_bent(rt: HostRuntime) -> Result<(), Fail> {
-    let alloc = rt.alloc();
+/// The log of general 2 with that, sealed anew.
+fn bent_exhibit(alloc: Global, header: &Header, log: &[u8]) -> Result<Exhibit, Fail> {
+    let front = bent_front(alloc, log)?;
+    sealed(alloc, header, 2, front.as_slice())
+}
+
+/// The bundle of the stolen key in which general 2 shows that.
+fn bent_bundle(alloc: Global) -> Result<Vec<u8>, Fail> {
     let (header, mut exhibits) = stolen_run(alloc)?;
     let last = exhibits.pop().ok_or("no exhibit")?;
-    exhibits.push(sealed(alloc, &header, 2, bent_front(alloc, last.log())?.as_slice())?)?;
-    let bundle = bundle_with(alloc, header, the_thief(), exhibits)?;
+    exhibits.push(bent_exhibit(alloc, &header, last.log())?)?;
+    bundle_with(alloc, header, the_thief(), exhibits)
+}
+
+#[test]
+fn a_signature_may_be_bent(rt: HostRuntime) -> Result<(), Fail> {
+    let bundle = bent_bundle(rt.alloc())?;
     let lines = b"verdict no\nN5 general 2 entry 6\nN9 from 3 to 2 round 2 order 0\nend\n";
-    assert!(rt; is_no(&rt, alloc, &bundle, lines));
+    assert!(rt; is_no(&rt, rt.alloc(), &bundle, lines));
     Ok(())
 }

@@ -1,5 +1,5 @@
-//! The job `draw`: it writes pictures of bundles and of campaigns. Their digests were given by another program, in
-//! Python.
+//! The job `draw`: it writes pictures of bundles and of campaigns. Their digests were given by another
+//! program, in Python.
 ghost use Rattle.gen_jobs.specs.Ranges.{IsInRange};
 
 use crate::bundles::bundle_of;

@@ -8,33 +8,44 @@ use gen_convict::EvidenceFault;
 use gen_jobs::{JobEnd, JobFault, Output, deliver, read_all, write_output};
 use gen_net::HeaderFault;
 use gen_report::{LineFault, ScenarioFault};
+use std::alloc::Global;
 use std::test::*;
+
+/// What is read of the line by pieces of three bytes, where this call fails.
+fn line_read(alloc: Global, call: u32) -> Result<Vec<u8>, JobFault> {
+    let mut reader = source_of(LINE_WITHOUT_SEED, 3, call, Slip::Fails);
+    read_all(alloc, &mut reader)
+}
 
 #[test]
 fn reads_all(rt: HostRuntime) {
-    let alloc = rt.alloc();
-    let mut reader = source_of(LINE_WITHOUT_SEED, 3, 0, Slip::Fails);
     assert!(rt;
-        matches!(read_all(alloc, &mut reader), Ok(all) if all.as_slice() == LINE_WITHOUT_SEED)
+        matches!(&line_read(rt.alloc(), 0), Ok(all) if all.as_slice() == LINE_WITHOUT_SEED)
     );
-    let mut reader = source_of(LINE_WITHOUT_SEED, 3, 2, Slip::Fails);
-    assert!(rt; matches!(read_all(alloc, &mut reader), Err(JobFault::Read)));
+    assert!(rt; matches!(&line_read(rt.alloc(), 2), Err(JobFault::Read)));
+}
+
+/// Whether an output that says no, or doesn't, is written twice, once by each call, with this end.
+fn is_written(alloc: Global, negative: bool, want: JobEnd) -> Result<bool, Fail> {
+    let text = LINE_DECISIONS.to_vec(alloc)?;
+    let output = Output { text, negative };
+    let mut writer = sink_for(alloc, 3, 0, Slip::Fails);
+    let written = write_output(&mut writer, &output);
+    let delivered = deliver(&mut writer, Ok(output));
+    let taken = writer.taken.as_slice();
+    Ok(
+        written == want
+            && delivered == want
+            && taken.len() == 2 * LINE_DECISIONS.len()
+            && taken.starts_with(LINE_DECISIONS)
+            && taken.ends_with(LINE_DECISIONS),
+    )
 }
 
 #[test]
 fn writes_all(rt: HostRuntime) -> Result<(), Fail> {
-    let alloc = rt.alloc();
-    for (negative, want) in [(false, JobEnd::Done), (true, JobEnd::Negative)] {
-        let text = LINE_DECISIONS.to_vec(alloc)?;
-        let output = Output { text, negative };
-        let mut writer = sink_for(alloc, 3, 0, Slip::Fails);
-        assert!(rt; write_output(&mut writer, &output) == want);
-        assert!(rt; deliver(&mut writer, Ok(output)) == want);
-        assert!(rt; writer.taken.len() == 2 * LINE_DECISIONS.len());
-        assert!(rt;
-            writer.taken.starts_with(LINE_DECISIONS) && writer.taken.ends_with(LINE_DECISIONS)
-        );
-    }
+    assert!(rt; is_written(rt.alloc(), false, JobEnd::Done)?);
+    assert!(rt; is_written(rt.alloc(), true, JobEnd::Negative)?);
     Ok(())
 }
 
@@ -46,46 +57,66 @@ fn writes_nothing_at_a_fault(rt: HostRuntime) {
     assert!(rt; writer.taken.is_empty());
 }
 
+/// A fault in place of an answer, the status of the end, and its line.
+type Case = (JobFault, u8, &'static str);
+
+const CASES: [Case; 9] = [
+    (
+        JobFault::Scenario(ScenarioFault {
+            kind: LineFault::Shape,
+            line: 3,
+        }),
+        3,
+        "fault P2 line 3",
+    ),
+    (
+        JobFault::Campaign(CampaignFault::Alone(BundleFault::Truncated)),
+        3,
+        "fault B1",
+    ),
+    (
+        JobFault::Campaign(CampaignFault::Alone(BundleFault::BadHeader(HeaderFault::OrderCount))),
+        3,
+        "fault B3 H6",
+    ),
+    (
+        JobFault::Campaign(CampaignFault::Alone(BundleFault::OutOfOrder)),
+        3,
+        "fault B9",
+    ),
+    (JobFault::Evidence(EvidenceFault::Truncated), 3, "fault V1"),
+    (JobFault::Memory, 4, "memory"),
+    (JobFault::Thread, 4, "thread"),
+    (JobFault::Read, 5, "read failed"),
+    (JobFault::Write, 5, "write failed"),
+];
+
+/// Whether a fault ends a job with its status, is the end's, and is shown in its line.
+fn is_shown(alloc: Global, case: &Case) -> Result<bool, Fail> {
+    let (fault, status, line) = *case;
+    let end = JobEnd::Failed(fault);
+    let shown = fault.to_string(alloc)?;
+    Ok(end.status() == status && end.fault() == Some(fault) && shown.as_str() == line)
+}
+
+/// The index of the first case that is not so.
+fn first_wrong(alloc: Global) -> Result<Option<usize>, Fail> {
+    for (index, case) in CASES.iter().enumerate() {
+        if !is_shown(alloc, case)? {
+            return Ok(Some(index));
+        }
+    }
+    Ok(None)
+}
+
 #[test]
-fn shows_ends(rt: HostRuntime) -> Result<(), Fail> {
-    let fault = ScenarioFault {
-        kind: LineFault::Shape,
-        line: 3,
-    };
-    let cases = [
-        (JobFault::Scenario(fault), 3, "fault P2 line 3"),
-        (
-            JobFault::Campaign(CampaignFault::Alone(BundleFault::Truncated)),
-            3,
-            "fault B1",
-        ),
-        (
-            JobFault::Campaign(CampaignFault::Alone(BundleFault::BadHeader(
-                HeaderFault::OrderCount,
-            ))),
-            3,
-            "fault B3 H6",
-        ),
-        (
-            JobFault::Campaign(CampaignFault::Alone(BundleFault::OutOfOrder)),
-            3,
-            "fault B9",
-        ),
-        (JobFault::Evidence(EvidenceFault::Truncated), 3, "fault V1"),
-        (JobFault::Memory, 4, "memory"),
-        (JobFault::Thread, 4, "thread"),
-        (JobFault::Read, 5, "read failed"),
-        (JobFault::Write, 5, "write failed"),
-    ];
-    for (fault, status, line) in cases {
-        let end = JobEnd::Failed(fault);
-        assert!(rt; end.status() == status);
-        assert!(rt; end.fault() == Some(fault));
-        assert!(rt; fault.to_string(rt.alloc())?.as_str() == line);
-    }
-    for (end, status) in [(JobEnd::Done, 0), (JobEnd::Negative, 1)] {
-        assert!(rt; end.status() == status);
-        assert!(rt; end.fault().is_none());
-    }
+fn shows_faults(rt: HostRuntime) -> Result<(), Fail> {
+    assert!(rt; first_wrong(rt.alloc())? == None);
     Ok(())
+}
+
+#[test]
+fn shows_ends(rt: HostRuntime) {
+    assert!(rt; JobEnd::Done.status() == 0 && JobEnd::Done.fault().is_none());
+    assert!(rt; JobEnd::Negative.status() == 1 && JobEnd::Negative.fault().is_none());
 }

@@ -88,12 +88,14 @@ fn many_workers_judge_runs(rt: HostRuntime) {
     assert!(rt; first_wrong(&rt, rt.alloc(), 2, 16) == None);
 }
 
+/// How the job ends on a scenario without a seed.
+const NO_SEED: JobEnd = JobEnd::Failed(JobFault::Scenario(ScenarioFault {
+    kind: LineFault::BadSeed,
+    line: 8,
+}));
+
 #[test]
 fn a_seed_is_missed(rt: HostRuntime) {
     let (end, bytes) = judge_by(&rt, rt.alloc(), PAIR_WITHOUT_SEED, 1, 1);
-    let fault = ScenarioFault {
-        kind: LineFault::BadSeed,
-        line: 8,
-    };
-    assert!(rt; end == JobEnd::Failed(JobFault::Scenario(fault)) && bytes.is_empty());
+    assert!(rt; end == NO_SEED && bytes.is_empty());
 }

@@ -1,10 +1,10 @@
 //! This crate has the tests of `gen_jobs`, `gen_judge` and `gen_program`.
 //!
-//! `scenarios` has the texts, `streams` a reader and a writer that slip, and `bundles` makes bundles without
-//! the crate under test. `deciding`, `running`, `judging`, `campaigning`, `auditing`, `drawing`, `accusing` and
-//! `disputed` have the jobs, `over_bytes` the calls without reader and writer, `in_place` those without
-//! threads, `limits` the largest inputs, `ends` how jobs end, `words` the words that ask for jobs, and
-//! `workers` audits by several workers.
+//! `scenarios` has the texts, `streams` a reader and a writer that slip, and `bundles` makes bundles
+//! without the crate under test. `deciding`, `running`, `judging`, `campaigning`, `auditing`, `drawing`,
+//! `accusing` and `disputed` have the jobs, `over_bytes` the calls without reader and writer, `in_place`
+//! those without threads, `limits` the largest inputs, `ends` how jobs end, `words` the words that ask for
+//! jobs, and `workers` audits by several workers.
 #![tactic(auto)]
 
 #[cfg(test)]

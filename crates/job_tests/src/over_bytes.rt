@@ -42,15 +42,16 @@ fn split_evidence<R: Threads + Wait + Sync>(rt: &R, alloc: Global) -> Result<Vec
     Ok(evidence)
 }
 
+/// The fault of a text of nothing.
+const NOTHING: JobFault = JobFault::Scenario(ScenarioFault {
+    kind: LineFault::Unfinished,
+    line: 1,
+});
+
 #[test]
 fn decides_a_text(rt: HostRuntime) {
-    let alloc = rt.alloc();
-    assert!(rt; is_text(&decide(alloc, SPLIT), SPLIT_DECISIONS, false));
-    let fault = ScenarioFault {
-        kind: LineFault::Unfinished,
-        line: 1,
-    };
-    assert!(rt; is_fault(&decide(alloc, b""), JobFault::Scenario(fault)));
+    assert!(rt; is_text(&decide(rt.alloc(), SPLIT), SPLIT_DECISIONS, false));
+    assert!(rt; is_fault(&decide(rt.alloc(), b""), NOTHING));
 }
 
 /// Whether the run of the split has its bundle, with the text whole.
@@ -71,70 +72,75 @@ fn runs_in_pieces<R: Threads + Wait + Sync>(rt: &R, alloc: Global) -> Result<boo
 
 #[test]
 fn runs_a_text(rt: HostRuntime) -> Result<(), Fail> {
-    let alloc = rt.alloc();
-    let right = runs_whole(&rt, alloc)? && runs_in_pieces(&rt, alloc)?;
-    assert!(rt; right);
-    let fault = ScenarioFault {
-        kind: LineFault::BadSeed,
-        line: 8,
-    };
-    assert!(rt;
-        is_fault(
-            &run(&rt, alloc, 1, PAIR_WITHOUT_SEED),
-            JobFault::Scenario(fault)
-        )
-    );
+    assert!(rt; runs_whole(&rt, rt.alloc())?);
+    assert!(rt; runs_in_pieces(&rt, rt.alloc())?);
     Ok(())
+}
+
+/// The fault of a text without a seed.
+const NO_SEED: JobFault = JobFault::Scenario(ScenarioFault {
+    kind: LineFault::BadSeed,
+    line: 8,
+});
+
+#[test]
+fn runs_no_text_without_a_seed(rt: HostRuntime) {
+    assert!(rt; is_fault(&run(&rt, rt.alloc(), 1, PAIR_WITHOUT_SEED), NO_SEED));
+}
+
+/// The last lines of the verdict on the split.
+const SPLIT_VERDICT: &[u8] = b"verdict agreed 0\nconvicted 0 by K2\nend\n";
+
+/// Whether the answer is no no, and ends in these lines.
+fn ends_in(answer: &Result<Output, JobFault>, lines: &[u8]) -> bool {
+    match answer {
+        Ok(output) => !output.negative && output.text.as_slice().ends_with(lines),
+        Err(_) => false,
+    }
 }
 
 #[test]
 fn audits_bytes(rt: HostRuntime) -> Result<(), Fail> {
-    let alloc = rt.alloc();
-    let answer = audit(&rt, alloc, WorkerCount::one(), &bundle_of(alloc, SPLIT)?);
-    let lines = b"verdict agreed 0\nconvicted 0 by K2\nend\n";
-    assert!(rt; matches!(&answer, Ok(o) if !o.negative && o.text.as_slice().ends_with(lines)));
-    assert!(rt;
-        is_fault(
-            &audit(&rt, alloc, WorkerCount::one(), b""),
-            JobFault::Campaign(CampaignFault::Alone(BundleFault::Truncated))
-        )
-    );
+    let bundle = bundle_of(rt.alloc(), SPLIT)?;
+    let answer = audit(&rt, rt.alloc(), WorkerCount::one(), &bundle);
+    assert!(rt; ends_in(&answer, SPLIT_VERDICT));
     Ok(())
 }
 
 #[test]
+fn audits_no_bytes(rt: HostRuntime) {
+    let fault = JobFault::Campaign(CampaignFault::Alone(BundleFault::Truncated));
+    assert!(rt; is_fault(&audit(&rt, rt.alloc(), WorkerCount::one(), b""), fault));
+}
+
+/// Whether the answer to a general's accusation by this bundle is this text, and says no or doesn't.
+fn accuses<R: Threads + Wait + Sync>(
+    rt: &R,
+    alloc: Global,
+    bundle: &[u8],
+    general: GeneralNo,
+    answer: (&[u8], bool),
+) -> bool {
+    let accused = accuse(rt, alloc, WorkerCount::one(), general, bundle);
+    is_text(&accused, answer.0, answer.1)
+}
+
+#[test]
 fn accuses_by_bytes(rt: HostRuntime) -> Result<(), Fail> {
-    let alloc = rt.alloc();
-    let bundle = bundle_of(alloc, SPLIT)?;
-    let wanted = split_evidence(&rt, alloc)?;
-    assert!(rt;
-        is_text(
-            &accuse(&rt, alloc, WorkerCount::one(), GeneralNo::at(0), &bundle),
-            &wanted,
-            false
-        )
-    );
-    assert!(rt;
-        is_text(
-            &accuse(&rt, alloc, WorkerCount::one(), GeneralNo::at(1), &bundle),
-            b"",
-            true
-        )
-    );
+    let bundle = bundle_of(rt.alloc(), SPLIT)?;
+    let wanted = split_evidence(&rt, rt.alloc())?;
+    let answer = (wanted.as_slice(), false);
+    assert!(rt; accuses(&rt, rt.alloc(), &bundle, GeneralNo::at(0), answer));
+    assert!(rt; accuses(&rt, rt.alloc(), &bundle, GeneralNo::at(1), (b"", true)));
     Ok(())
 }
 
 #[test]
 fn checks_bytes(rt: HostRuntime) -> Result<(), Fail> {
-    let alloc = rt.alloc();
-    let held = evidence(alloc, &split_evidence(&rt, alloc)?);
-    assert!(rt; is_text(&held, b"evidence holds\n", false));
-    assert!(rt;
-        is_fault(
-            &evidence(alloc, b""),
-            JobFault::Evidence(EvidenceFault::Truncated)
-        )
-    );
+    let held = split_evidence(&rt, rt.alloc())?;
+    assert!(rt; is_text(&evidence(rt.alloc(), &held), b"evidence holds\n", false));
+    let fault = JobFault::Evidence(EvidenceFault::Truncated);
+    assert!(rt; is_fault(&evidence(rt.alloc(), b""), fault));
     Ok(())
 }
 
@@ -182,14 +188,20 @@ fn a_job_is_done_by_its_engine(rt: HostRuntime) -> Result<(), Fail> {
     Ok(())
 }
 
+/// An accusation of the commander.
+fn accusation() -> Job
+    ensures { IsInRange result }
+{
+    Job::Accuse {
+        general: GeneralNo::commander(),
+    }
+}
+
 #[test]
 fn a_general_is_accused_by_his_engine(rt: HostRuntime) -> Result<(), Fail> {
-    let alloc = rt.alloc();
-    let job = Job::Accuse {
-        general: GeneralNo::at(0),
-    };
-    let (end, evidence) = done(&rt, alloc, job, &bundle_of(alloc, SPLIT)?);
+    let bundle = bundle_of(rt.alloc(), SPLIT)?;
+    let (end, evidence) = done(&rt, rt.alloc(), accusation(), &bundle);
     assert!(rt; end == JobEnd::Done);
-    assert!(rt; written(&rt, alloc, Job::Evidence, &evidence) == Some(15));
+    assert!(rt; written(&rt, rt.alloc(), Job::Evidence, &evidence) == Some(15));
     Ok(())
 }

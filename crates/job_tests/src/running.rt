@@ -54,6 +54,18 @@ fn writes_count<R: Threads + Wait + Sync>(
     end == JobEnd::Done && bytes.len() == count
 }
 
+/// Whether the job writes the bundle of a text's run.
+fn writes_bundle<R: Threads + Wait + Sync>(
+    rt: &R,
+    alloc: Global,
+    text: &[u8],
+    capacity: u8,
+) -> Result<bool, Fail> {
+    let wanted = bundle_of(alloc, text)?;
+    let (end, bytes) = run_on(rt, alloc, text, capacity);
+    Ok(end == JobEnd::Done && bytes.as_slice() == wanted.as_slice())
+}
+
 /// The index of the first text for which the job doesn't write the bundle of its run.
 fn first_wrong<R: Threads + Wait + Sync>(
     rt: &R,
@@ -62,8 +74,7 @@ fn first_wrong<R: Threads + Wait + Sync>(
     capacity: u8,
 ) -> Result<Option<usize>, Fail> {
     for (index, text) in texts.iter().enumerate() {
-        let (end, bytes) = run_on(rt, alloc, text, capacity);
-        if end != JobEnd::Done || bytes.as_slice() != bundle_of(alloc, text)?.as_slice() {
+        if !writes_bundle(rt, alloc, text, capacity)? {
             return Ok(Some(index));
         }
     }
@@ -71,38 +82,32 @@ fn first_wrong<R: Threads + Wait + Sync>(
 }
 
 #[test]
-fn bundle_of_a_pair(rt: HostRuntime) -> Result<(), Fail> {
-    let least = writes_count(&rt, rt.alloc(), PAIR, 1, 66_250);
-    let more = writes_count(&rt, rt.alloc(), PAIR, 2, 66_250)
-        && writes_count(&rt, rt.alloc(), PAIR, 16, 66_250);
-    assert!(rt; least && more);
-    Ok(())
+fn bundle_of_a_pair(rt: HostRuntime) {
+    assert!(rt; writes_count(&rt, rt.alloc(), PAIR, 1, 66_250));
+    assert!(rt; writes_count(&rt, rt.alloc(), PAIR, 2, 66_250));
+    assert!(rt; writes_count(&rt, rt.alloc(), PAIR, 16, 66_250));
 }
 
 #[test]
-fn bundle_in_a_slot(rt: HostRuntime) -> Result<(), Fail> {
+fn bundle_in_a_slot(rt: HostRuntime) {
     assert!(rt; writes_count(&rt, rt.alloc(), PAIR_IN_SLOT, 1, 66_507));
-    Ok(())
 }
 
 #[test]
 fn bundles_are_of_the_run(rt: HostRuntime) -> Result<(), Fail> {
-    let wrong = first_wrong(&rt, rt.alloc(), &RUNS[..4], 1)?;
-    assert!(rt; wrong == None);
+    assert!(rt; first_wrong(&rt, rt.alloc(), &RUNS[..4], 1)? == None);
     Ok(())
 }
 
 #[test]
 fn bundles_are_of_more_runs(rt: HostRuntime) -> Result<(), Fail> {
-    let wrong = first_wrong(&rt, rt.alloc(), &RUNS[4..], 1)?;
-    assert!(rt; wrong == None);
+    assert!(rt; first_wrong(&rt, rt.alloc(), &RUNS[4..], 1)? == None);
     Ok(())
 }
 
 #[test]
 fn bundles_are_of_the_run_with_room(rt: HostRuntime) -> Result<(), Fail> {
-    let wrong = first_wrong(&rt, rt.alloc(), &RUNS[..4], 16)?;
-    assert!(rt; wrong == None);
+    assert!(rt; first_wrong(&rt, rt.alloc(), &RUNS[..4], 16)? == None);
     Ok(())
 }
 
@@ -119,24 +124,30 @@ fn without_last(bundle: Vec<u8>, len: usize) -> Vec<u8> {
     left
 }
 
-#[test]
-fn bundle_of_a_stolen_key(rt: HostRuntime) -> Result<(), Fail> {
-    let alloc = rt.alloc();
-    let (end, bundle) = run_on(&rt, alloc, &stolen_text(alloc)?, 1);
-    let wanted = stolen_bundle(alloc)?;
-    let left = without_last(bundle, wanted.len());
-    assert!(rt; end == JobEnd::Done && left.as_slice() == wanted.as_slice());
-    assert!(rt; is_of_stolen_key(&rt, alloc, &left));
-    Ok(())
+/// How the job ends on the text of the stolen key, and what it writes.
+fn run_stolen<R: Threads + Wait + Sync>(rt: &R, alloc: Global) -> Result<(JobEnd, Vec<u8>), Fail> {
+    let text = stolen_text(alloc)?;
+    Ok(run_on(rt, alloc, &text, 1))
 }
 
 #[test]
-fn a_seed_is_missed(rt: HostRuntime) -> Result<(), Fail> {
-    let (end, bytes) = run_on(&rt, rt.alloc(), PAIR_WITHOUT_SEED, 1);
-    let fault = ScenarioFault {
-        kind: LineFault::BadSeed,
-        line: 8,
-    };
-    assert!(rt; end == JobEnd::Failed(JobFault::Scenario(fault)) && bytes.is_empty());
+fn bundle_of_a_stolen_key(rt: HostRuntime) -> Result<(), Fail> {
+    let wanted = stolen_bundle(rt.alloc())?;
+    let (end, bundle) = run_stolen(&rt, rt.alloc())?;
+    let left = without_last(bundle, wanted.len());
+    assert!(rt; end == JobEnd::Done && left.as_slice() == wanted.as_slice());
+    assert!(rt; is_of_stolen_key(&rt, rt.alloc(), &left));
     Ok(())
+}
+
+/// How the job ends on a scenario without a seed.
+const NO_SEED: JobEnd = JobEnd::Failed(JobFault::Scenario(ScenarioFault {
+    kind: LineFault::BadSeed,
+    line: 8,
+}));
+
+#[test]
+fn a_seed_is_missed(rt: HostRuntime) {
+    let (end, bytes) = run_on(&rt, rt.alloc(), PAIR_WITHOUT_SEED, 1);
+    assert!(rt; end == NO_SEED && bytes.is_empty());
 }

@@ -15,31 +15,52 @@ fn asks<'a>(alloc: Global, words: &'a [&'a str], job: Job) -> bool {
     }
 }
 
+/// Words, and the number that they name.
+type Numbered = (&'static [&'static str], u8);
+
+const RUNS: [Numbered; 4] = [
+    (&["sm_tool", "run"], 1),
+    (&["sm_tool", "run", "--capacity", "1"], 1),
+    (&["sm_tool", "run", "--capacity=9"], 9),
+    (&["sm_tool", "run", "--capacity", "16"], 16),
+];
+
+/// The index of the first words that do not ask for a run over edges of their room.
+fn first_other_run(alloc: Global) -> Option<usize> {
+    for (index, (words, capacity)) in RUNS.iter().enumerate() {
+        let capacity = *capacity;
+        if !asks(alloc, *words, Job::Run { capacity }) {
+            return Some(index);
+        }
+    }
+    None
+}
+
 #[test]
 fn runs_take_a_capacity(rt: HostRuntime) {
-    let alloc = rt.alloc();
-    let rows: [(&[&str], u8); 4] = [
-        (&["sm_tool", "run"], 1),
-        (&["sm_tool", "run", "--capacity", "1"], 1),
-        (&["sm_tool", "run", "--capacity=9"], 9),
-        (&["sm_tool", "run", "--capacity", "16"], 16),
-    ];
-    for (words, capacity) in rows {
-        assert!(rt; asks(alloc, words, Job::Run { capacity }));
+    assert!(rt; first_other_run(rt.alloc()) == None);
+}
+
+const CAMPAIGNS: [Numbered; 3] = [
+    (&["sm_tool", "campaign"], 1),
+    (&["sm_tool", "campaign", "--capacity", "16"], 16),
+    (&["sm_tool", "campaign", "--capacity=9"], 9),
+];
+
+/// The index of the first words that do not ask for a campaign over edges of their room.
+fn first_other_campaign(alloc: Global) -> Option<usize> {
+    for (index, (words, capacity)) in CAMPAIGNS.iter().enumerate() {
+        let capacity = *capacity;
+        if !asks(alloc, *words, Job::Campaign { capacity }) {
+            return Some(index);
+        }
     }
+    None
 }
 
 #[test]
 fn campaigns_take_a_capacity(rt: HostRuntime) {
-    let alloc = rt.alloc();
-    let rows: [(&[&str], u8); 3] = [
-        (&["sm_tool", "campaign"], 1),
-        (&["sm_tool", "campaign", "--capacity", "16"], 16),
-        (&["sm_tool", "campaign", "--capacity=9"], 9),
-    ];
-    for (words, capacity) in rows {
-        assert!(rt; asks(alloc, words, Job::Campaign { capacity }));
-    }
+    assert!(rt; first_other_campaign(rt.alloc()) == None);
 }
 
 /// Returns whether the words ask for an audit by so many workers.
@@ -50,18 +71,26 @@ fn asks_workers<'a>(alloc: Global, words: &'a [&'a str], count: usize) -> bool {
     }
 }
 
+const AUDITS: [Numbered; 4] = [
+    (&["sm_tool", "audit"], 1),
+    (&["sm_tool", "audit", "--workers", "1"], 1),
+    (&["sm_tool", "audit", "--workers=9"], 9),
+    (&["sm_tool", "audit", "--workers", "16"], 16),
+];
+
+/// The index of the first words that do not ask for an audit by their workers.
+fn first_other_audit(alloc: Global) -> Option<usize> {
+    for (index, (words, count)) in AUDITS.iter().enumerate() {
+        if !asks_workers(alloc, *words, usize::from(*count)) {
+            return Some(index);
+        }
+    }
+    None
+}
+
 #[test]
 fn audits_take_workers(rt: HostRuntime) {
-    let alloc = rt.alloc();
-    let rows: [(&[&str], usize); 4] = [
-        (&["sm_tool", "audit"], 1),
-        (&["sm_tool", "audit", "--workers", "1"], 1),
-        (&["sm_tool", "audit", "--workers=9"], 9),
-        (&["sm_tool", "audit", "--workers", "16"], 16),
-    ];
-    for (words, count) in rows {
-        assert!(rt; asks_workers(alloc, words, count));
-    }
+    assert!(rt; first_other_audit(rt.alloc()) == None);
 }
 
 /// Returns whether the words ask for a picture by so many workers.
@@ -72,17 +101,25 @@ fn asks_drawers<'a>(alloc: Global, words: &'a [&'a str], count: usize) -> bool {
     }
 }
 
+const PICTURES: [Numbered; 3] = [
+    (&["sm_tool", "draw"], 1),
+    (&["sm_tool", "draw", "--workers=9"], 9),
+    (&["sm_tool", "draw", "--workers", "16"], 16),
+];
+
+/// The index of the first words that do not ask for a picture by their workers.
+fn first_other_picture(alloc: Global) -> Option<usize> {
+    for (index, (words, count)) in PICTURES.iter().enumerate() {
+        if !asks_drawers(alloc, *words, usize::from(*count)) {
+            return Some(index);
+        }
+    }
+    None
+}
+
 #[test]
 fn pictures_take_workers(rt: HostRuntime) {
-    let alloc = rt.alloc();
-    let rows: [(&[&str], usize); 3] = [
-        (&["sm_tool", "draw"], 1),
-        (&["sm_tool", "draw", "--workers=9"], 9),
-        (&["sm_tool", "draw", "--workers", "16"], 16),
-    ];
-    for (words, count) in rows {
-        assert!(rt; asks_drawers(alloc, words, count));
-    }
+    assert!(rt; first_other_picture(rt.alloc()) == None);
 }
 
 /// Returns whether the words ask for a run over edges of so much room that so many workers judge.
@@ -93,18 +130,27 @@ fn asks_judges<'a>(alloc: Global, words: &'a [&'a str], capacity: u8, count: usi
     }
 }
 
+/// Words, and the room and the workers that they name.
+const JUDGES: [(&[&str], u8, usize); 4] = [
+    (&["sm_tool", "judge"], 1, 1),
+    (&["sm_tool", "judge", "--workers", "16"], 1, 16),
+    (&["sm_tool", "judge", "--capacity=16"], 16, 1),
+    (&["sm_tool", "judge", "--workers=2", "--capacity=3"], 3, 2),
+];
+
+/// The index of the first words that do not ask for that.
+fn first_other_judge(alloc: Global) -> Option<usize> {
+    for (index, (words, capacity, count)) in JUDGES.iter().enumerate() {
+        if !asks_judges(alloc, *words, *capacity, *count) {
+            return Some(index);
+        }
+    }
+    None
+}
+
 #[test]
 fn judges_take_both(rt: HostRuntime) {
-    let alloc = rt.alloc();
-    let rows: [(&[&str], u8, usize); 4] = [
-        (&["sm_tool", "judge"], 1, 1),
-        (&["sm_tool", "judge", "--workers", "16"], 1, 16),
-        (&["sm_tool", "judge", "--capacity=16"], 16, 1),
-        (&["sm_tool", "judge", "--workers=2", "--capacity=3"], 3, 2),
-    ];
-    for (words, capacity, count) in rows {
-        assert!(rt; asks_judges(alloc, words, capacity, count));
-    }
+    assert!(rt; first_other_judge(rt.alloc()) == None);
 }
 
 /// Returns whether a command that takes both is refused for its capacity.
@@ -124,17 +170,26 @@ fn the_capacity_is_looked_at_first(rt: HostRuntime) {
     assert!(rt; is_bad_capacity(alloc, "--capacity=17", "--workers=1") == Some(true));
 }
 
+const ACCUSED: [Numbered; 3] = [
+    (&["sm_tool", "accuse", "--general", "0"], 0),
+    (&["sm_tool", "accuse", "--general=7"], 7),
+    (&["sm_tool", "accuse", "--general", "15"], 15),
+];
+
+/// The index of the first words that do not accuse their general.
+fn first_other_accused(alloc: Global) -> Option<usize> {
+    for (index, (words, number)) in ACCUSED.iter().enumerate() {
+        let general = GeneralNo::at(*number % 16);
+        if !asks(alloc, *words, Job::Accuse { general }) {
+            return Some(index);
+        }
+    }
+    None
+}
+
 #[test]
 fn somebody_is_accused(rt: HostRuntime) {
-    let alloc = rt.alloc();
-    let rows: [(&[&str], GeneralNo); 3] = [
-        (&["sm_tool", "accuse", "--general", "0"], GeneralNo::at(0)),
-        (&["sm_tool", "accuse", "--general=7"], GeneralNo::at(7)),
-        (&["sm_tool", "accuse", "--general", "15"], GeneralNo::at(15)),
-    ];
-    for (words, general) in rows {
-        assert!(rt; asks(alloc, words, Job::Accuse { general }));
-    }
+    assert!(rt; first_other_accused(rt.alloc()) == None);
 }
 
 #[test]
@@ -152,41 +207,49 @@ fn is_bad_number(alloc: Global, command: &str, option: &str) -> bool {
     }
 }
 
+/// Commands, each with an option whose number is out of range.
+const OUT_OF_RANGE: [(&str, &str); 10] = [
+    ("run", "--capacity=0"),
+    ("run", "--capacity=17"),
+    ("run", "--capacity=256"),
+    ("campaign", "--capacity=0"),
+    ("campaign", "--capacity=17"),
+    ("audit", "--workers=0"),
+    ("audit", "--workers=17"),
+    ("draw", "--workers=0"),
+    ("accuse", "--general=16"),
+    ("accuse", "--general=255"),
+];
+
+/// The same, whose number is no decimal one.
+const NOT_DECIMAL: [(&str, &str); 7] = [
+    ("run", "--capacity=017"),
+    ("run", "--capacity=01"),
+    ("run", "--capacity=+1"),
+    ("run", "--capacity=one"),
+    ("accuse", "--general=00"),
+    ("accuse", "--general=-1"),
+    ("accuse", "--general=0x1"),
+];
+
+/// The index of the first of these that is not refused for its number.
+fn first_good_number(alloc: Global, rows: &[(&str, &str)]) -> Option<usize> {
+    for (index, (command, option)) in rows.iter().enumerate() {
+        if !is_bad_number(alloc, *command, *option) {
+            return Some(index);
+        }
+    }
+    None
+}
+
 #[test]
 fn numbers_are_in_their_range(rt: HostRuntime) {
-    let alloc = rt.alloc();
-    let rows = [
-        ("run", "--capacity=0"),
-        ("run", "--capacity=17"),
-        ("run", "--capacity=256"),
-        ("campaign", "--capacity=0"),
-        ("campaign", "--capacity=17"),
-        ("audit", "--workers=0"),
-        ("audit", "--workers=17"),
-        ("draw", "--workers=0"),
-        ("accuse", "--general=16"),
-        ("accuse", "--general=255"),
-    ];
-    for (command, option) in rows {
-        assert!(rt; is_bad_number(alloc, command, option));
-    }
+    assert!(rt; first_good_number(rt.alloc(), &OUT_OF_RANGE) == None);
 }
 
 #[test]
 fn numbers_are_decimal(rt: HostRuntime) {
-    let alloc = rt.alloc();
-    let rows = [
-        ("run", "--capacity=017"),
-        ("run", "--capacity=01"),
-        ("run", "--capacity=+1"),
-        ("run", "--capacity=one"),
-        ("accuse", "--general=00"),
-        ("accuse", "--general=-1"),
-        ("accuse", "--general=0x1"),
-    ];
-    for (command, option) in rows {
-        assert!(rt; is_bad_number(alloc, command, option));
-    }
+    assert!(rt; first_good_number(rt.alloc(), &NOT_DECIMAL) == None);
 }
 
 /// Returns whether the words have a fault of this kind.
@@ -195,24 +258,33 @@ fn has_kind(alloc: Global, words: &[&str], kind: ErrorKind) -> bool {
     matches!(&read, Err(WordsFault::Words(e)) if e.kind() == kind)
 }
 
+/// Words with an option at a command that hasn't it, each with the kind of its fault.
+const MISPLACED: [(&[&str], ErrorKind); 4] = [
+    (&["sm_tool", "accuse"], ErrorKind::MissingRequiredArgument),
+    (
+        &["sm_tool", "run", "--general=1"],
+        ErrorKind::UnknownArgument,
+    ),
+    (
+        &["sm_tool", "decide", "--capacity=1"],
+        ErrorKind::UnknownArgument,
+    ),
+    (&["sm_tool", "evidence", "1"], ErrorKind::UnknownArgument),
+];
+
+/// The index of the first of these with another fault.
+fn first_other_kind(alloc: Global) -> Option<usize> {
+    for (index, (words, kind)) in MISPLACED.iter().enumerate() {
+        if !has_kind(alloc, *words, *kind) {
+            return Some(index);
+        }
+    }
+    None
+}
+
 #[test]
 fn options_stand_at_their_commands(rt: HostRuntime) {
-    let alloc = rt.alloc();
-    let rows: [(&[&str], ErrorKind); 4] = [
-        (&["sm_tool", "accuse"], ErrorKind::MissingRequiredArgument),
-        (
-            &["sm_tool", "run", "--general=1"],
-            ErrorKind::UnknownArgument,
-        ),
-        (
-            &["sm_tool", "decide", "--capacity=1"],
-            ErrorKind::UnknownArgument,
-        ),
-        (&["sm_tool", "evidence", "1"], ErrorKind::UnknownArgument),
-    ];
-    for (words, want) in rows {
-        assert!(rt; has_kind(alloc, words, want));
-    }
+    assert!(rt; first_other_kind(rt.alloc()) == None);
 }
 
 /// Returns whether the fault is told in this line.
@@ -221,14 +293,15 @@ fn is_told(alloc: Global, fault: WordsFault, wanted: &str) -> Result<bool, Fail>
     Ok(line.as_str() == wanted)
 }
 
+/// The lines of two faults.
+const OF_CAPACITY: &str = "error: --capacity takes a number from 1 to 16; for more, try '--help'";
+
+const OF_GENERAL: &str = "error: --general takes a number from 0 to 15; for more, try '--help'";
+
 #[test]
 fn a_bad_number_is_told_in_one_line(rt: HostRuntime) -> Result<(), Fail> {
-    let alloc = rt.alloc();
-    let line = "error: --capacity takes a number from 1 to 16; for more, try '--help'";
-    let capacity = is_told(alloc, WordsFault::BadCapacity, line)?;
-    let line = "error: --general takes a number from 0 to 15; for more, try '--help'";
-    let general = is_told(alloc, WordsFault::BadGeneral, line)?;
-    assert!(rt; capacity && general);
+    assert!(rt; is_told(rt.alloc(), WordsFault::BadCapacity, OF_CAPACITY)?);
+    assert!(rt; is_told(rt.alloc(), WordsFault::BadGeneral, OF_GENERAL)?);
     Ok(())
 }
 
@@ -275,7 +348,6 @@ fn first_wrong(alloc: Global, rows: &[(&[&str], ErrorKind)]) -> Result<Option<us
 
 #[test]
 fn other_words_are_refused(rt: HostRuntime) -> Result<(), Fail> {
-    let wrong = first_wrong(rt.alloc(), &REFUSED)?;
-    assert!(rt; wrong == None);
+    assert!(rt; first_wrong(rt.alloc(), &REFUSED)? == None);
     Ok(())
 }

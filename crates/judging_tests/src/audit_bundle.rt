@@ -38,13 +38,31 @@ fn cuts_are_short(alloc: Global, bytes: &[u8]) -> bool {
     true
 }
 
-/// The place in the list of the first case that is not so: the byte at a place is changed to this one, and
-/// the bundle of version 1 has this fault then.
-fn first_wrong(
-    alloc: Global,
-    cases: &[(usize, u8, BundleFault)],
-) -> Result<Option<usize>, AllocError> {
-    for (place, (index, byte, fault)) in cases.iter().enumerate() {
+/// A place, the byte that stands there then, and the fault of the bundle of version 1 then.
+type Case = (usize, u8, BundleFault);
+
+const CASES: [Case; 16] = [
+    (0, b'T', BundleFault::UnknownMark),
+    (3, b'3', BundleFault::UnknownMark),
+    (3, b'2', BundleFault::BadHeader(HeaderFault::UnknownVersion)),
+    (4, 2, BundleFault::BadHeader(HeaderFault::UnknownVersion)),
+    (4, 3, BundleFault::BadHeader(HeaderFault::UnknownVersion)),
+    (8, 1, BundleFault::BadHeader(HeaderFault::OrderCount)),
+    (78, 4, BundleFault::FaultyRange),
+    (79, 121, BundleFault::WalkCount),
+    (80, 1, BundleFault::WalkCount),
+    (80, 17, BundleFault::WalkCount),
+    (81, 2, BundleFault::BadWalk),
+    (81, 1, BundleFault::BadWalk),
+    (83, 65, BundleFault::BadExhibit),
+    (84, 2, BundleFault::BadExhibit),
+    (92, 0, BundleFault::OutOfOrder),
+    (96, 1, BundleFault::LeftOver),
+];
+
+/// The index of the first case that is not so.
+fn first_wrong(alloc: Global) -> Result<Option<usize>, AllocError> {
+    for (place, (index, byte, fault)) in CASES.iter().enumerate() {
         let mut bytes = bundle_bytes(alloc, &FRONT)?;
         if let Some(changed) = bytes.get_mut(*index) {
             *changed = *byte;
@@ -109,23 +127,31 @@ fn first_front(bundle: &Bundle) -> Option<[u8; 5]> {
     }
 }
 
+/// The bundle of version 1.
+fn whole_bundle(alloc: Global) -> Result<Bundle, Fail> {
+    let bytes = bundle_bytes(alloc, &FRONT)?;
+    read_bundle(alloc, &bytes).map_err(|_| "no bundle".into())
+}
+
+/// Whether what stands before the exhibits of a bundle begins these bytes, and how long it is.
+fn front_begins(alloc: Global, bundle: &Bundle, bytes: &[u8]) -> Result<(bool, usize), Fail> {
+    let front = bundle_front(alloc, bundle)?;
+    Ok((bytes.starts_with(&front), front.len()))
+}
+
 #[test]
 fn written_in_pieces(rt: HostRuntime) -> Result<(), Fail> {
-    let alloc = rt.alloc();
-    let bytes = bundle_bytes(alloc, &FRONT)?;
-    let bundle = read_bundle(alloc, &bytes).map_err(|_| "no bundle")?;
-    let front = bundle_front(alloc, &bundle)?;
-    assert!(rt; front.len() == 84 && bytes.starts_with(&front));
+    let bundle = whole_bundle(rt.alloc())?;
+    let bytes = bundle_bytes(rt.alloc(), &FRONT)?;
+    assert!(rt; front_begins(rt.alloc(), &bundle, &bytes)? == (true, 84));
     assert!(rt; first_front(&bundle) == Some([1, 0, 0, 0, 3]));
     Ok(())
 }
 
 #[test]
 fn read_and_written_again(rt: HostRuntime) -> Result<(), Fail> {
-    let alloc = rt.alloc();
-    let bytes = bundle_bytes(alloc, &FRONT)?;
-    let bundle = read_bundle(alloc, &bytes).map_err(|_| "no bundle")?;
-    assert!(rt; write_bundle(alloc, &bundle)?.as_slice() == bytes.as_slice());
+    let bundle = whole_bundle(rt.alloc())?;
+    assert!(rt; write_bundle(rt.alloc(), &bundle)? == bundle_bytes(rt.alloc(), &FRONT)?);
     assert!(rt; bundle.header().slot() == 0 && bundle.faulty().is_empty());
     assert!(rt; bundle.walks().as_slice().len() == 1 && bundle.exhibits().len() == 2);
     Ok(())
@@ -145,27 +171,7 @@ fn each_cut_and_one_byte_more(rt: HostRuntime) -> Result<(), Fail> {
 
 #[test]
 fn each_fault(rt: HostRuntime) -> Result<(), Fail> {
-    let other_version = BundleFault::BadHeader(HeaderFault::UnknownVersion);
-    let cases = [
-        (0, b'T', BundleFault::UnknownMark),
-        (3, b'3', BundleFault::UnknownMark),
-        (3, b'2', other_version),
-        (4, 2, other_version),
-        (4, 3, other_version),
-        (8, 1, BundleFault::BadHeader(HeaderFault::OrderCount)),
-        (78, 4, BundleFault::FaultyRange),
-        (79, 121, BundleFault::WalkCount),
-        (80, 1, BundleFault::WalkCount),
-        (80, 17, BundleFault::WalkCount),
-        (81, 2, BundleFault::BadWalk),
-        (81, 1, BundleFault::BadWalk),
-        (83, 65, BundleFault::BadExhibit),
-        (84, 2, BundleFault::BadExhibit),
-        (92, 0, BundleFault::OutOfOrder),
-        (96, 1, BundleFault::LeftOver),
-    ];
-    let wrong = first_wrong(rt.alloc(), &cases)?;
-    assert!(rt; wrong.is_none());
+    assert!(rt; first_wrong(rt.alloc())? == None);
     Ok(())
 }
 
@@ -182,10 +188,8 @@ fn made_of_parts(rt: HostRuntime) -> Result<(), Fail> {
 
 #[test]
 fn texts_of_faults(rt: HostRuntime) -> Result<(), Fail> {
-    let alloc = rt.alloc();
     let header = BundleFault::BadHeader(HeaderFault::OrderCount);
-    assert!(rt; format!(in alloc; "{header}")?.as_str() == "B3 H6");
-    let walk = BundleFault::BadWalk;
-    assert!(rt; format!(in alloc; "{walk}")?.as_str() == "B6");
+    assert!(rt; header.to_string(rt.alloc())?.as_str() == "B3 H6");
+    assert!(rt; BundleFault::BadWalk.to_string(rt.alloc())?.as_str() == "B6");
     Ok(())
 }

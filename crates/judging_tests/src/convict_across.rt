@@ -130,9 +130,9 @@ fn runs_of_other_slots_convict_nobody(rt: HostRuntime) -> Result<(), Fail> {
 
 // The commander's statement of an order in a run.
 fn text_of(alloc: Global, header: Header, number: u8) -> Result<RunText, Fail> {
-    let signature = statement_signed(alloc, &header, number, &[0])?;
     let order = OrderNo::new(number).ok_or("no order")?;
     let path = path_of(&[0])?;
+    let signature = statement_signed(alloc, &header, number, &[0])?;
     let text = SignedText {
         signer: GeneralNo::commander(),
         text: Text::OfStatement(Statement { order, path }),
@@ -141,14 +141,23 @@ fn text_of(alloc: Global, header: Header, number: u8) -> Result<RunText, Fail> {
     Ok(RunText { header, text })
 }
 
-// The evidence that the commander's order 1 of the first run is another text than this order of the second.
+// The commander's statement of an order in a run with so many traitors and of this slot.
+fn text_in(alloc: Global, run: (u8, u8), number: u8) -> Result<RunText, Fail> {
+    let header = header_in_slot(alloc, run.0, run.1)?;
+    text_of(alloc, header, number)
+}
+
+// The claim that the commander's order 1 of the first run is another text than this order of the second.
+fn two_texts(alloc: Global, second: (u8, u8), order: u8) -> Result<Claim, Fail> {
+    let first = text_in(alloc, (0, 0), 1)?;
+    let second = text_in(alloc, second, order)?;
+    Ok(Claim::Across { first, second })
+}
+
+// The evidence of that, with the header of the first run.
 fn two_runs(alloc: Global, second: (u8, u8), order: u8) -> Result<(Header, Evidence), Fail> {
     let header = header_in_slot(alloc, 0, 0)?;
-    let other = header_in_slot(alloc, second.0, second.1)?;
-    let claim = Claim::Across {
-        first: text_of(alloc, header.clone()?, 1)?,
-        second: text_of(alloc, other, order)?,
-    };
+    let claim = two_texts(alloc, second, order)?;
     let accused = GeneralNo::commander();
     Ok((header, Evidence { accused, claim }))
 }

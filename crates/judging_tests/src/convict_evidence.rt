@@ -101,12 +101,14 @@ fn fault_of(alloc: Global, bytes: &[u8]) -> Option<ReadError<EvidenceFault>> {
     read_evidence(alloc, bytes).err()
 }
 
-/// The place in the list of the first case that is not so: the byte at a place is changed to this one, and
-/// the evidence has this fault then.
+/// A place, the byte that stands there then, and the fault of the evidence then.
+type Case = (usize, u8, EvidenceFault);
+
+/// The index of the first case that is not so.
 fn first_wrong(
     alloc: Global,
     evidence: &[u8],
-    cases: &[(usize, u8, EvidenceFault)],
+    cases: &[Case],
 ) -> Result<Option<usize>, AllocError> {
     for (place, (index, byte, fault)) in cases.iter().enumerate() {
         let mut bytes = Vec::from_slice(alloc, evidence)?;
@@ -131,17 +133,24 @@ fn cuts_are_short(alloc: Global, bytes: &[u8], first: usize, last: usize) -> boo
     true
 }
 
+/// The number of the accused and the slot of evidence of version 1 of these parts.
+fn told_of_parts(alloc: Global, parts: &[&[u8]], length: usize) -> Result<(u8, u8), Fail> {
+    let bytes = evidence_of(alloc, parts)?;
+    accused_and_slot(alloc, &bytes, length)
+}
+
 #[test]
 fn each_kind_is_read_and_written_again(rt: HostRuntime) -> Result<(), Fail> {
-    let alloc = rt.alloc();
-    let texts = evidence_of(alloc, &TEXTS)?;
-    let orders = evidence_of(alloc, &ORDERS)?;
-    let missing = evidence_of(alloc, &MISSING)?;
-    let departs = departing(alloc)?;
-    assert!(rt; accused_and_slot(alloc, &texts, 33_185)? == (1, 0));
-    assert!(rt; accused_and_slot(alloc, &orders, 33_141)? == (0, 0));
-    assert!(rt; accused_and_slot(alloc, &missing, 16_638)? == (1, 0));
-    assert!(rt; accused_and_slot(alloc, &departs, 125)? == (1, 0));
+    assert!(rt; told_of_parts(rt.alloc(), &TEXTS, 33_185)? == (1, 0));
+    assert!(rt; told_of_parts(rt.alloc(), &ORDERS, 33_141)? == (0, 0));
+    assert!(rt; told_of_parts(rt.alloc(), &MISSING, 16_638)? == (1, 0));
+    Ok(())
+}
+
+#[test]
+fn a_log_that_departs_is_read_and_written_again(rt: HostRuntime) -> Result<(), Fail> {
+    let departs = departing(rt.alloc())?;
+    assert!(rt; accused_and_slot(rt.alloc(), &departs, 125)? == (1, 0));
     Ok(())
 }
 
@@ -165,59 +174,62 @@ fn one_byte_more(rt: HostRuntime) -> Result<(), Fail> {
     Ok(())
 }
 
+const FRONT_AND_ORDERS: [Case; 12] = [
+    (0, b'T', EvidenceFault::UnknownMark),
+    (2, b'B', EvidenceFault::UnknownMark),
+    (3, b'3', EvidenceFault::UnknownMark),
+    (
+        3,
+        b'2',
+        EvidenceFault::BadHeader(HeaderFault::UnknownVersion),
+    ),
+    (4, 2, EvidenceFault::BadHeader(HeaderFault::UnknownVersion)),
+    (4, 3, EvidenceFault::BadHeader(HeaderFault::UnknownVersion)),
+    (8, 1, EvidenceFault::BadHeader(HeaderFault::OrderCount)),
+    (113, 3, EvidenceFault::OutOfRange),
+    (114, 0, EvidenceFault::OutOfRange),
+    (114, 5, EvidenceFault::OutOfRange),
+    (115, 2, EvidenceFault::OutOfRange),
+    (16_628, 2, EvidenceFault::OutOfRange),
+];
+
 #[test]
 fn faults_of_the_front_and_of_orders(rt: HostRuntime) -> Result<(), Fail> {
-    let other_version = EvidenceFault::BadHeader(HeaderFault::UnknownVersion);
-    let cases = [
-        (0, b'T', EvidenceFault::UnknownMark),
-        (2, b'B', EvidenceFault::UnknownMark),
-        (3, b'3', EvidenceFault::UnknownMark),
-        (3, b'2', other_version),
-        (4, 2, other_version),
-        (4, 3, other_version),
-        (8, 1, EvidenceFault::BadHeader(HeaderFault::OrderCount)),
-        (113, 3, EvidenceFault::OutOfRange),
-        (114, 0, EvidenceFault::OutOfRange),
-        (114, 5, EvidenceFault::OutOfRange),
-        (115, 2, EvidenceFault::OutOfRange),
-        (16_628, 2, EvidenceFault::OutOfRange),
-    ];
     let orders = evidence_of(rt.alloc(), &ORDERS)?;
-    let wrong = first_wrong(rt.alloc(), &orders, &cases)?;
-    assert!(rt; wrong.is_none());
+    assert!(rt; first_wrong(rt.alloc(), &orders, &FRONT_AND_ORDERS)? == None);
     Ok(())
 }
+
+const IN_TEXTS: [Case; 9] = [
+    (115, 0, EvidenceFault::OutOfRange),
+    (115, 3, EvidenceFault::OutOfRange),
+    (116, 2, EvidenceFault::OutOfRange),
+    (117, 0, EvidenceFault::OutOfRange),
+    (117, 3, EvidenceFault::OutOfRange),
+    (118, 1, EvidenceFault::OutOfRange),
+    (119, 0, EvidenceFault::OutOfRange),
+    (119, 3, EvidenceFault::OutOfRange),
+    (16_632, 0, EvidenceFault::OutOfRange),
+];
 
 #[test]
 fn faults_of_texts(rt: HostRuntime) -> Result<(), Fail> {
-    let cases = [
-        (115, 0, EvidenceFault::OutOfRange),
-        (115, 3, EvidenceFault::OutOfRange),
-        (116, 2, EvidenceFault::OutOfRange),
-        (117, 0, EvidenceFault::OutOfRange),
-        (117, 3, EvidenceFault::OutOfRange),
-        (118, 1, EvidenceFault::OutOfRange),
-        (119, 0, EvidenceFault::OutOfRange),
-        (119, 3, EvidenceFault::OutOfRange),
-        (16_632, 0, EvidenceFault::OutOfRange),
-    ];
     let texts = evidence_of(rt.alloc(), &TEXTS)?;
-    let wrong = first_wrong(rt.alloc(), &texts, &cases)?;
-    assert!(rt; wrong.is_none());
+    assert!(rt; first_wrong(rt.alloc(), &texts, &IN_TEXTS)? == None);
     Ok(())
 }
 
+const IN_A_LOG: [Case; 4] = [
+    (115, 1, EvidenceFault::Truncated),
+    (121, 2, EvidenceFault::OutOfRange),
+    (122, 2, EvidenceFault::OutOfRange),
+    (125, 0, EvidenceFault::OutOfRange),
+];
+
 #[test]
 fn faults_of_a_log_and_a_statement(rt: HostRuntime) -> Result<(), Fail> {
-    let cases = [
-        (115, 1, EvidenceFault::Truncated),
-        (121, 2, EvidenceFault::OutOfRange),
-        (122, 2, EvidenceFault::OutOfRange),
-        (125, 0, EvidenceFault::OutOfRange),
-    ];
     let missing = evidence_of(rt.alloc(), &MISSING)?;
-    let wrong = first_wrong(rt.alloc(), &missing, &cases)?;
-    assert!(rt; wrong.is_none());
+    assert!(rt; first_wrong(rt.alloc(), &missing, &IN_A_LOG)? == None);
     Ok(())
 }
 
@@ -230,34 +242,32 @@ fn evidence_across_is_read_and_written_again(rt: HostRuntime) -> Result<(), Fail
     Ok(())
 }
 
+const IN_THE_OTHER_HEADER: [Case; 7] = [
+    (
+        116,
+        1,
+        EvidenceFault::BadHeader(HeaderFault::UnknownVersion),
+    ),
+    (117, 1, EvidenceFault::OtherLeaves),
+    (117, 4, EvidenceFault::BadHeader(HeaderFault::SlotRange)),
+    (119, 1, EvidenceFault::OtherLeaves),
+    (130, 8, EvidenceFault::OtherLeaves),
+    (226, 3, EvidenceFault::OutOfRange),
+    (227, 2, EvidenceFault::OutOfRange),
+];
+
 #[test]
 fn faults_of_the_other_header(rt: HostRuntime) -> Result<(), Fail> {
-    let cases = [
-        (
-            116,
-            1,
-            EvidenceFault::BadHeader(HeaderFault::UnknownVersion),
-        ),
-        (117, 1, EvidenceFault::OtherLeaves),
-        (117, 4, EvidenceFault::BadHeader(HeaderFault::SlotRange)),
-        (119, 1, EvidenceFault::OtherLeaves),
-        (130, 8, EvidenceFault::OtherLeaves),
-        (226, 3, EvidenceFault::OutOfRange),
-        (227, 2, EvidenceFault::OutOfRange),
-    ];
     let across = across(rt.alloc())?;
-    let wrong = first_wrong(rt.alloc(), &across, &cases)?;
-    assert!(rt; wrong.is_none());
+    assert!(rt; first_wrong(rt.alloc(), &across, &IN_THE_OTHER_HEADER)? == None);
     Ok(())
 }
 
 #[test]
 fn texts_of_faults(rt: HostRuntime) -> Result<(), Fail> {
-    let alloc = rt.alloc();
     let header = EvidenceFault::BadHeader(HeaderFault::OrderCount);
-    let range = EvidenceFault::OutOfRange;
-    assert!(rt; format!(in alloc; "{header}")?.as_str() == "V3 H6");
-    assert!(rt; format!(in alloc; "{range}")?.as_str() == "V4");
+    assert!(rt; header.to_string(rt.alloc())?.as_str() == "V3 H6");
+    assert!(rt; EvidenceFault::OutOfRange.to_string(rt.alloc())?.as_str() == "V4");
     Ok(())
 }
 

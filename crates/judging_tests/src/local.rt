@@ -59,11 +59,13 @@ const DECIDE_1: &[u8] = &[5, 0, 2, 1];
 // The edges of four generals who are all neighbours.
 const COMPLETE_4: [(u8, u8); 6] = [(0, 1), (0, 2), (0, 3), (1, 2), (1, 3), (2, 3)];
 
-#[test]
-fn silent_on_a_ring(rt: HostRuntime) -> Result<(), Fail> {
-    let edges = [(0, 1), (1, 2), (2, 3), (3, 4), (4, 5), (5, 0)];
-    let header = header_of(rt.alloc(), 6, &edges, 1, 4)?;
-    let silent: &[&[u8]] = &[
+// The edges of a ring of six.
+const RING: [(u8, u8); 6] = [(0, 1), (1, 2), (2, 3), (3, 4), (4, 5), (5, 0)];
+
+// The log of general 3 there, who is silent.
+const SILENT: [Case<'static>; 1] = [(
+    4,
+    &[
         &[1, 3, 255],
         &[4, 2, 1, 3, 0],
         SIG,
@@ -78,8 +80,14 @@ fn silent_on_a_ring(rt: HostRuntime) -> Result<(), Fail> {
         &[4],
         SIG,
         DECIDE_1,
-    ];
-    assert!(rt; first_wrong(rt.alloc(), &header, &[(4, silent, Some(3))])? == None);
+    ],
+    Some(3),
+)];
+
+#[test]
+fn silent_on_a_ring(rt: HostRuntime) -> Result<(), Fail> {
+    let header = header_of(rt.alloc(), 6, &RING, 1, 4)?;
+    assert!(rt; first_wrong(rt.alloc(), &header, &SILENT)? == None);
     Ok(())
 }
 
@@ -91,55 +99,68 @@ const SEND: &[u8] = &[3, 1, 1, 1, 0];
 
 const RECV: &[u8] = &[4, 0, 1, 1, 0];
 
+// Logs of both generals of the smallest run.
+const IN_THE_SMALLEST_RUN: [Case<'static>; 9] = [
+    (4, &[START_0, SIGN, SIG, SEND, DECIDE_1], None),
+    (3, &[START_0, SIGN, SIG, DECIDE_1], Some(2)),
+    (3, &[START_0, SEND, DECIDE_1], Some(1)),
+    (4, &[START_0, SIGN, SIG, SEND, &[5, 0, 1, 0]], Some(3)),
+    (4, &[START_0, SIGN, SIG, SEND, &[5, 0, 2, 0]], Some(3)),
+    (3, &[START_0, RECV, SIG, DECIDE_1], Some(1)),
+    (3, &[&[1, 1, 255], RECV, SIG, DECIDE_1], None),
+    (2, &[&[1, 1, 255], DECIDE_1], Some(1)),
+    (3, &[&[1, 1, 255], RECV, SIG, &[5, 0, 0, 0]], Some(2)),
+];
+
 #[test]
 fn smallest_run(rt: HostRuntime) -> Result<(), Fail> {
     let header = header_of(rt.alloc(), 2, &[(0, 1)], 0, 1)?;
-    let cases: &[Case<'_>] = &[
-        (4, &[START_0, SIGN, SIG, SEND, DECIDE_1], None),
-        (3, &[START_0, SIGN, SIG, DECIDE_1], Some(2)),
-        (3, &[START_0, SEND, DECIDE_1], Some(1)),
-        (4, &[START_0, SIGN, SIG, SEND, &[5, 0, 1, 0]], Some(3)),
-        (4, &[START_0, SIGN, SIG, SEND, &[5, 0, 2, 0]], Some(3)),
-        (3, &[START_0, RECV, SIG, DECIDE_1], Some(1)),
-        (3, &[&[1, 1, 255], RECV, SIG, DECIDE_1], None),
-        (2, &[&[1, 1, 255], DECIDE_1], Some(1)),
-        (3, &[&[1, 1, 255], RECV, SIG, &[5, 0, 0, 0]], Some(2)),
-    ];
-    assert!(rt; first_wrong(rt.alloc(), &header, cases)? == None);
+    assert!(rt; first_wrong(rt.alloc(), &header, &IN_THE_SMALLEST_RUN)? == None);
     Ok(())
 }
+
+// Logs of general 2 in two rounds: one at whom a stolen order came, and one who skipped a neighbour.
+const IN_TWO_ROUNDS: [Case<'static>; 2] = [
+    (
+        8,
+        &[
+            &[1, 2, 255],
+            RECV,
+            SIG,
+            &[2, 1, 2, 0, 2],
+            SIG,
+            &[3, 1, 1, 2, 0, 2],
+            &[3, 3, 1, 2, 0, 2],
+            &[4, 1, 1, 2, 0],
+            SIG,
+            &[1],
+            SIG,
+            &[4, 3, 0, 2, 0],
+            SIG,
+            &[3],
+            SIG,
+            &[5, 0, 3, 0],
+        ],
+        None,
+    ),
+    (
+        5,
+        &[
+            &[1, 2, 255],
+            RECV,
+            SIG,
+            &[2, 1, 2, 0, 2],
+            SIG,
+            &[3, 3, 1, 2, 0, 2],
+            DECIDE_1,
+        ],
+        Some(3),
+    ),
+];
 
 #[test]
 fn two_rounds(rt: HostRuntime) -> Result<(), Fail> {
     let header = header_of(rt.alloc(), 4, &COMPLETE_4, 1, 1)?;
-    let stolen: &[&[u8]] = &[
-        &[1, 2, 255],
-        RECV,
-        SIG,
-        &[2, 1, 2, 0, 2],
-        SIG,
-        &[3, 1, 1, 2, 0, 2],
-        &[3, 3, 1, 2, 0, 2],
-        &[4, 1, 1, 2, 0],
-        SIG,
-        &[1],
-        SIG,
-        &[4, 3, 0, 2, 0],
-        SIG,
-        &[3],
-        SIG,
-        &[5, 0, 3, 0],
-    ];
-    let skipped: &[&[u8]] = &[
-        &[1, 2, 255],
-        RECV,
-        SIG,
-        &[2, 1, 2, 0, 2],
-        SIG,
-        &[3, 3, 1, 2, 0, 2],
-        DECIDE_1,
-    ];
-    let cases: &[Case<'_>] = &[(8, stolen, None), (5, skipped, Some(3))];
-    assert!(rt; first_wrong(rt.alloc(), &header, cases)? == None);
+    assert!(rt; first_wrong(rt.alloc(), &header, &IN_TWO_ROUNDS)? == None);
     Ok(())
 }

@@ -6,7 +6,7 @@ use crate::world_runs::without_scripts;
 use gen_async::Machine;
 use gen_log::{SealedLog, entry_bytes};
 use gen_types::GeneralNo;
-use gen_world::run_world;
+use gen_world::{Scenario, run_world};
 use std::alloc::{AllocError, Global};
 use std::test::Fail;
 
@@ -70,16 +70,26 @@ fn have_whole_logs(
     Ok(whole)
 }
 
-#[test]
-fn an_isolated_general_has_decide_from_the_start(rt: HostRuntime) -> Result<(), Fail> {
-    let alloc = rt.alloc();
+/// The scenario of two neighbours.
+fn pair_of(alloc: Global) -> Result<Scenario, Fail> {
+    without_scripts(alloc, 2, &[(0, 1)], (0, 1))
+}
+
+/// What generals 2 and 1 of three, of whom 2 has no neighbour, have written at the start.
+fn written_at_start(alloc: Global) -> Result<(Vec<u8>, Vec<u8>), Fail> {
     let scenario = without_scripts(alloc, 3, &[(0, 1)], (0, 1))?;
     let machine = Machine::new(alloc, &scenario, 1)?;
     let alone = so_far(alloc, &machine, 2);
     let other = so_far(alloc, &machine, 1);
     machine.close();
-    assert!(rt; alone?.as_slice() == [1, 2, 255, 5, 0, 0, 0].as_slice());
-    assert!(rt; other?.as_slice() == [1, 1, 255].as_slice());
+    Ok((alone?, other?))
+}
+
+#[test]
+fn an_isolated_general_has_decide_from_the_start(rt: HostRuntime) -> Result<(), Fail> {
+    let (alone, other) = written_at_start(rt.alloc())?;
+    assert!(rt; alone.as_slice() == [1, 2, 255, 5, 0, 0, 0].as_slice());
+    assert!(rt; other.as_slice() == [1, 1, 255].as_slice());
     Ok(())
 }
 
@@ -91,28 +101,36 @@ fn put_then_take(alloc: Global, machine: &mut Machine) -> Result<(Vec<u8>, Vec<u
     Ok((before, so_far(alloc, machine, 1)?))
 }
 
-#[test]
-fn decide_comes_with_the_last_act(rt: HostRuntime) -> Result<(), Fail> {
-    let alloc = rt.alloc();
-    let scenario = without_scripts(alloc, 2, &[(0, 1)], (0, 1))?;
+/// The same in the machine of two neighbours.
+fn written_by_pair(alloc: Global) -> Result<(Vec<u8>, Vec<u8>), Fail> {
+    let scenario = pair_of(alloc)?;
     let mut machine = Machine::new(alloc, &scenario, 1)?;
     let written = put_then_take(alloc, &mut machine);
     machine.close();
-    let (before, after) = written?;
-    assert!(rt; before.as_slice() == [1, 1, 255].as_slice());
-    assert!(rt; after.as_slice().ends_with(&[5, 0, 2, 1]));
+    Ok(written?)
+}
+
+/// Whether these are the bytes of all entries of general 1's log in their run.
+fn are_all_of_1(alloc: Global, bytes: &[u8]) -> Result<bool, Fail> {
+    let scenario = pair_of(alloc)?;
     let run = run_world(alloc, &scenario)?;
-    assert!(rt;
-        run.logs()
-            .get(1)
-            .is_some_and(|log| are_all_of(after.as_slice(), log))
-    );
-    Ok(())
+    match run.logs().get(1) {
+        Some(log) => Ok(are_all_of(bytes, log)),
+        None => Ok(false),
+    }
 }
 
 #[test]
-fn decide_is_by_the_recvs_that_are_written(rt: HostRuntime) -> Result<(), Fail> {
-    let alloc = rt.alloc();
+fn decide_comes_with_the_last_act(rt: HostRuntime) -> Result<(), Fail> {
+    let (before, after) = written_by_pair(rt.alloc())?;
+    assert!(rt; before.as_slice() == [1, 1, 255].as_slice());
+    assert!(rt; after.as_slice().ends_with(&[5, 0, 2, 1]));
+    assert!(rt; are_all_of_1(rt.alloc(), after.as_slice())?);
+    Ok(())
+}
+
+/// What general 1 has written, how many acts moved, and whether all logs are whole then, where he hides.
+fn hidden(alloc: Global) -> Result<(Vec<u8>, u32, bool), Fail> {
     let scenario = scenario_of(alloc, HIDING)?;
     let run = run_world(alloc, &scenario)?;
     let mut machine = Machine::new(alloc, &scenario, 1)?;
@@ -120,8 +138,14 @@ fn decide_is_by_the_recvs_that_are_written(rt: HostRuntime) -> Result<(), Fail> 
     let whole = have_whole_logs(alloc, &machine, run.logs());
     let hidden = so_far(alloc, &machine, 1);
     machine.close();
-    assert!(rt; moved? == 8 && whole?);
-    assert!(rt; hidden?.as_slice() == [1, 1, 255, 5, 0, 0, 0].as_slice());
+    Ok((hidden?, moved?, whole?))
+}
+
+#[test]
+fn decide_is_by_the_recvs_that_are_written(rt: HostRuntime) -> Result<(), Fail> {
+    let (hidden, moved, whole) = hidden(rt.alloc())?;
+    assert!(rt; moved == 8 && whole);
+    assert!(rt; hidden.as_slice() == [1, 1, 255, 5, 0, 0, 0].as_slice());
     Ok(())
 }
 
@@ -138,21 +162,29 @@ fn waiting(machine: &Machine, (from, to): (u8, u8), place: usize) -> (usize, Opt
     }
 }
 
+/// How many frames wait and how many parcels the first has: of what 0 and 1 have put, of what stands behind
+/// that of 0, and when 1 has taken it.
+fn waits(alloc: Global, machine: &mut Machine) -> Result<[(usize, Option<usize>); 4], AllocError> {
+    act_all(alloc, machine, &[0, 1])?;
+    let order = waiting(machine, (0, 1), 0);
+    let nothing = waiting(machine, (1, 0), 0);
+    let behind = waiting(machine, (0, 1), 1);
+    act_all(alloc, machine, &[1])?;
+    Ok([order, nothing, behind, waiting(machine, (0, 1), 0)])
+}
+
+/// The same in the machine of two neighbours.
+fn waits_of_pair(alloc: Global) -> Result<[(usize, Option<usize>); 4], Fail> {
+    let scenario = pair_of(alloc)?;
+    let mut machine = Machine::new(alloc, &scenario, 1)?;
+    let waits = waits(alloc, &mut machine);
+    machine.close();
+    Ok(waits?)
+}
+
 #[test]
 fn frames_wait_until_they_are_taken(rt: HostRuntime) -> Result<(), Fail> {
-    let alloc = rt.alloc();
-    let scenario = without_scripts(alloc, 2, &[(0, 1)], (0, 1))?;
-    let mut machine = Machine::new(alloc, &scenario, 1)?;
-    let put = act_all(alloc, &mut machine, &[0, 1]);
-    let order = waiting(&machine, (0, 1), 0);
-    let nothing = waiting(&machine, (1, 0), 0);
-    let behind = waiting(&machine, (0, 1), 1);
-    let took = act_all(alloc, &mut machine, &[1]);
-    let taken = waiting(&machine, (0, 1), 0);
-    machine.close();
-    put?;
-    took?;
-    assert!(rt; order == (1, Some(1)) && nothing == (1, Some(0)));
-    assert!(rt; behind == (1, None) && taken == (0, None));
+    let wanted = [(1, Some(1)), (1, Some(0)), (1, None), (0, None)];
+    assert!(rt; waits_of_pair(rt.alloc())? == wanted);
     Ok(())
 }

@@ -41,22 +41,25 @@ fn written(machine: &Machine, number: u8) -> usize {
     }
 }
 
-/// Runs the acts of a row on two generals, and says what they answered and how many bytes each wrote.
+/// What two generals answer who act as below.
+const OF_PAIR: [Moved; 7] = [
+    Moved::Put,
+    Moved::Blocked,
+    Moved::Put,
+    Moved::Took,
+    Moved::Done,
+    Moved::Took,
+    Moved::Done,
+];
+
+/// Runs the acts of a row on two generals. Whether they answer so, each has written more, and nobody can
+/// act then.
 fn run_pair(alloc: Global, machine: &mut Machine) -> Result<bool, AllocError> {
     let before = (written(machine, 0), written(machine, 1));
     let answers = answers_of(alloc, machine, &[1, 1, 0, 1, 1, 0, 0])?;
-    let expected = [
-        Moved::Put,
-        Moved::Blocked,
-        Moved::Put,
-        Moved::Took,
-        Moved::Done,
-        Moved::Took,
-        Moved::Done,
-    ];
     let after = (written(machine, 0), written(machine, 1));
     let grown = before.0 < after.0 && before.1 < after.1;
-    Ok(answers.as_slice() == expected.as_slice() && grown && machine.mover().is_none())
+    Ok(answers.as_slice() == OF_PAIR.as_slice() && grown && machine.mover().is_none())
 }
 
 /// Ends a machine, and returns how many logs it gives, 0 where somebody can still act.
@@ -80,22 +83,31 @@ fn two_generals(rt: HostRuntime) -> Result<(), Fail> {
     Ok(())
 }
 
+/// What three generals answer who act as below, but for the last answer.
+const OF_THREE: [Moved; 8] = [
+    Moved::Put,
+    Moved::Put,
+    Moved::Put,
+    Moved::Put,
+    Moved::Put,
+    Moved::Put,
+    Moved::Took,
+    Moved::Took,
+];
+
+/// Whether the answers are those, and then this.
+fn are_of_three(answers: &[Moved], last: Moved) -> bool {
+    match answers.split_last() {
+        Some((found, others)) => *found == last && others == OF_THREE.as_slice(),
+        None => false,
+    }
+}
+
 /// Runs the acts of a row on three generals, of which the last answers this, and lets them end.
 fn run_three(alloc: Global, machine: &mut Machine, last: Moved) -> Result<bool, AllocError> {
     let answers = answers_of(alloc, machine, &[0, 0, 2, 2, 1, 1, 1, 1, 1])?;
-    let expected = [
-        Moved::Put,
-        Moved::Put,
-        Moved::Put,
-        Moved::Put,
-        Moved::Put,
-        Moved::Put,
-        Moved::Took,
-        Moved::Took,
-        last,
-    ];
     run_on(alloc, machine, 24)?;
-    Ok(answers.as_slice() == expected.as_slice() && machine.mover().is_none())
+    Ok(are_of_three(answers.as_slice(), last) && machine.mover().is_none())
 }
 
 /// The paper's figure 5: a traitorous commander gives the two lieutenants different orders.
@@ -104,16 +116,24 @@ const SPLIT: &[u8] = b"\
     seed 0000000000000000000000000000000000000000000000000000000000000000\nscript 0\n\
     make 1 1 1 0\nmake 1 2 0 0\nend\n";
 
+/// Whether three generals do so in a machine of this capacity.
+fn three_act(
+    alloc: Global,
+    scenario: &Scenario,
+    capacity: usize,
+    last: Moved,
+) -> Result<bool, AllocError> {
+    let mut machine = Machine::new(alloc, scenario, capacity)?;
+    let right = run_three(alloc, &mut machine, last);
+    machine.close();
+    right
+}
+
 #[test]
 fn three_generals(rt: HostRuntime) -> Result<(), Fail> {
-    let alloc = rt.alloc();
-    let scenario = scenario_of(alloc, SPLIT)?;
-    for (capacity, last) in [(1, Moved::Blocked), (2, Moved::Put)] {
-        let mut machine = Machine::new(alloc, &scenario, capacity)?;
-        let right = run_three(alloc, &mut machine, last);
-        machine.close();
-        assert!(rt; right?);
-    }
+    let scenario = scenario_of(rt.alloc(), SPLIT)?;
+    assert!(rt; three_act(rt.alloc(), &scenario, 1, Moved::Blocked)?);
+    assert!(rt; three_act(rt.alloc(), &scenario, 2, Moved::Put)?);
     Ok(())
 }
 
@@ -162,15 +182,26 @@ fn ends_as_the_run(
     Ok(moved? == acts && are_equal(logs.as_slice(), run.logs()))
 }
 
-#[test]
-fn any_capacity_gives_the_logs_of_the_run(rt: HostRuntime) -> Result<(), Fail> {
-    let alloc = rt.alloc();
-    let pair = without_scripts(alloc, 2, &[(0, 1)], (0, 1))?;
-    let line = without_scripts(alloc, 4, &[(0, 1), (1, 2), (2, 3)], (0, 3))?;
+/// The first capacity at which a machine ends otherwise.
+fn first_wrong(alloc: Global, scenario: &Scenario, acts: u32) -> Result<Option<usize>, Fail> {
     for capacity in [1, 2, 16] {
-        let right = ends_as_the_run(alloc, &pair, capacity, 4)?
-            && ends_as_the_run(alloc, &line, capacity, 36)?;
-        assert!(rt; right);
+        if !ends_as_the_run(alloc, scenario, capacity, acts)? {
+            return Ok(Some(capacity));
+        }
     }
+    Ok(None)
+}
+
+#[test]
+fn any_capacity_gives_the_logs_of_the_pair(rt: HostRuntime) -> Result<(), Fail> {
+    let pair = without_scripts(rt.alloc(), 2, &[(0, 1)], (0, 1))?;
+    assert!(rt; first_wrong(rt.alloc(), &pair, 4)? == None);
+    Ok(())
+}
+
+#[test]
+fn any_capacity_gives_the_logs_of_the_line(rt: HostRuntime) -> Result<(), Fail> {
+    let line = without_scripts(rt.alloc(), 4, &[(0, 1), (1, 2), (2, 3)], (0, 3))?;
+    assert!(rt; first_wrong(rt.alloc(), &line, 36)? == None);
     Ok(())
 }

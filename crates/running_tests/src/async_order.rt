@@ -113,9 +113,8 @@ fn first_wrong(alloc: Global, (text, acts): Row<'_>) -> Result<Option<usize>, Fa
 
 #[test]
 fn whoever_acts_when_the_logs_are_the_same(rt: HostRuntime) -> Result<(), Fail> {
-    for row in [PAIR, LINE, RING] {
-        let wrong = first_wrong(rt.alloc(), row)?;
-        assert!(rt; wrong == None);
-    }
+    assert!(rt; first_wrong(rt.alloc(), PAIR)? == None);
+    assert!(rt; first_wrong(rt.alloc(), LINE)? == None);
+    assert!(rt; first_wrong(rt.alloc(), RING)? == None);
     Ok(())
 }

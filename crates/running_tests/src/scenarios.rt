@@ -63,16 +63,19 @@ fn what_each_general_knows(rt: HostRuntime) -> Result<(), Fail> {
     Ok(())
 }
 
+/// Whether a scenario of two in this slot has it, where it is known, and else the fault of slots.
+fn is_slot(alloc: Global, slot: u8, known: bool) -> Result<bool, Fail> {
+    let net = Net::new(alloc, 2, &[(0, 1)], 0, 1, 2, 0)?;
+    match without_scripts(alloc, net, slot) {
+        Ok(scenario) => Ok(known && scenario.header().slot() == slot),
+        Err(ReadError::Fault(fault)) => Ok(!known && fault == HeaderFault::SlotRange),
+        Err(ReadError::Memory) => Err("memory".into()),
+    }
+}
+
 #[test]
 fn slots_of_scenarios(rt: HostRuntime) -> Result<(), Fail> {
-    let alloc = rt.alloc();
-    for (slot, known) in [(0, true), (3, true), (4, false), (255, false)] {
-        let net = Net::new(alloc, 2, &[(0, 1)], 0, 1, 2, 0)?;
-        match without_scripts(alloc, net, slot) {
-            Ok(scenario) => assert!(rt; known && scenario.header().slot() == slot),
-            Err(ReadError::Fault(fault)) => assert!(rt; !known && fault == HeaderFault::SlotRange),
-            Err(ReadError::Memory) => return Err("memory".into()),
-        }
-    }
+    assert!(rt; is_slot(rt.alloc(), 0, true)? && is_slot(rt.alloc(), 3, true)?);
+    assert!(rt; is_slot(rt.alloc(), 4, false)? && is_slot(rt.alloc(), 255, false)?);
     Ok(())
 }

@@ -9,7 +9,7 @@ use gen_chain::{
 use gen_net::Header;
 use gen_ots::SigRoom;
 use gen_script::Parcel;
-use gen_tree::{KeyRing, general_seed};
+use gen_tree::{KeyRing, LeafKey, general_seed};
 use gen_types::{GeneralNo, OrderNo, TreeHeight};
 use gen_world::*;
 use std::alloc::Global;
@@ -26,6 +26,20 @@ fn ring_of(alloc: Global, general: GeneralNo, height: TreeHeight) -> Result<KeyR
     Ok(KeyRing::from_seed(alloc, &seed, height)?)
 }
 
+/// The key of a leaf of that ring.
+fn key_of(alloc: Global, general: GeneralNo, height: TreeHeight, leaf: u8) -> Result<LeafKey, Fail>
+    ensures height { IfOk result (λ key. key.height ≡ height) }
+    ensures leaf { IfOk result (λ key. key.leaf ≡ leaf) }
+{
+    let mut ring = ring_of(alloc, general, height)?;
+    let key = ring.take(leaf);
+    let _leaves = ring.close();
+    match key {
+        Some(key) => Ok(key),
+        None => Err("the leaf is taken".into()),
+    }
+}
+
 /// Four generals who are all neighbours, with three rounds and two orders, under that seed.
 const FOUR: &[u8] = b"\
     generals 4\nedge 0 1\nedge 0 2\nedge 0 3\nedge 1 2\nedge 1 3\nedge 2 3\ntraitors 2\n\
@@ -34,7 +48,8 @@ const FOUR: &[u8] = b"\
 
 /// Their header.
 fn header_of_four(alloc: Global) -> Result<Header, Fail> {
-    Ok(scenario_of(alloc, FOUR)?.header().clone()?)
+    let scenario = scenario_of(alloc, FOUR)?;
+    Ok(scenario.header().clone()?)
 }
 
 /// The chain of an order that the commander alone has signed.
@@ -42,15 +57,11 @@ fn begun(alloc: Global, header: &Header, order: OrderNo) -> Result<SignedChain, 
     if order.get() > 14 {
         return Err("no order".into());
     }
+    let (height, leaf) = (header.height(), leaf_of_order(header, order));
     let room = ChainRoom::new(alloc, 1)?;
-    let signature = SigRoom::new(alloc, header.height())?;
-    let mut ring = ring_of(alloc, GeneralNo::commander(), header.height())?;
-    let chain = match ring.take(leaf_of_order(header, order)) {
-        Some(key) => Some(begin_chain(header, order, room, signature, key)),
-        None => None,
-    };
-    let _leaves = ring.close();
-    Ok(chain.ok_or("the leaf is taken")?)
+    let signature = SigRoom::new(alloc, height)?;
+    let key = key_of(alloc, GeneralNo::commander(), height, leaf)?;
+    Ok(begin_chain(header, order, room, signature, key))
 }
 
 /// A chain with one signer more.
@@ -68,15 +79,11 @@ fn longer(
     if chain.height() != header.height() {
         return Err("another height".into());
     }
+    let (height, leaf) = (header.height(), leaf_of_order(header, order));
     let room = ChainRoom::new(alloc, 4)?;
-    let signature = SigRoom::new(alloc, header.height())?;
-    let mut ring = ring_of(alloc, me, header.height())?;
-    let chain = match ring.take(leaf_of_order(header, order)) {
-        Some(key) => Some(extend_chain(header, me, chain, room, signature, key)),
-        None => None,
-    };
-    let _leaves = ring.close();
-    Ok(chain.ok_or("the leaf is taken")?)
+    let signature = SigRoom::new(alloc, height)?;
+    let key = key_of(alloc, me, height, leaf)?;
+    Ok(extend_chain(header, me, chain, room, signature, key))
 }
 
 /// The bytes of the chain of an order that the commander and then these have signed.
@@ -123,50 +130,87 @@ fn counted(
     Ok(counted)
 }
 
+/// A sender, a receiver and a round, and whether a chain of order 1 counts that general 3 sends general 1
+/// in round 3.
+const DELIVERIES: [((u8, u8, u8), bool); 6] = [
+    ((3, 1, 3), true),
+    ((3, 0, 3), false),
+    ((3, 2, 3), false),
+    ((2, 1, 3), false),
+    ((3, 1, 2), false),
+    ((3, 1, 0), false),
+];
+
+/// Whether exactly that chain counts, or nothing.
+fn counts_so(
+    alloc: Global,
+    header: &Header,
+    delivery: (u8, u8, u8),
+    frame: &[Parcel],
+    counts: bool,
+) -> Result<bool, Fail> {
+    let found = counted(alloc, header, delivery, frame)?;
+    if counts {
+        Ok(found.as_slice() == [(1, 3)].as_slice())
+    } else {
+        Ok(found.is_empty())
+    }
+}
+
+/// The index of the first delivery of a frame that counts otherwise.
+fn first_wrong(alloc: Global, header: &Header, frame: &[Parcel]) -> Result<Option<usize>, Fail> {
+    for (index, (delivery, counts)) in DELIVERIES.iter().enumerate() {
+        if !counts_so(alloc, header, *delivery, frame, *counts)? {
+            return Ok(Some(index));
+        }
+    }
+    Ok(None)
+}
+
 #[test]
 fn who_gets_it_from_whom_and_when(rt: HostRuntime) -> Result<(), Fail> {
-    let alloc = rt.alloc();
-    let header = header_of_four(alloc)?;
-    let mut frame = Vec::new(alloc);
-    frame.push(parcel(alloc, &header, 1, &[2, 3])?)?;
-    let rows = [
-        ((3, 1, 3), true),
-        ((3, 0, 3), false),
-        ((3, 2, 3), false),
-        ((2, 1, 3), false),
-        ((3, 1, 2), false),
-        ((3, 1, 0), false),
-    ];
-    for (delivery, counts) in rows {
-        let found = counted(alloc, &header, delivery, frame.as_slice())?;
-        let want: &[(u8, usize)] = if counts { &[(1, 3)] } else { &[] };
-        assert!(rt; found.as_slice() == want);
-    }
+    let header = header_of_four(rt.alloc())?;
+    let parcel = parcel(rt.alloc(), &header, 1, &[2, 3])?;
+    let frame = Vec::from_array(rt.alloc(), [parcel])?;
+    assert!(rt; first_wrong(rt.alloc(), &header, frame.as_slice())? == None);
     Ok(())
+}
+
+/// Two parcels of order 1 that general 1 signed last, the first behind general 3.
+fn two_of_one_order(alloc: Global, header: &Header) -> Result<Vec<Parcel>, Fail> {
+    let mut frame = Vec::new(alloc);
+    frame.push(parcel(alloc, header, 1, &[3, 1])?)?;
+    frame.push(parcel(alloc, header, 1, &[2, 1])?)?;
+    Ok(frame)
+}
+
+/// Whether of the chains of a frame that general 1 sends general 2 in round 3 one counts, and general 3 has
+/// signed it.
+fn one_by_3_counts(alloc: Global, header: &Header, frame: &[Parcel]) -> Result<bool, Fail> {
+    let (from, to) = (GeneralNo::at(1), GeneralNo::at(2));
+    let delivery = Delivery { from, to, round: 3 };
+    let chains = chains_of(alloc, header, &delivery, frame)?;
+    match chains.as_slice() {
+        [chain] => Ok(chain.path().contains(GeneralNo::at(3))),
+        _ => Ok(false),
+    }
 }
 
 #[test]
 fn first_of_an_order_counts(rt: HostRuntime) -> Result<(), Fail> {
-    let alloc = rt.alloc();
-    let header = header_of_four(alloc)?;
-    let by_3 = parcel(alloc, &header, 1, &[3, 1])?;
-    let by_2 = parcel(alloc, &header, 1, &[2, 1])?;
-    let mut frame = Vec::new(alloc);
-    frame.push(by_3)?;
-    frame.push(by_2)?;
-    let (from, to) = (GeneralNo::at(1), GeneralNo::at(2));
-    let delivery = Delivery { from, to, round: 3 };
-    let chains = chains_of(alloc, &header, &delivery, frame.as_slice())?;
-    assert!(rt; chains.len() == 1);
-    assert!(rt;
-        chains
-            .iter()
-            .all(|chain| chain.path().contains(GeneralNo::at(3)))
-    );
-    // One parcel more than there are orders: the frame is read as empty.
-    frame.push(parcel(alloc, &header, 0, &[3, 1])?)?;
-    let none = counted(alloc, &header, (1, 2, 3), frame.as_slice())?;
-    assert!(rt; none.is_empty());
+    let header = header_of_four(rt.alloc())?;
+    let frame = two_of_one_order(rt.alloc(), &header)?;
+    assert!(rt; one_by_3_counts(rt.alloc(), &header, frame.as_slice())?);
+    Ok(())
+}
+
+/// One parcel more than there are orders: the frame is read as empty.
+#[test]
+fn too_many_parcels_do_not_count(rt: HostRuntime) -> Result<(), Fail> {
+    let header = header_of_four(rt.alloc())?;
+    let mut frame = two_of_one_order(rt.alloc(), &header)?;
+    frame.push(parcel(rt.alloc(), &header, 0, &[3, 1])?)?;
+    assert!(rt; counts_so(rt.alloc(), &header, (1, 2, 3), frame.as_slice(), false)?);
     Ok(())
 }
 
@@ -213,16 +257,21 @@ fn counted_by(
     Ok((counted.len(), store.runs()))
 }
 
+/// A chain of order 0 that 3 signed last, which does not count, and of which no signature is verified, and
+/// one of order 1 that 1 signed last.
+fn two_orders(alloc: Global, header: &Header) -> Result<Vec<Parcel>, Fail> {
+    let mut frame = Vec::new(alloc);
+    frame.push(parcel(alloc, header, 0, &[3])?)?;
+    frame.push(parcel(alloc, header, 1, &[1])?)?;
+    Ok(frame)
+}
+
 #[test]
 fn what_was_verified_is_kept(rt: HostRuntime) -> Result<(), Fail> {
-    let alloc = rt.alloc();
-    let header = header_of_four(alloc)?;
-    let chain = parcel(alloc, &header, 1, &[1])?;
-    // A chain that 3 signed last does not count, and none of its signatures is verified.
-    let others = parcel(alloc, &header, 0, &[3])?;
-    let frame = Vec::from_array(alloc, [others, chain])?;
-    let mut store = VerifyStore::new(alloc)?;
-    assert!(rt; counted_by(alloc, &header, &mut store, frame.as_slice())? == (1, 2));
-    assert!(rt; counted_by(alloc, &header, &mut store, frame.as_slice())? == (1, 2));
+    let header = header_of_four(rt.alloc())?;
+    let frame = two_orders(rt.alloc(), &header)?;
+    let mut store = VerifyStore::new(rt.alloc())?;
+    assert!(rt; counted_by(rt.alloc(), &header, &mut store, frame.as_slice())? == (1, 2));
+    assert!(rt; counted_by(rt.alloc(), &header, &mut store, frame.as_slice())? == (1, 2));
     Ok(())
 }

@@ -1,53 +1,78 @@
 use gen_net::Net;
 use gen_types::OrderNo;
 use gen_world::*;
-use std::alloc::Global;
+use std::alloc::{AllocError, Global};
 use std::test::Fail;
 
-/// A general, the size of his set and the order that he decides, for each general.
-fn decided(
-    alloc: Global,
-    n: u8,
-    edges: &[(u8, u8)],
-    (m, d): (u8, u8),
-    order: u8,
-) -> Result<Vec<(u8, usize, u8)>, Fail> {
-    let net = Net::new(alloc, n, edges, m, d, 2, 0)?;
-    let order = OrderNo::new(order).ok_or("no order")?;
+/// A general, the size of his set and the order that he decides.
+type Told = (u8, usize, u8);
+
+/// What is decided in a run, of each general.
+fn told(alloc: Global, scenario: &PlainScenario) -> Result<Vec<Told>, AllocError> {
+    let run = run_plain(alloc, scenario)?;
     let mut decided = Vec::new(alloc);
-    if order.get() < net.orders() {
-        let scenario = PlainScenario::new(net, order);
-        let run = run_plain(alloc, &scenario)?;
-        for decision in run.decisions() {
-            let size = decision.orders.len();
-            decided.push((decision.general.get(), size, decision.order.get()))?;
-        }
+    for decision in run.decisions() {
+        let size = decision.orders.len();
+        decided.push((decision.general.get(), size, decision.order.get()))?;
     }
     Ok(decided)
 }
 
+/// A number of generals, edges, m and d, an order, and what is decided.
+type Case = (u8, &'static [(u8, u8)], (u8, u8), u8, &'static [Told]);
+
+const PAIR: Case = (2, &[(0, 1)], (0, 1), 1, &[(0, 1, 1), (1, 1, 1)]);
+
+const LINE: Case = (
+    4,
+    &[(1, 0), (1, 2), (3, 2)],
+    (0, 3),
+    1,
+    &[(0, 1, 1), (1, 1, 1), (2, 1, 1), (3, 1, 1)],
+);
+
+const RETREAT: Case = (
+    3,
+    &[(0, 1), (0, 2), (1, 2)],
+    (1, 1),
+    0,
+    &[(0, 1, 0), (1, 1, 0), (2, 1, 0)],
+);
+
+const TOO_FEW_ROUNDS: Case = (
+    4,
+    &[(0, 1), (1, 2), (2, 3)],
+    (0, 2),
+    1,
+    &[(0, 1, 1), (1, 1, 1), (2, 1, 1), (3, 0, 0)],
+);
+
+const APART: Case = (3, &[(1, 0)], (8, 8), 1, &[(0, 1, 1), (1, 1, 1), (2, 0, 0)]);
+
+/// Whether what is decided is that of the case.
+fn is_decided(alloc: Global, case: Case) -> Result<bool, Fail> {
+    let (n, edges, (m, d), order, wanted) = case;
+    let net = Net::new(alloc, n, edges, m, d, 2, 0)?;
+    let order = OrderNo::at(order % 16);
+    if order.get() >= net.orders() {
+        return Ok(false);
+    }
+    let scenario = PlainScenario::new(net, order);
+    Ok(told(alloc, &scenario)?.as_slice() == wanted)
+}
+
 #[test]
 fn all_obey(rt: HostRuntime) -> Result<(), Fail> {
-    let alloc = rt.alloc();
-    let pair = decided(alloc, 2, &[(0, 1)], (0, 1), 1)?;
-    assert!(rt; pair.as_slice() == [(0, 1, 1), (1, 1, 1)].as_slice());
-    let line = decided(alloc, 4, &[(1, 0), (1, 2), (3, 2)], (0, 3), 1)?;
-    let all = [(0, 1, 1), (1, 1, 1), (2, 1, 1), (3, 1, 1)];
-    assert!(rt; line.as_slice() == all.as_slice());
-    let retreat = decided(alloc, 3, &[(0, 1), (0, 2), (1, 2)], (1, 1), 0)?;
-    assert!(rt; retreat.as_slice() == [(0, 1, 0), (1, 1, 0), (2, 1, 0)].as_slice());
+    assert!(rt; is_decided(rt.alloc(), PAIR)?);
+    assert!(rt; is_decided(rt.alloc(), LINE)?);
+    assert!(rt; is_decided(rt.alloc(), RETREAT)?);
     Ok(())
 }
 
 #[test]
 fn an_order_goes_as_far_as_there_are_rounds(rt: HostRuntime) -> Result<(), Fail> {
-    let alloc = rt.alloc();
-    let edges = [(0, 1), (1, 2), (2, 3)];
-    let short = decided(alloc, 4, &edges, (0, 2), 1)?;
-    let reached = [(0, 1, 1), (1, 1, 1), (2, 1, 1), (3, 0, 0)];
-    assert!(rt; short.as_slice() == reached.as_slice());
-    let apart = decided(alloc, 3, &[(1, 0)], (8, 8), 1)?;
-    assert!(rt; apart.as_slice() == [(0, 1, 1), (1, 1, 1), (2, 0, 0)].as_slice());
+    assert!(rt; is_decided(rt.alloc(), TOO_FEW_ROUNDS)?);
+    assert!(rt; is_decided(rt.alloc(), APART)?);
     Ok(())
 }
 
@@ -62,34 +87,48 @@ fn all_edges(alloc: Global) -> Result<Vec<(u8, u8)>, Fail> {
     Ok(edges)
 }
 
-#[test]
-fn the_largest_scenario_runs(rt: HostRuntime) -> Result<(), Fail> {
-    let alloc = rt.alloc();
+/// The scenario of all of them with order 14.
+fn largest(alloc: Global) -> Result<PlainScenario, Fail> {
     let edges = all_edges(alloc)?;
     let net = Net::new(alloc, 16, &edges, 8, 8, 15, 1)?;
-    let order = OrderNo::new(14).ok_or("no order")?;
-    assert!(rt; net.edges().len() == 120);
-    if order.get() < net.orders() {
-        let run = run_plain(alloc, &PlainScenario::new(net, order))?;
-        assert!(rt; run.decisions().len() == 16);
-        for decision in run.decisions() {
-            assert!(rt; (decision.orders.len(), decision.order.get()) == (1, 14));
-        }
+    let order = OrderNo::at(14);
+    if order.get() >= net.orders() {
+        return Err("no order".into());
     }
+    Ok(PlainScenario::new(net, order))
+}
+
+#[test]
+fn the_largest_scenario_runs(rt: HostRuntime) -> Result<(), Fail> {
+    let scenario = largest(rt.alloc())?;
+    assert!(rt; scenario.net().edges().len() == 120);
+    let decided = told(rt.alloc(), &scenario)?;
+    assert!(rt; decided.len() == 16);
+    assert!(rt;
+        decided
+            .iter()
+            .all(|(_, size, order)| *size == 1 && *order == 14)
+    );
     Ok(())
+}
+
+/// A scenario of two with order 2 of three.
+fn smallest(alloc: Global) -> Result<PlainScenario, Fail> {
+    let net = Net::new(alloc, 2, &[(1, 0)], 0, 1, 3, 1)?;
+    let order = OrderNo::at(2);
+    if order.get() >= net.orders() {
+        return Err("no order".into());
+    }
+    Ok(PlainScenario::new(net, order))
 }
 
 #[test]
 fn a_scenario_keeps_what_it_is_given(rt: HostRuntime) -> Result<(), Fail> {
-    let net = Net::new(rt.alloc(), 2, &[(1, 0)], 0, 1, 3, 1)?;
-    let order = OrderNo::new(2).ok_or("no order")?;
-    if order.get() < net.orders() {
-        let scenario = PlainScenario::new(net, order);
-        assert!(rt; scenario.order().get() == 2);
-        assert!(rt; scenario.net().edges().len() == 1);
-        let (net, order) = scenario.into_parts();
-        assert!(rt; (net.orders(), order.get()) == (3, 2));
-    }
+    let scenario = smallest(rt.alloc())?;
+    assert!(rt; scenario.order().get() == 2);
+    assert!(rt; scenario.net().edges().len() == 1);
+    let (net, order) = scenario.into_parts();
+    assert!(rt; net.orders() == 3 && order.get() == 2);
     Ok(())
 }
 

@@ -31,53 +31,78 @@ fn log_lengths(alloc: Global, scenario: &Scenario) -> Result<Vec<(u8, usize)>, F
     Ok(lengths)
 }
 
+/// The edges of a line of four.
+const LINE: [(u8, u8); 3] = [(0, 1), (1, 2), (2, 3)];
+
+/// The lengths in the runs of a pair, of that line, and of those with two scripts.
+const IN_A_PAIR: [(u8, usize); 2] = [(0, 33_080), (1, 33_076)];
+
+const IN_A_LINE: [(u8, usize); 4] = [(0, 33_080), (1, 49_599), (2, 66_114), (3, 66_102)];
+
+const OF_TWO_SCRIPTS: [(u8, usize); 6] = [
+    (0, 33_080),
+    (0, 33_080),
+    (1, 49_599),
+    (1, 33_082),
+    (2, 66_114),
+    (3, 66_102),
+];
+
 #[test]
-fn each_general_has_a_log(rt: HostRuntime) -> Result<(), Fail> {
-    let alloc = rt.alloc();
-    let pair = log_lengths(alloc, &without_scripts(alloc, 2, &[(0, 1)], (0, 1))?)?;
-    assert!(rt; pair.as_slice() == [(0, 33_080), (1, 33_076)].as_slice());
-    let edges = [(0, 1), (1, 2), (2, 3)];
-    let line = log_lengths(alloc, &without_scripts(alloc, 4, &edges, (0, 3))?)?;
-    let expected = [(0, 33_080), (1, 49_599), (2, 66_114), (3, 66_102)];
-    assert!(rt; line.as_slice() == expected.as_slice());
+fn each_general_of_a_pair_has_a_log(rt: HostRuntime) -> Result<(), Fail> {
+    let pair = without_scripts(rt.alloc(), 2, &[(0, 1)], (0, 1))?;
+    assert!(rt; log_lengths(rt.alloc(), &pair)?.as_slice() == IN_A_PAIR.as_slice());
+    Ok(())
+}
+
+#[test]
+fn each_general_of_a_line_has_a_log(rt: HostRuntime) -> Result<(), Fail> {
+    let line = without_scripts(rt.alloc(), 4, &LINE, (0, 3))?;
+    assert!(rt; log_lengths(rt.alloc(), &line)?.as_slice() == IN_A_LINE.as_slice());
     Ok(())
 }
 
 #[test]
 fn a_script_may_ask_for_two_logs(rt: HostRuntime) -> Result<(), Fail> {
-    let alloc = rt.alloc();
-    let scenario = scenario_of(alloc, TWO_SCRIPTS)?;
-    let lengths = log_lengths(alloc, &scenario)?;
-    let expected = [
-        (0, 33_080),
-        (0, 33_080),
-        (1, 49_599),
-        (1, 33_082),
-        (2, 66_114),
-        (3, 66_102),
-    ];
-    assert!(rt; lengths.as_slice() == expected.as_slice());
+    let scenario = scenario_of(rt.alloc(), TWO_SCRIPTS)?;
+    assert!(rt; log_lengths(rt.alloc(), &scenario)?.as_slice() == OF_TWO_SCRIPTS.as_slice());
     Ok(())
+}
+
+/// The run of three who are all neighbours.
+fn run_of_three(alloc: Global) -> Result<WorldRun, Fail> {
+    let scenario = without_scripts(alloc, 3, &[(0, 1), (0, 2), (1, 2)], (0, 1))?;
+    Ok(run_world(alloc, &scenario)?)
+}
+
+/// Of each of its frames the sender, the receiver, and how many parcels it has.
+const FRAMES: [(u8, u8, usize); 6] = [
+    (0, 1, 1),
+    (0, 2, 1),
+    (1, 0, 0),
+    (1, 2, 0),
+    (2, 0, 0),
+    (2, 1, 0),
+];
+
+/// Whether a frame is that of a row.
+fn is_frame(row: &FrameRow, wanted: &(u8, u8, usize)) -> bool {
+    row.from().get() == wanted.0 && row.to().get() == wanted.1 && row.parcels().len() == wanted.2
+}
+
+/// Whether these are exactly those frames.
+fn are_frames(rows: &[FrameRow]) -> bool {
+    rows.len() == FRAMES.len()
+        && rows
+            .iter()
+            .zip(FRAMES.iter())
+            .all(|(row, wanted)| is_frame(row, wanted))
 }
 
 #[test]
 fn frames_by_sender_and_receiver(rt: HostRuntime) -> Result<(), Fail> {
-    let alloc = rt.alloc();
-    let edges = [(0, 1), (0, 2), (1, 2)];
-    let run = run_world(alloc, &without_scripts(alloc, 3, &edges, (0, 1))?)?;
-    let expected = [
-        (0, 1, 1),
-        (0, 2, 1),
-        (1, 0, 0),
-        (1, 2, 0),
-        (2, 0, 0),
-        (2, 1, 0),
-    ];
-    let mut rows = Vec::new(alloc);
-    for row in run.frames() {
-        rows.push((row.from().get(), row.to().get(), row.parcels().len()))?;
-    }
-    assert!(rt; rows.as_slice() == expected.as_slice() && run.decisions().len() == 3);
+    let run = run_of_three(rt.alloc())?;
+    assert!(rt; are_frames(run.frames()) && run.decisions().len() == 3);
     assert!(rt; run.into_logs().len() == 3);
     Ok(())
 }
@@ -91,10 +116,14 @@ fn decides_alike(alloc: Global, scenario: &Scenario) -> Result<bool, Fail> {
 
 #[test]
 fn decisions_alone_are_those_of_the_run(rt: HostRuntime) -> Result<(), Fail> {
-    let alloc = rt.alloc();
-    let line = without_scripts(alloc, 3, &[(0, 1), (1, 2)], (0, 2))?;
-    assert!(rt; decides_alike(alloc, &line)?);
-    let scripted = scenario_of(alloc, TWO_SCRIPTS)?;
-    assert!(rt; decides_alike(alloc, &scripted)?);
+    let line = without_scripts(rt.alloc(), 3, &[(0, 1), (1, 2)], (0, 2))?;
+    assert!(rt; decides_alike(rt.alloc(), &line)?);
+    Ok(())
+}
+
+#[test]
+fn decisions_alone_are_those_of_scripts(rt: HostRuntime) -> Result<(), Fail> {
+    let scripted = scenario_of(rt.alloc(), TWO_SCRIPTS)?;
+    assert!(rt; decides_alike(rt.alloc(), &scripted)?);
     Ok(())
 }

@@ -45,8 +45,10 @@ const SEEDS: [(u8, [u8; 32]); 3] = [
     ),
 ];
 
-// By height: the roots of the rings of the zero seed, and of general 5 under the master seed.
-const ROOTS: [(TreeHeight, [u8; 32], [u8; 32]); 2] = [
+// A height, and the roots of the rings of the zero seed, and of general 5 under the master seed.
+type RootRow = (TreeHeight, [u8; 32], [u8; 32]);
+
+const ROOTS: [RootRow; 2] = [
     (
         Four,
         [
@@ -145,13 +147,19 @@ fn retired(ring: &mut KeyRing, leaf: u8) -> Option<u8> {
     ring.take(leaf).map(|key| key.retire())
 }
 
-#[test]
-fn seeds_of_generals(rt: HostRuntime) -> Result<(), Fail> {
-    for (number, seed) in SEEDS {
-        let general = GeneralNo::new(number).ok_or("no general")?;
-        assert!(rt; general_seed(&MASTER, general) == seed, "general {number}");
+// The number of the first general with another seed.
+fn first_other_seed() -> Option<u8> {
+    for (number, seed) in &SEEDS {
+        if general_seed(&MASTER, GeneralNo::at(*number % 16)) != *seed {
+            return Some(*number);
+        }
     }
-    Ok(())
+    None
+}
+
+#[test]
+fn seeds_of_generals(rt: HostRuntime) {
+    assert!(rt; first_other_seed() == None);
 }
 
 // The root and the height of a new ring of a seed, and whether it has taken no leaf.
@@ -165,15 +173,18 @@ fn new_ring(
     Ok((root, height, ring.close().is_empty()))
 }
 
+// Whether new rings have the roots of a row.
+fn have_roots(alloc: Global, row: &RootRow) -> Result<bool, Fail> {
+    let (height, root_of_zero, root_of_five) = *row;
+    let zero = new_ring(alloc, &[0; 32], height)?;
+    let five = new_ring(alloc, &general_seed(&MASTER, GeneralNo::at(5)), height)?;
+    Ok(zero == (root_of_zero, height, true) && five == (root_of_five, height, true))
+}
+
 #[test]
 fn roots_of_rings(rt: HostRuntime) -> Result<(), Fail> {
-    let seed_of_five = general_seed(&MASTER, GeneralNo::at(5));
-    for (height, root_of_zero, root_of_five) in ROOTS {
-        let zero = new_ring(rt.alloc(), &[0; 32], height)?;
-        assert!(rt; zero == (root_of_zero, height, true));
-        let five = new_ring(rt.alloc(), &seed_of_five, height)?;
-        assert!(rt; five == (root_of_five, height, true));
-    }
+    assert!(rt; have_roots(rt.alloc(), &ROOTS[0])?);
+    assert!(rt; have_roots(rt.alloc(), &ROOTS[1])?);
     Ok(())
 }
 
@@ -186,13 +197,18 @@ fn opened(tree: &KeyTree) -> Result<([u8; 32], Option<u8>, Option<u8>), Fail> {
     Ok((root, first, again))
 }
 
+// Whether the tree of the zero seed has the height and the root of a row, and so has a ring opened from it.
+fn is_opened(alloc: Global, row: &RootRow) -> Result<bool, Fail> {
+    let (height, root, _) = *row;
+    let tree = KeyTree::from_seed(alloc, &[0; 32], height)?;
+    let same = tree.root() == root && tree.height() == height;
+    Ok(same && opened(&tree)? == (root, Some(5), None))
+}
+
 #[test]
 fn rings_opened_from_a_tree(rt: HostRuntime) -> Result<(), Fail> {
-    for (height, root_of_zero, _) in ROOTS {
-        let tree = KeyTree::from_seed(rt.alloc(), &[0; 32], height)?;
-        assert!(rt; tree.root() == root_of_zero && tree.height() == height);
-        assert!(rt; opened(&tree)? == (root_of_zero, Some(5), None));
-    }
+    assert!(rt; is_opened(rt.alloc(), &ROOTS[0])?);
+    assert!(rt; is_opened(rt.alloc(), &ROOTS[1])?);
     Ok(())
 }
 
@@ -209,51 +225,79 @@ fn bytes_of(alloc: Global, signature: &Signature) -> Result<Vec<u8>, Fail> {
     Ok(bytes)
 }
 
+// Whether the signature of the digest of "abc" by this leaf has the lengths of its height and this hash.
+fn has_hash(alloc: Global, height: TreeHeight, leaf: u8, hash: &[u8; 32]) -> Result<bool, Fail> {
+    let signature = signed(alloc, height, leaf, &Sha256::digest("abc"))?;
+    let bytes = bytes_of(alloc, &signature)?;
+    Ok(
+        has_lengths(&signature, height)
+            && bytes.len() == signature_bytes(height)
+            && Sha256::digest(bytes.as_slice()) == *hash,
+    )
+}
+
+// The place of the first signature with another hash.
+fn first_other_hash(alloc: Global) -> Result<Option<usize>, Fail> {
+    for (place, (height, leaf, hash)) in SIGNATURE_HASHES.iter().enumerate() {
+        if !has_hash(alloc, *height, *leaf, hash)? {
+            return Ok(Some(place));
+        }
+    }
+    Ok(None)
+}
+
 #[test]
 fn bytes_of_signatures(rt: HostRuntime) -> Result<(), Fail> {
-    let digest = Sha256::digest("abc");
-    for (height, leaf, hash) in SIGNATURE_HASHES {
-        let signature = signed(rt.alloc(), height, leaf, &digest)?;
-        assert!(rt; has_lengths(&signature, height));
-        let bytes = bytes_of(rt.alloc(), &signature)?;
-        assert!(rt; bytes.len() == signature_bytes(height));
-        assert!(rt; Sha256::digest(bytes.as_slice()) == hash, "leaf {leaf}");
-    }
+    assert!(rt; first_other_hash(rt.alloc())? == None);
     Ok(())
+}
+
+// The answers where leaf 3 of a new ring is asked for twice, then its last leaf, then the number behind it;
+// and the leaves that are taken then.
+fn asked(
+    alloc: Global,
+    height: TreeHeight,
+    last: u8,
+    behind: u8,
+) -> Result<([Option<u8>; 4], LeafSet), Fail> {
+    let mut ring = ring_of_five(alloc, height)?;
+    let answers = [
+        retired(&mut ring, 3),
+        retired(&mut ring, 3),
+        retired(&mut ring, last),
+        retired(&mut ring, behind),
+    ];
+    Ok((answers, ring.close()))
+}
+
+// Whether leaf 3 and this one are exactly the leaves of a set.
+fn are_taken(leaves: &LeafSet, last: u8) -> bool {
+    leaves.len() == 2
+        && !leaves.is_empty()
+        && (0..=u8::MAX).all(|leaf| leaves.contains(leaf) == (leaf == 3 || leaf == last))
 }
 
 #[test]
 fn leaves_are_taken_once(rt: HostRuntime) -> Result<(), Fail> {
-    for (height, last) in [(Four, 15), (Six, 63)] {
-        let mut ring = ring_of_five(rt.alloc(), height)?;
-        let answers = [3, 3, last, last + 1].map(|leaf| ring.take(leaf).map(|key| key.retire()));
-        let leaves = ring.close();
-        assert_eq!(rt; answers, [Some(3), None, Some(last), None]);
-        assert_eq!(rt; leaves.len(), 2);
-        assert!(rt; !leaves.is_empty());
-        for leaf in 0..=u8::MAX {
-            assert_eq!(rt;
-                leaves.contains(leaf),
-                leaf == 3 || leaf == last,
-                "leaf {leaf}"
-            );
-        }
-    }
+    let (answers, leaves) = asked(rt.alloc(), Four, 15, 16)?;
+    assert!(rt; answers == [Some(3), None, Some(15), None] && are_taken(&leaves, 15));
+    let (answers, leaves) = asked(rt.alloc(), Six, 63, 64)?;
+    assert!(rt; answers == [Some(3), None, Some(63), None] && are_taken(&leaves, 63));
     Ok(())
 }
 
 // The leaves of a ring of six levels from which these two were asked for, in this order.
 fn taken(alloc: Global, first: u8, second: u8) -> Result<LeafSet, Fail> {
     let mut ring = ring_of_five(alloc, Six)?;
-    [first, second].map(|leaf| ring.take(leaf).map(|key| key.retire()));
+    let _taken = (retired(&mut ring, first), retired(&mut ring, second));
     Ok(ring.close())
 }
 
 #[test]
 fn sets_of_leaves_compare(rt: HostRuntime) -> Result<(), Fail> {
     let ascending = taken(rt.alloc(), 3, 63)?;
-    assert_eq!(rt; ascending, taken(rt.alloc(), 63, 3)?);
-    assert_ne!(rt; ascending, taken(rt.alloc(), 63, 63)?);
+    assert!(rt; ascending == taken(rt.alloc(), 63, 3)?);
+    assert!(rt; ascending != taken(rt.alloc(), 63, 63)?);
     Ok(())
 }
 
@@ -293,13 +337,20 @@ fn copy_of_signed(alloc: Global, height: TreeHeight, leaf: u8) -> Result<Signatu
     Ok(copy)
 }
 
+// Whether a copy of a signature by this leaf of general 5's ring verifies under it and its root alone.
+fn verifies_there_alone(alloc: Global, row: &RootRow, leaf: u8) -> Result<bool, Fail> {
+    let (height, other_root, root) = row;
+    let copy = copy_of_signed(alloc, *height, leaf)?;
+    Ok(
+        first_wrong_leaf(root, leaf, &copy) == None
+            && !verifies_elsewhere(root, other_root, leaf, &copy),
+    )
+}
+
 #[test]
 fn signatures_verify_under_their_leaf_alone(rt: HostRuntime) -> Result<(), Fail> {
-    for ((height, other_root, root), leaf) in [(ROOTS[0], 3), (ROOTS[1], 40)] {
-        let copy = copy_of_signed(rt.alloc(), height, leaf)?;
-        assert_eq!(rt; first_wrong_leaf(&root, leaf, &copy), None);
-        assert!(rt; !verifies_elsewhere(&root, &other_root, leaf, &copy));
-    }
+    assert!(rt; verifies_there_alone(rt.alloc(), &ROOTS[0], 3)?);
+    assert!(rt; verifies_there_alone(rt.alloc(), &ROOTS[1], 40)?);
     Ok(())
 }
 
@@ -351,21 +402,27 @@ fn four_answers<'x>(
     ])
 }
 
+// The place of the claim that is changed, or 4 for none, and what of it.
+const CHANGES: [(usize, u8); 5] = [(0, 0), (1, 1), (2, 2), (3, 3), (4, 0)];
+
+// The place of the first changed claim with which the answers are other ones than that it alone does not
+// verify.
+fn first_wrong_claim(roots: &[[u8; 32]; 2], four: &Signature, six: &Signature) -> Option<usize> {
+    for (place, change) in &CHANGES {
+        let want = [*place != 0, *place != 1, *place != 2, *place != 3];
+        if four_answers(roots, four, six, *place, *change) != want {
+            return Some(*place);
+        }
+    }
+    None
+}
+
 #[test]
 fn four_claims_each_for_itself(rt: HostRuntime) -> Result<(), Fail> {
     let roots = [ROOTS[0].2, ROOTS[1].2];
     let four = copy_of_signed(rt.alloc(), Four, 3)?;
     let six = copy_of_signed(rt.alloc(), Six, 40)?;
-    for (place, change) in [(0, 0), (1, 1), (2, 2), (3, 3), (4, 0)] {
-        let answers = four_answers(&roots, &four, &six, place, change);
-        for lane in 0..4 {
-            assert_eq!(rt;
-                answers[lane],
-                lane != place,
-                "claim {lane}, changed {place}"
-            );
-        }
-    }
+    assert!(rt; first_wrong_claim(&roots, &four, &six) == None);
     Ok(())
 }
 
@@ -387,18 +444,32 @@ fn reads_changed(pool: &mut SignaturePool, bytes: &mut [u8], at: usize) -> Resul
     Ok(first == again && first != changed && spells(&changed, bytes))
 }
 
+// Places of bytes that are changed.
+const CHANGED: [usize; 5] = [7, 8, 16_383, 16_384, 16_511];
+
+// The first place whose change a pool gives otherwise.
+fn first_other_byte(alloc: Global, bytes: &mut [u8]) -> Result<Option<usize>, Fail> {
+    let mut pool = SignaturePool::new(alloc);
+    for at in &CHANGED {
+        if !reads_changed(&mut pool, bytes, *at)? {
+            return Ok(Some(*at));
+        }
+    }
+    Ok(None)
+}
+
 #[test]
 fn a_pool_gives_what_is_read(rt: HostRuntime) -> Result<(), Fail> {
     let signature = signed(rt.alloc(), Four, 3, &Sha256::digest("abc"))?;
-    assert!(rt; signature.share(rt.alloc())? == signature);
     let mut bytes = bytes_of(rt.alloc(), &signature)?;
-    let mut pool = SignaturePool::new(rt.alloc());
-    for at in [7, 8, 16_383, 16_384, 16_511] {
-        assert!(rt;
-            reads_changed(&mut pool, bytes.as_mut_slice(), at)?,
-            "byte {at}"
-        );
-    }
+    assert!(rt; first_other_byte(rt.alloc(), bytes.as_mut_slice())? == None);
+    Ok(())
+}
+
+#[test]
+fn what_is_shared_is_equal(rt: HostRuntime) -> Result<(), Fail> {
+    let signature = signed(rt.alloc(), Four, 3, &Sha256::digest("abc"))?;
+    assert!(rt; signature.share(rt.alloc())? == signature);
     Ok(())
 }
 
@@ -420,41 +491,59 @@ fn verifies_flipped(
     Ok(verify(root, Four, 3, &Sha256::digest("abc"), &changed))
 }
 
+// A byte of a signature, bits that are flipped in it, and whether it verifies then.
+const FLIPS: [(usize, u8, bool); 10] = [
+    (0, 0, true),
+    (0, 0x80, false),
+    (31, 1, false),
+    (32, 1, false),
+    (63, 0x10, false),
+    (8_000, 4, false),
+    (16_383, 1, false),
+    (16_384, 0x80, false),
+    (16_447, 2, false),
+    (16_511, 1, false),
+];
+
+// The first byte with which a signature verifies otherwise.
+fn first_wrong_flip(alloc: Global, bytes: &mut [u8]) -> Result<Option<usize>, Fail> {
+    for (at, bits, verifies) in &FLIPS {
+        if verifies_flipped(alloc, &ROOTS[0].2, bytes, *at, *bits)? != *verifies {
+            return Ok(Some(*at));
+        }
+    }
+    Ok(None)
+}
+
 #[test]
 fn flipped_bits_do_not_verify(rt: HostRuntime) -> Result<(), Fail> {
-    let digest = Sha256::digest("abc");
-    let root = ROOTS[0].2;
-    let signature = signed(rt.alloc(), Four, 3, &digest)?;
-    let mut bytes = Vec::new(rt.alloc());
-    signature.append_to(&mut bytes)?;
-    for (at, bits, verifies) in [
-        (0, 0, true),
-        (0, 0x80, false),
-        (31, 1, false),
-        (32, 1, false),
-        (63, 0x10, false),
-        (8_000, 4, false),
-        (16_383, 1, false),
-        (16_384, 0x80, false),
-        (16_447, 2, false),
-        (16_511, 1, false),
-    ] {
-        let answer = verifies_flipped(rt.alloc(), &root, bytes.as_mut_slice(), at, bits)?;
-        assert_eq!(rt; answer, verifies, "byte {at}");
-    }
-    for (at, bits) in [(0, 0x80), (0, 1), (13, 8), (31, 1)] {
-        let (mut other_digest, mut other_root) = (digest, root);
-        flip(&mut other_digest, at, bits);
-        flip(&mut other_root, at, bits);
-        assert!(rt;
-            !verify(&root, Four, 3, &other_digest, &signature),
-            "byte {at}"
-        );
-        assert!(rt;
-            !verify(&other_root, Four, 3, &digest, &signature),
-            "byte {at}"
-        );
-    }
+    let signature = signed(rt.alloc(), Four, 3, &Sha256::digest("abc"))?;
+    let mut bytes = bytes_of(rt.alloc(), &signature)?;
+    assert!(rt; first_wrong_flip(rt.alloc(), bytes.as_mut_slice())? == None);
+    Ok(())
+}
+
+// A byte of a digest or a root, and bits that are flipped in it.
+const OTHER_FLIPS: [(usize, u8); 4] = [(0, 0x80), (0, 1), (13, 8), (31, 1)];
+
+// Whether a signature by leaf 3 verifies for another digest, or under another root.
+fn verifies_other(signature: &Signature, at: usize, bits: u8) -> bool {
+    let (digest, root) = (Sha256::digest("abc"), ROOTS[0].2);
+    let (mut other_digest, mut other_root) = (digest, root);
+    flip(&mut other_digest, at, bits);
+    flip(&mut other_root, at, bits);
+    verify(&root, Four, 3, &other_digest, signature)
+        || verify(&other_root, Four, 3, &digest, signature)
+}
+
+#[test]
+fn other_digests_and_roots_do_not_verify(rt: HostRuntime) -> Result<(), Fail> {
+    let signature = signed(rt.alloc(), Four, 3, &Sha256::digest("abc"))?;
+    assert!(rt;
+        OTHER_FLIPS
+            .iter()
+            .all(|(at, bits)| !verifies_other(&signature, *at, *bits))
+    );
     Ok(())
 }
 

@@ -21,13 +21,14 @@ ghost use Rattle.gen_jobs.specs.Accusing.{IsAccused};
 ghost use Rattle.gen_jobs.specs.Audit.{IsAudited, IsAuditFault};
 ghost use Rattle.gen_jobs.specs.Checking.{IsChecked, IsEvidenceFault};
 ghost use Rattle.gen_jobs.specs.Decide.{IsDecided, IsDecideFault};
+ghost use Rattle.gen_jobs.specs.Drawing.{IsDrawn};
 ghost use Rattle.sm_embed.specs.Handing.{IsHanded, IsUntouched};
 
 mod handed;
 mod handing;
 
 use crate::handing::hand;
-use gen_jobs::{accuse_in_place, audit_in_place, decide, evidence};
+use gen_jobs::{accuse_in_place, audit_in_place, decide, draw_in_place, evidence};
 use gen_types::GeneralNo;
 use std::alloc::Global;
 
@@ -37,6 +38,15 @@ pub extern "C" fn sm_audit(alloc: Global, input: &[u8], room: &mut [u8], count: 
     ensures { IsHanded (IsAudited input.now) (IsAuditFault input.now) room.old room.new count.new result }
 {
     hand(alloc, audit_in_place(alloc, input), room, count).status()
+}
+
+/// Hands over the picture of the bundle or the campaign that the input spells, and of the judgement on it: the SVG text
+/// that the command `draw` writes. It never says no.
+#[unsafe(no_mangle)]
+pub extern "C" fn sm_draw(alloc: Global, input: &[u8], room: &mut [u8], count: &mut usize) -> u32
+    ensures { IsHanded (IsDrawn input.now) (IsAuditFault input.now) room.old room.new count.new result }
+{
+    hand(alloc, draw_in_place(alloc, input), room, count).status()
 }
 
 /// Hands over the evidence against a general that the bundle or the campaign holds which the input spells: the bytes that

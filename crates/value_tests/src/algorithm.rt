@@ -5,16 +5,43 @@ ghost use Rattle.gen_net.specs.Network.{rounds};
 use gen_core::*;
 use gen_net::{HeaderFault, Net};
 use gen_types::{GeneralNo, OrderNo, OrderSet, Path, ReadError};
-use std::alloc::Global;
+use std::alloc::{AllocError, Global};
 use std::test::Fail;
 
-/// What arrives in a round, and what is to be sent for it in the next.
-type Round<'a> = (&'a [Seen], &'a [Outgoing]);
+/// A chain that arrives: its order and the generals of its path.
+type Chain = (u8, &'static [u8]);
 
-const ALL_PAIRS: [(u8, u8); 6] = [(0, 1), (0, 2), (0, 3), (1, 2), (1, 3), (2, 3)];
+/// A chain that is sent: to whom, its order and the generals of its path.
+type Relay = (u8, u8, &'static [u8]);
+
+/// What arrives in a round, and what is to be sent for it in the next.
+type Round = (&'static [Chain], &'static [Relay]);
+
+/// What a network is asked to be made of: n, edges, m, d, q and the number of the choice.
+type Asked = (u8, &'static [(u8, u8)], u8, u8, u8, u8);
+
+const ALL_PAIRS: &[(u8, u8)] = &[(0, 1), (0, 2), (0, 3), (1, 2), (1, 3), (2, 3)];
+
+/// Four generals in a line.
+const LINE: Asked = (4, &[(0, 1), (1, 2), (2, 3)], 0, 3, 2, 0);
+
+/// Four generals who are all neighbours, in three rounds.
+const ALL_JOINED: Asked = (4, ALL_PAIRS, 2, 1, 3, 0);
+
+/// The same in one round.
+const IN_ONE_ROUND: Asked = (4, ALL_PAIRS, 0, 1, 3, 1);
+
+/// The same in two.
+const IN_TWO_ROUNDS: Asked = (4, ALL_PAIRS, 1, 1, 3, 1);
 
 /// The numbers of all generals; the first 15 are those of all orders too.
 const NUMBERS: [u8; 16] = [0, 1, 2, 3, 4, 5, 6, 7, 8, 9, 10, 11, 12, 13, 14, 15];
+
+/// The network that is asked for.
+fn net_of(alloc: Global, asked: Asked) -> Result<Net, Fail> {
+    let (n, edges, m, d, q, choice) = asked;
+    Net::new(alloc, n, edges, m, d, q, choice).map_err(|_| "no net".into())
+}
 
 /// The path of these generals.
 fn path_of(generals: &[u8]) -> Path {
@@ -34,17 +61,39 @@ fn seen(order: u8, path: Path) -> Seen {
     }
 }
 
-/// The chain of this order and path, to this general.
-fn send(to: u8, order: u8, path: Path) -> Outgoing {
-    Outgoing {
-        to: GeneralNo::at(to % 16),
-        order: OrderNo::at(order % 16),
-        path,
+/// The chains, each from its last signer.
+fn arrivals(alloc: Global, chains: &[Chain]) -> Result<Vec<Seen>, AllocError> {
+    let mut arrived = Vec::new(alloc);
+    for (order, generals) in chains {
+        arrived.push(seen(*order, path_of(*generals)))?;
+    }
+    Ok(arrived)
+}
+
+/// Whether a chain is sent to this general, with this order and path.
+fn is_relay(sent: &Outgoing, relay: &Relay) -> bool {
+    sent.to.get() == relay.0 && sent.order.get() == relay.1 && sent.path == path_of(relay.2)
+}
+
+/// Whether exactly these chains are sent, in this order.
+fn are_relays(out: &[Outgoing], relays: &[Relay]) -> bool {
+    out.len() == relays.len()
+        && out
+            .iter()
+            .zip(relays.iter())
+            .all(|(sent, relay)| is_relay(sent, relay))
+}
+
+/// Whether a general sends exactly these chains for what he adds.
+fn sends_for(alloc: Global, net: &Net, me: GeneralNo, adds: &Adds, relays: &[Relay]) -> bool {
+    match sends(alloc, net, me, adds) {
+        Ok(out) => are_relays(out.as_slice(), relays),
+        Err(_) => false,
     }
 }
 
 /// Whether there is a next round, and the lieutenant sends exactly this for it.
-fn relays(alloc: Global, net: &Net, lieutenant: &mut Lieutenant, round: Round) -> bool
+fn relays(alloc: Global, net: &Net, lieutenant: &mut Lieutenant, round: &Round) -> bool
     requires { lieutenant.old.rounds ≡ rounds net.now }
     ensures { lieutenant.new.rounds ≡ rounds net.now }
 {
@@ -52,15 +101,15 @@ fn relays(alloc: Global, net: &Net, lieutenant: &mut Lieutenant, round: Round) -
     if lieutenant.gone() >= net.rounds() {
         return false;
     }
-    let adds = lieutenant.round(round.0);
-    match sends(alloc, net, me, &adds) {
-        Ok(out) => out.as_slice() == round.1,
-        Err(_) => false,
-    }
+    let Ok(arrived) = arrivals(alloc, round.0) else {
+        return false;
+    };
+    let adds = lieutenant.round(arrived.as_slice());
+    sends_for(alloc, net, me, &adds, round.1)
 }
 
 /// What the lieutenant decides after three rounds; None where he sends anything but this for them.
-fn decided(alloc: Global, net: &Net, me: u8, course: [Round; 3]) -> Option<(OrderSet, OrderNo)> {
+fn decided(alloc: Global, net: &Net, me: u8, course: &[Round; 3]) -> Option<(OrderSet, OrderNo)> {
     let me = GeneralNo::new(me)?;
     if me.get() == 0 || me.get() >= net.generals() {
         return None;
@@ -86,130 +135,163 @@ fn is_decision(decision: Option<(OrderSet, OrderNo)>, orders: &[u8], order: u8) 
     }
 }
 
-#[test]
-fn on_a_line(rt: HostRuntime) {
-    let alloc = rt.alloc();
-    let net = Net::new(alloc, 4, &[(0, 1), (1, 2), (2, 3)], 0, 3, 2, 0).expect(&rt, "net");
-    let (one, two, three) = (path_of(&[0]), path_of(&[0, 1]), path_of(&[0, 1, 2]));
-    // Each relays what arrives to the next general, and never to one of the path. The last one adds
-    // the order in the last round.
-    let rows: [(u8, [Round; 3]); 3] = [
-        (
-            1,
-            [
-                (&[seen(1, one)], &[send(2, 1, two)]),
-                (&[], &[]),
-                (&[], &[]),
-            ],
-        ),
-        (
-            2,
-            [
-                (&[], &[]),
-                (&[seen(1, two)], &[send(3, 1, three)]),
-                (&[], &[]),
-            ],
-        ),
-        (3, [(&[], &[]), (&[], &[]), (&[seen(1, three)], &[])]),
-    ];
-    for (me, course) in rows {
-        assert!(rt;
-            is_decision(decided(alloc, &net, me, course), &[1], 1),
-            "lieutenant {me}"
-        );
-    }
-    let nothing: Round = (&[], &[]);
-    assert!(rt; is_decision(decided(alloc, &net, 1, [nothing, nothing, nothing]), &[], 0));
+/// A lieutenant, three rounds of his, the orders that he has then and the one that he decides.
+type Course = (u8, [Round; 3], &'static [u8], u8);
+
+/// Whether a course goes so in this network.
+fn is_right(alloc: Global, net: &Net, course: &Course) -> bool {
+    let (me, rounds, orders, order) = course;
+    is_decision(decided(alloc, net, *me, rounds), *orders, *order)
 }
 
-#[test]
-fn all_joined(rt: HostRuntime) {
-    let alloc = rt.alloc();
-    let net = Net::new(alloc, 4, &ALL_PAIRS, 2, 1, 3, 0).expect(&rt, "net");
-    let (first, own) = (path_of(&[0]), path_of(&[0, 1]));
-    let (by_2, by_3) = (path_of(&[0, 2]), path_of(&[0, 3]));
-    let (by_21, by_31, by_32) = (
-        path_of(&[0, 2, 1]),
-        path_of(&[0, 3, 1]),
-        path_of(&[0, 3, 2]),
-    );
-    // Of two senders of one order the lesser is picked, whichever comes first.
-    let two: [Round; 2] = [
-        (&[seen(2, by_3), seen(2, by_2)], &[send(3, 2, by_21)]),
-        (&[seen(2, by_2), seen(2, by_3)], &[send(3, 2, by_21)]),
-    ];
-    for round in two {
-        let course: [Round; 3] = [(&[], &[]), round, (&[], &[])];
-        assert!(rt; is_decision(decided(alloc, &net, 1, course), &[2], 2));
-    }
-    // An order that arrived before isn't added again. Sends are by receiver and order. Of two orders
-    // the choice is RETREAT. What is added in the last round is sent to nobody.
-    let course: [Round; 3] = [
-        (&[seen(2, first)], &[send(2, 2, own), send(3, 2, own)]),
-        (&[seen(2, by_2), seen(1, by_3)], &[send(2, 1, by_31)]),
-        (&[seen(1, by_32), seen(0, by_32)], &[]),
-    ];
-    assert!(rt; is_decision(decided(alloc, &net, 1, course), &[0, 1, 2], 0));
-}
-
-#[test]
-fn last_round(rt: HostRuntime) -> Result<(), Fail> {
-    let alloc = rt.alloc();
-    let first = path_of(&[0]);
-    // An order that is added in the only round is relayed to nobody, though two neighbours are outside
-    // the path; with one round more it goes to both.
-    for (traitors, relayed) in [(0, false), (1, true)] {
-        let net = Net::new(alloc, 4, &ALL_PAIRS, traitors, 1, 3, 1).expect(&rt, "net");
-        assert!(rt; net.generals() == 4);
-        let mut lieutenant = Lieutenant::new(&net, GeneralNo::at(1));
-        assert!(rt; lieutenant.gone() < net.rounds());
-        let adds = lieutenant.round(&[seen(2, first)]);
-        assert_eq!(rt; adds.get(OrderNo::at(2)), Some(first));
-        assert_eq!(rt; adds.get(OrderNo::at(1)), None);
-        let out = sends(alloc, &net, GeneralNo::at(1), &adds)?;
-        let both = [send(2, 2, path_of(&[0, 1])), send(3, 2, path_of(&[0, 1]))];
-        if relayed {
-            assert_eq!(rt; out.as_slice(), both.as_slice());
-        } else {
-            assert!(rt; out.is_empty());
+/// The index of the first course that goes otherwise in this network.
+fn first_wrong(alloc: Global, asked: Asked, courses: &[Course]) -> Result<Option<usize>, Fail> {
+    let net = net_of(alloc, asked)?;
+    for (index, course) in courses.iter().enumerate() {
+        if !is_right(alloc, &net, course) {
+            return Ok(Some(index));
         }
     }
+    Ok(None)
+}
+
+/// Each relays what arrives to the next general, and never to one of the path. The last one adds the order
+/// in the last round.
+const ON_A_LINE: [Course; 4] = [
+    (
+        1,
+        [(&[(1, &[0])], &[(2, 1, &[0, 1])]), (&[], &[]), (&[], &[])],
+        &[1],
+        1,
+    ),
+    (
+        2,
+        [
+            (&[], &[]),
+            (&[(1, &[0, 1])], &[(3, 1, &[0, 1, 2])]),
+            (&[], &[]),
+        ],
+        &[1],
+        1,
+    ),
+    (
+        3,
+        [(&[], &[]), (&[], &[]), (&[(1, &[0, 1, 2])], &[])],
+        &[1],
+        1,
+    ),
+    (1, [(&[], &[]), (&[], &[]), (&[], &[])], &[], 0),
+];
+
+#[test]
+fn on_a_line(rt: HostRuntime) -> Result<(), Fail> {
+    assert!(rt; first_wrong(rt.alloc(), LINE, &ON_A_LINE)? == None);
     Ok(())
 }
 
+/// Of two senders of one order the lesser is picked, whichever comes first. An order that arrived before
+/// isn't added again. Sends are by receiver and order. Of two orders the choice is RETREAT. What is added
+/// in the last round is sent to nobody.
+const WITH_ALL_JOINED: [Course; 3] = [
+    (
+        1,
+        [
+            (&[], &[]),
+            (&[(2, &[0, 3]), (2, &[0, 2])], &[(3, 2, &[0, 2, 1])]),
+            (&[], &[]),
+        ],
+        &[2],
+        2,
+    ),
+    (
+        1,
+        [
+            (&[], &[]),
+            (&[(2, &[0, 2]), (2, &[0, 3])], &[(3, 2, &[0, 2, 1])]),
+            (&[], &[]),
+        ],
+        &[2],
+        2,
+    ),
+    (
+        1,
+        [
+            (&[(2, &[0])], &[(2, 2, &[0, 1]), (3, 2, &[0, 1])]),
+            (&[(2, &[0, 2]), (1, &[0, 3])], &[(2, 1, &[0, 3, 1])]),
+            (&[(1, &[0, 3, 2]), (0, &[0, 3, 2])], &[]),
+        ],
+        &[0, 1, 2],
+        0,
+    ),
+];
+
+#[test]
+fn all_joined(rt: HostRuntime) -> Result<(), Fail> {
+    assert!(rt; first_wrong(rt.alloc(), ALL_JOINED, &WITH_ALL_JOINED)? == None);
+    Ok(())
+}
+
+/// What a lieutenant adds in the first round.
+fn first_adds(alloc: Global, net: &Net, me: u8, chains: &[Chain]) -> Option<Adds> {
+    let me = GeneralNo::new(me)?;
+    if me.get() == 0 || me.get() >= net.generals() || net.rounds() == 0 {
+        return None;
+    }
+    let arrived = arrivals(alloc, chains).ok()?;
+    Some(Lieutenant::new(net, me).round(arrived.as_slice()))
+}
+
+/// Whether lieutenant 1 adds order 2 alone, which comes from the commander in the first round, and sends
+/// these chains for it.
+fn adds_and_sends(alloc: Global, asked: Asked, relays: &[Relay]) -> Result<bool, Fail> {
+    let net = net_of(alloc, asked)?;
+    let adds = first_adds(alloc, &net, 1, &[(2, &[0])]).ok_or("no lieutenant")?;
+    Ok(
+        adds.get(OrderNo::at(2)) == Some(path_of(&[0]))
+            && adds.get(OrderNo::at(1)) == None
+            && sends_for(alloc, &net, GeneralNo::at(1), &adds, relays),
+    )
+}
+
+/// An order that is added in the only round is relayed to nobody, though two neighbours are outside the
+/// path; with one round more it goes to both.
+#[test]
+fn last_round(rt: HostRuntime) -> Result<(), Fail> {
+    assert!(rt; adds_and_sends(rt.alloc(), IN_ONE_ROUND, &[])?);
+    let both = [(2, 2, [0, 1].as_slice()), (3, 2, [0, 1].as_slice())];
+    assert!(rt; adds_and_sends(rt.alloc(), IN_TWO_ROUNDS, &both)?);
+    Ok(())
+}
+
+/// What is sent for two orders that lieutenant 2 adds by generals 1 and 2. General 1 signed the path of
+/// order 1: handed in for him, it is sent to nobody.
+const OF_OWN_PATHS: [(u8, &[Relay]); 2] = [
+    (1, &[(2, 2, &[0, 1]), (3, 2, &[0, 1])]),
+    (2, &[(1, 2, &[0, 2]), (3, 1, &[0, 1, 2]), (3, 2, &[0, 2])]),
+];
+
 #[test]
 fn own_paths(rt: HostRuntime) -> Result<(), Fail> {
-    let alloc = rt.alloc();
-    let net = Net::new(alloc, 4, &ALL_PAIRS, 2, 1, 3, 0).expect(&rt, "net");
-    assert!(rt; net.generals() == 4);
-    let mut lieutenant = Lieutenant::new(&net, GeneralNo::at(2));
-    assert!(rt; lieutenant.gone() < net.rounds());
-    let (first, by_1) = (path_of(&[0]), path_of(&[0, 1]));
-    let adds = lieutenant.round(&[seen(1, by_1), seen(2, first)]);
-    // General 1 signed the path of order 1: handed in for him, it is sent to nobody.
-    let (by_2, by_12) = (path_of(&[0, 2]), path_of(&[0, 1, 2]));
-    let rows: [(u8, &[Outgoing]); 2] = [
-        (1, &[send(2, 2, by_1), send(3, 2, by_1)]),
-        (2, &[send(1, 2, by_2), send(3, 1, by_12), send(3, 2, by_2)]),
-    ];
-    for (me, want) in rows {
-        let out = sends(alloc, &net, GeneralNo::at(me), &adds)?;
-        assert_eq!(rt; out.as_slice(), want);
-    }
+    let net = net_of(rt.alloc(), ALL_JOINED)?;
+    let adds = first_adds(rt.alloc(), &net, 2, &[(1, &[0, 1]), (2, &[0])]).ok_or("no lieutenant")?;
+    assert!(rt;
+        OF_OWN_PATHS.iter().all(|(me, relays)| sends_for(
+            rt.alloc(),
+            &net,
+            GeneralNo::at(*me % 16),
+            &adds,
+            *relays
+        ))
+    );
     Ok(())
 }
 
 #[test]
 fn commands(rt: HostRuntime) -> Result<(), Fail> {
-    let alloc = rt.alloc();
-    let net = Net::new(alloc, 4, &[(3, 0), (1, 2), (0, 1)], 1, 2, 3, 1).expect(&rt, "net");
+    let net = net_of(rt.alloc(), (4, &[(3, 0), (1, 2), (0, 1)], 1, 2, 3, 1))?;
     let commander = Commander::new(OrderNo::at(2));
-    let own = path_of(&[0]);
-    let out = commander.sends(alloc, &net)?;
-    assert_eq!(rt;
-        out.as_slice(),
-        [send(1, 2, own), send(3, 2, own)].as_slice()
-    );
+    let out = commander.sends(rt.alloc(), &net)?;
+    assert!(rt; are_relays(out.as_slice(), &[(1, 2, &[0]), (3, 2, &[0])]));
     assert!(rt; is_decision(Some(commander.decide()), &[2], 2));
     Ok(())
 }
@@ -239,30 +321,45 @@ fn relayed_of_all(alloc: Global, net: &Net, me: u8, path: Path) -> Option<usize>
     Some(sends(alloc, net, me, &adds).ok()?.len())
 }
 
+/// Whether so many chains are sent where all orders arrive with the path of all before a lieutenant.
+fn relays_all(alloc: Global, net: &Net, me: u8, sent: usize) -> bool {
+    match NUMBERS.get(..usize::from(me)) {
+        Some(before) => relayed_of_all(alloc, net, me, path_of(before)) == Some(sent),
+        None => false,
+    }
+}
+
+/// 15 orders to each who is not in the longer path: 14 generals, then one, then nobody.
 #[test]
 fn at_the_limits(rt: HostRuntime) -> Result<(), Fail> {
-    let alloc = rt.alloc();
-    let net = greatest_net(alloc).expect(&rt, "net");
+    let Ok(net) = greatest_net(rt.alloc()) else {
+        return Err("no net".into());
+    };
     let commander = Commander::new(OrderNo::at(14));
-    assert_eq!(rt; commander.sends(alloc, &net)?.len(), 15);
-    // 15 orders to each who is not in the longer path: 14 generals, then one, then nobody.
-    for (me, sent) in [(1, 210), (14, 15), (15, 0)] {
-        let path = path_of(&NUMBERS[..usize::from(me)]);
-        assert_eq!(rt; relayed_of_all(alloc, &net, me, path), Some(sent));
-    }
+    assert!(rt; commander.sends(rt.alloc(), &net)?.len() == 15);
+    assert!(rt; relays_all(rt.alloc(), &net, 1, 210));
+    assert!(rt; relays_all(rt.alloc(), &net, 14, 15));
+    assert!(rt; relays_all(rt.alloc(), &net, 15, 0));
     Ok(())
+}
+
+/// How many rounds have gone for a lieutenant, and for a copy of him that took one in which order 2
+/// arrives; None where the copy doesn't add the order.
+fn gone_for_copies(net: &Net) -> Option<(u8, u8)> {
+    if net.generals() != 3 || net.rounds() == 0 {
+        return None;
+    }
+    let lieutenant = Lieutenant::new(net, GeneralNo::at(1));
+    let mut later = lieutenant;
+    let adds = later.round(&[seen(2, path_of(&[0]))]);
+    let _path = adds.get(OrderNo::at(2))?;
+    Some((lieutenant.gone(), later.gone()))
 }
 
 /// A lieutenant is copied: a round of the copy leaves him as he was.
 #[test]
-fn a_copy(rt: HostRuntime) {
-    let alloc = rt.alloc();
-    let net = Net::new(alloc, 3, &[(0, 1), (1, 2)], 0, 2, 3, 1).expect(&rt, "net");
-    assert!(rt; net.generals() == 3);
-    let lieutenant = Lieutenant::new(&net, GeneralNo::at(1));
-    let mut later = lieutenant;
-    assert!(rt; later.gone() < net.rounds());
-    let adds = later.round(&[seen(2, path_of(&[0]))]);
-    assert!(rt; adds.get(OrderNo::at(2)).is_some());
-    assert!(rt; (lieutenant.gone(), later.gone()) == (0, 1));
+fn a_copy(rt: HostRuntime) -> Result<(), Fail> {
+    let net = net_of(rt.alloc(), (3, &[(0, 1), (1, 2)], 0, 2, 3, 1))?;
+    assert!(rt; gone_for_copies(&net) == Some((0, 1)));
+    Ok(())
 }

@@ -43,27 +43,37 @@ fn first_wrong(alloc: Global) -> Option<usize> {
 
 #[test]
 fn faults(rt: HostRuntime) {
-    assert_eq!(rt; first_wrong(rt.alloc()), None);
+    assert!(rt; first_wrong(rt.alloc()) == None);
+}
+
+/// Each fault and its text.
+const TEXTS: [(HeaderFault, &str); 11] = [
+    (HeaderFault::GeneralCount, "H1"),
+    (HeaderFault::BadEdge, "H2"),
+    (HeaderFault::TraitorCount, "H3"),
+    (HeaderFault::DiameterRange, "H4"),
+    (HeaderFault::RoundCount, "H5"),
+    (HeaderFault::OrderCount, "H6"),
+    (HeaderFault::UnknownChoice, "H7"),
+    (HeaderFault::RootCount, "H8"),
+    (HeaderFault::Truncated, "H9"),
+    (HeaderFault::UnknownVersion, "H10"),
+    (HeaderFault::SlotRange, "H11"),
+];
+
+/// The index of the first fault that is shown as another text.
+fn first_other_text(alloc: Global) -> Result<Option<usize>, Fail> {
+    for (index, (fault, text)) in TEXTS.iter().enumerate() {
+        if fault.to_string(alloc)?.as_str() != *text {
+            return Ok(Some(index));
+        }
+    }
+    Ok(None)
 }
 
 #[test]
 fn texts_of_faults(rt: HostRuntime) -> Result<(), Fail> {
-    let texts = [
-        (HeaderFault::GeneralCount, "H1"),
-        (HeaderFault::BadEdge, "H2"),
-        (HeaderFault::TraitorCount, "H3"),
-        (HeaderFault::DiameterRange, "H4"),
-        (HeaderFault::RoundCount, "H5"),
-        (HeaderFault::OrderCount, "H6"),
-        (HeaderFault::UnknownChoice, "H7"),
-        (HeaderFault::RootCount, "H8"),
-        (HeaderFault::Truncated, "H9"),
-        (HeaderFault::UnknownVersion, "H10"),
-        (HeaderFault::SlotRange, "H11"),
-    ];
-    for (fault, text) in texts {
-        assert_eq!(rt; fault.to_string(rt.alloc())?.as_str(), text);
-    }
+    assert!(rt; first_other_text(rt.alloc())? == None);
     Ok(())
 }
 
@@ -75,17 +85,36 @@ fn same_edges(net: &Net, want: &[(u8, u8)]) -> bool {
         .eq(want.iter().copied())
 }
 
+/// Whether the numbers of a network are these: n, m, d, the rounds, q and the choice.
+fn has_numbers(net: &Net, want: (u8, u8, u8, u8, u8, ChoiceKind)) -> bool {
+    let (n, m, d, rounds, q, choice) = want;
+    net.generals() == n
+        && net.traitors() == m
+        && net.diameter() == d
+        && net.rounds() == rounds
+        && net.orders() == q
+        && net.choice() == choice
+}
+
+/// The network that is asked for.
+fn net_of(alloc: Global, asked: Asked) -> Result<Net, Fail> {
+    let (n, edges, m, d, q, choice) = asked;
+    Net::new(alloc, n, edges, m, d, q, choice).map_err(|_| "no net".into())
+}
+
+/// A ring of four whose edges are given in some order.
+const RING: Asked = (4, &[(3, 2), (1, 0), (3, 0), (1, 2)], 2, 3, 5, 1);
+
 #[test]
-fn keeps_what_is_given(rt: HostRuntime) {
-    let alloc = rt.alloc();
-    let given = [(3, 2), (1, 0), (3, 0), (1, 2)];
-    let net = Net::new(alloc, 4, &given, 2, 3, 5, 1).expect(&rt, "a ring of four");
+fn keeps_what_is_given(rt: HostRuntime) -> Result<(), Fail> {
+    let net = net_of(rt.alloc(), RING)?;
     assert!(rt; same_edges(&net, &[(0, 1), (0, 3), (1, 2), (2, 3)]));
-    assert_eq!(rt; (net.generals(), net.traitors(), net.diameter()), (4, 2, 3));
-    assert_eq!(rt;
-        (net.rounds(), net.orders(), net.choice()),
-        (5, 5, ChoiceKind::Median)
-    );
+    assert!(rt; has_numbers(&net, (4, 2, 3, 5, 5, ChoiceKind::Median)));
+    Ok(())
+}
+
+#[test]
+fn messages_compare(rt: HostRuntime) {
     let message = Message {
         from: GeneralNo::at(1),
         to: GeneralNo::at(2),
@@ -95,45 +124,64 @@ fn keeps_what_is_given(rt: HostRuntime) {
     assert!(rt; message == message);
 }
 
-#[test]
-fn neighbours_of_a_line(rt: HostRuntime) {
-    let net = Net::new(rt.alloc(), 4, &[(2, 3), (1, 0), (1, 2)], 0, 3, 2, 0).expect(&rt, "a line");
-    let rows: [(u8, &[u8]); 4] = [(0, &[1]), (1, &[0, 2]), (2, &[1, 3]), (3, &[2])];
-    for (number, want) in rows {
-        let general = GeneralNo::at(number);
-        let neighbours = net.neighbours(general);
-        assert!(rt;
-            neighbours
-                .iter()
-                .map(GeneralNo::get)
-                .eq(want.iter().copied()),
-            "{number}"
-        );
-        for other in 0..4 {
-            let other = GeneralNo::at(other);
-            assert_eq!(rt; net.has_edge(general, other), neighbours.contains(other));
-        }
-    }
-    assert!(rt; net.neighbours(GeneralNo::at(4)).is_empty());
+/// A line of four.
+const LINE_OF_FOUR: Asked = (4, &[(2, 3), (1, 0), (1, 2)], 0, 3, 2, 0);
+
+/// The neighbours of each general of that line.
+const NEIGHBOURS: [(u8, &[u8]); 4] = [(0, &[1]), (1, &[0, 2]), (2, &[1, 3]), (3, &[2])];
+
+/// Whether these are the neighbours of a general, and he has an edge to each of them and to no other of four.
+fn has_neighbours(net: &Net, general: GeneralNo, want: &[u8]) -> bool {
+    let neighbours = net.neighbours(general);
+    let told = |number: &u8| {
+        let other = GeneralNo::at(*number % 16);
+        net.has_edge(general, other) == neighbours.contains(other)
+    };
+    neighbours
+        .iter()
+        .map(GeneralNo::get)
+        .eq(want.iter().copied())
+        && [0, 1, 2, 3].iter().all(told)
 }
 
 #[test]
-fn all_are_neighbours(rt: HostRuntime) -> Result<(), Fail> {
-    let mut edges = Vec::new(rt.alloc());
+fn neighbours_of_a_line(rt: HostRuntime) -> Result<(), Fail> {
+    let net = net_of(rt.alloc(), LINE_OF_FOUR)?;
+    assert!(rt;
+        NEIGHBOURS.iter().all(|(number, want)| has_neighbours(
+            &net,
+            GeneralNo::at(*number % 16),
+            *want
+        ))
+    );
+    assert!(rt; net.neighbours(GeneralNo::at(4)).is_empty());
+    Ok(())
+}
+
+/// The network of 16 generals who are all neighbours.
+fn net_of_all(alloc: Global) -> Result<Net, ReadError<HeaderFault>> {
+    let mut edges = Vec::new(alloc);
     for high in 1..16u8 {
         for low in 0..high {
             edges.push((high, low))?;
         }
     }
-    let net = Net::new(rt.alloc(), 16, &edges, 8, 8, 15, 1).expect(&rt, "all edges");
+    Net::new(alloc, 16, &edges, 8, 8, 15, 1)
+}
+
+/// Whether each of 16 generals has this many neighbours.
+fn each_has_neighbours(net: &Net, count: usize) -> bool {
+    (0..16u8).all(|number| net.neighbours(GeneralNo::at(number % 16)).len() == count)
+}
+
+#[test]
+fn all_are_neighbours(rt: HostRuntime) -> Result<(), Fail> {
+    let Ok(net) = net_of_all(rt.alloc()) else {
+        return Err("no net".into());
+    };
     let copy = net.clone()?;
-    assert!(rt;
-        copy.edges().len() == gen_types::limits::MOST_EDGES
-            && copy.rounds() == 16
-            && copy.orders() == 15
-    );
-    for number in 0..16 {
-        assert_eq!(rt; copy.neighbours(GeneralNo::at(number)).len(), 15);
-    }
+    assert!(rt; copy.edges().len() == gen_types::limits::MOST_EDGES);
+    assert!(rt; copy.rounds() == 16 && copy.orders() == 15);
+    assert!(rt; each_has_neighbours(&copy, 15));
     Ok(())
 }

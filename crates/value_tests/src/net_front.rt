@@ -48,13 +48,21 @@ fn cuts_are_short(alloc: Global, bytes: &[u8]) -> bool {
     true
 }
 
-/// The place in the list of the first case that is not so: the byte at a place is changed to this one, and
-/// the front of version 1 has this fault then.
-fn first_wrong(
-    alloc: Global,
-    cases: &[(usize, u8, FrontFault)],
-) -> Result<Option<usize>, AllocError> {
-    for (place, (index, byte, fault)) in cases.iter().enumerate() {
+/// In the front of version 1 another byte at a place, and the fault of the front then.
+type Case = (usize, u8, FrontFault);
+
+const CASES: [Case; 6] = [
+    (0, b'B', FrontFault::UnknownMark),
+    (3, b'3', FrontFault::UnknownMark),
+    (3, b'2', FrontFault::BadHeader(HeaderFault::UnknownVersion)),
+    (4, 2, FrontFault::BadHeader(HeaderFault::UnknownVersion)),
+    (4, 3, FrontFault::BadHeader(HeaderFault::UnknownVersion)),
+    (8, 1, FrontFault::BadHeader(HeaderFault::OrderCount)),
+];
+
+/// The index of the first case that is not so.
+fn first_wrong(alloc: Global) -> Result<Option<usize>, AllocError> {
+    for (place, (index, byte, fault)) in CASES.iter().enumerate() {
         let mut bytes = bytes_of(alloc, &FRONT)?;
         if let Some(changed) = bytes.get_mut(*index) {
             *changed = *byte;
@@ -68,32 +76,22 @@ fn first_wrong(
 
 #[test]
 fn fronts_of_both_versions(rt: HostRuntime) -> Result<(), Fail> {
-    assert_eq!(rt; slot_of(rt.alloc(), &FRONT)?, 0);
-    assert_eq!(rt; slot_of(rt.alloc(), &FRONT_IN_SLOT)?, 2);
+    assert!(rt; slot_of(rt.alloc(), &FRONT)? == 0);
+    assert!(rt; slot_of(rt.alloc(), &FRONT_IN_SLOT)? == 2);
     Ok(())
 }
 
 #[test]
 fn cut_fronts(rt: HostRuntime) -> Result<(), Fail> {
     let bytes = bytes_of(rt.alloc(), &FRONT)?;
-    assert_eq!(rt; bytes.len(), 78);
+    assert!(rt; bytes.len() == 78);
     assert!(rt; cuts_are_short(rt.alloc(), &bytes));
     Ok(())
 }
 
 #[test]
 fn faults_of_fronts(rt: HostRuntime) -> Result<(), Fail> {
-    let other_version = FrontFault::BadHeader(HeaderFault::UnknownVersion);
-    let cases = [
-        (0, b'B', FrontFault::UnknownMark),
-        (3, b'3', FrontFault::UnknownMark),
-        (3, b'2', other_version),
-        (4, 2, other_version),
-        (4, 3, other_version),
-        (8, 1, FrontFault::BadHeader(HeaderFault::OrderCount)),
-    ];
-    let wrong = first_wrong(rt.alloc(), &cases)?;
-    assert!(rt; wrong.is_none());
+    assert!(rt; first_wrong(rt.alloc())? == None);
     Ok(())
 }
 

@@ -69,84 +69,121 @@ fn fault_of(alloc: Global, front: &[u8]) -> Result<Option<ReadError<HeaderFault>
     Ok(read_header(alloc, &bytes).err())
 }
 
+/// The header with which these bytes begin, and how many of them it takes.
+fn header_of(alloc: Global, bytes: &[u8]) -> Result<(Header, usize), Fail> {
+    read_header(alloc, bytes).map_err(|_| "no header".into())
+}
+
+/// Whether these bytes are those of a header that is written again so, with this run id.
+fn is_written_again(alloc: Global, bytes: &[u8], run_id: &[u8; 32]) -> Result<bool, Fail> {
+    let (header, taken) = header_of(alloc, bytes)?;
+    let written = header_bytes(alloc, &header)?;
+    Ok(taken == bytes.len() && *header.run_id() == *run_id && written.as_slice() == bytes)
+}
+
 #[test]
 fn smallest_header_with_an_edge(rt: HostRuntime) -> Result<(), Fail> {
-    let alloc = rt.alloc();
-    let (header, taken) = read_header(alloc, &OF_TWO).expect(&rt, "a header");
-    assert_eq!(rt; taken, 73);
-    assert!(rt; *header.run_id() == RUN_OF_TWO);
-    assert!(rt; header_bytes(alloc, &header)?.as_slice() == OF_TWO.as_slice());
+    assert!(rt; is_written_again(rt.alloc(), &OF_TWO, &RUN_OF_TWO)?);
+    let (header, _) = header_of(rt.alloc(), &OF_TWO)?;
     assert!(rt; header.roots().len() == 2 && header.net().rounds() == 1);
     assert!(rt; header.root(GeneralNo::at(1)).as_slice() == &OF_TWO[41..]);
     Ok(())
 }
 
+/// Whether so many bytes of that header are too few.
+fn is_truncated(alloc: Global, count: usize) -> bool {
+    let bytes = OF_TWO.get(..count).unwrap_or(&OF_TWO);
+    read_header(alloc, bytes).err() == Some(ReadError::Fault(HeaderFault::Truncated))
+}
+
 #[test]
 fn cut_headers(rt: HostRuntime) {
-    let alloc = rt.alloc();
-    for count in 0..73usize {
-        let fault = read_header(alloc, &OF_TWO[..count]).err();
-        assert_eq!(rt;
-            fault,
-            Some(ReadError::Fault(HeaderFault::Truncated)),
-            "{count}"
-        );
-    }
+    assert!(rt; (0..73usize).all(|count| is_truncated(rt.alloc(), count)));
+}
+
+/// The network of two generals without an edge.
+fn net_of_two(alloc: Global) -> Result<Net, Fail> {
+    Net::new(alloc, 2, &[], 0, 1, 2, 0).map_err(|_| "no net".into())
 }
 
 #[test]
 fn header_in_slot_1(rt: HostRuntime) -> Result<(), Fail> {
-    let alloc = rt.alloc();
-    let (header, taken) = read_header(alloc, &OF_TWO_IN_SLOT_1).expect(&rt, "a header");
-    assert!(rt; taken == 74 && *header.run_id() == RUN_IN_SLOT_1);
-    assert!(rt; header_bytes(alloc, &header)?.as_slice() == OF_TWO_IN_SLOT_1.as_slice());
-    assert_eq!(rt;
-        (header.version(), header.slot()),
-        (Version::Two { slot: 1 }, 1)
-    );
-    assert_eq!(rt; header.height(), TreeHeight::Six);
+    assert!(rt; is_written_again(rt.alloc(), &OF_TWO_IN_SLOT_1, &RUN_IN_SLOT_1)?);
+    let (header, _) = header_of(rt.alloc(), &OF_TWO_IN_SLOT_1)?;
+    assert!(rt; header.version() == Version::Two { slot: 1 } && header.slot() == 1);
+    assert!(rt; header.height() == TreeHeight::Six);
+    Ok(())
+}
+
+/// The run id of the header with the network and the roots of this one, in a slot.
+fn run_id_again(alloc: Global, header: &Header, slot: u8) -> Result<[u8; 32], Fail> {
     let mut roots = Vec::new(alloc);
     roots.extend_from_slice(header.roots())?;
-    let again = Header::new_in_slot(header.net().clone()?, 1, roots).expect(&rt, "slot 1");
-    assert!(rt; *again.run_id() == RUN_IN_SLOT_1);
+    match Header::new_in_slot(header.net().clone()?, slot, roots) {
+        Ok(again) => Ok(*again.run_id()),
+        Err(_) => Err("no header".into()),
+    }
+}
+
+#[test]
+fn header_made_in_slot_1(rt: HostRuntime) -> Result<(), Fail> {
+    let (header, _) = header_of(rt.alloc(), &OF_TWO_IN_SLOT_1)?;
+    assert!(rt; run_id_again(rt.alloc(), &header, 1)? == RUN_IN_SLOT_1);
     Ok(())
+}
+
+/// A slot, how many roots there are for two generals, and the fault of the header.
+const SLOTS: [(u8, u8, Option<HeaderFault>); 6] = [
+    (0, 2, None),
+    (3, 2, None),
+    (4, 2, Some(HeaderFault::SlotRange)),
+    (255, 2, Some(HeaderFault::SlotRange)),
+    (4, 3, Some(HeaderFault::RootCount)),
+    (3, 1, Some(HeaderFault::RootCount)),
+];
+
+/// The index of the first of these that is not so.
+fn first_other_slot(alloc: Global) -> Result<Option<usize>, Fail> {
+    for (place, (slot, count, fault)) in SLOTS.iter().enumerate() {
+        let net = net_of_two(alloc)?;
+        if Header::new_in_slot(net, *slot, roots(alloc, *count)?).err() != *fault {
+            return Ok(Some(place));
+        }
+    }
+    Ok(None)
 }
 
 #[test]
 fn slots(rt: HostRuntime) -> Result<(), Fail> {
-    let alloc = rt.alloc();
-    for (slot, count, fault) in [
-        (0, 2, None),
-        (3, 2, None),
-        (4, 2, Some(HeaderFault::SlotRange)),
-        (255, 2, Some(HeaderFault::SlotRange)),
-        (4, 3, Some(HeaderFault::RootCount)),
-        (3, 1, Some(HeaderFault::RootCount)),
-    ] {
-        let net = Net::new(alloc, 2, &[], 0, 1, 2, 0).expect(&rt, "two generals");
-        let found = Header::new_in_slot(net, slot, roots(alloc, count)?).err();
-        assert_eq!(rt; found, fault, "{slot} {count}");
-    }
+    assert!(rt; first_other_slot(rt.alloc())? == None);
     Ok(())
+}
+
+/// The edges of a ring of four, as they are given.
+const GIVEN: [(u8, u8); 4] = [(3, 2), (1, 0), (3, 0), (1, 2)];
+
+/// The header of the ring of four, made of its parts.
+fn header_of_ring(alloc: Global) -> Result<Header, Fail> {
+    let Ok(net) = Net::new(alloc, 4, &GIVEN, 2, 3, 5, 1) else {
+        return Err("no net".into());
+    };
+    Header::new(net, roots(alloc, 4)?).map_err(|_| "no header".into())
 }
 
 #[test]
 fn header_of_a_ring(rt: HostRuntime) -> Result<(), Fail> {
-    let alloc = rt.alloc();
-    let given = [(3, 2), (1, 0), (3, 0), (1, 2)];
-    let net = Net::new(alloc, 4, &given, 2, 3, 5, 1).expect(&rt, "a ring of four");
-    let header = Header::new(net, roots(alloc, 4)?).expect(&rt, "four roots");
+    let header = header_of_ring(rt.alloc())?;
     assert!(rt; *header.run_id() == RUN_OF_RING);
     assert!(rt; header.version() == Version::One && header.slot() == 0);
     assert!(rt; header.height() == TreeHeight::Four);
-    assert!(rt; header_bytes(alloc, &header)? == bytes_with(alloc, &RING, 4)?);
+    assert!(rt; header_bytes(rt.alloc(), &header)? == bytes_with(rt.alloc(), &RING, 4)?);
     Ok(())
 }
 
 #[test]
 fn ring_in_bytes(rt: HostRuntime) -> Result<(), Fail> {
     let bytes = bytes_with(rt.alloc(), &RING, 4)?;
-    let (header, taken) = read_header(rt.alloc(), &bytes).expect(&rt, "a ring of four");
+    let (header, taken) = header_of(rt.alloc(), &bytes)?;
     assert!(rt; taken == 143 && *header.run_id() == RUN_OF_RING);
     assert!(rt; header.net().generals() == 4 && *header.root(GeneralNo::at(3)) == [4; 32]);
     Ok(())
@@ -165,18 +202,21 @@ const UNLIKE: &[&[u8]] = &[
     &[2, 1, 4, 2, 3, 5, 1, 1, 0, 1],
 ];
 
+/// The header of four generals that begins so, whose last root is this one.
+fn header_with(alloc: Global, front: &[u8], last: &[u8; 32]) -> Result<Header, Fail> {
+    let mut bytes = bytes_with(alloc, front, 3)?;
+    bytes.extend_from_slice(last)?;
+    let (header, _) = header_of(alloc, &bytes)?;
+    Ok(header)
+}
+
 /// The headers that begin so, with the same roots, and one more like the first whose last root is another.
 fn unlike_headers(alloc: Global) -> Result<Vec<Header>, Fail> {
     let mut headers = Vec::new(alloc);
     for front in UNLIKE {
-        let bytes = bytes_with(alloc, front, 4)?;
-        let (header, _) = read_header(alloc, &bytes).map_err(|_| "no header")?;
-        headers.push(header)?;
+        headers.push(header_with(alloc, front, &[4; 32])?)?;
     }
-    let mut bytes = bytes_with(alloc, &[1, 4, 2, 3, 5, 1, 1, 0, 1], 3)?;
-    bytes.extend_from_slice(&[9; 32])?;
-    let (header, _) = read_header(alloc, &bytes).map_err(|_| "no header")?;
-    headers.push(header)?;
+    headers.push(header_with(alloc, UNLIKE[0], &[9; 32])?)?;
     Ok(headers)
 }
 
@@ -190,45 +230,76 @@ fn count_equal(headers: &[Header], one: &Header) -> (usize, usize) {
     (equal, network)
 }
 
+/// The place of the first header that is equal to another, or has the network of other ones than it should:
+/// the first network stands in the headers of both versions and of the other root too.
+fn first_wrongly_equal(headers: &[Header]) -> Option<usize> {
+    for (place, one) in headers.iter().enumerate() {
+        let networks = if matches!(place, 0 | 6 | 7 | 8) { 4 } else { 1 };
+        if count_equal(headers, one) != (1, networks) {
+            return Some(place);
+        }
+    }
+    None
+}
+
+/// Whether each header is equal to its copy.
+fn equal_their_copies(headers: &[Header]) -> Result<bool, AllocError> {
+    for one in headers {
+        if *one != one.clone()? {
+            return Ok(false);
+        }
+    }
+    Ok(true)
+}
+
 #[test]
 fn equal_headers(rt: HostRuntime) -> Result<(), Fail> {
     let headers = unlike_headers(rt.alloc())?;
-    for (place, one) in headers.iter().enumerate() {
-        // The first network stands in the headers of both versions and of the other root too.
-        let networks = if matches!(place, 0 | 6 | 7 | 8) { 4 } else { 1 };
-        assert_eq!(rt; count_equal(&headers, one), (1, networks), "{place}");
-        assert!(rt; *one == one.clone()?);
-    }
+    assert!(rt; headers.len() == 9 && first_wrongly_equal(&headers) == None);
+    assert!(rt; equal_their_copies(&headers)?);
     Ok(())
+}
+
+/// Whether bytes begin with a header of version 1 that has this run id, and nothing is left behind it.
+fn is_of_version_one(alloc: Global, bytes: &[u8], run_id: &[u8; 32]) -> bool {
+    match read_header_of(alloc, VERSION_ONE, bytes) {
+        Ok((header, rest)) => *header.run_id() == *run_id && rest.is_empty(),
+        Err(_) => false,
+    }
 }
 
 #[test]
 fn header_of_a_version(rt: HostRuntime) -> Result<(), Fail> {
     let bytes = bytes_with(rt.alloc(), &RING, 4)?;
-    let (header, rest) = read_header_of(rt.alloc(), VERSION_ONE, &bytes).expect(
-        &rt,
-        "a ring of four",
-    );
-    assert!(rt; *header.run_id() == RUN_OF_RING && rest.is_empty());
-    assert_eq!(rt;
-        read_header_of(rt.alloc(), VERSION_TWO, &bytes).err(),
-        Some(ReadError::Fault(FrontFault::BadHeader(HeaderFault::UnknownVersion)))
-    );
+    assert!(rt; is_of_version_one(rt.alloc(), &bytes, &RUN_OF_RING));
+    let fault = read_header_of(rt.alloc(), VERSION_TWO, &bytes).err();
+    let unknown = FrontFault::BadHeader(HeaderFault::UnknownVersion);
+    assert!(rt; fault == Some(ReadError::Fault(unknown)));
     Ok(())
+}
+
+/// How many roots there are for two generals, and the fault of the header.
+const ROOT_COUNTS: [(u8, Option<HeaderFault>); 4] = [
+    (0, Some(HeaderFault::RootCount)),
+    (1, Some(HeaderFault::RootCount)),
+    (2, None),
+    (3, Some(HeaderFault::RootCount)),
+];
+
+/// The index of the first of these that is not so.
+fn first_other_count(alloc: Global) -> Result<Option<usize>, Fail> {
+    for (place, (count, fault)) in ROOT_COUNTS.iter().enumerate() {
+        let net = net_of_two(alloc)?;
+        if Header::new(net, roots(alloc, *count)?).err() != *fault {
+            return Ok(Some(place));
+        }
+    }
+    Ok(None)
 }
 
 #[test]
 fn root_counts(rt: HostRuntime) -> Result<(), Fail> {
-    for (count, fault) in [
-        (0, Some(HeaderFault::RootCount)),
-        (1, Some(HeaderFault::RootCount)),
-        (2, None),
-        (3, Some(HeaderFault::RootCount)),
-    ] {
-        let net = Net::new(rt.alloc(), 2, &[], 0, 1, 2, 0).expect(&rt, "two generals");
-        let found = Header::new(net, roots(rt.alloc(), count)?).err();
-        assert_eq!(rt; found, fault, "{count}");
-    }
+    assert!(rt; first_other_count(rt.alloc())? == None);
     Ok(())
 }
 
@@ -255,12 +326,16 @@ fn largest_bytes(alloc: Global) -> Result<Vec<u8>, AllocError> {
 
 #[test]
 fn largest_header(rt: HostRuntime) -> Result<(), Fail> {
-    laws::one_header_spelling();
     let bytes = largest_bytes(rt.alloc())?;
-    let (header, taken) = read_header(rt.alloc(), &bytes).expect(&rt, "all edges");
-    assert_eq!(rt; taken, 759);
+    let (header, taken) = header_of(rt.alloc(), &bytes)?;
+    assert!(rt; taken == 759);
     assert!(rt; header_bytes(rt.alloc(), &header.clone()?)? == bytes);
     Ok(())
+}
+
+#[test]
+fn law_of_headers() {
+    laws::one_header_spelling();
 }
 
 /// Bytes before the roots, and the fault that is found; none where they begin a header.
@@ -316,6 +391,6 @@ fn first_wrong(alloc: Global) -> Result<Option<usize>, AllocError> {
 
 #[test]
 fn header_faults(rt: HostRuntime) -> Result<(), Fail> {
-    assert_eq!(rt; first_wrong(rt.alloc())?, None);
+    assert!(rt; first_wrong(rt.alloc())? == None);
     Ok(())
 }

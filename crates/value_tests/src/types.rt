@@ -19,142 +19,217 @@ fn chosen<C: Choice>(choice: &C, numbers: &[u8]) -> u8 {
     choice.choose(orders(numbers)).get()
 }
 
+/// Numbers of orders, and the numbers of what is chosen of them by either choice.
+type ChoiceRow = (&'static [u8], u8, u8);
+
+const CHOICES: [ChoiceRow; 7] = [
+    (&[], 0, 0),
+    (&[0], 0, 0),
+    (&[2], 2, 2),
+    (&[1, 3], 0, 1),
+    (&[3, 1], 0, 1),
+    (&[2, 3, 0], 0, 2),
+    (&[15, 14, 13, 1], 0, 13),
+];
+
+/// Whether the types of the choices choose as a row says.
+fn types_choose(row: &ChoiceRow) -> bool {
+    let (numbers, only, median) = *row;
+    chosen(&OnlyOrRetreat, numbers) == only && chosen(&MedianOrder, numbers) == median
+}
+
+/// Whether the kinds of the choices do.
+fn kinds_choose(row: &ChoiceRow) -> bool {
+    let (numbers, only, median) = *row;
+    chosen(&ChoiceKind::Only, numbers) == only && chosen(&ChoiceKind::Median, numbers) == median
+}
+
 #[test]
 fn chooses(rt: HostRuntime) {
-    let rows: [(&[u8], u8, u8); 7] = [
-        (&[], 0, 0),
-        (&[0], 0, 0),
-        (&[2], 2, 2),
-        (&[1, 3], 0, 1),
-        (&[3, 1], 0, 1),
-        (&[2, 3, 0], 0, 2),
-        (&[15, 14, 13, 1], 0, 13),
-    ];
-    for (numbers, only, median) in rows {
-        assert_eq!(rt;
-            chosen(&OnlyOrRetreat, numbers),
-            only,
-            "only of {numbers:?}"
-        );
-        assert_eq!(rt;
-            chosen(&MedianOrder, numbers),
-            median,
-            "median of {numbers:?}"
-        );
-        assert_eq!(rt;
-            chosen(&ChoiceKind::Only, numbers),
-            only,
-            "choice 0 of {numbers:?}"
-        );
-        assert_eq!(rt;
-            chosen(&ChoiceKind::Median, numbers),
-            median,
-            "choice 1 of {numbers:?}"
-        );
-    }
-    let kinds = [
-        (0, Some(ChoiceKind::Only)),
-        (1, Some(ChoiceKind::Median)),
-        (2, None),
-        (255, None),
-    ];
-    for (number, kind) in kinds {
-        assert_eq!(rt; ChoiceKind::new(number), kind, "choice {number}");
-        if let Some(kind) = kind {
-            assert_eq!(rt; kind.number(), number);
+    assert!(rt; CHOICES.iter().all(types_choose));
+    assert!(rt; CHOICES.iter().all(kinds_choose));
+}
+
+/// A number and the choice that it stands for.
+type KindRow = (u8, Option<ChoiceKind>);
+
+const KINDS: [KindRow; 4] = [
+    (0, Some(ChoiceKind::Only)),
+    (1, Some(ChoiceKind::Median)),
+    (2, None),
+    (255, None),
+];
+
+/// Whether a number stands for a choice as a row says, and the choice has that number.
+fn is_kind(row: &KindRow) -> bool {
+    let (number, kind) = *row;
+    ChoiceKind::new(number) == kind
+        && match kind {
+            Some(kind) => kind.number() == number,
+            None => true,
+        }
+}
+
+#[test]
+fn kinds_of_choices(rt: HostRuntime) {
+    assert!(rt; KINDS.iter().all(is_kind));
+}
+
+/// A number, and that of the general, if it is one.
+const GENERALS: [(u8, Option<u8>); 5] = [
+    (0, Some(0)),
+    (15, Some(15)),
+    (16, None),
+    (17, None),
+    (255, None),
+];
+
+/// A number, and that of the order, or its fault.
+const ORDERS: [(u8, Result<u8, NumberFault>); 3] = [
+    (0, Ok(0)),
+    (15, Ok(15)),
+    (16, Err(NumberFault::AboveFifteen)),
+];
+
+#[test]
+fn numbers_of_generals(rt: HostRuntime) {
+    assert!(rt;
+        GENERALS.iter().all(|(number, want)| GeneralNo::new(*number).map(GeneralNo::get) == *want)
+    );
+    assert!(rt; GeneralNo::at(7).get() == 7 && GeneralNo::commander().get() == 0);
+}
+
+#[test]
+fn numbers_of_orders(rt: HostRuntime) {
+    assert!(rt;
+        ORDERS.iter().all(|(number, want)| OrderNo::try_from(*number).map(OrderNo::get) == *want)
+    );
+    assert!(rt; OrderNo::retreat().get() == 0);
+}
+
+/// The number of a general who is put into a set, and whether he is new there.
+const INSERTED: [(u8, bool); 5] = [(9, true), (0, true), (15, true), (9, false), (0, false)];
+
+/// The number of a general, and whether he is a member then.
+const MEMBERS: [(u8, bool); 5] = [(0, true), (1, false), (9, true), (14, false), (15, true)];
+
+/// An index, and the number of the member there.
+const PLACES: [(usize, Option<u8>); 4] = [(0, Some(0)), (2, Some(15)), (3, None), (16, None)];
+
+/// The set of generals 0, 9 and 15; None where one of them is new or not otherwise than he should.
+fn set_of_three() -> Option<GeneralSet> {
+    let mut set = GeneralSet::default();
+    for (number, new) in INSERTED {
+        if set.insert(GeneralNo::at(number % 16)) != new {
+            return None;
         }
     }
+    Some(set)
 }
 
 #[test]
-fn numbers(rt: HostRuntime) {
-    let rows = [
-        (0, Some(0)),
-        (15, Some(15)),
-        (16, None),
-        (17, None),
-        (255, None),
-    ];
-    for (number, want) in rows {
-        assert_eq!(rt;
-            GeneralNo::new(number).map(GeneralNo::get),
-            want,
-            "general {number}"
-        );
-    }
-    for (number, want) in [
-        (0, Ok(0)),
-        (15, Ok(15)),
-        (16, Err(NumberFault::AboveFifteen)),
-    ] {
-        assert_eq!(rt;
-            OrderNo::try_from(number).map(OrderNo::get),
-            want,
-            "order {number}"
-        );
-    }
-    assert_eq!(rt; GeneralNo::at(7).get(), 7);
-    assert_eq!(rt; GeneralNo::commander().get(), 0);
-    assert_eq!(rt; OrderNo::retreat().get(), 0);
-}
-
-#[test]
-fn sets_ascend(rt: HostRuntime) {
-    let mut set = GeneralSet::default();
+fn sets_begin_empty(rt: HostRuntime) {
+    let set = GeneralSet::default();
     assert!(rt; set.is_empty() && set == GeneralSet::new());
-    for (number, new) in [(9, true), (0, true), (15, true), (9, false), (0, false)] {
-        assert_eq!(rt; set.insert(GeneralNo::at(number)), new, "{number}");
-    }
+}
+
+#[test]
+fn sets_have_members(rt: HostRuntime) -> Result<(), Fail> {
+    let set = set_of_three().ok_or("another set")?;
     assert!(rt; set.len() == 3 && !set.is_empty());
-    for (number, member) in [(0, true), (1, false), (9, true), (14, false), (15, true)] {
-        assert_eq!(rt; set.contains(GeneralNo::at(number)), member, "{number}");
-    }
+    assert!(rt;
+        MEMBERS.iter().all(|(number, member)| set.contains(GeneralNo::at(*number % 16)) == *member)
+    );
+    assert!(rt; PLACES.iter().all(|(index, want)| set.get(*index).map(GeneralNo::get) == *want));
+    Ok(())
+}
+
+#[test]
+fn sets_ascend(rt: HostRuntime) -> Result<(), Fail> {
+    let set = set_of_three().ok_or("another set")?;
     let ascending = [0, 9, 15];
     assert!(rt; (&set).into_iter().map(GeneralNo::get).eq(ascending));
     assert!(rt; set.iter().map(GeneralNo::get).eq(ascending));
     assert!(rt; set.into_iter().map(GeneralNo::get).eq(ascending));
-    for (index, want) in [(0, Some(0)), (2, Some(15)), (3, None), (16, None)] {
-        assert_eq!(rt; set.get(index).map(GeneralNo::get), want, "place {index}");
-    }
+    Ok(())
+}
+
+#[test]
+fn sets_in_bits(rt: HostRuntime) -> Result<(), Fail> {
+    let set = set_of_three().ok_or("another set")?;
     assert!(rt; set.bits() == 0x8201 && GeneralSet::from_bits(0x8201) == set);
     let mut one = GeneralSet::new();
     one.insert(GeneralNo::at(3));
     assert!(rt; one == GeneralSet::only(GeneralNo::at(3)) && one != set);
+    Ok(())
+}
+
+/// Whether a path takes the general of its length as its last, and is another one then that begins as before.
+fn takes_next(path: &mut Path, number: u8) -> bool {
+    let before = *path;
+    let general = GeneralNo::at(number % 16);
+    path.push(general) == Ok(())
+        && path.last() == Some(general)
+        && path.starts_with(&before)
+        && !before.starts_with(path)
+        && before != *path
+}
+
+/// Whether a path of the generals up to this one refuses the commander, and stays as it is.
+fn refuses_commander(path: &mut Path, number: u8) -> bool {
+    let longer = *path;
+    let refusal = if number < 15 {
+        PathFault::Repeated
+    } else {
+        PathFault::Full
+    };
+    path.push(GeneralNo::at(0)) == Err(refusal) && *path == longer
+}
+
+/// The path of all generals; None where one of them is taken or refused otherwise than he should.
+fn path_of_all() -> Option<Path> {
+    let mut path = Path::default();
+    for number in 0..16u8 {
+        if !takes_next(&mut path, number) || !refuses_commander(&mut path, number) {
+            return None;
+        }
+    }
+    Some(path)
 }
 
 #[test]
-fn paths_refuse(rt: HostRuntime) {
-    let mut path = Path::default();
+fn paths_refuse(rt: HostRuntime) -> Result<(), Fail> {
+    let path = Path::default();
     assert!(rt; path.is_empty() && path.last().is_none() && !path.ends_with(GeneralNo::at(0)));
-    for number in 0..16 {
-        let before = path;
-        assert_eq!(rt; path.push(GeneralNo::at(number)), Ok(()));
-        assert_eq!(rt; path.last(), Some(GeneralNo::at(number)));
-        assert!(rt; path.starts_with(&before) && !before.starts_with(&path) && before != path);
-        let longer = path;
-        let refusal = if number < 15 {
-            PathFault::Repeated
-        } else {
-            PathFault::Full
-        };
-        assert_eq!(rt; path.push(GeneralNo::at(0)), Err(refusal), "after {number}");
-        assert!(rt; path == longer);
-    }
+    let path = path_of_all().ok_or("another path")?;
     assert!(rt; path.len() == 16 && path.generals().len() == 16 && !path.is_empty());
+    Ok(())
+}
+
+/// The path of generals 0, 2 and 1.
+fn path_of_three() -> Result<Path, PathFault> {
+    let mut short = Path::new();
+    short.push(GeneralNo::at(0))?;
+    short.push(GeneralNo::at(2))?;
+    short.push(GeneralNo::at(1))?;
+    Ok(short)
 }
 
 #[test]
 fn paths_begin_and_end(rt: HostRuntime) -> Result<(), Fail> {
-    let mut short = Path::new();
-    for number in [0, 2, 1] {
-        short.push(GeneralNo::at(number))?;
-    }
+    let short = path_of_three()?;
     assert!(rt; short.len() == 3 && !Path::new().starts_with(&short));
     assert!(rt; short.generals().iter().map(|g| g.get()).eq([0, 2, 1]));
     assert!(rt; short.contains(GeneralNo::at(1)) && !short.contains(GeneralNo::at(3)));
     assert!(rt; short.ends_with(GeneralNo::at(1)) && !short.ends_with(GeneralNo::at(0)));
+    Ok(())
+}
+
+#[test]
+fn paths_of_the_commander(rt: HostRuntime) -> Result<(), Fail> {
     let mut pair = Path::commander();
-    assert!(rt; pair.generals() == [GeneralNo::at(0)].as_slice() && short.starts_with(&pair));
+    assert!(rt; pair.generals() == [GeneralNo::at(0)].as_slice());
+    assert!(rt; path_of_three()?.starts_with(&pair));
     pair.push_new(GeneralNo::at(2));
     assert!(rt; pair.generals() == [GeneralNo::at(0), GeneralNo::at(2)].as_slice());
     Ok(())
@@ -162,44 +237,40 @@ fn paths_begin_and_end(rt: HostRuntime) -> Result<(), Fail> {
 
 #[test]
 fn values_as_texts(rt: HostRuntime) -> Result<(), Fail> {
-    let alloc = rt.alloc();
-    assert_eq!(rt; OrderNo::at(15).to_string(alloc)?.as_str(), "15");
-    assert_eq!(rt;
-        PathFault::Full.to_string(alloc)?.as_str(),
-        "the path is full"
-    );
-    assert_eq!(rt;
-        PathFault::Repeated.to_string(alloc)?.as_str(),
-        "the general stands in the path"
-    );
+    assert!(rt; OrderNo::at(15).to_string(rt.alloc())?.as_str() == "15");
     Ok(())
 }
 
 #[test]
-fn readers_share(rt: HostRuntime) -> Result<(), Fail> {
-    assert_eq!(rt; check(true, 'H'), Ok(()));
-    assert_eq!(rt; check(false, 'H'), Err(ReadError::Fault('H')));
-    assert_eq!(rt; ReadError::<char>::from(AllocError), ReadError::Memory);
-    assert_eq!(rt;
-        ReadError::<char>::from(AllocFailed { value: 1 }),
-        ReadError::Memory
-    );
-    let alloc = rt.alloc();
-    let shown = [ReadError::Memory, ReadError::Fault('H')];
-    let texts = [shown[0].to_string(alloc)?, shown[1].to_string(alloc)?];
-    assert!(rt; texts[0].as_str() == "memory was refused" && texts[1].as_str() == "H");
+fn faults_of_paths_as_texts(rt: HostRuntime) -> Result<(), Fail> {
+    let full = PathFault::Full.to_string(rt.alloc())?;
+    assert!(rt; full.as_str() == "the path is full");
+    let repeated = PathFault::Repeated.to_string(rt.alloc())?;
+    assert!(rt; repeated.as_str() == "the general stands in the path");
+    Ok(())
+}
+
+#[test]
+fn readers_share(rt: HostRuntime) {
+    assert!(rt; check(true, 'H') == Ok(()));
+    assert!(rt; check(false, 'H') == Err(ReadError::Fault('H')));
+    assert!(rt; ReadError::<char>::from(AllocError) == ReadError::Memory);
+    assert!(rt; ReadError::<char>::from(AllocFailed { value: 1 }) == ReadError::Memory);
+}
+
+#[test]
+fn faults_of_readers_as_texts(rt: HostRuntime) -> Result<(), Fail> {
+    let memory = ReadError::<char>::Memory.to_string(rt.alloc())?;
+    assert!(rt; memory.as_str() == "memory was refused");
+    let fault = ReadError::Fault('H').to_string(rt.alloc())?;
+    assert!(rt; fault.as_str() == "H");
     Ok(())
 }
 
 #[test]
 fn heights(rt: HostRuntime) {
-    for (height, levels, leaves) in [(TreeHeight::Four, 4, 16), (TreeHeight::Six, 6, 64)] {
-        assert_eq!(rt;
-            (height.levels(), height.leaves()),
-            (levels, leaves),
-            "{height:?}"
-        );
-    }
+    assert!(rt; TreeHeight::Four.levels() == 4 && TreeHeight::Four.leaves() == 16);
+    assert!(rt; TreeHeight::Six.levels() == 6 && TreeHeight::Six.leaves() == 64);
 }
 
 #[test]
@@ -224,32 +295,46 @@ fn fields_of_bytes(rt: HostRuntime) {
     assert_eq!(rt; u64_at(&bytes[..7], 'H'), Err(ReadError::Fault('H')));
 }
 
+/// Digits, and the number that they spell.
+const DIGITS: [(&[u8], Option<u8>); 14] = [
+    (b"0", Some(0)),
+    (b"9", Some(9)),
+    (b"10", Some(10)),
+    (b"99", Some(99)),
+    (b"100", Some(100)),
+    (b"255", Some(255)),
+    (b"256", None),
+    (b"", None),
+    (b"00", None),
+    (b"01", None),
+    (b"012", None),
+    (b"1000", None),
+    (b"+1", None),
+    (b"1a", None),
+];
+
+#[test]
+fn numbers_in_texts(rt: HostRuntime) {
+    assert!(rt;
+        DIGITS
+            .iter()
+            .all(|(digits, want)| decimal_number(*digits) == *want)
+    );
+}
+
+/// The fields of a line with two spaces in a row.
+const FIELDS: [&[u8]; 4] = [b"", b"make", b"", b"1"];
+
 #[test]
 fn texts_are_cut(rt: HostRuntime) -> Result<(), Fail> {
-    let rows: [(&[u8], Option<u8>); 14] = [
-        (b"0", Some(0)),
-        (b"9", Some(9)),
-        (b"10", Some(10)),
-        (b"99", Some(99)),
-        (b"100", Some(100)),
-        (b"255", Some(255)),
-        (b"256", None),
-        (b"", None),
-        (b"00", None),
-        (b"01", None),
-        (b"012", None),
-        (b"1000", None),
-        (b"+1", None),
-        (b"1a", None),
-    ];
-    for (digits, want) in rows {
-        assert_eq!(rt; decimal_number(digits), want, "{digits:?}");
-    }
-    let alloc = rt.alloc();
-    let fields = split_fields(alloc, b" make  1")?;
-    let want: [&[u8]; 4] = [b"", b"make", b"", b"1"];
-    assert!(rt; fields.as_slice() == want.as_slice());
-    let fields = split_fields(alloc, b"")?;
+    let fields = split_fields(rt.alloc(), b" make  1")?;
+    assert!(rt; fields.as_slice() == FIELDS.as_slice());
+    Ok(())
+}
+
+#[test]
+fn an_empty_text_is_cut(rt: HostRuntime) -> Result<(), Fail> {
+    let fields = split_fields(rt.alloc(), b"")?;
     assert!(rt; fields.len() == 1 && fields[0].is_empty());
     Ok(())
 }

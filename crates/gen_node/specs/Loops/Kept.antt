@@ -53,7 +53,8 @@ sent_one n next = record {
 -- he has heard one general more
 abbrev pub heard_one : Node → ℕ → Node
 heard_one n next = record {
-  recorder = if is_near n.recorder next then with_recvs n.recorder next (frame_in next n.inbox) else n.recorder;
+  recorder = if is_near n.recorder next then with_recvs n.recorder next (frame_in next n.inbox)
+      else n.recorder;
   stage = Hearing (next + 1);
   inbox = n.inbox;
 }

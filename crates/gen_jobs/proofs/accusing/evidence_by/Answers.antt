@@ -5,7 +5,7 @@ use Rattle.gen_convict.specs.declared.evidence.Evidence.{Evidence}
 use Rattle.gen_convict.specs.AcrossLaws.{AreEvidenceAcross}
 use Rattle.gen_convict.specs.Evidence.{told_of}
 use Rattle.gen_jobs.specs.Accusing.{AccusesWithin, AreOfRuns, TellsAcross}
-use Rattle.gen_jobs.proofs.AccusedRuns.{accuses_across, are_of_runs, runs_across, runs_within}
+use Rattle.gen_jobs.proofs.AccusedRuns.{accuses_across, are_of_runs, not_false, not_true, runs_across, runs_within}
 use Rattle.gen_jobs.proofs.accusing.evidence_by.Goals as goal
 
 pub accusation_across-requires-clause-evidence : goal.accusation_across-requires-clause-evidence
@@ -18,7 +18,7 @@ pub returns-then-not-within : goal.returns-then-not-within
 returns-then-not-within c =
     let output = c.in_ok-within.within in
     let within = subst (λ (bs : List Bundle). AccusesWithin bs c.args.general output.text.items output.negative) c.bundles.ensures.value c.in_ok-within.ensures in
-    runs_within c.args.campaign.now.bundles c.args.general output.text.items output.negative c.if-not-within.true within
+    runs_within c.args.campaign.now.bundles c.args.general output.text.items output.negative (not_true output.negative c.if-not-within.true) within
 
 pub returns : goal.returns
 returns c =
@@ -27,4 +27,4 @@ returns c =
     let within = subst (λ (bs : List Bundle). AccusesWithin bs c.args.general first.text.items first.negative) c.bundles.ensures.value c.in_ok-within.ensures in
     IfOk-weaker c.accusation_across.result _ _ (λ output it.
     let told = subst (λ (es : List Evidence). TellsAcross (map told_of es) c.args.general output.text.items output.negative) c.as_slice.ensures.value it in
-    runs_across bundles c.args.general output.text.items first.text.items output.negative first.negative c.if-not-within.false within (accuses_across bundles _ c.args.general output.text.items output.negative c.requires.across told)) c.accusation_across.ensures
+    runs_across bundles c.args.general output.text.items first.text.items output.negative first.negative (not_false first.negative c.if-not-within.false) within (accuses_across bundles _ c.args.general output.text.items output.negative c.requires.across told)) c.accusation_across.ensures

@@ -1,0 +1,237 @@
+#!/usr/bin/env python3
+"""Makes the page: one HTML file that judges bundles, campaigns and evidence in a browser, without a network.
+
+    embed/page/make_page.py OUT.html
+
+`rt lib` in crates/sm_embed has to be done before. The toolchain makes no WebAssembly of code that takes memory from the C
+library's heap. So the LLVM module that the static library is compiled from is kept on its way to clang, and compiled for
+wasm64 beside a small heap in C (heap_wasm.c). That it is this module is tested: the same call makes an archive, which has
+to be the static library byte for byte. Nothing proves the steps behind that.
+
+Where something is missing, or the toolchain is another than the one that this was tried with, one line says so, and the
+status is 1.
+"""
+import base64
+import hashlib
+import os
+import re
+import shutil
+import subprocess
+import sys
+import tempfile
+
+HERE = os.path.dirname(os.path.abspath(__file__))
+TOP = os.path.dirname(os.path.dirname(HERE))
+CRATE = "sm_embed"
+# The kit that this was tried with. With another the page has to be tried anew (trials/page.py) before this is changed.
+KIT = "rattle-kit-13f"
+EXPORTS = ["sm_audit", "sm_evidence", "sm_accuse", "room", "give_back"]
+# The page shows pictures where the library draws.
+DRAWS = "sm_draw"
+# What LLVM says of the layout of values on the one target and on the other.
+NATIVE = "x86_64-unknown-linux-gnu"
+WASM = "wasm64-unknown-unknown"
+LAYOUT = "e-m:e-p:64:64-p10:8:8-p20:8:8-i64:64-i128:128-n32:64-S128-ni:1:10:20"
+FOR_WASM = ["--no-default-config", f"--target={WASM}", "-mcpu=lime1", "-msimd128", "-mbulk-memory"]
+STACK = 1 << 22
+# The section of a WebAssembly module that has its imports, and the one that has its exports.
+IMPORTS, EXPORTED = 2, 7
+
+
+class Refused(Exception):
+    """Why there is no page, in one line."""
+
+
+def run(*words, **how):
+    """What a command writes, whose failure refuses the page."""
+    ran = subprocess.run(words, stdin=subprocess.DEVNULL, stdout=subprocess.PIPE, stderr=subprocess.STDOUT, **how)
+    if ran.returncode:
+        lines = ran.stdout.decode(errors="replace").strip().splitlines() or ["it says nothing"]
+        told = [line for line in lines if "error" in line] or lines[-1:]
+        raise Refused(f"{os.path.basename(words[0])} failed: {told[0][:300]}")
+    return ran.stdout.decode(errors="replace")
+
+
+def read(path):
+    with open(path, "rb") as it:
+        return it.read()
+
+
+def write(path, data):
+    with open(path, "wb") as it:
+        it.write(data)
+
+
+def kit_folder():
+    """Where the kit lies, and what it is called; it has to be the one that this was tried with."""
+    if not shutil.which("rt"):
+        raise Refused("rt, the command of the Rattle kit, is not on the path")
+    named = run("rt", "version").strip()
+    if named.split()[0] != KIT:
+        raise Refused(f"the toolchain is {named.split()[0]}, and this was tried with {KIT} alone")
+    return os.path.dirname(os.path.realpath(run("rt", "doc").strip())), named
+
+
+def libraries():
+    """Each crate's libraries, by crates.txt."""
+    with open(f"{TOP}/crates.txt", encoding="utf-8") as lines:
+        rows = [line.partition("#")[0].split(":") for line in lines]
+    return {row[0].split()[0]: row[1].split() for row in rows if len(row) == 2}
+
+
+def keeping_tools(kit, scratch):
+    """A folder of links that stands for the kit's toolchain, in which clang keeps the module that it is given."""
+    tools = f"{scratch}/tools"
+    os.makedirs(f"{tools}/bin")
+    os.symlink(f"{kit}/toolchain/lib", f"{tools}/lib")
+    for it in os.listdir(f"{kit}/toolchain/bin"):
+        if it != "clang":
+            os.symlink(f"{kit}/toolchain/bin/{it}", f"{tools}/bin/{it}")
+    lines = ["#!/bin/sh", f"[ ! -f module.bc ] || cp module.bc '{scratch}/module.bc'"]
+    lines += [f"exec '{kit}/toolchain/bin/clang' \"$@\"", ""]
+    write(f"{tools}/bin/clang", "\n".join(lines).encode())
+    os.chmod(f"{tools}/bin/clang", 0o755)
+    return tools
+
+
+def build_words(kit, tools, archive):
+    """The words by which `rt lib` builds the static library, with other tools and another place for the archive."""
+    uses = libraries()
+    if CRATE not in uses:
+        raise Refused(f"crates.txt has no crate {CRATE}")
+    own = {it: f"{TOP}/crates/{it}/out/rlib" for it in uses}
+    words = ["--crate-name", CRATE, "src/lib.rt"]
+    for it in ["std", *uses[CRATE]]:
+        words += ["--extern", f"{it}={own[it]}/{it}.rlib" if it in uses else f"{it}={kit}/rlibs/{it}.rlib"]
+    for folder in filter(os.path.isdir, own.values()):
+        words += ["-L", f"dependency={folder}"]
+    words += ["-L", f"dependency={kit}/rlibs", "--antt-project", f"{kit}/rattle/logic/antt-project.json"]
+    words += ["--logic-built", f"{kit}/logic_built", "--links", f"{CRATE}=", "--crate-type", "staticlib"]
+    return [*words, "--incremental", "out/incremental", "--toolchain", tools, "--backend", "llvm", "-o", archive]
+
+
+def kept_module(kit, scratch):
+    """The path of the module that the static library is compiled from."""
+    crate, archive, module = f"{TOP}/crates/{CRATE}", f"{scratch}/again.a", f"{scratch}/module.bc"
+    library = f"{crate}/out/lib{CRATE}.a"
+    if not os.path.isfile(library):
+        raise Refused(f"crates/{CRATE}/out/lib{CRATE}.a is not built: run rt lib in crates/{CRATE} first")
+    words = build_words(kit, keeping_tools(kit, scratch), archive)
+    run(f"{kit}/bin/rattle", "build", *words, cwd=crate)
+    if not os.path.isfile(module):
+        raise Refused("the toolchain has changed: it gives clang no module.bc")
+    if read(archive) != read(library):
+        first = f"run rt lib in crates/{CRATE} first"
+        raise Refused(f"the archive made anew is not lib{CRATE}.a: {first}, or the toolchain has changed")
+    return module
+
+
+def once(pattern, put, text):
+    """The text with what matches replaced, which has to be there once."""
+    text, count = re.subn(pattern, put, text, flags=re.MULTILINE)
+    if count != 1:
+        raise Refused(f"the toolchain has changed: {count} lines of the module match {pattern}")
+    return text
+
+
+def retargeted(text):
+    """The module's text for wasm64: the same code, with that layout of values and no word for the other processor."""
+    text = once(r'^target datalayout = "e-.*-i128:128-.*"$', f'target datalayout = "{LAYOUT}"', text)
+    text = once(rf'^target triple = "{NATIVE}"$', f'target triple = "{WASM}"', text)
+    if "@llvm.x86" in text or re.search(r'\basm [a-z ]*"[^"]', text):
+        raise Refused("the toolchain has changed: the module has instructions of another processor")
+    return re.sub(r' "(probe-stack|stack-probe-size|target-cpu)"="[^"]*"', "", text)
+
+
+def names_of(text):
+    """What the page calls of the module with this text."""
+    return [*EXPORTS, DRAWS] if re.search(rf"^define .*@{DRAWS}\(", text, re.MULTILINE) else EXPORTS
+
+
+def compiled(kit, module, scratch):
+    """The WebAssembly module of an LLVM module, with the heap beside it."""
+    clang, at = f"{kit}/toolchain/bin/clang", lambda name: f"{scratch}/{name}"
+    as_text = ["-S", "-emit-llvm", "-Xclang", "-disable-llvm-passes", "-x", "ir"]
+    run(clang, "--no-default-config", *as_text, module, "-o", at("module.ll"))
+    text = retargeted(read(at("module.ll")).decode())
+    write(at("module64.ll"), text.encode())
+    run(clang, *FOR_WASM, "-O3", "-c", "-x", "ir", at("module64.ll"), "-o", at("module.o"))
+    run(clang, *FOR_WASM, "-O2", "-ffreestanding", "-c", f"{HERE}/heap_wasm.c", "-o", at("heap.o"))
+    os.symlink(f"{kit}/toolchain/bin/clang", at("wasm-ld"))
+    names = [f"--export={it}" for it in names_of(text)]
+    # The stack lies below the data, so that one that grows too long leaves the memory, which traps.
+    kept = ["--stack-first", "-z", f"stack-size={STACK}", "--gc-sections", "--strip-all"]
+    run(at("wasm-ld"), "-mwasm64", "--no-entry", *names, *kept, "-o", at("page.wasm"), at("module.o"), at("heap.o"))
+    return read(at("page.wasm"))
+
+
+def number_at(data, at):
+    """A number in the form of WebAssembly, and where it ends."""
+    number, shift = 0, 0
+    while True:
+        number |= (data[at] & 127) << shift
+        shift, at = shift + 7, at + 1
+        if data[at - 1] < 128:
+            return number, at
+
+
+def sections(wasm):
+    """The sections of a WebAssembly module, by their kinds."""
+    found, at = {}, 8
+    while at < len(wasm):
+        kind = wasm[at]
+        length, at = number_at(wasm, at + 1)
+        found[kind] = wasm[at : at + length]
+        at += length
+    return found
+
+
+def look_over(wasm):
+    """Refuses a module that asks for anything of its host, or lacks an export."""
+    parts = sections(wasm)
+    if IMPORTS in parts:
+        raise Refused("the toolchain has changed: the module has imports")
+    lacking = [it for it in [*EXPORTS, "memory"] if it.encode() not in parts.get(EXPORTED, b"")]
+    if lacking:
+        raise Refused(f"the module lacks the exports {', '.join(lacking)}")
+
+
+def version():
+    """The program's version, by its list of changes."""
+    with open(f"{TOP}/CHANGELOG.md", encoding="utf-8") as lines:
+        return next(line.split()[1] for line in lines if line.startswith("## "))
+
+
+def whole_page(wasm, kit):
+    """The page's text, with the module, the script and the style in it."""
+    part = lambda name: read(f"{HERE}/{name}").decode()
+    script = f"\n\"use strict\";\n{part('meanings.js')}\n{part('page.js')}"
+    puts = {"STYLE": part("page.css"), "VERSION": version(), "KIT": kit, "DIGEST": hashlib.sha256(wasm).hexdigest()}
+    puts["SCRIPT"] = script[1:]
+    puts["HASH"] = base64.b64encode(hashlib.sha256(script.encode()).digest()).decode()
+    puts["MODULE"] = base64.b64encode(wasm).decode()
+    return re.sub(r"@([A-Z]+)@", lambda it: puts[it[1]], part("page.html"))
+
+
+def make(out):
+    """Writes the page."""
+    kit, named = kit_folder()
+    with tempfile.TemporaryDirectory() as scratch:
+        wasm = compiled(kit, kept_module(kit, scratch), scratch)
+    look_over(wasm)
+    text = whole_page(wasm, named).encode()
+    write(out, text)
+    print(f"{out}: {len(text)} bytes, with a module of {len(wasm)} bytes")
+
+
+def main():
+    if len(sys.argv) != 2:
+        sys.exit(__doc__)
+    try:
+        make(sys.argv[1])
+    except (Refused, OSError) as why:
+        sys.exit(f"make_page.py: {why}")
+
+
+if __name__ == "__main__":
+    main()
