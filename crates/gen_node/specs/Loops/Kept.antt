@@ -1,6 +1,5 @@
 -- What each node keeps, and one step of a round that begins or ends.
-use Rattle.std.specs.Prelude.{ℕ, ◌≡◌, ◌≤◌, ◌+◌, List, [], ◌∷◌, map}
-use Rattle.std.specs.Prelude.{Bool, true, false, IsSome, Some, None, if◌then◌else◌}
+use Rattle.std.specs.Prelude.{ℕ, ◌≡◌, ◌≤◌, ◌+◌, List, [], ◌∷◌, map, Bool, true, false, IsSome, Some, None, if◌then◌else◌}
 use Rattle.std.specs.List.{range_with_len, list_any}
 use Rattle.gen_net.specs.Edges.{joins}
 use Rattle.gen_net.specs.Header.{RunHeader}
