@@ -1,0 +1,159 @@
+-- What each node keeps, call by call.
+use Rattle.std.proofs.Common.{◌≡◌, ◌<◌, ◌≤◌, ◌+◌, ℕ, true, false, List, [], ◌∷◌, ◌++◌, map, refl, sym, ap, subst, ◌∙◌, arith, Option, Some, None, inl, inr}
+use Rattle.std.specs.Prelude.{IsSome}
+use Rattle.std.specs.List.{range_with_len}
+use Rattle.gen_types.proofs.Lists.{Contains_nil}
+use Rattle.gen_tree.specs.Rings.{Ring}
+use Rattle.gen_net.specs.Header.{RunHeader}
+use Rattle.gen_net.specs.Log.{Precedes}
+use Rattle.gen_log.specs.declared.entries.Entry.{Entry}
+use Rattle.gen_scenario.specs.Part.{Part}
+use Rattle.gen_scenario.specs.RoundEntries.{recv_entries, send_entries, sign_entries}
+use Rattle.gen_scenario.specs.SignedWorld.{delivery, near_of}
+use Rattle.gen_scenario.specs.Counted.{counted_of}
+use Rattle.gen_general.specs.Participant.{Participant, RingAfter, sender_at}
+use Rattle.gen_general.specs.Recording.{Recorder, RecordsRound, StandBefore, recorder_at_start, with_recvs, with_sends}
+use Rattle.gen_node.specs.declared.stages.Stage.{Stage}
+use Rattle.gen_node.specs.declared.stages.Stage.TheVariants.{Between, Sending, Open, Hearing}
+use Rattle.gen_node.specs.Held.{Held}
+use Rattle.gen_node.specs.Node.{ends_in, header_at, neighbours_at, next_heard}
+use Rattle.gen_node.specs.Loops.Kept.{HoldsFrames, IsNode, held_for, is_near, next_place}
+use Rattle.gen_node.proofs.Places.{act_before, recv_place, send_place, sign_place, stand_both, stand_later}
+use Rattle.gen_node.proofs.Rows.{held_far, held_near}
+
+pub kept_start : (h : RunHeader) (part : Part) (ring : Ring) → part.header ≡ h → part.script ≡ None → IsNode h (recorder_at_start part (Some ring)) Between []
+kept_start h part ring e none = record {
+  header = e;
+  unscripted = none;
+  ring = refl;
+  place = λ x k. absurd (Contains_nil x k);
+  holds = tt;
+}
+
+ring_stays : (p : Participant) (old new : Option Ring) → RingAfter p old new → IsSome old → IsSome new
+ring_stays p (Some old) (Some new) after some = refl
+ring_stays p (Some old) None after some = absurd after
+ring_stays p None (Some new) after some = absurd after
+ring_stays p None None after some = some
+
+-- ---- a round begins
+
+signs_stand : (h : RunHeader) (r q : Recorder) (out : List Held) → IsNode h r Between out → RecordsRound r q → StandBefore h.network q.written (q.standing.round ∷ 1 ∷ 0 ∷ [])
+signs_stand h r q out is begun =
+    let round : ℕ = r.standing.round + 1 in
+    let es : List Entry = sign_entries (sender_at r.standing) r.standing.heard round in
+    let at : List ℕ = round ∷ 1 ∷ 0 ∷ [] in
+    let old : StandBefore h.network r.written at = stand_later h.network r.written (round ∷ []) at is.place (inr (refl, tt)) in
+    let new : StandBefore h.network es at = act_before h.network round (0 ∷ []) es at (sign_place h.network (sender_at r.standing) r.standing.heard round is.unscripted) (λ rest. inr (refl, inl (omega arith))) in
+    let both : StandBefore h.network (r.written ++ es) at = stand_both h.network r.written es at old new in
+    let here : StandBefore h.network q.written at = subst (λ (xs : List Entry). StandBefore h.network xs at) (sym begun.written) both in
+    subst (λ (n : ℕ). StandBefore h.network q.written (n ∷ 1 ∷ 0 ∷ [])) (sym begun.standing.round) here
+
+pub kept_signed : (h : RunHeader) (r q : Recorder) (out : List Held) → IsNode h r Between out → RecordsRound r q → IsNode h q (Sending 0) []
+kept_signed h r q out is begun = record {
+  header = ap (λ (k : Part). k.header) begun.standing.known ∙ is.header;
+  unscripted = ap (λ (k : Part). k.script) begun.standing.known ∙ is.unscripted;
+  ring = ring_stays r.standing r.standing.ring q.standing.ring begun.standing.ring is.ring;
+  place = signs_stand h r q out is begun;
+  holds = (omega arith, refl);
+}
+
+pub kept_sent : (h : RunHeader) (r : Recorder) (next : ℕ) (out : List Held) → next < (header_at r).network.generals → is_near r next ≡ true → IsNode h r (Sending next) out → IsNode h (with_sends r next) (Sending (next + 1)) (out ++ held_for r next ∷ [])
+kept_sent h r next out low near is =
+    let round : ℕ = r.standing.round in
+    let es : List Entry = send_entries (sender_at r.standing) r.standing.before round next in
+    let at : List ℕ = round ∷ 1 ∷ (next + 1) ∷ [] in
+    let old : StandBefore h.network r.written at = stand_later h.network r.written (round ∷ 1 ∷ next ∷ []) at is.place (inr (refl, inr (refl, inl (omega arith)))) in
+    let new : StandBefore h.network es at = act_before h.network round (1 ∷ next ∷ []) es at (send_place h.network (sender_at r.standing) r.standing.before round next is.unscripted) (λ rest. inr (refl, inr (refl, inl (omega arith)))) in
+    record {
+      header = is.header;
+      unscripted = is.unscripted;
+      ring = is.ring;
+      place = stand_both h.network r.written es at old new;
+      holds = (omega (arith, low), held_near r (header_at r).network r.standing.known.me next out near is.holds.1);
+    }
+
+pub kept_unsent : (h : RunHeader) (r : Recorder) (next : ℕ) (out : List Held) → next < (header_at r).network.generals → is_near r next ≡ false → IsNode h r (Sending next) out → IsNode h r (Sending (next + 1)) out
+kept_unsent h r next out low far is =
+    let round : ℕ = r.standing.round in
+    record {
+      header = is.header;
+      unscripted = is.unscripted;
+      ring = is.ring;
+      place = stand_later h.network r.written (round ∷ 1 ∷ next ∷ []) (round ∷ 1 ∷ (next + 1) ∷ []) is.place (inr (refl, inr (refl, inl (omega arith))));
+      holds = (omega (arith, low), held_far r (header_at r).network r.standing.known.me next out far is.holds.1);
+    }
+
+pub kept_open : (h : RunHeader) (r : Recorder) (next : ℕ) (out : List Held) → (header_at r).network.generals ≤ next → IsNode h r (Sending next) out → IsNode h r Open out
+kept_open h r next out past is =
+    let round : ℕ = r.standing.round in
+    let all : next ≡ (header_at r).network.generals = omega (arith, past, is.holds.0) in
+    record {
+      header = is.header;
+      unscripted = is.unscripted;
+      ring = is.ring;
+      place = stand_later h.network r.written (round ∷ 1 ∷ next ∷ []) (round ∷ 2 ∷ []) is.place (inr (refl, inl (omega arith)));
+      holds = subst (λ (n : ℕ). out ≡ map (held_for r) (near_of (header_at r).network r.standing.known.me (range_with_len 0 n))) all is.holds.1;
+    }
+
+-- ---- a round ends
+
+pub kept_ends : (h : RunHeader) (r : Recorder) (stage : Stage) (out : List Held) → ends_in stage ≡ true → IsNode h r stage out → IsNode h r (Hearing (next_heard stage)) out
+kept_ends h r Between out e is = absurd cc
+kept_ends h r (Sending next) out e is = absurd cc
+kept_ends h r (Hearing next) out e is = is
+kept_ends h r Open out e is =
+    let round : ℕ = r.standing.round in
+    record {
+      header = is.header;
+      unscripted = is.unscripted;
+      ring = is.ring;
+      place = stand_later h.network r.written (round ∷ 2 ∷ []) (round ∷ 2 ∷ 0 ∷ []) is.place (inr (refl, inr (refl, tt)));
+      holds = tt;
+    }
+
+pub kept_heard : (h : RunHeader) (r : Recorder) (next : ℕ) (frame : List (List ℕ)) (out : List Held) → IsNode h r (Hearing next) out → IsNode h (with_recvs r next frame) (Hearing (next + 1)) out
+kept_heard h r next frame out is =
+    let round : ℕ = r.standing.round in
+    let d = delivery round next r.standing.known.me in
+    let es : List Entry = recv_entries (sender_at r.standing) round next (counted_of r.standing.known.header d frame) in
+    let at : List ℕ = round ∷ 2 ∷ (next + 1) ∷ [] in
+    let old : StandBefore h.network r.written at = stand_later h.network r.written (round ∷ 2 ∷ next ∷ []) at is.place (inr (refl, inr (refl, inl (omega arith)))) in
+    let new : StandBefore h.network es at = act_before h.network round (2 ∷ next ∷ []) es at (recv_place h.network (sender_at r.standing) r.standing.known.header d frame) (λ rest. inr (refl, inr (refl, inl (omega arith)))) in
+    record {
+      header = is.header;
+      unscripted = is.unscripted;
+      ring = is.ring;
+      place = stand_both h.network r.written es at old new;
+      holds = tt;
+    }
+
+pub kept_unheard : (h : RunHeader) (r : Recorder) (next : ℕ) (out : List Held) → IsNode h r (Hearing next) out → IsNode h r (Hearing (next + 1)) out
+kept_unheard h r next out is =
+    let round : ℕ = r.standing.round in
+    record {
+      header = is.header;
+      unscripted = is.unscripted;
+      ring = is.ring;
+      place = stand_later h.network r.written (round ∷ 2 ∷ next ∷ []) (round ∷ 2 ∷ (next + 1) ∷ []) is.place (inr (refl, inr (refl, inl (omega arith))));
+      holds = tt;
+    }
+
+pub kept_between : (h : RunHeader) (r : Recorder) (next : ℕ) (out left : List Held) → IsNode h r (Hearing next) out → IsNode h r Between left
+kept_between h r next out left is =
+    let round : ℕ = r.standing.round in
+    record {
+      header = is.header;
+      unscripted = is.unscripted;
+      ring = is.ring;
+      place = stand_later h.network r.written (round ∷ 2 ∷ next ∷ []) ((round + 1) ∷ []) is.place (inl (omega arith));
+      holds = tt;
+    }
+
+-- ---- what is asked of the recorder
+
+pub may_send_next : (h : RunHeader) (r : Recorder) (next : ℕ) (out : List Held) → IsNode h r (Sending next) out → StandBefore (header_at r).network r.written (r.standing.round ∷ 1 ∷ next ∷ [])
+may_send_next h r next out is = subst (λ (x : RunHeader). StandBefore x.network r.written (r.standing.round ∷ 1 ∷ next ∷ [])) (sym is.header) is.place
+
+pub may_hear_next : (h : RunHeader) (r : Recorder) (next : ℕ) (out : List Held) → IsNode h r (Hearing next) out → StandBefore (header_at r).network r.written (r.standing.round ∷ 2 ∷ next ∷ [])
+may_hear_next h r next out is = subst (λ (x : RunHeader). StandBefore x.network r.written (r.standing.round ∷ 2 ∷ next ∷ [])) (sym is.header) is.place

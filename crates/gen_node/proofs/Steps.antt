@@ -1,0 +1,94 @@
+-- How calls of a node follow each other.
+use Rattle.std.proofs.Common.{◌≡◌, ◌<◌, ◌≤◌, ◌+◌, ℕ, Bool, true, false, List, [], ◌∷◌, ◌++◌, length, length-append, refl, sym, ap, subst, ◌∙◌, arith, Option, Some, None, inl, inr}
+use Rattle.std.specs.Prelude.{◌&&◌, option_to_list, if◌then◌else◌}
+use Rattle.gen_types.specs.Ends.{is_among}
+use Rattle.gen_types.proofs.Lists.{bool_cases}
+use Rattle.gen_net.specs.Header.{RunHeader}
+use Rattle.gen_general.specs.Recording.{Recorder, with_recvs, with_sends}
+use Rattle.gen_node.specs.declared.stages.Stage.{Stage}
+use Rattle.gen_node.specs.declared.stages.Stage.TheVariants.{Between, Sending, Open, Hearing}
+use Rattle.gen_node.specs.Held.{frame_in}
+use Rattle.gen_node.specs.Node.{Node, HasSigned, IsBegun, IsBegunFrom, awaits, begins_in, is_open, neighbours_at, ends_in, header_at, next_heard, sent_from}
+use Rattle.gen_node.specs.Loops.Kept.{IsSignedFrom, heard_one, is_near, is_sending, next_sent, sent_one}
+
+-- what is popped of one
+pub only_one : {X : Type 0} (xs ys : List X) (o : Option X) (x y : X) → xs ≡ y ∷ [] → xs ≡ ys ++ option_to_list o → o ≡ Some x → x ≡ y
+only_one xs [] o x y one parts is = let e : x ∷ [] ≡ y ∷ [] = sym (parts ∙ ap option_to_list is) ∙ one in cc
+only_one {X} xs (z ∷ zs) o x y one parts is =
+    let e : z ∷ (zs ++ x ∷ []) ≡ y ∷ [] = sym (parts ∙ ap (λ (p : Option X). z ∷ (zs ++ option_to_list p)) is) ∙ one in
+    absurd (omega (arith, ap length e, length-append zs (x ∷ [])))
+
+-- ---- a round begins
+
+pub sending_is : (stage : Stage) → is_sending stage ≡ true → stage ≡ Sending (next_sent stage)
+sending_is Between e = absurd cc
+sending_is (Sending next) e = refl
+sending_is Open e = absurd cc
+sending_is (Hearing next) e = absurd cc
+
+pub sending_begins : (stage : Stage) (round all : ℕ) → is_sending stage ≡ true → begins_in stage round all ≡ true
+sending_begins Between round all e = absurd cc
+sending_begins (Sending next) round all e = refl
+sending_begins Open round all e = absurd cc
+sending_begins (Hearing next) round all e = absurd cc
+
+pub signed_sends : (stage : Stage) (round all : ℕ) (old mid : Node) → old.stage ≡ stage → begins_in stage round all ≡ true → IsSignedFrom stage old mid → is_sending mid.stage ≡ true
+signed_sends Between round all old mid e may is = ap is_sending is.stage
+signed_sends (Sending next) round all old mid e may is = ap (λ (n : Node). is_sending n.stage) is ∙ ap is_sending e
+signed_sends Open round all old mid e may is = absurd cc
+signed_sends (Hearing next) round all old mid e may is = absurd cc
+
+pub begun_by : (stage : Stage) (round all : ℕ) (old mid new : Node) → old.stage ≡ stage → begins_in stage round all ≡ true → IsSignedFrom stage old mid → new ≡ sent_from (next_sent mid.stage) mid → IsBegunFrom stage old new
+begun_by Between round all old mid new e may is sent = (mid, is, sent ∙ ap (λ (st : Stage). sent_from (next_sent st) mid) is.stage)
+begun_by (Sending next) round all old mid new e may is sent =
+    sent ∙ ap (λ (n : Node). sent_from (next_sent n.stage) n) is ∙ ap (λ (st : Stage). sent_from (next_sent st) old) e
+begun_by Open round all old mid new e may is sent = absurd cc
+begun_by (Hearing next) round all old mid new e may is sent = absurd cc
+
+pub later_by : (stage : Stage) (new later : Node) → is_sending stage ≡ true → IsBegunFrom stage new later → later ≡ sent_from (next_sent stage) new
+later_by Between new later e is = absurd cc
+later_by (Sending next) new later e is = is
+later_by Open new later e is = absurd cc
+later_by (Hearing next) new later e is = absurd cc
+
+chosen_header : (b : Bool) (r q : Recorder) → header_at q ≡ header_at r → header_at (if b then q else r) ≡ header_at r
+chosen_header true r q e = e
+chosen_header false r q e = refl
+
+pub sent_header : (n : Node) (next : ℕ) → header_at (sent_one n next).recorder ≡ header_at n.recorder
+sent_header n next = chosen_header (is_near n.recorder next) n.recorder (with_sends n.recorder next) refl
+
+pub heard_header : (n : Node) (next : ℕ) → header_at (heard_one n next).recorder ≡ header_at n.recorder
+heard_header n next = chosen_header (is_near n.recorder next) n.recorder (with_recvs n.recorder next (frame_in next n.inbox)) refl
+
+-- ---- one step, by whether he is a neighbour
+
+pub sent_yes : (n : Node) (next : ℕ) → is_near n.recorder next ≡ true → record { recorder = with_sends n.recorder next; stage = Sending (next + 1); inbox = n.inbox } ≡ sent_one n next
+sent_yes n next e = rw e refl
+
+pub sent_no : (n : Node) (next : ℕ) → is_near n.recorder next ≡ false → record { recorder = n.recorder; stage = Sending (next + 1); inbox = n.inbox } ≡ sent_one n next
+sent_no n next e = rw e refl
+
+pub heard_yes : (n : Node) (next : ℕ) → is_near n.recorder next ≡ true → record { recorder = with_recvs n.recorder next (frame_in next n.inbox); stage = Hearing (next + 1); inbox = n.inbox } ≡ heard_one n next
+heard_yes n next e = rw e refl
+
+pub heard_no : (n : Node) (next : ℕ) → is_near n.recorder next ≡ false → record { recorder = n.recorder; stage = Hearing (next + 1); inbox = n.inbox } ≡ heard_one n next
+heard_no n next e = rw e refl
+
+-- ---- a frame that is awaited
+
+both_true : (a b : Bool) → (a && b) ≡ true → (a ≡ true) × (b ≡ true)
+both_true true b e = (refl, e)
+both_true false b e = absurd cc
+
+open_is : (stage : Stage) → is_open stage ≡ true → stage ≡ Open
+open_is Between e = absurd cc
+open_is (Sending next) e = absurd cc
+open_is Open e = refl
+open_is (Hearing next) e = absurd cc
+
+pub awaits_both : (n : Node) (g : ℕ) → awaits n g ≡ true → (n.stage ≡ Open) × (is_among (neighbours_at n.recorder) g ≡ true)
+awaits_both n g e = let b = both_true (is_open n.stage) (is_among (neighbours_at n.recorder) g) e in (open_is n.stage b.0, b.1)
+
+pub awaits_open : (n : Node) (g : ℕ) → n.stage ≡ Open → is_among (neighbours_at n.recorder) g ≡ awaits n g
+awaits_open n g e = rw e refl

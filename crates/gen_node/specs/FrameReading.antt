@@ -1,0 +1,46 @@
+-- Reading a frame from left to right, with the first fault that is met.
+use Rattle.std.specs.Prelude.{ℕ, ◌==◌, List, length, Result, Ok}
+use Rattle.std.specs.Int.{w16, w32}
+use Rattle.gen_types.specs.Reading.{◌>>=◌, check}
+use Rattle.gen_types.specs.Bytes.{byte_at, bytes_at, number_at, many_at}
+use Rattle.gen_node.specs.declared.frames.FrameFront.{FrameFront}
+use Rattle.gen_node.specs.declared.frame_fault.FrameFault.{FrameFault}
+use Rattle.gen_node.specs.declared.frame_fault.FrameFault.TheVariants as faults
+use Rattle.gen_node.specs.Frame.{Frame, frame_mark, run_id_length}
+
+-- the mark, and the run id behind it
+unfoldable pub run_at : List ℕ → Result (List ℕ × List ℕ) FrameFault
+run_at bytes = do
+  mark ← number_at faults.Truncated w32 bytes
+  known ← check (mark.0 == frame_mark) faults.UnknownMark
+  bytes_at faults.Truncated run_id_length mark.1
+
+-- which frame it is
+unfoldable pub front_at : List ℕ → Result (FrameFront × List ℕ) FrameFault
+front_at bytes = do
+  run ← run_at bytes
+  round ← byte_at faults.Truncated run.1
+  from ← byte_at faults.Truncated round.1
+  to ← byte_at faults.Truncated from.1
+  Ok (record { run_id = run.0; round = round.0; from = from.0; to = to.0 }, to.1)
+
+-- a parcel behind its length
+unfoldable pub parcel_at : List ℕ → Result (List ℕ × List ℕ) FrameFault
+parcel_at bytes = do
+  size ← number_at faults.Truncated w32 bytes
+  bytes_at faults.Truncated size.0 size.1
+
+-- a frame, and the bytes after it
+unfoldable pub frame_at : List ℕ → Result (Frame × List ℕ) FrameFault
+frame_at bytes = do
+  front ← front_at bytes
+  count ← number_at faults.Truncated w16 front.1
+  parcels ← many_at parcel_at count.0 count.1
+  Ok (record { front = front.0; parcels = parcels.0 }, parcels.1)
+
+-- the frame that the whole of the bytes is
+unfoldable pub whole_frame : List ℕ → Result Frame FrameFault
+whole_frame bytes = do
+  frame ← frame_at bytes
+  all ← check (length frame.1 == 0) faults.LeftOver
+  Ok frame.0

@@ -1,0 +1,2 @@
+-- Definitions that only the functions inside speak of.
+pub mod Kept

@@ -1,0 +1,117 @@
+//! Reading frames.
+ghost use Rattle.std.specs.Prelude.{◌≡◌, IfOk, Ok};
+ghost use Rattle.gen_types.specs.Bytes.{many_at};
+ghost use Rattle.gen_types.specs.Reading.{Gives};
+ghost use Rattle.gen_types.specs.Spelled.{IsField, IsRead, Spells};
+ghost use Rattle.gen_node.specs.Frame.{Frame as Sent, IsFrame, frame_spelling};
+ghost use Rattle.gen_node.specs.FrameReading.{frame_at, front_at, parcel_at, run_at, whole_frame};
+
+use crate::frame_fault::FrameFault;
+use crate::frames::{Frame, FrameFront};
+use gen_script::Parcel;
+use gen_types::{ReadError, bytes_at, check, u8_at, u16_at, u32_at};
+use std::alloc::Global;
+
+/// The first four bytes of a frame, `SMF1`.
+pub const FRAME_MARK: u32 = 0x534d_4631;
+
+/// The bytes of a run id.
+const RUN_ID_BYTES: usize = 32;
+
+/// The mark, and the run id behind it.
+#[tactic(auto, unfolding(crate::specs::FrameReading::run_at))]
+fn read_run(bytes: &[u8]) -> Result<([u8; RUN_ID_BYTES], &[u8]), ReadError<FrameFault>>
+    ensures { IsField result (run_at bytes.now) }
+{
+    let (mark, rest) = u32_at(bytes, FrameFault::Truncated)?;
+    check(mark == FRAME_MARK, FrameFault::UnknownMark)?;
+    let (run, rest) = bytes_at(rest, RUN_ID_BYTES, FrameFault::Truncated)?;
+    let mut run_id = [0; RUN_ID_BYTES];
+    run_id.copy_from_slice(run);
+    Ok((run_id, rest))
+}
+
+/// Which frame it is.
+#[tactic(auto, unfolding(crate::specs::FrameReading::front_at))]
+fn read_front(bytes: &[u8]) -> Result<(FrameFront, &[u8]), ReadError<FrameFault>>
+    ensures { IsField result (front_at bytes.now) }
+{
+    let (run_id, rest) = read_run(bytes)?;
+    let (round, rest) = u8_at(rest, FrameFault::Truncated)?;
+    let (from, rest) = u8_at(rest, FrameFault::Truncated)?;
+    let (to, rest) = u8_at(rest, FrameFault::Truncated)?;
+    let front = FrameFront {
+        run_id,
+        round,
+        from,
+        to,
+    };
+    Ok((front, rest))
+}
+
+/// A parcel behind its length.
+#[tactic(auto, unfolding(crate::specs::FrameReading::parcel_at))]
+fn read_parcel(alloc: Global, bytes: &[u8]) -> Result<(Parcel, &[u8]), ReadError<FrameFault>>
+    ensures { IsField result (parcel_at bytes.now) }
+{
+    let (size, rest) = u32_at(bytes, FrameFault::Truncated)?;
+    let (parcel, rest) = bytes_at(rest, size as usize, FrameFault::Truncated)?;
+    Ok((Parcel::new(Vec::from_slice(alloc, parcel)?), rest))
+}
+
+/// This many parcels. The count is anybody's number, so no room is made for it.
+fn read_parcels(
+    alloc: Global,
+    count: u16,
+    bytes: &[u8],
+) -> Result<(Vec<Parcel>, &[u8]), ReadError<FrameFault>>
+    ensures { Gives (λ x. (x.0.items, x.1.now)) result (many_at parcel_at count bytes.now) }
+{
+    let mut parcels = Vec::new(alloc);
+    let mut rest = bytes;
+    for _ in 0..count {
+        let (parcel, after) = read_parcel(alloc, rest)?;
+        parcels.push(parcel)?;
+        rest = after;
+    }
+    Ok((parcels, rest))
+}
+
+/// The frame in front of the bytes, and the bytes after it.
+#[tactic(auto, unfolding(crate::specs::FrameReading::frame_at))]
+fn frame_in_front(alloc: Global, bytes: &[u8]) -> Result<(Frame, &[u8]), ReadError<FrameFault>>
+    ensures { IsField result (frame_at bytes.now) }
+{
+    let (front, rest) = read_front(bytes)?;
+    let (count, rest) = u16_at(rest, FrameFault::Truncated)?;
+    let (parcels, rest) = read_parcels(alloc, count, rest)?;
+    Ok((Frame::new(front, parcels), rest))
+}
+
+/// The frame that all the bytes are.
+#[tactic(auto, unfolding(crate::specs::FrameReading::whole_frame))]
+fn frame_alone(alloc: Global, bytes: &[u8]) -> Result<Frame, ReadError<FrameFault>>
+    ensures { IsRead result (whole_frame bytes.now) }
+{
+    let (frame, rest) = frame_in_front(alloc, bytes)?;
+    check(rest.len() == 0, FrameFault::LeftOver)?;
+    Ok(frame)
+}
+
+/// Returns the frame that all the bytes are: the four bytes `SMF1`, the run id, the round, the sender and the receiver, a
+/// byte each, the number of parcels in two bytes, big-endian, and for each parcel its length in four bytes, big-endian, and
+/// its bytes. What the parcels are isn't looked at.
+///
+/// # Errors
+///
+/// Truncated, UnknownMark or LeftOver, the first from left to right; and Memory where memory was refused before.
+pub fn read_frame(alloc: Global, bytes: &[u8]) -> Result<Frame, ReadError<FrameFault>>
+    // What is read is a frame, and the bytes are its spelling.
+    ensures found { IfOk result (Spells IsFrame frame_spelling bytes.now) }
+    // What the bytes spell is read, unless memory runs out.
+    ensures only { (f : Sent) → Spells IsFrame frame_spelling bytes.now f → IsRead result (Ok f) }
+    // Which fault it is.
+    ensures exact { IsRead result (whole_frame bytes.now) }
+{
+    frame_alone(alloc, bytes)
+}

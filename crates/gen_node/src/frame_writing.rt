@@ -1,0 +1,73 @@
+//! Writing frames.
+ghost use Rattle.std.specs.Prelude.{◌≡◌, ◌<◌, ◌^◌, ◌++◌, All, IfOk, OnOk, length};
+ghost use Rattle.std.specs.List.{flat_map};
+ghost use Rattle.gen_types.specs.Spelled.{Spells};
+ghost use Rattle.gen_node.specs.Frame.{IsFrame, IsFront, frame_spelling, front_spelling, parcel_spelling};
+
+use crate::frame_reading::FRAME_MARK;
+use crate::frames::FrameFront;
+use gen_script::Parcel;
+use std::alloc::{AllocError, Global};
+
+/// Appends a parcel behind its length. An error means also that the length has no spelling.
+fn put_parcel(out: &mut Vec<u8>, parcel: &Parcel) -> Result<(), AllocError>
+    ensures ok { OnOk result (out.new.items ≡ out.old.items ++ parcel_spelling parcel.now) }
+    ensures short { OnOk result (length parcel.now < 2 ^ 32) }
+{
+    let Ok(size) = u32::try_from(parcel.bytes().len()) else {
+        return Err(AllocError);
+    };
+    out.extend_from_slice(&size.to_be_bytes())?;
+    out.extend_from_slice(parcel.bytes())
+}
+
+/// Appends parcels, each behind its length.
+fn put_parcels(out: &mut Vec<u8>, parcels: &[Parcel]) -> Result<(), AllocError>
+    ensures ok { OnOk result (out.new.items ≡ out.old.items ++ flat_map parcel_spelling parcels.now) }
+    ensures short { OnOk result (All (λ p. length p < 2 ^ 32) parcels.now) }
+{
+    'parcels: for parcel in parcels {
+        put_parcel(out, parcel)?;
+    }
+    Ok(())
+}
+
+/// What the types of a front's parts say of it.
+fn parts_fit(run_id: [u8; 32], round: u8, from: u8, to: u8)
+    ensures { IsFront (record { run_id = run_id; round = round; from = from; to = to }) }
+{}
+
+/// Appends which frame it is.
+fn put_front(out: &mut Vec<u8>, front: &FrameFront) -> Result<(), AllocError>
+    ensures ok { OnOk result (out.new.items ≡ out.old.items ++ front_spelling front.now) }
+    ensures known { IsFront front.now }
+{
+    parts_fit(front.run_id, front.round, front.from, front.to);
+    out.extend_from_slice(&FRAME_MARK.to_be_bytes())?;
+    out.extend_from_slice(&front.run_id)?;
+    out.extend_from_slice(&[front.round, front.from, front.to])
+}
+
+/// Returns the one spelling of a frame with these parcels, as `read_frame` reads it.
+///
+/// # Errors
+///
+/// `AllocError` where memory is refused, and where there are 2^16 parcels or more, or one has 2^32 bytes or more: such a
+/// frame has no spelling.
+pub fn frame_bytes(
+    alloc: Global,
+    front: &FrameFront,
+    parcels: &[Parcel],
+) -> Result<Vec<u8>, AllocError>
+    ensures { IfOk result (λ bytes. Spells IsFrame frame_spelling bytes.items
+        (record { front = front.now; parcels = parcels.now })) }
+{
+    let Ok(count) = u16::try_from(parcels.len()) else {
+        return Err(AllocError);
+    };
+    let mut out = Vec::new(alloc);
+    put_front(&mut out, front)?;
+    out.extend_from_slice(&count.to_be_bytes())?;
+    put_parcels(&mut out, parcels)?;
+    Ok(out)
+}

@@ -1,0 +1,76 @@
+//! Parcels that a node holds for or of a neighbour.
+ghost use Rattle.std.specs.Prelude.{◌≡◌, option_map, is_some};
+ghost use Rattle.gen_node.specs.Held as helds;
+
+use gen_script::Parcel;
+use gen_types::GeneralNo;
+use std::marker::Model;
+
+/// A neighbour, and the parcels of the frame to him or from him. A contract sees both as one record.
+#[derive(Debug, Drop)]
+pub struct Held {
+    general: GeneralNo,
+    parcels: Vec<Parcel>,
+}
+
+impl Model for Held {
+    ghost use Rattle.gen_node.specs.Held.{Held};
+
+    ghost Value = { Held };
+
+    ghost view = { λ h. record { general = h.general; parcels = h.parcels.items } };
+}
+
+impl Held {
+    /// Returns a neighbour's parcels.
+    pub(crate) fn new(general: GeneralNo, parcels: Vec<Parcel>) -> Held
+        ensures { result ≡ record { general = general; parcels = parcels.items } }
+    {
+        Held { general, parcels }
+    }
+
+    /// Returns the neighbour.
+    pub(crate) fn general(&self) -> GeneralNo
+        ensures { result ≡ self.now.general }
+    {
+        self.general
+    }
+
+    /// Returns the parcels, in their order.
+    pub(crate) fn parcels(&self) -> &[Parcel]
+        ensures { result.now ≡ self.now.parcels }
+    {
+        self.parcels.as_slice()
+    }
+}
+
+/// Finds what is held of a general.
+pub(crate) fn find_held(rows: &[Held], general: GeneralNo) -> Option<&Held>
+    ensures { option_map (λ h. h.now.parcels) result ≡ helds.held_of general rows.now }
+{
+    let mut rest = rows;
+    'rest: while let Some((held, others)) = rest.split_first() {
+        if held.general() == general {
+            return Some(held);
+        }
+        rest = others;
+    }
+    None
+}
+
+/// Whether something is held of a general.
+pub(crate) fn is_held(rows: &[Held], general: GeneralNo) -> bool
+    ensures { result ≡ is_some (helds.held_of general rows.now) }
+{
+    find_held(rows, general).is_some()
+}
+
+/// The parcels that are held of a general, none where nothing is.
+pub(crate) fn parcels_of(rows: &[Held], general: GeneralNo) -> &[Parcel]
+    ensures { result.now ≡ helds.frame_in general rows.now }
+{
+    match find_held(rows, general) {
+        Some(held) => held.parcels(),
+        None => &[],
+    }
+}

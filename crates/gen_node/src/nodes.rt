@@ -1,0 +1,494 @@
+//! One general of a run, driven from outside.
+ghost use Rattle.std.specs.Prelude.{◌≡◌, ◌<◌, ◌↔◌, IsTrue, true, [], Err, Some, None, IfOk, IfErr, OnOk, OnErr};
+ghost use Rattle.std.specs.Str.{bytes_eq};
+ghost use Rattle.gen_types.specs.Reading.{Gives};
+ghost use Rattle.gen_types.specs.Spelled.{IsRead, Spells};
+ghost use Rattle.gen_tree.specs.Rings.{ring_root};
+ghost use Rattle.gen_net.specs.Header.{height_of, root_of};
+ghost use Rattle.gen_scenario.specs.Part.{CanFollow};
+ghost use Rattle.gen_general.specs.Participant.{IsUnused};
+ghost use Rattle.gen_general.specs.Recording.{RingSealed};
+ghost use Rattle.gen_node.specs.declared.node_fault.NodeFault.TheVariants.{Memory, NoGeneral, OtherHeight, OtherRoot};
+ghost use Rattle.gen_node.specs.declared.stages.Stage.TheVariants.{Hearing, Sending};
+ghost use Rattle.gen_node.specs.Frame.{IsFrame, frame_spelling};
+ghost use Rattle.gen_node.specs.Loops.Kept.{IsSignedFrom, heard_one, is_sending, next_sent, of_part, sent_one};
+ghost use Rattle.gen_node.specs.Node as nodes;
+ghost use Rattle.gen_node.specs.Node.{Node as Told, IsBegun, awaited, decision_of_node, ended, front_check};
+ghost use Rattle.gen_node.specs.Node.{frame_to, handed, header_at, log_of_node, node_at_start, sent_from};
+
+use crate::frame_fault::FrameFault;
+use crate::frame_reading::read_frame;
+use crate::frame_writing::frame_bytes;
+use crate::frames::{Frame, FrameFront};
+use crate::held::{Held, is_held, parcels_of};
+use crate::node_ends::NodeEnd;
+use crate::node_fault::NodeFault;
+use crate::stages::Stage;
+use gen_general::Recorder;
+use gen_net::Header;
+use gen_scenario::Part;
+use gen_tree::KeyRing;
+use gen_types::{GeneralNo, OrderNo, ReadError, TreeHeight, check};
+use std::alloc::{AllocError, Global};
+use std::marker::Model;
+
+/// One general of a run who has his own keys alone, between the calls of whoever drives him. He holds his ring, so he has
+/// to be ended by `finish` or `close`.
+///
+/// In each round `begin_round` is called first; then `to_send` gives the frame for each neighbour, and `heard` takes what
+/// came of each, in any order; then `end_round` closes the round. A contract sees how he stands with his log, where in a
+/// round he is, and the frames of the round that were handed in.
+pub struct Node {
+    header: Header,
+    recorder: Recorder,
+    stage: Stage,
+    outbox: Vec<Held>,
+    inbox: Vec<Held>,
+}
+
+impl Model for Node {
+    ghost use Rattle.gen_node.specs.Node.{Node};
+    ghost use Rattle.gen_node.specs.Loops.Kept.{IsNode};
+
+    ghost Value = { Node };
+
+    ghost view = { λ n. record { recorder = n.recorder; stage = n.stage; inbox = n.inbox.items } };
+
+    ghost invariant = { λ n. IsNode n.header n.recorder n.stage n.outbox.items };
+}
+
+/// Whether two strings of bytes are the same.
+fn same_bytes(left: &[u8], right: &[u8]) -> bool
+    ensures value { result ≡ bytes_eq left.now right.now }
+    ensures same { IsTrue result ↔ (left.now ≡ right.now) }
+{
+    left == right
+}
+
+/// Whether two heights are the same.
+fn same_height(one: TreeHeight, other: TreeHeight) -> bool
+    ensures { IsTrue result ↔ (one ≡ other) }
+{
+    one == other
+}
+
+impl Node {
+    /// Returns a general of the header's run before the first round, with the keys of this seed and, if he is the commander,
+    /// his order. Nobody else must know the seed, and no other ring of it and of this height may have been used.
+    ///
+    /// # Errors
+    ///
+    /// NoGeneral where he is none of the header's generals or where the order doesn't fit him; OtherRoot where the root of
+    /// the seed's keys is not the one that the header has for him; Memory where it is refused.
+    pub fn new(
+        alloc: Global,
+        header: Header,
+        me: GeneralNo,
+        seed: &[u8; 32],
+        own: Option<OrderNo>,
+    ) -> Result<Node, NodeFault>
+        ensures ok { IfOk result (λ node. node ≡ node_at_start header me own
+            (record { seed = seed.now; height = height_of header; taken = [] })) }
+        ensures known { IfOk result (λ _. CanFollow header me own) }
+        ensures keys { IfOk result (λ _. ring_root seed.now (height_of header) ≡ root_of header me) }
+        ensures general { result ≡ Err NoGeneral → CanFollow header me own → ⊥ }
+        ensures root { result ≡ Err OtherRoot → ring_root seed.now (height_of header) ≡ root_of header me → ⊥ }
+        ensures height { result ≡ Err OtherHeight → ⊥ }
+    {
+        let ring = KeyRing::from_seed(alloc, seed, header.height())?;
+        match Node::with_ring(alloc, header, me, ring, own) {
+            Ok(node) => Ok(node),
+            Err((fault, ring)) => {
+                ring.close();
+                Err(fault)
+            }
+        }
+    }
+
+    /// Returns the same with a ring that is there already, as one whose other leaves served runs of other slots: no leaf of
+    /// this run may have been taken from it.
+    ///
+    /// # Errors
+    ///
+    /// Those of `new`, with the ring; and OtherHeight where it has not the height of the header's version.
+    pub fn with_ring(
+        alloc: Global,
+        header: Header,
+        me: GeneralNo,
+        ring: KeyRing,
+        own: Option<OrderNo>,
+    ) -> Result<Node, (NodeFault, KeyRing)>
+        requires { ring.height ≡ height_of header → IsUnused header ring }
+        ensures ok { IfOk result (λ node. node ≡ node_at_start header me own ring) }
+        ensures known { IfOk result (λ _. CanFollow header me own) }
+        ensures keys { IfOk result (λ _. ring_root ring.seed ring.height ≡ root_of header me) }
+        ensures ring { IfErr result (λ e. e.1 ≡ ring) }
+        ensures general { IfErr result (λ e. e.0 ≡ NoGeneral → CanFollow header me own → ⊥) }
+        ensures root { IfErr result (λ e. e.0 ≡ OtherRoot
+            → ring_root ring.seed ring.height ≡ root_of header me → ⊥) }
+        ensures height { IfErr result (λ e. e.0 ≡ OtherHeight → ring.height ≡ height_of header → ⊥) }
+    {
+        if !same_height(ring.height(), header.height()) {
+            return Err((NodeFault::OtherHeight, ring));
+        }
+        let Ok(copy) = header.clone() else {
+            return Err((NodeFault::Memory, ring));
+        };
+        let Some(part) = Part::follower(alloc, copy, me, own) else {
+            return Err((NodeFault::NoGeneral, ring));
+        };
+        let _known = part.header();
+        if !same_bytes(&ring.root(), header.root(me)) {
+            return Err((NodeFault::OtherRoot, ring));
+        }
+        Node::of_part(alloc, header, part, ring)
+    }
+
+    /// Returns the node of a part and its ring.
+    fn of_part(
+        alloc: Global,
+        header: Header,
+        part: Part,
+        ring: KeyRing,
+    ) -> Result<Node, (NodeFault, KeyRing)>
+        requires header { part.header ≡ header }
+        requires script { part.script ≡ None }
+        requires ring { IsUnused header ring }
+        ensures ok { IfOk result (λ node. node ≡ of_part part ring) }
+        ensures ring { IfErr result (λ e. e.1 ≡ ring) }
+        ensures fault { IfErr result (λ e. e.0 ≡ Memory) }
+    {
+        match Recorder::new(alloc, part, Some(ring)) {
+            Ok(recorder) => Ok(Node {
+                header,
+                recorder,
+                stage: Stage::Between,
+                outbox: Vec::new(alloc),
+                inbox: Vec::new(alloc),
+            }),
+            Err(ring) => Err((NodeFault::Memory, ring.unwrap())),
+        }
+    }
+
+    /// Returns the header of the run.
+    pub fn header(&self) -> &Header
+        ensures { result.now ≡ header_at self.now.recorder }
+    {
+        &self.header
+    }
+
+    /// Returns his number.
+    pub fn me(&self) -> GeneralNo
+        ensures { result ≡ self.now.recorder.standing.known.me }
+    {
+        self.recorder.me()
+    }
+
+    /// Returns the round that he is in or was in last, 0 before the first.
+    pub fn round(&self) -> u8
+        ensures { result ≡ self.now.recorder.standing.round }
+    {
+        self.recorder.round()
+    }
+
+    /// Returns whether a round may begin: the last one has ended and there is another, or one is half begun.
+    pub fn may_begin(&self) -> bool
+        ensures { result ≡ nodes.may_begin self.now }
+    {
+        match self.stage {
+            Stage::Between => self.recorder.round() < self.header.net().rounds(),
+            Stage::Sending { next: _ } => true,
+            Stage::Open => false,
+            Stage::Hearing { next: _ } => false,
+        }
+    }
+
+    /// Returns whether a round may end: one is open, or one is half ended.
+    pub fn may_end(&self) -> bool
+        ensures { result ≡ nodes.may_end self.now }
+    {
+        match self.stage {
+            Stage::Between => false,
+            Stage::Sending { next: _ } => false,
+            Stage::Open => true,
+            Stage::Hearing { next: _ } => true,
+        }
+    }
+
+    /// Returns whether the last round has ended.
+    pub fn is_over(&self) -> bool
+        ensures { result ≡ nodes.is_over self.now }
+    {
+        match self.stage {
+            Stage::Between => self.recorder.round() == self.header.net().rounds(),
+            Stage::Sending { next: _ } => false,
+            Stage::Open => false,
+            Stage::Hearing { next: _ } => false,
+        }
+    }
+
+    /// Returns whether a frame goes out to a general and is awaited of him: a round is open, and he is a neighbour.
+    pub fn awaits(&self, general: GeneralNo) -> bool
+        ensures { result ≡ nodes.awaits self.now general }
+    {
+        match self.stage {
+            Stage::Between => false,
+            Stage::Sending { next: _ } => false,
+            Stage::Open => is_held(self.outbox.as_slice(), general),
+            Stage::Hearing { next: _ } => false,
+        }
+    }
+
+    /// Begins the next round, of which there must be one: he signs what he has to sign in it, and makes the frames for his
+    /// neighbours.
+    ///
+    /// # Errors
+    ///
+    /// `AllocError` where memory is refused: then the round hasn't begun, or is half begun, and this call goes on with it.
+    pub fn begin_round(&mut self, alloc: Global) -> Result<(), AllocError>
+        requires { nodes.may_begin self.old ≡ true }
+        ensures ok { OnOk result (IsBegun self.old self.new) }
+        // What a later call makes of what is left is what this call would have made.
+        ensures err { OnErr result ((later : Told) → IsBegun self.new later → IsBegun self.old later) }
+        ensures again { OnErr result (nodes.may_begin self.new ≡ true) }
+    {
+        self.sign(alloc)?;
+        self.send_all(alloc)
+    }
+
+    /// Signs what is to be signed in the next round, unless one is half begun.
+    fn sign(&mut self, alloc: Global) -> Result<(), AllocError>
+        requires { nodes.may_begin self.old ≡ true }
+        ensures ok { OnOk result (IsSignedFrom self.old.stage self.old self.new) }
+        ensures err { OnErr result (self.new ≡ self.old) }
+    {
+        let Stage::Between = self.stage else {
+            return Ok(());
+        };
+        let inbox = Vec::new(alloc);
+        let outbox = Vec::new(alloc);
+        self.recorder.begin_round(alloc)?;
+        self.inbox = inbox;
+        self.outbox = outbox;
+        self.stage = Stage::Sending { next: 0 };
+        Ok(())
+    }
+
+    /// Makes the frames that are left of a round that begins.
+    fn send_all(&mut self, alloc: Global) -> Result<(), AllocError>
+        requires { is_sending self.old.stage ≡ true }
+        ensures ok { OnOk result (self.new ≡ sent_from (next_sent self.old.stage) self.old) }
+        ensures err { OnErr result (sent_from (next_sent self.new.stage) self.new
+            ≡ sent_from (next_sent self.old.stage) self.old) }
+        ensures again { OnErr result (is_sending self.new.stage ≡ true) }
+    {
+        let first = self.next_sent();
+        'sending: for next in first..self.header.net().generals() {
+            self.send_next(alloc, next)?;
+        }
+        self.stage = Stage::Open;
+        Ok(())
+    }
+
+    /// The first general whose frame is still to be made.
+    fn next_sent(&self) -> u8
+        ensures { result ≡ next_sent self.now.stage }
+    {
+        match self.stage {
+            Stage::Sending { next } => next,
+            _ => 0,
+        }
+    }
+
+    /// Makes the frame to the next general, if he is a neighbour.
+    fn send_next(&mut self, alloc: Global, next: u8) -> Result<(), AllocError>
+        requires at { self.old.stage ≡ Sending next }
+        requires below { next < (header_at self.old.recorder).network.generals }
+        ensures ok { OnOk result (self.new ≡ sent_one self.old next) }
+        ensures err { OnErr result (self.new ≡ self.old) }
+    {
+        let net = self.header.net();
+        let _few = net.generals();
+        let to = GeneralNo::at(next);
+        if net.has_edge(self.recorder.me(), to) {
+            self.outbox.reserve(1)?;
+            let parcels = self.recorder.send(alloc, to)?;
+            self.outbox.push(Held::new(to, parcels)).unwrap();
+        }
+        self.stage = Stage::Sending { next: next + 1 };
+        Ok(())
+    }
+
+    /// Returns the bytes of the frame of this round to a neighbour. He must be one, and a round must be open: `awaits` tells.
+    ///
+    /// # Errors
+    ///
+    /// `AllocError` where memory is refused.
+    pub fn to_send(&self, alloc: Global, to: GeneralNo) -> Result<Vec<u8>, AllocError>
+        requires { nodes.awaits self.now to ≡ true }
+        ensures { IfOk result (λ bytes. Spells IsFrame frame_spelling bytes.items (frame_to self.now.recorder to)) }
+    {
+        let front = FrameFront {
+            run_id: *self.header.run_id(),
+            round: self.recorder.round(),
+            from: self.recorder.me().get(),
+            to: to.get(),
+        };
+        let parcels = parcels_of(self.outbox.as_slice(), to);
+        frame_bytes(alloc, &front, parcels)
+    }
+
+    /// Takes the bytes that came of a neighbour in this round. They have to be his frame of it: which parcels of it count is
+    /// another question, and those that don't do no harm. What is refused changes nothing, so a frame may come behind it.
+    ///
+    /// # Errors
+    ///
+    /// The fault that `FrameFault` tells; and Memory where it is refused.
+    pub fn heard(
+        &mut self,
+        alloc: Global,
+        from: GeneralNo,
+        bytes: &[u8],
+    ) -> Result<(), ReadError<FrameFault>>
+        ensures exact { Gives (λ _. self.new) result (handed self.old from bytes.now) }
+        ensures err { OnErr result (self.new ≡ self.old) }
+    {
+        let frame = self.awaited_frame(alloc, from, bytes)?;
+        self.inbox.push(Held::new(from, frame.into_parcels()))?;
+        Ok(())
+    }
+
+    /// The frame that is awaited of a neighbour.
+    #[tactic(auto, unfolding(crate::specs::Node::awaited))]
+    fn awaited_frame(
+        &self,
+        alloc: Global,
+        from: GeneralNo,
+        bytes: &[u8],
+    ) -> Result<Frame, ReadError<FrameFault>>
+        ensures { IsRead result (awaited self.now from bytes.now) }
+    {
+        check(self.awaits(from), FrameFault::NotAwaited)?;
+        check(!is_held(self.inbox.as_slice(), from), FrameFault::Twice)?;
+        let frame = read_frame(alloc, bytes)?;
+        self.check_front(from, frame.front())?;
+        Ok(frame)
+    }
+
+    /// Checks that it is the frame of this run and round from this general to him.
+    #[tactic(auto, unfolding(crate::specs::Node::front_check))]
+    fn check_front(&self, from: GeneralNo, front: FrameFront) -> Result<(), ReadError<FrameFault>>
+        ensures { IsRead result (front_check self.now.recorder from front) }
+    {
+        let me = self.recorder.me();
+        check(
+            same_bytes(&front.run_id, self.header.run_id()),
+            FrameFault::OtherRun,
+        )?;
+        check(front.round == self.recorder.round(), FrameFault::OtherRound)?;
+        check(
+            front.from == from.get() && front.to == me.get(),
+            FrameFault::OtherEnds,
+        )
+    }
+
+    /// Ends the round: he hears his neighbours' frames. A neighbour of whom nothing was handed in counts as one who sent
+    /// nothing.
+    ///
+    /// # Errors
+    ///
+    /// `AllocError` where memory is refused: then the round hasn't ended, or is half ended, and this call goes on with it.
+    pub fn end_round(&mut self, alloc: Global) -> Result<(), AllocError>
+        requires { nodes.may_end self.old ≡ true }
+        ensures ok { OnOk result (self.new ≡ ended self.old) }
+        ensures err { OnErr result (ended self.new ≡ ended self.old) }
+        ensures again { OnErr result (nodes.may_end self.new ≡ true) }
+    {
+        let first = self.next_heard();
+        self.stage = Stage::Hearing { next: first };
+        'hearing: for next in first..self.header.net().generals() {
+            self.hear_next(alloc, next)?;
+        }
+        self.inbox = Vec::new(alloc);
+        self.stage = Stage::Between;
+        Ok(())
+    }
+
+    /// The first general who is still to be heard.
+    fn next_heard(&self) -> u8
+        ensures { result ≡ nodes.next_heard self.now.stage }
+    {
+        match self.stage {
+            Stage::Hearing { next } => next,
+            _ => 0,
+        }
+    }
+
+    /// Hears the next general, if he is a neighbour.
+    fn hear_next(&mut self, alloc: Global, next: u8) -> Result<(), AllocError>
+        requires at { self.old.stage ≡ Hearing next }
+        requires below { next < (header_at self.old.recorder).network.generals }
+        ensures ok { OnOk result (self.new ≡ heard_one self.old next) }
+        ensures err { OnErr result (self.new ≡ self.old) }
+    {
+        let net = self.header.net();
+        let _few = net.generals();
+        let from = GeneralNo::at(next);
+        if net.has_edge(self.recorder.me(), from) {
+            let frame = parcels_of(self.inbox.as_slice(), from);
+            self.recorder.hear(alloc, from, frame)?;
+        }
+        self.stage = Stage::Hearing { next: next + 1 };
+        Ok(())
+    }
+
+    /// Ends him after the last round: he seals his log. His ring comes back, with the log and his decision.
+    ///
+    /// # Errors
+    ///
+    /// The ring, where memory is refused.
+    pub fn finish(self, alloc: Global) -> Result<NodeEnd, KeyRing>
+        requires { nodes.is_over self ≡ true }
+        ensures log { IfOk result (λ end. end.log ≡ log_of_node self.recorder) }
+        ensures decision { IfOk result (λ end. end.decision ≡ decision_of_node self.recorder) }
+        ensures ring { IfOk result (λ end.
+            RingSealed (header_at self.recorder) self.recorder.standing.ring (Some end.ring)) }
+        ensures err { IfErr result (λ back. self.recorder.standing.ring ≡ Some back) }
+    {
+        let Node {
+            header: _,
+            recorder,
+            stage: _,
+            outbox: _,
+            inbox: _,
+        } = self;
+        let decision = recorder.decide();
+        match recorder.finish(alloc) {
+            Ok(end) => {
+                let (mut logs, ring) = end.into_parts();
+                let log = logs.pop().unwrap();
+                let ring = ring.unwrap();
+                Ok(NodeEnd {
+                    log,
+                    decision,
+                    ring,
+                })
+            }
+            Err(ring) => Err(ring.unwrap()),
+        }
+    }
+
+    /// Ends him without a log, at any time, and returns his ring.
+    pub fn close(self) -> KeyRing
+        ensures { self.recorder.standing.ring ≡ Some result }
+    {
+        let Node {
+            header: _,
+            recorder,
+            stage: _,
+            outbox: _,
+            inbox: _,
+        } = self;
+        recorder.close().unwrap()
+    }
+}
