@@ -78,9 +78,14 @@ across_words bundles (AcrossRuns x y) =
     ++ (place_words (place_with bundles x.header) ++ place_words (place_with bundles y.header))
 across_words bundles claim = []
 
+-- the kind by which the verdict names a claim: two texts under one leaf are the first across two runs too
+abbrev pub kind_across : Claim → ℕ
+kind_across (AcrossRuns x y) = 1
+kind_across claim = kind_of claim
+
 -- both, as a title and to be read
 abbrev pub both_words : List Bundle → Accusation → List ℕ
-both_words bundles x = convicted_words x.accused (kind_of x.claim) ++ across_words bundles x.claim
+both_words bundles x = convicted_words x.accused (kind_across x.claim) ++ across_words bundles x.claim
 
 unfoldable pub across_span : List Bundle → Accusation → List ℕ
 across_span bundles x =

@@ -16,6 +16,7 @@ ghost use Rattle.gen_draw.specs.Several.{
   bottom_from,
   convicted_words,
   grid_in,
+  kind_across,
   lines_for,
   place_with,
   place_words,
@@ -196,6 +197,20 @@ fn push_across_words(out: &mut String, bundles: &[Bundle], claim: &Claim) -> Res
     }
 }
 
+/// Returns the number of the kind by which the verdict names a claim: two texts under one leaf are the first across
+/// two runs too.
+fn kind_across(claim: &Claim) -> u8
+    ensures { result ≡ kind_across (told claim.now) }
+{
+    match claim {
+        Claim::Across { .. } => 1,
+        Claim::Texts { .. }
+        | Claim::Orders { .. }
+        | Claim::Missing { .. }
+        | Claim::Departing { .. } => claim.kind(),
+    }
+}
+
 /// Appends who is convicted, by what, and across which runs.
 fn push_both_words(
     out: &mut String,
@@ -205,7 +220,7 @@ fn push_both_words(
     ensures { OnOk result (string_bytes out.new
         ≡ string_bytes out.old ++ both_words bundles.now (told_of evidence.now)) }
 {
-    push_convicted_words(out, evidence.accused.get(), evidence.claim.kind())?;
+    push_convicted_words(out, evidence.accused.get(), kind_across(&evidence.claim))?;
     push_across_words(out, bundles, &evidence.claim)
 }
 
