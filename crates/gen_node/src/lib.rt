@@ -3,7 +3,8 @@
 //! A node has its own key alone. Whoever drives it says when a round begins and ends, hands each neighbour the bytes of
 //! his frame, and hands in the bytes that came of each neighbour. It signs, relays, keeps its log and decides as the
 //! algorithm of signed messages says (L. Lamport, R. Shostak and M. Pease, "The Byzantine Generals Problem", ACM TOPLAS
-//! 4, 1982, section 4), and what comes of a run of such nodes is that of the scenario with their keys (`laws`).
+//! 4, 1982, section 4), and what comes of a run of such nodes is that of the scenario whose master seed gives their seeds,
+//! if there is one (`laws`).
 //!
 //! What is promised: bytes that are not the frame which is awaited of a neighbour are refused and change nothing; a
 //! neighbour of whom nothing came in a round counts as one who sent nothing; no leaf of the ring is taken twice. What is

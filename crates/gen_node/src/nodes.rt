@@ -74,7 +74,8 @@ fn same_height(one: TreeHeight, other: TreeHeight) -> bool
 
 impl Node {
     /// Returns a general of the header's run before the first round, with the keys of this seed and, if he is the commander,
-    /// his order. Nobody else must know the seed, and no other ring of it and of this height may have been used.
+    /// his order. Nobody else must know the seed, no other ring of it and of this height may be open, and none may have
+    /// been used in this run or slot.
     ///
     /// # Errors
     ///

@@ -19,8 +19,8 @@ Each command reads standard input to its end, and writes nothing before its outp
 and evidence are bytes: redirect them.
 
 Exit status:
-  0  done: the output is whole, and a verdict in it is a yes
-  1  done: a verdict is a no, evidence fails, or there is no evidence against the general
+  0  done: the output is whole, and doesn't say no; a picture never does
+  1  done: a verdict of audit or judge is a no, evidence fails, or there is no evidence against the general
   2  the words ask for nothing that there is
   3  the input has a fault, which standard error names
   4  memory or a thread was refused

@@ -17,9 +17,9 @@ hands A F (Ok o) old new count Nothing a f over = absurd over
 hands A F (Ok o) old new count Length a f over = inl (o.text.items, o.negative, a, over)
 hands A F (Err fault) old new count Yes a f over = absurd over
 hands A F (Err fault) old new count No a f over = absurd over
-hands A F (Err fault) old new count (Line g) a f over = (rw over.0 f, over.1)
+hands A F (Err fault) old new count (Line g) a f over = (rw over.0 f, over.1, over.2)
 hands A F (Err fault) old new count Nothing a f over = over
-hands A F (Err fault) old new count Length a f over = inr (fault, f, over)
+hands A F (Err fault) old new count Length a f over = inr (fault, f, over.0, over.1)
 
 -- and the number says so
 pub is_handed : (A : List ℕ → Bool → Type 0) (F : JobFault → Type 0) (answer : Result Output JobFault) (old new : List ℕ) (count status : ℕ) (h : Handed) → status ≡ status_of_handed h → IfOk answer (λ o. A o.text.items o.negative) → IfErr answer F → HandsOver answer old new count h → IsHanded A F old new count status

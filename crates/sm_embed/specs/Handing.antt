@@ -2,6 +2,7 @@
 use Rattle.std.specs.Prelude.{ℕ, ◌≡◌, ◌<◌, ◌⊎◌, ◌++◌, Bool, true, false, List, length, drop, Result, Ok, Err}
 use Rattle.gen_jobs.specs.declared.ends.JobFault.{JobFault}
 use Rattle.gen_jobs.specs.declared.ends.Output.{Output}
+use Rattle.gen_jobs.specs.Ends.{fault_status}
 use Rattle.sm_embed.specs.Statuses.{status_of_handed}
 use Rattle.sm_embed.specs.declared.handed.Handed.{Handed}
 use Rattle.sm_embed.specs.declared.handed.Handed.TheVariants.{Yes, No, Line, Nothing, Length}
@@ -26,13 +27,18 @@ HandsAnswer text negative old new count (Line f) = ⊥
 HandsAnswer text negative old new count Nothing = ⊥
 HandsAnswer text negative old new count Length = IsTooLong text old new count
 
--- the line of a fault was handed, or its length where it is longer than the room; or nothing was
+-- a fault that the input has, and not want of memory
+abbrev pub IsOfInput : JobFault → Type 0
+IsOfInput f = fault_status f ≡ 3
+
+-- the line of a fault of the input was handed, or its length where it is longer than the room; or nothing was
 abbrev pub HandsFault : JobFault → List ℕ → List ℕ → ℕ → Handed → Type 0
 HandsFault fault old new count Yes = ⊥
 HandsFault fault old new count No = ⊥
-HandsFault fault old new count (Line f) = (f ≡ fault) × ((line : List ℕ) × Fits line old new count)
+HandsFault fault old new count (Line f) =
+    (f ≡ fault) × IsOfInput f × ((line : List ℕ) × Fits line old new count)
 HandsFault fault old new count Nothing = IsUntouched old new count
-HandsFault fault old new count Length = (line : List ℕ) × IsTooLong line old new count
+HandsFault fault old new count Length = IsOfInput fault × ((line : List ℕ) × IsTooLong line old new count)
 
 -- an answer was handed, or the fault in its place
 abbrev pub HandsOver : Result Output JobFault → List ℕ → List ℕ → ℕ → Handed → Type 0
@@ -41,15 +47,16 @@ HandsOver (Ok output) old new count handed =
 HandsOver (Err fault) old new count handed = HandsFault fault old new count handed
 
 -- An input has answers, each a text that says no or doesn't, and it has faults. What is handed is an answer,
--- or the line of a fault, or the length of one of these where it is longer than the room.
+-- or the line of a fault that the input has, or the length of one of these where it is longer than the room.
 abbrev pub Hands : (List ℕ → Bool → Type 0) → (JobFault → Type 0) → List ℕ → List ℕ → ℕ → Handed → Type 0
 Hands IsAnswer IsFault old new count Yes = (text : List ℕ) × IsAnswer text false × Fits text old new count
 Hands IsAnswer IsFault old new count No = (text : List ℕ) × IsAnswer text true × Fits text old new count
-Hands IsAnswer IsFault old new count (Line f) = IsFault f × ((line : List ℕ) × Fits line old new count)
+Hands IsAnswer IsFault old new count (Line f) =
+    IsFault f × IsOfInput f × ((line : List ℕ) × Fits line old new count)
 Hands IsAnswer IsFault old new count Nothing = IsUntouched old new count
 Hands IsAnswer IsFault old new count Length =
     ((text : List ℕ) × (negative : Bool) × IsAnswer text negative × IsTooLong text old new count)
-    ⊎ ((f : JobFault) × IsFault f × ((line : List ℕ) × IsTooLong line old new count))
+    ⊎ ((f : JobFault) × IsFault f × IsOfInput f × ((line : List ℕ) × IsTooLong line old new count))
 
 -- the number that is returned says what was handed
 abbrev pub IsHanded : (List ℕ → Bool → Type 0) → (JobFault → Type 0) → List ℕ → List ℕ → ℕ → ℕ → Type 0

@@ -1,6 +1,6 @@
 //! How an answer reaches a caller in another language.
 ghost use Rattle.std.specs.Prelude.{◌≡◌, true, false};
-ghost use Rattle.sm_embed.specs.Handing.{Fits, HandsAnswer, HandsFault, HandsOver, IsTooLong};
+ghost use Rattle.sm_embed.specs.Handing.{Fits, HandsAnswer, HandsFault, HandsOver, IsOfInput, IsTooLong};
 
 use crate::handed::Handed;
 use gen_jobs::{JobFault, Output};
@@ -36,6 +36,7 @@ fn hand_answer(output: &Output, room: &mut [u8], count: &mut usize) -> Handed
 
 /// Hands over the line of an input's fault.
 fn hand_line(alloc: Global, fault: JobFault, room: &mut [u8], count: &mut usize) -> Handed
+    requires { IsOfInput fault }
     ensures { HandsFault fault room.old room.new count.new result }
 {
     match fault.to_string(alloc) {

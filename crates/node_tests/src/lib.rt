@@ -1,0 +1,7 @@
+//! This crate has the tests of `gen_node`.
+#![tactic(auto)]
+
+#[cfg(test)]
+mod driving;
+#[cfg(test)]
+mod refusals;
