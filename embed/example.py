@@ -34,10 +34,11 @@ class Library:
 
 
 def main():
-    if len(sys.argv) != (4 if sys.argv[2:3] == ["accuse"] else 3) or sys.argv[2] not in JOBS:
-        sys.exit(__doc__)
-    library, job, *general = sys.argv[1:]
-    status, text = Library(library).answer(job, sys.stdin.buffer.read(), *map(int, general))
+    job, general = sys.argv[2:3], sys.argv[3:]
+    if len(general) != (job == ["accuse"]) or not job or job[0] not in JOBS or not all(it.isdecimal() for it in general):
+        print(__doc__, file=sys.stderr)
+        return 2
+    status, text = Library(sys.argv[1]).answer(job[0], sys.stdin.buffer.read(), *map(int, general))
     if status == FAULT:
         sys.stderr.buffer.write(text + b"\n")
     elif status == MEMORY:

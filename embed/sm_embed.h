@@ -22,7 +22,7 @@
      where there are no bytes, and none overlaps another.
    - Nobody writes to input, and nobody reads or writes room and *count, while the call runs.
    - No more than PTRDIFF_MAX bytes are handed in as input or as room.
-   - There is stack for the call: 1 MiB is enough for each input.
+   - There is stack for the call: 1 MiB was enough for each input that was tried.
    - The call is not made from a signal handler, nor in the forked child of a process with several threads.
    - rattle_alloc, rattle_realloc and rattle_dealloc are those of heap.c, or do what is said there.
 
