@@ -16,13 +16,11 @@ from scenarios import signed, sixteen
 PROGRAM = os.path.join(os.path.dirname(HERE), "crates", "refusals", "out", "refusals")
 FRONT = "call\n"
 GAVE = "gave\n"
-# What a call may answer where something was refused, by what that was: a thread that gets no memory can't be started.
-ANSWERS = {"memory": ("memory\n", "thread\n"), "thread": ("thread\n",)}
+# The kinds of refusals that a call can meet which starts no thread, and one that starts some.
+ALONE, IN_THREADS = ["memory"], ["memory", "thread"]
 
 OF_NOTHING = ["KeyRing::from_seed", "SigRoom::new", "ChainRoom::new"]
 OF_SCENARIOS = ["run_world", "Machine::act", "Edge::new", "Desk::file", "Desk::claim", "Desk::report"]
-# These have room for a first event of a desk, so nothing need be refused.
-HAVE_ROOM = ["Desk::claim", "Desk::report"]
 OF_RUNS = ["run_threads", "run_and_audit"]
 OF_BUNDLES = ["read_bundle", "read_log", "LogWriter::append", "audit", "find_evidence"]
 
@@ -30,18 +28,18 @@ OF_BUNDLES = ["read_bundle", "read_log", "LogWriter::append", "audit", "find_evi
 def small_cases(program):
     """Each call: its name, what it is made of, its input and the kinds of refusals that it can meet."""
     for name in OF_NOTHING:
-        yield name, "nothing", b"", ["memory"]
+        yield name, "nothing", b"", ALONE
     texts = signed()
     for case in ("pair", "ring", "split"):
         for name in OF_SCENARIOS:
-            yield name, case, texts[case], ["memory"]
+            yield name, case, texts[case], ALONE
         for name in OF_RUNS:
-            yield name, case, texts[case], ["memory", "thread"]
+            yield name, case, texts[case], IN_THREADS
         bundle = run(program, ["run"], texts[case]).wrote
         for name in OF_BUNDLES:
-            yield name, case, bundle, ["memory"]
-        yield "audit by two", case, bundle, ["memory", "thread"]
-    yield "refute", "stolen key", withheld(program), ["memory"]
+            yield name, case, bundle, ALONE
+        yield "audit by two", case, bundle, IN_THREADS
+    yield "refute", "stolen key", withheld(program), ALONE
 
 
 def withheld(program):
@@ -56,21 +54,26 @@ def large_cases(program):
     """The calls at the limits."""
     text = sixteen()
     bundle = run(program, ["run"], text).wrote
-    yield "run_world", "16 generals", text, ["memory"]
-    yield "run_threads", "16 generals", text, ["memory", "thread"]
+    yield "run_world", "16 generals", text, ALONE
+    yield "run_threads", "16 generals", text, IN_THREADS
     for name in ("audit", "read_bundle"):
-        yield name, "16 generals", bundle, ["memory"]
-    yield "audit by two", "16 generals", bundle, ["memory", "thread"]
+        yield name, "16 generals", bundle, ALONE
+    yield "audit by two", "16 generals", bundle, IN_THREADS
 
 
-def differs(end, was_refused, whole, kind):
+def answers(kind, kinds):
+    """What a call may answer where something was refused, by what that was: a thread that gets no memory can't be started."""
+    return ["thread\n"] if kind == "thread" else [f"{it}\n" for it in kinds]
+
+
+def differs(end, was_refused, whole, lawful):
     """What is wrong with the end of a run, or None. A call that can do without what was refused gives all it would."""
     rest = whole.wrote.decode().removeprefix(FRONT + GAVE)
-    wanted = [End(0, (FRONT + answer + GAVE + rest).encode(), b"") for answer in ANSWERS[kind] if was_refused]
+    wanted = [End(0, (FRONT + answer + GAVE + rest).encode(), b"") for answer in lawful if was_refused]
     return None if end in [whole, *wanted] else shown(end)
 
 
-def count_up(call, whole, kind, is_sampled, has_room):
+def count_up(call, whole, lawful, is_sampled):
     """Refuses one growth after the other. Returns how many runs were answered so, and what is wrong with one, or None."""
     coming, refusals, met = numbers(is_sampled), 0, 0
     while True:
@@ -78,11 +81,11 @@ def count_up(call, whole, kind, is_sampled, has_room):
         if not some:
             return refusals, f"still refused after {met} runs"
         for number, (end, was_refused) in zip(some, side_by_side(call, some)):
-            wrong = differs(end, was_refused, whole, kind)
+            wrong = differs(end, was_refused, whole, lawful)
             if wrong:
                 return refusals, f"{number} refused: {wrong}"
             if not was_refused:
-                return refusals, None if refusals or has_room else "no refusal was ever answered"
+                return refusals, None if refusals else "no refusal was ever answered"
             met, refusals = met + 1, refusals + (end != whole)
 
 
@@ -97,7 +100,7 @@ def try_case(library, tally, case, is_sampled):
     met = 0
     for kind in kinds:
         call = lambda number, k=kind: refused(PROGRAM, library, [name], given, k, number, False, True)
-        runs, wrong = count_up(call, whole, kind, is_sampled, name in HAVE_ROOM)
+        runs, wrong = count_up(call, whole, answers(kind, kinds), is_sampled)
         tally.count(runs + 1)
         tally.hold(f"{name}, {of}, {kind}", wrong)
         met += runs
