@@ -1,30 +1,35 @@
 //! Writing frames.
-ghost use Rattle.std.specs.Prelude.{◌≡◌, ◌<◌, ◌^◌, ◌++◌, All, IfOk, OnOk, length};
+ghost use Rattle.std.specs.Prelude.{◌≡◌, ◌<◌, ◌^◌, ◌++◌, All, Err, IfOk, OnOk, length};
 ghost use Rattle.std.specs.List.{flat_map};
 ghost use Rattle.gen_types.specs.Spelled.{Spells};
+ghost use Rattle.gen_node.specs.declared.spelling_fault.SpellingFault.TheVariants.{TooLong};
 ghost use Rattle.gen_node.specs.Frame.{IsFrame, IsFront, frame_spelling, front_spelling, parcel_spelling};
 
 use crate::frame_reading::FRAME_MARK;
 use crate::frames::FrameFront;
+use crate::spelling_fault::SpellingFault;
 use gen_script::Parcel;
 use std::alloc::{AllocError, Global};
 
-/// Appends a parcel behind its length. An error means also that the length has no spelling.
-fn put_parcel(out: &mut Vec<u8>, parcel: &Parcel) -> Result<(), AllocError>
+/// Appends a parcel behind its length.
+fn put_parcel(out: &mut Vec<u8>, parcel: &Parcel) -> Result<(), SpellingFault>
     ensures ok { OnOk result (out.new.items ≡ out.old.items ++ parcel_spelling parcel.now) }
     ensures short { OnOk result (length parcel.now < 2 ^ 32) }
+    ensures long { result ≡ Err TooLong → length parcel.now < 2 ^ 32 → ⊥ }
 {
     let Ok(size) = u32::try_from(parcel.bytes().len()) else {
-        return Err(AllocError);
+        return Err(SpellingFault::TooLong);
     };
     out.extend_from_slice(&size.to_be_bytes())?;
-    out.extend_from_slice(parcel.bytes())
+    out.extend_from_slice(parcel.bytes())?;
+    Ok(())
 }
 
 /// Appends parcels, each behind its length.
-fn put_parcels(out: &mut Vec<u8>, parcels: &[Parcel]) -> Result<(), AllocError>
+fn put_parcels(out: &mut Vec<u8>, parcels: &[Parcel]) -> Result<(), SpellingFault>
     ensures ok { OnOk result (out.new.items ≡ out.old.items ++ flat_map parcel_spelling parcels.now) }
     ensures short { OnOk result (All (λ p. length p < 2 ^ 32) parcels.now) }
+    ensures long { result ≡ Err TooLong → All (λ p. length p < 2 ^ 32) parcels.now → ⊥ }
 {
     'parcels: for parcel in parcels {
         put_parcel(out, parcel)?;
@@ -52,18 +57,19 @@ fn put_front(out: &mut Vec<u8>, front: &FrameFront) -> Result<(), AllocError>
 ///
 /// # Errors
 ///
-/// `AllocError` where memory is refused, and where there are 2^16 parcels or more, or one has 2^32 bytes or more: such a
-/// frame has no spelling.
+/// Memory where it is refused; TooLong where there are 2^16 parcels or more, or one has 2^32 bytes or more: such a frame
+/// has no spelling.
 pub fn frame_bytes(
     alloc: Global,
     front: &FrameFront,
     parcels: &[Parcel],
-) -> Result<Vec<u8>, AllocError>
-    ensures { IfOk result (λ bytes. Spells IsFrame frame_spelling bytes.items
+) -> Result<Vec<u8>, SpellingFault>
+    ensures ok { IfOk result (λ bytes. Spells IsFrame frame_spelling bytes.items
         (record { front = front.now; parcels = parcels.now })) }
+    ensures long { result ≡ Err TooLong → IsFrame (record { front = front.now; parcels = parcels.now }) → ⊥ }
 {
     let Ok(count) = u16::try_from(parcels.len()) else {
-        return Err(AllocError);
+        return Err(SpellingFault::TooLong);
     };
     let mut out = Vec::new(alloc);
     put_front(&mut out, front)?;

@@ -22,6 +22,7 @@ mod node_ends;
 mod node_fault;
 mod nodes;
 mod roots;
+mod spelling_fault;
 mod stages;
 
 pub use bundles::make_bundle;
@@ -33,3 +34,4 @@ pub use node_ends::NodeEnd;
 pub use node_fault::NodeFault;
 pub use nodes::Node;
 pub use roots::root_of;
+pub use spelling_fault::SpellingFault;

@@ -9,6 +9,7 @@ ghost use Rattle.gen_scenario.specs.Part.{CanFollow};
 ghost use Rattle.gen_general.specs.Participant.{IsUnused};
 ghost use Rattle.gen_general.specs.Recording.{RingSealed};
 ghost use Rattle.gen_node.specs.declared.node_fault.NodeFault.TheVariants.{Memory, NoGeneral, OtherHeight, OtherRoot};
+ghost use Rattle.gen_node.specs.declared.spelling_fault.SpellingFault.TheVariants.{TooLong};
 ghost use Rattle.gen_node.specs.declared.stages.Stage.TheVariants.{Hearing, Sending};
 ghost use Rattle.gen_node.specs.Frame.{IsFrame, frame_spelling};
 ghost use Rattle.gen_node.specs.Loops.Kept.{IsSignedFrom, heard_one, is_sending, next_sent, of_part, sent_one};
@@ -23,6 +24,7 @@ use crate::frames::{Frame, FrameFront};
 use crate::held::{Held, is_held, parcels_of};
 use crate::node_ends::NodeEnd;
 use crate::node_fault::NodeFault;
+use crate::spelling_fault::SpellingFault;
 use crate::stages::Stage;
 use gen_general::Recorder;
 use gen_net::Header;
@@ -324,10 +326,11 @@ impl Node {
     ///
     /// # Errors
     ///
-    /// `AllocError` where memory is refused.
-    pub fn to_send(&self, alloc: Global, to: GeneralNo) -> Result<Vec<u8>, AllocError>
+    /// Memory where it is refused; TooLong where the frame has no spelling, which one of at most 15 chains always has.
+    pub fn to_send(&self, alloc: Global, to: GeneralNo) -> Result<Vec<u8>, SpellingFault>
         requires { nodes.awaits self.now to ≡ true }
-        ensures { IfOk result (λ bytes. Spells IsFrame frame_spelling bytes.items (frame_to self.now.recorder to)) }
+        ensures ok { IfOk result (λ bytes. Spells IsFrame frame_spelling bytes.items (frame_to self.now.recorder to)) }
+        ensures long { result ≡ Err TooLong → IsFrame (frame_to self.now.recorder to) → ⊥ }
     {
         let front = FrameFront {
             run_id: *self.header.run_id(),

@@ -5,8 +5,8 @@ use Rattle.std.proofs.lemmas.List.Elements.{recursion_from_All}
 use Rattle.gen_node.specs.Frame.{IsParcel, frame_spelling, front_spelling, parcel_spelling}
 use Rattle.gen_node.proofs.frame_writing.frame_bytes.Goals as goal
 
-pub returns : goal.returns
-returns c =
+pub returns-clause-ok : goal.returns-clause-ok
+returns-clause-ok c =
     let front = c.args.front.now in
     let parcels = c.args.parcels.now in
     let begun : c.put_front.new.out.items ≡ front_spelling front = rw c.new-out.ensures.items at c.in_ok-put_front.ensures.ok in
