@@ -13,12 +13,3 @@ mod rule;
 
 pub use frames::Frame;
 pub use passes::{Edge, Left, PutPass, TakePass};
-
-#[cfg(test)]
-mod frame_tests;
-#[cfg(test)]
-mod lane_tests;
-#[cfg(test)]
-mod tests;
-#[cfg(test)]
-mod thread_tests;

@@ -26,12 +26,3 @@ pub use run_parts::RunPart;
 pub use running::run_general;
 pub use together::{run_threads, run_with_rings};
 pub use trees::make_trees;
-
-#[cfg(test)]
-mod early_end_tests;
-#[cfg(test)]
-mod own_threads_tests;
-#[cfg(test)]
-mod tests;
-#[cfg(test)]
-mod tree_tests;
