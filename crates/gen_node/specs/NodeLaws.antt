@@ -149,7 +149,8 @@ logs_of_nodes s x =
 -- and where nobody has a script all logs and decisions are the scenario's
 abbrev pub NodesLogs : Type 0
 NodesLogs =
-    (s : Scenario) (x : Nodes) → IsScenario s → s.scripts ≡ [] → HandOn s x → logs_of_nodes s x ≡ logs_of_all s
+    (s : Scenario) (x : Nodes) → IsScenario s → s.scripts ≡ [] → HandOn s x
+    → logs_of_nodes s x ≡ logs_of_all s
 
 abbrev pub NodesDecisions : Type 0
 NodesDecisions =
@@ -159,17 +160,17 @@ NodesDecisions =
 
 -- ---- their bundle
 
--- the text is read as the bundle, and each verdict on that is an order on which all of the rest agree
-pub record IsAccepted (b : Bundle) (text : List ℕ) : Type 0 where
+-- the text is read as the bundle, and each verdict on that is this order, on which all of the rest agree
+pub record IsAccepted (b : Bundle) (text : List ℕ) (order : ℕ) : Type 0 where
   pub read : whole_bundle text ≡ Ok b
-  pub agreed : (verdict : Verdict) → IsVerdict b verdict
-      → (order : ℕ) × (verdict ≡ Agreed order) × AgreeOn b order
+  pub agreed : (verdict : Verdict) → IsVerdict b verdict → (verdict ≡ Agreed order) × AgreeOn b order
 
 -- Where nobody has a script, nobody is held for faulty, and the walks are those that are made between all,
--- the nodes' logs break no rule of bundles, and the text of the bundle is accepted if it is bytes.
+-- the nodes' logs break no rule of bundles, and the text of the bundle, if it is bytes, is accepted with the
+-- commander's order.
 abbrev pub NodesAreAccepted : Type 0
 NodesAreAccepted =
     (s : Scenario) (x : Nodes) (walks : List (List ℕ)) → IsScenario s → s.scripts ≡ [] → HandOn s x
     → AreBestWalks s.net (range_with_len 0 s.net.generals) walks
     → (text : List ℕ) × (bundle_bytes (header_of s) [] walks (logs_of_nodes s x) ≡ Ok text)
-    × (AreBelow 256 text → IsAccepted (run_bundle s [] walks) text)
+    × (AreBelow 256 text → IsAccepted (run_bundle s [] walks) text s.order)

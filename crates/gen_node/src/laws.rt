@@ -36,7 +36,7 @@ pub fn nodes_make_the_run()
 
 /// Where nobody has a script, and all generals are such nodes whose frames are handed on, the bundle of their logs can be
 /// made, with nobody held for faulty and the walks that `make_walks` gives between all: its bytes are read as that bundle, and
-/// its verdict is one order on which all agree.
+/// its verdict is the commander's order, on which all agree.
 pub fn nodes_are_accepted()
     ensures { NodesAreAccepted }
 {}
