@@ -74,7 +74,8 @@ pub(crate) fn put_next<R: Wait>(
     }
 }
 
-/// The round of a frame, how many parcels it has, and how many bytes the longest; three times 0 of the last word.
+/// The round of a frame, how many parcels it has, and how many bytes the longest; three times 0 of the last
+/// word.
 pub(crate) type Shape = (u8, usize, usize);
 
 /// The shape of a frame.
@@ -97,8 +98,8 @@ pub(crate) fn put_last<R: Wait>(rt: &R, edge: &Edge, pass: &mut PutPass) -> bool
     !pass.has_ended() && edge.try_put(rt, pass, Frame::Gone).is_ok()
 }
 
-/// Tells both how far the other is, and puts the last word where an edge that holds so many frames has room. No second
-/// try is needed. Whether it was put.
+/// Tells both how far the other is, and puts the last word where an edge that holds so many frames has
+/// room. No second try is needed. Whether it was put.
 pub(crate) fn put_last_told<R: Wait>(
     rt: &R,
     edge: &Edge,

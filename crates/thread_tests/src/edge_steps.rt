@@ -1,6 +1,6 @@
-//! Edges in one hand. The frames are those of a triangle in which everybody relays: on the edge from 1 to 2 comes
-//! nothing in round 1, and in round 2 the order that 1 got from the commander, in a chain of two signers. Such a chain
-//! has 2 bytes and 16,513 for each signer.
+//! Edges in one hand. The frames are those of a triangle in which everybody relays: on the edge from 1 to 2
+//! comes nothing in round 1, and in round 2 the order that 1 got from the commander, in a chain of two
+//! signers. Such a chain has 2 bytes and 16,513 for each signer.
 use crate::edge_frames::Shape;
 use crate::edge_lanes::{Lane, Step};
 use crate::scenarios::without_scripts;

@@ -12,7 +12,7 @@ impl Gate for Open {
 }
 
 /// Loads a flag until it is set, at most so many times, and returns whether it was.
-pub(crate) fn is_set_within(flag: &AtomicBool, times: u32) -> bool {
+fn is_set_within(flag: &AtomicBool, times: u32) -> bool {
     for _ in 0..times {
         if flag.load(Ordering::SeqCst) {
             return true;
@@ -51,6 +51,39 @@ impl Gate for Meeting {
             if is_set_within(&self.here[1 - me], 1_000_000_000) {
                 self.met[me].store(true, Ordering::SeqCst);
             }
+        }
+    }
+}
+
+/// A gate at which general 0, before round 2, looks for long whether general 1 is before round 3.
+#[derive(Drop)]
+pub(crate) struct Watch {
+    third: AtomicBool,
+    early: AtomicBool,
+}
+
+impl Watch {
+    /// The gate at which nobody was yet.
+    pub(crate) fn new() -> Watch {
+        Watch {
+            third: AtomicBool::new(false),
+            early: AtomicBool::new(false),
+        }
+    }
+
+    /// Whether general 1 was before round 3, and not while general 0 looked.
+    pub(crate) fn has_waited(&self) -> bool {
+        self.third.load(Ordering::SeqCst) && !self.early.load(Ordering::SeqCst)
+    }
+}
+
+impl Gate for Watch {
+    fn before_round(&self, general: GeneralNo, round: u8) {
+        if general.get() == 1 && round == 3 {
+            self.third.store(true, Ordering::SeqCst);
+        }
+        if general.get() == 0 && round == 2 && is_set_within(&self.third, 100_000_000) {
+            self.early.store(true, Ordering::SeqCst);
         }
     }
 }

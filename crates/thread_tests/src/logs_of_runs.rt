@@ -1,33 +1,13 @@
 //! Runs in threads: their logs, and that generals run at once and wait for each other's frames.
-use crate::gates::{Meeting, Open, is_set_within};
+use crate::gates::{Meeting, Open, Watch};
 use crate::scenarios::{is_same, line, pair};
 use gen_log::SealedLog;
-use gen_threads::{Gate, run_threads};
-use gen_types::GeneralNo;
+use gen_threads::run_threads;
 use gen_world::{Scenario, run_world};
 use std::alloc::Global;
 use std::sync::Wait;
-use std::sync::atomic::{AtomicBool, Ordering};
 use std::test::*;
 use std::thread::Threads;
-
-/// A gate at which general 0, before round 2, looks for long whether general 1 is before round 3.
-#[derive(Drop)]
-struct Watch {
-    third: AtomicBool,
-    early: AtomicBool,
-}
-
-impl Gate for Watch {
-    fn before_round(&self, general: GeneralNo, round: u8) {
-        if general.get() == 1 && round == 3 {
-            self.third.store(true, Ordering::SeqCst);
-        }
-        if general.get() == 0 && round == 2 && is_set_within(&self.third, 100_000_000) {
-            self.early.store(true, Ordering::SeqCst);
-        }
-    }
-}
 
 /// Whether these are the logs of the scenario's run.
 fn are_of_run(alloc: Global, scenario: &Scenario, logs: &[SealedLog]) -> Result<bool, Fail> {
@@ -82,11 +62,8 @@ fn generals_run_at_once(rt: HostRuntime) -> Result<(), Fail> {
 #[test]
 fn generals_wait_for_frames(rt: HostRuntime) -> Result<(), Fail> {
     let scenario = line(rt.alloc())?;
-    let gate = Watch {
-        third: AtomicBool::new(false),
-        early: AtomicBool::new(false),
-    };
+    let gate = Watch::new();
     let _logs = run_threads(&rt, rt.alloc(), &scenario, 16, &gate)?;
-    assert!(rt; gate.third.load(Ordering::SeqCst) && !gate.early.load(Ordering::SeqCst));
+    assert!(rt; gate.has_waited());
     Ok(())
 }

@@ -3,8 +3,8 @@ ghost use Rattle.std.specs.Prelude.{◌≡◌, ◌<◌, IfOk};
 ghost use Rattle.gen_threads.specs.Edges.{HaveCarried};
 ghost use Rattle.gen_threads.specs.Ending.{MayRunWith};
 
-use crate::gates::{Meeting, Open};
-use crate::scenarios::{is_same, pair};
+use crate::gates::{Meeting, Open, Watch};
+use crate::scenarios::{is_same, long_pair, pair};
 use gen_log::SealedLog;
 use gen_net::Net;
 use gen_threads::{Edges, Gate, GeneralEnd, Passes, RunPart, run_general};
@@ -199,6 +199,16 @@ fn neighbours_meet_in_threads_of_their_own(rt: HostRuntime) -> Result<(), Fail> 
     let gate = Meeting::new();
     let ends = ends_of_pair(&rt, alloc, &scenario, &gate)?;
     assert!(rt; gate.has_met() && have_logs_of_run(alloc, &scenario, &ends)?);
+    Ok(())
+}
+
+#[test]
+fn neighbours_wait_in_threads_of_their_own(rt: HostRuntime) -> Result<(), Fail> {
+    let alloc = rt.alloc();
+    let scenario = long_pair(alloc)?;
+    let gate = Watch::new();
+    let ends = ends_of_pair(&rt, alloc, &scenario, &gate)?;
+    assert!(rt; gate.has_waited() && have_logs_of_run(alloc, &scenario, &ends)?);
     Ok(())
 }
 

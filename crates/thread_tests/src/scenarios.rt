@@ -24,6 +24,11 @@ pub(crate) fn pair(alloc: Global) -> Result<Scenario, Fail> {
     without_scripts(alloc, 2, &[(0, 1)], (0, 1))
 }
 
+/// Two generals who are neighbours, in a run of three rounds.
+pub(crate) fn long_pair(alloc: Global) -> Result<Scenario, Fail> {
+    without_scripts(alloc, 2, &[(0, 1)], (2, 1))
+}
+
 /// Four generals in a line.
 pub(crate) fn line(alloc: Global) -> Result<Scenario, Fail> {
     without_scripts(alloc, 4, &[(0, 1), (1, 2), (2, 3)], (0, 3))

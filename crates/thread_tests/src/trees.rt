@@ -14,7 +14,8 @@ use std::thread::Threads;
 /// The master seed.
 const MASTER: [u8; 32] = [7; 32];
 
-/// The scenario with order 1 in which three generals in a line have no scripts, over trees of threads or over its own.
+/// The scenario with order 1 in which three generals in a line have no scripts, over trees of threads or over
+/// its own.
 #[tactic(auto, using(gen_scenario::proofs::ScriptPairs::no_scripts))]
 fn line<R: Threads + Sync>(
     rt: &R,
