@@ -1,5 +1,6 @@
 //! What calls answer, and how it is said.
 use gen_audit::AuditFault;
+use gen_jobs::JobFault;
 use gen_threads::RunFault;
 use gen_types::ReadError;
 use gen_walks::WalkFault;
@@ -64,6 +65,21 @@ impl From<WalkFault> for Failure {
     }
 }
 
+impl From<JobFault> for Failure {
+    fn from(fault: JobFault) -> Failure {
+        match fault {
+            JobFault::Memory => Failure::Memory,
+            JobFault::Thread => Failure::Thread,
+            _ => Failure::Fault,
+        }
+    }
+}
+
+/// Whether memory or a thread was refused.
+pub(crate) fn is_refused(answer: &Answer) -> bool {
+    matches!(answer, Err(Failure::Memory | Failure::Thread))
+}
+
 /// Writes a line to standard output.
 pub(crate) fn say<R: Print>(rt: &R, line: &str) -> io::Result<()> {
     io::writer(rt).write_all(line.as_bytes())
@@ -87,4 +103,32 @@ pub(crate) fn tell<R: Print>(rt: &R, alloc: Global, bytes: &[u8]) -> io::Result<
     let mut line = hex::encode(alloc, hasher.finalize())?;
     line.push('\n')?;
     say(rt, line.as_str())
+}
+
+/// Says what a call answered.
+pub(crate) fn say_answer<R: Print>(rt: &R, answer: &Answer) -> io::Result<()> {
+    match answer {
+        Ok(_) => say_end(rt, None),
+        Err(failure) => say_end(rt, Some(*failure)),
+    }
+}
+
+/// Tells what a call gave, or that it gave nothing.
+pub(crate) fn tell_answer<R: Print>(rt: &R, alloc: Global, answer: &Answer) -> io::Result<()> {
+    match answer {
+        Ok(given) => tell(rt, alloc, given.as_slice()),
+        Err(_) => say(rt, "nothing\n"),
+    }
+}
+
+/// Says how several calls ended, each of which was made again where it was refused: whether one was.
+pub(crate) fn say_steps<R: Print>(rt: &R, answer: Result<bool, Failure>) -> io::Result<()> {
+    match answer {
+        Ok(false) => say_end(rt, None),
+        Ok(true) => {
+            say_end(rt, Some(Failure::Memory))?;
+            say_end(rt, None)
+        }
+        Err(failure) => say_end(rt, Some(failure)),
+    }
 }

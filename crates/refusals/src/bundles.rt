@@ -5,6 +5,7 @@ ghost use Rattle.gen_log.specs.Log.{IsLog};
 
 use crate::answers::{Answer, Failure};
 use crate::scenarios::Open;
+use crate::values;
 use gen_audit::{Bundle, WorkerCount, audit, read_bundle, write_bundle};
 use gen_convict::{Evidence, Refutation, check_evidence, find_evidence, is_own_log, refute};
 use gen_local::{Exhibit, LocalReport, local_report};
@@ -31,12 +32,12 @@ pub(crate) fn call<R: Threads + Wait + Sync>(
         "audit by two" => verdict(rt, alloc, bundle, two_workers()),
         "find_evidence" => convictions(alloc, bundle),
         "refute" => refutation(alloc, bundle),
-        _ => Err(Failure::Fault),
+        _ => values::call(alloc, name, bundle),
     }
 }
 
 /// Returns the number of two workers.
-fn two_workers() -> WorkerCount {
+pub(crate) fn two_workers() -> WorkerCount {
     WorkerCount::new(2).unwrap_or(WorkerCount::one())
 }
 

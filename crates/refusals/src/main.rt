@@ -10,11 +10,14 @@ mod acting;
 mod answers;
 mod bundles;
 mod desks;
+mod jobs;
 mod keys;
 mod logs;
 mod scenarios;
+mod stores;
+mod values;
 
-use answers::{Answer, Failure, say, say_end, tell};
+use answers::{Answer, is_refused, say, say_answer, tell_answer};
 use gen_audit::{Bundle, read_bundle};
 use gen_report::{ScenarioText, read_scenario};
 use gen_scenario::Scenario;
@@ -58,6 +61,9 @@ fn make<R: Threads + Wait + Sync>(
     subject: &Subject,
     input: &[u8],
 ) -> Answer {
+    if jobs::is_job(name) {
+        return jobs::call(rt, alloc, name, input);
+    }
     match subject {
         Subject::Scene(scenario) => scenarios::call(rt, alloc, name, scenario),
         Subject::Shown(bundle) => bundles::call(rt, alloc, name, bundle, input),
@@ -74,10 +80,7 @@ fn try_once<R: Print + Threads + Wait + Sync>(
     input: &[u8],
 ) -> io::Result<Answer> {
     let answer = make(rt, alloc, name, subject, input);
-    match &answer {
-        Ok(_) => say_end(rt, None)?,
-        Err(failure) => say_end(rt, Some(*failure))?,
-    }
+    say_answer(rt, &answer)?;
     Ok(answer)
 }
 
@@ -91,13 +94,10 @@ fn try_call<R: Print + Threads + Wait + Sync>(
 ) -> io::Result<()> {
     say(rt, "call\n")?;
     let mut answer = try_once(rt, alloc, name, subject, input)?;
-    if matches!(answer, Err(Failure::Memory | Failure::Thread)) {
+    if is_refused(&answer) {
         answer = try_once(rt, alloc, name, subject, input)?;
     }
-    match answer {
-        Ok(given) => tell(rt, alloc, given.as_slice()),
-        Err(_) => say(rt, "nothing\n"),
-    }
+    tell_answer(rt, alloc, &answer)
 }
 
 /// Makes a call that changes what it is called on: where it was refused it is made again there.
@@ -114,7 +114,10 @@ fn try_step<R: Print + Wait>(
             "Desk::claim" => desks::claiming(rt, alloc, scenario),
             _ => desks::reporting(rt, alloc, scenario),
         },
-        Subject::Shown(bundle) => logs::append(rt, alloc, bundle),
+        Subject::Shown(bundle) => match name {
+            "LogWriter::append" => logs::append(rt, alloc, bundle),
+            _ => stores::judging(rt, alloc, bundle),
+        },
         Subject::Nothing => say(rt, "nothing\n"),
     }
 }
@@ -123,7 +126,12 @@ fn try_step<R: Print + Wait>(
 fn is_step(name: &str) -> bool {
     matches!(
         name,
-        "Machine::act" | "Desk::file" | "Desk::claim" | "Desk::report" | "LogWriter::append"
+        "Machine::act"
+            | "Desk::file"
+            | "Desk::claim"
+            | "Desk::report"
+            | "LogWriter::append"
+            | "local_reports"
     )
 }
 

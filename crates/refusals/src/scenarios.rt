@@ -2,6 +2,7 @@
 ghost use Rattle.std.specs.Prelude.{IfOk};
 ghost use Rattle.gen_audit.specs.BundleParts.{AreListedWalks};
 
+use crate::acting;
 use crate::answers::{Answer, Failure};
 use gen_audit::{AuditFault, JobGate, Judgement, WorkerCount};
 use gen_edge::Edge;
@@ -39,6 +40,7 @@ pub(crate) fn call<R: Threads + Wait + Sync>(
         "run_world" => world(alloc, scenario),
         "run_threads" => threads(rt, alloc, scenario),
         "run_and_audit" => judgement(rt, alloc, scenario),
+        "Machine::finish" => acting::whole(alloc, scenario),
         "Edge::new" => edge(rt, alloc, scenario),
         _ => Err(Failure::Fault),
     }
