@@ -2,30 +2,34 @@
 use Rattle.std.proofs.Common.{◌≡◌, ◌<◌, ◌≤◌, ◌+◌, ℕ, true, false, List, [], ◌∷◌, ◌++◌, map, refl, sym, ap, subst, ◌∙◌, arith, Option, Some, None, inl, inr}
 use Rattle.std.specs.Prelude.{IsSome}
 use Rattle.std.specs.List.{range_with_len}
+use Rattle.std.proofs.lemmas.Bool.{ltb-true}
 use Rattle.gen_types.proofs.Lists.{Contains_nil}
 use Rattle.gen_tree.specs.Rings.{Ring}
 use Rattle.gen_net.specs.Header.{RunHeader}
-use Rattle.gen_net.specs.Log.{Precedes}
 use Rattle.gen_log.specs.declared.entries.Entry.{Entry}
-use Rattle.gen_scenario.specs.Part.{Part}
+use Rattle.gen_net.specs.Network.{rounds}
+use Rattle.gen_scenario.specs.Part.{IsPart, Part}
 use Rattle.gen_scenario.specs.RoundEntries.{recv_entries, send_entries, sign_entries}
 use Rattle.gen_scenario.specs.SignedWorld.{delivery, near_of}
 use Rattle.gen_scenario.specs.Counted.{counted_of}
-use Rattle.gen_general.specs.Participant.{Participant, RingAfter, sender_at}
+use Rattle.gen_general.specs.Participant.{IsUnused, Participant, RingAfter, sender_at}
+use Rattle.gen_general.specs.Loops.Journals.{IsRecord}
+use Rattle.gen_general.proofs.JournalRecords.{heard_record, round_record, start_record}
 use Rattle.gen_general.specs.Recording.{Recorder, RecordsRound, StandBefore, recorder_at_start, with_recvs, with_sends}
 use Rattle.gen_node.specs.declared.stages.Stage.{Stage}
 use Rattle.gen_node.specs.declared.stages.Stage.TheVariants.{Between, Sending, Open, Hearing}
 use Rattle.gen_node.specs.Held.{Held}
-use Rattle.gen_node.specs.Node.{ends_in, header_at, neighbours_at, next_heard}
-use Rattle.gen_node.specs.Loops.Kept.{HoldsFrames, IsNode, held_for, is_near, next_place}
+use Rattle.gen_node.specs.Node.{begins_in, ends_in, header_at, next_heard}
+use Rattle.gen_node.specs.Loops.Kept.{IsNode, held_for, is_near, log_begun}
 use Rattle.gen_node.proofs.Places.{act_before, recv_place, send_place, sign_place, stand_both, stand_later}
 use Rattle.gen_node.proofs.Rows.{held_far, held_near}
 
-pub kept_start : (h : RunHeader) (part : Part) (ring : Ring) → part.header ≡ h → part.script ≡ None → IsNode h (recorder_at_start part (Some ring)) Between []
-kept_start h part ring e none = record {
+pub kept_start : (h : RunHeader) (part : Part) (ring : Ring) → part.header ≡ h → part.script ≡ None → IsPart part → IsUnused part.header ring → IsNode h (recorder_at_start part (Some ring)) Between []
+kept_start h part ring e none known unused = record {
   header = e;
   unscripted = none;
   ring = refl;
+  acts = start_record part (Some ring) (log_begun part) known (none, unused) refl refl refl;
   place = λ x k. absurd (Contains_nil x k);
   holds = tt;
 }
@@ -49,11 +53,12 @@ signs_stand h r q out is begun =
     let here : StandBefore h.network q.written at = subst (λ (xs : List Entry). StandBefore h.network xs at) (sym begun.written) both in
     subst (λ (n : ℕ). StandBefore h.network q.written (n ∷ 1 ∷ 0 ∷ [])) (sym begun.standing.round) here
 
-pub kept_signed : (h : RunHeader) (r q : Recorder) (out : List Held) → IsNode h r Between out → RecordsRound r q → IsNode h q (Sending 0) []
-kept_signed h r q out is begun = record {
+pub kept_signed : (h : RunHeader) (r q : Recorder) (out : List Held) → r.standing.round < rounds (header_at r).network → IsNode h r Between out → RecordsRound r q → IsNode h q (Sending 0) []
+kept_signed h r q out more is begun = record {
   header = ap (λ (k : Part). k.header) begun.standing.known ∙ is.header;
   unscripted = ap (λ (k : Part). k.script) begun.standing.known ∙ is.unscripted;
   ring = ring_stays r.standing r.standing.ring q.standing.ring begun.standing.ring is.ring;
+  acts = subst (λ (k : Part). IsRecord q.standing (log_begun k)) (sym begun.standing.known) (round_record r.standing q.standing (log_begun r.standing.known) more begun.standing is.acts);
   place = signs_stand h r q out is begun;
   holds = (omega arith, refl);
 }
@@ -69,6 +74,7 @@ kept_sent h r next out low near is =
       header = is.header;
       unscripted = is.unscripted;
       ring = is.ring;
+      acts = is.acts;
       place = stand_both h.network r.written es at old new;
       holds = (omega (arith, low), held_near r (header_at r).network r.standing.known.me next out near is.holds.1);
     }
@@ -80,6 +86,7 @@ kept_unsent h r next out low far is =
       header = is.header;
       unscripted = is.unscripted;
       ring = is.ring;
+      acts = is.acts;
       place = stand_later h.network r.written (round ∷ 1 ∷ next ∷ []) (round ∷ 1 ∷ (next + 1) ∷ []) is.place (inr (refl, inr (refl, inl (omega arith))));
       holds = (omega (arith, low), held_far r (header_at r).network r.standing.known.me next out far is.holds.1);
     }
@@ -92,6 +99,7 @@ kept_open h r next out past is =
       header = is.header;
       unscripted = is.unscripted;
       ring = is.ring;
+      acts = is.acts;
       place = stand_later h.network r.written (round ∷ 1 ∷ next ∷ []) (round ∷ 2 ∷ []) is.place (inr (refl, inl (omega arith)));
       holds = subst (λ (n : ℕ). out ≡ map (held_for r) (near_of (header_at r).network r.standing.known.me (range_with_len 0 n))) all is.holds.1;
     }
@@ -108,6 +116,7 @@ kept_ends h r Open out e is =
       header = is.header;
       unscripted = is.unscripted;
       ring = is.ring;
+      acts = is.acts;
       place = stand_later h.network r.written (round ∷ 2 ∷ []) (round ∷ 2 ∷ 0 ∷ []) is.place (inr (refl, inr (refl, tt)));
       holds = tt;
     }
@@ -124,6 +133,7 @@ kept_heard h r next frame out is =
       header = is.header;
       unscripted = is.unscripted;
       ring = is.ring;
+      acts = heard_record r.standing (log_begun r.standing.known) next frame is.acts;
       place = stand_both h.network r.written es at old new;
       holds = tt;
     }
@@ -135,6 +145,7 @@ kept_unheard h r next out is =
       header = is.header;
       unscripted = is.unscripted;
       ring = is.ring;
+      acts = is.acts;
       place = stand_later h.network r.written (round ∷ 2 ∷ next ∷ []) (round ∷ 2 ∷ (next + 1) ∷ []) is.place (inr (refl, inr (refl, inl (omega arith))));
       holds = tt;
     }
@@ -146,11 +157,18 @@ kept_between h r next out left is =
       header = is.header;
       unscripted = is.unscripted;
       ring = is.ring;
+      acts = is.acts;
       place = stand_later h.network r.written (round ∷ 2 ∷ next ∷ []) ((round + 1) ∷ []) is.place (inl (omega arith));
       holds = tt;
     }
 
 -- ---- what is asked of the recorder
+
+pub may_more : (stage : Stage) (round all : ℕ) → stage ≡ Between → begins_in stage round all ≡ true → round < all
+may_more Between round all e may = ltb-true round all may
+may_more (Sending next) round all e may = absurd cc
+may_more Open round all e may = absurd cc
+may_more (Hearing next) round all e may = absurd cc
 
 pub may_send_next : (h : RunHeader) (r : Recorder) (next : ℕ) (out : List Held) → IsNode h r (Sending next) out → StandBefore (header_at r).network r.written (r.standing.round ∷ 1 ∷ next ∷ [])
 may_send_next h r next out is = subst (λ (x : RunHeader). StandBefore x.network r.written (r.standing.round ∷ 1 ∷ next ∷ [])) (sym is.header) is.place

@@ -5,5 +5,6 @@ pub mod Rows
 pub mod Rounds
 pub mod Keeping
 pub mod Scenarios
+pub mod ShortFrames
 pub mod Runs
 pub mod Steps

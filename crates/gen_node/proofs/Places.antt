@@ -1,5 +1,5 @@
 -- Where a general without a script writes the entries of a round.
-use Rattle.std.proofs.Common.{◌≡◌, ◌<◌, ◌+◌, ℕ, true, not, List, [], ◌∷◌, ◌++◌, map, filter, length, Contains, refl, sym, ap, subst, ◌∙◌, arith, eqb, length-append, Option, Some, None, inl, inr}
+use Rattle.std.proofs.Common.{◌≡◌, ◌+◌, ℕ, not, List, [], ◌∷◌, ◌++◌, filter, length, Contains, sym, ap, subst, ◌∙◌, arith, eqb, length-append, Option, Some, None, inl, inr}
 use Rattle.std.specs.List.{range_with_len, list_any}
 use Rattle.std.proofs.lemmas.Bool.{eqb-true}
 use Rattle.std.proofs.lemmas.List.Elements.{Contains-append_cases}

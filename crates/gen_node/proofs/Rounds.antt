@@ -1,14 +1,12 @@
 -- A round that begins or ends, general by general.
-use Rattle.std.proofs.Common.{◌≡◌, ◌<◌, ◌≤◌, ◌+◌, ◌-◌, ℕ, suc, Bool, true, false, List, [], ◌∷◌, ◌++◌, refl, sym, ap, subst, ◌∙◌, arith, add-one, inl, inr}
+use Rattle.std.proofs.Common.{◌≡◌, ◌<◌, ◌≤◌, ◌+◌, ◌-◌, ℕ, suc, Bool, true, false, List, [], ◌∷◌, refl, sym, ap, ◌∙◌, arith, inl, inr}
 use Rattle.std.specs.Prelude.{if◌then◌else◌}
-use Rattle.std.specs.List.{list_any, range_with_len}
+use Rattle.std.specs.List.{range_with_len}
 use Rattle.gen_types.proofs.Lists.{bool_cases}
-use Rattle.gen_net.specs.Edges.{joins}
 use Rattle.gen_general.specs.Recording.{Recorder, with_recvs, with_sends}
-use Rattle.gen_node.specs.declared.stages.Stage.{Stage}
-use Rattle.gen_node.specs.declared.stages.Stage.TheVariants.{Between, Sending, Open, Hearing}
+use Rattle.gen_node.specs.declared.stages.Stage.TheVariants.{Between, Open}
 use Rattle.gen_node.specs.Held.{Held, frame_in}
-use Rattle.gen_node.specs.Node.{Node, ended, from_on, header_at, heard_from, hears_all, near_at, next_heard, sends_all, sent_from}
+use Rattle.gen_node.specs.Node.{Node, from_on, header_at, heard_from, hears_all, near_at, sends_all, sent_from}
 use Rattle.gen_node.specs.Loops.Kept.{heard_one, is_near, sent_one}
 
 range_step : (next n : ℕ) → next < n → range_with_len next (n - next) ≡ next ∷ range_with_len (next + 1) (n - (next + 1))

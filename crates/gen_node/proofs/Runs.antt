@@ -1,25 +1,23 @@
 -- Nodes that hand their frames to each other make the run of their scenario.
-use Rattle.std.proofs.Common.{◌≡◌, ◌<◌, ◌≤◌, ◌+◌, ℕ, zero, suc, Bool, true, false, not, List, [], ◌∷◌, ◌++◌, map, filter, Contains, refl, sym, ap, subst, ◌∙◌, arith, add-one, Option, Some, None, inl, inr}
+use Rattle.std.proofs.Common.{◌≡◌, ◌<◌, ◌≤◌, ◌+◌, ℕ, zero, suc, Bool, true, not, List, [], ◌∷◌, ◌++◌, map, filter, Contains, refl, sym, ap, subst, ◌∙◌, arith, add-one, Option, Some, None}
 use Rattle.std.specs.List.{flat_map, list_any, range_with_len}
 use Rattle.std.proofs.lemmas.List.Concat.{flat_map-cons}
 use Rattle.gen_types.proofs.Lists.{Contains_here, Contains_there, Contains_range}
 use Rattle.gen_types.specs.Members.{filter_range_has}
 use Rattle.gen_net.specs.Edges.{joins}
 use Rattle.gen_net.specs.Network.{rounds}
-use Rattle.gen_log.specs.Writing.{LogBytes}
 use Rattle.gen_script.specs.declared.lines.ScriptLine.{ScriptLine}
 use Rattle.gen_script.specs.Script.{Script}
-use Rattle.gen_scenario.specs.declared.scenario.Decision.{Decision}
-use Rattle.gen_scenario.specs.Deciding.{decision_of, decisions_of}
+use Rattle.gen_scenario.specs.Deciding.{decision_of}
 use Rattle.gen_scenario.specs.Rows.{logs_of_all}
 use Rattle.gen_scenario.specs.Scenario.{Scenario, IsScenario, has_script, script_of}
 use Rattle.gen_scenario.specs.SignedWorld.{frame_at, neighbours_of}
 use Rattle.gen_scenario.specs.WorldLogs.{log_bytes, logs_of}
 use Rattle.gen_general.specs.DrivenRecords.{HasHeard}
-use Rattle.gen_general.specs.Recording.{Recorder}
+use Rattle.gen_general.specs.Recording.{Recorder, log_written}
 use Rattle.gen_node.specs.Frame.{Frame}
 use Rattle.gen_node.specs.Held.{frame_in}
-use Rattle.gen_node.specs.Node.{Node, decision_of_node, ended, frame_to, log_of_node}
+use Rattle.gen_node.specs.Node.{decision_of_node, ended}
 use Rattle.gen_node.specs.NodeLaws.{HandOn, HoldsRound, IsAfter, IsHonest, IsWithin, Nodes, NodesDecisions, NodesLogs, NodesRun}
 use Rattle.gen_node.proofs.Scenarios.{nodes_begin, nodes_decide, nodes_end, nodes_log, nodes_send, nodes_start}
 
@@ -80,7 +78,7 @@ one_each {Y} f h (g ∷ gs) same =
 pub nodes_logs : NodesLogs
 unfolding logs_of_all
 nodes_logs s x ok none on =
-    one_each (λ g. log_of_node (x.after (rounds s.net) g).recorder) (λ g. map (log_bytes g) (logs_of s g)) (range_with_len 0 s.net.generals)
+    one_each (λ g. log_written (x.after (rounds s.net) g).recorder) (λ g. map (log_bytes g) (logs_of s g)) (range_with_len 0 s.net.generals)
     (λ g h. nodes_log s g (x.after (rounds s.net) g) (last s x ok on g (record { known = omega (arith, (Contains_range 0 s.net.generals g h).1); unscripted = nobody s g none })))
 
 all_kept : (p : ℕ → Bool) (gs : List ℕ) → ((g : ℕ) → p g ≡ true) → filter p gs ≡ gs

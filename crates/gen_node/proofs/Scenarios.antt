@@ -1,50 +1,36 @@
 -- A node that is driven as a scenario says is its general.
-use Rattle.std.proofs.Common.{◌≡◌, ◌<◌, ◌≤◌, ◌+◌, ◌-◌, ℕ, zero, suc, Bool, true, false, not, List, [], ◌∷◌, ◌++◌, map, filter, length, Contains, refl, sym, ap, subst, ◌∙◌, arith, eqb, append_assoc, add-one, Option, Some, None, Ok, inl, inr}
-use Rattle.std.specs.Prelude.{◌&&◌, is_some}
-use Rattle.std.specs.List.{flat_map, range_with_len}
+use Rattle.std.proofs.Common.{◌≡◌, ◌+◌, ◌-◌, ℕ, true, List, [], ◌∷◌, ◌++◌, Contains, refl, sym, ap, subst, ◌∙◌, arith, eqb, append_assoc, Option, Some, None, Ok}
+use Rattle.std.specs.List.{range_with_len}
 use Rattle.std.specs.Str.{bytes_eq}
-use Rattle.std.proofs.lemmas.Bool.{eqb-true, eq-eqb}
+use Rattle.std.proofs.lemmas.Bool.{eq-eqb}
 use Rattle.std.proofs.lemmas.List.{append-nil}
-use Rattle.std.proofs.lemmas.List.Concat.{flat_map-cons}
 use Rattle.std.proofs.lemmas.Slice.Eq.{bytes_eq-Decides}
-use Rattle.gen_types.proofs.Lists.{Contains_here, Contains_there, Contains_range, bool_cases}
-use Rattle.gen_types.proofs.Steps.{after, after_check, ok_is}
+use Rattle.gen_types.proofs.Lists.{Contains_here, Contains_there}
+use Rattle.gen_types.proofs.Steps.{after, ok_is}
 use Rattle.gen_types.specs.Ends.{is_among}
-use Rattle.gen_types.specs.Members.{filter_range_has}
-use Rattle.gen_types.specs.Reading.{◌>>=◌, check}
-use Rattle.gen_types.specs.Spelled.{Spells}
 use Rattle.gen_tree.specs.Rings.{Ring, seed_of}
-use Rattle.gen_net.specs.Edges.{joins}
 use Rattle.gen_net.specs.Header.{RunHeader, run_id_of}
-use Rattle.gen_net.specs.Network.{Network, rounds}
-use Rattle.gen_log.specs.Writing.{LogBytes}
 use Rattle.gen_script.specs.declared.lines.ScriptLine.{ScriptLine}
-use Rattle.gen_script.specs.Script.{Script}
-use Rattle.gen_scenario.specs.declared.scenario.Decision.{Decision}
-use Rattle.gen_scenario.specs.Deciding.{decision_of, decisions_of}
 use Rattle.gen_scenario.specs.Part.{Part, followers_part, part_of, trees_known}
-use Rattle.gen_scenario.specs.Rows.{logs_of_all}
-use Rattle.gen_scenario.specs.Scenario.{Scenario, IsScenario, has_script, header_of, script_of, scripted}
+use Rattle.gen_scenario.specs.Scenario.{Scenario, IsScenario, header_of, script_of}
 use Rattle.gen_scenario.specs.SignedWorld.{frame_at, heard_by, near_of, neighbours_of, own_order}
-use Rattle.gen_scenario.specs.WorldLogs.{log_bytes, logs_of}
 use Rattle.gen_scenario.proofs.Having.{any_gives}
 use Rattle.gen_scenario.proofs.Stepping.{frame_after}
-use Rattle.gen_general.specs.DrivenRecords.{HasHeard, HasSent, RecordsAfter}
+use Rattle.gen_general.specs.DrivenRecords.{HasHeard, HasSent}
 use Rattle.gen_general.specs.Participant.{Participant, at_start, sends}
 use Rattle.gen_general.specs.ParticipantLaws.{IsGeneralOf, IsOwnRing}
-use Rattle.gen_general.specs.Recording.{Recorder, logs_written, recorder_at_start, with_recvs, with_sends}
+use Rattle.gen_general.specs.Recording.{Recorder, log_written, logs_written, with_recvs, with_sends}
 use Rattle.gen_general.proofs.Recorders.{begins, hears_from, logs_by, round_ends, sends_to, sent_all, until_none}
 use Rattle.gen_general.proofs.Starting.{starts_as_he}
 use Rattle.gen_general.proofs.Worlds.{decides_as_he, sends_frames}
 use Rattle.gen_node.specs.declared.frame_fault.FrameFault.{FrameFault}
-use Rattle.gen_node.specs.declared.frame_fault.FrameFault.TheVariants as faults
 use Rattle.gen_node.specs.declared.stages.Stage.{Stage}
 use Rattle.gen_node.specs.declared.stages.Stage.TheVariants.{Between, Sending, Open, Hearing}
-use Rattle.gen_node.specs.Frame.{Frame, IsFrame, frame_spelling}
+use Rattle.gen_node.specs.Frame.{Frame}
 use Rattle.gen_node.specs.FrameReading.{whole_frame}
-use Rattle.gen_node.specs.Held.{Held, held_of, frame_in}
-use Rattle.gen_node.specs.Node.{Node, HasSigned, IsBegun, IsBegunFrom, awaited, awaits, decision_of_node, ended, frame_to, from_on, front_check, handed, header_at, heard_from, hears_all, log_of_node, near_at, node_at_start, sends_all, sent_from, with_arrival}
-use Rattle.gen_node.specs.NodeLaws.{HandOn, HoldsRound, IsAfter, IsHonest, IsWithin, Nodes, NodesBegin, NodesDecide, NodesDecisions, NodesEnd, NodesHear, NodesLog, NodesLogs, NodesRun, NodesSend, NodesStart, NodesTake, frame_between}
+use Rattle.gen_node.specs.Held.{frame_in}
+use Rattle.gen_node.specs.Node.{Node, HasSigned, IsBegunFrom, awaited, ended, frame_to, from_on, front_check, header_at, heard_from, hears_all, near_at, sends_all, sent_from, with_arrival}
+use Rattle.gen_node.specs.NodeLaws.{HoldsRound, IsAfter, IsWithin, NodesBegin, NodesDecide, NodesEnd, NodesHear, NodesLog, NodesSend, NodesStart, NodesTake, frame_between}
 use Rattle.gen_node.proofs.FrameLaws.{frame_only}
 
 -- ---- before the first round
@@ -199,7 +185,7 @@ nodes_end s k g n is holds =
 
 -- ---- after the last round
 
-pub one_log : (r : Recorder) → r.standing.known.script ≡ None → logs_written r ≡ log_of_node r ∷ []
+pub one_log : (r : Recorder) → r.standing.known.script ≡ None → logs_written r ≡ log_written r ∷ []
 one_log r none = rw none refl
 
 pub nodes_log : NodesLog

@@ -1,22 +1,13 @@
 -- How calls of a node follow each other.
-use Rattle.std.proofs.Common.{◌≡◌, ◌<◌, ◌≤◌, ◌+◌, ℕ, Bool, true, false, List, [], ◌∷◌, ◌++◌, length, length-append, refl, sym, ap, subst, ◌∙◌, arith, Option, Some, None, inl, inr}
-use Rattle.std.specs.Prelude.{◌&&◌, option_to_list, if◌then◌else◌}
+use Rattle.std.proofs.Common.{◌≡◌, ◌+◌, ℕ, Bool, true, false, refl, ap, ◌∙◌}
+use Rattle.std.specs.Prelude.{◌&&◌, if◌then◌else◌}
 use Rattle.gen_types.specs.Ends.{is_among}
-use Rattle.gen_types.proofs.Lists.{bool_cases}
-use Rattle.gen_net.specs.Header.{RunHeader}
 use Rattle.gen_general.specs.Recording.{Recorder, with_recvs, with_sends}
 use Rattle.gen_node.specs.declared.stages.Stage.{Stage}
 use Rattle.gen_node.specs.declared.stages.Stage.TheVariants.{Between, Sending, Open, Hearing}
 use Rattle.gen_node.specs.Held.{frame_in}
-use Rattle.gen_node.specs.Node.{Node, HasSigned, IsBegun, IsBegunFrom, awaits, begins_in, is_open, neighbours_at, ends_in, header_at, next_heard, sent_from}
+use Rattle.gen_node.specs.Node.{Node, IsBegunFrom, awaits, begins_in, is_open, neighbours_at, header_at, sent_from}
 use Rattle.gen_node.specs.Loops.Kept.{IsSignedFrom, heard_one, is_near, is_sending, next_sent, sent_one}
-
--- what is popped of one
-pub only_one : {X : Type 0} (xs ys : List X) (o : Option X) (x y : X) → xs ≡ y ∷ [] → xs ≡ ys ++ option_to_list o → o ≡ Some x → x ≡ y
-only_one xs [] o x y one parts is = let e : x ∷ [] ≡ y ∷ [] = sym (parts ∙ ap option_to_list is) ∙ one in cc
-only_one {X} xs (z ∷ zs) o x y one parts is =
-    let e : z ∷ (zs ++ x ∷ []) ≡ y ∷ [] = sym (parts ∙ ap (λ (p : Option X). z ∷ (zs ++ option_to_list p)) is) ∙ one in
-    absurd (omega (arith, ap length e, length-append zs (x ∷ [])))
 
 -- ---- a round begins
 

@@ -1,21 +1,18 @@
 -- One general who is driven from outside, as he stands between calls, and what each call makes of him.
-use Rattle.std.specs.Prelude.{ℕ, ◌≡◌, ◌+◌, ◌-◌, ◌==◌, ◌&&◌, not, Bool, true, false, List, [], ◌∷◌, ◌++◌}
-use Rattle.std.specs.Prelude.{Option, Some, None, Result, Ok, is_some, nat_lt}
-use Rattle.std.specs.List.{range_with_len, list_any}
+use Rattle.std.specs.Prelude.{ℕ, ◌≡◌, ◌-◌, ◌==◌, ◌&&◌, not, Bool, true, false, List, [], ◌∷◌, ◌++◌}
+use Rattle.std.specs.Prelude.{Option, Some, Result, Ok, is_some, nat_lt}
+use Rattle.std.specs.List.{range_with_len}
 use Rattle.std.specs.Str.{bytes_eq}
 use Rattle.gen_types.specs.Ends.{is_among}
 use Rattle.gen_types.specs.Reading.{◌>>=◌, check}
 use Rattle.gen_tree.specs.Rings.{Ring}
-use Rattle.gen_net.specs.Edges.{joins}
 use Rattle.gen_net.specs.Header.{RunHeader, run_id_of}
-use Rattle.gen_net.specs.Network.{Network, rounds}
-use Rattle.gen_log.specs.Writing.{LogBytes}
+use Rattle.gen_net.specs.Network.{rounds}
 use Rattle.gen_scenario.specs.declared.scenario.Decision.{Decision}
 use Rattle.gen_scenario.specs.Deciding.{decided_by}
 use Rattle.gen_scenario.specs.Part.{followers_part}
 use Rattle.gen_scenario.specs.SignedWorld.{near_of, neighbours_of}
-use Rattle.gen_scenario.specs.WorldLogs.{entries_over, log_bytes, log_with}
-use Rattle.gen_general.specs.Participant.{Participant, sender_at, sends}
+use Rattle.gen_general.specs.Participant.{sends}
 use Rattle.gen_general.specs.Recording.{Recorder, RecordsRound, recorder_at_start, with_recvs, with_sends}
 use Rattle.gen_node.specs.declared.frame_fault.FrameFault.{FrameFault}
 use Rattle.gen_node.specs.declared.frame_fault.FrameFault.TheVariants as faults
@@ -191,12 +188,7 @@ over_in _ round all = false
 abbrev pub is_over : Node → Bool
 is_over n = over_in n.stage n.recorder.standing.round (rounds (header_at n.recorder).network)
 
--- his log, and what he decides
-abbrev pub log_of_node : Recorder → LogBytes
-log_of_node r =
-    log_bytes r.standing.known.me
-    (log_with (sender_at r.standing).keys r.standing.known.me (entries_over (sender_at r.standing) r.written))
-
+-- what he decides
 abbrev pub decision_of_node : Recorder → Decision
 decision_of_node r =
     decided_by (header_at r).network r.standing.known.me r.standing.known.own r.standing.heard

@@ -12,10 +12,11 @@ use Rattle.gen_scenario.specs.Scenario.{Scenario, IsScenario, header_of, script_
 use Rattle.gen_scenario.specs.SignedWorld.{frame_at, neighbours_of, own_order}
 use Rattle.gen_scenario.specs.WorldLogs.{log_bytes, logs_of}
 use Rattle.gen_general.specs.DrivenRecords.{HasHeard, RecordsAfter}
+use Rattle.gen_general.specs.Recording.{log_written}
 use Rattle.gen_node.specs.declared.stages.Stage.TheVariants.{Between, Open}
 use Rattle.gen_node.specs.Frame.{Frame, IsFrame, frame_spelling}
 use Rattle.gen_node.specs.Held.{held_of, frame_in}
-use Rattle.gen_node.specs.Node.{Node, IsBegun, decision_of_node, ended, frame_to, handed, log_of_node}
+use Rattle.gen_node.specs.Node.{Node, IsBegun, decision_of_node, ended, frame_to, handed}
 use Rattle.gen_node.specs.Node.{node_at_start, with_arrival}
 
 -- ---- one node
@@ -86,7 +87,7 @@ NodesEnd =
 abbrev pub NodesLog : Type 0
 NodesLog =
     (s : Scenario) (g : ℕ) (n : Node) → IsAfter s (rounds s.net) g n
-    → log_of_node n.recorder ∷ [] ≡ map (log_bytes g) (logs_of s g)
+    → log_written n.recorder ∷ [] ≡ map (log_bytes g) (logs_of s g)
 
 abbrev pub NodesDecide : Type 0
 NodesDecide =
@@ -133,7 +134,7 @@ NodesRun =
 abbrev pub NodesLogs : Type 0
 NodesLogs =
     (s : Scenario) (x : Nodes) → IsScenario s → s.scripts ≡ [] → HandOn s x
-    → map (λ g. log_of_node (x.after (rounds s.net) g).recorder) (range_with_len 0 s.net.generals)
+    → map (λ g. log_written (x.after (rounds s.net) g).recorder) (range_with_len 0 s.net.generals)
     ≡ logs_of_all s
 
 abbrev pub NodesDecisions : Type 0

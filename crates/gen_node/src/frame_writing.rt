@@ -1,41 +1,15 @@
 //! Writing frames.
-ghost use Rattle.std.specs.Prelude.{◌≡◌, ◌<◌, ◌^◌, ◌++◌, All, Err, IfOk, OnOk, length};
+ghost use Rattle.std.specs.Prelude.{◌≡◌, ◌<◌, ◌^◌, ◌++◌, ◌↔◌, All, Err, IfOk, IsTrue, OnOk, length};
 ghost use Rattle.std.specs.List.{flat_map};
 ghost use Rattle.gen_types.specs.Spelled.{Spells};
 ghost use Rattle.gen_node.specs.declared.spelling_fault.SpellingFault.TheVariants.{TooLong};
-ghost use Rattle.gen_node.specs.Frame.{IsFrame, IsFront, frame_spelling, front_spelling, parcel_spelling};
+ghost use Rattle.gen_node.specs.Frame.{IsFrame, IsFront, IsParcel, frame_spelling, front_spelling, parcel_spelling};
 
 use crate::frame_reading::FRAME_MARK;
 use crate::frames::FrameFront;
 use crate::spelling_fault::SpellingFault;
 use gen_script::Parcel;
 use std::alloc::{AllocError, Global};
-
-/// Appends a parcel behind its length.
-fn put_parcel(out: &mut Vec<u8>, parcel: &Parcel) -> Result<(), SpellingFault>
-    ensures ok { OnOk result (out.new.items ≡ out.old.items ++ parcel_spelling parcel.now) }
-    ensures short { OnOk result (length parcel.now < 2 ^ 32) }
-    ensures long { result ≡ Err TooLong → length parcel.now < 2 ^ 32 → ⊥ }
-{
-    let Ok(size) = u32::try_from(parcel.bytes().len()) else {
-        return Err(SpellingFault::TooLong);
-    };
-    out.extend_from_slice(&size.to_be_bytes())?;
-    out.extend_from_slice(parcel.bytes())?;
-    Ok(())
-}
-
-/// Appends parcels, each behind its length.
-fn put_parcels(out: &mut Vec<u8>, parcels: &[Parcel]) -> Result<(), SpellingFault>
-    ensures ok { OnOk result (out.new.items ≡ out.old.items ++ flat_map parcel_spelling parcels.now) }
-    ensures short { OnOk result (All (λ p. length p < 2 ^ 32) parcels.now) }
-    ensures long { result ≡ Err TooLong → All (λ p. length p < 2 ^ 32) parcels.now → ⊥ }
-{
-    'parcels: for parcel in parcels {
-        put_parcel(out, parcel)?;
-    }
-    Ok(())
-}
 
 /// What the types of a front's parts say of it.
 fn parts_fit(run_id: [u8; 32], round: u8, from: u8, to: u8)
@@ -53,12 +27,66 @@ fn put_front(out: &mut Vec<u8>, front: &FrameFront) -> Result<(), AllocError>
     out.extend_from_slice(&[front.round, front.from, front.to])
 }
 
+/// Whether a parcel's length fits into its four bytes.
+fn is_short(parcel: &Parcel) -> bool
+    ensures { IsTrue result ↔ IsParcel parcel.now }
+{
+    u32::try_from(parcel.bytes().len()).is_ok()
+}
+
+/// Whether each parcel's length fits into its four bytes.
+fn are_short(parcels: &[Parcel]) -> bool
+    ensures { IsTrue result ↔ All IsParcel parcels.now }
+{
+    parcels.iter().all(|parcel| is_short(parcel))
+}
+
+/// Appends a parcel behind its length.
+fn put_parcel(out: &mut Vec<u8>, parcel: &Parcel) -> Result<(), AllocError>
+    requires { IsParcel parcel.now }
+    ensures { OnOk result (out.new.items ≡ out.old.items ++ parcel_spelling parcel.now) }
+{
+    let size = u32::try_from(parcel.bytes().len()).unwrap();
+    out.extend_from_slice(&size.to_be_bytes())?;
+    out.extend_from_slice(parcel.bytes())
+}
+
+/// Appends parcels, each behind its length.
+fn put_parcels(out: &mut Vec<u8>, parcels: &[Parcel]) -> Result<(), AllocError>
+    requires { All IsParcel parcels.now }
+    ensures { OnOk result (out.new.items ≡ out.old.items ++ flat_map parcel_spelling parcels.now) }
+{
+    'parcels: for parcel in parcels {
+        put_parcel(out, parcel)?;
+    }
+    Ok(())
+}
+
+/// Returns the one spelling of a frame that has one.
+pub(crate) fn spelled(
+    alloc: Global,
+    front: &FrameFront,
+    parcels: &[Parcel],
+) -> Result<Vec<u8>, AllocError>
+    requires few { length parcels.now < 2 ^ 16 }
+    requires short { All IsParcel parcels.now }
+    ensures { IfOk result (λ bytes. Spells IsFrame frame_spelling bytes.items
+        (record { front = front.now; parcels = parcels.now })) }
+{
+    let count = u16::try_from(parcels.len()).unwrap();
+    let mut out = Vec::new(alloc);
+    put_front(&mut out, front)?;
+    out.extend_from_slice(&count.to_be_bytes())?;
+    put_parcels(&mut out, parcels)?;
+    Ok(out)
+}
+
 /// Returns the one spelling of a frame with these parcels, as `read_frame` reads it.
 ///
 /// # Errors
 ///
-/// Memory where it is refused; TooLong where there are 2^16 parcels or more, or one has 2^32 bytes or more: such a frame
-/// has no spelling.
+/// TooLong exactly where there are 2^16 parcels or more, or one has 2^32 bytes or more: such a frame has no spelling; and
+/// Memory where it is refused.
 pub fn frame_bytes(
     alloc: Global,
     front: &FrameFront,
@@ -68,12 +96,8 @@ pub fn frame_bytes(
         (record { front = front.now; parcels = parcels.now })) }
     ensures long { result ≡ Err TooLong → IsFrame (record { front = front.now; parcels = parcels.now }) → ⊥ }
 {
-    let Ok(count) = u16::try_from(parcels.len()) else {
+    if u16::try_from(parcels.len()).is_err() || !are_short(parcels) {
         return Err(SpellingFault::TooLong);
-    };
-    let mut out = Vec::new(alloc);
-    put_front(&mut out, front)?;
-    out.extend_from_slice(&count.to_be_bytes())?;
-    put_parcels(&mut out, parcels)?;
-    Ok(out)
+    }
+    Ok(spelled(alloc, front, parcels)?)
 }

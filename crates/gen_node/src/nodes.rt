@@ -7,24 +7,22 @@ ghost use Rattle.gen_tree.specs.Rings.{ring_root};
 ghost use Rattle.gen_net.specs.Header.{height_of, root_of};
 ghost use Rattle.gen_scenario.specs.Part.{CanFollow};
 ghost use Rattle.gen_general.specs.Participant.{IsUnused};
-ghost use Rattle.gen_general.specs.Recording.{RingSealed};
+ghost use Rattle.gen_general.specs.Recording.{RingSealed, log_written};
 ghost use Rattle.gen_node.specs.declared.node_fault.NodeFault.TheVariants.{Memory, NoGeneral, OtherHeight, OtherRoot};
-ghost use Rattle.gen_node.specs.declared.spelling_fault.SpellingFault.TheVariants.{TooLong};
 ghost use Rattle.gen_node.specs.declared.stages.Stage.TheVariants.{Hearing, Sending};
 ghost use Rattle.gen_node.specs.Frame.{IsFrame, frame_spelling};
 ghost use Rattle.gen_node.specs.Loops.Kept.{IsSignedFrom, heard_one, is_sending, next_sent, of_part, sent_one};
 ghost use Rattle.gen_node.specs.Node as nodes;
 ghost use Rattle.gen_node.specs.Node.{Node as Told, IsBegun, awaited, decision_of_node, ended, front_check};
-ghost use Rattle.gen_node.specs.Node.{frame_to, handed, header_at, log_of_node, node_at_start, sent_from};
+ghost use Rattle.gen_node.specs.Node.{frame_to, handed, header_at, node_at_start, sent_from};
 
 use crate::frame_fault::FrameFault;
 use crate::frame_reading::read_frame;
-use crate::frame_writing::frame_bytes;
+use crate::frame_writing::spelled;
 use crate::frames::{Frame, FrameFront};
 use crate::held::{Held, is_held, parcels_of};
 use crate::node_ends::NodeEnd;
 use crate::node_fault::NodeFault;
-use crate::spelling_fault::SpellingFault;
 use crate::stages::Stage;
 use gen_general::Recorder;
 use gen_net::Header;
@@ -161,6 +159,7 @@ impl Node {
         ensures ring { IfErr result (λ e. e.1 ≡ ring) }
         ensures fault { IfErr result (λ e. e.0 ≡ Memory) }
     {
+        let _known = part.header();
         match Recorder::new(alloc, part, Some(ring)) {
             Ok(recorder) => Ok(Node {
                 header,
@@ -326,11 +325,11 @@ impl Node {
     ///
     /// # Errors
     ///
-    /// Memory where it is refused; TooLong where the frame has no spelling, which one of at most 15 chains always has.
-    pub fn to_send(&self, alloc: Global, to: GeneralNo) -> Result<Vec<u8>, SpellingFault>
+    /// `AllocError` where memory is refused. A frame is never too long: it has a parcel for each order at most, and each is
+    /// a chain.
+    pub fn to_send(&self, alloc: Global, to: GeneralNo) -> Result<Vec<u8>, AllocError>
         requires { nodes.awaits self.now to ≡ true }
-        ensures ok { IfOk result (λ bytes. Spells IsFrame frame_spelling bytes.items (frame_to self.now.recorder to)) }
-        ensures long { result ≡ Err TooLong → IsFrame (frame_to self.now.recorder to) → ⊥ }
+        ensures { IfOk result (λ bytes. Spells IsFrame frame_spelling bytes.items (frame_to self.now.recorder to)) }
     {
         let front = FrameFront {
             run_id: *self.header.run_id(),
@@ -339,7 +338,7 @@ impl Node {
             to: to.get(),
         };
         let parcels = parcels_of(self.outbox.as_slice(), to);
-        frame_bytes(alloc, &front, parcels)
+        spelled(alloc, &front, parcels)
     }
 
     /// Takes the bytes that came of a neighbour in this round. They have to be his frame of it: which parcels of it count is
@@ -450,35 +449,36 @@ impl Node {
     ///
     /// # Errors
     ///
-    /// The ring, where memory is refused.
-    pub fn finish(self, alloc: Global) -> Result<NodeEnd, KeyRing>
+    /// He himself, as he stood, where memory is refused: so this may be tried again.
+    pub fn finish(self, alloc: Global) -> Result<NodeEnd, Node>
         requires { nodes.is_over self ≡ true }
-        ensures log { IfOk result (λ end. end.log ≡ log_of_node self.recorder) }
+        ensures log { IfOk result (λ end. end.log ≡ log_written self.recorder) }
         ensures decision { IfOk result (λ end. end.decision ≡ decision_of_node self.recorder) }
         ensures ring { IfOk result (λ end.
             RingSealed (header_at self.recorder) self.recorder.standing.ring (Some end.ring)) }
-        ensures err { IfErr result (λ back. self.recorder.standing.ring ≡ Some back) }
+        ensures err { IfErr result (λ back. back ≡ self) }
     {
         let Node {
-            header: _,
+            header,
             recorder,
-            stage: _,
-            outbox: _,
-            inbox: _,
+            stage,
+            outbox,
+            inbox,
         } = self;
         let decision = recorder.decide();
-        match recorder.finish(alloc) {
-            Ok(end) => {
-                let (mut logs, ring) = end.into_parts();
-                let log = logs.pop().unwrap();
-                let ring = ring.unwrap();
-                Ok(NodeEnd {
-                    log,
-                    decision,
-                    ring,
-                })
-            }
-            Err(ring) => Err(ring.unwrap()),
+        match recorder.finish_follower(alloc) {
+            Ok((log, ring)) => Ok(NodeEnd {
+                log,
+                decision,
+                ring,
+            }),
+            Err(recorder) => Err(Node {
+                header,
+                recorder,
+                stage,
+                outbox,
+                inbox,
+            }),
         }
     }
 

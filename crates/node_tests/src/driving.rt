@@ -1,5 +1,8 @@
 //! Nodes that are driven over a transport: what they send, keep and decide is what the run of their scenario
 //! has.
+ghost use Rattle.std.specs.Prelude.{◌≡◌, true};
+ghost use Rattle.gen_node.specs.Node.{is_over};
+
 use gen_log::SealedLog;
 use gen_net::Header;
 use gen_node::{FrameFront, Node, NodeEnd, frame_bytes};
@@ -103,13 +106,23 @@ fn all_rounds(alloc: Global, node: &mut Node, rows: &[FrameRow]) -> Result<bool,
     Ok(alike)
 }
 
+/// What is left of a node after the last round. Where memory is refused it is tried once more.
+fn finished(alloc: Global, node: Node) -> Result<NodeEnd, Node>
+    requires { is_over node ≡ true }
+{
+    match node.finish(alloc) {
+        Ok(end) => Ok(end),
+        Err(again) => again.finish(alloc),
+    }
+}
+
 /// The log and the decision of a node after the last round.
 pub(crate) fn end_of(alloc: Global, node: Node) -> Result<(SealedLog, Decision), Fail> {
     if !node.is_over() {
         node.close().close();
         return Err("rounds are left".into());
     }
-    match node.finish(alloc) {
+    match finished(alloc, node) {
         Ok(end) => {
             let NodeEnd {
                 log,
@@ -119,8 +132,8 @@ pub(crate) fn end_of(alloc: Global, node: Node) -> Result<(SealedLog, Decision),
             ring.close();
             Ok((log, decision))
         }
-        Err(ring) => {
-            ring.close();
+        Err(node) => {
+            node.close().close();
             Err("memory".into())
         }
     }

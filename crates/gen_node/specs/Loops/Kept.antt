@@ -4,7 +4,10 @@ use Rattle.std.specs.List.{range_with_len, list_any}
 use Rattle.gen_net.specs.Edges.{joins}
 use Rattle.gen_net.specs.Header.{RunHeader}
 use Rattle.gen_tree.specs.Rings.{Ring}
+use Rattle.gen_log.specs.declared.entries.Entry.TheVariants.{Start}
+use Rattle.gen_log.specs.Writing.{LogWriter, open_log}
 use Rattle.gen_scenario.specs.Part.{Part}
+use Rattle.gen_general.specs.Loops.Journals.{IsRecord}
 use Rattle.gen_general.specs.Participant.{sends}
 use Rattle.gen_general.specs.Recording.{Recorder, StandBefore, recorder_at_start, with_recvs, with_sends}
 use Rattle.gen_node.specs.declared.stages.Stage.{Stage}
@@ -31,10 +34,15 @@ HoldsFrames (Sending next) r out =
 HoldsFrames Open r out = out ≡ map (held_for r) (neighbours_at r)
 HoldsFrames (Hearing next) r out = Unit {0}
 
+-- his log with START alone: what he keeps beside his log is the same whatever he has written
+abbrev pub log_begun : Part → LogWriter
+log_begun k = open_log k.header k.me (Start k.me k.own ∷ []) 0
+
 pub record IsNode (h : RunHeader) (r : Recorder) (stage : Stage) (out : List Held) : Type 0 where
   pub header : header_at r ≡ h
   pub unscripted : r.standing.known.script ≡ None
   pub ring : IsSome r.standing.ring
+  pub acts : IsRecord r.standing (log_begun r.standing.known)
   pub place : StandBefore h.network r.written (next_place stage r.standing.round)
   pub holds : HoldsFrames stage r out
 

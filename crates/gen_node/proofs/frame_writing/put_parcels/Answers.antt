@@ -1,8 +1,7 @@
-use Rattle.std.proofs.Common.{◌≡◌, ◌+◌, ◌<◌, ◌^◌, ℕ, List, [], ◌∷◌, ◌++◌, ◌∙◌, All, length, take, sym, ap, subst}
+use Rattle.std.proofs.Common.{◌≡◌, ◌+◌, ℕ, List, [], ◌∷◌, ◌++◌, ◌∙◌, take, sym, ap, subst}
 use Rattle.std.specs.List.{flat_map}
 use Rattle.std.proofs.lemmas.List.{take_more}
-use Rattle.std.proofs.lemmas.List.Elements.{All-push}
-use Rattle.gen_node.specs.Frame.{IsParcel, parcel_spelling}
+use Rattle.gen_node.specs.Frame.{parcel_spelling}
 use Rattle.gen_node.proofs.Growing.{grown}
 use Rattle.gen_node.proofs.frame_writing.put_parcels.Goals as goal
 
@@ -13,6 +12,5 @@ parcels-preserved c =
     let x = c.parcel-item.result in
     let whole : take i xs ++ x ∷ [] ≡ take (i + 1) xs = ap (λ (y : List ℕ). take i xs ++ y ∷ []) c.parcel-item.is ∙ sym (take_more xs i x c.parcels-test.true) in
     record {
-      items = subst (λ (ys : List (List ℕ)). c.put_parcel.new.out.items ≡ c.args.out.now.items ++ flat_map parcel_spelling ys) whole (grown parcel_spelling c.args.out.now.items c.parcels.out.items c.put_parcel.new.out.items (take i xs) x c.parcels.invariant.items c.in_ok-put_parcel.ensures.ok);
-      short = subst (All IsParcel) whole (All-push IsParcel (take i xs) x c.parcels.invariant.short c.in_ok-put_parcel.ensures.short);
+      items = subst (λ (ys : List (List ℕ)). c.put_parcel.new.out.items ≡ c.args.out.now.items ++ flat_map parcel_spelling ys) whole (grown parcel_spelling c.args.out.now.items c.parcels.out.items c.put_parcel.new.out.items (take i xs) x c.parcels.invariant.items c.in_ok-put_parcel.ensures);
     }

@@ -1,4 +1,4 @@
-use Rattle.std.proofs.Common.{◌≡◌, ◌++◌, ◌<◌, ◌^◌, All, length, take}
+use Rattle.std.proofs.Common.{◌≡◌, ◌++◌, take}
 use Rattle.std.specs.List.{flat_map}
 use Rattle.gen_node.specs.Frame.{parcel_spelling}
 use Rattle.gen_node.proofs.frame_writing.put_parcels.Given as goal
@@ -6,5 +6,4 @@ use Rattle.gen_node.proofs.frame_writing.put_parcels.Given as goal
 abbrev pub invariant-parcels : goal.invariant-parcels
 invariant-parcels l = record {
   items : l.out.items ≡ l.initial.out.items ++ flat_map parcel_spelling (take l.parcel-index l.parcels);
-  short : All (λ p. length p < 2 ^ 32) (take l.parcel-index l.parcels);
 }

@@ -1,7 +1,7 @@
-use Rattle.std.proofs.Common.{◌≡◌, ◌≤◌, ◌<◌, ◌∙◌, ◌+◌, ℕ, ap, subst, sym, arith}
+use Rattle.std.proofs.Common.{◌≡◌, ◌≤◌, ◌<◌, ◌∙◌, ◌+◌, ap, sym, arith}
 use Rattle.gen_net.specs.Header.{RunHeader}
 use Rattle.gen_node.specs.declared.stages.Stage.TheVariants.{Between}
-use Rattle.gen_node.specs.Node.{Node, ended, header_at, heard_from}
+use Rattle.gen_node.specs.Node.{Node, header_at, heard_from}
 use Rattle.gen_node.proofs.Rounds.{heard_over, heard_step}
 use Rattle.gen_node.proofs.Steps.{heard_header}
 use Rattle.gen_node.proofs.nodes.Node.end_round.Goals as goal

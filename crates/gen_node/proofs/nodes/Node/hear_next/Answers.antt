@@ -1,5 +1,5 @@
-use Rattle.std.proofs.Common.{◌≡◌, ◌∙◌, ◌+◌, List, ℕ, true, false, ap, subst, sym}
-use Rattle.gen_general.specs.Recording.{Recorder, with_recvs}
+use Rattle.std.proofs.Common.{◌≡◌, ◌∙◌, ap, subst, sym}
+use Rattle.gen_general.specs.Recording.{with_recvs}
 use Rattle.gen_general.proofs.Worlds.{near_known}
 use Rattle.gen_node.specs.declared.stages.Stage.{Stage}
 use Rattle.gen_node.specs.declared.stages.Stage.TheVariants.{Hearing}

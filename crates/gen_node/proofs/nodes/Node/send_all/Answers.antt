@@ -1,4 +1,4 @@
-use Rattle.std.proofs.Common.{◌≡◌, ◌≤◌, ◌<◌, ◌∙◌, ◌+◌, ℕ, ap, subst, sym, arith}
+use Rattle.std.proofs.Common.{◌≡◌, ◌≤◌, ◌<◌, ◌∙◌, ◌+◌, ap, sym, arith}
 use Rattle.gen_net.specs.Header.{RunHeader}
 use Rattle.gen_node.specs.Node.{Node, header_at, sent_from}
 use Rattle.gen_node.proofs.Rounds.{sent_over, sent_step}

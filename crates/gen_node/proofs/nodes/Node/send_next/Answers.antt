@@ -1,11 +1,9 @@
-use Rattle.std.proofs.Common.{◌≡◌, ◌∙◌, ◌<◌, ◌+◌, ◌++◌, ◌∷◌, [], List, true, false, ap, subst, sym}
-use Rattle.gen_net.specs.Header.{RunHeader}
+use Rattle.std.proofs.Common.{◌≡◌, ◌∙◌, ◌<◌, ◌++◌, ◌∷◌, [], ap, subst, sym}
 use Rattle.gen_general.specs.Participant.{sends}
-use Rattle.gen_general.specs.Recording.{Recorder, with_sends}
+use Rattle.gen_general.specs.Recording.{with_sends}
 use Rattle.gen_general.proofs.Worlds.{near_known}
 use Rattle.gen_node.specs.declared.stages.Stage.{Stage}
 use Rattle.gen_node.specs.declared.stages.Stage.TheVariants.{Sending}
-use Rattle.gen_node.specs.Held.{Held}
 use Rattle.gen_node.specs.Node.{Node, header_at}
 use Rattle.gen_node.specs.Loops.Kept.{IsNode, held_for, is_near, sent_one}
 use Rattle.gen_node.proofs.Keeping.{kept_sent, kept_unsent}
