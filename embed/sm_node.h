@@ -12,19 +12,19 @@
      SM_DONE     it was done
      SM_MISUSE   it may not be called so, and nothing was changed
      SM_BAD      what was handed in has a fault, and nothing was changed: *fault is its number, else 0
-     SM_REFUSED  memory was refused, and the same call may be made again: a round that is half begun or half ended is gone
-                 on with, and nothing is signed twice
+     SM_REFUSED  memory was refused, and the same call may be made again: a round that is half begun or half ended is
+                 gone on with, and nothing is signed twice
      SM_SHORT    the bytes are longer than the room, and nothing was changed: call again with as much room as *count says
 
-   At SM_DONE and SM_SHORT *count is the number of bytes, else 0. What of the room is behind the bytes, or the whole room
-   where none were put into it, is left as it was.
+   At SM_DONE and SM_SHORT *count is the number of bytes, else 0. What of the room is behind the bytes, or the whole
+   room where none were put into it, is left as it was.
 
    What is proved of these functions is proved of calls that keep the following, which nothing checks:
 
    - A pointer points to as much as is said. None is null, also where there are no bytes, and none overlaps another.
    - Nobody writes to what is read, and nobody reads or writes the node, the room and the counts, while the call runs.
    - No more than PTRDIFF_MAX bytes are handed in as one input or room.
-   - A node is handed to one call at a time; it may be handed to another thread between calls.
+   - All calls on a node are made by the thread that made it. Several threads may each have nodes of their own.
    - There is stack for the call: 1 MiB was enough for each call that was tried.
    - The call is not made from a signal handler, nor in the forked child of a process with several threads.
    - rattle_alloc, rattle_realloc and rattle_dealloc are those of heap.c, or do what is said there. */
@@ -79,27 +79,28 @@ uint32_t sm_root(const uint8_t seed[32], uint32_t version, uint8_t root[32]);
 uint32_t sm_header(const sm_numbers *numbers, const uint8_t *edges, size_t edge_count, const uint8_t *roots,
                    size_t root_count, uint8_t *room, size_t room_bytes, size_t *count, uint32_t *fault);
 
-/* Makes a node of a header's bytes, a general, his seed, and the order of the commander or SM_NO_ORDER. SM_MISUSE where a
-   node is there already, the general is above 15, or the order is neither 0 to 15 nor SM_NO_ORDER. */
+/* Makes a node of a header's bytes, a general, his seed, and the order of the commander or SM_NO_ORDER. SM_MISUSE
+   where a node is there already, the general is above 15, or the order is neither 0 to 15 nor SM_NO_ORDER. */
 uint32_t sm_node_new(sm_node *node, const uint8_t *header, size_t header_bytes, uint32_t general,
                      const uint8_t seed[32], uint32_t order, uint32_t *fault);
 
-/* Begins the next round: he signs what he has to sign in it. SM_MISUSE where there is no node, a round is open, or the last
-   one has ended. */
+/* Begins the next round: he signs what he has to sign in it. SM_MISUSE where there is no node, a round is open, or
+   the last one has ended. */
 uint32_t sm_node_begin_round(sm_node *node);
 
 /* The bytes of the frame of this round to a neighbour. SM_MISUSE where no round is open, or he is no neighbour. */
 uint32_t sm_node_send(sm_node *node, uint32_t to, uint8_t *room, size_t room_bytes, size_t *count);
 
-/* Takes bytes that came of a neighbour in this round. Where they are not his frame of it, *fault is SM_F1 to SM_F8, and his
-   frame may still come. SM_MISUSE where there is no node, it has ended, or the general is above 15. */
+/* Takes bytes that came of a neighbour in this round. Where they are not his frame of it, *fault is SM_F1 to SM_F8,
+   and his frame may still come. SM_MISUSE where there is no node, it has ended, or the general is above 15. */
 uint32_t sm_node_hear(sm_node *node, uint32_t from, const uint8_t *bytes, size_t byte_count, uint32_t *fault);
 
-/* Ends the round: a neighbour of whom nothing was taken counts as one who sent nothing. SM_MISUSE where no round is open. */
+/* Ends the round: a neighbour of whom nothing was taken counts as one who sent nothing. SM_MISUSE where no round is
+   open. */
 uint32_t sm_node_end_round(sm_node *node);
 
-/* Ends the node after the last round: its log is sealed, and its ring of keys is closed. SM_MISUSE where there is no node,
-   its last round has not ended, or it has ended already. */
+/* Ends the node after the last round: its log is sealed, and its ring of keys is closed. SM_MISUSE where there is no
+   node, its last round has not ended, or it has ended already. */
 uint32_t sm_node_finish(sm_node *node);
 
 /* The bytes of the log of a node that has ended. SM_MISUSE where there is none. */
@@ -111,10 +112,10 @@ uint32_t sm_node_order(sm_node *node, uint32_t *order);
 /* Frees what is there, at any time; then no node is. A ring of keys that is open is closed. */
 void sm_node_free(sm_node *node);
 
-/* The bytes of the bundle of a run: its header's bytes, the set of those who are held for faulty, bit g for general g,
-   walks between the others, and logs that were collected. The logs stand one after another in `bytes`, in ascending order
-   of their generals; they are anybody's bytes, and sm_audit says what they are. SM_MISUSE where the set has a general
-   above 15, a general of a log is above 15, or the lengths of the logs don't add up to byte_count. */
+/* The bytes of the bundle of a run: its header's bytes, the set of those who are held for faulty, bit g for general
+   g, walks between the others, and logs that were collected. The logs stand one after another in `bytes`, in
+   ascending order of their generals; they are anybody's bytes, and sm_audit says what they are. SM_MISUSE where the
+   set has a general above 15, a general of a log is above 15, or the lengths of the logs don't add up to byte_count. */
 uint32_t sm_bundle(const uint8_t *header, size_t header_bytes, uint32_t faulty, const sm_log *logs, size_t log_count,
                    const uint8_t *bytes, size_t byte_count, uint8_t *room, size_t room_bytes, size_t *count,
                    uint32_t *fault);

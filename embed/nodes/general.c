@@ -1,5 +1,5 @@
-/* A general of a run as a process, over Unix datagram sockets. Rounds are parted by the clock: whose frame of a round has
-   not come by its end has sent nothing.
+/* A general of a run as a process, over Unix datagram sockets. Rounds are parted by the clock: frames are sent in the first
+   half of a round and taken until its last quarter, and whose frame has not come by then has sent nothing.
 
        general FOLDER GENERAL SEED NEIGHBOURS MILLISECONDS [ORDER [OTHER DECEIVED]]
 
@@ -8,10 +8,12 @@
    frames of the second.
 
    The general says `ready`, reads when the first round begins, in milliseconds of the monotonic clock, says `round R` when
-   he has sent his frames of a round, and at last `decides V`; his log is in FOLDER/GENERAL.log then. */
+   he has sent his frames of a round, and at last `decides V`; his log is in FOLDER/GENERAL.log then. The status is 3 where
+   the machine was too busy for him to keep to the clock. */
 #include "files.h"
 #include "sm_node.h"
 #include <poll.h>
+#include <stdbool.h>
 #include <sys/socket.h>
 #include <sys/un.h>
 #include <time.h>
@@ -75,38 +77,54 @@ static void send_to(struct general *general, uint32_t to) {
     sendto(general->socket, general->room, count, MSG_DONTWAIT, (struct sockaddr *)&his, sizeof his);
 }
 
-/* Hands in one datagram. What is no frame of this round does no harm. */
-static void take(struct general *general) {
+/* Hands in one datagram, if one is there. What is no frame of this round does no harm. */
+static bool take(struct general *general) {
     uint32_t fault;
     struct sockaddr_un his = {0};
     socklen_t size = sizeof his;
     ssize_t count = recvfrom(general->socket, general->room, MOST_BYTES, MSG_DONTWAIT, (struct sockaddr *)&his, &size);
     const char *name = strrchr(his.sun_path, '/');
-    if (count < 0 || name == NULL) return;
+    if (count < 0 || name == NULL) return false;
     uint32_t from = read_number(name + 1);
     sm_node_hear(&general->own, from, general->room, (size_t)count, &fault);
     if (general->deceived != 0) sm_node_hear(&general->other, from, general->room, (size_t)count, &fault);
+    return true;
 }
 
-/* Takes what comes until a moment. What was sent behind it stays for the next round. */
+/* Takes what comes until a moment, and what has come by then. */
 static void take_until(struct general *general, int64_t moment) {
     for (int64_t left = moment - now(); left > 0; left = moment - now()) {
         struct pollfd waiting = {general->socket, POLLIN, 0};
-        int ready = poll(&waiting, 1, (int)left);
-        if (ready > 0 && now() < moment) take(general);
+        if (poll(&waiting, 1, (int)left) > 0) take(general);
     }
+    while (take(general)) continue;
 }
 
-/* One round by the clock. */
-static void run_round(struct general *general, int64_t round) {
-    wait_until(general->start + (round - 1) * general->length);
+/* Ends where a moment has passed by which something had to be done. */
+static void be_in_time(int64_t moment) {
+    if (now() < moment) return;
+    fprintf(stderr, "late\n");
+    exit(3);
+}
+
+/* Begins a round, and sends the frames. */
+static void send_all(struct general *general) {
     must(sm_node_begin_round(&general->own), "sm_node_begin_round");
     if (general->deceived != 0) must(sm_node_begin_round(&general->other), "sm_node_begin_round");
     for (uint32_t to = 0; to < 16; to++)
         if (general->neighbours >> to & 1) send_to(general, to);
-    printf("round %d\n", (int)round);
+}
+
+/* One round by the clock. */
+static void run_round(struct general *general, int round) {
+    int64_t begin = general->start + (round - 1) * general->length, end = begin + general->length;
+    wait_until(begin);
+    send_all(general);
+    be_in_time(begin + general->length / 2);
+    printf("round %d\n", round);
     fflush(stdout);
-    take_until(general, general->start + round * general->length);
+    take_until(general, end - general->length / 4);
+    be_in_time(end);
     must(sm_node_end_round(&general->own), "sm_node_end_round");
     if (general->deceived != 0) must(sm_node_end_round(&general->other), "sm_node_end_round");
 }
@@ -163,9 +181,9 @@ int main(int count, char **words) {
     if (fgets(line, sizeof line, stdin) == NULL) give_up("no beginning");
     general.start = strtoll(line, NULL, 10);
     struct bytes header = read_file(general.folder, "header");
-    int64_t rounds = header.at[2] + header.at[3];
+    int rounds = header.at[2] + header.at[3];
     free(header.at);
-    for (int64_t round = 1; round <= rounds; round++) run_round(&general, round);
+    for (int round = 1; round <= rounds; round++) run_round(&general, round);
     end(&general);
     return 0;
 }

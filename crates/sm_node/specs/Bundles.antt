@@ -16,9 +16,9 @@ use Rattle.gen_walks.specs.BestWalks.{AreBestWalks}
 use Rattle.gen_walks.specs.Faults.{IsWalkFault}
 use Rattle.gen_node.specs.BundleBytes.{bundle_bytes}
 use Rattle.sm_node.specs.declared.bundles.SmLog.{SmLog}
-use Rattle.sm_node.specs.declared.faults.StartFault.{StartFault}
+use Rattle.sm_node.specs.declared.faults.BytesFault.{BytesFault}
 use Rattle.sm_node.specs.declared.faults.GatherFault.{GatherFault}
-use Rattle.sm_node.specs.declared.faults.GatherFault.TheVariants.{Start, NoWalk, LongWalk, Bundle}
+use Rattle.sm_node.specs.declared.faults.GatherFault.TheVariants.{Header, NoWalk, LongWalk, Bundle}
 use Rattle.sm_node.specs.declared.told.Told.{Told}
 use Rattle.sm_node.specs.declared.told.Told.TheVariants.{Done, Misuse, Fault, Memory, Length}
 use Rattle.sm_node.specs.Faults.{gather_number}
@@ -72,7 +72,7 @@ HasNoWalks bytes faulty f =
 
 -- why there is none
 abbrev pub IsGatherFault : List ℕ → List ℕ → List LogBytes → GatherFault → Type 0
-IsGatherFault bytes faulty logs (Start f) = header_in bytes ≡ Err f
+IsGatherFault bytes faulty logs (Header f) = header_in bytes ≡ Err f
 IsGatherFault bytes faulty logs NoWalk = HasNoWalks bytes faulty NoWalk
 IsGatherFault bytes faulty logs LongWalk = HasNoWalks bytes faulty LongWalk
 IsGatherFault bytes faulty logs (Bundle f) =
@@ -98,7 +98,7 @@ listed (Some logs) = Some logs.items
 abbrev pub FindsHeader : List ℕ → Result RunHeader (ReadError GatherFault) → Type 0
 FindsHeader bytes (Ok h) = header_in bytes ≡ Ok h
 FindsHeader bytes (Err errors.Memory) = Unit {0}
-FindsHeader bytes (Err (errors.Fault f)) = (s : StartFault) × (f ≡ Start s) × (header_in bytes ≡ Err s)
+FindsHeader bytes (Err (errors.Fault f)) = (s : BytesFault) × (f ≡ Header s) × (header_in bytes ≡ Err s)
 
 -- best walks between the others, unless two of them have no short walk or memory is refused
 abbrev pub FindsWalks : RunHeader → List ℕ → Result (List (List ℕ)) (ReadError GatherFault) → Type 0

@@ -2,10 +2,11 @@
 use Rattle.std.specs.Prelude.{ℕ, ◌≡◌, Bool, true, false, List, Option, Some, None, Ok, Err}
 use Rattle.gen_types.specs.Spelled.{Spells}
 use Rattle.gen_scenario.specs.declared.scenario.Decision.{Decision}
+use Rattle.gen_general.specs.Recording.{log_written}
 use Rattle.gen_node.specs.declared.frame_fault.FrameFault.{FrameFault}
 use Rattle.gen_node.specs.Frame.{IsFrame, frame_spelling}
 use Rattle.gen_node.specs.Node.{Node, IsBegun, awaits, decision_of_node, ended, frame_to, handed}
-use Rattle.gen_node.specs.Node.{is_over, log_of_node, may_begin, may_end}
+use Rattle.gen_node.specs.Node.{is_over, may_begin, may_end}
 use Rattle.sm_node.specs.declared.held.Ending.{Ending}
 use Rattle.sm_node.specs.declared.held.Held.{Held}
 use Rattle.sm_node.specs.declared.held.Held.TheVariants.{Running, Ended}
@@ -64,7 +65,7 @@ Hears from bytes old new fault Length = ⊥
 abbrev pub Finishes : Option Held → Option Held → Told → Type 0
 Finishes old new Done =
     (n : Node) × IsRunning old n
-    × (new ≡ Some (Ended (record { log = log_of_node n.recorder; decision = decision_of_node n.recorder })))
+    × (new ≡ Some (Ended (record { log = log_written n.recorder; decision = decision_of_node n.recorder })))
 Finishes old new Misuse = IsRefused is_over old new
 Finishes old new Memory = (new ≡ old) × (allows is_over old ≡ true)
 Finishes old new Fault = ⊥

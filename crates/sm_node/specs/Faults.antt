@@ -6,8 +6,10 @@ use Rattle.gen_audit.specs.declared.bundle_fault.BundleFault.{BundleFault}
 use Rattle.gen_audit.specs.declared.bundle_fault.BundleFault.TheVariants as bundles
 use Rattle.gen_node.specs.declared.frame_fault.FrameFault.{FrameFault}
 use Rattle.gen_node.specs.FaultNumber.{fault_number}
+use Rattle.sm_node.specs.declared.faults.BytesFault.{BytesFault}
+use Rattle.sm_node.specs.declared.faults.BytesFault.TheVariants.{BadHeader, LeftOver}
 use Rattle.sm_node.specs.declared.faults.StartFault.{StartFault}
-use Rattle.sm_node.specs.declared.faults.StartFault.TheVariants.{BadHeader, LeftOver, NoGeneral, OtherRoot}
+use Rattle.sm_node.specs.declared.faults.StartFault.TheVariants.{Header, NoGeneral, OtherRoot}
 use Rattle.sm_node.specs.declared.faults.GatherFault.{GatherFault}
 use Rattle.sm_node.specs.declared.faults.GatherFault.TheVariants as gathering
 
@@ -25,10 +27,14 @@ header_number headers.Truncated = 9
 header_number headers.UnknownVersion = 10
 header_number headers.SlotRange = 11
 
--- 12 to 14 besides those of a header
+-- and 12 for bytes that are left over
+abbrev pub bytes_number : BytesFault → ℕ
+bytes_number (BadHeader f) = header_number f
+bytes_number LeftOver = 12
+
+-- 13 and 14 besides those of a header's bytes
 abbrev pub start_number : StartFault → ℕ
-start_number (BadHeader f) = header_number f
-start_number LeftOver = 12
+start_number (Header f) = bytes_number f
 start_number NoGeneral = 13
 start_number OtherRoot = 14
 
@@ -52,7 +58,7 @@ bundle_number bundles.LongLog = 50
 
 -- 31 and 32 for generals whom no walk joins, or none that is short enough
 abbrev pub gather_number : GatherFault → ℕ
-gather_number (gathering.Start f) = start_number f
+gather_number (gathering.Header f) = bytes_number f
 gather_number gathering.NoWalk = 31
 gather_number gathering.LongWalk = 32
 gather_number (gathering.Bundle f) = bundle_number f

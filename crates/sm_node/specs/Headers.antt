@@ -11,8 +11,8 @@ use Rattle.gen_net.specs.Header.{RunHeader, header_spelling, header_with}
 use Rattle.gen_net.specs.HeaderReading.{header_at}
 use Rattle.gen_net.specs.Network.{Network}
 use Rattle.gen_net.specs.NetworkOf.{network_of}
-use Rattle.sm_node.specs.declared.faults.StartFault.{StartFault}
-use Rattle.sm_node.specs.declared.faults.StartFault.TheVariants.{BadHeader, LeftOver}
+use Rattle.sm_node.specs.declared.faults.BytesFault.{BytesFault}
+use Rattle.sm_node.specs.declared.faults.BytesFault.TheVariants.{BadHeader, LeftOver}
 use Rattle.sm_node.specs.declared.headers.SmNumbers.{SmNumbers}
 use Rattle.sm_node.specs.declared.told.Told.{Told}
 use Rattle.sm_node.specs.declared.told.Told.TheVariants.{Done, Misuse, Fault, Memory, Length}
@@ -20,11 +20,11 @@ use Rattle.sm_node.specs.Faults.{header_number}
 use Rattle.sm_node.specs.Handing.{IsUntouched, PutsText}
 
 -- the header in front of the bytes, with the number of its bytes
-abbrev pub front_in : List ℕ → Result (RunHeader × ℕ) StartFault
+abbrev pub front_in : List ℕ → Result (RunHeader × ℕ) BytesFault
 front_in bytes = map_fault BadHeader (counted header_at bytes)
 
 -- the header that the bytes are, or their first fault
-unfoldable pub header_in : List ℕ → Result RunHeader StartFault
+unfoldable pub header_in : List ℕ → Result RunHeader BytesFault
 header_in bytes = do
   found ← front_in bytes
   whole ← check (found.1 == length bytes) LeftOver

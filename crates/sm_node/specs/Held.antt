@@ -5,6 +5,12 @@ use Rattle.sm_node.specs.declared.held.Ending.{Ending}
 use Rattle.sm_node.specs.declared.held.Held.{Held}
 use Rattle.sm_node.specs.declared.held.Held.TheVariants.{Empty, Running, Ended}
 
+-- the node that has not ended, if one is there
+abbrev pub running : Held → Option Node
+running Empty = None
+running (Running n) = Some n
+running (Ended e) = None
+
 -- there is a node that has not ended, and it passes the test
 abbrev pub allows : (Node → Bool) → Option Held → Bool
 allows may None = false

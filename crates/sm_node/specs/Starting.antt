@@ -10,7 +10,7 @@ use Rattle.gen_net.specs.Header.{RunHeader, height_of, root_of}
 use Rattle.gen_scenario.specs.Part.{CanFollow}
 use Rattle.gen_node.specs.Node.{Node, node_at_start}
 use Rattle.sm_node.specs.declared.faults.StartFault.{StartFault}
-use Rattle.sm_node.specs.declared.faults.StartFault.TheVariants.{BadHeader, LeftOver, NoGeneral, OtherRoot}
+use Rattle.sm_node.specs.declared.faults.StartFault.TheVariants.{Header, NoGeneral, OtherRoot}
 use Rattle.sm_node.specs.declared.held.Held.{Held}
 use Rattle.sm_node.specs.declared.told.Told.{Told}
 use Rattle.sm_node.specs.declared.told.Told.TheVariants.{Done, Misuse, Fault, Memory, Length}
@@ -40,8 +40,7 @@ pub record IsStarted (bytes : List ℕ) (general : ℕ) (seed : List ℕ) (own :
 
 -- why there is none
 abbrev pub IsStartFault : List ℕ → ℕ → List ℕ → Option ℕ → StartFault → Type 0
-IsStartFault bytes general seed own (BadHeader f) = header_in bytes ≡ Err (BadHeader f)
-IsStartFault bytes general seed own LeftOver = header_in bytes ≡ Err LeftOver
+IsStartFault bytes general seed own (Header f) = header_in bytes ≡ Err f
 IsStartFault bytes general seed own NoGeneral =
     (h : RunHeader) × (header_in bytes ≡ Ok h) × (CanFollow h general own → ⊥)
 IsStartFault bytes general seed own OtherRoot =

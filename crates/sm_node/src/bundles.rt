@@ -41,11 +41,7 @@ fn is_in_front(log: SmLog, bytes: &[u8]) -> bool
 }
 
 /// The logs that stand one after another in the bytes, and None where not exactly these do.
-fn logs_in(
-    alloc: Global,
-    logs: &[SmLog],
-    bytes: &[u8],
-) -> Result<Option<Vec<Exhibit>>, AllocError>
+fn logs_in(alloc: Global, logs: &[SmLog], bytes: &[u8]) -> Result<Option<Vec<Exhibit>>, AllocError>
     ensures { IfOk result (λ found. gathering.listed found ≡ gathering.logs_in logs.now bytes.now) }
 {
     let mut had = Vec::new(alloc);
@@ -79,11 +75,13 @@ fn walks_of(
         Ok(walks) => Ok(walks),
         Err(WalkFault::Memory) => Err(ReadError::Memory),
         Err(WalkFault::NoWalk { pair: _, levels: _ }) => Err(ReadError::Fault(GatherFault::NoWalk)),
-        Err(WalkFault::TooLong {
-            pair: _,
-            levels: _,
-            edges: _,
-        }) => Err(ReadError::Fault(GatherFault::LongWalk)),
+        Err(
+            WalkFault::TooLong {
+                pair: _,
+                levels: _,
+                edges: _,
+            },
+        ) => Err(ReadError::Fault(GatherFault::LongWalk)),
     }
 }
 
@@ -94,7 +92,7 @@ fn header_of(alloc: Global, bytes: &[u8]) -> Result<Header, ReadError<GatherFaul
     match header_in(alloc, bytes) {
         Ok(header) => Ok(header),
         Err(ReadError::Memory) => Err(ReadError::Memory),
-        Err(ReadError::Fault(fault)) => Err(ReadError::Fault(GatherFault::Start(fault))),
+        Err(ReadError::Fault(fault)) => Err(ReadError::Fault(GatherFault::Header(fault))),
     }
 }
 

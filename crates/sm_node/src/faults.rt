@@ -6,13 +6,20 @@ use gen_audit::BundleFault;
 use gen_net::HeaderFault;
 use gen_node::FrameFault;
 
-/// Why there is no node of a header's bytes, a general, his order and his seed.
+/// Why bytes are not those of a header and no others.
 #[derive(Clone, Copy, Debug, PartialEq, Eq)]
-pub enum StartFault {
+pub enum BytesFault {
     /// The bytes have this fault of a header.
     BadHeader(HeaderFault),
     /// Bytes are left over behind the header.
     LeftOver,
+}
+
+/// Why there is no node of a header's bytes, a general, his order and his seed.
+#[derive(Clone, Copy, Debug, PartialEq, Eq)]
+pub enum StartFault {
+    /// The bytes have this fault.
+    Header(BytesFault),
     /// He is none of the header's generals, or the order doesn't fit him.
     NoGeneral,
     /// The root of his keys is not the one that the header has for him.
@@ -23,7 +30,7 @@ pub enum StartFault {
 #[derive(Clone, Copy, Debug, PartialEq, Eq)]
 pub enum GatherFault {
     /// The bytes of the header have this fault.
-    Start(StartFault),
+    Header(BytesFault),
     /// No walk joins two of the others.
     NoWalk,
     /// The shortest walk between two of the others is too long.
@@ -85,14 +92,23 @@ fn bundle_number(fault: BundleFault) -> u32
     }
 }
 
+/// Returns the number of a fault of a header's bytes, 1 to 12.
+fn bytes_number(fault: BytesFault) -> u32
+    ensures { result ≡ numbers.bytes_number fault }
+{
+    match fault {
+        BytesFault::BadHeader(inner) => header_number(inner),
+        BytesFault::LeftOver => 12,
+    }
+}
+
 impl StartFault {
     /// Returns the number, 1 to 14.
     pub(crate) fn number(self) -> u32
         ensures { result ≡ numbers.start_number self }
     {
         match self {
-            StartFault::BadHeader(inner) => header_number(inner),
-            StartFault::LeftOver => 12,
+            StartFault::Header(inner) => bytes_number(inner),
             StartFault::NoGeneral => 13,
             StartFault::OtherRoot => 14,
         }
@@ -105,7 +121,7 @@ impl GatherFault {
         ensures { result ≡ numbers.gather_number self }
     {
         match self {
-            GatherFault::Start(inner) => inner.number(),
+            GatherFault::Header(inner) => bytes_number(inner),
             GatherFault::NoWalk => 31,
             GatherFault::LongWalk => 32,
             GatherFault::Bundle(inner) => bundle_number(inner),

@@ -3,7 +3,7 @@ ghost use Rattle.std.specs.Prelude.{◌≡◌, IfOk, map};
 ghost use Rattle.gen_types.specs.Spelled.{IsRead};
 ghost use Rattle.sm_node.specs.Headers as headers;
 
-use crate::faults::{StartFault, header_number};
+use crate::faults::{BytesFault, header_number};
 use crate::handing::put;
 use crate::told::Told;
 use gen_net::{Header, HeaderFault, Net, header_bytes, read_header};
@@ -31,23 +31,23 @@ pub struct SmNumbers {
 }
 
 /// The header in front of the bytes, and how many bytes it has.
-fn front_in(alloc: Global, bytes: &[u8]) -> Result<(Header, usize), ReadError<StartFault>>
+fn front_in(alloc: Global, bytes: &[u8]) -> Result<(Header, usize), ReadError<BytesFault>>
     ensures { IsRead result (headers.front_in bytes.now) }
 {
     match read_header(alloc, bytes) {
         Ok(found) => Ok(found),
         Err(ReadError::Memory) => Err(ReadError::Memory),
-        Err(ReadError::Fault(fault)) => Err(ReadError::Fault(StartFault::BadHeader(fault))),
+        Err(ReadError::Fault(fault)) => Err(ReadError::Fault(BytesFault::BadHeader(fault))),
     }
 }
 
 /// The header that the bytes are.
 #[tactic(auto, unfolding(crate::specs::Headers::header_in))]
-pub(crate) fn header_in(alloc: Global, bytes: &[u8]) -> Result<Header, ReadError<StartFault>>
+pub(crate) fn header_in(alloc: Global, bytes: &[u8]) -> Result<Header, ReadError<BytesFault>>
     ensures { IsRead result (headers.header_in bytes.now) }
 {
     let (header, count) = front_in(alloc, bytes)?;
-    check(count == bytes.len(), StartFault::LeftOver)?;
+    check(count == bytes.len(), BytesFault::LeftOver)?;
     Ok(header)
 }
 

@@ -2,7 +2,7 @@
 ghost use Rattle.std.specs.Prelude.{◌≡◌, Some};
 ghost use Rattle.gen_node.specs.Node as nodes;
 ghost use Rattle.sm_node.specs.Driving.{Begins, Ends, Finishes, HandsLog, Hears, Sends, TellsOrder};
-ghost use Rattle.sm_node.specs.Held.{allows};
+ghost use Rattle.sm_node.specs.Held.{allows, running};
 
 use crate::faults::frame_number;
 use crate::handing::put;
@@ -140,6 +140,16 @@ impl Held {
         }
     }
 
+    /// The node, if one is there that has not ended.
+    fn into_node(self) -> Option<Node>
+        ensures { result ≡ running self }
+    {
+        match self {
+            Held::Running(node) => Some(node),
+            Held::Empty | Held::Ended(_) => None,
+        }
+    }
+
     /// Ends the node after the last round. Its ring is closed.
     pub(crate) fn finish(&mut self, alloc: Global) -> Told
         ensures { Finishes (Some self.old) (Some self.new) result }
@@ -147,15 +157,17 @@ impl Held {
         if !self.is_over() {
             return Told::Misuse;
         }
-        let Held::Running(node) = replace(self, Held::Empty) else {
+        let Some(node) = replace(self, Held::Empty).into_node() else {
             return Told::Misuse;
         };
         match node.finish(alloc) {
-            Ok(NodeEnd {
-                log,
-                decision,
-                ring,
-            }) => {
+            Ok(
+                NodeEnd {
+                    log,
+                    decision,
+                    ring,
+                },
+            ) => {
                 ring.close();
                 *self = Held::Ended(Ending { log, decision });
                 Told::Done

@@ -43,12 +43,7 @@ use std::alloc::Global;
 
 /// Writes the root of the tree of keys that a seed makes, for headers of the version 1 or 2. The call is refused for another.
 #[unsafe(no_mangle)]
-pub extern "C" fn sm_root(
-    alloc: Global,
-    seed: &[u8; 32],
-    version: u32,
-    root: &mut [u8; 32],
-) -> u32
+pub extern "C" fn sm_root(alloc: Global, seed: &[u8; 32], version: u32, root: &mut [u8; 32]) -> u32
     ensures { IsTold (WritesRoot seed.now version root.old root.new) result }
 {
     write_root(alloc, seed, version, root).status()

@@ -43,7 +43,11 @@ fn node_of(
 ) -> Result<Node, ReadError<StartFault>>
     ensures { starting.StartsNode bytes.now general seed.now own result }
 {
-    let header = header_in(alloc, bytes)?;
+    let header = match header_in(alloc, bytes) {
+        Ok(header) => header,
+        Err(ReadError::Memory) => return Err(ReadError::Memory),
+        Err(ReadError::Fault(fault)) => return Err(ReadError::Fault(StartFault::Header(fault))),
+    };
     match Node::new(alloc, header, general, seed, own) {
         Ok(node) => Ok(node),
         Err(NodeFault::NoGeneral) => Err(ReadError::Fault(StartFault::NoGeneral)),
