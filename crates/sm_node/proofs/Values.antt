@@ -1,5 +1,5 @@
 -- The machine values of a loose box and of a node, taken apart and made. Assumes `Logic`.
-use Rattle.std.proofs.Common.{◌≡◌, ℕ, List, [], ◌∷◌, ◌++◌, refl, sym, ap, ◌∙◌, subst}
+use Rattle.std.proofs.Common.{◌≡◌, ℕ, List, [], ◌∷◌, ◌++◌, refl, ap, ◌∙◌}
 use mathlib.Core.Bool.{true, ◌&&◌}
 use lib.Dec.{T}
 use seplogic.Ra.Ura.{Ura}

@@ -1,7 +1,6 @@
 -- What the calls make of a node that is there: it is driven through its rounds, and ended.
-use Rattle.std.specs.Prelude.{ℕ, ◌≡◌, Bool, true, false, List, Option, Some, None, Ok, Err}
+use Rattle.std.specs.Prelude.{ℕ, ◌≡◌, Bool, true, false, List, Option, Some, Ok, Err}
 use Rattle.gen_types.specs.Spelled.{Spells}
-use Rattle.gen_scenario.specs.declared.scenario.Decision.{Decision}
 use Rattle.gen_general.specs.Recording.{log_written}
 use Rattle.gen_node.specs.declared.frame_fault.FrameFault.{FrameFault}
 use Rattle.gen_node.specs.Frame.{IsFrame, frame_spelling}
@@ -9,7 +8,7 @@ use Rattle.gen_node.specs.Node.{Node, IsBegun, awaits, decision_of_node, ended, 
 use Rattle.gen_node.specs.Node.{is_over, may_begin, may_end}
 use Rattle.sm_node.specs.declared.held.Ending.{Ending}
 use Rattle.sm_node.specs.declared.held.Held.{Held}
-use Rattle.sm_node.specs.declared.held.Held.TheVariants.{Running, Ended}
+use Rattle.sm_node.specs.declared.held.Held.TheVariants.{Ended}
 use Rattle.sm_node.specs.declared.told.Told.{Told}
 use Rattle.sm_node.specs.declared.told.Told.TheVariants.{Done, Misuse, Fault, Memory, Length}
 use Rattle.sm_node.specs.Faults.{frame_number}

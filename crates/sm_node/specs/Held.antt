@@ -1,7 +1,6 @@
 -- What a node's memory holds.
-use Rattle.std.specs.Prelude.{ℕ, ◌≡◌, Bool, true, false, Option, Some, None}
+use Rattle.std.specs.Prelude.{◌≡◌, Bool, true, false, Option, Some, None}
 use Rattle.gen_node.specs.Node.{Node}
-use Rattle.sm_node.specs.declared.held.Ending.{Ending}
 use Rattle.sm_node.specs.declared.held.Held.{Held}
 use Rattle.sm_node.specs.declared.held.Held.TheVariants.{Empty, Running, Ended}
 
