@@ -41,9 +41,10 @@ abbrev pub IsFrameTo : ℕ → Option Held → List ℕ → Type 0
 IsFrameTo to held bytes =
     (n : Node) × IsRunning held n × Spells IsFrame frame_spelling bytes (frame_to n.recorder to)
 
--- that frame is handed out; a frame that has no spelling is not
+-- that frame is handed out
 abbrev pub Sends : ℕ → Option Held → List ℕ → List ℕ → ℕ → Told → Type 0
-Sends to held old new count Done = (bytes : List ℕ) × IsFrameTo to held bytes × PutsText bytes old new count Done
+Sends to held old new count Done =
+    (bytes : List ℕ) × IsFrameTo to held bytes × PutsText bytes old new count Done
 Sends to held old new count Length =
     (bytes : List ℕ) × IsFrameTo to held bytes × PutsText bytes old new count Length
 Sends to held old new count Misuse = IsUntouched old new count × (allows (λ n. awaits n to) held ≡ false)
