@@ -3,7 +3,7 @@
        example audit|draw|evidence|decide
        example accuse GENERAL
 
-   The exit status is that of sm_tool; 5 where the input can't be read or the text not be written. */
+   The exit status is that of sm_tool, and so is the line of what failed. */
 #include "sm_embed.h"
 #include <stdbool.h>
 #include <stdio.h>
@@ -71,11 +71,21 @@ static uint32_t answer(struct job job, struct bytes input, struct bytes *text) {
     return SM_MEMORY;
 }
 
-/* Writes a text, or the line of what failed, where sm_tool writes it; returns whether it could be written. */
-static bool tell(uint32_t status, struct bytes text) {
-    if (status == SM_MEMORY) return fprintf(stderr, "memory\n") > 0;
-    if (status == SM_FAULT) return fwrite(text.at, 1, text.length, stderr) == text.length && fputc('\n', stderr) == '\n';
-    return fwrite(text.at, 1, text.length, stdout) == text.length && fflush(stdout) == 0;
+/* Says in a line on standard error what failed, and returns the exit status for it. */
+static int failed(int status, const char *line) {
+    fprintf(stderr, "%s\n", line);
+    return status;
+}
+
+/* Writes a text, or the line of what failed, where sm_tool writes it; returns the exit status. */
+static int tell(uint32_t status, struct bytes text) {
+    if (status == SM_MEMORY) return failed(SM_MEMORY, "memory");
+    if (status == SM_FAULT) {
+        fwrite(text.at, 1, text.length, stderr);
+        return failed(SM_FAULT, "");
+    }
+    bool is_written = fwrite(text.at, 1, text.length, stdout) == text.length && fflush(stdout) == 0;
+    return is_written ? (int)status : failed(5, "write failed");
 }
 
 /* The job that the words ask for; its name is null where they ask for none. */
@@ -101,11 +111,11 @@ int main(int words, char **word) {
     struct bytes input = read_all(), text = {NULL, 0};
     if (ferror(stdin)) {
         free(input.at);
-        return 5;
+        return failed(5, "read failed");
     }
     uint32_t status = input.at != NULL ? answer(job, input, &text) : SM_MEMORY;
-    bool is_told = tell(status, text);
+    int told = tell(status, text);
     free(text.at);
     free(input.at);
-    return is_told ? (int)status : 5;
+    return told;
 }

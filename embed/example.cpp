@@ -3,9 +3,10 @@
 //     example audit|draw|evidence|decide
 //     example accuse GENERAL
 //
-// The exit status is that of sm_tool.
+// The exit status is that of sm_tool, and so is the line of what failed.
 #include "sm_embed.h"
 #include <cstdint>
+#include <cstdio>
 #include <functional>
 #include <iostream>
 #include <iterator>
@@ -54,6 +55,12 @@ Answer answer(const std::string &job, std::uint32_t general, const std::string &
     });
 }
 
+// Says in a line on standard error what failed, and returns the exit status for it.
+int failed(int status, const std::string &line) {
+    std::cerr << line << '\n';
+    return status;
+}
+
 } // namespace
 
 int main(int words, char **word) try {
@@ -65,15 +72,14 @@ int main(int words, char **word) try {
     }
     const std::uint32_t general = job == "accuse" ? static_cast<std::uint32_t>(std::stoul(word[2])) : 0;
     const std::string input{std::istreambuf_iterator<char>(std::cin), {}};
+    // The streams of C++ read by those of C, which know why the input ended.
+    if (std::ferror(stdin)) return failed(5, "read failed");
     const Answer told = answer(job, general, input);
-    if (told.status == SM_FAULT)
-        std::cerr << told.text << '\n';
-    else
-        std::cout << told.text << std::flush;
-    return std::cout && std::cerr ? static_cast<int>(told.status) : 5;
+    if (told.status == SM_FAULT) return failed(SM_FAULT, told.text);
+    std::cout << told.text << std::flush;
+    return std::cout ? static_cast<int>(told.status) : failed(5, "write failed");
 } catch (const std::bad_alloc &) {
-    std::cerr << "memory\n";
-    return SM_MEMORY;
+    return failed(SM_MEMORY, "memory");
 } catch (const std::logic_error &) {
     return 2;
 }

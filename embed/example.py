@@ -4,7 +4,8 @@
     example.py LIBRARY audit|draw|evidence|decide
     example.py LIBRARY accuse GENERAL
 
-LIBRARY is the shared library that CMakeLists.txt builds. The exit status is that of sm_tool.
+LIBRARY is the shared library that CMakeLists.txt builds. The exit status is that of sm_tool, and so is the line of what
+failed.
 """
 import ctypes
 import sys
@@ -33,19 +34,41 @@ class Library:
             room = ctypes.create_string_buffer(count.value)
 
 
+def read():
+    """All of standard input."""
+    with open(0, "rb", closefd=False) as file:
+        return file.read()
+
+
+def write(text):
+    """Writes a text to standard output, by no buffer, which Python would write once more at the end."""
+    with open(1, "wb", buffering=0, closefd=False) as file:
+        while text:
+            text = text[file.write(text) :]
+
+
+def failed(status, line):
+    """Says in a line on standard error what failed, and returns the exit status for it."""
+    sys.stderr.buffer.write(line + b"\n")
+    return status
+
+
 def main():
     job, general = sys.argv[2:3], sys.argv[3:]
     if len(general) != (job == ["accuse"]) or not job or job[0] not in JOBS or not all(it.isdecimal() for it in general):
         print(__doc__, file=sys.stderr)
         return 2
-    status, text = Library(sys.argv[1]).answer(job[0], sys.stdin.buffer.read(), *map(int, general))
-    if status == FAULT:
-        sys.stderr.buffer.write(text + b"\n")
-    elif status == MEMORY:
-        sys.stderr.write("memory\n")
-    else:
-        sys.stdout.buffer.write(text)
-        sys.stdout.flush()
+    try:
+        given = read()
+    except OSError:
+        return failed(5, b"read failed")
+    status, text = Library(sys.argv[1]).answer(job[0], given, *map(int, general))
+    if status in (FAULT, MEMORY):
+        return failed(status, text if status == FAULT else b"memory")
+    try:
+        write(text)
+    except OSError:
+        return failed(5, b"write failed")
     return status
 
 

@@ -16,6 +16,7 @@ import tempfile
 from bends import bend_bundle, bend_evidence, bend_text
 from bent import Bases
 from campaigns import bytes_of, pair
+from devices import READ_FAILED, WRITE_FAILED, by_shell
 from draws import Draws
 from programs import End, differs, run, side_by_side, spell
 from refusals import EXAMPLES, build as build_refusing, count_up, refused
@@ -162,6 +163,15 @@ def try_rooms(library, tally, cases):
         tally.hold(f"general {general}", None if got == (GENERAL, 0, FILLED * 9) else f"{got}")
 
 
+def try_streams(tally, examples, given):
+    """Inputs and outputs that fail, by each example as a process."""
+    ends = {"<&-": READ_FAILED, "0>/dev/null": READ_FAILED, ">/dev/full": WRITE_FAILED, ">&-": WRITE_FAILED}
+    for name, (example, *words) in examples.items():
+        for streams, wanted in ends.items():
+            end = by_shell(example, [*words, "audit"], streams, given=given)
+            tally.hold(f"{name}, {streams}", differs(end, wanted))
+
+
 def try_refusals(program, tally, folder, example):
     """Each allocation refused, and all from one on: the whole answer, or status 4 with its line."""
     refusing = build_refusing(folder)
@@ -193,10 +203,12 @@ def try_built(program, tally, folder):
         calls["Python"] = lambda job, given: end_of(library, job, given)
         for name, answered in calls.items():
             tally.hold(f"{name}, {kind}", first_wrong(answered, some, wanted))
-    process = [source("example.py"), shared]
+    process = ["-B", source("example.py"), shared]
     few = [case for case in cases if len(case[1]) < 200_000][:40]
     ends = side_by_side(lambda case: run(program, words_of(case[0]), case[1]), few)
-    tally.hold("example.py", first_wrong(lambda job, given: run("python3", ["-B", *process, *job], given), few, ends))
+    tally.hold("example.py", first_wrong(lambda job, given: run("python3", [*process, *job], given), few, ends))
+    processes = {name: [example] for name, example in examples.items()}
+    try_streams(tally, {**processes, "example.py": ["python3", *process]}, run(program, ["run"], signed()["split"]).wrote)
     try_rooms(library, tally, cases)
     try_refusals(program, tally, folder, examples["C"])
 

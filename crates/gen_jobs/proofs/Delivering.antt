@@ -7,7 +7,7 @@ use Rattle.gen_jobs.specs.declared.ends.JobEnd.TheVariants.{Done, Negative, Fail
 use Rattle.gen_jobs.specs.declared.ends.JobFault.{JobFault}
 use Rattle.gen_jobs.specs.declared.ends.JobFault.TheVariants as faults
 use Rattle.gen_jobs.specs.declared.ends.Output.{Output}
-use Rattle.gen_jobs.proofs.Known.{kept}
+use Rattle.gen_jobs.proofs.Known.{kept, taken}
 use Rattle.gen_jobs.specs.Answering.{Answers, Delivers, DeliversText}
 use Rattle.gen_jobs.specs.Ends.{IsReadFault, IsTaken, IsWritten, KeepsUntilWhole}
 
@@ -101,3 +101,8 @@ unread_taken (Some input) f h = untaken input f h
 -- where nothing was written, nothing was written too early
 pub unread_late : (x : Option (List ℕ)) (f : JobFault) → KeepsUntilWhole x x (Failed f)
 unread_late x f = kept_at x x f (kept x)
+
+-- what an engine's clauses follow from: one that writes an output, and one that writes a text
+pub ruleset output_engine = (taken, answered, late, unread_answers, unread_taken, unread_late)
+
+pub ruleset text_engine = (taken, answered_text, late_text, unread_answers, unread_taken, unread_late)

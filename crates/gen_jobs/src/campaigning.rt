@@ -102,7 +102,7 @@ pub fn campaign<T: Threads + Wait + Sync>(
 ///
 /// A fault of the input is looked for once it was read whole, and nothing is written before the output
 /// is whole. Where a read, a write, memory or a thread fails the job ends so.
-#[tactic(auto, using(crate::proofs::Known::taken, crate::proofs::Delivering::answered_text, crate::proofs::Delivering::late_text, crate::proofs::Delivering::unread_answers, crate::proofs::Delivering::unread_taken, crate::proofs::Delivering::unread_late))]
+#[tactic(auto, using(crate::proofs::Delivering::text_engine))]
 pub fn campaign_engine<T: Threads + Wait + Sync, R: Read, W: Write>(
     rt: &T,
     alloc: Global,

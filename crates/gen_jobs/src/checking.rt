@@ -57,7 +57,7 @@ pub fn evidence(alloc: Global, input: &[u8]) -> Result<Output, JobFault>
 ///
 /// A fault of the input is looked for once it was read whole, and nothing is written before the output
 /// is whole. Where a read, a write or memory fails the job ends so.
-#[tactic(auto, using(crate::proofs::Known::taken, crate::proofs::Delivering::answered, crate::proofs::Delivering::late, crate::proofs::Delivering::unread_answers, crate::proofs::Delivering::unread_taken, crate::proofs::Delivering::unread_late))]
+#[tactic(auto, using(crate::proofs::Delivering::output_engine))]
 pub fn evidence_engine<R: Read, W: Write>(alloc: Global, reader: &mut R, writer: &mut W) -> JobEnd
     // What is written says whether the evidence that was read holds.
     ensures answers { IfSome (R.remaining reader.old) (λ input.

@@ -143,7 +143,7 @@ pub fn draw_taken<T: Threads + Wait + Sync>(
 ///
 /// A fault of the input is looked for once it was read whole, and nothing is written before the output
 /// is whole. Where a read, a write, memory or a worker's thread fails the job ends so.
-#[tactic(auto, using(crate::proofs::Known::taken, crate::proofs::Delivering::answered, crate::proofs::Delivering::late, crate::proofs::Delivering::unread_answers, crate::proofs::Delivering::unread_taken, crate::proofs::Delivering::unread_late))]
+#[tactic(auto, using(crate::proofs::Delivering::output_engine))]
 pub fn draw_engine<T: Threads + Wait + Sync, R: Read, W: Write>(
     rt: &T,
     alloc: Global,

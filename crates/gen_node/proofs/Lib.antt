@@ -1,3 +1,4 @@
+pub mod Accepted
 pub mod FrameLaws
 pub mod Growing
 pub mod Places

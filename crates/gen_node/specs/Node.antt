@@ -5,18 +5,20 @@ use Rattle.std.specs.List.{range_with_len}
 use Rattle.std.specs.Str.{bytes_eq}
 use Rattle.gen_types.specs.Ends.{is_among}
 use Rattle.gen_types.specs.Reading.{◌>>=◌, check}
-use Rattle.gen_tree.specs.Rings.{Ring}
-use Rattle.gen_net.specs.Header.{RunHeader, run_id_of}
+use Rattle.gen_tree.specs.Rings.{Ring, ring_root}
+use Rattle.gen_net.specs.Header.{RunHeader, height_of, root_of, run_id_of}
 use Rattle.gen_net.specs.Network.{rounds}
 use Rattle.gen_scenario.specs.declared.scenario.Decision.{Decision}
 use Rattle.gen_scenario.specs.Deciding.{decided_by}
-use Rattle.gen_scenario.specs.Part.{followers_part}
+use Rattle.gen_scenario.specs.Part.{CanFollow, followers_part}
 use Rattle.gen_scenario.specs.SignedWorld.{near_of, neighbours_of}
 use Rattle.gen_general.specs.Participant.{sends}
 use Rattle.gen_general.specs.Recording.{Recorder, RecordsRound, recorder_at_start, with_recvs, with_sends}
 use Rattle.gen_node.specs.declared.frame_fault.FrameFault.{FrameFault}
 use Rattle.gen_node.specs.declared.frame_fault.FrameFault.TheVariants as faults
 use Rattle.gen_node.specs.declared.frames.FrameFront.{FrameFront}
+use Rattle.gen_node.specs.declared.node_fault.NodeFault.{NodeFault}
+use Rattle.gen_node.specs.declared.node_fault.NodeFault.TheVariants.{Memory, NoGeneral, OtherHeight, OtherRoot}
 use Rattle.gen_node.specs.declared.stages.Stage.{Stage}
 use Rattle.gen_node.specs.declared.stages.Stage.TheVariants.{Between, Sending, Open, Hearing}
 use Rattle.gen_node.specs.Frame.{Frame}
@@ -36,6 +38,27 @@ node_at_start h g own ring = record {
   stage = Between;
   inbox = [];
 }
+
+-- ---- of what there is a node
+
+-- the ring of a seed for a run, from which no leaf was taken
+abbrev pub fresh_ring : RunHeader → List ℕ → Ring
+fresh_ring h seed = record { seed = seed; height = height_of h; taken = [] }
+
+-- the ring has the height of the header's version, he is one of its generals, with an order exactly where he
+-- commands, and the header has the root of his keys
+pub record MayBeNode (h : RunHeader) (g : ℕ) (own : Option ℕ) (ring : Ring) : Type 0 where
+  pub height : ring.height ≡ height_of h
+  pub general : CanFollow h g own
+  pub root : ring_root ring.seed ring.height ≡ root_of h g
+
+-- why there is no node: the first of these three, in this order, that doesn't hold; or memory was refused
+abbrev pub IsRefused : RunHeader → ℕ → Option ℕ → Ring → NodeFault → Type 0
+IsRefused h g own ring Memory = Unit {0}
+IsRefused h g own ring OtherHeight = ring.height ≡ height_of h → ⊥
+IsRefused h g own ring NoGeneral = (ring.height ≡ height_of h) × (CanFollow h g own → ⊥)
+IsRefused h g own ring OtherRoot =
+    (ring.height ≡ height_of h) × CanFollow h g own × (ring_root ring.seed ring.height ≡ root_of h g → ⊥)
 
 -- ---- whom and what he knows
 

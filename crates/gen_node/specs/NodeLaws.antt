@@ -6,6 +6,9 @@ use Rattle.gen_types.specs.Spelled.{Spells}
 use Rattle.gen_tree.specs.Rings.{Ring, seed_of}
 use Rattle.gen_net.specs.Header.{run_id_of}
 use Rattle.gen_net.specs.Network.{rounds}
+use Rattle.gen_walks.specs.BestWalks.{AreBestWalks}
+use Rattle.gen_log.specs.Fields.{AreBelow}
+use Rattle.gen_log.specs.Writing.{LogBytes}
 use Rattle.gen_scenario.specs.Deciding.{decision_of, decisions_of}
 use Rattle.gen_scenario.specs.Rows.{logs_of_all}
 use Rattle.gen_scenario.specs.Scenario.{Scenario, IsScenario, header_of, script_of}
@@ -13,7 +16,15 @@ use Rattle.gen_scenario.specs.SignedWorld.{frame_at, neighbours_of, own_order}
 use Rattle.gen_scenario.specs.WorldLogs.{log_bytes, logs_of}
 use Rattle.gen_general.specs.DrivenRecords.{HasHeard, RecordsAfter}
 use Rattle.gen_general.specs.Recording.{log_written}
+use Rattle.gen_audit.specs.declared.verdicts.Verdict.{Verdict}
+use Rattle.gen_audit.specs.declared.verdicts.Verdict.TheVariants.{Agreed}
+use Rattle.gen_audit.specs.Bundle.{Bundle}
+use Rattle.gen_audit.specs.BundleReading.{whole_bundle}
+use Rattle.gen_audit.specs.Supported.{AgreeOn}
+use Rattle.gen_audit.specs.Verdict.{IsVerdict}
+use Rattle.gen_audit.specs.WorldBundle.{run_bundle}
 use Rattle.gen_node.specs.declared.stages.Stage.TheVariants.{Between, Open}
+use Rattle.gen_node.specs.BundleBytes.{bundle_bytes}
 use Rattle.gen_node.specs.Frame.{Frame, IsFrame, frame_spelling}
 use Rattle.gen_node.specs.Held.{held_of, frame_in}
 use Rattle.gen_node.specs.Node.{Node, IsBegun, decision_of_node, ended, frame_to, handed}
@@ -130,15 +141,36 @@ NodesRun =
     (s : Scenario) (x : Nodes) → IsScenario s → HandOn s x → (g : ℕ) → IsHonest s g
     → IsAfter s (rounds s.net) g (x.after (rounds s.net) g)
 
+-- the logs of all after the last round, in the order of generals
+abbrev pub logs_of_nodes : Scenario → Nodes → List LogBytes
+logs_of_nodes s x =
+    map (λ g. log_written (x.after (rounds s.net) g).recorder) (range_with_len 0 s.net.generals)
+
 -- and where nobody has a script all logs and decisions are the scenario's
 abbrev pub NodesLogs : Type 0
 NodesLogs =
     (s : Scenario) (x : Nodes) → IsScenario s → s.scripts ≡ [] → HandOn s x
-    → map (λ g. log_written (x.after (rounds s.net) g).recorder) (range_with_len 0 s.net.generals)
-    ≡ logs_of_all s
+    → logs_of_nodes s x ≡ logs_of_all s
 
 abbrev pub NodesDecisions : Type 0
 NodesDecisions =
     (s : Scenario) (x : Nodes) → IsScenario s → s.scripts ≡ [] → HandOn s x
     → map (λ g. decision_of_node (x.after (rounds s.net) g).recorder) (range_with_len 0 s.net.generals)
     ≡ decisions_of s
+
+-- ---- their bundle
+
+-- the text is read as the bundle, and each verdict on that is this order, on which all of the rest agree
+pub record IsAccepted (b : Bundle) (text : List ℕ) (order : ℕ) : Type 0 where
+  pub read : whole_bundle text ≡ Ok b
+  pub agreed : (verdict : Verdict) → IsVerdict b verdict → (verdict ≡ Agreed order) × AgreeOn b order
+
+-- Where nobody has a script, nobody is held for faulty, and the walks are those that are made between all,
+-- the nodes' logs break no rule of bundles, and the text of the bundle, if it is bytes, is accepted with the
+-- commander's order.
+abbrev pub NodesAreAccepted : Type 0
+NodesAreAccepted =
+    (s : Scenario) (x : Nodes) (walks : List (List ℕ)) → IsScenario s → s.scripts ≡ [] → HandOn s x
+    → AreBestWalks s.net (range_with_len 0 s.net.generals) walks
+    → (text : List ℕ) × (bundle_bytes (header_of s) [] walks (logs_of_nodes s x) ≡ Ok text)
+    × (AreBelow 256 text → IsAccepted (run_bundle s [] walks) text s.order)

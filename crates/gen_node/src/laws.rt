@@ -1,8 +1,8 @@
 //! Laws of nodes. Each is a function with an empty body whose contract is the law: a caller that calls it knows the law.
 ghost use Rattle.gen_types.specs.Spelled.{HasOneSpelling};
 ghost use Rattle.gen_node.specs.Frame.{IsFrame, frame_spelling};
-ghost use Rattle.gen_node.specs.NodeLaws.{NodesBegin, NodesDecide, NodesDecisions, NodesEnd, NodesHear, NodesLog};
-ghost use Rattle.gen_node.specs.NodeLaws.{NodesLogs, NodesRun, NodesSend, NodesStart, NodesTake};
+ghost use Rattle.gen_node.specs.NodeLaws.{NodesAreAccepted, NodesBegin, NodesDecide, NodesDecisions, NodesEnd};
+ghost use Rattle.gen_node.specs.NodeLaws.{NodesHear, NodesLog, NodesLogs, NodesRun, NodesSend, NodesStart, NodesTake};
 
 /// Each frame has one spelling, and no spelling of a frame is the beginning of another.
 pub fn one_frame_spelling()
@@ -32,4 +32,11 @@ pub fn nodes_make_the_run()
     ensures run { NodesRun }
     ensures logs { NodesLogs }
     ensures decisions { NodesDecisions }
+{}
+
+/// Where nobody has a script, and all generals are such nodes whose frames are handed on, the bundle of their logs can be
+/// made, with nobody held for faulty and the walks that `make_walks` gives between all: its bytes are read as that bundle, and
+/// its verdict is the commander's order, on which all agree.
+pub fn nodes_are_accepted()
+    ensures { NodesAreAccepted }
 {}

@@ -3,18 +3,16 @@ ghost use Rattle.std.specs.Prelude.{◌≡◌, ◌<◌, ◌↔◌, IsTrue, true,
 ghost use Rattle.std.specs.Str.{bytes_eq};
 ghost use Rattle.gen_types.specs.Reading.{Gives};
 ghost use Rattle.gen_types.specs.Spelled.{IsRead, Spells};
-ghost use Rattle.gen_tree.specs.Rings.{ring_root};
-ghost use Rattle.gen_net.specs.Header.{height_of, root_of};
-ghost use Rattle.gen_scenario.specs.Part.{CanFollow};
+ghost use Rattle.gen_net.specs.Header.{height_of};
 ghost use Rattle.gen_general.specs.Participant.{IsUnused};
 ghost use Rattle.gen_general.specs.Recording.{RingSealed, log_written};
-ghost use Rattle.gen_node.specs.declared.node_fault.NodeFault.TheVariants.{Memory, NoGeneral, OtherHeight, OtherRoot};
+ghost use Rattle.gen_node.specs.declared.node_fault.NodeFault.TheVariants.{Memory, OtherHeight};
 ghost use Rattle.gen_node.specs.declared.stages.Stage.TheVariants.{Hearing, Sending};
 ghost use Rattle.gen_node.specs.Frame.{IsFrame, frame_spelling};
 ghost use Rattle.gen_node.specs.Loops.Kept.{IsSignedFrom, heard_one, is_sending, next_sent, of_part, sent_one};
 ghost use Rattle.gen_node.specs.Node as nodes;
-ghost use Rattle.gen_node.specs.Node.{Node as Told, IsBegun, awaited, decision_of_node, ended, front_check};
-ghost use Rattle.gen_node.specs.Node.{frame_to, handed, header_at, node_at_start, sent_from};
+ghost use Rattle.gen_node.specs.Node.{Node as Told, IsBegun, IsRefused, MayBeNode, awaited, decision_of_node, ended};
+ghost use Rattle.gen_node.specs.Node.{frame_to, fresh_ring, front_check, handed, header_at, node_at_start, sent_from};
 
 use crate::frame_fault::FrameFault;
 use crate::frame_reading::read_frame;
@@ -79,8 +77,8 @@ impl Node {
     ///
     /// # Errors
     ///
-    /// NoGeneral where he is none of the header's generals or where the order doesn't fit him; OtherRoot where the root of
-    /// the seed's keys is not the one that the header has for him; Memory where it is refused.
+    /// The first that holds: NoGeneral where he is none of the header's generals or where the order doesn't fit him;
+    /// OtherRoot where the root of the seed's keys is not the one that the header has for him. Memory where it is refused.
     pub fn new(
         alloc: Global,
         header: Header,
@@ -88,12 +86,9 @@ impl Node {
         seed: &[u8; 32],
         own: Option<OrderNo>,
     ) -> Result<Node, NodeFault>
-        ensures ok { IfOk result (λ node. node ≡ node_at_start header me own
-            (record { seed = seed.now; height = height_of header; taken = [] })) }
-        ensures known { IfOk result (λ _. CanFollow header me own) }
-        ensures keys { IfOk result (λ _. ring_root seed.now (height_of header) ≡ root_of header me) }
-        ensures general { result ≡ Err NoGeneral → CanFollow header me own → ⊥ }
-        ensures root { result ≡ Err OtherRoot → ring_root seed.now (height_of header) ≡ root_of header me → ⊥ }
+        ensures ok { IfOk result (λ node. node ≡ node_at_start header me own (fresh_ring header seed.now)) }
+        ensures fits { IfOk result (λ _. MayBeNode header me own (fresh_ring header seed.now)) }
+        ensures err { IfErr result (IsRefused header me own (fresh_ring header seed.now)) }
         ensures height { result ≡ Err OtherHeight → ⊥ }
     {
         let ring = KeyRing::from_seed(alloc, seed, header.height())?;
@@ -111,7 +106,8 @@ impl Node {
     ///
     /// # Errors
     ///
-    /// Those of `new`, with the ring; and OtherHeight where it has not the height of the header's version.
+    /// The ring, and the first fault that holds: OtherHeight where it has not the height of the header's version, and then
+    /// those of `new`.
     pub fn with_ring(
         alloc: Global,
         header: Header,
@@ -121,13 +117,9 @@ impl Node {
     ) -> Result<Node, (NodeFault, KeyRing)>
         requires { ring.height ≡ height_of header → IsUnused header ring }
         ensures ok { IfOk result (λ node. node ≡ node_at_start header me own ring) }
-        ensures known { IfOk result (λ _. CanFollow header me own) }
-        ensures keys { IfOk result (λ _. ring_root ring.seed ring.height ≡ root_of header me) }
+        ensures fits { IfOk result (λ _. MayBeNode header me own ring) }
         ensures ring { IfErr result (λ e. e.1 ≡ ring) }
-        ensures general { IfErr result (λ e. e.0 ≡ NoGeneral → CanFollow header me own → ⊥) }
-        ensures root { IfErr result (λ e. e.0 ≡ OtherRoot
-            → ring_root ring.seed ring.height ≡ root_of header me → ⊥) }
-        ensures height { IfErr result (λ e. e.0 ≡ OtherHeight → ring.height ≡ height_of header → ⊥) }
+        ensures err { IfErr result (λ e. IsRefused header me own ring e.0) }
     {
         if !same_height(ring.height(), header.height()) {
             return Err((NodeFault::OtherHeight, ring));

@@ -4,4 +4,6 @@
 #[cfg(test)]
 mod driving;
 #[cfg(test)]
+mod exchange;
+#[cfg(test)]
 mod refusals;

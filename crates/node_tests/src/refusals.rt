@@ -1,8 +1,8 @@
 //! What a node refuses.
 use crate::driving::{PAIR, node_of, scenario_of};
 use gen_node::{FrameFront, Node, NodeFault, frame_bytes, root_of};
-use gen_tree::general_seed;
-use gen_types::{GeneralNo, OrderNo, ReadError};
+use gen_tree::{KeyRing, general_seed};
+use gen_types::{GeneralNo, OrderNo, ReadError, TreeHeight};
 use gen_world::Scenario;
 use std::alloc::Global;
 use std::test::Fail;
@@ -99,13 +99,49 @@ fn nodes_are_refused(rt: HostRuntime) -> Result<(), Fail> {
     let one = GeneralNo::at(1);
     let seed = general_seed(pair.plan().master(), one);
     assert!(rt; fault_of(alloc, &pair, one, &seed, None)?.is_none());
-    let other = fault_of(alloc, &pair, one, &[7; 32], None)?;
-    assert!(rt; other == Some(NodeFault::OtherRoot));
     let ordered = fault_of(alloc, &pair, one, &seed, Some(OrderNo::at(0)))?;
     assert!(rt; ordered == Some(NodeFault::NoGeneral));
     let stranger = fault_of(alloc, &pair, GeneralNo::at(2), &seed, None)?;
     assert!(rt; stranger == Some(NodeFault::NoGeneral));
+    Ok(())
+}
+
+#[test]
+fn other_keys_are_refused_behind_the_order(rt: HostRuntime) -> Result<(), Fail> {
+    let alloc = rt.alloc();
+    let pair = scenario_of(alloc, PAIR)?;
+    let one = GeneralNo::at(1);
+    let other = fault_of(alloc, &pair, one, &[7; 32], None)?;
+    assert!(rt; other == Some(NodeFault::OtherRoot));
+    let both = fault_of(alloc, &pair, one, &[7; 32], Some(OrderNo::at(0)))?;
+    assert!(rt; both == Some(NodeFault::NoGeneral));
+    let seed = general_seed(pair.plan().master(), one);
     let root = root_of(alloc, &seed, pair.header().height())?;
     assert!(rt; pair.header().roots()[1..] == [root]);
+    Ok(())
+}
+
+/// Why there is no node of general 1 with a ring of another height and of other keys, and an order.
+fn ring_fault(alloc: Global, scenario: &Scenario, own: Option<OrderNo>) -> Result<NodeFault, Fail> {
+    let header = scenario.header().clone()?;
+    let ring = KeyRing::from_seed(alloc, &[7; 32], TreeHeight::Four)?;
+    match Node::with_ring(alloc, header, GeneralNo::at(1), ring, own) {
+        Ok(node) => {
+            node.close().close();
+            Err("a node".into())
+        }
+        Err((fault, ring)) => {
+            ring.close();
+            Ok(fault)
+        }
+    }
+}
+
+#[test]
+fn the_height_of_a_ring_is_tested_first(rt: HostRuntime) -> Result<(), Fail> {
+    let alloc = rt.alloc();
+    let pair = scenario_of(alloc, PAIR)?;
+    let fault = ring_fault(alloc, &pair, Some(OrderNo::at(0)))?;
+    assert!(rt; fault == NodeFault::OtherHeight);
     Ok(())
 }

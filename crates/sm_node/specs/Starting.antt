@@ -6,9 +6,9 @@ use Rattle.gen_types.specs.declared.heights.TreeHeight.TheVariants.{Four, Six}
 use Rattle.gen_types.specs.declared.reading.ReadError.{ReadError}
 use Rattle.gen_types.specs.declared.reading.ReadError.TheVariants as errors
 use Rattle.gen_tree.specs.Rings.{ring_root}
-use Rattle.gen_net.specs.Header.{RunHeader, height_of, root_of}
-use Rattle.gen_scenario.specs.Part.{CanFollow}
-use Rattle.gen_node.specs.Node.{Node, node_at_start}
+use Rattle.gen_net.specs.Header.{RunHeader}
+use Rattle.gen_node.specs.declared.node_fault.NodeFault.TheVariants as faults
+use Rattle.gen_node.specs.Node.{Node, IsRefused, MayBeNode, fresh_ring, node_at_start}
 use Rattle.sm_node.specs.declared.faults.StartFault.{StartFault}
 use Rattle.sm_node.specs.declared.faults.StartFault.TheVariants.{Header, NoGeneral, OtherRoot}
 use Rattle.sm_node.specs.declared.held.Held.{Held}
@@ -34,17 +34,16 @@ own_order order = if order == no_order then None else Some order
 pub record IsStarted (bytes : List ℕ) (general : ℕ) (seed : List ℕ) (own : Option ℕ) (h : RunHeader)
     (n : Node) : Type 0 where
   pub header : header_in bytes ≡ Ok h
-  pub follows : CanFollow h general own
-  pub keys : ring_root seed (height_of h) ≡ root_of h general
-  pub node : n ≡ node_at_start h general own (record { seed = seed; height = height_of h; taken = [] })
+  pub fits : MayBeNode h general own (fresh_ring h seed)
+  pub node : n ≡ node_at_start h general own (fresh_ring h seed)
 
--- why there is none
+-- why there is none: the first that doesn't hold
 abbrev pub IsStartFault : List ℕ → ℕ → List ℕ → Option ℕ → StartFault → Type 0
 IsStartFault bytes general seed own (Header f) = header_in bytes ≡ Err f
 IsStartFault bytes general seed own NoGeneral =
-    (h : RunHeader) × (header_in bytes ≡ Ok h) × (CanFollow h general own → ⊥)
+    (h : RunHeader) × (header_in bytes ≡ Ok h) × IsRefused h general own (fresh_ring h seed) faults.NoGeneral
 IsStartFault bytes general seed own OtherRoot =
-    (h : RunHeader) × (header_in bytes ≡ Ok h) × (ring_root seed (height_of h) ≡ root_of h general → ⊥)
+    (h : RunHeader) × (header_in bytes ≡ Ok h) × IsRefused h general own (fresh_ring h seed) faults.OtherRoot
 
 -- one or the other, unless memory is refused
 abbrev pub StartsNode : List ℕ → ℕ → List ℕ → Option ℕ → Result Node (ReadError StartFault) → Type 0

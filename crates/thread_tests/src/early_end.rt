@@ -28,7 +28,8 @@ fn first_frame(
         (λ frame. ComesNext (edge_frames scenario.now from to) 0 false (carried frame))) }
 {
     let run = run_world(alloc, scenario)?;
-    Ok(frame_of(alloc, scenario, &run, (from, to), 1)?)
+    let frame = frame_of(alloc, scenario, &run, (from, to), 1)?;
+    Ok(frame)
 }
 
 /// Puts a frame on an edge, and then the word that no more comes. Whether both were put.

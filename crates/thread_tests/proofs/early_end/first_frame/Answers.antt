@@ -1,12 +1,13 @@
-use Rattle.std.proofs.Common.{◌∙◌, sym, ap, subst, option_map}
-use Rattle.gen_edge.specs.Frames.{edge_frames}
+use Rattle.std.proofs.Common.{◌≡◌, ◌+◌, ℕ, false, refl, Option, Some, None, IfSome}
+use Rattle.gen_edge.specs.declared.frames.Frame.{Frame}
+use Rattle.gen_edge.specs.Frames.{carried, edge_frames}
 use Rattle.gen_edge.specs.Tied.{ComesNext}
-use Rattle.gen_edge.proofs.RunFrames.{found_comes}
+use Rattle.gen_scenario.specs.Scenario.{Scenario}
 use Rattle.thread_tests.proofs.early_end.first_frame.Goals as goal
 
-pub returns-in-Some : goal.returns-in-Some
-returns-in-Some c =
-    let s = c.args.scenario.now in
-    let comes = found_comes s c.frames.result.now c.args.from c.args.to 0 c.in-Some.row.now (c.frames.ensures ∙ c.in_ok-run.ensures.frames)
-    (sym c.first_row.ensures ∙ ap (option_map (λ row. row.now)) c.in-Some.is) in
-    subst (ComesNext (edge_frames s c.args.from c.args.to) 0 _) (sym c.in_ok-copy_of-in-Some.ensures) comes
+first : (s : Scenario) (from to : ℕ) (found : Option Frame) → IfSome found (λ frame. (n : ℕ) → 1 ≡ n + 1 → ComesNext (edge_frames s from to) n false (carried frame)) → IfSome found (λ frame. ComesNext (edge_frames s from to) 0 false (carried frame))
+first s from to None h = tt
+first s from to (Some frame) h = h 0 refl
+
+pub returns : goal.returns
+returns c = first c.args.scenario.now c.args.from c.args.to c.in_ok-frame.frame c.in_ok-frame.ensures
