@@ -42,8 +42,7 @@ start_number OtherRoot = 14
 abbrev pub frame_number : FrameFault → ℕ
 frame_number f = 20 + fault_number f
 
--- 41 to 49: 40 and the number that its text has, and 50 for a log that no bundle can hold. A header in a bundle
--- has its own number.
+-- 41 to 49: 40 and the number that its text has; 50 for a log that no bundle can hold; and a header's own
 abbrev pub bundle_number : BundleFault → ℕ
 bundle_number bundles.Truncated = 41
 bundle_number bundles.UnknownMark = 42
