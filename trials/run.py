@@ -15,7 +15,7 @@ from programs import Hangs, commands_of
 from tally import Tally
 
 SUBJECTS = ["worked", "walk", "campaigns", "pictures", "prefixes", "bent"]
-SUBJECTS += ["refusals", "calls", "devices", "load", "embed", "page"]
+SUBJECTS += ["refusals", "calls", "devices", "load", "embed", "nodes", "page"]
 
 
 def try_subject(subject, program, commands):

@@ -1,0 +1,125 @@
+-- Bundles of logs that were collected.
+use Rattle.std.specs.Prelude.{ℕ, ◌≡◌, ◌⊎◌, ◌≤◌, ◌^◌, ◌==◌, ◌&&◌, ◌++◌, if◌then◌else◌, Bool, List, [], ◌∷◌}
+use Rattle.std.specs.Prelude.{Option, Some, None, Result, Ok, Err, length, take, drop, nat_lt, nat_le}
+use Rattle.std.specs.declared.alloc.Global.{Global}
+use Rattle.std.specs.declared.vec.Vec.{Vec}
+use Rattle.gen_types.specs.declared.reading.ReadError.{ReadError}
+use Rattle.gen_types.specs.declared.reading.ReadError.TheVariants as errors
+use Rattle.gen_types.specs.Ascending.{IsListOf}
+use Rattle.gen_types.specs.Bits.{members_of}
+use Rattle.gen_net.specs.Header.{RunHeader}
+use Rattle.gen_net.specs.Network.{IsLoyal}
+use Rattle.gen_log.specs.Writing.{LogBytes}
+use Rattle.gen_walks.specs.declared.fault.WalkFault.{WalkFault}
+use Rattle.gen_walks.specs.declared.fault.WalkFault.TheVariants as walks
+use Rattle.gen_walks.specs.BestWalks.{AreBestWalks}
+use Rattle.gen_walks.specs.Faults.{IsWalkFault}
+use Rattle.gen_node.specs.BundleBytes.{bundle_bytes}
+use Rattle.sm_node.specs.declared.bundles.SmLog.{SmLog}
+use Rattle.sm_node.specs.declared.faults.BytesFault.{BytesFault}
+use Rattle.sm_node.specs.declared.faults.GatherFault.{GatherFault}
+use Rattle.sm_node.specs.declared.faults.GatherFault.TheVariants.{Header, NoWalk, LongWalk, Bundle}
+use Rattle.sm_node.specs.declared.told.Told.{Told}
+use Rattle.sm_node.specs.declared.told.Told.TheVariants.{Done, Misuse, Fault, Memory, Length}
+use Rattle.sm_node.specs.Faults.{gather_number}
+use Rattle.sm_node.specs.Handing.{IsUntouched, PutsText}
+use Rattle.sm_node.specs.Headers.{header_in}
+
+-- a log lies in front of the bytes, and it is a general's
+abbrev pub is_in_front : SmLog → List ℕ → Bool
+is_in_front log bytes = nat_lt log.general 16 && nat_le log.bytes (length bytes)
+
+-- the log in front of the bytes
+abbrev pub log_in_front : SmLog → List ℕ → LogBytes
+log_in_front log bytes = record { general = log.general; bytes = take log.bytes bytes }
+
+-- behind the logs that are had already come these, one after another in the bytes, and nothing else
+abbrev pub logs_behind : List LogBytes → List SmLog → List ℕ → Option (List LogBytes)
+logs_behind had [] bytes = if length bytes == 0 then Some had else None
+logs_behind had (log ∷ logs) bytes =
+    if is_in_front log bytes
+    then logs_behind (had ++ log_in_front log bytes ∷ []) logs (drop log.bytes bytes)
+    else None
+
+-- these logs stand one after another in the bytes
+abbrev pub logs_in : List SmLog → List ℕ → Option (List LogBytes)
+logs_in logs bytes = logs_behind [] logs bytes
+
+-- best walks between the others, and what comes of them
+pub record Gathers (bytes : List ℕ) (faulty : List ℕ) (logs : List LogBytes) (h : RunHeader)
+    (rest : List ℕ) (walks : List (List ℕ)) : Type 0 where
+  pub header : header_in bytes ≡ Ok h
+  pub others : IsListOf rest (IsLoyal h.network faulty)
+  pub best : AreBestWalks h.network rest walks
+
+-- the bytes are the bundle of a header's bytes, those who are held for faulty, and logs
+abbrev pub IsGathered : List ℕ → List ℕ → List LogBytes → List ℕ → Type 0
+IsGathered bytes faulty logs text =
+    (h : RunHeader) × (rest : List ℕ) × (walks : List (List ℕ)) × Gathers bytes faulty logs h rest walks
+    × (bundle_bytes h faulty walks logs ≡ Ok text)
+
+-- as a fault of a bundle
+abbrev pub fault_of : WalkFault → Option GatherFault
+fault_of walks.Memory = None
+fault_of (walks.NoWalk pair row) = Some NoWalk
+fault_of (walks.TooLong pair row edges) = Some LongWalk
+
+-- two of the others have no short walk, which is this fault
+abbrev pub HasNoWalks : List ℕ → List ℕ → GatherFault → Type 0
+HasNoWalks bytes faulty f =
+    (h : RunHeader) × (rest : List ℕ) × (why : WalkFault) × (header_in bytes ≡ Ok h)
+    × IsListOf rest (IsLoyal h.network faulty) × IsWalkFault h.network rest why × (fault_of why ≡ Some f)
+
+-- why there is none
+abbrev pub IsGatherFault : List ℕ → List ℕ → List LogBytes → GatherFault → Type 0
+IsGatherFault bytes faulty logs (Header f) = header_in bytes ≡ Err f
+IsGatherFault bytes faulty logs NoWalk = HasNoWalks bytes faulty NoWalk
+IsGatherFault bytes faulty logs LongWalk = HasNoWalks bytes faulty LongWalk
+IsGatherFault bytes faulty logs (Bundle f) =
+    (h : RunHeader) × (rest : List ℕ) × (walks : List (List ℕ)) × Gathers bytes faulty logs h rest walks
+    × (bundle_bytes h faulty walks logs ≡ Err f)
+
+-- one or the other, unless memory is refused
+abbrev pub GathersText : List ℕ → List ℕ → List LogBytes → Result (List ℕ) (ReadError GatherFault) → Type 0
+GathersText bytes faulty logs (Ok text) = IsGathered bytes faulty logs text
+GathersText bytes faulty logs (Err errors.Memory) = Unit {0}
+GathersText bytes faulty logs (Err (errors.Fault f)) = IsGatherFault bytes faulty logs f
+
+-- as a list of bytes, and of logs
+abbrev pub as_text : Result (Vec ℕ Global) (ReadError GatherFault) → Result (List ℕ) (ReadError GatherFault)
+as_text (Ok text) = Ok text.items
+as_text (Err e) = Err e
+
+abbrev pub listed : Option (Vec LogBytes Global) → Option (List LogBytes)
+listed None = None
+listed (Some logs) = Some logs.items
+
+-- the header of the bytes, unless they have a fault or memory is refused
+abbrev pub FindsHeader : List ℕ → Result RunHeader (ReadError GatherFault) → Type 0
+FindsHeader bytes (Ok h) = header_in bytes ≡ Ok h
+FindsHeader bytes (Err errors.Memory) = Unit {0}
+FindsHeader bytes (Err (errors.Fault f)) = (s : BytesFault) × (f ≡ Header s) × (header_in bytes ≡ Err s)
+
+-- best walks between the others, unless two of them have no short walk or memory is refused
+abbrev pub FindsWalks : RunHeader → List ℕ → Result (List (List ℕ)) (ReadError GatherFault) → Type 0
+FindsWalks h faulty (Ok walks) =
+    (rest : List ℕ) × IsListOf rest (IsLoyal h.network faulty) × AreBestWalks h.network rest walks
+FindsWalks h faulty (Err errors.Memory) = Unit {0}
+FindsWalks h faulty (Err (errors.Fault f)) =
+    (rest : List ℕ) × (why : WalkFault) × IsListOf rest (IsLoyal h.network faulty)
+    × IsWalkFault h.network rest why × (fault_of why ≡ Some f)
+
+-- the bundle's bytes are handed out, or the number of a fault is told
+abbrev pub HandsBundle : List ℕ → ℕ → Option (List LogBytes) → List ℕ → List ℕ → ℕ → ℕ → Told → Type 0
+HandsBundle bytes faulty logs old new count fault Done =
+    (fault ≡ 0) × ((xs : List LogBytes) × (text : List ℕ) × (logs ≡ Some xs)
+    × IsGathered bytes (members_of faulty) xs text × PutsText text old new count Done)
+HandsBundle bytes faulty logs old new count fault Length =
+    (fault ≡ 0) × ((xs : List LogBytes) × (text : List ℕ) × (logs ≡ Some xs)
+    × IsGathered bytes (members_of faulty) xs text × PutsText text old new count Length)
+HandsBundle bytes faulty logs old new count fault Fault =
+    IsUntouched old new count × ((xs : List LogBytes) × (f : GatherFault) × (logs ≡ Some xs)
+    × IsGatherFault bytes (members_of faulty) xs f × (fault ≡ gather_number f))
+HandsBundle bytes faulty logs old new count fault Memory = (fault ≡ 0) × IsUntouched old new count
+HandsBundle bytes faulty logs old new count fault Misuse =
+    (fault ≡ 0) × IsUntouched old new count × ((2 ^ 16 ≤ faulty) ⊎ (logs ≡ None))

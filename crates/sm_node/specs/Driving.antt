@@ -1,0 +1,92 @@
+-- What the calls make of a node that is there: it is driven through its rounds, and ended.
+use Rattle.std.specs.Prelude.{ℕ, ◌≡◌, Bool, true, false, List, Option, Some, Ok, Err}
+use Rattle.gen_types.specs.Spelled.{Spells}
+use Rattle.gen_general.specs.Recording.{log_written}
+use Rattle.gen_node.specs.declared.frame_fault.FrameFault.{FrameFault}
+use Rattle.gen_node.specs.Frame.{IsFrame, frame_spelling}
+use Rattle.gen_node.specs.Node.{Node, IsBegun, awaits, decision_of_node, ended, frame_to, handed}
+use Rattle.gen_node.specs.Node.{is_over, may_begin, may_end}
+use Rattle.sm_node.specs.declared.held.Ending.{Ending}
+use Rattle.sm_node.specs.declared.held.Held.{Held}
+use Rattle.sm_node.specs.declared.held.Held.TheVariants.{Ended}
+use Rattle.sm_node.specs.declared.told.Told.{Told}
+use Rattle.sm_node.specs.declared.told.Told.TheVariants.{Done, Misuse, Fault, Memory, Length}
+use Rattle.sm_node.specs.Faults.{frame_number}
+use Rattle.sm_node.specs.Handing.{IsUntouched, PutsText}
+use Rattle.sm_node.specs.Held.{allows, has_ended, is_running, Becomes, IsRunning}
+
+-- the call may not be made: no node is there that passes the test, and nothing has changed
+abbrev pub IsRefused : (Node → Bool) → Option Held → Option Held → Type 0
+IsRefused may old new = (new ≡ old) × (allows may old ≡ false)
+
+-- a round begins, or memory was refused, and the same call goes on with it
+abbrev pub Begins : Option Held → Option Held → Told → Type 0
+Begins old new Done = Becomes IsBegun old new
+Begins old new Misuse = IsRefused may_begin old new
+Begins old new Memory =
+    Becomes (λ n m. ((later : Node) → IsBegun m later → IsBegun n later) × (may_begin m ≡ true)) old new
+Begins old new Fault = ⊥
+Begins old new Length = ⊥
+
+-- a round ends, or memory was refused, and the same call goes on with it
+abbrev pub Ends : Option Held → Option Held → Told → Type 0
+Ends old new Done = Becomes (λ n m. m ≡ ended n) old new
+Ends old new Misuse = IsRefused may_end old new
+Ends old new Memory = Becomes (λ n m. (ended m ≡ ended n) × (may_end m ≡ true)) old new
+Ends old new Fault = ⊥
+Ends old new Length = ⊥
+
+-- the bytes are the frame of this round to a neighbour
+abbrev pub IsFrameTo : ℕ → Option Held → List ℕ → Type 0
+IsFrameTo to held bytes =
+    (n : Node) × IsRunning held n × Spells IsFrame frame_spelling bytes (frame_to n.recorder to)
+
+-- that frame is handed out
+abbrev pub Sends : ℕ → Option Held → List ℕ → List ℕ → ℕ → Told → Type 0
+Sends to held old new count Done =
+    (bytes : List ℕ) × IsFrameTo to held bytes × PutsText bytes old new count Done
+Sends to held old new count Length =
+    (bytes : List ℕ) × IsFrameTo to held bytes × PutsText bytes old new count Length
+Sends to held old new count Misuse = IsUntouched old new count × (allows (λ n. awaits n to) held ≡ false)
+Sends to held old new count Memory = IsUntouched old new count × (allows (λ n. awaits n to) held ≡ true)
+Sends to held old new count Fault = ⊥
+
+-- bytes are taken as the frame of this round from a neighbour, or have a fault
+abbrev pub Hears : ℕ → List ℕ → Option Held → Option Held → ℕ → Told → Type 0
+Hears from bytes old new fault Done = (fault ≡ 0) × Becomes (λ n m. handed n from bytes ≡ Ok m) old new
+Hears from bytes old new fault Fault =
+    (new ≡ old) × ((n : Node) × (f : FrameFault) × IsRunning old n × (handed n from bytes ≡ Err f)
+    × (fault ≡ frame_number f))
+Hears from bytes old new fault Misuse = (fault ≡ 0) × IsRefused (λ _. true) old new
+Hears from bytes old new fault Memory = (fault ≡ 0) × (new ≡ old) × (is_running old ≡ true)
+Hears from bytes old new fault Length = ⊥
+
+-- the node ends after the last round: of it are left its log, sealed, and its decision
+abbrev pub Finishes : Option Held → Option Held → Told → Type 0
+Finishes old new Done =
+    (n : Node) × IsRunning old n
+    × (new ≡ Some (Ended (record { log = log_written n.recorder; decision = decision_of_node n.recorder })))
+Finishes old new Misuse = IsRefused is_over old new
+Finishes old new Memory = (new ≡ old) × (allows is_over old ≡ true)
+Finishes old new Fault = ⊥
+Finishes old new Length = ⊥
+
+-- this is left of a node
+abbrev pub IsEnded : Option Held → Ending → Type 0
+IsEnded held e = held ≡ Some (Ended e)
+
+-- the log of a node that has ended is handed out
+abbrev pub HandsLog : Option Held → List ℕ → List ℕ → ℕ → Told → Type 0
+HandsLog held old new count Done = (e : Ending) × IsEnded held e × PutsText e.log.bytes old new count Done
+HandsLog held old new count Length = (e : Ending) × IsEnded held e × PutsText e.log.bytes old new count Length
+HandsLog held old new count Misuse = IsUntouched old new count × (has_ended held ≡ false)
+HandsLog held old new count Memory = ⊥
+HandsLog held old new count Fault = ⊥
+
+-- the order that it decided for is told
+abbrev pub TellsOrder : Option Held → ℕ → Told → Type 0
+TellsOrder held order Done = (e : Ending) × IsEnded held e × (order ≡ e.decision.order)
+TellsOrder held order Misuse = (order ≡ 0) × (has_ended held ≡ false)
+TellsOrder held order Memory = ⊥
+TellsOrder held order Fault = ⊥
+TellsOrder held order Length = ⊥

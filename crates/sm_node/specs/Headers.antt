@@ -1,0 +1,73 @@
+-- Headers as they are handed in, and as they are made of numbers, edges and roots.
+use Rattle.std.specs.Prelude.{ℕ, ◌≡◌, ◌==◌, if◌then◌else◌, List, length, map, Result, Ok, Err}
+use Rattle.std.specs.Prelude.{slice_index_or}
+use Rattle.gen_types.specs.Reading.{◌>>=◌, check, map_fault}
+use Rattle.gen_types.specs.Spelled.{counted}
+use Rattle.gen_net.specs.declared.fault.HeaderFault.{HeaderFault}
+use Rattle.gen_net.specs.declared.fault.HeaderFault.TheVariants.{UnknownVersion}
+use Rattle.gen_net.specs.declared.numbers.NetNumbers.{NetNumbers}
+use Rattle.gen_net.specs.declared.version.Version.TheVariants.{One, Two}
+use Rattle.gen_net.specs.Header.{RunHeader, header_spelling, header_with}
+use Rattle.gen_net.specs.HeaderReading.{header_at}
+use Rattle.gen_net.specs.Network.{Network}
+use Rattle.gen_net.specs.NetworkOf.{network_of}
+use Rattle.sm_node.specs.declared.faults.BytesFault.{BytesFault}
+use Rattle.sm_node.specs.declared.faults.BytesFault.TheVariants.{BadHeader, LeftOver}
+use Rattle.sm_node.specs.declared.headers.SmNumbers.{SmNumbers}
+use Rattle.sm_node.specs.declared.told.Told.{Told}
+use Rattle.sm_node.specs.declared.told.Told.TheVariants.{Done, Misuse, Fault, Memory, Length}
+use Rattle.sm_node.specs.Faults.{header_number}
+use Rattle.sm_node.specs.Handing.{IsUntouched, PutsText}
+
+-- the header in front of the bytes, with the number of its bytes
+abbrev pub front_in : List ℕ → Result (RunHeader × ℕ) BytesFault
+front_in bytes = map_fault BadHeader (counted header_at bytes)
+
+-- the header that the bytes are, or their first fault
+unfoldable pub header_in : List ℕ → Result RunHeader BytesFault
+header_in bytes = do
+  found ← front_in bytes
+  whole ← check (found.1 == length bytes) LeftOver
+  Ok found.0
+
+-- the two ends of an edge
+abbrev pub ends_of : List ℕ → ℕ × ℕ
+ends_of edge = (slice_index_or edge 0 0, slice_index_or edge 1 0)
+
+-- the numbers of a network
+abbrev pub net_numbers : SmNumbers → NetNumbers
+net_numbers n = record {
+  generals = n.generals;
+  traitors = n.traitors;
+  diameter = n.diameter;
+  orders = n.orders;
+  choice = n.choice;
+}
+
+-- the network of these, or the first rule that they break
+abbrev pub net_made : SmNumbers → List (List ℕ) → Result Network HeaderFault
+net_made numbers edges = network_of (net_numbers numbers) (map ends_of edges)
+
+-- the header in the version of this number, 1 or 2
+abbrev pub header_over : SmNumbers → Network → List (List ℕ) → Result RunHeader HeaderFault
+header_over numbers net roots =
+    if numbers.version == 1 then header_with One net roots
+    else if numbers.version == 2 then header_with (Two numbers.slot) net roots
+    else Err UnknownVersion
+
+-- the header of these, or the first rule that they break
+unfoldable pub header_made : SmNumbers → List (List ℕ) → List (List ℕ) → Result RunHeader HeaderFault
+header_made numbers edges roots = do
+  net ← net_made numbers edges
+  header_over numbers net roots
+
+-- the bytes of that header are handed out, or the number of its fault is told
+abbrev pub MakesHeader : Result RunHeader HeaderFault → List ℕ → List ℕ → ℕ → ℕ → Told → Type 0
+MakesHeader made old new count fault Done =
+    (fault ≡ 0) × ((h : RunHeader) × (made ≡ Ok h) × PutsText (header_spelling h) old new count Done)
+MakesHeader made old new count fault Length =
+    (fault ≡ 0) × ((h : RunHeader) × (made ≡ Ok h) × PutsText (header_spelling h) old new count Length)
+MakesHeader made old new count fault Fault =
+    IsUntouched old new count × ((f : HeaderFault) × (made ≡ Err f) × (fault ≡ header_number f))
+MakesHeader made old new count fault Memory = (fault ≡ 0) × IsUntouched old new count
+MakesHeader made old new count fault Misuse = ⊥

@@ -1,0 +1,37 @@
+-- What a node's memory holds.
+use Rattle.std.specs.Prelude.{◌≡◌, Bool, true, false, Option, Some, None}
+use Rattle.gen_node.specs.Node.{Node}
+use Rattle.sm_node.specs.declared.held.Held.{Held}
+use Rattle.sm_node.specs.declared.held.Held.TheVariants.{Empty, Running, Ended}
+
+-- the node that has not ended, if one is there
+abbrev pub running : Held → Option Node
+running Empty = None
+running (Running n) = Some n
+running (Ended e) = None
+
+-- there is a node that has not ended, and it passes the test
+abbrev pub allows : (Node → Bool) → Option Held → Bool
+allows may None = false
+allows may (Some Empty) = false
+allows may (Some (Running n)) = may n
+allows may (Some (Ended e)) = false
+
+-- there is a node that has not ended
+abbrev pub is_running : Option Held → Bool
+is_running held = allows (λ _. true) held
+
+-- there is a node that has ended
+abbrev pub has_ended : Option Held → Bool
+has_ended None = false
+has_ended (Some Empty) = false
+has_ended (Some (Running n)) = false
+has_ended (Some (Ended e)) = true
+
+-- the node that has not ended is this one
+abbrev pub IsRunning : Option Held → Node → Type 0
+IsRunning held n = held ≡ Some (Running n)
+
+-- of the node that has not ended comes one that stands to it as stated
+abbrev pub Becomes : (Node → Node → Type 0) → Option Held → Option Held → Type 0
+Becomes Follows old new = (n : Node) × (m : Node) × IsRunning old n × IsRunning new m × Follows n m

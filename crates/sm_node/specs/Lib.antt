@@ -1,0 +1,9 @@
+pub mod Bundles
+pub mod Driving
+pub mod Faults
+pub mod Handing
+pub mod Headers
+pub mod Held
+pub mod Owning
+pub mod Starting
+pub mod Told

@@ -1,0 +1,149 @@
+//! Bundles of logs that were collected.
+ghost use Rattle.std.specs.Prelude.{◌≡◌, true, IfOk};
+ghost use Rattle.gen_types.specs.Bits.{members_of};
+ghost use Rattle.sm_node.specs.Bundles as gathering;
+
+use crate::faults::GatherFault;
+use crate::handing::put;
+use crate::headers::header_in;
+use crate::told::Told;
+use gen_local::Exhibit;
+use gen_net::Header;
+use gen_node::make_bundle;
+use gen_types::{GeneralNo, GeneralSet, ReadError};
+use gen_walks::{WalkFault, Walks, make_walks};
+use std::alloc::{AllocError, Global};
+
+/// Whose log it is, and how many bytes it has.
+#[repr(C)]
+#[derive(Clone, Copy)]
+pub struct SmLog {
+    /// The number of the general.
+    pub general: u32,
+    /// The number of bytes.
+    pub bytes: usize,
+}
+
+/// The log in front of the bytes.
+fn log_in_front(alloc: Global, log: SmLog, bytes: &[u8]) -> Result<Exhibit, AllocError>
+    requires { gathering.is_in_front log bytes.now ≡ true }
+    ensures { IfOk result (λ x. x ≡ gathering.log_in_front log bytes.now) }
+{
+    let own = Vec::from_slice(alloc, &bytes[..log.bytes])?;
+    Exhibit::new(GeneralNo::at(log.general as u8), own)
+}
+
+/// Whether a log lies in front of the bytes, and it is a general's.
+fn is_in_front(log: SmLog, bytes: &[u8]) -> bool
+    ensures { result ≡ gathering.is_in_front log bytes.now }
+{
+    log.general < 16 && log.bytes <= bytes.len()
+}
+
+/// The logs that stand one after another in the bytes, and None where not exactly these do.
+fn logs_in(alloc: Global, logs: &[SmLog], bytes: &[u8]) -> Result<Option<Vec<Exhibit>>, AllocError>
+    ensures { IfOk result (λ found. gathering.listed found ≡ gathering.logs_in logs.now bytes.now) }
+{
+    let mut had = Vec::new(alloc);
+    let mut behind = bytes;
+    let mut left = logs;
+    'behind: while let [log, more @ ..] = left {
+        if !is_in_front(*log, behind) {
+            return Ok(None);
+        }
+        had.push(log_in_front(alloc, *log, behind)?)?;
+        behind = &behind[log.bytes..];
+        left = more;
+    }
+    if behind.is_empty() {
+        Ok(Some(had))
+    } else {
+        Ok(None)
+    }
+}
+
+/// Best walks between the generals who aren't held for faulty.
+fn walks_of(
+    alloc: Global,
+    header: &Header,
+    faulty: &GeneralSet,
+) -> Result<Walks, ReadError<GatherFault>>
+    ensures { gathering.FindsWalks header.now faulty.now result }
+{
+    let net = header.net();
+    match make_walks(alloc, net, &net.rest(faulty)) {
+        Ok(walks) => Ok(walks),
+        Err(WalkFault::Memory) => Err(ReadError::Memory),
+        Err(WalkFault::NoWalk { pair: _, levels: _ }) => Err(ReadError::Fault(GatherFault::NoWalk)),
+        Err(
+            WalkFault::TooLong {
+                pair: _,
+                levels: _,
+                edges: _,
+            },
+        ) => Err(ReadError::Fault(GatherFault::LongWalk)),
+    }
+}
+
+/// The header of a bundle.
+fn header_of(alloc: Global, bytes: &[u8]) -> Result<Header, ReadError<GatherFault>>
+    ensures { gathering.FindsHeader bytes.now result }
+{
+    match header_in(alloc, bytes) {
+        Ok(header) => Ok(header),
+        Err(ReadError::Memory) => Err(ReadError::Memory),
+        Err(ReadError::Fault(fault)) => Err(ReadError::Fault(GatherFault::Header(fault))),
+    }
+}
+
+/// The bytes of the bundle of a header's bytes, those who are held for faulty, and logs.
+fn gather(
+    alloc: Global,
+    bytes: &[u8],
+    faulty: GeneralSet,
+    logs: Vec<Exhibit>,
+) -> Result<Vec<u8>, ReadError<GatherFault>>
+    ensures { gathering.GathersText bytes.now faulty logs.items (gathering.as_text result) }
+{
+    let header = header_of(alloc, bytes)?;
+    let walks = walks_of(alloc, &header, &faulty)?;
+    match make_bundle(alloc, header, faulty, walks, logs) {
+        Ok(text) => Ok(text),
+        Err(ReadError::Memory) => Err(ReadError::Memory),
+        Err(ReadError::Fault(fault)) => Err(ReadError::Fault(GatherFault::Bundle(fault))),
+    }
+}
+
+/// Hands out the bytes of that bundle.
+pub(crate) fn hand_bundle(
+    alloc: Global,
+    header: &[u8],
+    faulty: u32,
+    logs: &[SmLog],
+    bytes: &[u8],
+    room: &mut [u8],
+    count: &mut usize,
+    fault: &mut u32,
+) -> Told
+    ensures { gathering.HandsBundle header.now faulty (gathering.logs_in logs.now bytes.now)
+        room.old room.new count.new fault.new result }
+{
+    *count = 0;
+    *fault = 0;
+    if faulty >= 1 << 16 {
+        return Told::Misuse;
+    }
+    let own = match logs_in(alloc, logs, bytes) {
+        Ok(Some(own)) => own,
+        Ok(None) => return Told::Misuse,
+        Err(_) => return Told::Memory,
+    };
+    match gather(alloc, header, GeneralSet::from_bits(faulty as u16), own) {
+        Ok(text) => put(text.as_slice(), room, count),
+        Err(ReadError::Memory) => Told::Memory,
+        Err(ReadError::Fault(broken)) => {
+            *fault = broken.number();
+            Told::Fault
+        }
+    }
+}

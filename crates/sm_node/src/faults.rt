@@ -1,0 +1,130 @@
+//! Faults of what is handed in, and their numbers.
+ghost use Rattle.std.specs.Prelude.{◌≡◌};
+ghost use Rattle.sm_node.specs.Faults as numbers;
+
+use gen_audit::BundleFault;
+use gen_net::HeaderFault;
+use gen_node::FrameFault;
+
+/// Why bytes are not those of a header and no others.
+#[derive(Clone, Copy, Debug, PartialEq, Eq)]
+pub enum BytesFault {
+    /// The bytes have this fault of a header.
+    BadHeader(HeaderFault),
+    /// Bytes are left over behind the header.
+    LeftOver,
+}
+
+/// Why there is no node of a header's bytes, a general, his order and his seed.
+#[derive(Clone, Copy, Debug, PartialEq, Eq)]
+pub enum StartFault {
+    /// The bytes have this fault.
+    Header(BytesFault),
+    /// He is none of the header's generals, or the order doesn't fit him.
+    NoGeneral,
+    /// The root of his keys is not the one that the header has for him.
+    OtherRoot,
+}
+
+/// Why there is no bundle of a header's bytes, those who are held for faulty, and logs.
+#[derive(Clone, Copy, Debug, PartialEq, Eq)]
+pub enum GatherFault {
+    /// The bytes of the header have this fault.
+    Header(BytesFault),
+    /// No walk joins two of the others.
+    NoWalk,
+    /// The shortest walk between two of the others is too long.
+    LongWalk,
+    /// The bundle breaks this rule.
+    Bundle(BundleFault),
+}
+
+/// Returns the number of a header's fault, 1 to 11.
+pub(crate) fn header_number(fault: HeaderFault) -> u32
+    ensures { result ≡ numbers.header_number fault }
+{
+    match fault {
+        HeaderFault::GeneralCount => 1,
+        HeaderFault::BadEdge => 2,
+        HeaderFault::TraitorCount => 3,
+        HeaderFault::DiameterRange => 4,
+        HeaderFault::RoundCount => 5,
+        HeaderFault::OrderCount => 6,
+        HeaderFault::UnknownChoice => 7,
+        HeaderFault::RootCount => 8,
+        HeaderFault::Truncated => 9,
+        HeaderFault::UnknownVersion => 10,
+        HeaderFault::SlotRange => 11,
+    }
+}
+
+/// Returns the number of a frame's fault, 21 to 28.
+pub(crate) fn frame_number(fault: FrameFault) -> u32
+    ensures { result ≡ numbers.frame_number fault }
+{
+    match fault {
+        FrameFault::NotAwaited => 21,
+        FrameFault::Twice => 22,
+        FrameFault::Truncated => 23,
+        FrameFault::UnknownMark => 24,
+        FrameFault::LeftOver => 25,
+        FrameFault::OtherRun => 26,
+        FrameFault::OtherRound => 27,
+        FrameFault::OtherEnds => 28,
+    }
+}
+
+/// Returns the number of a bundle's fault, 41 to 50, or that of its header.
+fn bundle_number(fault: BundleFault) -> u32
+    ensures { result ≡ numbers.bundle_number fault }
+{
+    match fault {
+        BundleFault::Truncated => 41,
+        BundleFault::UnknownMark => 42,
+        BundleFault::BadHeader(inner) => header_number(inner),
+        BundleFault::FaultyRange => 44,
+        BundleFault::WalkCount => 45,
+        BundleFault::BadWalk => 46,
+        BundleFault::BadExhibit => 47,
+        BundleFault::LeftOver => 48,
+        BundleFault::OutOfOrder => 49,
+        BundleFault::LongLog => 50,
+    }
+}
+
+/// Returns the number of a fault of a header's bytes, 1 to 12.
+fn bytes_number(fault: BytesFault) -> u32
+    ensures { result ≡ numbers.bytes_number fault }
+{
+    match fault {
+        BytesFault::BadHeader(inner) => header_number(inner),
+        BytesFault::LeftOver => 12,
+    }
+}
+
+impl StartFault {
+    /// Returns the number, 1 to 14.
+    pub(crate) fn number(self) -> u32
+        ensures { result ≡ numbers.start_number self }
+    {
+        match self {
+            StartFault::Header(inner) => bytes_number(inner),
+            StartFault::NoGeneral => 13,
+            StartFault::OtherRoot => 14,
+        }
+    }
+}
+
+impl GatherFault {
+    /// Returns the number: 1 to 12, 31, 32, or 41 to 50.
+    pub(crate) fn number(self) -> u32
+        ensures { result ≡ numbers.gather_number self }
+    {
+        match self {
+            GatherFault::Header(inner) => bytes_number(inner),
+            GatherFault::NoWalk => 31,
+            GatherFault::LongWalk => 32,
+            GatherFault::Bundle(inner) => bundle_number(inner),
+        }
+    }
+}

@@ -1,0 +1,145 @@
+//! Headers as they are handed in, and as they are made of numbers, edges and roots.
+ghost use Rattle.std.specs.Prelude.{◌≡◌, IfOk, map};
+ghost use Rattle.gen_types.specs.Spelled.{IsRead};
+ghost use Rattle.sm_node.specs.Headers as headers;
+
+use crate::faults::{BytesFault, header_number};
+use crate::handing::put;
+use crate::told::Told;
+use gen_net::{Header, HeaderFault, Net, header_bytes, read_header};
+use gen_types::{ReadError, check};
+use std::alloc::{AllocError, Global};
+
+/// The numbers that a header is made of besides its edges and roots, in no certain range.
+#[repr(C)]
+#[derive(Clone, Copy)]
+pub struct SmNumbers {
+    /// The number of the version, 1 or 2.
+    pub version: u8,
+    /// The slot; it counts in version 2 alone.
+    pub slot: u8,
+    /// The number of generals.
+    pub generals: u8,
+    /// The number of traitors that the run is planned for.
+    pub traitors: u8,
+    /// The diameter that the run is planned for.
+    pub diameter: u8,
+    /// The number of orders.
+    pub orders: u8,
+    /// The number of the choice.
+    pub choice: u8,
+}
+
+/// The header in front of the bytes, and how many bytes it has.
+fn front_in(alloc: Global, bytes: &[u8]) -> Result<(Header, usize), ReadError<BytesFault>>
+    ensures { IsRead result (headers.front_in bytes.now) }
+{
+    match read_header(alloc, bytes) {
+        Ok(found) => Ok(found),
+        Err(ReadError::Memory) => Err(ReadError::Memory),
+        Err(ReadError::Fault(fault)) => Err(ReadError::Fault(BytesFault::BadHeader(fault))),
+    }
+}
+
+/// The header that the bytes are.
+#[tactic(auto, unfolding(crate::specs::Headers::header_in))]
+pub(crate) fn header_in(alloc: Global, bytes: &[u8]) -> Result<Header, ReadError<BytesFault>>
+    ensures { IsRead result (headers.header_in bytes.now) }
+{
+    let (header, count) = front_in(alloc, bytes)?;
+    check(count == bytes.len(), BytesFault::LeftOver)?;
+    Ok(header)
+}
+
+/// The two ends of each edge.
+fn pairs_of(alloc: Global, edges: &[[u8; 2]]) -> Result<Vec<(u8, u8)>, AllocError>
+    ensures { IfOk result (λ pairs. pairs.items ≡ map headers.ends_of edges.now) }
+{
+    let mut pairs = Vec::with_capacity(alloc, edges.len())?;
+    'pairing: for edge in edges {
+        pairs.push((edge[0], edge[1]))?;
+    }
+    Ok(pairs)
+}
+
+/// The network of these numbers and edges.
+fn net_of(
+    alloc: Global,
+    numbers: &SmNumbers,
+    edges: &[[u8; 2]],
+) -> Result<Net, ReadError<HeaderFault>>
+    ensures { IsRead result (headers.net_made numbers.now edges.now) }
+{
+    let pairs = pairs_of(alloc, edges)?;
+    Net::new(
+        alloc,
+        numbers.generals,
+        pairs.as_slice(),
+        numbers.traitors,
+        numbers.diameter,
+        numbers.orders,
+        numbers.choice,
+    )
+}
+
+/// The header of these in the version that their number says.
+fn header_over(
+    numbers: &SmNumbers,
+    net: Net,
+    roots: Vec<[u8; 32]>,
+) -> Result<Header, ReadError<HeaderFault>>
+    ensures { IsRead result (headers.header_over numbers.now net roots.items) }
+{
+    let made = match numbers.version {
+        1 => Header::new(net, roots),
+        2 => Header::new_in_slot(net, numbers.slot, roots),
+        _ => Err(HeaderFault::UnknownVersion),
+    };
+    match made {
+        Ok(header) => Ok(header),
+        Err(fault) => Err(ReadError::Fault(fault)),
+    }
+}
+
+/// The header of these.
+#[tactic(auto, unfolding(crate::specs::Headers::header_made))]
+fn header_of(
+    alloc: Global,
+    numbers: &SmNumbers,
+    edges: &[[u8; 2]],
+    roots: &[[u8; 32]],
+) -> Result<Header, ReadError<HeaderFault>>
+    ensures { IsRead result (headers.header_made numbers.now edges.now roots.now) }
+{
+    let net = net_of(alloc, numbers, edges)?;
+    let roots = Vec::from_slice(alloc, roots)?;
+    header_over(numbers, net, roots)
+}
+
+/// Hands out the bytes of the header of these.
+pub(crate) fn make_header(
+    alloc: Global,
+    numbers: &SmNumbers,
+    edges: &[[u8; 2]],
+    roots: &[[u8; 32]],
+    room: &mut [u8],
+    count: &mut usize,
+    fault: &mut u32,
+) -> Told
+    ensures { headers.MakesHeader (headers.header_made numbers.now edges.now roots.now)
+        room.old room.new count.new fault.new result }
+{
+    *count = 0;
+    *fault = 0;
+    match header_of(alloc, numbers, edges, roots) {
+        Ok(header) => match header_bytes(alloc, &header) {
+            Ok(bytes) => put(bytes.as_slice(), room, count),
+            Err(_) => Told::Memory,
+        },
+        Err(ReadError::Memory) => Told::Memory,
+        Err(ReadError::Fault(broken)) => {
+            *fault = header_number(broken);
+            Told::Fault
+        }
+    }
+}

@@ -1,0 +1,203 @@
+//! The library of nodes for C: one general of a run, driven by a program in another language.
+//!
+//! A node is opaque to the caller: one pointer, which is null where no node is. Each function returns one of these numbers.
+//!
+//! | number | what it says |
+//! |---|---|
+//! | 0 | it was done |
+//! | 2 | it may not be called so, and nothing was changed |
+//! | 3 | what was handed in has a fault, whose number is told, and nothing was changed |
+//! | 4 | memory was refused: the same call may be made again |
+//! | 5 | the room is too short, and the length that is wanted is told; nothing was changed |
+//!
+//! No function keeps anything but in the node that it was handed, starts a thread, waits for one, prints or ends the process.
+//! A contract says of each what a `Told` and what goes with it say, as `Begins`.
+#![tactic(auto)]
+
+ghost use Rattle.std.specs.Prelude.{◌≡◌, ◌<◌, ◌≤◌, None};
+ghost use Rattle.sm_node.specs.Bundles.{HandsBundle, logs_in};
+ghost use Rattle.sm_node.specs.Driving.{Begins, Ends, Finishes, HandsLog, Hears, Sends, TellsOrder};
+ghost use Rattle.sm_node.specs.Handing.{IsUntouched};
+ghost use Rattle.sm_node.specs.Headers.{header_made, MakesHeader};
+ghost use Rattle.sm_node.specs.Starting.{Starts, WritesRoot};
+ghost use Rattle.sm_node.specs.Told.{IsTold};
+
+mod bundles;
+mod driving;
+mod faults;
+mod handing;
+mod headers;
+mod held;
+mod loose;
+mod opaque;
+mod starting;
+mod told;
+
+use crate::bundles::{SmLog, hand_bundle};
+use crate::driving::{begin_round, end_round, finish, free, hear, log, order, send};
+use crate::headers::{SmNumbers, make_header};
+use crate::opaque::SmNode;
+use crate::starting::{start, write_root};
+use gen_types::GeneralNo;
+use std::alloc::Global;
+
+/// Writes the root of the tree of keys that a seed makes, for headers of the version 1 or 2. The call is refused for another.
+#[unsafe(no_mangle)]
+pub extern "C" fn sm_root(alloc: Global, seed: &[u8; 32], version: u32, root: &mut [u8; 32]) -> u32
+    ensures { IsTold (WritesRoot seed.now version root.old root.new) result }
+{
+    write_root(alloc, seed, version, root).status()
+}
+
+/// Hands out the bytes of the header of these numbers, edges and roots. The edges come in any order and direction, the roots
+/// in the order of their generals.
+#[unsafe(no_mangle)]
+pub extern "C" fn sm_header(
+    alloc: Global,
+    numbers: &SmNumbers,
+    edges: &[[u8; 2]],
+    roots: &[[u8; 32]],
+    room: &mut [u8],
+    count: &mut usize,
+    fault: &mut u32,
+) -> u32
+    ensures { IsTold (MakesHeader (header_made numbers.now edges.now roots.now)
+        room.old room.new count.new fault.new) result }
+{
+    make_header(alloc, numbers, edges, roots, room, count, fault).status()
+}
+
+/// Makes a node of a header's bytes, a general, his seed and his order, where no node is: 255 says that he has no order. The
+/// call is refused where a node is, or a number is none.
+#[unsafe(no_mangle)]
+pub extern "C" fn sm_node_new(
+    alloc: Global,
+    node: &mut SmNode,
+    header: &[u8],
+    general: u32,
+    seed: &[u8; 32],
+    own: u32,
+    fault: &mut u32,
+) -> u32
+    ensures { IsTold (Starts header.now general seed.now own node.old.held node.new.held fault.new) result }
+{
+    start(alloc, node, header, general, seed, own, fault).status()
+}
+
+/// Begins the next round. Where memory is refused, the same call goes on with it.
+#[unsafe(no_mangle)]
+pub extern "C" fn sm_node_begin_round(alloc: Global, node: &mut SmNode) -> u32
+    ensures { IsTold (Begins node.old.held node.new.held) result }
+{
+    begin_round(alloc, node).status()
+}
+
+/// Hands out the bytes of the frame of this round to a neighbour.
+#[unsafe(no_mangle)]
+pub extern "C" fn sm_node_send(
+    alloc: Global,
+    node: &mut SmNode,
+    to: u32,
+    room: &mut [u8],
+    count: &mut usize,
+) -> u32
+    ensures same { node.new.held ≡ node.old.held }
+    ensures general { to < 16 → IsTold (Sends to node.old.held room.old room.new count.new) result }
+    // The number is no general's.
+    ensures nobody { 16 ≤ to → (result ≡ 2) × IsUntouched room.old room.new count.new }
+{
+    if to >= 16 {
+        *count = 0;
+        return 2;
+    }
+    send(alloc, node, GeneralNo::at(to as u8), room, count).status()
+}
+
+/// Takes the bytes that came of a neighbour in this round.
+#[unsafe(no_mangle)]
+pub extern "C" fn sm_node_hear(
+    alloc: Global,
+    node: &mut SmNode,
+    from: u32,
+    bytes: &[u8],
+    fault: &mut u32,
+) -> u32
+    ensures general { from < 16 →
+        IsTold (Hears from bytes.now node.old.held node.new.held fault.new) result }
+    // The number is no general's.
+    ensures nobody { 16 ≤ from → (result ≡ 2) × (node.new.held ≡ node.old.held) × (fault.new ≡ 0) }
+{
+    if from >= 16 {
+        *fault = 0;
+        return 2;
+    }
+    hear(alloc, node, GeneralNo::at(from as u8), bytes, fault).status()
+}
+
+/// Ends the round. A neighbour of whom nothing was taken counts as one who sent nothing. Where memory is refused, the same
+/// call goes on with it.
+#[unsafe(no_mangle)]
+pub extern "C" fn sm_node_end_round(alloc: Global, node: &mut SmNode) -> u32
+    ensures { IsTold (Ends node.old.held node.new.held) result }
+{
+    end_round(alloc, node).status()
+}
+
+/// Ends the node after the last round: of it are left its sealed log and its decision, and its ring of keys is closed.
+#[unsafe(no_mangle)]
+pub extern "C" fn sm_node_finish(alloc: Global, node: &mut SmNode) -> u32
+    ensures { IsTold (Finishes node.old.held node.new.held) result }
+{
+    finish(alloc, node).status()
+}
+
+/// Hands out the bytes of the log of a node that has ended.
+#[unsafe(no_mangle)]
+pub extern "C" fn sm_node_log(
+    alloc: Global,
+    node: &mut SmNode,
+    room: &mut [u8],
+    count: &mut usize,
+) -> u32
+    ensures same { node.new.held ≡ node.old.held }
+    ensures log { IsTold (HandsLog node.old.held room.old room.new count.new) result }
+{
+    log(alloc, node, room, count).status()
+}
+
+/// Tells the order that a node that has ended decided for.
+#[unsafe(no_mangle)]
+pub extern "C" fn sm_node_order(alloc: Global, node: &mut SmNode, decided: &mut u32) -> u32
+    ensures same { node.new.held ≡ node.old.held }
+    ensures order { IsTold (TellsOrder node.old.held decided.new) result }
+{
+    order(alloc, node, decided).status()
+}
+
+/// Frees what a node holds, at any time, so that no node is there. A ring of keys that is open is closed.
+#[unsafe(no_mangle)]
+pub extern "C" fn sm_node_free(alloc: Global, node: &mut SmNode)
+    ensures { node.new.held ≡ None }
+{
+    free(alloc, node)
+}
+
+/// Hands out the bytes of the bundle of a run: of its header's bytes, the set of those who are held for faulty, bit g for
+/// general g, walks between the others, and logs that were collected, which stand one after another in `bytes`, in ascending
+/// order of their generals. The call is refused where the set has a general above 15, or not exactly these logs stand there.
+#[unsafe(no_mangle)]
+pub extern "C" fn sm_bundle(
+    alloc: Global,
+    header: &[u8],
+    faulty: u32,
+    logs: &[SmLog],
+    bytes: &[u8],
+    room: &mut [u8],
+    count: &mut usize,
+    fault: &mut u32,
+) -> u32
+    ensures { IsTold (HandsBundle header.now faulty (logs_in logs.now bytes.now)
+        room.old room.new count.new fault.new) result }
+{
+    hand_bundle(alloc, header, faulty, logs, bytes, room, count, fault).status()
+}

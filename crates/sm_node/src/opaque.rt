@@ -1,0 +1,77 @@
+//! A node as a caller in C holds it: one pointer.
+ghost use Rattle.std.specs.Prelude.{◌≡◌, Option, None, Some};
+ghost use Rattle.std.specs.Option.{MatchOption};
+ghost use Rattle.sm_node.specs.declared.held.Held.{Held};
+ghost use Rattle.sm_node.specs.Owning.{node_owns};
+
+use crate::held::Held;
+use crate::loose::Loose;
+use std::alloc::Global;
+use std::marker::Model;
+use std::mem::replace;
+use std::ptr::null_mut;
+
+/// A node as a caller in C holds it: one pointer, which is null where nothing is held, and else owns the box of what is.
+#[repr(C)]
+pub struct SmNode {
+    at: *mut u8,
+    pub ghost held: { Option Held },
+}
+
+impl Model for SmNode {
+    ghost also_owns = { λ n. node_owns n.at n.held };
+}
+
+impl SmNode {
+    /// Nothing is held.
+    fn empty() -> SmNode
+        ensures { result.held ≡ None }
+    {
+        SmNode { at: null_mut() }
+    }
+
+    /// What the box has is held.
+    fn of(loose: Loose<Held, Global>) -> SmNode
+        ensures { result.held ≡ Some loose.value }
+    {
+        let Loose { at, alloc: _ } = loose;
+        SmNode { at: at as *mut u8 }
+    }
+
+    /// The box of what is held.
+    fn into_loose(self, alloc: Global) -> Option<Loose<Held, Global>>
+        ensures { MatchOption result (self.held ≡ None) (λ l. self.held ≡ Some l.value) }
+    {
+        let SmNode { at } = self;
+        if at.is_null() {
+            None
+        } else {
+            Some(Loose {
+                at: at as *mut Held,
+                alloc,
+            })
+        }
+    }
+
+    /// Takes out what is held.
+    pub(crate) fn take(&mut self, alloc: Global) -> Option<Box<Held>>
+        ensures held { MatchOption result (self.old.held ≡ None) (λ b. self.old.held ≡ Some b.value) }
+        ensures empty { self.new.held ≡ None }
+    {
+        let full = replace(self, SmNode::empty());
+        match full.into_loose(alloc) {
+            Some(loose) => Some(loose.into_box()),
+            None => None,
+        }
+    }
+
+    /// Puts in what is to be held. What was held before is dropped.
+    pub(crate) fn put(&mut self, alloc: Global, place: Box<Held>)
+        ensures { self.new.held ≡ Some place.value }
+    {
+        let before = replace(self, SmNode::of(Loose::of(place)));
+        if let Some(loose) = before.into_loose(alloc) {
+            loose.into_box().drop();
+        }
+    }
+}

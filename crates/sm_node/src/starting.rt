@@ -1,0 +1,122 @@
+//! How a node begins.
+ghost use Rattle.std.specs.Prelude.{◌≡◌, true};
+ghost use Rattle.sm_node.specs.Starting as starting;
+
+use crate::faults::StartFault;
+use crate::headers::header_in;
+use crate::held::Held;
+use crate::opaque::SmNode;
+use crate::told::Told;
+use gen_node::{Node, NodeFault, root_of};
+use gen_types::{GeneralNo, OrderNo, ReadError, TreeHeight};
+use std::alloc::Global;
+
+/// The number that says that there is no order.
+const NO_ORDER: u32 = 255;
+
+/// Whether they are a general's number, and an order's or the one that says that there is none.
+fn are_numbers(general: u32, order: u32) -> bool
+    ensures { result ≡ starting.are_numbers general order }
+{
+    general < 16 && (order < 16 || order == NO_ORDER)
+}
+
+/// The order of this number, if it is one.
+fn own_order(order: u32) -> Option<OrderNo>
+    requires { starting.are_numbers 0 order ≡ true }
+    ensures { result ≡ starting.own_order order }
+{
+    if order == NO_ORDER {
+        None
+    } else {
+        Some(OrderNo::at(order as u8))
+    }
+}
+
+/// The node of a header's bytes, a general, his seed and his order.
+fn node_of(
+    alloc: Global,
+    bytes: &[u8],
+    general: GeneralNo,
+    seed: &[u8; 32],
+    own: Option<OrderNo>,
+) -> Result<Node, ReadError<StartFault>>
+    ensures { starting.StartsNode bytes.now general seed.now own result }
+{
+    let header = match header_in(alloc, bytes) {
+        Ok(header) => header,
+        Err(ReadError::Memory) => return Err(ReadError::Memory),
+        Err(ReadError::Fault(fault)) => return Err(ReadError::Fault(StartFault::Header(fault))),
+    };
+    match Node::new(alloc, header, general, seed, own) {
+        Ok(node) => Ok(node),
+        Err(NodeFault::NoGeneral) => Err(ReadError::Fault(StartFault::NoGeneral)),
+        Err(NodeFault::OtherRoot) => Err(ReadError::Fault(StartFault::OtherRoot)),
+        Err(NodeFault::Memory | NodeFault::OtherHeight) => Err(ReadError::Memory),
+    }
+}
+
+/// A node of a header's bytes, a general, his seed and his order stands where nothing stood.
+pub(crate) fn start(
+    alloc: Global,
+    node: &mut SmNode,
+    bytes: &[u8],
+    general: u32,
+    seed: &[u8; 32],
+    order: u32,
+    fault: &mut u32,
+) -> Told
+    ensures { starting.Starts bytes.now general seed.now order node.old.held node.new.held fault.new result }
+{
+    *fault = 0;
+    if !are_numbers(general, order) {
+        return Told::Misuse;
+    }
+    if let Some(held) = node.take(alloc) {
+        node.put(alloc, held);
+        return Told::Misuse;
+    }
+    let Ok(mut place) = Box::new(alloc, Held::Empty) else {
+        return Told::Memory;
+    };
+    let general = GeneralNo::at(general as u8);
+    match node_of(alloc, bytes, general, seed, own_order(order)) {
+        Ok(made) => {
+            *place = Held::Running(made);
+            node.put(alloc, place);
+            Told::Done
+        }
+        Err(ReadError::Memory) => Told::Memory,
+        Err(ReadError::Fault(broken)) => {
+            *fault = broken.number();
+            Told::Fault
+        }
+    }
+}
+
+/// The height of the trees of a version.
+fn height_numbered(version: u32) -> Option<TreeHeight>
+    ensures { result ≡ starting.height_numbered version }
+{
+    match version {
+        1 => Some(TreeHeight::Four),
+        2 => Some(TreeHeight::Six),
+        _ => None,
+    }
+}
+
+/// Writes the root of a seed's keys.
+pub(crate) fn write_root(alloc: Global, seed: &[u8; 32], version: u32, root: &mut [u8; 32]) -> Told
+    ensures { starting.WritesRoot seed.now version root.old root.new result }
+{
+    let Some(height) = height_numbered(version) else {
+        return Told::Misuse;
+    };
+    match root_of(alloc, seed, height) {
+        Ok(made) => {
+            *root = made;
+            Told::Done
+        }
+        Err(_) => Told::Memory,
+    }
+}

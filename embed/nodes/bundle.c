@@ -1,0 +1,47 @@
+/* The bundle of the logs that were collected, on standard output.
+
+       bundle FOLDER FAULTY GENERAL ..
+
+   FOLDER has the file header, and GENERAL.log for each general of the words, who ascend. FAULTY is the set of those who are
+   held for faulty, bit g for general g. */
+#include "files.h"
+#include "sm_node.h"
+
+/* The logs one after another. */
+static struct bytes read_logs(const char *folder, char **generals, int count, sm_log logs[64]) {
+    struct bytes all = room_of(0);
+    for (int place = 0; place < count; place++) {
+        char name[20];
+        logs[place].general = read_number(generals[place]);
+        snprintf(name, sizeof name, "%u.log", logs[place].general);
+        struct bytes log = read_file(folder, name), more = room_of(all.length + log.length);
+        memcpy(more.at, all.at, all.length);
+        memcpy(more.at + all.length, log.at, log.length);
+        logs[place].bytes = log.length;
+        free(log.at);
+        free(all.at);
+        all = more;
+    }
+    return all;
+}
+
+int main(int count, char **words) {
+    sm_log logs[64];
+    size_t length;
+    uint32_t fault;
+    if (count < 3 || count > 67) {
+        fprintf(stderr, "bundle FOLDER FAULTY GENERAL ..\n");
+        return 2;
+    }
+    struct bytes header = read_file(words[1], "header");
+    struct bytes all = read_logs(words[1], words + 3, count - 3, logs);
+    struct bytes room = room_of(header.length + all.length + 10000);
+    must(sm_bundle(header.at, header.length, read_number(words[2]), logs, (size_t)(count - 3), all.at, all.length, room.at,
+                   room.length, &length, &fault),
+         "sm_bundle");
+    if (fwrite(room.at, 1, length, stdout) != length || fflush(stdout) != 0) give_up("standard output");
+    free(header.at);
+    free(all.at);
+    free(room.at);
+    return 0;
+}
