@@ -1,6 +1,7 @@
 //! What calls answer, and how it is said.
 use gen_audit::AuditFault;
 use gen_jobs::JobFault;
+use gen_node::{NodeFault, SpellingFault};
 use gen_threads::RunFault;
 use gen_types::ReadError;
 use gen_walks::WalkFault;
@@ -71,6 +72,24 @@ impl From<JobFault> for Failure {
             JobFault::Memory => Failure::Memory,
             JobFault::Thread => Failure::Thread,
             _ => Failure::Fault,
+        }
+    }
+}
+
+impl From<NodeFault> for Failure {
+    fn from(fault: NodeFault) -> Failure {
+        match fault {
+            NodeFault::Memory => Failure::Memory,
+            _ => Failure::Fault,
+        }
+    }
+}
+
+impl From<SpellingFault> for Failure {
+    fn from(fault: SpellingFault) -> Failure {
+        match fault {
+            SpellingFault::Memory => Failure::Memory,
+            SpellingFault::TooLong => Failure::Fault,
         }
     }
 }

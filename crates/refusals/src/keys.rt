@@ -1,6 +1,7 @@
 //! Calls that are made of nothing.
 use crate::answers::{Answer, Failure};
 use gen_chain::ChainRoom;
+use gen_node::root_of;
 use gen_ots::SigRoom;
 use gen_tree::KeyRing;
 use gen_types::TreeHeight;
@@ -10,6 +11,7 @@ use std::alloc::Global;
 pub(crate) fn call(alloc: Global, name: &str) -> Answer {
     match name {
         "KeyRing::from_seed" => ring(alloc),
+        "root_of" => root(alloc),
         "SigRoom::new" => signature_room(alloc),
         "ChainRoom::new" => chain_room(alloc),
         _ => Err(Failure::Fault),
@@ -21,6 +23,14 @@ fn ring(alloc: Global) -> Answer {
     let ring = KeyRing::from_seed(alloc, &[7; 32], TreeHeight::Six)?;
     let root = ring.root();
     let _taken = ring.close();
+    let mut given = Vec::new(alloc);
+    given.extend_from_slice(&root)?;
+    Ok(given)
+}
+
+/// `root_of`, of a tree of 16 leaves.
+fn root(alloc: Global) -> Answer {
+    let root = root_of(alloc, &[7; 32], TreeHeight::Four)?;
     let mut given = Vec::new(alloc);
     given.extend_from_slice(&root)?;
     Ok(given)

@@ -1,9 +1,10 @@
-//! One call of the libraries, made where memory or threads may be refused.
+//! One call of the libraries, or a row of them, made where memory or threads may be refused.
 //!
 //! Its word is the name of the call, and standard input has what the call is made of: the text of a scenario with a seed,
-//! the bytes of a bundle, or nothing. It writes a line in front of the call and one with what the call answered, so that
-//! whoever refuses can tell what is asked for in between; where the call was refused it is made again, and the answer to
-//! that is the next line. The last line is SHA-256 of what was given, which is the same whatever was refused before.
+//! the bytes of a bundle, what a job reads, or nothing. It writes a line in front of the call and one with what the call
+//! answered, so that whoever refuses can tell what is asked for in between; where the call was refused it is made again, and
+//! the answer to that is the next line. The last line is SHA-256 of what was given, which is the same whatever was refused
+//! before.
 #![tactic(auto)]
 
 mod acting;
@@ -13,6 +14,7 @@ mod desks;
 mod jobs;
 mod keys;
 mod logs;
+mod nodes;
 mod scenarios;
 mod stores;
 mod values;
@@ -110,6 +112,7 @@ fn try_step<R: Print + Wait>(
     match subject {
         Subject::Scene(scenario) => match name {
             "Machine::act" => acting::acts(rt, alloc, scenario),
+            "Node" => nodes::driving(rt, alloc, scenario),
             "Desk::file" => desks::filing(rt, alloc, scenario),
             "Desk::claim" => desks::claiming(rt, alloc, scenario),
             _ => desks::reporting(rt, alloc, scenario),
@@ -127,6 +130,7 @@ fn is_step(name: &str) -> bool {
     matches!(
         name,
         "Machine::act"
+            | "Node"
             | "Desk::file"
             | "Desk::claim"
             | "Desk::report"

@@ -4,10 +4,12 @@ use gen_audit::Bundle;
 use gen_chain::{
     HeadText, SignedChain, Statement, head_text, read_chain, statement_text, write_chain,
 };
+use gen_local::Exhibit;
 use gen_log::{Entry, Log, entry_bytes, read_log};
 use gen_net::{
     Header, HeaderFault, Marks, Net, Version, front_bytes, header_bytes, read_front, read_header,
 };
+use gen_node::make_bundle;
 use gen_types::{GeneralNo, ReadError};
 use gen_walks::{Walk, make_walks};
 use std::alloc::{AllocError, Global};
@@ -22,6 +24,7 @@ pub(crate) fn call(alloc: Global, name: &str, bundle: &Bundle) -> Answer {
         "read_header" => reread_bytes(alloc, bundle.header()),
         "read_front" => front(alloc, bundle.header()),
         "make_walks" => walks(alloc, bundle),
+        "make_bundle" => made_again(alloc, bundle),
         "read_chain" => chains(alloc, bundle),
         "entry_bytes" => entries(alloc, bundle),
         _ => Err(Failure::Fault),
@@ -114,6 +117,23 @@ fn walks(alloc: Global, bundle: &Bundle) -> Answer {
         put_walk(&mut given, walk)?;
     }
     Ok(given)
+}
+
+/// Returns exhibits once more, which share their bytes.
+fn shared(alloc: Global, exhibits: &[Exhibit]) -> Result<Vec<Exhibit>, AllocError> {
+    let mut copies = Vec::new(alloc);
+    for exhibit in exhibits {
+        copies.push(exhibit.share()?)?;
+    }
+    Ok(copies)
+}
+
+/// `make_bundle`, of the parts of a bundle: its bytes.
+fn made_again(alloc: Global, bundle: &Bundle) -> Answer {
+    let header = bundle.header().clone()?;
+    let walks = bundle.walks().clone()?;
+    let exhibits = shared(alloc, bundle.exhibits())?;
+    Ok(make_bundle(alloc, header, *bundle.faulty(), walks, exhibits)?)
 }
 
 /// Returns the log of the last exhibit.
