@@ -15,7 +15,7 @@ import tempfile
 import threading
 import time
 
-from embed import EMBED, IsNotBuilt, TOP, WARNINGS, SANITIZERS, do
+from embed import EMBED, IsNotBuilt, SANITIZERS, STACK, TOP, WARNINGS, do
 from layout import Bundle
 from programs import run, side_by_side
 from scenarios import ZEROS, everybody, scenario
@@ -65,9 +65,9 @@ def make_header(made, folder):
 
 
 def start_general(program, folder, general, length):
-    """A process of a general."""
+    """A process of a general, by the words of a program."""
     others = ",".join(str(other) for other in range(4) if other != general)
-    words = [program, folder, str(general), seed_of(general).hex(), others, str(length), *WORDS.get(general, [])]
+    words = [*program, folder, str(general), seed_of(general).hex(), others, str(length), *WORDS.get(general, [])]
     pipe = subprocess.PIPE
     return subprocess.Popen(words, stdin=pipe, stdout=pipe, stderr=subprocess.DEVNULL, text=True)
 
@@ -124,10 +124,10 @@ def wanted_bundle(program):
     return bundle, run(program, ["decide"], text).wrote.decode().split()
 
 
-def system_wrong(program, made, kind, folder):
+def system_wrong(program, made, general, folder):
     """None where the run of the processes is that of the scenario."""
     make_header(made, folder)
-    statuses, lines = run_in_time(made[kind], folder)
+    statuses, lines = run_in_time(general, folder)
     if statuses != [0, 0, 0]:
         return f"the processes ended with {statuses}: {lines}"
     bundle, decided = wanted_bundle(program)
@@ -393,8 +393,9 @@ def header_wrong(library):
 def try_built(program, tally, folder):
     """All trials over the archive."""
     made, library = build_programs(folder), Library(folder)
-    for kind in ("general", "sanitized"):
-        tally.hold(f"four processes, {kind}", system_wrong(program, made, kind, folder))
+    little = ["sh", "-c", f'ulimit -s {STACK // 1024} && exec "$@"', "sh", made["general"]]
+    for kind, general in (("plain", [made["general"]]), ("sanitized", [made["sanitized"]]), ("1 MiB of stack", little)):
+        tally.hold(f"four processes, {kind}", system_wrong(program, made, general, folder))
     tally.hold("their verdict", verdict_wrong(program, made, folder))
     tally.hold("calls", calls_wrong(program, library, False))
     tally.hold("calls, memory", calls_wrong(program, library, True))
