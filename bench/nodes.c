@@ -2,9 +2,9 @@
 
        nodes TRAITORS
 
-   The commander's order goes round in TRAITORS + 1 rounds, and nobody is a traitor. For general 1 it prints the nanoseconds
-   that his calls take by kind, those of one sm_root, the bytes of his frames in and out and of his log, and the most bytes
-   that he held at once. In place of embed/heap.c stands a heap that counts for whom it is. */
+   The commander's order goes round in TRAITORS + 1 rounds, and nobody is a traitor. For general 1 it prints the
+   nanoseconds that his calls take by kind, those of one sm_root, the bytes of his frames in and out and of his log, and
+   the most bytes that he held at once. In place of embed/heap.c stands a heap that counts for whom it is. */
 #include "sm_node.h"
 #include <stdbool.h>
 #include <stdio.h>

@@ -54,8 +54,10 @@ def main():
         for traitors in (1, 7):
             found = least(program, traitors)
             whole = sum(found[name] for name in CALLS)
-            print(f"{traitors + 1} rounds: {whole / 1e6:.2f} ms, of which " + ", ".join(f"{name} {found[name] / 1e6:.2f}" for name in CALLS))
-            print(f"  frames in {found['in']:,} bytes, out {found['out']:,}; log {found['log']:,}; at most {found['most'] / (1 << 20):.2f} MiB held")
+            parts = ", ".join(f"{name} {found[name] / 1e6:.2f}" for name in CALLS)
+            print(f"{traitors + 1} rounds: {whole / 1e6:.2f} ms, of which {parts}")
+            print(f"  frames in {found['in']:,} bytes, out {found['out']:,}; log {found['log']:,}")
+            print(f"  at most {found['most'] / (1 << 20):.2f} MiB held")
             for name, (message, block) in zip(("without SHA", "without AVX"), times or []):
                 needs = needed(found, message, block)
                 print(f"  hashing, OpenSSL {name}: {needs / 1e6:.2f} ms, ratio {whole / needs:.2f} (goal 1.15)")

@@ -23,7 +23,8 @@ from scenarios import ZEROS, everybody, scenario
 ARCHIVE = os.path.join(TOP, "crates", "sm_node", "out", "libsm_node.a")
 NODES = os.path.join(EMBED, "nodes")
 PROGRAMS = ["header", "general", "bundle"]
-# So long is a round at first, in milliseconds; where a process can't keep to the clock, all are run again with twice as long ones.
+# So long is a round at first, in milliseconds; where a process can't keep to the clock, all are run again with rounds twice
+# as long.
 ROUND, MOST_TRIES = 400, 6
 LATE = 3
 # No run of the processes takes longer, in seconds.
@@ -384,7 +385,9 @@ def header_wrong(library):
     header = two.make_header(2, 1)
     if header[:10] != bytes([2, 1, 2, 0, 1, 2, 0, 1, 0, 1]):
         two.wrong.append(f"the header {header[:10]}")
-    for of, fault in (((1, 0, 1, 0, 1, 2, 0), 1), ((1, 0, 2, 0, 1, 2, 2), 7), ((2, 4, 2, 0, 1, 2, 0), 11), ((3, 0, 2, 0, 1, 2, 0), 10)):
+    cases = [((1, 0, 1, 0, 1, 2, 0), 1), ((1, 0, 2, 0, 1, 2, 2), 7)]
+    cases += [((2, 4, 2, 0, 1, 2, 0), 11), ((3, 0, 2, 0, 1, 2, 0), 10)]
+    for of, fault in cases:
         two.text(BAD, "sm_header", numbers(*of), b"\0\1", ctypes.c_size_t(1), bytes(64), ctypes.c_size_t(2), tail=True)
         two.told(fault)
     return "; ".join(two.wrong) or None
