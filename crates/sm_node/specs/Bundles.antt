@@ -1,6 +1,7 @@
 -- Bundles of logs that were collected.
-use Rattle.std.specs.Prelude.{ℕ, ◌≡◌, ◌⊎◌, ◌≤◌, ◌^◌, ◌==◌, ◌&&◌, ◌++◌, if◌then◌else◌, Bool, List, [], ◌∷◌}
+use Rattle.std.specs.Prelude.{ℕ, ◌≡◌, ◌⊎◌, ◌≤◌, ◌^◌, ◌==◌, ◌&&◌, if◌then◌else◌, Bool, List, [], ◌∷◌}
 use Rattle.std.specs.Prelude.{Option, Some, None, Result, Ok, Err, length, take, drop, nat_lt, nat_le}
+use Rattle.std.specs.Option.{option_map}
 use Rattle.std.specs.declared.alloc.Global.{Global}
 use Rattle.std.specs.declared.vec.Vec.{Vec}
 use Rattle.gen_types.specs.declared.reading.ReadError.{ReadError}
@@ -33,17 +34,13 @@ is_in_front log bytes = nat_lt log.general 16 && nat_le log.bytes (length bytes)
 abbrev pub log_in_front : SmLog → List ℕ → LogBytes
 log_in_front log bytes = record { general = log.general; bytes = take log.bytes bytes }
 
--- behind the logs that are had already come these, one after another in the bytes, and nothing else
-abbrev pub logs_behind : List LogBytes → List SmLog → List ℕ → Option (List LogBytes)
-logs_behind had [] bytes = if length bytes == 0 then Some had else None
-logs_behind had (log ∷ logs) bytes =
-    if is_in_front log bytes
-    then logs_behind (had ++ log_in_front log bytes ∷ []) logs (drop log.bytes bytes)
-    else None
-
--- these logs stand one after another in the bytes
+-- the logs that stand one after another in the bytes, where exactly these do
 abbrev pub logs_in : List SmLog → List ℕ → Option (List LogBytes)
-logs_in logs bytes = logs_behind [] logs bytes
+logs_in [] bytes = if length bytes == 0 then Some [] else None
+logs_in (log ∷ logs) bytes =
+    if is_in_front log bytes
+    then option_map (λ others. log_in_front log bytes ∷ others) (logs_in logs (drop log.bytes bytes))
+    else None
 
 -- best walks between the others, and what comes of them
 pub record Gathers (bytes : List ℕ) (faulty : List ℕ) (logs : List LogBytes) (h : RunHeader)
