@@ -1,9 +1,10 @@
 """The library of nodes for C (embed/sm_node.h), as four processes over sockets (embed/nodes/) and call by call.
 
-The archive is crates/sm_node/out/libsm_node.a, which `rt lib` builds in crates/sm_node; without it, or without a compiler,
-nothing is tried, and a line says so. One process is a commander who tells two orders, by two nodes of one seed, and one is
-killed in the second round. The others' logs, and the bundle that is made of them, are those of the scenario whose scripts say
-what these two do, byte for byte. The calls are made by ctypes, over a heap that refuses (refusing_heap.c).
+The archive is crates/sm_node/out/libsm_node.a, which `rt lib` builds in crates/sm_node; without it, or without a
+compiler, nothing is tried, and a line says so. One process is a commander who tells two orders, by two nodes of one seed,
+and one is killed in the second round. The others' logs, and the bundle that is made of them, are those of the scenario
+whose scripts say what these two do, byte for byte. The calls are made by ctypes, over a heap that refuses
+(refusing_heap.c).
 """
 import contextlib
 import ctypes
@@ -15,7 +16,7 @@ import tempfile
 import threading
 import time
 
-from embed import EMBED, IsNotBuilt, SANITIZERS, STACK, TOP, WARNINGS, do
+from embed import ARCHIVE as JOBS, EMBED, IsNotBuilt, SANITIZERS, STACK, TOP, WARNINGS, do
 from layout import Bundle
 from programs import run, side_by_side
 from scenarios import ZEROS, everybody, scenario
@@ -48,13 +49,17 @@ def seed_of(general, master=ZEROS):
 
 
 def build_programs(folder):
-    """The programs of embed/nodes, the general under sanitizers too."""
+    """The programs of embed/nodes, the general under sanitizers too, that of bundles with the other library in it."""
     of_c = ["cc", "-std=c11", "-O2", "-D_DEFAULT_SOURCE", *WARNINGS, "-I", EMBED]
     builds = {name: [*of_c, os.path.join(NODES, f"{name}.c")] for name in PROGRAMS}
     builds["sanitized"] = [*of_c, *SANITIZERS, os.path.join(NODES, "general.c")]
     made = {name: os.path.join(folder, f"{name}.built") for name in builds}
     rest = [os.path.join(EMBED, "heap.c"), ARCHIVE]
     side_by_side(lambda name: do([*builds[name], *rest, "-o", made[name]]), builds)
+    if os.path.exists(JOBS):
+        # All of both archives in one program, in which no name may stand twice.
+        both = ["-Wl,--whole-archive", ARCHIVE, JOBS, "-Wl,--no-whole-archive"]
+        do([*builds["bundle"], rest[0], *both, "-o", made["bundle"]])
     return made
 
 
@@ -174,7 +179,7 @@ class Library:
         return getattr(self.calls, name)(*words)
 
     def refused(self, name, *words):
-        """What a call answers at last, which is made again for each allocation that is refused, and how often it was refused."""
+        """What a call answers at last, which is made again for each allocation that is refused, and how often it was."""
         for count in range(1 << 20):
             self.left.value = count
             status = self.call(name, *words)
