@@ -115,7 +115,8 @@ HandsBundle bytes faulty logs old new count fault Length =
     (fault ≡ 0) × (faulty < 2 ^ 16) × ((xs : List LogBytes) × (text : List ℕ) × (logs ≡ Some xs)
     × IsGathered bytes (members_of faulty) xs text × PutsText text old new count Length)
 HandsBundle bytes faulty logs old new count fault Fault =
-    IsUntouched old new count × (faulty < 2 ^ 16) × ((xs : List LogBytes) × (f : GatherFault) × (logs ≡ Some xs)
+    IsUntouched old new count × (faulty < 2 ^ 16)
+    × ((xs : List LogBytes) × (f : GatherFault) × (logs ≡ Some xs)
     × IsGatherFault bytes (members_of faulty) xs f × (fault ≡ gather_number f))
 HandsBundle bytes faulty logs old new count fault Memory =
     (fault ≡ 0) × (faulty < 2 ^ 16) × IsUntouched old new count
