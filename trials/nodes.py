@@ -1,9 +1,10 @@
 """The library of nodes for C (embed/sm_node.h), as four processes over sockets (embed/nodes/) and call by call.
 
-The archive is crates/sm_node/out/libsm_node.a, which `rt lib` builds in crates/sm_node; without it, or without a compiler,
-nothing is tried, and a line says so. One process is a commander who tells two orders, by two nodes of one seed, and one is
-killed in the second round. The others' logs, and the bundle that is made of them, are those of the scenario whose scripts say
-what these two do, byte for byte. The calls are made by ctypes, over a heap that refuses (refusing_heap.c).
+The archive is crates/sm_node/out/libsm_node.a, which `rt lib` builds in crates/sm_node; without it, or without a
+compiler, nothing is tried, and a line says so. One process is a commander who tells two orders, by two nodes of one seed,
+and one is killed in the second round. The others' logs, and the bundle that is made of them, are those of the scenario
+whose scripts say what these two do, byte for byte. The calls are made by ctypes, over a heap that refuses
+(refusing_heap.c).
 """
 import contextlib
 import ctypes
@@ -15,7 +16,7 @@ import tempfile
 import threading
 import time
 
-from embed import EMBED, IsNotBuilt, TOP, WARNINGS, SANITIZERS, do
+from embed import ARCHIVE as JOBS, EMBED, IsNotBuilt, SANITIZERS, STACK, TOP, WARNINGS, do
 from layout import Bundle
 from programs import run, side_by_side
 from scenarios import ZEROS, everybody, scenario
@@ -23,7 +24,8 @@ from scenarios import ZEROS, everybody, scenario
 ARCHIVE = os.path.join(TOP, "crates", "sm_node", "out", "libsm_node.a")
 NODES = os.path.join(EMBED, "nodes")
 PROGRAMS = ["header", "general", "bundle"]
-# So long is a round at first, in milliseconds; where a process can't keep to the clock, all are run again with twice as long ones.
+# So long is a round at first, in milliseconds; where a process can't keep to the clock, all are run again with rounds twice
+# as long.
 ROUND, MOST_TRIES = 400, 6
 LATE = 3
 # No run of the processes takes longer, in seconds.
@@ -47,13 +49,17 @@ def seed_of(general, master=ZEROS):
 
 
 def build_programs(folder):
-    """The programs of embed/nodes, the general under sanitizers too."""
+    """The programs of embed/nodes, the general under sanitizers too, that of bundles with the other library in it."""
     of_c = ["cc", "-std=c11", "-O2", "-D_DEFAULT_SOURCE", *WARNINGS, "-I", EMBED]
     builds = {name: [*of_c, os.path.join(NODES, f"{name}.c")] for name in PROGRAMS}
     builds["sanitized"] = [*of_c, *SANITIZERS, os.path.join(NODES, "general.c")]
     made = {name: os.path.join(folder, f"{name}.built") for name in builds}
     rest = [os.path.join(EMBED, "heap.c"), ARCHIVE]
     side_by_side(lambda name: do([*builds[name], *rest, "-o", made[name]]), builds)
+    if os.path.exists(JOBS):
+        # All of both archives in one program, in which no name may stand twice.
+        both = ["-Wl,--whole-archive", ARCHIVE, JOBS, "-Wl,--no-whole-archive"]
+        do([*builds["bundle"], rest[0], *both, "-o", made["bundle"]])
     return made
 
 
@@ -65,9 +71,9 @@ def make_header(made, folder):
 
 
 def start_general(program, folder, general, length):
-    """A process of a general."""
+    """A process of a general, by the words of a program."""
     others = ",".join(str(other) for other in range(4) if other != general)
-    words = [program, folder, str(general), seed_of(general).hex(), others, str(length), *WORDS.get(general, [])]
+    words = [*program, folder, str(general), seed_of(general).hex(), others, str(length), *WORDS.get(general, [])]
     pipe = subprocess.PIPE
     return subprocess.Popen(words, stdin=pipe, stdout=pipe, stderr=subprocess.DEVNULL, text=True)
 
@@ -124,10 +130,10 @@ def wanted_bundle(program):
     return bundle, run(program, ["decide"], text).wrote.decode().split()
 
 
-def system_wrong(program, made, kind, folder):
+def system_wrong(program, made, general, folder):
     """None where the run of the processes is that of the scenario."""
     make_header(made, folder)
-    statuses, lines = run_in_time(made[kind], folder)
+    statuses, lines = run_in_time(general, folder)
     if statuses != [0, 0, 0]:
         return f"the processes ended with {statuses}: {lines}"
     bundle, decided = wanted_bundle(program)
@@ -173,7 +179,7 @@ class Library:
         return getattr(self.calls, name)(*words)
 
     def refused(self, name, *words):
-        """What a call answers at last, which is made again for each allocation that is refused, and how often it was refused."""
+        """What a call answers at last, which is made again for each allocation that is refused, and how often it was."""
         for count in range(1 << 20):
             self.left.value = count
             status = self.call(name, *words)
@@ -384,7 +390,9 @@ def header_wrong(library):
     header = two.make_header(2, 1)
     if header[:10] != bytes([2, 1, 2, 0, 1, 2, 0, 1, 0, 1]):
         two.wrong.append(f"the header {header[:10]}")
-    for of, fault in (((1, 0, 1, 0, 1, 2, 0), 1), ((1, 0, 2, 0, 1, 2, 2), 7), ((2, 4, 2, 0, 1, 2, 0), 11), ((3, 0, 2, 0, 1, 2, 0), 10)):
+    cases = [((1, 0, 1, 0, 1, 2, 0), 1), ((1, 0, 2, 0, 1, 2, 2), 7)]
+    cases += [((2, 4, 2, 0, 1, 2, 0), 11), ((3, 0, 2, 0, 1, 2, 0), 10)]
+    for of, fault in cases:
         two.text(BAD, "sm_header", numbers(*of), b"\0\1", ctypes.c_size_t(1), bytes(64), ctypes.c_size_t(2), tail=True)
         two.told(fault)
     return "; ".join(two.wrong) or None
@@ -393,8 +401,9 @@ def header_wrong(library):
 def try_built(program, tally, folder):
     """All trials over the archive."""
     made, library = build_programs(folder), Library(folder)
-    for kind in ("general", "sanitized"):
-        tally.hold(f"four processes, {kind}", system_wrong(program, made, kind, folder))
+    little = ["sh", "-c", f'ulimit -s {STACK // 1024} && exec "$@"', "sh", made["general"]]
+    for kind, general in (("plain", [made["general"]]), ("sanitized", [made["sanitized"]]), ("1 MiB of stack", little)):
+        tally.hold(f"four processes, {kind}", system_wrong(program, made, general, folder))
     tally.hold("their verdict", verdict_wrong(program, made, folder))
     tally.hold("calls", calls_wrong(program, library, False))
     tally.hold("calls, memory", calls_wrong(program, library, True))

@@ -1,6 +1,7 @@
 /* A heap for the library of nodes that refuses: in place of embed/heap.c.
 
-   Where `left` is not negative, so many blocks are still had, and each after them is refused. `blocks` is how many are held. */
+   Where `left` is not negative, so many blocks are still had, and each after them is refused. `blocks` is how many are
+   held. */
 #include <stdbool.h>
 #include <stddef.h>
 #include <stdint.h>

@@ -2,8 +2,8 @@
 
        bundle FOLDER FAULTY GENERAL ..
 
-   FOLDER has the file header, and GENERAL.log for each general of the words, who ascend. FAULTY is the set of those who are
-   held for faulty, bit g for general g. */
+   FOLDER has the file header, and GENERAL.log for each general of the words, who ascend. FAULTY is the set of those who
+   are held for faulty, bit g for general g. */
 #include "files.h"
 #include "sm_node.h"
 
@@ -36,9 +36,9 @@ int main(int count, char **words) {
     struct bytes header = read_file(words[1], "header");
     struct bytes all = read_logs(words[1], words + 3, count - 3, logs);
     struct bytes room = room_of(header.length + all.length + 10000);
-    must(sm_bundle(header.at, header.length, read_number(words[2]), logs, (size_t)(count - 3), all.at, all.length, room.at,
-                   room.length, &length, &fault),
-         "sm_bundle");
+    uint32_t status = sm_bundle(header.at, header.length, read_number(words[2]), logs, (size_t)(count - 3), all.at,
+                                all.length, room.at, room.length, &length, &fault);
+    must(status, "sm_bundle");
     if (fwrite(room.at, 1, length, stdout) != length || fflush(stdout) != 0) give_up("standard output");
     free(header.at);
     free(all.at);

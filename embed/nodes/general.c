@@ -1,15 +1,15 @@
-/* A general of a run as a process, over Unix datagram sockets. Rounds are parted by the clock: frames are sent in the first
-   half of a round and taken until its last quarter, and whose frame has not come by then has sent nothing.
+/* A general of a run as a process, over Unix datagram sockets. Rounds are parted by the clock: frames are sent in the
+   first half of a round and taken until its last quarter, and whose frame has not come by then has sent nothing.
 
        general FOLDER GENERAL SEED NEIGHBOURS MILLISECONDS [ORDER [OTHER DECEIVED]]
 
-   FOLDER has the file header, and a socket for each general. A round takes MILLISECONDS. Neighbours are written as 0,2,3.
-   The commander has an ORDER. With another order he is a traitor: he runs two nodes of one seed, and the DECEIVED get the
-   frames of the second.
+   FOLDER has the file header, and a socket for each general. A round takes MILLISECONDS. Neighbours are written as
+   0,2,3. The commander has an ORDER. With another order he is a traitor: he runs two nodes of one seed, and the DECEIVED
+   get the frames of the second.
 
-   The general says `ready`, reads when the first round begins, in milliseconds of the monotonic clock, says `round R` when
-   he has sent his frames of a round, and at last `decides V`; his log is in FOLDER/GENERAL.log then. The status is 3 where
-   the machine was too busy for him to keep to the clock. */
+   The general says `ready`, reads when the first round begins, in milliseconds of the monotonic clock, says `round R`
+   when he has sent his frames of a round, and at last `decides V`; his log is in FOLDER/GENERAL.log then. The status is
+   3 where the machine was too busy for him to keep to the clock. */
 #include "files.h"
 #include "sm_node.h"
 #include <poll.h>

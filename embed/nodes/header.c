@@ -35,8 +35,9 @@ static void make(const char *folder, char **words, int roots) {
     size_t count, edge_count = read_edges(words[5], edges);
     uint32_t fault;
     for (int general = 0; general < roots; general++) read_32(words[6 + general], known + 32 * general);
-    sm_numbers numbers = {1, 0, (uint8_t)read_number(words[0]), (uint8_t)read_number(words[1]),
-                          (uint8_t)read_number(words[2]), (uint8_t)read_number(words[3]), (uint8_t)read_number(words[4])};
+    uint8_t given[5];
+    for (int place = 0; place < 5; place++) given[place] = (uint8_t)read_number(words[place]);
+    sm_numbers numbers = {1, 0, given[0], given[1], given[2], given[3], given[4]};
     must(sm_header(&numbers, edges, edge_count, known, (size_t)roots, room, sizeof room, &count, &fault), "sm_header");
     write_file(folder, "header", room, count);
 }

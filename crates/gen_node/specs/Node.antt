@@ -128,6 +128,10 @@ is_open _ = false
 abbrev pub awaits : Node → ℕ → Bool
 awaits n g = is_open n.stage && is_among (neighbours_at n.recorder) g
 
+-- his frame is awaited still: none of him was handed in
+abbrev pub is_awaited : Node → ℕ → Bool
+is_awaited n from = awaits n from && not (is_some (held_of from n.inbox))
+
 -- the frame of this round to a neighbour
 abbrev pub frame_to : Recorder → ℕ → Frame
 frame_to r to = record {

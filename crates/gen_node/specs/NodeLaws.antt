@@ -38,7 +38,7 @@ pub record IsAfter (s : Scenario) (k g : ℕ) (n : Node) : Type 0 where
   pub unscripted : n.recorder.standing.known.script ≡ None
   pub stage : n.stage ≡ Between
 
--- he is he in the round after the first k, which is open
+-- he is that general within the round after the first k, which is open
 pub record IsWithin (s : Scenario) (k g : ℕ) (n : Node) : Type 0 where
   pub records : HasHeard s k g [] n.recorder
   pub unscripted : n.recorder.standing.known.script ≡ None

@@ -2,7 +2,7 @@
 ghost use Rattle.std.specs.Prelude.{◌≡◌, ◌<◌, ◌^◌, ◌++◌, ◌↔◌, All, Err, IfOk, IsTrue, OnOk, length};
 ghost use Rattle.std.specs.List.{flat_map};
 ghost use Rattle.gen_types.specs.Spelled.{Spells};
-ghost use Rattle.gen_node.specs.declared.spelling_fault.SpellingFault.TheVariants.{TooLong};
+ghost use Rattle.gen_node.specs.declared.spelling_fault.SpellingFault.TheVariants.{Memory, TooLong};
 ghost use Rattle.gen_node.specs.Frame.{IsFrame, IsFront, IsParcel, frame_spelling, front_spelling, parcel_spelling};
 
 use crate::frame_reading::FRAME_MARK;
@@ -62,6 +62,15 @@ fn put_parcels(out: &mut Vec<u8>, parcels: &[Parcel]) -> Result<(), AllocError>
     Ok(())
 }
 
+/// A frame of few short parcels has a spelling.
+fn few_fit(front: &FrameFront, parcels: &[Parcel])
+    requires few { length parcels.now < 2 ^ 16 }
+    requires short { All IsParcel parcels.now }
+    ensures { IsFrame (record { front = front.now; parcels = parcels.now }) }
+{
+    parts_fit(front.run_id, front.round, front.from, front.to);
+}
+
 /// Returns the one spelling of a frame that has one.
 pub(crate) fn spelled(
     alloc: Global,
@@ -95,9 +104,11 @@ pub fn frame_bytes(
     ensures ok { IfOk result (λ bytes. Spells IsFrame frame_spelling bytes.items
         (record { front = front.now; parcels = parcels.now })) }
     ensures long { result ≡ Err TooLong → IsFrame (record { front = front.now; parcels = parcels.now }) → ⊥ }
+    ensures memory { result ≡ Err Memory → IsFrame (record { front = front.now; parcels = parcels.now }) }
 {
     if u16::try_from(parcels.len()).is_err() || !are_short(parcels) {
         return Err(SpellingFault::TooLong);
     }
+    few_fit(front, parcels);
     Ok(spelled(alloc, front, parcels)?)
 }

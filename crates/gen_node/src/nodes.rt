@@ -1,6 +1,7 @@
 //! One general of a run, driven from outside.
 ghost use Rattle.std.specs.Prelude.{◌≡◌, ◌<◌, ◌↔◌, IsTrue, true, [], Err, Some, None, IfOk, IfErr, OnOk, OnErr};
 ghost use Rattle.std.specs.Str.{bytes_eq};
+ghost use Rattle.gen_types.specs.declared.reading.ReadError.TheVariants as errors;
 ghost use Rattle.gen_types.specs.Reading.{Gives};
 ghost use Rattle.gen_types.specs.Spelled.{IsRead, Spells};
 ghost use Rattle.gen_net.specs.Header.{height_of};
@@ -346,6 +347,7 @@ impl Node {
         bytes: &[u8],
     ) -> Result<(), ReadError<FrameFault>>
         ensures exact { Gives (λ _. self.new) result (handed self.old from bytes.now) }
+        ensures memory { result ≡ Err errors.Memory → nodes.is_awaited self.old from ≡ true }
         ensures err { OnErr result (self.new ≡ self.old) }
     {
         let frame = self.awaited_frame(alloc, from, bytes)?;
@@ -361,7 +363,9 @@ impl Node {
         from: GeneralNo,
         bytes: &[u8],
     ) -> Result<Frame, ReadError<FrameFault>>
-        ensures { IsRead result (awaited self.now from bytes.now) }
+        ensures read { IsRead result (awaited self.now from bytes.now) }
+        ensures memory { result ≡ Err errors.Memory → nodes.is_awaited self.now from ≡ true }
+        ensures waits { IfOk result (λ _. nodes.is_awaited self.now from ≡ true) }
     {
         check(self.awaits(from), FrameFault::NotAwaited)?;
         check(!is_held(self.inbox.as_slice(), from), FrameFault::Twice)?;

@@ -1,6 +1,7 @@
 -- Bundles of logs that were collected.
-use Rattle.std.specs.Prelude.{ℕ, ◌≡◌, ◌⊎◌, ◌≤◌, ◌^◌, ◌==◌, ◌&&◌, ◌++◌, if◌then◌else◌, Bool, List, [], ◌∷◌}
+use Rattle.std.specs.Prelude.{ℕ, ◌≡◌, ◌⊎◌, ◌<◌, ◌≤◌, ◌^◌, ◌==◌, ◌&&◌, if◌then◌else◌, Bool, List, [], ◌∷◌}
 use Rattle.std.specs.Prelude.{Option, Some, None, Result, Ok, Err, length, take, drop, nat_lt, nat_le}
+use Rattle.std.specs.Option.{option_map}
 use Rattle.std.specs.declared.alloc.Global.{Global}
 use Rattle.std.specs.declared.vec.Vec.{Vec}
 use Rattle.gen_types.specs.declared.reading.ReadError.{ReadError}
@@ -33,21 +34,17 @@ is_in_front log bytes = nat_lt log.general 16 && nat_le log.bytes (length bytes)
 abbrev pub log_in_front : SmLog → List ℕ → LogBytes
 log_in_front log bytes = record { general = log.general; bytes = take log.bytes bytes }
 
--- behind the logs that are had already come these, one after another in the bytes, and nothing else
-abbrev pub logs_behind : List LogBytes → List SmLog → List ℕ → Option (List LogBytes)
-logs_behind had [] bytes = if length bytes == 0 then Some had else None
-logs_behind had (log ∷ logs) bytes =
+-- the logs that stand one after another in the bytes, where exactly these do
+abbrev pub logs_in : List SmLog → List ℕ → Option (List LogBytes)
+logs_in [] bytes = if length bytes == 0 then Some [] else None
+logs_in (log ∷ logs) bytes =
     if is_in_front log bytes
-    then logs_behind (had ++ log_in_front log bytes ∷ []) logs (drop log.bytes bytes)
+    then option_map (λ others. log_in_front log bytes ∷ others) (logs_in logs (drop log.bytes bytes))
     else None
 
--- these logs stand one after another in the bytes
-abbrev pub logs_in : List SmLog → List ℕ → Option (List LogBytes)
-logs_in logs bytes = logs_behind [] logs bytes
-
--- best walks between the others, and what comes of them
-pub record Gathers (bytes : List ℕ) (faulty : List ℕ) (logs : List LogBytes) (h : RunHeader)
-    (rest : List ℕ) (walks : List (List ℕ)) : Type 0 where
+-- the header of the bytes, the generals who aren't held for faulty, and best walks between them
+pub record Gathers (bytes : List ℕ) (faulty : List ℕ) (h : RunHeader) (rest : List ℕ)
+    (walks : List (List ℕ)) : Type 0 where
   pub header : header_in bytes ≡ Ok h
   pub others : IsListOf rest (IsLoyal h.network faulty)
   pub best : AreBestWalks h.network rest walks
@@ -55,7 +52,7 @@ pub record Gathers (bytes : List ℕ) (faulty : List ℕ) (logs : List LogBytes)
 -- the bytes are the bundle of a header's bytes, those who are held for faulty, and logs
 abbrev pub IsGathered : List ℕ → List ℕ → List LogBytes → List ℕ → Type 0
 IsGathered bytes faulty logs text =
-    (h : RunHeader) × (rest : List ℕ) × (walks : List (List ℕ)) × Gathers bytes faulty logs h rest walks
+    (h : RunHeader) × (rest : List ℕ) × (walks : List (List ℕ)) × Gathers bytes faulty h rest walks
     × (bundle_bytes h faulty walks logs ≡ Ok text)
 
 -- as a fault of a bundle
@@ -76,7 +73,7 @@ IsGatherFault bytes faulty logs (Header f) = header_in bytes ≡ Err f
 IsGatherFault bytes faulty logs NoWalk = HasNoWalks bytes faulty NoWalk
 IsGatherFault bytes faulty logs LongWalk = HasNoWalks bytes faulty LongWalk
 IsGatherFault bytes faulty logs (Bundle f) =
-    (h : RunHeader) × (rest : List ℕ) × (walks : List (List ℕ)) × Gathers bytes faulty logs h rest walks
+    (h : RunHeader) × (rest : List ℕ) × (walks : List (List ℕ)) × Gathers bytes faulty h rest walks
     × (bundle_bytes h faulty walks logs ≡ Err f)
 
 -- one or the other, unless memory is refused
@@ -112,14 +109,16 @@ FindsWalks h faulty (Err (errors.Fault f)) =
 -- the bundle's bytes are handed out, or the number of a fault is told
 abbrev pub HandsBundle : List ℕ → ℕ → Option (List LogBytes) → List ℕ → List ℕ → ℕ → ℕ → Told → Type 0
 HandsBundle bytes faulty logs old new count fault Done =
-    (fault ≡ 0) × ((xs : List LogBytes) × (text : List ℕ) × (logs ≡ Some xs)
+    (fault ≡ 0) × (faulty < 2 ^ 16) × ((xs : List LogBytes) × (text : List ℕ) × (logs ≡ Some xs)
     × IsGathered bytes (members_of faulty) xs text × PutsText text old new count Done)
 HandsBundle bytes faulty logs old new count fault Length =
-    (fault ≡ 0) × ((xs : List LogBytes) × (text : List ℕ) × (logs ≡ Some xs)
+    (fault ≡ 0) × (faulty < 2 ^ 16) × ((xs : List LogBytes) × (text : List ℕ) × (logs ≡ Some xs)
     × IsGathered bytes (members_of faulty) xs text × PutsText text old new count Length)
 HandsBundle bytes faulty logs old new count fault Fault =
-    IsUntouched old new count × ((xs : List LogBytes) × (f : GatherFault) × (logs ≡ Some xs)
+    IsUntouched old new count × (faulty < 2 ^ 16)
+    × ((xs : List LogBytes) × (f : GatherFault) × (logs ≡ Some xs)
     × IsGatherFault bytes (members_of faulty) xs f × (fault ≡ gather_number f))
-HandsBundle bytes faulty logs old new count fault Memory = (fault ≡ 0) × IsUntouched old new count
+HandsBundle bytes faulty logs old new count fault Memory =
+    (fault ≡ 0) × (faulty < 2 ^ 16) × IsUntouched old new count
 HandsBundle bytes faulty logs old new count fault Misuse =
     (fault ≡ 0) × IsUntouched old new count × ((2 ^ 16 ≤ faulty) ⊎ (logs ≡ None))

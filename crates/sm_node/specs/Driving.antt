@@ -5,7 +5,7 @@ use Rattle.gen_general.specs.Recording.{log_written}
 use Rattle.gen_node.specs.declared.frame_fault.FrameFault.{FrameFault}
 use Rattle.gen_node.specs.Frame.{IsFrame, frame_spelling}
 use Rattle.gen_node.specs.Node.{Node, IsBegun, awaits, decision_of_node, ended, frame_to, handed}
-use Rattle.gen_node.specs.Node.{is_over, may_begin, may_end}
+use Rattle.gen_node.specs.Node.{is_awaited, is_over, may_begin, may_end}
 use Rattle.sm_node.specs.declared.held.Ending.{Ending}
 use Rattle.sm_node.specs.declared.held.Held.{Held}
 use Rattle.sm_node.specs.declared.held.Held.TheVariants.{Ended}
@@ -13,7 +13,7 @@ use Rattle.sm_node.specs.declared.told.Told.{Told}
 use Rattle.sm_node.specs.declared.told.Told.TheVariants.{Done, Misuse, Fault, Memory, Length}
 use Rattle.sm_node.specs.Faults.{frame_number}
 use Rattle.sm_node.specs.Handing.{IsUntouched, PutsText}
-use Rattle.sm_node.specs.Held.{allows, has_ended, is_running, Becomes, IsRunning}
+use Rattle.sm_node.specs.Held.{allows, has_ended, Becomes, IsRunning}
 
 -- the call may not be made: no node is there that passes the test, and nothing has changed
 abbrev pub IsRefused : (Node → Bool) → Option Held → Option Held → Type 0
@@ -21,25 +21,28 @@ IsRefused may old new = (new ≡ old) × (allows may old ≡ false)
 
 -- a round begins, or memory was refused, and the same call goes on with it
 abbrev pub Begins : Option Held → Option Held → Told → Type 0
-Begins old new Done = Becomes IsBegun old new
+Begins old new Done = (allows may_begin old ≡ true) × Becomes IsBegun old new
 Begins old new Misuse = IsRefused may_begin old new
 Begins old new Memory =
-    Becomes (λ n m. ((later : Node) → IsBegun m later → IsBegun n later) × (may_begin m ≡ true)) old new
+    (allows may_begin old ≡ true)
+    × Becomes (λ n m. ((later : Node) → IsBegun m later → IsBegun n later) × (may_begin m ≡ true)) old new
 Begins old new Fault = ⊥
 Begins old new Length = ⊥
 
 -- a round ends, or memory was refused, and the same call goes on with it
 abbrev pub Ends : Option Held → Option Held → Told → Type 0
-Ends old new Done = Becomes (λ n m. m ≡ ended n) old new
+Ends old new Done = (allows may_end old ≡ true) × Becomes (λ n m. m ≡ ended n) old new
 Ends old new Misuse = IsRefused may_end old new
-Ends old new Memory = Becomes (λ n m. (ended m ≡ ended n) × (may_end m ≡ true)) old new
+Ends old new Memory =
+    (allows may_end old ≡ true) × Becomes (λ n m. (ended m ≡ ended n) × (may_end m ≡ true)) old new
 Ends old new Fault = ⊥
 Ends old new Length = ⊥
 
--- the bytes are the frame of this round to a neighbour
+-- a round is open, and the bytes are the frame of this round to a neighbour
 abbrev pub IsFrameTo : ℕ → Option Held → List ℕ → Type 0
 IsFrameTo to held bytes =
-    (n : Node) × IsRunning held n × Spells IsFrame frame_spelling bytes (frame_to n.recorder to)
+    (n : Node) × IsRunning held n × (awaits n to ≡ true)
+    × Spells IsFrame frame_spelling bytes (frame_to n.recorder to)
 
 -- that frame is handed out
 abbrev pub Sends : ℕ → Option Held → List ℕ → List ℕ → ℕ → Told → Type 0
@@ -58,13 +61,14 @@ Hears from bytes old new fault Fault =
     (new ≡ old) × ((n : Node) × (f : FrameFault) × IsRunning old n × (handed n from bytes ≡ Err f)
     × (fault ≡ frame_number f))
 Hears from bytes old new fault Misuse = (fault ≡ 0) × IsRefused (λ _. true) old new
-Hears from bytes old new fault Memory = (fault ≡ 0) × (new ≡ old) × (is_running old ≡ true)
+Hears from bytes old new fault Memory =
+    (fault ≡ 0) × (new ≡ old) × (allows (λ n. is_awaited n from) old ≡ true)
 Hears from bytes old new fault Length = ⊥
 
 -- the node ends after the last round: of it are left its log, sealed, and its decision
 abbrev pub Finishes : Option Held → Option Held → Told → Type 0
 Finishes old new Done =
-    (n : Node) × IsRunning old n
+    (n : Node) × IsRunning old n × (is_over n ≡ true)
     × (new ≡ Some (Ended (record { log = log_written n.recorder; decision = decision_of_node n.recorder })))
 Finishes old new Misuse = IsRefused is_over old new
 Finishes old new Memory = (new ≡ old) × (allows is_over old ≡ true)

@@ -17,10 +17,6 @@ allows may (Some Empty) = false
 allows may (Some (Running n)) = may n
 allows may (Some (Ended e)) = false
 
--- there is a node that has not ended
-abbrev pub is_running : Option Held → Bool
-is_running held = allows (λ _. true) held
-
 -- there is a node that has ended
 abbrev pub has_ended : Option Held → Bool
 has_ended None = false

@@ -1,5 +1,5 @@
 -- How a node begins, and why it doesn't.
-use Rattle.std.specs.Prelude.{ℕ, ◌≡◌, ◌⊎◌, ◌==◌, ◌&&◌, ◌||◌, if◌then◌else◌, Bool, false, List}
+use Rattle.std.specs.Prelude.{ℕ, ◌≡◌, ◌⊎◌, ◌==◌, ◌&&◌, ◌||◌, if◌then◌else◌, Bool, true, false, List}
 use Rattle.std.specs.Prelude.{Option, Some, None, IsSome, Result, Ok, Err, nat_lt}
 use Rattle.gen_types.specs.declared.heights.TreeHeight.{TreeHeight}
 use Rattle.gen_types.specs.declared.heights.TreeHeight.TheVariants.{Four, Six}
@@ -51,17 +51,21 @@ StartsNode bytes general seed own (Ok n) = (h : RunHeader) × IsStarted bytes ge
 StartsNode bytes general seed own (Err errors.Memory) = Unit {0}
 StartsNode bytes general seed own (Err (errors.Fault f)) = IsStartFault bytes general seed own f
 
+-- the call may be made: nothing is there, and the numbers are a general's and an order's
+abbrev pub MayStart : ℕ → ℕ → Option Held → Type 0
+MayStart general order old = (old ≡ None) × (are_numbers general order ≡ true)
+
 -- a node stands where none stood, or the number of a fault is told
 abbrev pub Starts : List ℕ → ℕ → List ℕ → ℕ → Option Held → Option Held → ℕ → Told → Type 0
 Starts bytes general seed order old new fault Done =
-    (fault ≡ 0) × (old ≡ None) × ((h : RunHeader) × (n : Node) × IsRunning new n
+    (fault ≡ 0) × MayStart general order old × ((h : RunHeader) × (n : Node) × IsRunning new n
     × IsStarted bytes general seed (own_order order) h n)
 Starts bytes general seed order old new fault Misuse =
     (fault ≡ 0) × (new ≡ old) × ((are_numbers general order ≡ false) ⊎ IsSome old)
 Starts bytes general seed order old new fault Fault =
-    (new ≡ old) × ((f : StartFault) × IsStartFault bytes general seed (own_order order) f
-    × (fault ≡ start_number f))
-Starts bytes general seed order old new fault Memory = (fault ≡ 0) × (new ≡ old)
+    (new ≡ old) × MayStart general order old × ((f : StartFault)
+    × IsStartFault bytes general seed (own_order order) f × (fault ≡ start_number f))
+Starts bytes general seed order old new fault Memory = (fault ≡ 0) × (new ≡ old) × MayStart general order old
 Starts bytes general seed order old new fault Length = ⊥
 
 -- the height of a version's trees, 4 in version 1 and 6 in version 2
@@ -73,6 +77,7 @@ abbrev pub WritesRoot : List ℕ → ℕ → List ℕ → List ℕ → Told → 
 WritesRoot seed version old new Done =
     (height : TreeHeight) × (height_numbered version ≡ Some height) × (new ≡ ring_root seed height)
 WritesRoot seed version old new Misuse = (new ≡ old) × (height_numbered version ≡ None)
-WritesRoot seed version old new Memory = new ≡ old
+WritesRoot seed version old new Memory =
+    (new ≡ old) × ((height : TreeHeight) × (height_numbered version ≡ Some height))
 WritesRoot seed version old new Fault = ⊥
 WritesRoot seed version old new Length = ⊥

@@ -41,6 +41,7 @@ fn is_in_front(log: SmLog, bytes: &[u8]) -> bool
 }
 
 /// The logs that stand one after another in the bytes, and None where not exactly these do.
+#[tactic(auto, using(crate::proofs::Gathering::taken_off, crate::proofs::Gathering::none_had, crate::proofs::Gathering::all_had))]
 fn logs_in(alloc: Global, logs: &[SmLog], bytes: &[u8]) -> Result<Option<Vec<Exhibit>>, AllocError>
     ensures { IfOk result (λ found. gathering.listed found ≡ gathering.logs_in logs.now bytes.now) }
 {

@@ -10,7 +10,7 @@ use gen_net::{Header, HeaderFault, Net, header_bytes, read_header};
 use gen_types::{ReadError, check};
 use std::alloc::{AllocError, Global};
 
-/// The numbers that a header is made of besides its edges and roots, in no certain range.
+/// The numbers that a header is made of besides its edges and roots: any values, which are checked.
 #[repr(C)]
 #[derive(Clone, Copy)]
 pub struct SmNumbers {

@@ -41,7 +41,7 @@ use crate::starting::{start, write_root};
 use gen_types::GeneralNo;
 use std::alloc::Global;
 
-/// Writes the root of the tree of keys that a seed makes, for headers of the version 1 or 2. The call is refused for another.
+/// Writes the root of the tree of keys that a seed makes, for headers of the version 1 or 2. Another is misuse.
 #[unsafe(no_mangle)]
 pub extern "C" fn sm_root(alloc: Global, seed: &[u8; 32], version: u32, root: &mut [u8; 32]) -> u32
     ensures { IsTold (WritesRoot seed.now version root.old root.new) result }
@@ -67,8 +67,8 @@ pub extern "C" fn sm_header(
     make_header(alloc, numbers, edges, roots, room, count, fault).status()
 }
 
-/// Makes a node of a header's bytes, a general, his seed and his order, where no node is: 255 says that he has no order. The
-/// call is refused where a node is, or a number is none.
+/// Makes a node of a header's bytes, a general, his seed and his order, where no node is: 255 says that he has no order. It is
+/// misuse where a node is, or a number is none.
 #[unsafe(no_mangle)]
 pub extern "C" fn sm_node_new(
     alloc: Global,
@@ -184,7 +184,7 @@ pub extern "C" fn sm_node_free(alloc: Global, node: &mut SmNode)
 
 /// Hands out the bytes of the bundle of a run: of its header's bytes, the set of those who are held for faulty, bit g for
 /// general g, walks between the others, and logs that were collected, which stand one after another in `bytes`, in ascending
-/// order of their generals. The call is refused where the set has a general above 15, or not exactly these logs stand there.
+/// order of their generals. It is misuse where the set has a general above 15, or not exactly these logs stand there.
 #[unsafe(no_mangle)]
 pub extern "C" fn sm_bundle(
     alloc: Global,

@@ -52,7 +52,8 @@ fn node_of(
         Ok(node) => Ok(node),
         Err(NodeFault::NoGeneral) => Err(ReadError::Fault(StartFault::NoGeneral)),
         Err(NodeFault::OtherRoot) => Err(ReadError::Fault(StartFault::OtherRoot)),
-        Err(NodeFault::Memory | NodeFault::OtherHeight) => Err(ReadError::Memory),
+        Err(NodeFault::Memory) => Err(ReadError::Memory),
+        Err(NodeFault::OtherHeight) => unreachable!(),
     }
 }
 
