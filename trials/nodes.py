@@ -614,7 +614,8 @@ def try_built(program, tally, folder):
         tally.hold(name, with_little_stack(wrong, library))
     if os.path.exists(embed.ARCHIVE):
         tally.hold("both libraries", both_wrong(program, folder))
-    tally.count(21)
+        tally.count(2)
+    tally.count(25)
 
 
 def trials(program, tally):
