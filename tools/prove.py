@@ -20,7 +20,7 @@ FOLDER = os.path.join(TOP, "crates", PROGRAM)
 GIB_OF_A_JOB = 3
 # What a first use takes in all, and how much of that can go on side by side, since crates stand on one another
 # (bench/README.md).
-PROCESSOR_MINUTES = 45
+PROCESSOR_MINUTES = 60
 SIDE_BY_SIDE = 1.5
 
 

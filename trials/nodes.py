@@ -1,10 +1,11 @@
 """The library of nodes for C (embed/sm_node.h), as processes over sockets (embed/nodes/) and call by call.
 
-The archive is crates/sm_node/out/libsm_node.a, which `rt lib` builds in crates/sm_node; without it, or without a compiler,
-nothing is tried, and a line says so. Of four processes one is a commander who tells two orders, by two nodes of one seed, and
-one is killed in the second round; of sixteen all are loyal. Before they begin, each gets datagrams that are of no general. The
-logs of the others, and the bundle that is made of them, are those of the scenario whose scripts say what these two do, byte
-for byte. The calls are made by ctypes, over a heap that refuses (refusing_heap.c), in a thread with little stack.
+The archive is crates/sm_node/out/libsm_node.a, which `rt lib` builds in crates/sm_node; without it, or without a
+compiler, nothing is tried, and a line says so. Of four processes one is a commander who tells two orders, by two nodes of
+one seed, and one is killed in the second round; of sixteen all are loyal. Before they begin, each gets datagrams that are
+of no general. The logs of the others, and the bundle that is made of them, are those of the scenario whose scripts say
+what these two do, byte for byte. The calls are made by ctypes, over a heap that refuses (refusing_heap.c), in a thread
+with little stack.
 """
 import concurrent.futures
 import ctypes
@@ -18,8 +19,7 @@ import threading
 import time
 from typing import NamedTuple
 
-import embed
-from embed import EMBED, IsNotBuilt, SANITIZERS, STACK, TOP, WARNINGS, do
+from embed import ARCHIVE as JOBS, EMBED, IsNotBuilt, SANITIZERS, STACK, TOP, WARNINGS, do
 from layout import Bundle
 from programs import run, side_by_side
 from scenarios import ZEROS, chain, everybody, scenario
@@ -28,8 +28,8 @@ ARCHIVE = os.path.join(TOP, "crates", "sm_node", "out", "libsm_node.a")
 NODES = os.path.join(EMBED, "nodes")
 PROGRAMS = ["header", "general", "bundle"]
 OF_C = ["cc", "-std=c11", "-O2", "-D_DEFAULT_SOURCE", *WARNINGS, "-I", EMBED]
-# So long is a round at first, in milliseconds; where a process can't keep to the clock, all are run again with rounds twice
-# as long.
+# So long is a round at first, in milliseconds; where a process can't keep to the clock, all are run again with rounds
+# twice as long.
 ROUND, MOST_TRIES = 400, 6
 LATE = 3
 # No run of the processes takes longer, in seconds.
@@ -62,7 +62,7 @@ def seed_of(general, master=ZEROS):
 
 
 class System(NamedTuple):
-    """Generals as processes, who are all neighbours; the words that some have besides, and the scripts that say the same."""
+    """Generals as processes, who are all neighbours; the words that some have besides, and scripts that say the same."""
 
     generals: int
     traitors: int
@@ -122,7 +122,7 @@ def make_header(made, folder, system):
 
 
 def disturb(folder, system):
-    """Sends each general a datagram of no general: one of no socket, and an empty frame of another folder's commander."""
+    """Sends each general datagrams of no general: one of no socket, and an empty frame of another folder's commander."""
     with open(os.path.join(folder, "header"), "rb") as kept:
         run_id = hashlib.sha256(b"\x31" + kept.read()).digest()
     elsewhere = os.path.join(folder, "x")
@@ -144,7 +144,7 @@ def start_general(program, folder, system, general, length):
 
 
 def kill_in_round_2(process, end):
-    """Kills a general who has sent his frames of round 2: 0, his status if he did not, or LATE where round 3 may have begun."""
+    """Kills a general once he sent his frames of round 2: 0, his status if he ended, LATE where round 3 may have begun."""
     said = [process.stdout.readline() for _ in range(2)]
     if said != ["round 1\n", "round 2\n"]:
         return process.wait(), said
@@ -281,12 +281,13 @@ def words_wrong(made, folder):
 
 
 def both_wrong(program, folder):
-    """None where one program calls both libraries."""
+    """None where one program calls both libraries: it has all of both archives, in which no name may stand twice."""
     made, source = os.path.join(folder, "both.built"), os.path.join(folder, "both.c")
     seed = "".join(f"\\{byte:03o}" for byte in seed_of(0))
     with open(source, "w", encoding="ascii") as text:
         text.write(BOTH.replace("SEED", f'"{seed}"'))
-    do([*OF_C, source, os.path.join(EMBED, "heap.c"), ARCHIVE, embed.ARCHIVE, "-o", made])
+    both = ["-Wl,--whole-archive", ARCHIVE, JOBS, "-Wl,--no-whole-archive"]
+    do([*OF_C, source, os.path.join(EMBED, "heap.c"), *both, "-o", made])
     told, header = run(made, []), run(program, ["run"], FOUR.text()).wrote
     root = Bundle(header).front[4 + 7 + 2 * 6 :][:32].hex()
     wanted = f"{root}\n{run(program, ['audit']).said.decode()}"
@@ -313,7 +314,7 @@ class Library:
         return getattr(self.calls, name)(*words)
 
     def refused(self, name, *words):
-        """What a call answers at last, which is made again for each allocation that is refused, and how often it was refused."""
+        """What a call answers at last, which is made again for each allocation that is refused, and how often it was."""
         for count in range(1 << 20):
             self.left.value = count
             status = self.call(name, *words)
@@ -511,7 +512,7 @@ def bad_ends(two):
 
 
 def bad_walks(two):
-    """Bundles of three in a line, whose ends have no walk without the middle, and with him one of 2 edges where d is 1."""
+    """Bundles of three in a line, where d is 1: the ends have no walk without the middle, and with him one of 2 edges."""
     two.header = two.header_of(DONE, (1, 0, 3, 0, 1, 2, 0), chain(3), bytes(96))
     for faulty, fault in ((2, 31), (0, 32)):
         two.bundle(BAD, [], faulty)
@@ -612,7 +613,7 @@ def try_built(program, tally, folder):
     tally.hold("calls, memory", with_little_stack(calls_wrong, program, library, True))
     for name, wrong in (("misuse", misuse_wrong), ("halves of rounds", halves_wrong), ("headers", header_wrong)):
         tally.hold(name, with_little_stack(wrong, library))
-    if os.path.exists(embed.ARCHIVE):
+    if os.path.exists(JOBS):
         tally.hold("both libraries", both_wrong(program, folder))
         tally.count(2)
     tally.count(25)
