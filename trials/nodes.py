@@ -144,7 +144,7 @@ def start_general(program, folder, system, general, length):
 
 
 def kill_in_round_2(process, end):
-    """Kills a general once he sent his frames of round 2: 0, his status if he ended, LATE where round 3 may have begun."""
+    """Kills a general once he sent his frames of round 2: 0, his status if he ended, LATE if round 3 may have begun."""
     said = [process.stdout.readline() for _ in range(2)]
     if said != ["round 1\n", "round 2\n"]:
         return process.wait(), said
@@ -616,6 +616,8 @@ def try_built(program, tally, folder):
     if os.path.exists(JOBS):
         tally.hold("both libraries", both_wrong(program, folder))
         tally.count(2)
+    else:
+        tally.note("left out: both libraries in one program, as crates/sm_embed/out/libsm_embed.a is not there")
     tally.count(25)
 
 
