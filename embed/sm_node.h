@@ -4,17 +4,24 @@
 
    A node is one pointer, which the caller sets to null before the first call, as by `sm_node node = {0};`, and never
    reads or writes then. Null is no node: sm_node_new makes one there, and sm_node_free takes it away. A node is never
-   copied. Of one seed no two nodes may be there at once that a run or a slot has in common: two signed texts under one
-   key convict a general and give away his keys.
+   copied.
+
+   Of one seed one node is ever made for one run in version 1, and one for one run in each slot in version 2: no second
+   one, not even after the first was freed, or its process has ended or forked. What a node had signed is kept nowhere,
+   so a second one would sign again, and two signed texts under one key convict a general and give away his keys. Who is
+   started anew is out of that run; in version 2 all may go on in the next slot. A node that is there before a fork is
+   used on one side alone, and on the other it is freed at most.
 
    Each function but sm_node_free returns one of these numbers:
 
      SM_DONE     it was done
      SM_MISUSE   it may not be called so, and nothing was changed
      SM_BAD      what was handed in has a fault, and nothing was changed: *fault is its number, else 0
-     SM_REFUSED  memory was refused, and the same call may be made again: a round that is half begun or half ended is
-                 gone on with, and nothing is signed twice
-     SM_SHORT    the bytes are longer than the room, and nothing was changed: call again with as much room as *count says
+     SM_REFUSED  memory was refused, and the same call may be made again. After sm_node_begin_round a round may be half
+                 begun, and after sm_node_end_round half ended: the same call goes on with it, and nothing is signed
+                 twice. While it is so, sm_node_send is SM_MISUSE, sm_node_hear tells SM_F1, and all other calls on the
+                 node are SM_MISUSE, but for sm_node_free. After all other functions nothing was changed
+     SM_SHORT    the bytes are longer than the room, and nothing was changed: call again with room for *count bytes
 
    At SM_DONE and SM_SHORT *count is the number of bytes, else 0. What of the room is behind the bytes, or the whole
    room where none were put into it, is left as it was.
@@ -25,7 +32,7 @@
    - Nobody writes to what is read, and nobody reads or writes the node, the room and the counts, while the call runs.
    - No more than PTRDIFF_MAX bytes are handed in as one input or room.
    - All calls on a node are made by the thread that made it. Several threads may each have nodes of their own.
-   - There is stack for the call: 1 MiB was enough for each call that was tried.
+   - There is stack for the call: 1 MiB was enough for each call that was tried, of up to 16 generals.
    - The call is not made from a signal handler, nor in the forked child of a process with several threads.
    - rattle_alloc, rattle_realloc and rattle_dealloc are those of heap.c, or do what is said there. */
 #ifndef SM_NODE_H
@@ -46,12 +53,14 @@ enum { SM_NO_ORDER = 255 };
 /* Faults, of which docs/FORMATS.md says more. */
 enum sm_node_fault {
     SM_H1 = 1, SM_H2, SM_H3, SM_H4, SM_H5, SM_H6, SM_H7, SM_H8, SM_H9, SM_H10, SM_H11, /* of a header */
-    SM_LEFT_OVER = 12,  /* bytes are left over behind the header */
+    SM_LEFT_OVER = 12,  /* bytes are left over behind a header */
     SM_NO_GENERAL = 13, /* he is none of the header's generals, or the order doesn't fit him */
     SM_OTHER_ROOT = 14, /* the header has another root for him than that of his keys */
     SM_F1 = 21, SM_F2, SM_F3, SM_F4, SM_F5, SM_F6, SM_F7, SM_F8, /* of a frame */
     SM_U1 = 31, SM_U2,  /* two of the generals who aren't held for faulty have no walk, or none that is short enough */
-    SM_B1 = 41, SM_B2, SM_B3, SM_B4, SM_B5, SM_B6, SM_B7, SM_B8, SM_B9, /* of a bundle */
+    /* Of a bundle. Only SM_B4 to SM_B7 and SM_B9 can come: a bundle is made here and none is read, and a fault of its
+       header is told as the header's. */
+    SM_B1 = 41, SM_B2, SM_B3, SM_B4, SM_B5, SM_B6, SM_B7, SM_B8, SM_B9,
     SM_LONG_LOG = 50    /* a log has 2^32 bytes or more */
 };
 
@@ -60,7 +69,7 @@ typedef struct {
     void *at;
 } sm_node;
 
-/* The numbers of a header, in no certain range. The slot counts in version 2 alone. */
+/* The numbers of a header. They may be any values, and are checked. The slot counts in version 2 alone. */
 typedef struct {
     uint8_t version, slot, generals, traitors, diameter, orders, choice;
 } sm_numbers;
@@ -75,7 +84,8 @@ typedef struct {
 uint32_t sm_root(const uint8_t seed[32], uint32_t version, uint8_t root[32]);
 
 /* The bytes of the header of these numbers, edges and roots: an edge is two bytes, and the edges come in any order and
-   direction; a root is 32 bytes, and the roots come in the order of their generals. */
+   direction; a root is 32 bytes, and the roots come in the order of their generals. H1 to H7 are told first, then H10
+   for a version other than 1 or 2, then H8 for another number of roots, then H11. */
 uint32_t sm_header(const sm_numbers *numbers, const uint8_t *edges, size_t edge_count, const uint8_t *roots,
                    size_t root_count, uint8_t *room, size_t room_bytes, size_t *count, uint32_t *fault);
 
@@ -91,8 +101,9 @@ uint32_t sm_node_begin_round(sm_node *node);
 /* The bytes of the frame of this round to a neighbour. SM_MISUSE where no round is open, or he is no neighbour. */
 uint32_t sm_node_send(sm_node *node, uint32_t to, uint8_t *room, size_t room_bytes, size_t *count);
 
-/* Takes bytes that came of a neighbour in this round. Where they are not his frame of it, *fault is SM_F1 to SM_F8,
-   and his frame may still come. SM_MISUSE where there is no node, it has ended, or the general is above 15. */
+/* Takes bytes that came of a neighbour in this round. `from` is who the transport knows sent them, and not what the
+   bytes say. Where they are not his frame of this round, *fault is SM_F1 to SM_F8, and his frame may still come.
+   SM_MISUSE where there is no node, it has ended, or the general is above 15. */
 uint32_t sm_node_hear(sm_node *node, uint32_t from, const uint8_t *bytes, size_t byte_count, uint32_t *fault);
 
 /* Ends the round: a neighbour of whom nothing was taken counts as one who sent nothing. SM_MISUSE where no round is

@@ -1,43 +1,56 @@
-"""The library of nodes for C (embed/sm_node.h), as four processes over sockets (embed/nodes/) and call by call.
+"""The library of nodes for C (embed/sm_node.h), as processes over sockets (embed/nodes/) and call by call.
 
 The archive is crates/sm_node/out/libsm_node.a, which `rt lib` builds in crates/sm_node; without it, or without a
-compiler, nothing is tried, and a line says so. One process is a commander who tells two orders, by two nodes of one seed,
-and one is killed in the second round. The others' logs, and the bundle that is made of them, are those of the scenario
-whose scripts say what these two do, byte for byte. The calls are made by ctypes, over a heap that refuses
-(refusing_heap.c).
+compiler, nothing is tried, and a line says so. Of four processes one is a commander who tells two orders, by two nodes of
+one seed, and one is killed in the second round; of sixteen all are loyal. Before they begin, each gets datagrams that are
+of no general. The logs of the others, and the bundle that is made of them, are those of the scenario whose scripts say
+what these two do, byte for byte. The calls are made by ctypes, over a heap that refuses (refusing_heap.c), in a thread
+with little stack.
 """
-import contextlib
+import concurrent.futures
 import ctypes
 import hashlib
 import os
 import shutil
+import socket
 import subprocess
 import tempfile
 import threading
 import time
+from typing import NamedTuple
 
 from embed import ARCHIVE as JOBS, EMBED, IsNotBuilt, SANITIZERS, STACK, TOP, WARNINGS, do
 from layout import Bundle
 from programs import run, side_by_side
-from scenarios import ZEROS, everybody, scenario
+from scenarios import ZEROS, chain, everybody, scenario
 
 ARCHIVE = os.path.join(TOP, "crates", "sm_node", "out", "libsm_node.a")
 NODES = os.path.join(EMBED, "nodes")
 PROGRAMS = ["header", "general", "bundle"]
-# So long is a round at first, in milliseconds; where a process can't keep to the clock, all are run again with rounds twice
-# as long.
+OF_C = ["cc", "-std=c11", "-O2", "-D_DEFAULT_SOURCE", *WARNINGS, "-I", EMBED]
+# So long is a round at first, in milliseconds; where a process can't keep to the clock, all are run again with rounds
+# twice as long.
 ROUND, MOST_TRIES = 400, 6
 LATE = 3
 # No run of the processes takes longer, in seconds.
 PATIENCE = 300
-# Four generals, of whom the commander tells two orders and general 3 is killed in round 2, when he has sent his frames.
-FOUR = everybody(4)
-TOLD = ["make 1 1 1 0", "make 1 2 2 0", "make 1 3 2 0"]
-KILLED = ["pass 2 1 0 2 3", "pass 2 2 0 2 3"]
-WORDS = {0: ["1", "2", "2,3"]}
-LOYAL = ["1", "2"]
 DONE, MISUSE, BAD, REFUSED, SHORT = 0, 2, 3, 4, 5
 NO_ORDER = 255
+# One call of each library: the root of the keys of general 0, and what is wrong with a bundle of no bytes.
+BOTH = r"""
+#include "sm_embed.h"
+#include "sm_node.h"
+#include <stdio.h>
+int main(void) {
+    const uint8_t seed[33] = SEED;
+    uint8_t root[32], room[100];
+    size_t count;
+    if (sm_audit(seed, 0, room, sizeof room, &count) != SM_FAULT || sm_root(seed, 1, root) != SM_DONE) return 1;
+    for (int place = 0; place < 32; place++) printf("%02x", root[place]);
+    printf("\n%.*s\n", (int)count, (const char *)room);
+    return 0;
+}
+"""
 
 
 def seed_of(general, master=ZEROS):
@@ -45,62 +58,127 @@ def seed_of(general, master=ZEROS):
     return hashlib.sha256(b"\x30" + bytes.fromhex(master) + bytes([general])).digest()
 
 
-# ---- four processes
+# ---- processes
+
+
+class System(NamedTuple):
+    """Generals as processes, who are all neighbours; the words that some have besides, and scripts that say the same."""
+
+    generals: int
+    traitors: int
+    orders: int
+    words: dict
+    scripts: dict
+    killed: int | None = None
+    slot: int | None = None
+
+    def loyal(self):
+        return [general for general in range(self.generals) if general not in self.scripts]
+
+    def faulty(self):
+        return sum(1 << general for general in self.scripts)
+
+    def text(self):
+        """Their scenario, whose order is 1."""
+        edges = everybody(self.generals)
+        return scenario(edges, self.traitors, 1, 1, self.scripts, orders=self.orders, slot=self.slot)
+
+
+# Four generals, of whom the commander tells two orders and general 3 is killed in round 2, when he has sent his frames.
+TOLD = ["make 1 1 1 0", "make 1 2 2 0", "make 1 3 2 0"]
+KILLED = ["pass 2 1 0 2 3", "pass 2 2 0 2 3"]
+FOUR = System(4, 2, 3, {0: ["1", "2", "2,3"]}, {0: TOLD, 3: KILLED}, killed=3)
+# Sixteen, of whom each sends more frames at once than a socket holds.
+SIXTEEN = System(16, 1, 2, {0: ["1"]}, {})
 
 
 def build_programs(folder):
-    """The programs of embed/nodes, the general under sanitizers too, that of bundles with the other library in it."""
-    of_c = ["cc", "-std=c11", "-O2", "-D_DEFAULT_SOURCE", *WARNINGS, "-I", EMBED]
-    builds = {name: [*of_c, os.path.join(NODES, f"{name}.c")] for name in PROGRAMS}
-    builds["sanitized"] = [*of_c, *SANITIZERS, os.path.join(NODES, "general.c")]
+    """The programs of embed/nodes, the general under sanitizers too."""
+    builds = {name: [*OF_C, os.path.join(NODES, f"{name}.c")] for name in PROGRAMS}
+    builds["sanitized"] = [*OF_C, *SANITIZERS, os.path.join(NODES, "general.c")]
     made = {name: os.path.join(folder, f"{name}.built") for name in builds}
     rest = [os.path.join(EMBED, "heap.c"), ARCHIVE]
     side_by_side(lambda name: do([*builds[name], *rest, "-o", made[name]]), builds)
-    if os.path.exists(JOBS):
-        # All of both archives in one program, in which no name may stand twice.
-        both = ["-Wl,--whole-archive", ARCHIVE, JOBS, "-Wl,--no-whole-archive"]
-        do([*builds["bundle"], rest[0], *both, "-o", made["bundle"]])
-    return made
+    little = ["sh", "-c", f'ulimit -s {STACK // 1024} && exec "$@"', "sh"]
+    return {name: [*([] if name == "sanitized" else little), path] for name, path in made.items()}
 
 
-def make_header(made, folder):
-    """Writes the header of the four, by the roots of their keys."""
-    roots = [do([made["header"], "root", seed_of(general).hex()]).strip() for general in range(4)]
-    edges = ",".join(f"{a}-{b}" for a, b in FOUR)
-    do([made["header"], "make", folder, "4", "2", "1", "3", "0", edges, *roots])
+def write_seeds(folder, generals, mode=0o600):
+    """The seeds of so many generals, which only their owner may read."""
+    for general in range(generals):
+        path = os.path.join(folder, f"{general}.seed")
+        with open(os.open(path, os.O_CREAT | os.O_EXCL | os.O_WRONLY, mode), "wb") as seed:
+            seed.write(seed_of(general))
 
 
-def start_general(program, folder, general, length):
+def make_header(made, folder, system):
+    """Writes the seeds, and the header by the roots of their keys."""
+    write_seeds(folder, system.generals)
+    version = "1" if system.slot is None else "2"
+    roots = [do([*made["header"], "root", folder, str(g), version]).strip() for g in range(system.generals)]
+    edges = ",".join(f"{a}-{b}" for a, b in everybody(system.generals))
+    numbers_of = [version, system.slot or 0, system.generals, system.traitors, 1, system.orders, 0]
+    do([*made["header"], "make", folder, *map(str, numbers_of), edges, *roots])
+
+
+def disturb(folder, system):
+    """Sends each general datagrams of no general: one of no socket, and an empty frame of another folder's commander."""
+    with open(os.path.join(folder, "header"), "rb") as kept:
+        run_id = hashlib.sha256(b"\x31" + kept.read()).digest()
+    elsewhere = os.path.join(folder, "x")
+    os.mkdir(elsewhere)
+    nobody, other = (socket.socket(socket.AF_UNIX, socket.SOCK_DGRAM) for _ in range(2))
+    with nobody, other:
+        other.bind(os.path.join(elsewhere, "0"))
+        for general in range(system.generals):
+            his = os.path.join(folder, str(general))
+            nobody.sendto(bytes(1000), his)
+            other.sendto(b"SMF1" + run_id + bytes([1, 0, general, 0, 0]), his)
+
+
+def start_general(program, folder, system, general, length):
     """A process of a general, by the words of a program."""
-    others = ",".join(str(other) for other in range(4) if other != general)
-    words = [*program, folder, str(general), seed_of(general).hex(), others, str(length), *WORDS.get(general, [])]
+    words = [*program, folder, str(general), str(length), *system.words.get(general, [])]
     pipe = subprocess.PIPE
-    return subprocess.Popen(words, stdin=pipe, stdout=pipe, stderr=subprocess.DEVNULL, text=True)
+    return subprocess.Popen(words, stdin=pipe, stdout=pipe, stderr=subprocess.STDOUT, text=True)
 
 
-def drive(processes):
-    """Has them begin together, kills general 3 in round 2, and tells how the others ended: statuses and last lines."""
+def kill_in_round_2(process, end):
+    """Kills a general once he sent his frames of round 2: 0, his status if he ended, LATE if round 3 may have begun."""
+    said = [process.stdout.readline() for _ in range(2)]
+    if said != ["round 1\n", "round 2\n"]:
+        return process.wait(), said
+    process.kill()
+    process.wait()
+    return (0 if time.monotonic() * 1000 < end else LATE), said
+
+
+def drive(system, processes, folder, length):
+    """Has them begin together, kills one in round 2, and tells how the others ended: statuses and lines."""
     said = [process.stdout.readline() for process in processes]
-    if said != ["ready\n"] * 4:
+    if said != ["ready\n"] * system.generals:
         return [1], said
+    disturb(folder, system)
     start = int(time.monotonic() * 1000) + 200
     for process in processes:
         process.stdin.write(f"{start}\n")
         process.stdin.flush()
-    if [processes[3].stdout.readline() for _ in range(2)] != ["round 1\n", "round 2\n"]:
-        return [processes[3].wait()], ["general 3"]
-    processes[3].kill()
-    lines = [process.stdout.read() for process in processes[:3]]
-    return [process.wait() for process in processes[:3]], lines
+    if system.killed is not None:
+        status, said = kill_in_round_2(processes[system.killed], start + 2 * length)
+        if status:
+            return [status], said
+    others = [process for general, process in enumerate(processes) if general != system.killed]
+    lines = [process.stdout.read() for process in others]
+    return [process.wait() for process in others], lines
 
 
-def run_four(program, folder, length):
-    """One run of four processes."""
-    processes = [start_general(program, folder, general, length) for general in range(4)]
+def run_once(program, folder, system, length):
+    """One run of the processes."""
+    processes = [start_general(program, folder, system, general, length) for general in range(system.generals)]
     watch = threading.Timer(PATIENCE, lambda: [process.kill() for process in processes])
     watch.start()
     try:
-        return drive(processes)
+        return drive(system, processes, folder, length)
     finally:
         watch.cancel()
         for process in processes:
@@ -108,55 +186,112 @@ def run_four(program, folder, length):
             process.wait()
             process.stdin.close()
             process.stdout.close()
-        for general in range(4):
-            with contextlib.suppress(FileNotFoundError):
-                os.unlink(os.path.join(folder, str(general)))
 
 
-def run_in_time(program, folder):
-    """The lines that the generals 0 to 2 said, of a run in which nobody was late."""
+def run_in_time(made, program, folder, system):
+    """A run in which nobody was late: its folder, and the statuses and lines of those who weren't killed."""
     for tried in range(MOST_TRIES):
-        statuses, lines = run_four(program, folder, ROUND << tried)
+        of_run = os.path.join(folder, f"{len(os.listdir(folder))}")
+        os.mkdir(of_run)
+        make_header(made, of_run, system)
+        statuses, lines = run_once(program, of_run, system, ROUND << tried)
         if LATE not in statuses:
-            return statuses, lines
-    return [LATE], ["late"]
+            return of_run, statuses, lines
+    return of_run, [LATE], ["late"]
 
 
-def wanted_bundle(program):
-    """The bundle of the scenario in which two have scripts, with the logs of the other two alone."""
-    text = scenario(FOUR, 2, 1, 1, {0: TOLD, 3: KILLED}, orders=3)
-    bundle = Bundle(run(program, ["run"], text).wrote)
-    bundle.exhibits = [(general, log) for general, log in bundle.exhibits if str(general) in LOYAL]
-    return bundle, run(program, ["decide"], text).wrote.decode().split()
+def wanted_bundle(program, system):
+    """The bundle of the scenario with the logs of the loyal alone, and their decisions."""
+    bundle = Bundle(run(program, ["run"], system.text()).wrote)
+    bundle.exhibits = [(general, log) for general, log in bundle.exhibits if general in system.loyal()]
+    decided = run(program, ["decide"], system.text()).wrote.decode().splitlines()
+    return bundle, [line.split()[-1] for line in decided]
 
 
-def system_wrong(program, made, general, folder):
-    """None where the run of the processes is that of the scenario."""
-    make_header(made, folder)
-    statuses, lines = run_in_time(general, folder)
-    if statuses != [0, 0, 0]:
+def made_bundle(made, folder, system):
+    """The bundle that is made of the logs of the loyal."""
+    program, *words = made["bundle"]
+    return run(program, [*words, folder, str(system.faulty()), *map(str, system.loyal())]).wrote
+
+
+def system_wrong(program, made, general, folder, system):
+    """None where the run of the processes is that of the scenario, and their bundle is its bundle."""
+    of_run, statuses, lines = run_in_time(made, general, folder, system)
+    if any(statuses):
         return f"the processes ended with {statuses}: {lines}"
-    bundle, decided = wanted_bundle(program)
-    orders = [line.split()[-1] for line in lines[1:]]
-    if orders != [decided[5], decided[11]]:
+    bundle, decided = wanted_bundle(program, system)
+    orders = [line.split()[-1] for line in lines[-len(decided) :]]
+    if orders != decided:
         return f"they decide {orders}, and the scenario {decided}"
-    for general, log in bundle.exhibits:
-        with open(os.path.join(folder, f"{general}.log"), "rb") as kept:
+    for loyal, log in bundle.exhibits:
+        with open(os.path.join(of_run, f"{loyal}.log"), "rb") as kept:
             if kept.read() != log:
-                return f"the log of general {general} is another"
-    made_of_logs = run(made["bundle"], [folder, "9", *LOYAL])
-    return None if made_of_logs.wrote == bundle.spell() else "the bundle is another"
+                return f"the log of general {loyal} is another"
+    sockets = [str(loyal) for loyal in system.loyal() if os.path.exists(os.path.join(of_run, str(loyal)))]
+    if sockets:
+        return f"the sockets of {sockets} are left"
+    text = made_bundle(made, of_run, system)
+    return verdict_wrong(program, text, system) if text == bundle.spell() else "the bundle is another"
 
 
-def verdict_wrong(program, made, folder):
-    """None where the bundle convicts the commander, by evidence that holds, and can be drawn."""
-    bundle = run(made["bundle"], [folder, "9", *LOYAL]).wrote
-    verdict, evidence = run(program, ["audit"], bundle), run(program, ["accuse", "--general", "0"], bundle)
-    if b"convicted 0 by K2\n" not in verdict.wrote or evidence.status != 0:
-        return f"the verdict is {verdict}"
+def verdict_wrong(program, bundle, system):
+    """None where the bundle convicts a commander who tells two orders, by evidence that holds, and can be drawn."""
+    verdict, drawn = run(program, ["audit"], bundle), run(program, ["draw"], bundle)
+    if drawn.status != 0 or (verdict.status, b"convicted 0 by K2\n" in verdict.wrote) != (0, 0 in system.scripts):
+        return f"the verdict is {verdict}, and {drawn.status} of the picture"
+    evidence = run(program, ["accuse", "--general", "0"], bundle)
+    if 0 not in system.scripts:
+        return None if evidence.status == 1 else f"{evidence}"
     holds = run(program, ["evidence"], evidence.wrote)
-    drawn = run(program, ["draw"], bundle)
-    return None if (holds.status, drawn.status) == (0, 0) else f"{holds}, {drawn}"
+    return None if (evidence.status, holds.status) == (0, 0) else f"{evidence}, {holds}"
+
+
+def ends_with(status, words):
+    """None where a program ends with a status, and says why on standard error and nothing else."""
+    end = run(words[0], words[1:])
+    right = end.status == status and not end.wrote and end.said and b"Success" not in end.said
+    return None if right else f"{words[len(words) - 4 :]}: {end}"
+
+
+def words_wrong(made, folder):
+    """None where the programs refuse wrong words, a seed that others may read, and to begin a second time."""
+    of_words, of_seeds = os.path.join(folder, "w"), os.path.join(folder, "s")
+    for name in (of_words, of_seeds):
+        os.mkdir(name)
+    make_header(made, of_words, FOUR)
+    write_seeds(of_seeds, 1, 0o640)
+    shutil.copy(os.path.join(of_words, "header"), of_seeds)
+    open(os.path.join(of_words, "1.log"), "wb").close()
+    root, edge = "00" * 32, "0-1"
+    header = ["1", "0", "2", "0", "1", "2", "0"]
+    many = ",".join([edge] * 121)
+    makes = [(header, text, [root] * 2) for text in ("", "0", "0-", "0-1,", "0-1;", "0-256", "-1-0", many)]
+    makes += [(header[:2] + [bad] + header[3:], edge, [root] * 2) for bad in ("x", "", "-1", "+2", "2 ", "258", "1")]
+    makes += [(header, edge, [root, bad]) for bad in ("", root[1:], root + "0", "g" + root[1:])]
+    wrong = [(1, [*made["header"], "make", of_words, *of, edges, *roots]) for of, edges, roots in makes]
+    wrong += [(1, [*made["header"], "root", *words]) for words in ((of_seeds, "0", "1"), (of_words, "0", "3"))]
+    generals = [(of_seeds, "0", "9", "1"), (of_words, "1", "9"), (of_words, "16", "9"), (of_words, "0", "9")]
+    generals += [(of_words, "0", "9", "1", "2", bad) for bad in ("", "1,", "16", "1 2")]
+    generals += [(of_words + "x" * 99, "0", "9", "1")]
+    wrong += [(1, [*made["general"], *words]) for words in generals]
+    bundles = [("65536",), ("0", "16"), ("0", "2"), ("x",), ("0", "1", "0")]
+    wrong += [(1, [*made["bundle"], of_words, *words]) for words in bundles]
+    wrong += [(2, made[name]) for name in PROGRAMS]
+    return "; ".join(filter(None, side_by_side(lambda of: ends_with(*of), wrong))) or None
+
+
+def both_wrong(program, folder):
+    """None where one program calls both libraries: it has all of both archives, in which no name may stand twice."""
+    made, source = os.path.join(folder, "both.built"), os.path.join(folder, "both.c")
+    seed = "".join(f"\\{byte:03o}" for byte in seed_of(0))
+    with open(source, "w", encoding="ascii") as text:
+        text.write(BOTH.replace("SEED", f'"{seed}"'))
+    both = ["-Wl,--whole-archive", ARCHIVE, JOBS, "-Wl,--no-whole-archive"]
+    do([*OF_C, source, os.path.join(EMBED, "heap.c"), *both, "-o", made])
+    told, header = run(made, []), run(program, ["run"], FOUR.text()).wrote
+    root = Bundle(header).front[4 + 7 + 2 * 6 :][:32].hex()
+    wanted = f"{root}\n{run(program, ['audit']).said.decode()}"
+    return None if (told.status, told.wrote.decode()) == (0, wanted) else f"{told}, not {wanted}"
 
 
 # ---- call by call
@@ -189,11 +324,6 @@ class Library:
         return REFUSED, count
 
 
-def numbers(*of):
-    """Numbers of a header: version, slot, generals, traitors, diameter, orders and choice."""
-    return bytes(of)
-
-
 class Run:
     """Two neighbours, driven in one process: the commander, whose order is 1, and general 1."""
 
@@ -210,8 +340,13 @@ class Run:
             root = ctypes.create_string_buffer(32)
             self.want(DONE, "sm_root", seed_of(general), version, root)
             roots += root.raw
-        words = (numbers(version, slot, 2, 0, 1, 2, 0), b"\1\0", ctypes.c_size_t(1), roots, ctypes.c_size_t(2))
-        return self.text(DONE, "sm_header", *words, tail=True)
+        return self.header_of(DONE, (version, slot, 2, 0, 1, 2, 0), [(1, 0)], roots)
+
+    def header_of(self, status, of, edges, roots):
+        """The bytes of a header, or none."""
+        ends = b"".join(map(bytes, edges))
+        sizes = ctypes.c_size_t(len(edges)), ctypes.c_size_t(len(roots) // 32)
+        return self.text(status, "sm_header", bytes(of), ends, sizes[0], roots, sizes[1], tail=True)
 
     def do(self, name, *words):
         """The status of a call; where memory is refused it is made again until it is not."""
@@ -344,7 +479,10 @@ def bad_rounds(two):
     for to in (0, 2, 16, 2**32 - 1):
         two.text(MISUSE, "sm_node_send", two.at(0), to)
     two.hear(1, frame, MISUSE, 16)
-    for given, sender, fault in ((frame, 1, 21), (b"", 0, 23), (b"SMF2" + frame[4:], 0, 24), (frame + b"\0", 0, 25)):
+    bent = {place: frame[:place] + bytes([frame[place] ^ 1]) + frame[place + 1 :] for place in (4, 35, 36, 37, 38)}
+    cases = [(frame, 1, 21), (b"", 0, 23), (b"SMF2" + frame[4:], 0, 24), (frame + b"\0", 0, 25)]
+    cases += [(bent[4], 0, 26), (bent[35], 0, 26), (bent[36], 0, 27), (bent[37], 0, 28), (bent[38], 0, 28)]
+    for given, sender, fault in cases:
         two.hear(1, given, BAD, sender)
         two.told(fault)
     two.hear(1, frame)
@@ -373,43 +511,114 @@ def bad_ends(two):
         two.told(fault)
 
 
+def bad_walks(two):
+    """Bundles of three in a line, where d is 1: the ends have no walk without the middle, and with him one of 2 edges."""
+    two.header = two.header_of(DONE, (1, 0, 3, 0, 1, 2, 0), chain(3), bytes(96))
+    for faulty, fault in ((2, 31), (0, 32)):
+        two.bundle(BAD, [], faulty)
+        two.told(fault)
+
+
 def misuse_wrong(library):
     """None where calls that may not be made answer so."""
     two = Run(library, False)
     for name, version in (("sm_root", 0), ("sm_root", 3)):
         two.want(MISUSE, name, seed_of(0), version, ctypes.create_string_buffer(32))
-    for step in (nothing_there, bad_beginnings, bad_rounds, bad_ends):
+    for step in (nothing_there, bad_beginnings, bad_rounds, bad_ends, bad_walks):
         step(two)
     two.free()
     return "; ".join(two.wrong) or (None if library.blocks.value == 0 else f"{library.blocks.value} blocks are left")
 
 
+def refuse_each(two, general, name, between):
+    """Has a call refused each allocation in turn until it is done, and looks at what holds between the refusals."""
+    for left in range(1000):
+        two.library.left.value = left
+        status = two.library.call(name, two.at(general))
+        two.library.left.value = -1
+        if status == DONE and left > 0:
+            return
+        if status != REFUSED:
+            break
+        between()
+    two.wrong.append(f"{name} answers {status} with {left} allocations")
+
+
+def halves_wrong(library):
+    """None where a round that is half begun, or half ended, is gone on with by the same call alone."""
+    two = Run(library, False)
+
+    def only_begins():
+        two.text(MISUSE, "sm_node_send", two.at(0), 1)
+        two.hear(0, b"", BAD)
+        two.told(21)
+        for name in ("end_round", "finish"):
+            two.want(MISUSE, f"sm_node_{name}", two.at(0))
+
+    def only_ends():
+        for name in ("begin_round", "finish"):
+            two.want(MISUSE, f"sm_node_{name}", two.at(1))
+
+    two.begin(0)
+    two.begin(1)
+    refuse_each(two, 0, "sm_node_begin_round", only_begins)
+    two.want(DONE, "sm_node_begin_round", two.at(1))
+    two.hear(1, two.text(DONE, "sm_node_send", two.at(0), 1))
+    refuse_each(two, 1, "sm_node_end_round", only_ends)
+    two.want(DONE, "sm_node_finish", two.at(1))
+    two.free()
+    return "; ".join(two.wrong) or (None if library.blocks.value == 0 else f"{library.blocks.value} blocks are left")
+
+
 def header_wrong(library):
-    """None where a header of version 2 begins as it has to, and bad numbers have their faults."""
+    """None where a header of version 2 begins as it has to, and bad numbers have their faults, the first of several."""
     two = Run(library, False)
     header = two.make_header(2, 1)
     if header[:10] != bytes([2, 1, 2, 0, 1, 2, 0, 1, 0, 1]):
         two.wrong.append(f"the header {header[:10]}")
-    cases = [((1, 0, 1, 0, 1, 2, 0), 1), ((1, 0, 2, 0, 1, 2, 2), 7)]
-    cases += [((2, 4, 2, 0, 1, 2, 0), 11), ((3, 0, 2, 0, 1, 2, 0), 10)]
-    for of, fault in cases:
-        two.text(BAD, "sm_header", numbers(*of), b"\0\1", ctypes.c_size_t(1), bytes(64), ctypes.c_size_t(2), tail=True)
+    cases = [((1, 0, 1, 0, 1, 2, 0), 64, 1), ((1, 0, 2, 9, 1, 2, 0), 64, 3), ((1, 0, 2, 0, 0, 2, 0), 64, 4)]
+    cases += [((1, 0, 2, 8, 15, 2, 0), 64, 5), ((1, 0, 2, 0, 1, 1, 0), 64, 6), ((1, 0, 2, 0, 1, 2, 2), 64, 7)]
+    cases += [((1, 0, 2, 0, 1, 2, 0), 32, 8), ((2, 4, 2, 0, 1, 2, 0), 64, 11), ((2, 4, 2, 0, 1, 2, 0), 32, 8)]
+    cases += [((version, 0, 2, 0, 1, 2, 0), 32, 10) for version in (0, 3)] + [((3, 0, 2, 0, 1, 2, 2), 64, 7)]
+    for of, roots, fault in cases:
+        two.header_of(BAD, of, [(0, 1)], bytes(roots))
         two.told(fault)
+    for edges in ([(0, 2)], [(0, 0)], [(0, 1), (1, 0)]):
+        two.header_of(BAD, (1, 0, 2, 0, 1, 2, 0), edges, bytes(64))
+        two.told(2)
     return "; ".join(two.wrong) or None
+
+
+def with_little_stack(call, *words):
+    """What a call answers, made in a thread with no more stack than a call takes."""
+    kept = threading.stack_size(STACK)
+    try:
+        with concurrent.futures.ThreadPoolExecutor(1) as pool:
+            return pool.submit(call, *words).result()
+    finally:
+        threading.stack_size(kept)
 
 
 def try_built(program, tally, folder):
     """All trials over the archive."""
     made, library = build_programs(folder), Library(folder)
-    little = ["sh", "-c", f'ulimit -s {STACK // 1024} && exec "$@"', "sh", made["general"]]
-    for kind, general in (("plain", [made["general"]]), ("sanitized", [made["sanitized"]]), ("1 MiB of stack", little)):
-        tally.hold(f"four processes, {kind}", system_wrong(program, made, general, folder))
-    tally.hold("their verdict", verdict_wrong(program, made, folder))
-    tally.hold("calls", calls_wrong(program, library, False))
-    tally.hold("calls, memory", calls_wrong(program, library, True))
-    tally.hold("misuse", misuse_wrong(library))
-    tally.hold("headers", header_wrong(library))
-    tally.count(10)
+    runs, general = os.path.join(folder, "r"), made["general"]
+    os.mkdir(runs)
+    tally.hold("four processes", system_wrong(program, made, general, runs, FOUR))
+    tally.hold("four processes, sanitized", system_wrong(program, made, made["sanitized"], runs, FOUR))
+    tally.hold("four processes, slot 2", system_wrong(program, made, general, runs, FOUR._replace(slot=2)))
+    tally.hold("sixteen processes", system_wrong(program, made, general, runs, SIXTEEN))
+    tally.hold("wrong words", words_wrong(made, folder))
+    tally.hold("calls", with_little_stack(calls_wrong, program, library, False))
+    tally.hold("calls, memory", with_little_stack(calls_wrong, program, library, True))
+    for name, wrong in (("misuse", misuse_wrong), ("halves of rounds", halves_wrong), ("headers", header_wrong)):
+        tally.hold(name, with_little_stack(wrong, library))
+    if os.path.exists(JOBS):
+        tally.hold("both libraries", both_wrong(program, folder))
+        tally.count(2)
+    else:
+        tally.note("left out: both libraries in one program, as crates/sm_embed/out/libsm_embed.a is not there")
+    tally.count(25)
 
 
 def trials(program, tally):

@@ -7,12 +7,14 @@
 #include "files.h"
 #include "sm_node.h"
 
+enum { MOST_LOGS = 64, MOST_WALKS = 120, WALK_BYTES = 17 };
+
 /* The logs one after another. */
-static struct bytes read_logs(const char *folder, char **generals, int count, sm_log logs[64]) {
+static struct bytes read_logs(const char *folder, char **generals, int count, sm_log logs[MOST_LOGS]) {
     struct bytes all = room_of(0);
     for (int place = 0; place < count; place++) {
         char name[20];
-        logs[place].general = read_number(generals[place]);
+        logs[place].general = read_number(generals[place], 15);
         snprintf(name, sizeof name, "%u.log", logs[place].general);
         struct bytes log = read_file(folder, name), more = room_of(all.length + log.length);
         memcpy(more.at, all.at, all.length);
@@ -26,19 +28,21 @@ static struct bytes read_logs(const char *folder, char **generals, int count, sm
 }
 
 int main(int count, char **words) {
-    sm_log logs[64];
+    sm_log logs[MOST_LOGS];
     size_t length;
     uint32_t fault;
-    if (count < 3 || count > 67) {
+    if (count < 3 || count > 3 + MOST_LOGS) {
         fprintf(stderr, "bundle FOLDER FAULTY GENERAL ..\n");
         return 2;
     }
+    uint32_t faulty = read_number(words[2], UINT16_MAX);
     struct bytes header = read_file(words[1], "header");
     struct bytes all = read_logs(words[1], words + 3, count - 3, logs);
-    struct bytes room = room_of(header.length + all.length + 10000);
-    uint32_t status = sm_bundle(header.at, header.length, read_number(words[2]), logs, (size_t)(count - 3), all.at,
-                                all.length, room.at, room.length, &length, &fault);
-    must(status, "sm_bundle");
+    /* Besides the header and the logs: the mark, the set and two counts, the walks, and what stands before each log. */
+    struct bytes room = room_of(header.length + all.length + 8 + MOST_WALKS * WALK_BYTES + MOST_LOGS * 5);
+    uint32_t status = sm_bundle(header.at, header.length, faulty, logs, (size_t)(count - 3), all.at, all.length,
+                                room.at, room.length, &length, &fault);
+    must_fit(status, fault, "sm_bundle");
     if (fwrite(room.at, 1, length, stdout) != length || fflush(stdout) != 0) give_up("standard output");
     free(header.at);
     free(all.at);

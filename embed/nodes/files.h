@@ -1,12 +1,14 @@
-/* Files, and bytes in hexadecimal digits. A program that can't go on says why and ends. */
+/* Files, and numbers in words. A program that can't go on says why and ends. */
 #ifndef FILES_H
 #define FILES_H
 
+#include <errno.h>
 #include <stddef.h>
 #include <stdint.h>
 #include <stdio.h>
 #include <stdlib.h>
 #include <string.h>
+#include <sys/stat.h>
 
 /* Some bytes on the heap. */
 struct bytes {
@@ -14,9 +16,16 @@ struct bytes {
     size_t length;
 };
 
-/* Says what can't be done, and ends. */
+/* Says what is wrong with what was given, and ends. */
+static inline void refuse(const char *what, const char *given) {
+    fprintf(stderr, "%s: %s\n", given, what);
+    exit(1);
+}
+
+/* Says what the system refuses, and ends. */
 static inline void give_up(const char *what) {
-    perror(what);
+    if (errno != 0) perror(what);
+    else fprintf(stderr, "%s failed\n", what);
     exit(1);
 }
 
@@ -29,48 +38,90 @@ static inline struct bytes room_of(size_t length) {
 
 /* The path of a file in a folder. */
 static inline void path_in(char path[100], const char *folder, const char *name) {
-    if (snprintf(path, 100, "%s/%s", folder, name) >= 100) give_up("a path is too long");
+    if (snprintf(path, 100, "%s/%s", folder, name) >= 100) refuse("the path of a file in it is too long", folder);
+}
+
+/* Opens a file of a folder. */
+static inline FILE *open_file(const char *folder, const char *name, const char *mode) {
+    char path[100];
+    path_in(path, folder, name);
+    FILE *file = fopen(path, mode);
+    if (file == NULL) give_up(path);
+    return file;
 }
 
 /* All of a file. */
 static inline struct bytes read_file(const char *folder, const char *name) {
-    char path[100];
-    path_in(path, folder, name);
-    FILE *file = fopen(path, "rb");
-    if (file == NULL || fseek(file, 0, SEEK_END) != 0) give_up(path);
-    long length = ftell(file);
-    if (length < 0) give_up(path);
+    FILE *file = open_file(folder, name, "rb");
+    long length = fseek(file, 0, SEEK_END) == 0 ? ftell(file) : -1;
+    if (length < 0) give_up(name);
     rewind(file);
     struct bytes all = room_of((size_t)length);
-    if (fread(all.at, 1, all.length, file) != all.length) give_up(path);
+    if (fread(all.at, 1, all.length, file) != all.length) refuse("can't be read to its end", name);
     fclose(file);
     return all;
 }
 
-/* Writes a file anew. */
-static inline void write_file(const char *folder, const char *name, const uint8_t *at, size_t length) {
-    char path[100];
-    path_in(path, folder, name);
-    FILE *file = fopen(path, "wb");
-    if (file == NULL || fwrite(at, 1, length, file) != length || fclose(file) != 0) give_up(path);
+/* Writes a file: mode "wb" writes it anew, and "wbx" gives up where it is there. */
+static inline void write_file(const char *folder, const char *name, const char *mode, struct bytes all) {
+    FILE *file = open_file(folder, name, mode);
+    if (fwrite(all.at, 1, all.length, file) != all.length) give_up(name);
+    if (fclose(file) != 0) give_up(name);
 }
 
-/* 32 bytes of 64 hexadecimal digits. */
-static inline void read_32(const char *digits, uint8_t bytes[32]) {
-    for (int place = 0; place < 32; place++) {
-        unsigned byte;
-        if (strlen(digits) != 64 || sscanf(digits + 2 * place, "%2x", &byte) != 1) give_up("not 64 digits");
-        bytes[place] = (uint8_t)byte;
+/* The seed of a general, 32 bytes in GENERAL.seed, which none but its owner may read. */
+static inline void read_seed(const char *folder, uint32_t general, uint8_t seed[32]) {
+    char name[20];
+    struct stat state;
+    snprintf(name, sizeof name, "%u.seed", general);
+    FILE *file = open_file(folder, name, "rb");
+    if (fstat(fileno(file), &state) != 0) give_up(name);
+    if ((state.st_mode & 077) != 0) refuse("others may use it: its mode has to be 600", name);
+    if (fread(seed, 1, 32, file) != 32 || fgetc(file) != EOF) refuse("not 32 bytes", name);
+    fclose(file);
+}
+
+/* The number in decimal digits in front of a text, at most `most`; the text goes on behind it. */
+static inline uint64_t take_number(const char **text, uint64_t most) {
+    const char *digit = *text;
+    uint64_t number = 0;
+    if (*digit < '0' || *digit > '9') refuse("no number is here", *text);
+    for (; *digit >= '0' && *digit <= '9'; digit++) {
+        uint64_t next = (uint64_t)(*digit - '0');
+        if (number > most / 10 || next > most - 10 * number) refuse("the number is too great", *text);
+        number = 10 * number + next;
     }
+    *text = digit;
+    return number;
 }
 
-/* A number in decimal digits. */
-static inline uint32_t read_number(const char *word) { return (uint32_t)strtoul(word, NULL, 10); }
+/* The number that a word is. */
+static inline uint32_t read_number(const char *word, uint32_t most) {
+    const char *end = word;
+    uint32_t number = (uint32_t)take_number(&end, most);
+    if (*end != '\0') refuse("not a number", word);
+    return number;
+}
+
+/* Whether a list goes on behind a comma, and not at its end. */
+static inline int goes_on(const char **list) {
+    if (**list == '\0') return 0;
+    if (**list != ',') refuse("no comma is here", *list);
+    ++*list;
+    return 1;
+}
 
 /* Ends unless a call of the library was done. */
 static inline void must(uint32_t status, const char *call) {
     if (status == 0) return;
     fprintf(stderr, "%s says %u\n", call, status);
+    exit(1);
+}
+
+/* Ends unless a call of the library was done that may tell a fault. */
+static inline void must_fit(uint32_t status, uint32_t fault, const char *call) {
+    if (status == 0) return;
+    fprintf(stderr, "%s says %u, fault %u\n", call, status, fault);
     exit(1);
 }
 

@@ -1,54 +1,74 @@
 /* What is to be known before a run: the roots of all keys, and the header that is made of them.
 
-       header root SEED                                             writes the root of a seed's keys, version 1
-       header make FOLDER GENERALS TRAITORS DIAMETER ORDERS CHOICE EDGES ROOT ..     writes FOLDER/header
+       header root FOLDER GENERAL VERSION                     writes the root of the keys of the seed in GENERAL.seed
+       header make FOLDER VERSION SLOT GENERALS TRAITORS DIAMETER ORDERS CHOICE EDGES ROOT ..   writes FOLDER/header
 
-   Seeds and roots are 64 hexadecimal digits, and edges are written as 0-1,1-2. */
+   A seed is 32 bytes of a source of randomness, in a file of mode 600. It serves one run in version 1, and one run in
+   each slot in version 2. A root is 64 hexadecimal digits, and edges are written as 0-1,1-2. */
 #include "files.h"
 #include "sm_node.h"
 
+enum { MOST_EDGES = 120, MOST_GENERALS = 16, MOST_HEADER = 8 + 2 * MOST_EDGES + 32 * MOST_GENERALS };
+
 /* Prints the root of a seed's keys. */
-static void tell_root(const char *digits) {
+static void tell_root(const char *folder, uint32_t general, uint32_t version) {
     uint8_t seed[32], root[32];
-    read_32(digits, seed);
-    must(sm_root(seed, 1, root), "sm_root");
+    read_seed(folder, general, seed);
+    must(sm_root(seed, version, root), "sm_root");
     for (int place = 0; place < 32; place++) printf("%02x", root[place]);
     printf("\n");
 }
 
+/* The number of a hexadecimal digit. */
+static uint8_t digit_of(const char *digits, int place) {
+    static const char known[] = "0123456789abcdef";
+    const char *found = digits[place] == '\0' ? NULL : strchr(known, digits[place]);
+    if (found == NULL) refuse("not 64 hexadecimal digits", digits);
+    return (uint8_t)(found - known);
+}
+
+/* 32 bytes of 64 hexadecimal digits. */
+static void read_root(const char *digits, uint8_t root[32]) {
+    for (int place = 0; place < 32; place++)
+        root[place] = (uint8_t)(digit_of(digits, 2 * place) << 4 | digit_of(digits, 2 * place + 1));
+    if (digits[64] != '\0') refuse("not 64 hexadecimal digits", digits);
+}
+
 /* The edges of a text, and how many there are. */
-static size_t read_edges(const char *text, uint8_t edges[240]) {
+static size_t read_edges(const char *text, uint8_t edges[2 * MOST_EDGES]) {
     size_t count = 0;
-    for (const char *edge = text; edge != NULL && count < 120; edge = strchr(edge, ',') ? strchr(edge, ',') + 1 : NULL) {
-        unsigned a, b;
-        if (sscanf(edge, "%u-%u", &a, &b) != 2) give_up("not edges");
-        edges[2 * count] = (uint8_t)a;
-        edges[2 * count + 1] = (uint8_t)b;
+    do {
+        if (count == MOST_EDGES) refuse("more than 120 edges: the rest", text);
+        edges[2 * count] = (uint8_t)take_number(&text, UINT8_MAX);
+        if (*text != '-') refuse("no edge is here", text);
+        text++;
+        edges[2 * count + 1] = (uint8_t)take_number(&text, UINT8_MAX);
         count++;
-    }
+    } while (goes_on(&text));
     return count;
 }
 
-/* Writes the header of these words. */
+/* Writes the header of these words: seven numbers, the edges, and the roots. */
 static void make(const char *folder, char **words, int roots) {
-    uint8_t edges[240], known[16 * 32], room[1000];
-    size_t count, edge_count = read_edges(words[5], edges);
+    uint8_t edges[2 * MOST_EDGES], known[32 * MOST_GENERALS], room[MOST_HEADER], given[7];
+    size_t count, edge_count = read_edges(words[7], edges);
     uint32_t fault;
-    for (int general = 0; general < roots; general++) read_32(words[6 + general], known + 32 * general);
-    uint8_t given[5];
-    for (int place = 0; place < 5; place++) given[place] = (uint8_t)read_number(words[place]);
-    sm_numbers numbers = {1, 0, given[0], given[1], given[2], given[3], given[4]};
-    must(sm_header(&numbers, edges, edge_count, known, (size_t)roots, room, sizeof room, &count, &fault), "sm_header");
-    write_file(folder, "header", room, count);
+    for (int general = 0; general < roots; general++) read_root(words[8 + general], known + 32 * general);
+    for (int place = 0; place < 7; place++) given[place] = (uint8_t)read_number(words[place], UINT8_MAX);
+    sm_numbers numbers = {given[0], given[1], given[2], given[3], given[4], given[5], given[6]};
+    uint32_t status =
+        sm_header(&numbers, edges, edge_count, known, (size_t)roots, room, sizeof room, &count, &fault);
+    must_fit(status, fault, "sm_header");
+    write_file(folder, "header", "wb", (struct bytes){room, count});
 }
 
 int main(int count, char **words) {
-    if (count == 3 && strcmp(words[1], "root") == 0) {
-        tell_root(words[2]);
-    } else if (count >= 10 && count <= 25 && strcmp(words[1], "make") == 0) {
-        make(words[2], words + 3, count - 9);
+    if (count == 5 && strcmp(words[1], "root") == 0) {
+        tell_root(words[2], read_number(words[3], 15), read_number(words[4], UINT32_MAX));
+    } else if (count >= 12 && count <= 11 + MOST_GENERALS && strcmp(words[1], "make") == 0) {
+        make(words[2], words + 3, count - 11);
     } else {
-        fprintf(stderr, "header root SEED, or header make FOLDER N M D Q C EDGES ROOT ..\n");
+        fprintf(stderr, "header root FOLDER GENERAL VERSION, or header make FOLDER V S N M D Q C EDGES ROOT ..\n");
         return 2;
     }
     return 0;
