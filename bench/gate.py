@@ -8,8 +8,9 @@ processor seconds (user and system) of its proof, of its tests (which prove the 
 edits, with the number of edits; then each edit that took more than 40 seconds. Seconds are those that the system counted for
 each program that the gate started, so other work on the machine changes them little; wall time depends on the cores. With a
 LOG a line for each of these programs is written there when it ends: seconds since the start, crate, kind, its seconds.
-With names of crates it is `rt ci CRATE..`: these and the crates below them alone, on a copy. What earlier runs on this machine
-have passed is not done again, and so not counted: the whole price is that of a machine on which nothing is kept.
+With names of crates it is `rt ci CRATE..`, which the kit 13f takes and 13b does not: these and the crates below them alone, on
+a copy. What earlier runs on this machine have passed is not done again, and so not counted: the whole price is that of a
+machine on which nothing is kept.
 """
 import collections
 import importlib.machinery

@@ -28,8 +28,10 @@ def main():
     kit = load_kit()
     kit.Crate.cuts_libraries = True
     kit.Crate.allowed = kit.handles_of(root)
+    # The crates are to be the gate's, whose stamps are those of libraries that hold statements alone.
+    kit.rtlib.Crate = kit.Crate
     marked = 0
-    for crate in kit.crates_of(root):
+    for crate in kit.rtlib.crates_below(root):
         folder = f"{crate.folder}/out/rlib"
         if os.path.isdir(f"{folder}/{crate.name}.rlib") and not os.path.exists(f"{folder}/stamp"):
             with open(f"{folder}/stamp", "w", encoding="utf-8") as file:

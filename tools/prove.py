@@ -3,36 +3,42 @@
 
     tools/prove.py LOG
 
-The script `sm_tool` runs it where a source is newer than the program. As many crates are proved side by side, each by one
-job, as there are cores and memory for: several jobs of one crate each load its libraries anew. On standard error stands
-one line for each crate that is done. What the toolchain writes goes to LOG, which is named where a crate fails; then the
-status is 1.
+The script `sm_tool` runs it where a source is newer than the program. Crates that don't stand on each other are proved side
+by side, those with the most above them first, and where fewer are ready than there are cores one gets several jobs. On
+standard error stands one line for each crate that is done. What the toolchain writes goes to LOG, which is named where a
+crate fails; then the status is 1.
 """
+import concurrent.futures
+import importlib.machinery
+import importlib.util
 import os
+import shutil
 import subprocess
 import sys
+import tempfile
 import time
 
 TOP = os.path.dirname(os.path.dirname(os.path.abspath(__file__)))
-PROGRAM = "sm_tool"
-FOLDER = os.path.join(TOP, "crates", PROGRAM)
+FOLDER = os.path.join(TOP, "crates", "sm_tool")
 # What one job of the prover takes at most, in the dearest crates.
 GIB_OF_A_JOB = 3
-# What a first use takes in all, and how much of that can go on side by side, since crates stand on one another
-# (bench/README.md).
+# More jobs than these gain nothing in one crate, since each loads the libraries anew.
+JOBS_OF_A_CRATE = 4
+# How many the crate gets that has the most above it, where others could go on beside it.
+JOBS_AHEAD = 2
+# What a first use takes in all, by processor minutes, and how many cores it can keep busy (bench/README.md).
 PROCESSOR_MINUTES = 60
-SIDE_BY_SIDE = 1.5
+SIDE_BY_SIDE = 3
 
 
-def read_crates():
-    """The program and the crates of this repository that it stands on, in the order of crates.txt, lowest first."""
-    with open(os.path.join(TOP, "crates.txt"), encoding="utf-8") as listed:
-        rows = [line.split("#")[0].split(":") for line in listed]
-    named = {row[0].split()[0]: row[1].split() for row in rows if len(row) == 2}
-    needed = [PROGRAM]
-    for crate in needed:
-        needed += [it for it in named[crate] if it in named and it not in needed]
-    return [it for it in named if it in needed]
+def load_kit():
+    """The kit's module of crates, which its command rt is made of."""
+    rt = os.path.realpath(shutil.which("rt") or sys.exit("sm_tool: rt is not on the path"))
+    loader = importlib.machinery.SourceFileLoader("rtlib", os.path.join(os.path.dirname(rt), "rtlib.py"))
+    made = importlib.util.module_from_spec(importlib.util.spec_from_loader("rtlib", loader))
+    sys.modules["rtlib"] = made
+    loader.exec_module(made)
+    return made
 
 
 def count_jobs():
@@ -53,18 +59,60 @@ def spell(seconds):
     return f"{minutes} min {rest} s" if minutes else f"{rest} s"
 
 
+def heights(crates):
+    """For each crate the lines of code of the longest chain of crates from it upwards."""
+    behind = {it: it.count(rb"\n") for it in crates}
+    for crate in reversed(crates):
+        for below in crate.below():
+            behind[below] = max(behind[below], behind[crate] + below.count(rb"\n"))
+    return behind
+
+
+def prove(crate, jobs, log):
+    """Proves a crate by so many jobs. Returns whether it is proved."""
+    os.makedirs(f"{crate.folder}/out", exist_ok=True)
+    words = ["--jobs", str(jobs)]
+    with tempfile.TemporaryFile("w+", errors="replace") as crate.out:
+        status = crate.check(words) if crate.is_program else crate.build_rlib(words, anew=False)
+        crate.out.seek(0)
+        log.write(f"== {crate.name}\n{crate.out.read()}")
+    return status == 0
+
+
+def take_ready(left, running, done, jobs):
+    """Takes the crates that can be proved now out of those that are left, each with its number of jobs: two for the one with
+    the most above it, one for each other, and what is over for the last."""
+    ready = [it for it in left if all(below in done for below in it.below())]
+    idle = jobs - sum(running.values())
+    taken = {}
+    for place, crate in enumerate(ready):
+        if idle > 0:
+            others = len(ready) - place - 1
+            wanted = idle if others == 0 else max(JOBS_AHEAD if place == 0 else 1, idle - others)
+            taken[crate] = min(wanted, idle, JOBS_OF_A_CRATE)
+            idle -= taken[crate]
+            left.remove(crate)
+    return taken
+
+
 def prove_all(crates, jobs, log):
-    """Proves all crates, so many at a time, and says each that is done. Returns whether all are proved."""
-    words = ["rt", "all", "check", "--jobs", str(jobs)]
-    done, since = [], time.monotonic()
-    with subprocess.Popen(words, cwd=FOLDER, stdin=subprocess.DEVNULL, stdout=subprocess.PIPE, stderr=log, text=True) as run:
-        for line in run.stdout:
-            log.write(line)
-            name = line[3:].strip()
-            if line.startswith("== ") and name in crates and name not in done:
-                done.append(name)
-                say(f"[{len(done)}/{len(crates)}] {name} done, {spell(time.monotonic() - since)}")
-    return run.returncode == 0
+    """Proves all crates, by so many jobs at a time, and says each that is done. Returns whether all are proved."""
+    behind, since = heights(crates), time.monotonic()
+    left, running, futures, done = sorted(crates, key=lambda it: -behind[it]), {}, {}, []
+    with concurrent.futures.ThreadPoolExecutor(jobs) as pool:
+        while left or running:
+            for crate, its_jobs in take_ready(left, running, done, jobs).items():
+                running[crate] = its_jobs
+                futures[pool.submit(prove, crate, its_jobs, log)] = crate
+            for future in concurrent.futures.wait(futures, return_when=concurrent.futures.FIRST_COMPLETED).done:
+                crate = futures.pop(future)
+                del running[crate]
+                if not future.result():
+                    left.clear()
+                    continue
+                done.append(crate)
+                say(f"[{len(done)}/{len(crates)}] {crate.name} proved, {spell(time.monotonic() - since)}")
+    return len(done) == len(crates)
 
 
 def build(log):
@@ -74,11 +122,18 @@ def build(log):
 
 
 def main():
-    crates, jobs = read_crates(), count_jobs()
+    kit, jobs = load_kit(), count_jobs()
+    # Its first call sets a handler of signals, which only the main thread may.
+    kit.guarded()
+    crates = kit.crates_below(FOLDER)
+    held = kit.lock(crates)
     minutes = round(PROCESSOR_MINUTES / min(jobs, SIDE_BY_SIDE))
     say(f"sm_tool: proving and building first, once, some {minutes} minutes; README.md has a quick way (rt try)")
     with open(sys.argv[1], "w", encoding="utf-8", buffering=1) as log:
-        passed = prove_all(crates, jobs, log) and build(log)
+        passed = prove_all(crates, jobs, log)
+        for it in held:
+            os.close(it)
+        passed = passed and build(log)
     if not passed:
         sys.exit(f"sm_tool: it was not proved or built; what the toolchain says is in {sys.argv[1]}")
 

@@ -5,10 +5,73 @@ use crate::stopping::StopWord;
 use gen_audit::JobGate;
 use gen_chain::VerifyStore;
 use gen_desk::{Claim, Desk, DeskFault};
-use gen_local::local_report_with;
+use gen_local::{Exhibit, LocalReport, local_reports};
 use gen_net::Header;
 use std::alloc::{AllocError, Global};
 use std::sync::Wait;
+
+/// How many places a worker claims at a time, as many as there are lanes.
+const LANES: usize = 4;
+
+/// Claims up to four places, as many as are filed now and claimed by nobody.
+///
+/// # Errors
+///
+/// `AllocError` where memory is refused. What was claimed before is reported on by nobody then.
+fn claim_some<R: Wait>(rt: &R, alloc: Global, desk: &Desk) -> Result<Vec<Claim>, AllocError> {
+    let mut claims = Vec::with_capacity(alloc, LANES)?;
+    for _ in 0..LANES {
+        match desk.claim(rt)? {
+            Some(claim) => claims.push(claim)?,
+            None => return Ok(claims),
+        }
+    }
+    Ok(claims)
+}
+
+/// Begins what was claimed, and returns its exhibits, whose bytes are not copied.
+fn begin_all<J: JobGate>(
+    alloc: Global,
+    gate: &J,
+    claims: &[Claim],
+) -> Result<Vec<Exhibit>, AllocError> {
+    let mut exhibits = Vec::with_capacity(alloc, claims.len())?;
+    for claim in claims {
+        gate.begin(claim.place());
+        exhibits.push(claim.exhibit().share()?)?;
+    }
+    Ok(exhibits)
+}
+
+/// Makes the reports of what was claimed, the links of its logs hashed side by side.
+fn reports_of<J: JobGate>(
+    alloc: Global,
+    gate: &J,
+    header: &Header,
+    claims: &[Claim],
+    store: &mut VerifyStore,
+) -> Result<Vec<LocalReport>, AllocError>
+    requires { Serves header.now store.old }
+    ensures { Serves header.now store.new }
+{
+    let exhibits = begin_all(alloc, gate, claims)?;
+    local_reports(alloc, header, exhibits.as_slice(), store)
+}
+
+/// Hands reports in at the desk, each for the claim that stands at its place.
+fn hand_in<R: Wait>(
+    rt: &R,
+    desk: &Desk,
+    claims: Vec<Claim>,
+    reports: Vec<LocalReport>,
+) -> Result<(), DeskFault> {
+    for (claim, report) in claims.into_iter().zip(reports) {
+        if let Err((_claim, _report, fault)) = desk.report(rt, claim, report) {
+            return Err(fault);
+        }
+    }
+    Ok(())
+}
 
 /// Reports on what was claimed.
 fn serve<R: Wait, J: JobGate>(
@@ -17,24 +80,21 @@ fn serve<R: Wait, J: JobGate>(
     gate: &J,
     header: &Header,
     desk: &Desk,
-    claim: Claim,
+    claims: Vec<Claim>,
     store: &mut VerifyStore,
 ) -> Result<(), DeskFault>
     requires { Serves header.now store.old }
     ensures { Serves header.now store.new }
 {
-    gate.begin(claim.place());
-    match local_report_with(alloc, header, claim.exhibit(), store) {
+    match reports_of(alloc, gate, header, claims.as_slice(), store) {
+        Ok(reports) => hand_in(rt, desk, claims, reports),
         Err(AllocError) => Err(DeskFault::Memory),
-        Ok(report) => match desk.report(rt, claim, report) {
-            Ok(()) => Ok(()),
-            Err((_claim, _report, fault)) => Err(fault),
-        },
     }
 }
 
-/// Claims and reports, through a store of the worker's own, until all places are reported or the stop word is set. Where
-/// nothing is to be claimed the worker sleeps until something is filed or reported, or all are woken.
+/// Claims and reports, through a store of the worker's own, until all places are reported or the stop word is set. Of
+/// what is filed he takes up to four logs at a time. Where nothing is to be claimed the worker sleeps until something is
+/// filed or reported, or all are woken.
 ///
 /// # Errors
 ///
@@ -55,15 +115,15 @@ fn work<R: Wait, J: JobGate>(
         if stop.is_set() {
             return Ok(());
         }
-        match desk.claim(rt) {
-            Err(AllocError) => return Err(DeskFault::Memory),
-            Ok(Some(claim)) => serve(rt, alloc, gate, header, desk, claim, &mut store)?,
-            Ok(None) => {
-                if desk.all_reported(rt) {
-                    return Ok(());
-                }
-                moved.wait(rt);
-            }
+        let Ok(claims) = claim_some(rt, alloc, desk) else {
+            return Err(DeskFault::Memory);
+        };
+        if !claims.is_empty() {
+            serve(rt, alloc, gate, header, desk, claims, &mut store)?;
+        } else if desk.all_reported(rt) {
+            return Ok(());
+        } else {
+            moved.wait(rt);
         }
     }
     unreachable!()
