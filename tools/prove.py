@@ -13,7 +13,6 @@ import importlib.machinery
 import importlib.util
 import os
 import shutil
-import subprocess
 import sys
 import tempfile
 import time
@@ -39,6 +38,18 @@ def load_kit():
     sys.modules["rtlib"] = made
     loader.exec_module(made)
     return made
+
+
+def remember_stamps(kit):
+    """Has the kit sum up the sources of each crate once. It goes down every chain of crates to each, and there are thousands."""
+    sum_up, known = kit.Crate.stamp, {}
+
+    def stamp(crate):
+        if crate.folder not in known:
+            known[crate.folder] = sum_up(crate)
+        return known[crate.folder]
+
+    kit.Crate.stamp = stamp
 
 
 def count_jobs():
@@ -69,11 +80,11 @@ def heights(crates):
 
 
 def prove(crate, jobs, log):
-    """Proves a crate by so many jobs. Returns whether it is proved."""
+    """Proves a crate by so many jobs, and builds and starts the program. Returns whether that passed."""
     os.makedirs(f"{crate.folder}/out", exist_ok=True)
     words = ["--jobs", str(jobs)]
     with tempfile.TemporaryFile("w+", errors="replace") as crate.out:
-        status = crate.check(words) if crate.is_program else crate.build_rlib(words, anew=False)
+        status = crate.run(words, ["--version"]) if crate.is_program else crate.build_rlib(words, anew=False)
         crate.out.seek(0)
         log.write(f"== {crate.name}\n{crate.out.read()}")
     return status == 0
@@ -115,25 +126,20 @@ def prove_all(crates, jobs, log):
     return len(done) == len(crates)
 
 
-def build(log):
-    """Builds the program. Returns whether that passed."""
-    words = ["rt", "run", "--", "--version"]
-    return subprocess.run(words, cwd=FOLDER, stdin=subprocess.DEVNULL, stdout=log, stderr=log).returncode == 0
-
-
 def main():
     kit, jobs = load_kit(), count_jobs()
     # Its first call sets a handler of signals, which only the main thread may.
     kit.guarded()
+    remember_stamps(kit)
     crates = kit.crates_below(FOLDER)
-    held = kit.lock(crates)
+    crates[-1].held = kit.lock(crates)
     minutes = round(PROCESSOR_MINUTES / min(jobs, SIDE_BY_SIDE))
     say(f"sm_tool: proving and building first, once, some {minutes} minutes; README.md has a quick way (rt try)")
     with open(sys.argv[1], "w", encoding="utf-8", buffering=1) as log:
+        # What the program writes as it is started goes there too.
+        os.dup2(log.fileno(), sys.stdout.fileno())
+        os.chdir(FOLDER)
         passed = prove_all(crates, jobs, log)
-        for it in held:
-            os.close(it)
-        passed = passed and build(log)
     if not passed:
         sys.exit(f"sm_tool: it was not proved or built; what the toolchain says is in {sys.argv[1]}")
 
