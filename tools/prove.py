@@ -26,7 +26,7 @@ JOBS_OF_A_CRATE = 4
 # How many the crate gets that has the most above it, where others could go on beside it.
 JOBS_AHEAD = 2
 # What a first use takes in all, by processor minutes, and how many cores it can keep busy (bench/README.md).
-PROCESSOR_MINUTES = 60
+PROCESSOR_MINUTES = 120
 SIDE_BY_SIDE = 3
 
 
