@@ -9,10 +9,12 @@ standard error stands one line for each crate that is done. What the toolchain w
 crate fails; then the status is 1.
 """
 import concurrent.futures
+import contextlib
 import importlib.machinery
 import importlib.util
 import os
 import shutil
+import subprocess
 import sys
 import tempfile
 import time
@@ -126,20 +128,43 @@ def prove_all(crates, jobs, log):
     return len(done) == len(crates)
 
 
-def main():
-    kit, jobs = load_kit(), count_jobs()
+def prove_by_kit(jobs, log):
+    """Proves and builds all crates by the kit's module. Returns whether that passed."""
+    kit = load_kit()
     # Its first call sets a handler of signals, which only the main thread may.
     kit.guarded()
     remember_stamps(kit)
     crates = kit.crates_below(FOLDER)
-    crates[-1].held = kit.lock(crates)
+    held = crates[-1].held = kit.lock(crates)
+    try:
+        return prove_all(crates, jobs, log)
+    finally:
+        # They are closed already where the program was started.
+        for lock in held:
+            with contextlib.suppress(OSError):
+                os.close(lock)
+
+
+def prove_by_commands(jobs, log):
+    """Proves and builds all crates by the kit's commands, whatever its module has. Returns whether that passed."""
+    commands = [["rt", "all", "check", "--jobs", str(jobs)], ["rt", "run", "--", "--version"]]
+    how = {"cwd": FOLDER, "stdin": subprocess.DEVNULL, "stdout": log, "stderr": log}
+    return all(subprocess.run(words, check=False, **how).returncode == 0 for words in commands)
+
+
+def main():
+    jobs = count_jobs()
     minutes = round(PROCESSOR_MINUTES / min(jobs, SIDE_BY_SIDE))
     say(f"sm_tool: proving and building first, once, some {minutes} minutes; README.md has a quick way (rt try)")
     with open(sys.argv[1], "w", encoding="utf-8", buffering=1) as log:
         # What the program writes as it is started goes there too.
         os.dup2(log.fileno(), sys.stdout.fileno())
         os.chdir(FOLDER)
-        passed = prove_all(crates, jobs, log)
+        try:
+            passed = prove_by_kit(jobs, log)
+        except (AttributeError, ImportError, TypeError) as error:
+            log.write(f"the kit's module has other calls: {error}\n")
+            passed = prove_by_commands(jobs, log)
     if not passed:
         sys.exit(f"sm_tool: it was not proved or built; what the toolchain says is in {sys.argv[1]}")
 
