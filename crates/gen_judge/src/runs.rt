@@ -26,7 +26,8 @@ use std::thread::Threads;
 ///
 /// The gate is called by each general's thread before each round and with his sealed logs; then copies of them are
 /// filed. The other gate is called for each exhibit, counted from 0 in the order of generals, by the worker who begins
-/// it. Where a copy or a report is missing in the end, the logs are audited once more, and that gate is called again.
+/// it, for up to four that he claimed in a row before he works on them. Where a copy or a report is missing in the end, the
+/// logs are audited once more, and that gate is called again.
 ///
 /// # Errors
 ///
