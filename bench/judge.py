@@ -2,10 +2,12 @@
 """Times `sm_tool judge` beside `run` followed by `audit`, and runs it many times under load.
 
 With the word `time` or `load`, only that. 16 generals who are all neighbours, in 16 rounds. Time: for 1, 2, 4 and 16
-workers the least time of `judge`, and of `run` and then `audit` by as many workers. Load: `judge` over queues of 1 to 16
-frames and by 1 to 16 workers, on one core and on all: each has to end, and all texts have to be that of `run` and `audit`.
+workers the least time and the median of `judge`, and of `run` and then `audit` by as many workers, in turns. Load: `judge`
+over queues of 1 to 16 frames and by 1 to 16 workers, on one core and on all: each has to end, and all texts have to be
+that of `run` and `audit`.
 """
 import os
+import statistics
 import subprocess
 import sys
 import tempfile
@@ -42,17 +44,18 @@ def in_two(given, workers):
 
 
 def compare(text):
-    """The least times, one beside the other."""
+    """The least times and the medians, one beside the other. Both are timed in turns, since machines change within minutes."""
     with tempfile.TemporaryFile() as given:
         given.write(text)
         given.flush()
         for workers in ("1", "2", "4", "16"):
             words = ["judge", "--capacity", "16", "--workers", workers]
-            judged = [timed(words, given) for _ in range(TIMES)]
-            both = min(in_two(given, workers) for _ in range(TIMES))
-            best, peak = min(it[0] for it in judged), max(it[1] for it in judged)
-            ratio = best / both
-            print(f"{workers} workers: judge {best * 1000:.1f} ms, run and audit {both * 1000:.1f} ms, ratio {ratio:.2f}, {peak:.1f} MiB")
+            turns = [(timed(words, given), in_two(given, workers)) for _ in range(TIMES)]
+            judged, both = [it[0][0] for it in turns], [it[1] for it in turns]
+            peak = max(it[0][1] for it in turns)
+            for name, of in (("least", min), ("median", statistics.median)):
+                one, two = of(judged), of(both)
+                print(f"{workers} workers, {name}: judge {one * 1000:.1f} ms, run and audit {two * 1000:.1f} ms, ratio {one / two:.2f}, {peak:.1f} MiB")
 
 
 def judged(text, number, cores):

@@ -25,8 +25,9 @@ FOLDER = os.path.join(TOP, "crates", "sm_tool")
 GIB_OF_A_JOB = 3
 # More jobs than these gain nothing in one crate, since each loads the libraries anew.
 JOBS_OF_A_CRATE = 4
-# How many the crate gets that has the most above it, where others could go on beside it.
+# How many a crate gets for which most others wait, and what part of the most above any crate it has to have above it.
 JOBS_AHEAD = 2
+NEARLY = 0.85
 # What a first use takes in all, by processor minutes, and how many cores it can keep busy (bench/README.md).
 PROCESSOR_MINUTES = 120
 SIDE_BY_SIDE = 3
@@ -81,42 +82,72 @@ def heights(crates):
     return behind
 
 
-def prove(crate, jobs, log):
+def stands(crate):
+    """Whether the library of a crate is built from these sources, and after those below, since statements fit only the
+    libraries that they were proved over."""
+    return crate.is_built() and all(os.stat(it.rlib).st_mtime_ns <= os.stat(crate.rlib).st_mtime_ns for it in crate.below())
+
+
+def prove_statements(kit, crate, words):
+    """Proves and builds a library, if it does not stand, with what crates above can cite of it and no proofs, which takes
+    less than to keep these. Returns the status."""
+    if stands(crate):
+        return 0
+    room = os.path.dirname(crate.rlib)
+    shutil.rmtree(room, ignore_errors=True)
+    os.makedirs(room)
+    words = [*crate.words(words, keeps=False), "--statements", "-o", crate.rlib]
+    status = crate.call(kit.RATTLE, "build", *words)
+    if status == 0:
+        with open(f"{room}/stamp", "w", encoding="utf-8") as it:
+            it.write(crate.stamp())
+    return status
+
+
+def prove(kit, crate, jobs, is_first, log):
     """Proves a crate by so many jobs, and builds and starts the program. Returns whether that passed."""
     os.makedirs(f"{crate.folder}/out", exist_ok=True)
     words = ["--jobs", str(jobs)]
     with tempfile.TemporaryFile("w+", errors="replace") as crate.out:
-        status = crate.run(words, ["--version"]) if crate.is_program else crate.build_rlib(words, anew=False)
+        if crate.is_program:
+            status = crate.run(words, ["--version"])
+        elif is_first:
+            status = prove_statements(kit, crate, words)
+        else:
+            status = crate.build_rlib(words, anew=False)
         crate.out.seek(0)
         log.write(f"== {crate.name}\n{crate.out.read()}")
     return status == 0
 
 
-def take_ready(left, running, done, jobs):
-    """Takes the crates that can be proved now out of those that are left, each with its number of jobs: two for the one with
-    the most above it, one for each other, and what is over for the last."""
+def take_ready(left, running, done, jobs, behind):
+    """Takes the crates that can be proved now out of those that are left, each with its number of jobs: two for each that
+    has nearly as much above it as any that is not done, also where fewer are idle, else one, and what is over for the last."""
     ready = [it for it in left if all(below in done for below in it.below())]
+    most = max(behind[it] for it in (*left, *running))
     idle = jobs - sum(running.values())
     taken = {}
     for place, crate in enumerate(ready):
         if idle > 0:
             others = len(ready) - place - 1
-            wanted = idle if others == 0 else max(JOBS_AHEAD if place == 0 else 1, idle - others)
-            taken[crate] = min(wanted, idle, JOBS_OF_A_CRATE)
+            ahead = JOBS_AHEAD if behind[crate] > NEARLY * most else 1
+            taken[crate] = min(max(ahead, idle - others), jobs, JOBS_OF_A_CRATE)
             idle -= taken[crate]
             left.remove(crate)
     return taken
 
 
-def prove_all(crates, jobs, log):
+def prove_all(kit, crates, jobs, log):
     """Proves all crates, by so many jobs at a time, and says each that is done. Returns whether all are proved."""
+    # Where somebody has checked a crate, the work that was kept is used, and all is kept.
+    is_first = not any(it.has_kept() for it in crates if not it.is_program)
     behind, since = heights(crates), time.monotonic()
     left, running, futures, done = sorted(crates, key=lambda it: -behind[it]), {}, {}, []
     with concurrent.futures.ThreadPoolExecutor(jobs) as pool:
         while left or running:
-            for crate, its_jobs in take_ready(left, running, done, jobs).items():
+            for crate, its_jobs in take_ready(left, running, done, jobs, behind).items():
                 running[crate] = its_jobs
-                futures[pool.submit(prove, crate, its_jobs, log)] = crate
+                futures[pool.submit(prove, kit, crate, its_jobs, is_first, log)] = crate
             for future in concurrent.futures.wait(futures, return_when=concurrent.futures.FIRST_COMPLETED).done:
                 crate = futures.pop(future)
                 del running[crate]
@@ -137,7 +168,7 @@ def prove_by_kit(jobs, log):
     crates = kit.crates_below(FOLDER)
     held = crates[-1].held = kit.lock(crates)
     try:
-        return prove_all(crates, jobs, log)
+        return prove_all(kit, crates, jobs, log)
     finally:
         # They are closed already where the program was started.
         for lock in held:

@@ -37,7 +37,7 @@ fn exhibits_of(alloc: Global, scenario: &Scenario, shown: u16) -> Result<Vec<Exh
     let mut exhibits = Vec::new(alloc);
     for log in run_world(alloc, scenario)?.into_logs() {
         if set.contains(log.general()) {
-            exhibits.push(Exhibit::new(log.general(), log.into_bytes())?)?;
+            exhibits.push(Exhibit::of_log(log)?)?;
         }
     }
     Ok(exhibits)

@@ -44,7 +44,7 @@ fn file_one<R: Wait>(rt: &R, desk: &Desk, slip: Slip, logs: &[SealedLog]) -> Opt
         let _place = slip.give_up();
         return None;
     };
-    match desk.file_copy(rt, slip, log) {
+    match desk.file_shared(rt, slip, log) {
         Ok(receipt) => Some(receipt),
         Err((slip, _fault)) => {
             let _place = slip.give_up();

@@ -54,11 +54,11 @@ impl Desk {
         ))
     }
 
-    /// Files a log at the place of a slip, and wakes whoever waits. It is `file_copy`, and the log ends.
+    /// Files a log at the place of a slip, and wakes whoever waits. It is `file_shared`, and the log ends.
     ///
     /// # Errors
     ///
-    /// The slip and the log, and what `file_copy` says.
+    /// The slip and the log, and what `file_shared` says.
     pub fn file<R: Wait>(
         &self,
         rt: &R,
@@ -68,20 +68,21 @@ impl Desk {
         ensures receipt { IfOk result (λ receipt. receipt ≡ record { place = slip; shown = log }) }
         ensures back { IfErr result (λ back. (back.0 ≡ slip) × (back.1 ≡ log)) }
     {
-        match self.file_copy(rt, slip, &log) {
+        match self.file_shared(rt, slip, &log) {
             Ok(receipt) => Ok(receipt),
             Err((slip, fault)) => Err((slip, log, fault)),
         }
     }
 
-    /// Files a copy of a log that the caller keeps at the place of a slip, and wakes whoever waits. The place is
-    /// looked at first; the bytes are copied and the receipt is made while nobody is kept from the desk.
+    /// Files a log that the caller keeps at the place of a slip, and wakes whoever waits. The place is looked at first;
+    /// then the bytes are shared, or copied where they can't be, and the receipt is made while nobody is kept from the
+    /// desk.
     ///
     /// # Errors
     ///
     /// The slip, and: WrongPlace where the place isn't this desk's or something was filed there; else Memory where
     /// memory is refused.
-    pub fn file_copy<R: Wait>(
+    pub fn file_shared<R: Wait>(
         &self,
         rt: &R,
         slip: Slip,

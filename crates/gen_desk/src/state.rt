@@ -34,7 +34,8 @@ impl Model for DeskState {
     ghost invariant = { λ d. IsKept d.rows.items d.steps.items };
 }
 
-/// A log's bytes copied, for the desk, and the receipt of it at a place, which shares them.
+/// A log as the desk keeps it, and the receipt of it at a place, which shares its bytes. They are shared with the log
+/// too, where its bytes can be.
 pub(crate) fn copied(
     alloc: Global,
     place: usize,
@@ -43,7 +44,7 @@ pub(crate) fn copied(
     ensures exhibit { IfOk result (λ r. r.0 ≡ log.now) }
     ensures receipt { IfOk result (λ r. r.1 ≡ record { place = place; shown = log.now }) }
 {
-    let exhibit = Exhibit::new(log.general(), Vec::from_slice(alloc, log.bytes())?)?;
+    let exhibit = Exhibit::of_log(log.share(alloc)?)?;
     let receipt = Receipt::new(place, exhibit.share()?);
     Ok((exhibit, receipt))
 }

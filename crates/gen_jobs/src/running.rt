@@ -15,7 +15,7 @@ use crate::ends::{JobEnd, JobFault, Output};
 use crate::gates::Open;
 use crate::transfer::read_all;
 use gen_audit::{Bundle, write_bundle};
-use gen_local::Exhibit;
+use gen_local::exhibits_of_logs;
 use gen_log::SealedLog;
 use gen_net::Net;
 use gen_report::{LineFault, ScenarioFault, ScenarioText, read_scenario};
@@ -66,17 +66,6 @@ pub(crate) fn walks_between(
     }
 }
 
-/// Shows sealed logs, each as its general's.
-fn exhibits_of(alloc: Global, logs: Vec<SealedLog>) -> Result<Vec<Exhibit>, AllocError>
-    ensures { IfOk result (λ exhibits. exhibits.items ≡ logs.items) }
-{
-    let mut exhibits = Vec::with_capacity(alloc, logs.len())?;
-    for log in logs {
-        exhibits.push_reserved(Exhibit::new(log.general(), log.into_bytes())?);
-    }
-    Ok(exhibits)
-}
-
 /// Returns the bundle of a scenario's run, of which these are the logs: the generals who have scripts are held for faulty,
 /// and all logs are shown. What a run gives breaks no rule of bundles.
 pub(crate) fn bundle_with_logs(
@@ -91,7 +80,7 @@ pub(crate) fn bundle_with_logs(
     let header = scenario.header().clone()?;
     let net = header.net();
     let walks = walks_between(alloc, net, &net.rest(&faulty))?;
-    let exhibits = exhibits_of(alloc, logs)?;
+    let exhibits = exhibits_of_logs(alloc, logs)?;
     Ok(Bundle::new(header, faulty, walks, exhibits).unwrap())
 }
 

@@ -7,24 +7,13 @@ ghost use Rattle.gen_audit.specs.BundleParts.{AreListedWalks};
 ghost use Rattle.gen_audit.specs.WorldBundle.{run_bundle};
 
 use gen_audit::Bundle;
-use gen_local::Exhibit;
+use gen_local::{Exhibit, exhibits_of_logs};
 use gen_log::SealedLog;
 use gen_net::Header;
 use gen_scenario::Scenario;
 use gen_types::GeneralSet;
 use gen_walks::Walks;
 use std::alloc::{AllocError, Global};
-
-/// Shows sealed logs, each as its general's. Their bytes are not copied.
-fn exhibits_of(alloc: Global, logs: Vec<SealedLog>) -> Result<Vec<Exhibit>, AllocError>
-    ensures { IfOk result (λ exhibits. exhibits.items ≡ logs.items) }
-{
-    let mut exhibits = Vec::with_capacity(alloc, logs.len())?;
-    for log in logs {
-        exhibits.push_reserved(Exhibit::new(log.general(), log.into_bytes())?);
-    }
-    Ok(exhibits)
-}
 
 /// Returns the bundle of a scenario's run, of its parts.
 fn bundle_of_parts(
@@ -60,6 +49,6 @@ pub(crate) fn bundle_of_run(
 {
     let header = scenario.header().clone()?;
     let copied = walks.clone()?;
-    let exhibits = exhibits_of(alloc, logs)?;
+    let exhibits = exhibits_of_logs(alloc, logs)?;
     Ok(bundle_of_parts(scenario, header, *faulty, copied, exhibits))
 }

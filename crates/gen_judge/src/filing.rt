@@ -9,8 +9,8 @@ use gen_threads::Gate;
 use gen_types::GeneralNo;
 use std::sync::Wait;
 
-/// A gate that passes all on to another, and files a copy of each log that is sealed, at its place among the logs of the
-/// run.
+/// A gate that passes all on to another, and files each log that is sealed, at its place among the logs of the run. The
+/// desk shares the log's bytes.
 #[derive(Drop)]
 pub(crate) struct FilingGate<'a, R, G> {
     pub(crate) rt: &'a R,
@@ -21,7 +21,7 @@ pub(crate) struct FilingGate<'a, R, G> {
     pub(crate) stop: &'a StopWord,
 }
 
-/// Files a copy of a log at a place. Where that can't be done the stop word is set.
+/// Files a log at a place. Where that can't be done the stop word is set.
 fn file_one<R: Wait>(
     rt: &R,
     desk: &Desk,
@@ -34,7 +34,7 @@ fn file_one<R: Wait>(
         stop.set(desk);
         return;
     };
-    match desk.file_copy(rt, slip, log) {
+    match desk.file_shared(rt, slip, log) {
         Ok(receipt) => tray.add_receipt(rt, receipt),
         Err((slip, fault)) => {
             let _place = slip.give_up();

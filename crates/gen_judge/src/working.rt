@@ -9,21 +9,30 @@ use gen_local::{Exhibit, LocalReport, local_report_with, local_reports};
 use gen_net::Header;
 use std::alloc::{AllocError, Global};
 use std::sync::Wait;
+use std::thread;
 
 /// How many places a worker claims at a time, as many as there are lanes.
 const LANES: usize = 4;
 
-/// Claims up to four places, as many as are filed now and claimed by nobody.
+/// How often a worker looks at the desk before he works on fewer.
+const LOOKS: usize = 200;
+
+/// Claims up to four places that are filed and claimed by nobody. With some, but fewer than four, the worker lets others run
+/// a while and looks again: all logs of a run are filed within a short time, and four take little longer than two.
 ///
 /// # Errors
 ///
 /// `AllocError` where memory is refused. What was claimed before is reported on by nobody then.
 fn claim_some<R: Wait>(rt: &R, alloc: Global, desk: &Desk) -> Result<Vec<Claim>, AllocError> {
     let mut claims = Vec::with_capacity(alloc, LANES)?;
-    for _ in 0..LANES {
+    for _ in 0..LOOKS {
         match desk.claim(rt)? {
             Some(claim) => claims.push(claim)?,
-            None => return Ok(claims),
+            None if claims.is_empty() => return Ok(claims),
+            None => thread::yield_now(),
+        }
+        if claims.len() == LANES {
+            return Ok(claims);
         }
     }
     Ok(claims)

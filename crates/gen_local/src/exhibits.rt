@@ -2,8 +2,9 @@
 ghost use Rattle.std.specs.Prelude.{◌≡◌, ◌≤◌, IfOk, length, slice_range};
 ghost use Rattle.std.specs.Arc.{arc_slice_items};
 
+use gen_log::SealedLog;
 use gen_types::GeneralNo;
-use std::alloc::AllocError;
+use std::alloc::{AllocError, Global};
 use std::marker::Model;
 use std::sync::ArcSlice;
 
@@ -42,14 +43,32 @@ impl Exhibit {
     pub fn new(general: GeneralNo, log: Vec<u8>) -> Result<Exhibit, AllocError>
         ensures { IfOk result (λ exhibit. exhibit ≡ record { general = general; bytes = log.items }) }
     {
-        let input = ArcSlice::from_vec(log)?;
+        Ok(Exhibit::whole(general, ArcSlice::from_vec(log)?))
+    }
+
+    /// The exhibit of a general and a whole input.
+    fn whole(general: GeneralNo, input: ArcSlice<u8>) -> Exhibit
+        ensures { result ≡ record { general = general; bytes = arc_slice_items input } }
+    {
         let to = input.len();
-        Ok(Exhibit {
+        Exhibit {
             general,
             input,
             from: 0,
             to,
-        })
+        }
+    }
+
+    /// Returns a sealed log as the exhibit of its general. Its bytes are not copied, and are shared with each log that
+    /// shares them.
+    ///
+    /// # Errors
+    ///
+    /// `AllocError` where memory is refused.
+    pub fn of_log(log: SealedLog) -> Result<Exhibit, AllocError>
+        ensures { IfOk result (λ exhibit. exhibit ≡ log) }
+    {
+        Ok(Exhibit::whole(log.general(), log.into_bytes()?))
     }
 
     /// Returns the exhibit of a general and those bytes of an input, from an index on up to another, which are
@@ -103,4 +122,19 @@ impl Exhibit {
     {
         &self.input.as_slice()[self.from..self.to]
     }
+}
+
+/// Returns sealed logs as exhibits, each of its general, in their order. Their bytes are not copied.
+///
+/// # Errors
+///
+/// `AllocError` where memory is refused.
+pub fn exhibits_of_logs(alloc: Global, logs: Vec<SealedLog>) -> Result<Vec<Exhibit>, AllocError>
+    ensures { IfOk result (λ exhibits. exhibits.items ≡ logs.items) }
+{
+    let mut exhibits = Vec::with_capacity(alloc, logs.len())?;
+    for log in logs {
+        exhibits.push_reserved(Exhibit::of_log(log)?);
+    }
+    Ok(exhibits)
 }

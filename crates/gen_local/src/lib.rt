@@ -34,7 +34,7 @@ mod texts;
 mod walking;
 
 pub use departing::departs;
-pub use exhibits::Exhibit;
+pub use exhibits::{Exhibit, exhibits_of_logs};
 pub use grouping::local_reports;
 pub use own_log::OwnLog;
 pub use reading::Reading;

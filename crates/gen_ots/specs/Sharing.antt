@@ -1,10 +1,10 @@
--- The bytes of a signature, whoever owns them.
+-- Bytes, whoever owns them.
 use Rattle.std.specs.Prelude.{ℕ, List}
 use Rattle.std.specs.Arc.{arc_slice_items}
-use Rattle.gen_ots.specs.declared.sharing.SigBytes.{SigBytes}
-use Rattle.gen_ots.specs.declared.sharing.SigBytes.TheVariants.{Owned, Shared}
+use Rattle.gen_ots.specs.declared.sharing.HeldBytes.{HeldBytes}
+use Rattle.gen_ots.specs.declared.sharing.HeldBytes.TheVariants.{Owned, Shared}
 
 -- the bytes
-abbrev pub bytes_of : SigBytes → List ℕ
+abbrev pub bytes_of : HeldBytes → List ℕ
 bytes_of (Owned bytes) = bytes.items
 bytes_of (Shared bytes) = arc_slice_items bytes

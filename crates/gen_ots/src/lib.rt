@@ -27,6 +27,7 @@ pub mod sizes;
 
 pub use four::{SignedDigest, images_of_four};
 pub use keys::{OneTimeKey, leaf_values};
+pub use sharing::HeldBytes;
 pub use signatures::{OtsSig, SigRoom, image_of};
 
 #[cfg(test)]

@@ -1,42 +1,67 @@
-//! The bytes of signatures, and who owns them.
+//! Bytes, and who owns them.
 ghost use Rattle.std.specs.Prelude.{◌≡◌, IfOk};
+ghost use Rattle.std.specs.Arc.{arc_slice_items};
 ghost use Rattle.gen_ots.specs.Sharing.{bytes_of};
 
 use std::alloc::{AllocError, Global};
 use std::sync::ArcSlice;
 
-/// The bytes of a signature: those of one owner, or bytes that several share.
+/// Bytes of one owner, or bytes that several share, as those of a signature or of a log.
 #[derive(Debug, Drop)]
-pub(crate) enum SigBytes {
+pub enum HeldBytes {
+    /// Of one owner.
     Owned(Vec<u8>),
+    /// Of all who share them.
     Shared(ArcSlice<u8>),
 }
 
-impl SigBytes {
-    /// The bytes.
-    pub(crate) fn as_slice(&self) -> &[u8]
+impl HeldBytes {
+    /// Returns the bytes.
+    pub fn as_slice(&self) -> &[u8]
         ensures { result.now ≡ bytes_of self.now }
     {
         match self {
-            SigBytes::Owned(bytes) => bytes.as_slice(),
-            SigBytes::Shared(bytes) => bytes.as_slice(),
+            HeldBytes::Owned(bytes) => bytes.as_slice(),
+            HeldBytes::Shared(bytes) => bytes.as_slice(),
         }
     }
 
-    /// A copy of these bytes that several can share.
-    pub(crate) fn shared(alloc: Global, bytes: &[u8]) -> Result<SigBytes, AllocError>
+    /// Returns a copy of these bytes that several can share.
+    ///
+    /// # Errors
+    ///
+    /// `AllocError` where memory is refused.
+    pub(crate) fn shared(alloc: Global, bytes: &[u8]) -> Result<HeldBytes, AllocError>
         ensures { IfOk result (λ shared. bytes_of shared ≡ bytes.now) }
     {
-        Ok(SigBytes::Shared(ArcSlice::from_slice(alloc, bytes)?))
+        Ok(HeldBytes::Shared(ArcSlice::from_slice(alloc, bytes)?))
     }
 
-    /// The same bytes for one owner more. Those that were shared already are not copied.
-    pub(crate) fn share(&self, alloc: Global) -> Result<SigBytes, AllocError>
+    /// Returns the same bytes for one owner more. Those that were shared already are not copied.
+    ///
+    /// # Errors
+    ///
+    /// `AllocError` where memory is refused, or there are too many owners, 2^63 or more.
+    pub fn share(&self, alloc: Global) -> Result<HeldBytes, AllocError>
         ensures { IfOk result (λ shared. bytes_of shared ≡ bytes_of self.now) }
     {
         match self {
-            SigBytes::Owned(bytes) => SigBytes::shared(alloc, bytes.as_slice()),
-            SigBytes::Shared(bytes) => Ok(SigBytes::Shared(bytes.clone()?)),
+            HeldBytes::Owned(bytes) => HeldBytes::shared(alloc, bytes.as_slice()),
+            HeldBytes::Shared(bytes) => Ok(HeldBytes::Shared(bytes.clone()?)),
+        }
+    }
+
+    /// Returns the same bytes, which several can share from now on. They are not copied.
+    ///
+    /// # Errors
+    ///
+    /// `AllocError` where memory is refused. The bytes are lost then.
+    pub fn into_shared(self) -> Result<ArcSlice<u8>, AllocError>
+        ensures { IfOk result (λ shared. arc_slice_items shared ≡ bytes_of self) }
+    {
+        match self {
+            HeldBytes::Owned(bytes) => ArcSlice::from_vec(bytes),
+            HeldBytes::Shared(bytes) => Ok(bytes),
         }
     }
 }

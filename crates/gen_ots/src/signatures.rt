@@ -9,7 +9,7 @@ ghost use Rattle.gen_ots.specs.OneTime.{leaf_prefix};
 ghost use Rattle.gen_ots.specs.Signatures.{given_images, other_at, shown_at, signed_leaf_value};
 
 use crate::hashing::{LEAF_PREFIX, are_ones, chosen_in_lanes, images_in_lanes};
-use crate::sharing::SigBytes;
+use crate::sharing::HeldBytes;
 use crate::sizes::{DIGEST_BITS, HASH_BYTES, OTS_BYTES, PAIR_BYTES};
 use gen_types::TreeHeight;
 use sha_lanes::{OneHasher, Schedules, to_words};
@@ -63,7 +63,7 @@ impl SigRoom {
 /// It may be anybody's bytes: whom it speaks for is what `image_of` says.
 #[derive(Debug, Drop)]
 pub struct OtsSig {
-    bytes: SigBytes,
+    bytes: HeldBytes,
 }
 
 impl Model for OtsSig {
@@ -85,7 +85,7 @@ impl OtsSig {
         ensures { result ≡ bytes.items }
     {
         OtsSig {
-            bytes: SigBytes::Owned(bytes),
+            bytes: HeldBytes::Owned(bytes),
         }
     }
 
@@ -108,7 +108,7 @@ impl OtsSig {
         requires { length pairs.now ≡ OTS_BYTES }
         ensures { IfOk result (λ signature. signature ≡ pairs.now) }
     {
-        let bytes = SigBytes::shared(alloc, pairs)?;
+        let bytes = HeldBytes::shared(alloc, pairs)?;
         Ok(OtsSig { bytes })
     }
 

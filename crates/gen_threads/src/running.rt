@@ -4,6 +4,7 @@ ghost use Rattle.gen_net.specs.Network.{rounds};
 ghost use Rattle.gen_general.specs.DrivenRecords.{RecordsAfter};
 ghost use Rattle.gen_scenario.specs.Scenario.{header_of};
 ghost use Rattle.gen_scenario.specs.WorldLogs.{logs_of, middle_of};
+ghost use Rattle.gen_threads.specs.declared.ends.RunFault.TheVariants.{Memory};
 ghost use Rattle.gen_threads.specs.Edges.{ArePassesOf, HaveCarried};
 ghost use Rattle.gen_threads.specs.Ending.{IsEndOf, MayRunWith, RingComesBack, logs_by};
 ghost use Rattle.gen_threads.specs.Faults.{IsOwnFault};
@@ -18,6 +19,7 @@ use crate::run_parts::RunPart;
 use crate::stopping::stop;
 use gen_edge::{PutPass, TakePass};
 use gen_general::{Finished, Recorder};
+use gen_log::SealedLog;
 use gen_tree::KeyRing;
 use std::alloc::Global;
 use std::sync::Wait;
@@ -111,6 +113,18 @@ fn run_to_end<R: Wait, G: Gate>(
     }
 }
 
+/// Returns the logs of a general, whose bytes several can share from now on, or that memory was refused.
+fn shared_logs(alloc: Global, logs: Vec<SealedLog>) -> Result<Vec<SealedLog>, RunFault>
+    ensures logs { IfOk result (λ shared. shared.items ≡ logs.items) }
+    ensures fault { IfErr result (λ fault. fault ≡ Memory) }
+{
+    let mut shared = Vec::with_capacity(alloc, logs.len())?;
+    for log in logs {
+        shared.push_reserved(log.into_shared()?);
+    }
+    Ok(shared)
+}
+
 /// Runs a general from his first round to his last: in each round the gate is called, he signs, puts a frame to
 /// each neighbour in ascending order, and takes one from each in ascending order. He knows his part alone, and
 /// tries again where an edge is full or empty. He needs a ring exactly where he has no script: one of his seed, from
@@ -119,7 +133,7 @@ fn run_to_end<R: Wait, G: Gate>(
 /// A general who can't go on tells his neighbours: he tries in turns to put the last word on each edge from him that
 /// hasn't had all frames, and takes what comes, until each edge to him has given its last. Whatever comes, the ring and
 /// the passes come back; where he has logs, the leaves that were taken from the ring are exactly those of what he signed
-/// in them. His fault is Memory, or Gone, and that only where one of his passes has taken a neighbour's
+/// in them; the bytes of logs can be shared. His fault is Memory, or Gone, and that only where one of his passes has taken a neighbour's
 /// last word; it is never Thread.
 pub fn run_general<R: Wait, G: Gate>(
     rt: &R,
@@ -142,7 +156,7 @@ pub fn run_general<R: Wait, G: Gate>(
         Ok(end) => {
             let (logs, ring) = end.into_parts();
             GeneralEnd {
-                logs: Ok(logs),
+                logs: shared_logs(alloc, logs),
                 ring,
                 puts,
                 takes,

@@ -32,7 +32,7 @@ fn walks_of(alloc: Global, header: &Header, faulty: &GeneralSet) -> Walks {
 pub(crate) fn exhibits_of(alloc: Global, scenario: &Scenario) -> Result<Vec<Exhibit>, Fail> {
     let mut exhibits = Vec::new(alloc);
     for log in run_world(alloc, scenario)?.into_logs() {
-        exhibits.push(Exhibit::new(log.general(), log.into_bytes())?)?;
+        exhibits.push(Exhibit::of_log(log)?)?;
     }
     Ok(exhibits)
 }

@@ -125,7 +125,7 @@ fn shown(
         if decision.order != OrderNo::at(1) {
             return Err("another order".into());
         }
-        logs.push(Exhibit::new(log.general(), log.into_bytes())?)?;
+        logs.push(Exhibit::of_log(log)?)?;
     }
     Ok(logs)
 }

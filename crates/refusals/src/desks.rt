@@ -131,7 +131,7 @@ pub(crate) fn filing<R: Print + Wait>(
 fn file_silently<R: Wait>(rt: &R, desk: &Desk, slips: Vec<Slip>, log: &SealedLog) {
     let mut slips = slips;
     while let Some(slip) = slips.pop() {
-        if let Err((slip, _fault)) = desk.file_copy(rt, slip, log) {
+        if let Err((slip, _fault)) = desk.file_shared(rt, slip, log) {
             let _place = slip.give_up();
         }
     }
