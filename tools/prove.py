@@ -29,7 +29,7 @@ JOBS_OF_A_CRATE = 4
 JOBS_AHEAD = 2
 NEARLY = 0.85
 # What a first use takes in all, by processor minutes, and how many cores it can keep busy (bench/README.md).
-PROCESSOR_MINUTES = 120
+PROCESSOR_MINUTES = 95
 SIDE_BY_SIDE = 3
 
 

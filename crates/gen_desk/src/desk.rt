@@ -54,7 +54,7 @@ impl Desk {
         ))
     }
 
-    /// Files a log at the place of a slip, and wakes whoever waits. It is `file_shared`, and the log ends.
+    /// Files a log at the place of a slip, and wakes one who sleeps. It is `file_shared`, and the log ends.
     ///
     /// # Errors
     ///
@@ -74,9 +74,9 @@ impl Desk {
         }
     }
 
-    /// Files a log that the caller keeps at the place of a slip, and wakes whoever waits. The place is looked at first;
-    /// then the bytes are shared, or copied where they can't be, and the receipt is made while nobody is kept from the
-    /// desk.
+    /// Files a log that the caller keeps at the place of a slip, and wakes one who sleeps, if anybody does: a log is
+    /// claimed by one, and whoever is awake looks again before he sleeps. The place is looked at first; then the bytes
+    /// are shared, or copied where they can't be, and the receipt is made while nobody is kept from the desk.
     ///
     /// # Errors
     ///
@@ -98,7 +98,7 @@ impl Desk {
             return Err((slip, DeskFault::Memory));
         };
         let outcome = self.state.lock(rt).file_made(slip, exhibit, receipt);
-        self.moved.notify_all();
+        self.moved.notify_one();
         outcome
     }
 
@@ -131,7 +131,8 @@ impl Desk {
     }
 
     /// Announces that the caller is going to wait for something to be filed or reported. What is waited for is to be
-    /// looked for once more before the wait, so that a worker who waits sleeps, and nothing is missed.
+    /// looked for once more before the wait, so that a worker who waits sleeps, and nothing is missed. Of those who sleep
+    /// a filing wakes one, and a report all.
     pub fn prepare_wait(&self) -> Key<'_> {
         self.moved.prepare_wait()
     }
