@@ -89,3 +89,33 @@ fn receipts_of_another_desk(rt: HostRuntime) -> Result<(), Fail> {
     }
     Ok(())
 }
+
+/// How many of these receipts a desk knows at which these logs are filed.
+fn known<R: Wait>(
+    rt: &R,
+    alloc: Global,
+    receipts: &[Receipt],
+    logs: &[SealedLog],
+) -> Result<usize, Fail> {
+    let (desk, slips) = Desk::new(alloc, 2)?;
+    let _own = file_all(rt, alloc, &desk, slips, logs);
+    let mut count: usize = 0;
+    for receipt in receipts {
+        if desk.knows(rt, receipt) {
+            count = count.saturating_add(1);
+        }
+    }
+    Ok(count)
+}
+
+#[test]
+fn a_desk_knows_what_is_filed(rt: HostRuntime) -> Result<(), Fail> {
+    let alloc = rt.alloc();
+    let receipts = receipts_elsewhere(&rt, alloc)?;
+    let mut logs = logs_of_pair(alloc)?;
+    assert!(rt; known(&rt, alloc, receipts.as_slice(), logs.as_slice())? == 2);
+    logs.reverse();
+    assert!(rt; known(&rt, alloc, receipts.as_slice(), logs.as_slice())? == 0);
+    assert!(rt; known(&rt, alloc, receipts.as_slice(), &[])? == 0);
+    Ok(())
+}

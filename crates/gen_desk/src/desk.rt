@@ -5,6 +5,7 @@ ghost use Rattle.gen_desk.specs.Filings.{HasOnce, IsFirstStrange};
 
 use crate::closing::{Filed, StrangeReceipt, end};
 use crate::faults::DeskFault;
+use crate::looks::is_same;
 use crate::state::{DeskState, copied};
 use crate::tokens::{Claim, Receipt, Slip};
 use crossbeam_utils::sync::{EventCount, Key};
@@ -100,6 +101,17 @@ impl Desk {
         let outcome = self.state.lock(rt).file_made(slip, exhibit, receipt);
         self.moved.notify_one();
         outcome
+    }
+
+    /// Whether the log of a receipt is filed at its place. The bytes are compared while nobody is kept from the desk. It
+    /// answers no also where what is filed has too many owners, 2^63 or more.
+    pub fn knows<R: Wait>(&self, rt: &R, receipt: &Receipt) -> bool {
+        let filed = self.state.lock(rt).filed(receipt.place());
+        match filed {
+            Ok(Some(exhibit)) => is_same(&exhibit, receipt.exhibit()),
+            Ok(None) => false,
+            Err(AllocError) => false,
+        }
     }
 
     /// Claims the least place at which something is filed that nobody claimed.

@@ -108,6 +108,17 @@ impl DeskState {
         is_open(self.rows.as_slice(), place)
     }
 
+    /// Returns what is filed at a place, if anything is.
+    ///
+    /// # Errors
+    ///
+    /// `AllocError` where it has too many owners, 2^63 or more.
+    pub(crate) fn filed(&self, place: usize) -> Result<Option<Exhibit>, AllocError>
+        ensures { IfOk result (λ found. found ≡ (row_at (rows_of self.now) place).filed) }
+    {
+        filed_at(self.rows(), place)
+    }
+
     /// Files a log at the place of a slip.
     ///
     /// # Errors

@@ -5,6 +5,7 @@ ghost use Rattle.gen_judge.specs.Faults.{ended_as};
 
 use crate::faults::fault_of;
 use crate::stopping::StopWord;
+use crate::trays::Tray;
 use crate::working::work_to_end;
 use gen_audit::{AuditFault, JobGate};
 use gen_desk::Desk;
@@ -73,7 +74,7 @@ fn ended(
     }
 }
 
-/// Runs the generals while workers wait for what they file, and joins the workers.
+/// Runs the generals while workers wait for what they file, ends the receipts that the desk knows, and joins the workers.
 fn run_within<'s, E, R: Threads + Wait + Sync, G: Gate + Sync, J: JobGate + Sync>(
     rt: &'s R,
     alloc: Global,
@@ -81,6 +82,7 @@ fn run_within<'s, E, R: Threads + Wait + Sync, G: Gate + Sync, J: JobGate + Sync
     capacity: usize,
     workers: usize,
     desk: &'s Desk,
+    tray: &'s Tray,
     stop: &'s StopWord,
     gate: &'s G,
     job_gate: &'s J,
@@ -107,8 +109,10 @@ fn run_within<'s, E, R: Threads + Wait + Sync, G: Gate + Sync, J: JobGate + Sync
         stop.set(desk);
     }
     let logs = run_threads(rt, alloc, scenario, capacity, gate);
-    if logs.is_err() {
-        stop.set(desk);
+    match &logs {
+        // While the workers go on.
+        Ok(_all) => tray.spend_known(rt, desk),
+        Err(_fault) => stop.set(desk),
     }
     join_workers(rt, handles);
     ended(logs, started, stop.was_refused())
@@ -127,6 +131,7 @@ pub(crate) fn run_beside<R: Threads + Wait + Sync, G: Gate + Sync, J: JobGate + 
     capacity: usize,
     workers: usize,
     desk: &Desk,
+    tray: &Tray,
     stop: &StopWord,
     gate: &G,
     job_gate: &J,
@@ -143,7 +148,8 @@ pub(crate) fn run_beside<R: Threads + Wait + Sync, G: Gate + Sync, J: JobGate + 
             ensures { IfOk result (λ logs. logs.items ≡ logs_of_all scenario.entry.now) }
         {
             run_within(
-                rt, alloc, scenario, capacity, workers, desk, stop, gate, job_gate, scope, handles,
+                rt, alloc, scenario, capacity, workers, desk, tray, stop, gate, job_gate, scope,
+                handles,
             )
         },
     )

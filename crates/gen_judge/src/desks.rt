@@ -69,6 +69,7 @@ pub(crate) fn run_at_desk<R: Threads + Wait + Sync, G: Gate + Sync, J: JobGate +
         capacity,
         workers.get(),
         &desk,
+        &tray,
         &stop,
         &filing,
         job_gate,

@@ -1,5 +1,5 @@
 //! Slips until they are used, and receipts.
-use gen_desk::{Receipt, Slip};
+use gen_desk::{Desk, Receipt, Slip};
 use std::alloc::{AllocError, Global};
 use std::sync::{Mutex, Wait};
 
@@ -23,7 +23,7 @@ impl HeldSlip {
     }
 }
 
-/// The slips that nobody took yet, and the receipts of all who filed.
+/// The slips that nobody took yet, and the receipts of all who filed, but those that were spent.
 #[derive(Drop)]
 pub(crate) struct Tray {
     slips: Mutex<Vec<Option<HeldSlip>>>,
@@ -90,7 +90,20 @@ impl Tray {
         let _added = self.receipts.lock(rt).push(receipt);
     }
 
-    /// Returns all receipts. The slips that are left are given up.
+    /// Ends each receipt that the desk knows.
+    pub(crate) fn spend_known<R: Wait>(&self, rt: &R, desk: &Desk) {
+        let mut receipts = self.receipts.lock(rt);
+        let mut unknown = 0;
+        for _ in 0..receipts.len() {
+            if unknown < receipts.len() && desk.knows(rt, &receipts[unknown]) {
+                let _known = receipts.swap_remove(unknown);
+            } else {
+                unknown = unknown.saturating_add(1);
+            }
+        }
+    }
+
+    /// Returns the receipts that are left. The slips that are left are given up.
     pub(crate) fn into_receipts(self) -> Vec<Receipt> {
         let Tray { slips: _, receipts } = self;
         receipts.into_inner()
