@@ -6,7 +6,7 @@ ghost use Rattle.gen_desk.specs.Filings.{HasOnce, IsFirstStrange};
 use crate::closing::{Filed, StrangeReceipt, end};
 use crate::faults::DeskFault;
 use crate::looks::is_same;
-use crate::state::{DeskState, copied};
+use crate::state::{DeskState, exhibit_with_receipt};
 use crate::tokens::{Claim, Receipt, Slip};
 use crossbeam_utils::sync::{EventCount, Key};
 use gen_local::LocalReport;
@@ -95,7 +95,7 @@ impl Desk {
         if !self.state.lock(rt).is_open(slip.place()) {
             return Err((slip, DeskFault::WrongPlace));
         }
-        let Ok((exhibit, receipt)) = copied(self.alloc, slip.place(), log) else {
+        let Ok((exhibit, receipt)) = exhibit_with_receipt(self.alloc, slip.place(), log) else {
             return Err((slip, DeskFault::Memory));
         };
         let outcome = self.state.lock(rt).file_made(slip, exhibit, receipt);
@@ -143,8 +143,8 @@ impl Desk {
     }
 
     /// Announces that the caller is going to wait for something to be filed or reported. What is waited for is to be
-    /// looked for once more before the wait, so that a worker who waits sleeps, and nothing is missed. Of those who sleep
-    /// a filing wakes one, and a report all.
+    /// looked for once more before the wait, so that a worker who waits sleeps, and nothing is missed. Of those who
+    /// sleep a filing wakes one, and a report all.
     pub fn prepare_wait(&self) -> Key<'_> {
         self.moved.prepare_wait()
     }

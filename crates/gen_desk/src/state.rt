@@ -36,7 +36,7 @@ impl Model for DeskState {
 
 /// A log as the desk keeps it, and the receipt of it at a place, which shares its bytes. They are shared with the log
 /// too, where its bytes can be.
-pub(crate) fn copied(
+pub(crate) fn exhibit_with_receipt(
     alloc: Global,
     place: usize,
     log: &SealedLog,
@@ -140,7 +140,7 @@ impl DeskState {
         if !self.is_open(slip.place()) {
             return Err((slip, log, DeskFault::WrongPlace));
         }
-        let Ok((exhibit, receipt)) = copied(self.alloc, slip.place(), &log) else {
+        let Ok((exhibit, receipt)) = exhibit_with_receipt(self.alloc, slip.place(), &log) else {
             return Err((slip, log, DeskFault::Memory));
         };
         match self.file_made(slip, exhibit, receipt) {

@@ -74,7 +74,8 @@ fn ended(
     }
 }
 
-/// Runs the generals while workers wait for what they file, ends the receipts that the desk knows, and joins the workers.
+/// Runs the generals while workers wait for what they file, ends the receipts that the desk knows, and joins the
+/// workers.
 fn run_within<'s, E, R: Threads + Wait + Sync, G: Gate + Sync, J: JobGate + Sync>(
     rt: &'s R,
     alloc: Global,

@@ -14,11 +14,11 @@ use std::thread;
 /// How many places a worker claims at a time, as many as there are lanes.
 const LANES: usize = 4;
 
-/// How often a worker looks at the desk before he works on fewer.
+/// How often a worker looks at the desk, at most, before he works on fewer.
 const LOOKS: usize = 200;
 
-/// Claims up to four places that are filed and claimed by nobody. With some, but fewer than four, the worker lets others run
-/// a while and looks again: all logs of a run are filed within a short time, and four take little longer than two.
+/// Claims up to four places that are filed and claimed by nobody. With some, but fewer than four, the worker lets others
+/// run a while and looks again: all logs of a run are filed within a short time, and four take little longer than two.
 ///
 /// # Errors
 ///
