@@ -1,6 +1,7 @@
 #!/usr/bin/env python3
 """Times `sm_tool decide` on small, largest and refused inputs, with the peak memory of each run."""
 import os
+import re
 import subprocess
 import sys
 import tempfile
@@ -12,6 +13,16 @@ PROGRAM = os.path.join(TOP, "sm_tool")
 BUILT = os.path.join(TOP, "crates", "sm_tool", "out", "sm_tool")
 RUNS = 15
 MEGABYTE = 1 << 20
+
+
+def set_tunables():
+    """Has each program that is timed start as the script starts it, which says what the C library is to do."""
+    with open(PROGRAM, encoding="ascii") as script:
+        found = re.search(r"\$\{GLIBC_TUNABLES=([^}]*)\}", script.read())
+    os.environ.setdefault("GLIBC_TUNABLES", found.group(1))
+
+
+set_tunables()
 
 
 def scenario(generals, edges, traitors, diameter, orders, order):

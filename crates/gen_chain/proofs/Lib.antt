@@ -10,3 +10,4 @@ mod StoredFour
 mod StoredSoFar
 pub mod Storing
 pub mod TestedChains
+pub mod TakenAnswers

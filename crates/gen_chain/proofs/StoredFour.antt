@@ -22,7 +22,7 @@ right_at h xs answers k d inside low all =
 abbrev pub KeepsFirst : Store → List Signing → ℕ → Type 0
 KeepsFirst store xs k = (j : ℕ) → j < k → (other : Triple) → IsSome (answer_of store (slice_index_or (map triple_of xs) j other))
 
-before_or_at : (j k : ℕ) → j < k + 1 → (j < k) ⊎ (j ≡ k)
+pub before_or_at : (j k : ℕ) → j < k + 1 → (j < k) ⊎ (j ≡ k)
 before_or_at j k below = elim (bool_cases (ltb j k)) [
   | inl t ↦ inl (ltb-true j k t)
   | inr f ↦ let no = ltb-false j k f in inr (omega (arith, below, no))

@@ -9,6 +9,7 @@ pub mod Prefixes
 pub mod Signings
 pub mod Store
 pub mod StoredChain
+pub mod Taking
 pub mod Texts
 pub mod Verified
 pub mod Verifying

@@ -33,6 +33,7 @@ pub use fault::ChainFault;
 pub use leaves::{leaf_of_head, leaf_of_order};
 pub use making::{ChainRoom, begin_chain, extend_chain};
 pub use reading::{read_chain, read_chain_with};
+pub use signings::Signing;
 pub use statements::{
     HeadText, Statement, head_digest, head_text, statement_digest, statement_text,
 };

@@ -14,15 +14,15 @@ use gen_net::Header;
 use gen_tree::{Signature, SignatureClaim, verify_four};
 use gen_types::{GeneralNo, OrderNo, Path};
 
-/// That a general signed a statement with this signature.
+/// That a general signed a statement with this signature, as whoever shows it says.
 #[derive(Clone, Copy)]
-pub(crate) struct Signing<'a> {
+pub struct Signing<'a> {
     /// The general.
-    pub(crate) signer: GeneralNo,
+    pub signer: GeneralNo,
     /// The statement.
-    pub(crate) statement: Statement,
-    /// The signature.
-    pub(crate) signature: &'a Signature,
+    pub statement: Statement,
+    /// The signature. It may be anybody's bytes.
+    pub signature: &'a Signature,
 }
 
 impl<'a> Signing<'a> {

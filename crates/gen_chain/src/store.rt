@@ -11,6 +11,7 @@ ghost use Rattle.gen_chain.specs.Store.{Triple, answer_in, answer_of, same_verif
 ghost use Rattle.gen_chain.specs.Signings.{IsSigned, triple_next, triple_of};
 ghost use Rattle.gen_chain.specs.StoredChain.{KeepsSigners, KeepsChain, KeepsNext};
 ghost use Rattle.gen_chain.specs.Pooled.{LendsPool};
+ghost use Rattle.gen_chain.specs.Taking.{Takes, TakesEach, triple_at};
 ghost use Rattle.std.specs.Borrow.{sem};
 
 use crate::chains::{SignedChain, Signer};
@@ -179,8 +180,8 @@ impl VerifyStore {
         self.keep_answer(Verified { signer, statement }, signature, answer)
     }
 
-    /// Whether an answer is kept.
-    fn keeps(&self, signing: &Signing<'_>) -> bool
+    /// Returns whether the answer is kept to whether a general signed a statement with a signature.
+    pub fn keeps(&self, signing: &Signing<'_>) -> bool
         ensures { result ≡ is_some (answer_of self.now (triple_of signing.now)) }
     {
         let Signing {
@@ -192,6 +193,71 @@ impl VerifyStore {
             .is_some()
     }
 
+    /// Keeps the answer that another store has for a signature of what was verified, if it has one.
+    fn take_answer(
+        &mut self,
+        header: &Header,
+        other: &VerifyStore,
+        verified: &Verified,
+        signature: &Signature,
+    ) -> Result<(), AllocError>
+        requires serves { Serves header.now self.old }
+        requires other { Serves header.now other.now }
+        ensures taken { OnOk result (Takes other.now self.new (triple_at verified.now signature.now)) }
+        ensures grows { KeepsAll self.old self.new }
+        ensures serves { Serves header.now self.new }
+    {
+        let Some(answer) = other.answer_of(verified, signature) else {
+            return Ok(());
+        };
+        let Verified { signer, statement } = *verified;
+        let signing = Signing {
+            signer,
+            statement,
+            signature,
+        };
+        self.add_answer(&signing, answer)
+    }
+
+    /// Keeps the answers that another store has for signatures of what was verified, if it has some.
+    fn take_answers(
+        &mut self,
+        header: &Header,
+        other: &VerifyStore,
+        verified: &Verified,
+        signatures: &[Kept],
+    ) -> Result<(), AllocError>
+        requires serves { Serves header.now self.old }
+        requires other { Serves header.now other.now }
+        ensures taken { OnOk result (TakesEach other.now self.new verified.now signatures.now) }
+        ensures grows { KeepsAll self.old self.new }
+        ensures serves { Serves header.now self.new }
+    {
+        'signatures: for kept in signatures {
+            self.take_answer(header, other, verified, &kept.signature)?;
+        }
+        Ok(())
+    }
+
+    /// Keeps the answers too that another store keeps, which serves the same header. Nothing is verified, and the bytes of
+    /// signatures are shared.
+    ///
+    /// # Errors
+    ///
+    /// Only where memory was refused: then the store keeps what it kept, and may keep some of the others.
+    pub fn take_from(&mut self, header: &Header, other: &VerifyStore) -> Result<(), AllocError>
+        requires serves { Serves header.now self.old }
+        requires other { Serves header.now other.now }
+        ensures taken { OnOk result (KeepsAll other.now self.new) }
+        ensures grows { KeepsAll self.old self.new }
+        ensures serves { Serves header.now self.new }
+    {
+        'statements: for (verified, signatures) in other.kept.iter() {
+            self.take_answers(header, other, verified, signatures.as_slice())?;
+        }
+        Ok(())
+    }
+
     /// Whether no answer is kept for any of the four. The contract says it of the first alone.
     fn keeps_none(&self, signings: &[Signing<'_>; 4]) -> bool
         ensures { IsTrue result → (other : Triple)
@@ -201,8 +267,13 @@ impl VerifyStore {
         !self.keeps(a) && !self.keeps(b) && !self.keeps(c) && !self.keeps(d)
     }
 
-    /// Verifies four signatures side by side, and keeps the answers.
-    fn verify_four(
+    /// Verifies four signatures of statements side by side, each as `has_signed` does, and keeps the answers that are not
+    /// kept yet. A check of one of the four verifies nothing then. It takes about as long as verifying two and a half.
+    ///
+    /// # Errors
+    ///
+    /// Only where memory was refused: then the store keeps what it kept, and may keep some of the four.
+    pub fn verify_four(
         &mut self,
         header: &Header,
         signings: &[Signing<'_>; 4],

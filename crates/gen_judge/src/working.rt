@@ -5,7 +5,7 @@ use crate::stopping::StopWord;
 use gen_audit::JobGate;
 use gen_chain::VerifyStore;
 use gen_desk::{Claim, Desk, DeskFault};
-use gen_local::{Exhibit, LocalReport, local_report_with, local_reports};
+use gen_local::{Exhibit, LocalReport, local_reports};
 use gen_net::Header;
 use std::alloc::{AllocError, Global};
 use std::sync::Wait;
@@ -52,24 +52,7 @@ fn begin_all<J: JobGate>(
     Ok(exhibits)
 }
 
-/// Makes the report of an exhibit that was claimed alone.
-fn report_of_one(
-    alloc: Global,
-    header: &Header,
-    exhibit: &Exhibit,
-    store: &mut VerifyStore,
-) -> Result<Vec<LocalReport>, AllocError>
-    requires { Serves header.now store.old }
-    ensures { Serves header.now store.new }
-{
-    let mut reports = Vec::with_capacity(alloc, 1)?;
-    let report = local_report_with(alloc, header, exhibit, store)?;
-    reports.push(report)?;
-    Ok(reports)
-}
-
-/// Makes the reports of what was claimed, the links of several logs hashed side by side. Those of one log alone take less
-/// time one after another.
+/// Makes the reports of what was claimed, the links of several logs hashed side by side.
 fn reports_of<J: JobGate>(
     alloc: Global,
     gate: &J,
@@ -81,10 +64,7 @@ fn reports_of<J: JobGate>(
     ensures { Serves header.now store.new }
 {
     let exhibits = begin_all(alloc, gate, claims)?;
-    match exhibits.as_slice() {
-        [only] => report_of_one(alloc, header, only, store),
-        several => local_reports(alloc, header, several, store),
-    }
+    local_reports(alloc, header, exhibits.as_slice(), store)
 }
 
 /// Hands reports in at the desk, each for the claim that stands at its place.

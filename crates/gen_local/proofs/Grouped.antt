@@ -1,15 +1,17 @@
 -- Reports of exhibits that are opened four at a time.
-use Rattle.std.proofs.Common.{◌≡◌, ℕ, List, [], ◌∷◌, ◌++◌, take, drop, Option, Some, None, Result, Ok, Err, IfOk, slice_index_or, refl, ap, ◌∙◌}
+use Rattle.std.proofs.Common.{◌≡◌, ◌↔◌, IsTrue, Bool, ℕ, List, [], ◌∷◌, ◌++◌, take, drop, Option, Some, None, Result, Ok, Err, IfOk, IfSome, slice_index_or, refl, ap, ◌∙◌}
 use Rattle.std.proofs.lemmas.List.{map_push}
 use Rattle.std.proofs.lemmas.List.Elements.{All-push}
 use Rattle.gen_net.specs.Header.{RunHeader}
 use Rattle.gen_log.specs.Texts.{GeneralsLog, IsLaneOf}
 use Rattle.gen_local.specs.declared.grouping.Group.{Group}
-use Rattle.gen_local.specs.Grouped.{HasLinks}
+use Rattle.gen_tree.specs.Claims.{Stands}
+use Rattle.gen_tree.specs.declared.claims.SignatureClaim.{SignatureClaim}
+use Rattle.gen_local.specs.Grouped.{HasLinks, SettlesSeal}
 use Rattle.gen_local.specs.declared.opening.Opened.{Opened}
 use Rattle.gen_local.specs.declared.opening.Opening.{Opening}
 use Rattle.gen_local.specs.declared.opening.Opening.TheVariants.{Unreadable, Foreign, Own}
-use Rattle.gen_local.specs.Opened.{AreLinksOf, IsLinkOf, log_in, own_log}
+use Rattle.gen_local.specs.Opened.{AreLinksOf, AreSealsOf, IsLinkOf, log_in, own_log}
 use Rattle.gen_local.specs.Report.{LocalReport, IsReport, AreReportsOf}
 use Rattle.gen_log.specs.Writing.{LogBytes}
 
@@ -60,13 +62,14 @@ pub links_found : {E : Type 0} (h : RunHeader) (g : Group) (r : Result (List (Li
     → IfOk r (λ links. IsLaneOf h a (slice_index_or links 0 [])) → IfOk r (λ links. IsLaneOf h b (slice_index_or links 1 [])) → IfOk r (λ links. IsLaneOf h c (slice_index_or links 2 [])) → IfOk r (λ links. IsLaneOf h d (slice_index_or links 3 []))
     → IfOk r (HasLinks h g)
 links_found h g (Ok links) a b c d first second third fourth one two three four = record {
-  front = record {
-    first = link_found h g.front.first (slice_index_or links 0 []) (rw first at one);
-    second = link_found h g.front.second (slice_index_or links 1 []) (rw second at two);
-  };
-  back = record {
-    first = link_found h g.back.first (slice_index_or links 2 []) (rw third at three);
-    second = link_found h g.back.second (slice_index_or links 3 []) (rw fourth at four);
-  };
+  first = link_found h g.front.first (slice_index_or links 0 []) (rw first at one);
+  second = link_found h g.front.second (slice_index_or links 1 []) (rw second at two);
+  third = link_found h g.back.first (slice_index_or links 2 []) (rw third at three);
+  fourth = link_found h g.back.second (slice_index_or links 3 []) (rw fourth at four);
 }
 links_found h g (Err e) a b c d first second third fourth one two three four = tt
+
+-- what the claim settles
+pub seal_settled : (h : RunHeader) (o : Option Opened) (claim : Option SignatureClaim) (sealed : Bool) → SettlesSeal h o claim → IfSome claim (λ c. IsTrue sealed ↔ Stands c) → AreSealsOf h o sealed
+seal_settled h o None sealed settles stands = settles sealed
+seal_settled h o (Some claim) sealed settles stands = settles sealed stands

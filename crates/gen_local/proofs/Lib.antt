@@ -11,6 +11,7 @@ pub mod OneReport
 pub mod OrderTables
 pub mod ReceivedBefore
 pub mod Reported
+pub mod Sealed
 pub mod SignedTests
 pub mod Starters
 pub mod StateJudges

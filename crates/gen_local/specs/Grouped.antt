@@ -1,9 +1,14 @@
--- Four exhibits that were opened, and the links over their logs.
-use Rattle.std.specs.Prelude.{ℕ, List, [], ◌++◌, slice_index_or}
+-- Four exhibits that were opened, and what the ends of their logs come to.
+use Rattle.std.specs.Prelude.{IsTrue, ℕ, ◌↔◌, Bool, false, List, [], ◌++◌, Option, Some, None, slice_index_or}
 use Rattle.gen_net.specs.Header.{RunHeader}
+use Rattle.gen_tree.specs.Claims.{Stands}
+use Rattle.gen_tree.specs.declared.claims.SignatureClaim.{SignatureClaim}
 use Rattle.gen_local.specs.declared.grouping.Group.{Group}
+use Rattle.gen_local.specs.declared.grouping.Endings.{Endings}
 use Rattle.gen_local.specs.declared.grouping.Pair.{Pair}
-use Rattle.gen_local.specs.Opened.{AreOpened, AreLinksOf, exhibits_in}
+use Rattle.gen_local.specs.declared.heads.Ending.{Ending}
+use Rattle.gen_local.specs.declared.opening.Opened.{Opened}
+use Rattle.gen_local.specs.Opened.{AreOpened, AreEndingsOf, AreLinksOf, AreSealsOf, exhibits_in}
 use Rattle.gen_log.specs.Writing.{LogBytes}
 
 -- each of a pair was opened, and each of a group
@@ -22,11 +27,31 @@ exhibits_of_pair p = exhibits_in p.first ++ exhibits_in p.second
 abbrev pub exhibits_of : Group → List LogBytes
 exhibits_of g = exhibits_of_pair g.front ++ exhibits_of_pair g.back
 
--- each link is the last one over its log
-pub record PairHasLinks (h : RunHeader) (p : Pair) (first_link second_link : List ℕ) : Type 0 where
-  pub first : AreLinksOf h p.first first_link
-  pub second : AreLinksOf h p.second second_link
+-- what the end of each log comes to
+pub record PairHasEndings (h : RunHeader) (p : Pair) (one other : Ending) : Type 0 where
+  pub first : AreEndingsOf h p.first one
+  pub second : AreEndingsOf h p.second other
 
+pub record HasEndings (h : RunHeader) (g : Group) (e : Endings) : Type 0 where
+  pub front : PairHasEndings h g.front e.first e.second
+  pub back : PairHasEndings h g.back e.third e.fourth
+
+-- each link is the last one over its log
 pub record HasLinks (h : RunHeader) (g : Group) (links : List (List ℕ)) : Type 0 where
-  pub front : PairHasLinks h g.front (slice_index_or links 0 []) (slice_index_or links 1 [])
-  pub back : PairHasLinks h g.back (slice_index_or links 2 []) (slice_index_or links 3 [])
+  pub first : AreLinksOf h g.front.first (slice_index_or links 0 [])
+  pub second : AreLinksOf h g.front.second (slice_index_or links 1 [])
+  pub third : AreLinksOf h g.back.first (slice_index_or links 2 [])
+  pub fourth : AreLinksOf h g.back.second (slice_index_or links 3 [])
+
+-- each of these is whether the signature of the head of its log verifies
+pub record HasSeals (h : RunHeader) (g : Group) (seals : List Bool) : Type 0 where
+  pub first : AreSealsOf h g.front.first (slice_index_or seals 0 false)
+  pub second : AreSealsOf h g.front.second (slice_index_or seals 1 false)
+  pub third : AreSealsOf h g.back.first (slice_index_or seals 2 false)
+  pub fourth : AreSealsOf h g.back.second (slice_index_or seals 3 false)
+
+-- Who knows whether the claim is true knows whether the signature of the log's head verifies. Where there is
+-- no claim, there is no such log.
+abbrev pub SettlesSeal : RunHeader → Option Opened → Option SignatureClaim → Type 0
+SettlesSeal h o None = (sealed : Bool) → AreSealsOf h o sealed
+SettlesSeal h o (Some claim) = (sealed : Bool) → IsTrue sealed ↔ Stands claim → AreSealsOf h o sealed

@@ -1,11 +1,13 @@
 -- Exhibits that were opened: what their bytes are, before signatures and links are looked at.
-use Rattle.std.specs.Prelude.{ℕ, ◌≡◌, List, [], ◌∷◌, Option, Some, None, Ok, Err}
+use Rattle.std.specs.Prelude.{ℕ, ◌≡◌, Bool, List, [], ◌∷◌, Option, Some, None, Ok, Err}
 use Rattle.gen_net.specs.Header.{RunHeader}
 use Rattle.gen_log.specs.Links.{link_over}
 use Rattle.gen_log.specs.Log.{RunLog, IsLog, log_spelling}
 use Rattle.gen_log.specs.LogReading.{log_of}
 use Rattle.gen_log.specs.Texts.{GeneralsLog}
 use Rattle.gen_log.specs.Verifying.{SaysItIsOf}
+use Rattle.gen_local.specs.SignedTexts.{head_in, text_verifies}
+use Rattle.gen_local.specs.declared.heads.Ending.{Ending}
 use Rattle.gen_local.specs.declared.opening.Opening.{Opening}
 use Rattle.gen_local.specs.declared.opening.Opening.TheVariants.{Unreadable, Foreign, Own}
 use Rattle.gen_local.specs.declared.opening.Opened.{Opened}
@@ -61,3 +63,21 @@ IsLinkOf h general _ link = Unit {0}
 abbrev pub AreLinksOf : RunHeader → Option Opened → List ℕ → Type 0
 AreLinksOf h None link = Unit {0}
 AreLinksOf h (Some o) link = IsLinkOf h o.exhibit.general o.opening link
+
+-- it is whether the signature of the log's head verifies, if the bytes are one
+abbrev pub IsSealOf : RunHeader → ℕ → Opening → Bool → Type 0
+IsSealOf h general (Own log) sealed = sealed ≡ text_verifies h (head_in h general log)
+IsSealOf h general _ sealed = Unit {0}
+
+abbrev pub AreSealsOf : RunHeader → Option Opened → Bool → Type 0
+AreSealsOf h None sealed = Unit {0}
+AreSealsOf h (Some o) sealed = IsSealOf h o.exhibit.general o.opening sealed
+
+-- what the end of the log comes to, if the bytes are one
+pub record IsEndingOf (h : RunHeader) (general : ℕ) (opening : Opening) (e : Ending) : Type 0 where
+  pub link : IsLinkOf h general opening e.link
+  pub seal : IsSealOf h general opening e.sealed
+
+pub record AreEndingsOf (h : RunHeader) (o : Option Opened) (e : Ending) : Type 0 where
+  pub link : AreLinksOf h o e.link
+  pub seal : AreSealsOf h o e.sealed

@@ -8,6 +8,7 @@ ghost use Rattle.gen_chain.specs.Store.{Serves, KeepsAll};
 ghost use Rattle.gen_local.specs.FoundLog.{is_signed, first_unsigned};
 ghost use Rattle.gen_local.specs.SignedTexts.{stated, texts_behind, texts_in, text_verifies, verified};
 
+use crate::ahead::verify_next;
 use crate::texts::{SignedText, Text};
 use gen_chain::{Signer, Statement, VerifyStore};
 use gen_log::Entry;
@@ -187,6 +188,7 @@ pub fn gather_entries(
     let mut rest = entries;
     let mut index = 0usize;
     while let Some((entry, others)) = rest.split_first() {
+        verify_next(header, rest, store)?;
         let signed = gather_entry(alloc, header, entry, store, texts)?;
         unsigned = first_of(unsigned, !signed, index);
         index += 1;

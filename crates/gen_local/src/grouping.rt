@@ -1,17 +1,21 @@
-//! Reports of many exhibits, the links of four of them at a time hashed side by side.
-ghost use Rattle.std.specs.Prelude.{◌≡◌, ◌++◌, List, IfOk, OnOk, take, drop};
+//! Reports of many exhibits, the links of four of them at a time hashed and their heads verified side by side.
+ghost use Rattle.std.specs.Prelude.{◌≡◌, ◌++◌, ◌∷◌, [], List, Some, IfOk, OnOk, take, drop};
 ghost use Rattle.gen_chain.specs.Store.{Serves, KeepsAll};
-ghost use Rattle.gen_local.specs.Opened.{AreOpened, AreLinksOf, exhibits_in};
-ghost use Rattle.gen_local.specs.Grouped.{IsGroup, IsPair, HasLinks, PairHasLinks, exhibits_of, exhibits_of_pair};
+ghost use Rattle.gen_local.specs.Opened.{AreOpened, AreEndingsOf, AreLinksOf, IsOpened, exhibits_in};
+ghost use Rattle.gen_local.specs.Grouped.{IsGroup, IsPair, HasEndings, HasLinks, HasSeals, PairHasEndings, SettlesSeal, exhibits_of, exhibits_of_pair};
 ghost use Rattle.gen_local.specs.Report.{AreReportsOf};
 ghost use Rattle.gen_log.specs.Writing.{LogBytes};
 
+use crate::ahead::{verify_sign, verify_signs};
+use crate::exchanges::{Alone, Exchange};
 use crate::exhibits::Exhibit;
-use crate::opening::{Opened, open_first, text_of};
+use crate::heads::{Ending, ending_of, head_claim, stand_four};
+use crate::opening::{Opened, Opening, open, open_first, text_of};
 use crate::reports::{LocalReport, report_of};
 use gen_chain::VerifyStore;
 use gen_log::last_links;
 use gen_net::Header;
+use gen_tree::SignatureClaim;
 use std::alloc::{AllocError, Global};
 
 /// Two exhibits that were opened, each of which may be missing.
@@ -66,6 +70,15 @@ fn open_four<'a>(
     Ok((Group { front, back }, rest))
 }
 
+/// What the ends of the logs of four opened exhibits come to.
+#[derive(Clone, Copy)]
+struct Endings {
+    first: Ending,
+    second: Ending,
+    third: Ending,
+    fourth: Ending,
+}
+
 /// The last links over the logs of opened exhibits, hashed side by side.
 fn links_of(alloc: Global, header: &Header, group: &Group) -> Result<[[u8; 32]; 4], AllocError>
     requires { IsGroup header.now group.now }
@@ -81,17 +94,108 @@ fn links_of(alloc: Global, header: &Header, group: &Group) -> Result<[[u8; 32]; 
     )
 }
 
+/// The claim that the signature of the head of an opened exhibit's log verifies, over which this is the last link, if it
+/// is a log.
+fn claim_of<'a>(
+    header: &'a Header,
+    opened: &'a Option<Opened>,
+    last_link: &[u8; 32],
+) -> Option<SignatureClaim<'a>>
+    requires opened { AreOpened header.now opened.now }
+    requires link { AreLinksOf header.now opened.now last_link.now }
+    ensures { SettlesSeal header.now opened.now result }
+{
+    match opened {
+        Some(opened) => match &opened.opening {
+            Opening::Own(log) => {
+                let general = opened.exhibit.general();
+                Some(head_claim(header, general, log, last_link))
+            }
+            _ => None,
+        },
+        None => None,
+    }
+}
+
+/// Whether the signatures of the heads of opened exhibits' logs verify, over which these are the last links. Those of four
+/// logs are verified side by side.
+fn seals_of(header: &Header, group: &Group, links: &[[u8; 32]; 4]) -> [bool; 4]
+    requires opened { IsGroup header.now group.now }
+    requires links { HasLinks header.now group.now links.now }
+    ensures { HasSeals header.now group.now result }
+{
+    stand_four(
+        claim_of(header, &group.front.first, &links[0]),
+        claim_of(header, &group.front.second, &links[1]),
+        claim_of(header, &group.back.first, &links[2]),
+        claim_of(header, &group.back.second, &links[3]),
+    )
+}
+
+/// What the ends of the logs of opened exhibits come to.
+fn endings_of(alloc: Global, header: &Header, group: &Group) -> Result<Endings, AllocError>
+    requires { IsGroup header.now group.now }
+    ensures { IfOk result (HasEndings header.now group.now) }
+{
+    let links = links_of(alloc, header, group)?;
+    let seals = seals_of(header, group, &links);
+    Ok(Endings {
+        first: Ending {
+            link: links[0],
+            sealed: seals[0],
+        },
+        second: Ending {
+            link: links[1],
+            sealed: seals[1],
+        },
+        third: Ending {
+            link: links[2],
+            sealed: seals[2],
+        },
+        fourth: Ending {
+            link: links[3],
+            sealed: seals[3],
+        },
+    })
+}
+
+/// What the ends of the logs of opened exhibits come to. What was verified is exchanged with others before and after.
+fn endings_among<E: Exchange>(
+    alloc: Global,
+    header: &Header,
+    group: &Group,
+    store: &mut VerifyStore,
+    exchange: &E,
+) -> Result<Endings, AllocError>
+    requires group { IsGroup header.now group.now }
+    requires serves { Serves header.now store.old }
+    ensures endings { IfOk result (HasEndings header.now group.now) }
+    ensures grows { KeepsAll store.old store.new }
+    ensures serves { Serves header.now store.new }
+{
+    let (front, back) = (&group.front, &group.back);
+    verify_signs(
+        header,
+        [&front.first, &front.second, &back.first, &back.second],
+        store,
+    )?;
+    exchange.exchange(header, store)?;
+    let endings = endings_of(alloc, header, group)?;
+    exchange.exchange(header, store)?;
+    Ok(endings)
+}
+
 /// Puts the report of an exhibit behind the others, if it isn't missing.
 fn put_report(
     alloc: Global,
     header: &Header,
     opened: Option<Opened>,
-    last_link: &[u8; 32],
+    ending: &Ending,
     store: &mut VerifyStore,
     reports: &mut Vec<LocalReport>,
 ) -> Result<(), AllocError>
     requires opened { AreOpened header.now opened }
-    requires link { AreLinksOf header.now opened last_link.now }
+    requires ending { AreEndingsOf header.now opened ending.now }
     requires serves { Serves header.now store.old }
     ensures put { (before : List LogBytes) → AreReportsOf header.now before reports.old.items
         → OnOk result (AreReportsOf header.now (before ++ exhibits_in opened) reports.new.items) }
@@ -99,24 +203,24 @@ fn put_report(
     ensures serves { Serves header.now store.new }
 {
     if let Some(opened) = opened {
-        let report = report_of(alloc, header, opened, last_link, store)?;
+        let report = report_of(alloc, header, opened, ending, store)?;
         reports.push(report)?;
     }
     Ok(())
 }
 
-/// Puts the reports of two opened exhibits, over whose logs these are the last links, behind the others.
+/// Puts the reports of two opened exhibits, whose logs' ends come to this, behind the others.
 fn put_pair(
     alloc: Global,
     header: &Header,
     pair: Pair,
-    first_link: &[u8; 32],
-    second_link: &[u8; 32],
+    first_ending: &Ending,
+    second_ending: &Ending,
     store: &mut VerifyStore,
     reports: &mut Vec<LocalReport>,
 ) -> Result<(), AllocError>
     requires opened { IsPair header.now pair }
-    requires links { PairHasLinks header.now pair first_link.now second_link.now }
+    requires endings { PairHasEndings header.now pair first_ending.now second_ending.now }
     requires serves { Serves header.now store.old }
     ensures put { (before : List LogBytes) → AreReportsOf header.now before reports.old.items
         → OnOk result (AreReportsOf header.now (before ++ exhibits_of_pair pair) reports.new.items) }
@@ -124,21 +228,21 @@ fn put_pair(
     ensures serves { Serves header.now store.new }
 {
     let Pair { first, second } = pair;
-    put_report(alloc, header, first, first_link, store, reports)?;
-    put_report(alloc, header, second, second_link, store, reports)
+    put_report(alloc, header, first, first_ending, store, reports)?;
+    put_report(alloc, header, second, second_ending, store, reports)
 }
 
-/// Puts the reports of opened exhibits, over whose logs these are the last links, behind the others.
+/// Puts the reports of opened exhibits, whose logs' ends come to this, behind the others.
 fn put_group(
     alloc: Global,
     header: &Header,
     group: Group,
-    links: &[[u8; 32]; 4],
+    endings: &Endings,
     store: &mut VerifyStore,
     reports: &mut Vec<LocalReport>,
 ) -> Result<(), AllocError>
     requires opened { IsGroup header.now group }
-    requires links { HasLinks header.now group links.now }
+    requires endings { HasEndings header.now group endings.now }
     requires serves { Serves header.now store.old }
     ensures put { (before : List LogBytes) → AreReportsOf header.now before reports.old.items
         → OnOk result (AreReportsOf header.now (before ++ exhibits_of group) reports.new.items) }
@@ -146,17 +250,25 @@ fn put_group(
     ensures serves { Serves header.now store.new }
 {
     let Group { front, back } = group;
-    put_pair(alloc, header, front, &links[0], &links[1], store, reports)?;
-    put_pair(alloc, header, back, &links[2], &links[3], store, reports)
+    let Endings {
+        first,
+        second,
+        third,
+        fourth,
+    } = endings;
+    put_pair(alloc, header, front, first, second, store, reports)?;
+    put_pair(alloc, header, back, third, fourth, store, reports)
 }
 
 /// Puts the reports of the first four exhibits behind the others, or of all where they are fewer, and
-/// returns the exhibits that are left.
-fn put_four<'a>(
+/// returns the exhibits that are left. What was verified is exchanged with others before the links are hashed, which takes
+/// most of the time, and after.
+fn put_four<'a, E: Exchange>(
     alloc: Global,
     header: &Header,
     exhibits: &'a [Exhibit],
     store: &mut VerifyStore,
+    exchange: &E,
     reports: &mut Vec<LocalReport>,
 ) -> Result<&'a [Exhibit], AllocError>
     requires { Serves header.now store.old }
@@ -167,20 +279,119 @@ fn put_four<'a>(
     ensures serves { Serves header.now store.new }
 {
     let (group, rest) = open_four(alloc, header, exhibits, store)?;
-    let links = match links_of(alloc, header, &group) {
-        Ok(links) => links,
+    let endings = match endings_among(alloc, header, &group, store, exchange) {
+        Ok(endings) => endings,
         Err(error) => {
             // By a call, which is proved once: under `?` each of the four would be let go in this place.
             drop(group);
             return Err(error);
         }
     };
-    put_group(alloc, header, group, &links, store, reports)?;
+    put_group(alloc, header, group, &endings, store, reports)?;
     Ok(rest)
 }
 
-/// Returns the reports of exhibits under a header, in their order, each as `local_report_with` gives it.
-/// Four logs at a time are held together, and their links are hashed side by side.
+/// What the end of the log of an opened exhibit comes to. What was verified is exchanged with others before and after.
+fn ending_among<E: Exchange>(
+    header: &Header,
+    opened: &Opened,
+    store: &mut VerifyStore,
+    exchange: &E,
+) -> Result<Ending, AllocError>
+    requires opened { IsOpened header.now opened.now }
+    requires serves { Serves header.now store.old }
+    ensures ending { IfOk result (AreEndingsOf header.now (Some opened.now)) }
+    ensures grows { KeepsAll store.old store.new }
+    ensures serves { Serves header.now store.new }
+{
+    verify_sign(header, opened, store)?;
+    exchange.exchange(header, store)?;
+    let ending = ending_of(header, opened);
+    exchange.exchange(header, store)?;
+    Ok(ending)
+}
+
+/// Puts the report of an exhibit behind the others, whose links are hashed alone.
+fn put_one<E: Exchange>(
+    alloc: Global,
+    header: &Header,
+    exhibit: &Exhibit,
+    store: &mut VerifyStore,
+    exchange: &E,
+    reports: &mut Vec<LocalReport>,
+) -> Result<(), AllocError>
+    requires { Serves header.now store.old }
+    ensures put { (before : List LogBytes) → AreReportsOf header.now before reports.old.items
+        → OnOk result (AreReportsOf header.now (before ++ exhibit.now ∷ []) reports.new.items) }
+    ensures grows { KeepsAll store.old store.new }
+    ensures serves { Serves header.now store.new }
+{
+    let opened = open(alloc, header, exhibit, store)?;
+    let ending = match ending_among(header, &opened, store, exchange) {
+        Ok(ending) => ending,
+        Err(error) => {
+            drop(opened);
+            return Err(error);
+        }
+    };
+    put_report(alloc, header, Some(opened), &ending, store, reports)
+}
+
+/// Puts the reports of the first four exhibits behind the others, or of all where they are fewer, and
+/// returns the exhibits that are left. The links of one alone take less time one after another than in one of four lanes.
+fn put_some<'a, E: Exchange>(
+    alloc: Global,
+    header: &Header,
+    exhibits: &'a [Exhibit],
+    store: &mut VerifyStore,
+    exchange: &E,
+    reports: &mut Vec<LocalReport>,
+) -> Result<&'a [Exhibit], AllocError>
+    requires { Serves header.now store.old }
+    ensures put { (before : List LogBytes) → AreReportsOf header.now before reports.old.items
+        → OnOk result (AreReportsOf header.now (before ++ take 4 exhibits.now) reports.new.items) }
+    ensures rest { IfOk result (λ rest. rest.now ≡ drop 4 exhibits.now) }
+    ensures grows { KeepsAll store.old store.new }
+    ensures serves { Serves header.now store.new }
+{
+    match exhibits {
+        [only] => {
+            put_one(alloc, header, only, store, exchange, reports)?;
+            Ok(&[])
+        }
+        several => put_four(alloc, header, several, store, exchange, reports),
+    }
+}
+
+/// Returns the reports of exhibits under a header, in their order, each as `local_report_with` gives it, and exchanges what
+/// was verified with others who make reports at the same time. Four logs at a time are held together, their links are
+/// hashed and their heads verified side by side; of one alone they are hashed alone.
+///
+/// # Errors
+///
+/// `AllocError` where memory is refused. Then the store keeps what was verified before.
+pub fn local_reports_among<E: Exchange>(
+    alloc: Global,
+    header: &Header,
+    exhibits: &[Exhibit],
+    store: &mut VerifyStore,
+    exchange: &E,
+) -> Result<Vec<LocalReport>, AllocError>
+    requires { Serves header.now store.old }
+    ensures reports { IfOk result (λ reports.
+        AreReportsOf header.now exhibits.now reports.items) }
+    ensures grows { KeepsAll store.old store.new }
+    ensures serves { Serves header.now store.new }
+{
+    let mut reports = Vec::new(alloc);
+    let mut rest = exhibits;
+    'groups: while !rest.is_empty() {
+        rest = put_some(alloc, header, rest, store, exchange, &mut reports)?;
+    }
+    Ok(reports)
+}
+
+/// Returns the reports of exhibits under a header, in their order, as `local_reports_among` does where there is nobody else.
 ///
 /// # Errors
 ///
@@ -197,10 +408,5 @@ pub fn local_reports(
     ensures grows { KeepsAll store.old store.new }
     ensures serves { Serves header.now store.new }
 {
-    let mut reports = Vec::new(alloc);
-    let mut rest = exhibits;
-    'groups: while !rest.is_empty() {
-        rest = put_four(alloc, header, rest, store, &mut reports)?;
-    }
-    Ok(reports)
+    local_reports_among(alloc, header, exhibits, store, &Alone)
 }

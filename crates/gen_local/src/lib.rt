@@ -12,12 +12,15 @@
 //! that verifies for its general and that he could keep. What is not: that such a log tells the truth.
 #![tactic(auto)]
 
+mod ahead;
 mod bringing;
 mod deciding;
 mod departing;
+mod exchanges;
 mod exhibits;
 mod gathering;
 mod grouping;
+mod heads;
 mod judging;
 pub mod laws;
 mod opening;
@@ -34,8 +37,9 @@ mod texts;
 mod walking;
 
 pub use departing::departs;
+pub use exchanges::Exchange;
 pub use exhibits::{Exhibit, exhibits_of_logs};
-pub use grouping::local_reports;
+pub use grouping::{local_reports, local_reports_among};
 pub use own_log::OwnLog;
 pub use reading::Reading;
 pub use reports::{LocalReport, local_report, local_report_with};

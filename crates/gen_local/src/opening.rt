@@ -4,12 +4,12 @@ ghost use Rattle.gen_log.specs.Log.{BeginsWithStartOf};
 ghost use Rattle.gen_log.specs.Verifying.{SaysItIsOf};
 ghost use Rattle.gen_chain.specs.Store.{Serves, KeepsAll};
 ghost use Rattle.gen_net.specs.Header.{RunHeader};
-ghost use Rattle.gen_local.specs.Opened.{IsOpening, IsOpened, AreOpened, IsLinkOf, exhibits_in, log_in};
+ghost use Rattle.gen_local.specs.Opened.{IsOpening, IsOpened, AreOpened, exhibits_in, log_in};
 
 use crate::departing::starter;
 use crate::exhibits::Exhibit;
 use gen_chain::VerifyStore;
-use gen_log::{Entry, Log, LogFault, LogText, last_link, read_log_with};
+use gen_log::{Entry, Log, LogFault, LogText, read_log_with};
 use gen_net::Header;
 use gen_types::{GeneralNo, ReadError};
 use std::alloc::{AllocError, Global};
@@ -114,16 +114,6 @@ pub fn open_first<'a>(
             Ok((Some(opened), others))
         }
         None => Ok((None, exhibits)),
-    }
-}
-
-/// The last link over the log of an opened exhibit, if there is one.
-pub fn link_of(header: &Header, opened: &Opened) -> [u8; 32]
-    ensures { IsLinkOf header.now opened.now.exhibit.general opened.now.opening result }
-{
-    match &opened.opening {
-        Opening::Own(log) => last_link(header, opened.exhibit.general(), log),
-        _ => [0; 32],
     }
 }
 

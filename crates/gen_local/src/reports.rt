@@ -1,11 +1,12 @@
 //! Reports of exhibits.
 ghost use Rattle.std.specs.Prelude.{◌≡◌, IfOk};
 ghost use Rattle.gen_chain.specs.Store.{Serves, KeepsAll};
-ghost use Rattle.gen_local.specs.Opened.{IsOpened, IsLinkOf};
+ghost use Rattle.gen_local.specs.Opened.{IsOpened, IsEndingOf};
 ghost use Rattle.gen_local.specs.Report.{IsReport};
 
 use crate::exhibits::Exhibit;
-use crate::opening::{Opened, link_of, open};
+use crate::heads::{Ending, ending_of};
+use crate::opening::{Opened, open};
 use crate::reading::Reading;
 use crate::reporting::reading_of;
 use gen_chain::VerifyStore;
@@ -58,8 +59,7 @@ impl LocalReport {
     }
 }
 
-/// Returns the report of an exhibit that was opened under the header, over whose log, if it is one, this is
-/// the last link.
+/// Returns the report of an exhibit that was opened under the header, whose log's end, if it is one, comes to this.
 ///
 /// # Errors
 ///
@@ -68,11 +68,11 @@ pub(crate) fn report_of(
     alloc: Global,
     header: &Header,
     opened: Opened,
-    last_link: &[u8; 32],
+    ending: &Ending,
     store: &mut VerifyStore,
 ) -> Result<LocalReport, AllocError>
     requires opened { IsOpened header.now opened }
-    requires link { IsLinkOf header.now opened.exhibit.general opened.opening last_link.now }
+    requires ending { IsEndingOf header.now opened.exhibit.general opened.opening ending.now }
     requires serves { Serves header.now store.old }
     ensures header { IfOk result (λ report. report.header ≡ header.now) }
     ensures exhibit { IfOk result (λ report. report.exhibit ≡ opened.exhibit) }
@@ -81,7 +81,7 @@ pub(crate) fn report_of(
     ensures serves { Serves header.now store.new }
 {
     let Opened { exhibit, opening } = opened;
-    let reading = reading_of(alloc, header, &exhibit, opening, last_link, store)?;
+    let reading = reading_of(alloc, header, &exhibit, opening, ending, store)?;
     let header = header.clone()?;
     Ok(LocalReport {
         header,
@@ -133,6 +133,6 @@ pub fn local_report_with(
     ensures serves { Serves header.now store.new }
 {
     let opened = open(alloc, header, exhibit, store)?;
-    let link = link_of(header, &opened);
-    report_of(alloc, header, opened, &link, store)
+    let ending = ending_of(header, &opened);
+    report_of(alloc, header, opened, &ending, store)
 }

@@ -8,6 +8,7 @@
 //! header, in their order. What is not: that the workers run at once, or at all.
 #![tactic(auto)]
 
+mod boards;
 mod counts;
 mod dealing;
 mod faults;

@@ -3,13 +3,14 @@ ghost use Rattle.std.specs.Prelude.{◌≡◌, ◌<◌, [], IfOk, vec_capacity};
 ghost use Rattle.gen_local.specs.Report.{AreReportsOf};
 ghost use Rattle.gen_workers.specs.Loops.Hands.{AreHands};
 
+use crate::boards::{Board, Workshop};
 use crate::counts::WorkerCount;
 use crate::faults::AuditFault;
 use crate::gates::JobGate;
 use crate::hands::Hand;
 use crate::merging::merged;
 use crate::starting::run_within;
-use gen_local::{Exhibit, LocalReport};
+use gen_local::{Exchange, Exhibit, LocalReport};
 use gen_net::Header;
 use std::alloc::Global;
 use std::sync::Wait;
@@ -17,10 +18,10 @@ use std::thread;
 use std::thread::Threads;
 
 /// Runs one worker more than the number that is called the last, in a scope of theirs.
-fn run_workers<R: Threads + Wait + Sync, G: JobGate + Sync>(
+fn run_workers<R: Threads + Wait + Sync, S: JobGate + Exchange + Sync>(
     rt: &R,
     alloc: Global,
-    gate: &G,
+    shop: &S,
     header: &Header,
     exhibits: &[Exhibit],
     last: usize,
@@ -35,7 +36,7 @@ fn run_workers<R: Threads + Wait + Sync, G: JobGate + Sync>(
         move |scope| -> Result<Vec<Hand>, AuditFault>
             requires { (hands.items ≡ []) × (last < vec_capacity hands) }
             ensures { IfOk result (λ all. AreHands header.entry.now exhibits.entry.now last all.items) }
-        { run_within(rt, alloc, gate, scope, header, exhibits, last, hands) },
+        { run_within(rt, alloc, shop, scope, header, exhibits, last, hands) },
     )
 }
 
@@ -58,6 +59,13 @@ pub fn reports_by_workers<R: Threads + Wait + Sync, G: JobGate + Sync>(
     ensures { IfOk result (λ reports. AreReportsOf header.now exhibits.now reports.items) }
 {
     let last = workers.get() - 1;
-    let hands = run_workers(rt, alloc, gate, header, exhibits, last)?;
+    let board = Board::new(alloc, header)?;
+    let shop = Workshop {
+        rt,
+        gate,
+        board: &board,
+        alone: last == 0,
+    };
+    let hands = run_workers(rt, alloc, &shop, header, exhibits, last)?;
     Ok(merged(alloc, header, exhibits, last, hands)?)
 }

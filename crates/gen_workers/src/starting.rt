@@ -9,7 +9,7 @@ use crate::gates::JobGate;
 use crate::hands::Hand;
 use crate::promises::ReportsAs;
 use crate::working::work;
-use gen_local::Exhibit;
+use gen_local::{Exchange, Exhibit};
 use gen_net::Header;
 use std::alloc::{AllocError, Global};
 use std::sync::Wait;
@@ -20,9 +20,9 @@ use std::thread::{PromisedHandle, Scope, Threads};
 pub(crate) type Handles<'s> = Vec<PromisedHandle<Option<Hand>, ReportsAs<'s>>>;
 
 /// The hand of one worker.
-fn hand_of<G: JobGate>(
+fn hand_of<S: JobGate + Exchange>(
     alloc: Global,
-    gate: &G,
+    shop: &S,
     header: &Header,
     exhibits: &[Exhibit],
     last: usize,
@@ -30,17 +30,17 @@ fn hand_of<G: JobGate>(
 ) -> Option<Hand>
     ensures { IfSome result (λ hand. AreOfWorker header.now exhibits.now last worker hand.reports.items) }
 {
-    match work(alloc, gate, header, exhibits, last, worker) {
+    match work(alloc, shop, header, exhibits, last, worker) {
         Ok(reports) => Some(Hand { reports }),
         Err(AllocError) => None,
     }
 }
 
 /// Starts the thread of a worker. Whether it could be started.
-fn start_one<'s, E, R: Threads + Wait + Sync, G: JobGate + Sync>(
+fn start_one<'s, E, R: Threads + Wait + Sync, S: JobGate + Exchange + Sync>(
     rt: &'s R,
     alloc: Global,
-    gate: &'s G,
+    shop: &'s S,
     scope: &Scope<'s, E>,
     header: &'s Header,
     exhibits: &'s [Exhibit],
@@ -60,7 +60,7 @@ fn start_one<'s, E, R: Threads + Wait + Sync, G: JobGate + Sync>(
         promise,
         move || -> Option<Hand>
             ensures { IfSome result (λ hand. AreOfWorker header.entry.now exhibits.entry.now last worker hand.reports.items) }
-        { hand_of(alloc, gate, header, exhibits, last, worker) },
+        { hand_of(alloc, shop, header, exhibits, last, worker) },
     ) {
         Ok(handle) => Some(handle),
         Err(_refused) => None,
@@ -69,10 +69,10 @@ fn start_one<'s, E, R: Threads + Wait + Sync, G: JobGate + Sync>(
 
 /// Starts the threads of all workers but the first, and returns whether all could be started. After one that can't be
 /// no other is.
-fn start_all<'s, E, R: Threads + Wait + Sync, G: JobGate + Sync>(
+fn start_all<'s, E, R: Threads + Wait + Sync, S: JobGate + Exchange + Sync>(
     rt: &'s R,
     alloc: Global,
-    gate: &'s G,
+    shop: &'s S,
     scope: &Scope<'s, E>,
     header: &'s Header,
     exhibits: &'s [Exhibit],
@@ -86,7 +86,7 @@ fn start_all<'s, E, R: Threads + Wait + Sync, G: JobGate + Sync>(
     ensures all { result ≡ true → vec_len handles.new ≡ last }
 {
     for before in 0..last {
-        match start_one(rt, alloc, gate, scope, header, exhibits, last, before + 1) {
+        match start_one(rt, alloc, shop, scope, header, exhibits, last, before + 1) {
             Some(handle) => handles.push_reserved(handle),
             None => return false,
         }
@@ -120,10 +120,10 @@ fn join_all<'s, R: Threads>(
 }
 
 /// Runs all workers, the first in this thread.
-pub(crate) fn run_within<'s, E, R: Threads + Wait + Sync, G: JobGate + Sync>(
+pub(crate) fn run_within<'s, E, R: Threads + Wait + Sync, S: JobGate + Exchange + Sync>(
     rt: &'s R,
     alloc: Global,
-    gate: &'s G,
+    shop: &'s S,
     scope: &Scope<'s, E>,
     header: &'s Header,
     exhibits: &'s [Exhibit],
@@ -136,8 +136,8 @@ pub(crate) fn run_within<'s, E, R: Threads + Wait + Sync, G: JobGate + Sync>(
 {
     let mut handles = Vec::with_capacity(alloc, last)?;
     let mut hands = hands;
-    let started = start_all(rt, alloc, gate, scope, header, exhibits, last, &mut handles);
-    let Some(first) = hand_of(alloc, gate, header, exhibits, last, 0) else {
+    let started = start_all(rt, alloc, shop, scope, header, exhibits, last, &mut handles);
+    let Some(first) = hand_of(alloc, shop, header, exhibits, last, 0) else {
         drop_all(rt, handles);
         return Err(AuditFault::Memory);
     };

@@ -8,7 +8,7 @@ ghost use Rattle.gen_workers.specs.Loops.Hands.{AreOfWorker};
 use crate::dealing::pieces_of;
 use crate::gates::JobGate;
 use gen_chain::VerifyStore;
-use gen_local::{Exhibit, LocalReport, local_reports};
+use gen_local::{Exchange, Exhibit, LocalReport, local_reports_among};
 use gen_net::Header;
 use std::alloc::{AllocError, Global};
 
@@ -26,8 +26,9 @@ fn begin_each<G: JobGate>(gate: &G, piece: usize, last: usize, count: usize) -> 
 }
 
 /// Puts the reports of exhibits behind the others.
-fn add_reports(
+fn add_reports<S: Exchange>(
     alloc: Global,
+    shop: &S,
     header: &Header,
     exhibits: &[Exhibit],
     store: &mut VerifyStore,
@@ -38,14 +39,15 @@ fn add_reports(
         → OnOk result (AreReportsOf header.now (before ++ exhibits.now) reports.new.items) }
     ensures serves { Serves header.now store.new }
 {
-    let mut more = local_reports(alloc, header, exhibits, store)?;
+    let mut more = local_reports_among(alloc, header, exhibits, store, shop)?;
     reports.append(&mut more)
 }
 
-/// Makes the reports of a worker's pieces, of which this is the first, through a store of his own.
-fn work_on<G: JobGate>(
+/// Makes the reports of a worker's pieces, of which this is the first, through a store of his own, whose answers he
+/// exchanges with the others.
+fn work_on<S: JobGate + Exchange>(
     alloc: Global,
-    gate: &G,
+    shop: &S,
     header: &Header,
     pieces: &[Exhibit],
     first: usize,
@@ -59,8 +61,8 @@ fn work_on<G: JobGate>(
     let mut piece = first;
     'turns: while !rest.is_empty() {
         let (four, others) = rest.split_at(rest.len().min(LANES));
-        piece = begin_each(gate, piece, last, four.len());
-        add_reports(alloc, header, four, &mut store, &mut reports)?;
+        piece = begin_each(shop, piece, last, four.len());
+        add_reports(alloc, shop, header, four, &mut store, &mut reports)?;
         rest = others;
     }
     Ok(reports)
@@ -71,9 +73,9 @@ fn work_on<G: JobGate>(
 /// # Errors
 ///
 /// `AllocError` where memory is refused.
-pub(crate) fn work<G: JobGate>(
+pub(crate) fn work<S: JobGate + Exchange>(
     alloc: Global,
-    gate: &G,
+    shop: &S,
     header: &Header,
     exhibits: &[Exhibit],
     last: usize,
@@ -82,5 +84,5 @@ pub(crate) fn work<G: JobGate>(
     ensures { IfOk result (λ reports. AreOfWorker header.now exhibits.now last worker reports.items) }
 {
     let pieces = pieces_of(alloc, exhibits, last, worker)?;
-    work_on(alloc, gate, header, pieces.as_slice(), worker, last)
+    work_on(alloc, shop, header, pieces.as_slice(), worker, last)
 }

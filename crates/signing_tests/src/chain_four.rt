@@ -1,4 +1,6 @@
 //! Chains of more than four signers, of which one signature is another one.
+ghost use Rattle.gen_chain.specs.Store.{Serves};
+
 use crate::chain::{chain_of_one, header_of, longer};
 use crate::chain_store::first_wrong_chain;
 use gen_chain::*;
@@ -91,5 +93,60 @@ fn a_store_of_chains_of_nine(rt: HostRuntime) -> Result<(), Fail> {
     let rows = [(&five, true, 5), (&nine, true, 9)];
     assert!(rt; first_wrong_chain(rt.alloc(), &header, &rows)? == None);
     assert!(rt; first_wrong_place(rt.alloc(), &header, &nine, &PLACES)? == None);
+    Ok(())
+}
+
+// What the last signer of a chain of order 1 is to have signed.
+fn last_signing(chain: &SignedChain) -> Option<Signing<'_>> {
+    let last = chain.signers().last()?;
+    Some(Signing {
+        signer: last.general,
+        statement: Statement {
+            order: chain.order(),
+            path: chain.path(),
+        },
+        signature: &last.signature,
+    })
+}
+
+// Whether a signing is kept by a store that verifies it four times, which counts it once.
+fn keeps_one_of_four(
+    store: &mut VerifyStore,
+    header: &Header,
+    chain: &SignedChain,
+) -> Result<bool, Fail>
+    requires { Serves header.now store.old }
+    ensures { Serves header.now store.new }
+{
+    let (Some(a), Some(b), Some(c), Some(d)) = (
+        last_signing(chain),
+        last_signing(chain),
+        last_signing(chain),
+        last_signing(chain),
+    ) else {
+        return Err("no signer".into());
+    };
+    store.verify_four(header, &[a, b, c, d])?;
+    let Some(signing) = last_signing(chain) else {
+        return Ok(false);
+    };
+    Ok(store.keeps(&signing) && store.runs() == 1)
+}
+
+// Whether a store keeps the answer to a signing that was verified four times, and counts it once; and whether
+// another store, which takes it, answers without a verification of its own.
+fn keeps_and_gives(alloc: Global, header: &Header, chain: &SignedChain) -> Result<bool, Fail> {
+    let (mut one, mut other) = (VerifyStore::new(alloc)?, VerifyStore::new(alloc)?);
+    let keeps = keeps_one_of_four(&mut one, header, chain)?;
+    other.take_from(header, &one)?;
+    let answer = other.chain_verifies(header, chain)?;
+    Ok(keeps && answer && other.runs() == 1)
+}
+
+#[test]
+fn answers_of_another_store(rt: HostRuntime) -> Result<(), Fail> {
+    let header = header_of(rt.alloc(), 9)?;
+    let chain = chain_of_one(rt.alloc(), &header, OrderNo::at(1))?;
+    assert!(rt; keeps_and_gives(rt.alloc(), &header, &chain)?);
     Ok(())
 }

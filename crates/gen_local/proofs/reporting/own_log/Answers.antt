@@ -4,13 +4,12 @@ use Rattle.gen_local.proofs.reporting.own_log.Goals as goal
 pub returns-clause-found : goal.returns-clause-found
 returns-clause-found c =
     let head = c.head_of-head.ensures c.args.header.now c.requires.link in
-    let sealed = rw (head, c.head.ensures) at c.is_sealed-verifies.ensures in
     record {
       log_of_run = c.requires.log;
       says = c.requires.says;
       unsigned = rw c.entries.ensures at c.in_ok-unsigned.ensures.first;
-      sealed = sealed;
+      sealed = c.requires.seal;
       departs = c.departs-departure.ensures.departs c.args.general c.requires.says.starts;
       follows = c.departs-departure.ensures.follows c.args.general c.requires.says.starts;
-      texts = with_head c.args.header.now c.args.general c.args.log _ _ c.is_sealed-verifies.result (rw (c.new-texts.ensures.items, c.entries.ensures) at c.in_ok-unsigned.ensures.texts) sealed (rw (head, c.head-2.ensures) at c.in_ok-put_if.ensures);
+      texts = with_head c.args.header.now c.args.general c.args.log _ _ c.args.ending.now.sealed (rw (c.new-texts.ensures.items, c.entries.ensures) at c.in_ok-unsigned.ensures.texts) c.requires.seal (rw (head, c.head.ensures) at c.in_ok-put_if.ensures);
     }

@@ -1,0 +1,19 @@
+use Rattle.std.proofs.Common.{sym, subst}
+use Rattle.gen_chain.specs.Store.{Serves}
+use Rattle.gen_workers.proofs.boards.Answers.exchange.Goals as goal
+
+pub take_from-requires-clause-serves : goal.take_from-requires-clause-serves
+take_from-requires-clause-serves c =
+    subst (λ h. Serves h c.self.inside.store) (c.is_same_header.ensures.0 c.if-is_same_header.true) c.self.invariant
+
+pub invariant_of-self : goal.invariant_of-self
+invariant_of-self c =
+    subst (λ h. Serves h c.take_from.new.self) (sym (c.is_same_header.ensures.0 c.if-is_same_header.true)) c.take_from.ensures.serves
+
+pub invariant_of-self-in-Continue-branch-2 : goal.invariant_of-self-in-Continue-branch-2
+invariant_of-self-in-Continue-branch-2 c =
+    subst (λ h. Serves h c.take_from.new.self) (sym (c.is_same_header.ensures.0 c.if-is_same_header.true)) c.take_from.ensures.serves
+
+pub invariant_of-self-in_err-take_from-2 : goal.invariant_of-self-in_err-take_from-2
+invariant_of-self-in_err-take_from-2 c =
+    subst (λ h. Serves h c.take_from.new.self) (sym (c.is_same_header.ensures.0 c.if-is_same_header.true)) c.take_from.ensures.serves

@@ -1,0 +1,95 @@
+//! What workers share: a gate, and a board for the answers to what they verified.
+ghost use Rattle.std.specs.Prelude.{IsTrue, ◌≡◌, ◌↔◌};
+ghost use Rattle.gen_chain.specs.Store.{Serves, KeepsAll};
+
+use crate::gates::JobGate;
+use gen_chain::VerifyStore;
+use gen_local::Exchange;
+use gen_net::Header;
+use std::alloc::{AllocError, Global};
+use std::marker::Model;
+use std::sync::{Mutex, Wait};
+
+/// Returns whether two headers are the same.
+fn is_same_header(one: &Header, other: &Header) -> bool
+    ensures { IsTrue result ↔ (one.now ≡ other.now) }
+{
+    one == other
+}
+
+/// Answers to verifications that any worker made under a header.
+#[derive(Drop)]
+struct Answers {
+    header: Header,
+    store: VerifyStore,
+}
+
+impl Model for Answers {
+    ghost use Rattle.gen_chain.specs.Store.{Serves};
+    ghost use Rattle.gen_workers.specs.Answers.{Answers};
+
+    ghost Value = { Answers };
+
+    ghost view = { λ a. record { header = a.header; store = a.store } };
+
+    ghost invariant = { λ a. Serves a.header a.store };
+}
+
+impl Answers {
+    /// Takes the answers of a worker's store, and gives him those of the others, if his header is this one.
+    fn exchange(&mut self, header: &Header, store: &mut VerifyStore) -> Result<(), AllocError>
+        requires { Serves header.now store.old }
+        ensures grows { KeepsAll store.old store.new }
+        ensures serves { Serves header.now store.new }
+    {
+        if is_same_header(&self.header, header) {
+            self.store.take_from(header, store)?;
+            store.take_from(header, &self.store)?;
+        }
+        Ok(())
+    }
+}
+
+/// A board at which workers leave the answers to what they verified.
+#[derive(Drop)]
+pub(crate) struct Board {
+    answers: Mutex<Answers>,
+}
+
+impl Board {
+    /// Returns a board without answers, for verifications under this header.
+    pub(crate) fn new(alloc: Global, header: &Header) -> Result<Board, AllocError> {
+        let answers = Answers {
+            header: header.clone()?,
+            store: VerifyStore::new(alloc)?,
+        };
+        Ok(Board {
+            answers: Mutex::new(answers),
+        })
+    }
+}
+
+/// What workers share: the gate that is called as they begin pieces, and their board, at which one who is alone leaves
+/// nothing.
+#[derive(Drop)]
+pub(crate) struct Workshop<'a, R, G> {
+    pub(crate) rt: &'a R,
+    pub(crate) gate: &'a G,
+    pub(crate) board: &'a Board,
+    pub(crate) alone: bool,
+}
+
+impl<'a, R, G: JobGate> JobGate for Workshop<'a, R, G> {
+    fn begin(&self, piece: usize) {
+        self.gate.begin(piece);
+    }
+}
+
+impl<'a, R: Wait, G> Exchange for Workshop<'a, R, G> {
+    fn exchange(&self, header: &Header, store: &mut VerifyStore) -> Result<(), AllocError> {
+        if self.alone {
+            return Ok(());
+        }
+        self.board.answers.lock(self.rt).exchange(header, store)
+    }
+}
