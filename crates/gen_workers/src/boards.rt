@@ -10,6 +10,22 @@ use std::alloc::{AllocError, Global};
 use std::marker::Model;
 use std::sync::{Mutex, Wait};
 
+/// The most answers that a store is looked through for: a run has fewer, and who shows more gains nothing by it.
+const MOST_ANSWERS: u64 = 1024;
+
+/// Takes the answers of another store, unless they are too many.
+fn take_few(store: &mut VerifyStore, header: &Header, other: &VerifyStore) -> Result<(), AllocError>
+    requires serves { Serves header.now store.old }
+    requires other { Serves header.now other.now }
+    ensures grows { KeepsAll store.old store.new }
+    ensures serves { Serves header.now store.new }
+{
+    if other.runs() <= MOST_ANSWERS {
+        store.take_from(header, other)?;
+    }
+    Ok(())
+}
+
 /// Returns whether two headers are the same.
 fn is_same_header(one: &Header, other: &Header) -> bool
     ensures { IsTrue result ↔ (one.now ≡ other.now) }
@@ -36,15 +52,16 @@ impl Model for Answers {
 }
 
 impl Answers {
-    /// Takes the answers of a worker's store, and gives him those of the others, if his header is this one.
+    /// Takes the answers of a worker's store, and gives him those of the others, if his header is this one and they are not
+    /// too many.
     fn exchange(&mut self, header: &Header, store: &mut VerifyStore) -> Result<(), AllocError>
         requires { Serves header.now store.old }
         ensures grows { KeepsAll store.old store.new }
         ensures serves { Serves header.now store.new }
     {
         if is_same_header(&self.header, header) {
-            self.store.take_from(header, store)?;
-            store.take_from(header, &self.store)?;
+            take_few(&mut self.store, header, store)?;
+            take_few(store, header, &self.store)?;
         }
         Ok(())
     }

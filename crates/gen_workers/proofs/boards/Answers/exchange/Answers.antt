@@ -2,18 +2,18 @@ use Rattle.std.proofs.Common.{sym, subst}
 use Rattle.gen_chain.specs.Store.{Serves}
 use Rattle.gen_workers.proofs.boards.Answers.exchange.Goals as goal
 
-pub take_from-requires-clause-serves : goal.take_from-requires-clause-serves
-take_from-requires-clause-serves c =
+pub take_few-requires-clause-serves : goal.take_few-requires-clause-serves
+take_few-requires-clause-serves c =
     subst (λ h. Serves h c.self.inside.store) (c.is_same_header.ensures.0 c.if-is_same_header.true) c.self.invariant
 
 pub invariant_of-self : goal.invariant_of-self
 invariant_of-self c =
-    subst (λ h. Serves h c.take_from.new.self) (sym (c.is_same_header.ensures.0 c.if-is_same_header.true)) c.take_from.ensures.serves
+    subst (λ h. Serves h c.take_few.new.store) (sym (c.is_same_header.ensures.0 c.if-is_same_header.true)) c.take_few.ensures.serves
 
 pub invariant_of-self-in-Continue-branch-2 : goal.invariant_of-self-in-Continue-branch-2
 invariant_of-self-in-Continue-branch-2 c =
-    subst (λ h. Serves h c.take_from.new.self) (sym (c.is_same_header.ensures.0 c.if-is_same_header.true)) c.take_from.ensures.serves
+    subst (λ h. Serves h c.take_few.new.store) (sym (c.is_same_header.ensures.0 c.if-is_same_header.true)) c.take_few.ensures.serves
 
-pub invariant_of-self-in_err-take_from-2 : goal.invariant_of-self-in_err-take_from-2
-invariant_of-self-in_err-take_from-2 c =
-    subst (λ h. Serves h c.take_from.new.self) (sym (c.is_same_header.ensures.0 c.if-is_same_header.true)) c.take_from.ensures.serves
+pub invariant_of-self-in_err-take_few-2 : goal.invariant_of-self-in_err-take_few-2
+invariant_of-self-in_err-take_few-2 c =
+    subst (λ h. Serves h c.take_few.new.store) (sym (c.is_same_header.ensures.0 c.if-is_same_header.true)) c.take_few.ensures.serves
