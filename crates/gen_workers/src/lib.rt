@@ -2,7 +2,8 @@
 //!
 //! The exhibits are pieces of work, numbered from 0. Of W workers, worker w takes the pieces w, w + W, w + 2W
 //! and so on, four of them at a time, whose logs' links he hashes side by side; and he keeps a store of
-//! verifications of his own. A gate is called as each piece is begun.
+//! verifications of his own, whose answers he exchanges with the others. A gate is called as each piece is
+//! begun.
 //!
 //! What is promised: however many workers there are, the reports are those of the exhibits, each under the
 //! header, in their order. What is not: that the workers run at once, or at all.
