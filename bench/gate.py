@@ -1,18 +1,19 @@
 #!/usr/bin/env python3
-"""Runs the gate, `rt ci`, and prints where its processor minutes went.
+"""Runs the gate, `rt ci`, and keeps where its processor time went.
 
-    python3 bench/gate.py [LOG [CRATE..]]    at the top of the repository, with the kit's rt on the path
+    python3 bench/gate.py run [FILE]      at the top of the repository, with the kit's rt on the path
+    python3 bench/gate.py table [FILE]    prints the table of what a run kept
 
-The gate runs as ever, in this process, and its last lines are its own. Behind them stands a table: for each crate the
-processor seconds (user and system) of its proof, of its tests (which prove the crate again, and run) and of its must-fail
-edits, with the number of edits; then each edit that took more than 40 seconds. Seconds are those that the system counted for
-each program that the gate started, so other work on the machine changes them little; wall time depends on the cores. With a
-LOG a line for each of these programs is written there when it ends: seconds since the start, crate, kind, its seconds.
-With names of crates it is `rt ci CRATE..`, which the kit 13f takes and 13b does not: these and the crates below them alone, on
-a copy. What earlier runs on this machine have passed is not done again, and so not counted: the whole price is that of a
-machine on which nothing is kept.
+The gate runs as ever, in this process, and its last line is its own. FILE, which is bench/gate.csv where none is named, then
+has a row for each crate and step: the step is `proof`, `tests` (which prove the crate again, and run) or `edits` (all of the
+crate's must-fail edits, with the check that they begin with and the one that they end with), and its seconds are processor
+seconds, user and system. They are those that the system counted for each program that the gate started, so other work on the
+machine changes them little. The row `toolchain` has what the gate's own process took, and the row `all` the whole, once as
+processor seconds and once, as the step `wall`, as seconds of wall time. Each row has the kit, the number of cores and the date.
 """
 import collections
+import csv
+import datetime
 import importlib.machinery
 import importlib.util
 import os
@@ -22,7 +23,9 @@ import subprocess
 import sys
 import time
 
-LIMIT = 40
+FILE = os.path.join(os.path.dirname(os.path.abspath(__file__)), "gate.csv")
+COLUMNS = ["crate", "step", "seconds", "kit", "cores", "date"]
+STEPS = ["proof", "tests", "edits"]
 
 
 def load_gate():
@@ -35,11 +38,11 @@ def load_gate():
     return made
 
 
-def kind_of(words, folder):
-    """What a started program does: 'edits', 'tests' or 'proof'."""
+def step_of(words, folder):
+    """What a started program does."""
     if "rt-edit-" in folder:
         return "edits"
-    return "tests" if "--test" in words or any(it.endswith("_tests") or it.endswith("_tests.o") for it in words) else "proof"
+    return "tests" if "--test" in words or any(it.endswith(("_tests", "_tests.o")) for it in words) else "proof"
 
 
 def crate_of(words, folder):
@@ -47,17 +50,16 @@ def crate_of(words, folder):
     if "--crate-name" in words:
         return words[words.index("--crate-name") + 1]
     inside = folder.split("/crates/")
-    return inside[1].split("/")[0] if len(inside) > 1 else "(other)"
+    return inside[1].split("/")[0] if len(inside) > 1 else "toolchain"
 
 
-def main():
-    spent = collections.defaultdict(float)
-    edits = collections.defaultdict(list)
-    started = time.time()
-    log = open(sys.argv[1], "w", buffering=1) if len(sys.argv) > 1 else None
+def counting(spent):
+    """A class of started programs, each of which adds its processor time when it has ended."""
 
     class Counted(subprocess.Popen):
-        """A program whose processor time is counted when it has ended."""
+        def __init__(self, *given, **named):
+            self.folder = str(named.get("cwd") or os.getcwd())
+            super().__init__(*given, **named)
 
         def _try_wait(self, flags):
             try:
@@ -65,44 +67,60 @@ def main():
             except ChildProcessError:
                 return self.pid, 0
             if pid == self.pid:
-                words = [str(it) for it in (self.args if isinstance(self.args, (list, tuple)) else [self.args])]
-                folder = str(self.folder)
-                crate, kind, seconds = crate_of(words, folder), kind_of(words, folder), used.ru_utime + used.ru_stime
-                spent[crate, kind] += seconds
-                if kind == "edits":
-                    edits[crate].append(seconds)
-                if log:
-                    print(f"{time.time() - started:.0f} {crate} {kind} {seconds:.1f}", file=log)
+                given = self.args if isinstance(self.args, (list, tuple)) else [self.args]
+                words = [str(it) for it in given]
+                spent[crate_of(words, self.folder), step_of(words, self.folder)] += used.ru_utime + used.ru_stime
             return pid, status
 
-        def __init__(self, *given, **named):
-            self.folder = named.get("cwd") or os.getcwd()
-            super().__init__(*given, **named)
+    return Counted
 
-    subprocess.Popen = Counted
-    gate = load_gate()
-    status = gate.main(["ci", *sys.argv[2:]])
+
+def run_gate(file):
+    """Runs the gate and writes the rows. Returns the gate's status."""
+    spent, since = collections.defaultdict(float), time.monotonic()
+    kit = subprocess.run(["rt", "version"], capture_output=True, text=True, check=True).stdout.split()[0]
+    subprocess.Popen = counting(spent)
+    status = load_gate().main(["ci"])
     sys.stdout.flush()
-    used = resource.getrusage(resource.RUSAGE_CHILDREN)
-    own = resource.getrusage(resource.RUSAGE_SELF)
-    minutes = (used.ru_utime + used.ru_stime + own.ru_utime + own.ru_stime) / 60
-    report(spent, edits, minutes, (time.time() - started) / 60)
+    own, of_all = (resource.getrusage(it) for it in (resource.RUSAGE_SELF, resource.RUSAGE_CHILDREN))
+    taken = own.ru_utime + own.ru_stime
+    spent["toolchain", "proof"] += taken
+    spent["all", "all"] = taken + of_all.ru_utime + of_all.ru_stime
+    spent["all", "wall"] = time.monotonic() - since
+    behind = [kit, os.cpu_count(), datetime.date.today().isoformat()]
+    with open(file, "w", encoding="utf-8", newline="") as out:
+        rows = csv.writer(out, lineterminator="\n")
+        rows.writerow(COLUMNS)
+        rows.writerows([crate, step, round(seconds), *behind] for (crate, step), seconds in spent.items())
     return status
 
 
-def report(spent, edits, minutes, wall):
-    """Prints the table on standard error."""
-    out = sys.stderr
-    print("\n| Crate | proof s | tests s | edits s | edits | s an edit |\n|---|---|---|---|---|---|", file=out)
-    for crate in sorted({crate for crate, _ in spent}):
-        proof, tests, tried = (spent[crate, kind] for kind in ("proof", "tests", "edits"))
-        # the first edit of a crate checks all of it, and one more check shows that the crate itself is still proved
-        count = max(len(edits[crate]) - 1, 0)
-        each = tried / count if count else 0
-        print(f"| {crate} | {proof:.0f} | {tests:.0f} | {tried:.0f} | {count} | {each:.0f} |", file=out)
-    long = sum(1 for it in edits.values() for seconds in it[1:] if seconds > LIMIT)
-    print(f"\n{minutes:.1f} processor minutes, {wall:.1f} minutes of wall time, {os.cpu_count()} cores; "
-          f"edits above {LIMIT} s, a crate's first apart: {long}", file=out)
+def print_table(file):
+    """Prints the table of a kept run, the dearest crates first."""
+    with open(file, encoding="utf-8", newline="") as kept:
+        rows = list(csv.DictReader(kept))
+    seconds = {(it["crate"], it["step"]): int(it["seconds"]) for it in rows}
+    crates = {crate: sum(seconds.get((crate, it), 0) for it in STEPS) for crate, _ in seconds if crate != "all"}
+    print("| Crate | proof s | tests s | edits s | all s |\n|---|---|---|---|---|")
+    for crate in sorted(crates, key=lambda it: -crates[it]):
+        cells = [str(seconds.get((crate, it), "")) for it in STEPS]
+        print(f"| {crate} | {' | '.join(cells)} | {crates[crate]} |")
+    sums = [sum(seconds.get((crate, it), 0) for crate in crates) for it in STEPS]
+    print(f"| all | {' | '.join(str(it) for it in sums)} | {sum(sums)} |")
+    first = rows[0]
+    print(f"\n{seconds['all', 'all'] / 60:.0f} processor minutes and {seconds['all', 'wall'] / 60:.0f} minutes of wall time, "
+          f"{first['kit']}, {first['cores']} cores, {first['date']}")
+
+
+def main():
+    words = sys.argv[1:]
+    if len(words) not in (1, 2) or words[0] not in ("run", "table"):
+        sys.exit(__doc__)
+    file = os.path.abspath(words[1]) if len(words) > 1 else FILE
+    if words[0] == "run":
+        return run_gate(file)
+    print_table(file)
+    return 0
 
 
 if __name__ == "__main__":

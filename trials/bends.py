@@ -1,5 +1,6 @@
 """Turns, cuts, doubles and moves pieces of inputs, by what is drawn."""
-from layout import Bundle, Log, front_length, small_in_evidence
+from campaigns import bytes_of
+from layout import Bundle, Log, front_length, small_front, small_in_evidence, text_length
 
 VALUES = [0, 1, 2, 3, 4, 15, 16, 17, 254, 255]
 NUMBERS = ["0", "1", "2", "3", "7", "8", "9", "15", "16", "17", "255", "256", "00", "01", "-1", "+1", "", "x", "9" * 40]
@@ -245,7 +246,61 @@ def bend_bundle(draws, data):
     return bundle.spell()
 
 
+# Campaigns.
+
+
+def other_runs(draws, runs, other):
+    """The bundles in another order, one twice, one left out, or one of another run among them."""
+    runs, way, at = list(runs), draws.below(4), draws.below(len(runs))
+    if way == 0:
+        runs.insert(draws.below(len(runs)), runs.pop(at))
+    elif way == 1:
+        runs.insert(at, runs[at])
+    elif way == 2:
+        runs.insert(draws.below(len(runs) + 1), other)
+    else:
+        del runs[at]
+    return bytes_of(*runs)
+
+
+def other_front(draws, runs, other):
+    """Another number, edge or slot in a header, or a root with a bit turned."""
+    runs, at = list(runs), draws.below(len(runs))
+    front = range(front_length(runs[at]) - 32, front_length(runs[at])) if draws.is_one_in(4) else small_front(runs[at])
+    runs[at] = bend_small(draws, runs[at], front)
+    return bytes_of(*runs)
+
+
+def other_count(draws, runs, other):
+    """Another number of runs, or another mark, or little more than the mark."""
+    data = bytes_of(*runs)
+    if draws.is_one_in(5):
+        return data[: draws.one_of([3, 4, 5, 6])]
+    if draws.below(2):
+        return data[:4] + bytes([draws.one_of([0, 1, 2, 3, 4, 5, 255])]) + data[5:]
+    return draws.one_of([b"SMC1", b"SMB2", b"SME2", b"smc2", b"SMC"]) + data[4:]
+
+
+def bend_campaign(draws, runs, other):
+    """A campaign of bundles with one change."""
+    if draws.is_one_in(4):
+        return bend_bytes(draws, bytes_of(*runs))
+    return draws.one_of([other_runs, other_runs, other_front, other_count])(draws, runs, other)
+
+
 # Evidence.
+
+
+def small_across(data):
+    """The places of evidence of two runs that are neither of roots nor of signatures nor of links."""
+    at = front_length(data)
+    second = at + 2 - 4
+    places = [*small_front(data), at, at + 1, *(second + place for place in small_front(data[second:])[4:])]
+    first = second + front_length(data[second:])
+    signature = (len(data) - first) // 2 // 64 * 64
+    for begin in (first, first + text_length(data, first) + signature):
+        places += range(begin, min(len(data), begin + min(10, text_length(data, begin))))
+    return places
 
 
 def bend_evidence(draws, data):
@@ -259,6 +314,6 @@ def bend_evidence(draws, data):
         half = (len(data) - front_length(data) - 2) // 2
         at = len(data) - half
         return data[: at - half] + data[at:] + data[at - half : at]
-    places = small_in_evidence(data)
+    places = small_across(data) if data[front_length(data) + 1] == 5 else small_in_evidence(data)
     behind = [place for place in places if place >= front_length(data)]
     return bend_small(draws, data, places if draws.is_one_in(5) else behind)

@@ -11,7 +11,7 @@ import tempfile
 from layout import Bundle
 from programs import End, count_cores, run, shown, side_by_side
 from refusals import AT_ONCE, HERE, build, numbers, refused
-from scenarios import everybody, scenario, signed, sixteen
+from scenarios import signed, sixteen
 
 PROGRAM = os.path.join(os.path.dirname(HERE), "crates", "refusals", "out", "refusals")
 FRONT = "call\n"
@@ -19,53 +19,30 @@ GAVE = "gave\n"
 # The kinds of refusals that a call can meet which starts no thread, and one that starts some.
 ALONE, IN_THREADS = ["memory"], ["memory", "thread"]
 
-OF_NOTHING = ["KeyRing::from_seed", "root_of", "SigRoom::new", "ChainRoom::new"]
-OF_SCENARIOS = ["run_world", "Machine::act", "Machine::finish", "Edge::new", "Desk::file", "Desk::claim", "Desk::report"]
-OF_SCENARIOS += ["job decide"]
-OF_RUNS = ["run_threads", "run_and_audit", "job run", "job judge"]
-OF_BUNDLES = ["read_bundle", "read_log", "LogWriter::append", "audit", "local_reports", "find_evidence"]
-OF_BUNDLES += ["Net::new", "read_header", "read_front", "make_walks", "read_chain", "entry_bytes", "make_bundle"]
-OF_SHOWN = ["write_campaign", "job audit in place", "job draw in place", "job accuse in place"]
-OF_SHOWN_BY_TWO = ["job audit", "job draw", "job accuse"]
+OF_SCENARIOS = ["run_world", "Machine", "Desk"]
+OF_BUNDLES = ["read_bundle", "read_chain", "LogWriter::append", "local_reports", "write_campaign"]
 
 
 def small_cases(program):
     """Each call: its name, what it is made of, its input and the kinds of refusals that it can meet."""
-    for name in OF_NOTHING:
-        yield name, "nothing", b"", ALONE
     texts = signed()
     for case in ("pair", "ring", "split"):
         for name in OF_SCENARIOS:
             yield name, case, texts[case], ALONE
-        for name in OF_RUNS:
-            yield name, case, texts[case], IN_THREADS
+        yield "run_and_audit", case, texts[case], IN_THREADS
         bundle = run(program, ["run"], texts[case]).wrote
         for name in OF_BUNDLES:
             yield name, case, bundle, ALONE
-        yield "audit by two", case, bundle, IN_THREADS
-    for case in ("pair", "split"):
-        yield "Node", case, texts[case], ALONE
+        yield "audit", case, bundle, IN_THREADS
     yield "refute", "stolen key", withheld(program), ALONE
-    yield "job decide", "no seed", scenario(everybody(3), 1, 1, 1, seed=None), ALONE
-    yield from shown_cases(program, "split", run(program, ["run"], texts["split"]).wrote)
-    yield from campaign_cases(program)
+    yield "write_campaign", "one slot twice", one_slot_twice(program), ALONE
 
 
-def shown_cases(program, name, shown):
-    """The calls that are made of what is shown of a campaign, or of one bundle."""
-    for call in OF_SHOWN:
-        yield call, name, shown, ALONE
-    for call in OF_SHOWN_BY_TWO:
-        yield call, name, shown, IN_THREADS
-    yield "job evidence", name, run(program, ["accuse", "--general", "0"], shown).wrote, ALONE
-
-
-def campaign_cases(program):
-    """A campaign of two runs, and runs of one slot, across which a general is convicted."""
-    texts = signed(slot=1)["pair"], signed(slot=2)["pair"]
-    yield "job campaign", "two pairs", b"campaign 2\n" + b"".join(texts), IN_THREADS
-    twice = [run(program, ["run"], it).wrote for it in (texts[0], texts[0].replace(b"traitors 0", b"traitors 1"))]
-    yield from shown_cases(program, "one slot twice", b"SMC2\2" + b"".join(twice))
+def one_slot_twice(program):
+    """A campaign of two runs of one slot, across which a general is convicted."""
+    text = signed(slot=1)["pair"]
+    twice = [run(program, ["run"], it).wrote for it in (text, text.replace(b"traitors 0", b"traitors 1"))]
+    return b"SMC2\2" + b"".join(twice)
 
 
 def withheld(program):
@@ -81,12 +58,9 @@ def large_cases(program):
     text = sixteen()
     bundle = run(program, ["run"], text).wrote
     yield "run_world", "16 generals", text, ALONE
-    for name in ("run_threads", "job run"):
-        yield name, "16 generals", text, IN_THREADS
-    yield "Node", "16 generals", text, ALONE
-    for name in ("audit", "local_reports", "read_bundle", "read_chain", "make_walks", "job draw in place"):
+    for name in ("read_bundle", "read_chain", "local_reports"):
         yield name, "16 generals", bundle, ALONE
-    yield "audit by two", "16 generals", bundle, IN_THREADS
+    yield "audit", "16 generals", bundle, IN_THREADS
 
 
 def answers(kind, kinds):

@@ -21,7 +21,8 @@ def jobs(program, commands):
     evidence = run(program, ["accuse", "--general", "0"], bundle).wrote
     both = [(["decide"], text), (["run"], text), (["judge"], text), (["judge", "--workers", "3"], text)]
     both += [(["audit"], bundle), (["audit", "--workers", "3"], bundle), (["draw"], bundle)]
-    both += [(["accuse", "--general", "0"], bundle)]
+    both += [(["accuse", "--general", "0"], bundle), (["run"], sixteen())]
+    both += [(["campaign"], b"campaign 2\n" + b"".join(signed(slot=slot)["pair"] for slot in (1, 2)))]
     return [(words, given) for words, given in [*both, (["evidence"], evidence)] if words[0] in commands]
 
 

@@ -188,6 +188,10 @@ def run_once(program, folder, system, length):
             process.stdout.close()
 
 
+class TooBusy(Exception):
+    """No run of the processes kept to the clock."""
+
+
 def run_in_time(made, program, folder, system):
     """A run in which nobody was late: its folder, and the statuses and lines of those who weren't killed."""
     for tried in range(MOST_TRIES):
@@ -197,7 +201,7 @@ def run_in_time(made, program, folder, system):
         statuses, lines = run_once(program, of_run, system, ROUND << tried)
         if LATE not in statuses:
             return of_run, statuses, lines
-    return of_run, [LATE], ["late"]
+    raise TooBusy
 
 
 def wanted_bundle(program, system):
@@ -599,15 +603,23 @@ def with_little_stack(call, *words):
         threading.stack_size(kept)
 
 
+def try_system(tally, name, *given):
+    """One trial of processes, which is left out where the machine is too busy for their clock."""
+    try:
+        tally.hold(name, system_wrong(*given))
+    except TooBusy:
+        tally.note(f"left out: {name}, since no run kept to rounds of {ROUND << MOST_TRIES - 1} milliseconds")
+
+
 def try_built(program, tally, folder):
     """All trials over the archive."""
     made, library = build_programs(folder), Library(folder)
     runs, general = os.path.join(folder, "r"), made["general"]
     os.mkdir(runs)
-    tally.hold("four processes", system_wrong(program, made, general, runs, FOUR))
-    tally.hold("four processes, sanitized", system_wrong(program, made, made["sanitized"], runs, FOUR))
-    tally.hold("four processes, slot 2", system_wrong(program, made, general, runs, FOUR._replace(slot=2)))
-    tally.hold("sixteen processes", system_wrong(program, made, general, runs, SIXTEEN))
+    try_system(tally, "four processes", program, made, general, runs, FOUR)
+    try_system(tally, "four processes, sanitized", program, made, made["sanitized"], runs, FOUR)
+    try_system(tally, "four processes, slot 2", program, made, general, runs, FOUR._replace(slot=2))
+    try_system(tally, "sixteen processes", program, made, general, runs, SIXTEEN)
     tally.hold("wrong words", words_wrong(made, folder))
     tally.hold("calls", with_little_stack(calls_wrong, program, library, False))
     tally.hold("calls, memory", with_little_stack(calls_wrong, program, library, True))

@@ -3,7 +3,8 @@
 
     trials/run.py PROGRAM [SUBJECT ..]
 
-The subjects are the modules that README.md lists. The last line is `N passed, M failed`; the status is 1 where something
+The subjects are the modules that README.md lists; `libraries` stands for those that want the libraries for C, and `program` for
+all others. The last line is `N passed, M failed`; the status is 1 where something
 failed.
 """
 import importlib
@@ -14,8 +15,10 @@ import traceback
 from programs import Hangs, commands_of
 from tally import Tally
 
-SUBJECTS = ["worked", "walk", "campaigns", "pictures", "prefixes", "bent"]
+SUBJECTS = ["scripts", "worked", "walk", "campaigns", "pictures", "prefixes", "vectors", "differs"]
 SUBJECTS += ["refusals", "calls", "devices", "load", "embed", "nodes", "page"]
+LIBRARIES = ["embed", "nodes", "page"]
+GROUPS = {"libraries": LIBRARIES, "program": [subject for subject in SUBJECTS if subject not in LIBRARIES]}
 
 
 def try_subject(subject, program, commands):
@@ -32,11 +35,12 @@ def try_subject(subject, program, commands):
 
 
 def main():
-    if len(sys.argv) < 2 or not set(sys.argv[2:]) <= set(SUBJECTS):
+    if len(sys.argv) < 2 or not set(sys.argv[2:]) <= {*SUBJECTS, *GROUPS}:
         sys.exit(__doc__)
+    subjects = [subject for word in sys.argv[2:] for subject in GROUPS.get(word, [word])] or SUBJECTS
     program = os.path.abspath(sys.argv[1])
     commands = commands_of(program)
-    tallies = [try_subject(subject, program, commands) for subject in sys.argv[2:] or SUBJECTS]
+    tallies = [try_subject(subject, program, commands) for subject in subjects]
     failed = sum(tally.failed for tally in tallies)
     print(f"{sum(tally.passed for tally in tallies)} passed, {failed} failed", flush=True)
     return 1 if failed else 0

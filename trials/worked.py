@@ -40,6 +40,7 @@ SCRIPTS = [
 # Words that ask for nothing.
 WORDS = ["", "walk", "decide x", "decide --workers 1", "run --capacity", "run --capacity 0", "run --capacity 17"]
 WORDS += ["run --capacity 01", "run --capacity x", "run --capacity +1", "audit --workers 0", "audit --workers 17"]
+WORDS += ["judge --capacity 1 --workers 0", "judge --capacity 17 --workers 2", "judge --workers 2 --capacity 0"]
 WORDS += ["audit --workers 1 --workers 1", "accuse", "accuse --general 16", "accuse --general -1", "evidence --general 0"]
 
 

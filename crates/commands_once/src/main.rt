@@ -1,15 +1,20 @@
 //! Each command of the program but `decide`, which the gate runs as `sm_tool`, in one process, by the words that ask for it.
 //!
 //! What it reads are the examples in the folder that it is run in. It writes what each command writes, with the exit status
-//! in a line behind it.
+//! in a line behind it. Then it is the program itself, by the words and the standard input of the process, and ends with the
+//! exit status of that.
 #![tactic(auto)]
 
 use gen_jobs::{JobEnd, do_job};
 use gen_program::read_words;
 use std::fs::{File, Files};
 use std::io::{self, ErrorKind};
+use std::process::ExitCode;
 use std::sync::Wait;
 use std::thread::Threads;
+
+/// The exit status where an example can't be read, or its answer can't be written.
+const FAILED: u8 = 100;
 
 /// The words of each command, and the file that it reads.
 const RUNS: [(&[&str], &str); 9] = [
@@ -41,10 +46,18 @@ fn done<R: AllocGlobal + Files + Print + Threads + Wait + Sync>(
     Ok(do_job(rt, rt.alloc(), job, &mut reader, &mut writer))
 }
 
-fn main(rt: HostRuntime) -> io::Result<()> {
+/// Does each command on its file, and writes the exit status behind what it writes.
+fn run_all<R: AllocGlobal + Files + Print + Threads + Wait + Sync>(rt: &R) -> io::Result<()> {
     for (words, name) in RUNS {
-        let end = done(&rt, words, name)?;
+        let end = done(rt, words, name)?;
         println!(rt; "status {}", end.status())?;
     }
     Ok(())
+}
+
+fn main(rt: HostRuntime) -> ExitCode {
+    match run_all(&rt) {
+        Ok(()) => ExitCode::from(gen_program::run(&rt)),
+        Err(_) => ExitCode::from(FAILED),
+    }
 }

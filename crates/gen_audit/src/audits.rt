@@ -223,10 +223,11 @@ pub fn audit<R: Threads + Wait + Sync, G: JobGate + Sync>(
     // The verdict is the bundle's: no with exactly what is found, if anything is; else, with at most m held for
     // faulty, the order on which the rest agree; else what each of the rest decided.
     ensures verdict { IfOk result (λ judgement. IsVerdict bundle.now judgement.verdict) }
-    // It is a yes exactly where each log of the rest verifies, the walks bound the diameter of the rest, and a run
-    // of the algorithm exists in which all of the rest follow it and keep exactly these logs (its field `exactly`).
-    // With at most m held for faulty, such a bundle's verdict is the one order that all of the rest decided, which
-    // is the commander's if he is of the rest (its field `agreed`).
+    // It is a yes exactly where somebody is of the rest, each of the rest has one log, it verifies,
+    // the walks bound the diameter of the rest, and one run, in which no signature of the rest is
+    // forged, has all of the rest follow and keep exactly these logs (its field `exactly`). With at
+    // most m held for faulty such a bundle's verdict is the one order that all of the rest decided,
+    // which is the commander's if he is of the rest (its field `agreed`).
     ensures headline { IfOk result (λ judgement. Headline bundle.now judgement.verdict) }
     // Each general against whom a first claim can be made is convicted by it, and nobody else is.
     ensures convictions { IfOk result (λ judgement. AreConvictions bundle.now.header bundle.now.exhibits

@@ -14,7 +14,7 @@ use gen_chain::VerifyStore;
 use gen_local::{LocalReport, local_reports};
 use std::alloc::{AllocError, Global};
 
-/// The reports of all exhibits of a bundle, in their order. No signature is verified twice.
+/// The reports of all exhibits of a bundle, in their order, through one store of verifications.
 fn reports_in_place(alloc: Global, bundle: &Bundle) -> Result<Vec<LocalReport>, AllocError>
     ensures { IfOk result (λ reports. AreReports bundle.now reports.items) }
 {

@@ -1,4 +1,4 @@
--- Verifications that are kept, so that none is made twice.
+-- Verifications that are kept with their answers, and how many there are.
 use Rattle.std.specs.Prelude.{ℕ, ◌≡◌, ◌≢◌, ◌↔◌, ◌+◌, ◌-◌, ◌^◌, min, ◌==◌, ◌&&◌, if◌then◌else◌, Bool, true, List, [], AllPairs, length, Option, Some, is_some}
 use Rattle.std.specs.Bool.{nat_eq}
 use Rattle.std.specs.Cmp.Lexicographic.{pointwise}
@@ -50,7 +50,7 @@ KeepsOnce store =
 unfoldable pub kept_count : Store → ℕ
 kept_count store = sum_by length (values_of store.kept)
 
--- How many verifications were made: one for each answer that is kept. The count stays at its last value.
+-- How many answers are kept, whichever calls were made. The count stays at its last value.
 abbrev pub runs_of : Store → ℕ
 runs_of store = min (kept_count store) (2 ^ 64 - 1)
 

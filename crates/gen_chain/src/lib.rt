@@ -5,7 +5,7 @@
 //! who signed it one after another. Each signed the order together with the path up to himself, under
 //! the leaf of the order in his own tree of keys. A general also signs the head of his log.
 //!
-//! A store keeps the verifications that were made, so that none of them is made twice.
+//! A store keeps verifications that were made, so that their answers can be given again.
 //!
 //! What is promised: the texts that are signed and the bytes of a chain are exactly the definitions, each
 //! chain has one spelling, `chain_verifies` is true exactly where every signature of the chain verifies, and

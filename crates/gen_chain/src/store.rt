@@ -1,4 +1,4 @@
-//! Verifications that are kept, so that none is made twice.
+//! Verifications that are kept with their answers, so that these can be given again.
 ghost use Rattle.std.specs.Prelude.{IsTrue, Bool, ℕ, List, ◌≡◌, ◌≢◌, ◌≤◌, ◌+◌, ◌↔◌, ◌++◌, ◌∷◌, [], AllPairs, length, false, Ok, None, Some, IfOk, IsOk, IsSome, OnOk, OnErr, ◌<◌, is_some, map, slice_index_or};
 ghost use Rattle.gen_net.specs.Header.{RunHeader};
 ghost use Rattle.gen_chain.specs.Chain.{signed_path};
@@ -60,11 +60,11 @@ fn keep(
     Ok(())
 }
 
-/// The verifications that were made, each kept with its answer, so that none of them is made again.
+/// Verifications that were made, each kept with its answer, so that the answer can be given again.
 ///
-/// A verification is of a triple: a signer, a statement and a signature. A contract sees what is kept;
-/// how many verifications were made is counted beside it, and the count is that of the kept answers,
-/// whichever calls were made. A store serves a header where each kept answer is right under it; an
+/// A verification is of a triple: a signer, a statement and a signature. A contract sees what is
+/// kept; how many answers are kept is counted beside it, whichever calls were made, and that is no
+/// count of verifications. A store serves a header where each kept answer is right under it; an
 /// empty store serves every header.
 #[derive(Debug, Drop)]
 pub struct VerifyStore {
@@ -105,7 +105,7 @@ impl VerifyStore {
         })
     }
 
-    /// Returns how many verifications were made: one for each answer that is kept, and none is kept twice.
+    /// Returns how many answers are kept, which is no count of verifications. None is kept twice.
     /// The count stays at its last value, 18,446,744,073,709,551,615.
     pub fn runs(&self) -> u64
         ensures count { result ≡ runs_of self.now }
@@ -346,7 +346,7 @@ impl VerifyStore {
         ensures kept { IfOk result (λ answer. IsAfter self.old
             (record { signer = signer; statement = statement.now; signature = signature.now })
             answer self.new) }
-        // What was kept is not verified again.
+        // An answer that was kept is given again, and the store stays as it was.
         ensures known { (answer : Bool) → answer_of self.old
             (record { signer = signer; statement = statement.now; signature = signature.now })
             ≡ Some answer → (result ≡ Ok answer) × (self.new ≡ self.old) }
@@ -403,7 +403,7 @@ impl VerifyStore {
 
     /// Returns whether a chain verifies in the run of this header, as `gen_chain::chain_verifies` does.
     /// Its signatures are checked from the first signer's on, up to the first that fails, and their
-    /// answers are kept: a chain of which all those are kept takes no memory, and adds no verification.
+    /// answers are kept: a chain of which all those are kept takes no memory, and adds no answer.
     /// Where no answer is kept for the next four signers, the four are verified side by side.
     ///
     /// # Errors
@@ -417,7 +417,7 @@ impl VerifyStore {
         requires serves { Serves header.now self.old }
         ensures answer { IfOk result (λ answer. IsTrue answer ↔ ChainVerifies header.now chain.now) }
         ensures kept { OnOk result (KeepsChain header.now self.new chain.now) }
-        // What was kept is not verified again.
+        // Where all answers were kept the store stays as it was.
         ensures known { KeepsChain header.now self.old chain.now → IsOk result × (self.new ≡ self.old) }
         ensures count { kept_count self.new ≤ kept_count self.old + length chain.now.signers }
         ensures grows { KeepsAll self.old self.new }

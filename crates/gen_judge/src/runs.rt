@@ -24,10 +24,11 @@ use std::thread::Threads;
 /// of all. So many workers, each in a thread of his own, one alone too, report on each log once it is sealed, while
 /// other generals may still run.
 ///
-/// The gate is called by each general's thread before each round and with his sealed logs; then copies of them are
-/// filed. The other gate is called for each exhibit, counted from 0 in the order of generals, by the worker who begins
-/// it, for up to four that he claimed in a row before he works on them. Where a copy or a report is missing in the end, the
-/// logs are audited once more, and that gate is called again.
+/// The gate is called by each general's thread before each round and with his sealed logs; then
+/// these are filed. The other gate is called for each exhibit, counted from 0 in the order of
+/// generals, by the worker who begins it, for up to four that he claimed in a row before he works
+/// on them. Where a log or a report is missing in the end, the logs are audited once more, and that
+/// gate is called again.
 ///
 /// # Errors
 ///

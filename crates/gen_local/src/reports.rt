@@ -90,8 +90,8 @@ pub(crate) fn report_of(
     })
 }
 
-/// Returns the report of an exhibit, a general and bytes that are said to be his log, under a header. No
-/// signature is verified twice.
+/// Returns the report of an exhibit, a general and bytes that are said to be his log, under a
+/// header. It is made through a store of its own.
 ///
 /// # Errors
 ///
@@ -113,7 +113,7 @@ pub fn local_report(
 }
 
 /// Returns the report of an exhibit under a header, which shares the bytes of the exhibit. Signatures are
-/// verified through the store, so that none is verified twice, and equal ones share their memory; the
+/// verified through the store, which gives kept answers again, and equal ones share memory; the
 /// store must serve the header, and serves it afterwards too.
 ///
 /// # Errors

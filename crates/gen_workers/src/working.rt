@@ -68,7 +68,7 @@ fn work_on<S: JobGate + Exchange>(
     Ok(reports)
 }
 
-/// Makes the reports of all pieces that a worker takes, in their order. Of his no signature is verified twice.
+/// Makes the reports of all pieces that a worker takes, in their order, through a store of his own.
 ///
 /// # Errors
 ///

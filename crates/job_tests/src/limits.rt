@@ -84,8 +84,8 @@ fn is_clean(report: &LocalReport) -> bool {
     }
 }
 
-/// Against how many exhibits nothing is found, each alone but through one store, and how many signatures of
-/// statements are verified.
+/// Against how many exhibits nothing is found, each alone but through one store, and how many
+/// answers the store keeps.
 fn count_clean(
     alloc: Global,
     header: &Header,
@@ -100,7 +100,7 @@ fn count_clean(
     Ok((clean, store.runs()))
 }
 
-/// Of each general's order one signature is verified, and nothing is found against any.
+/// Of each general's order one answer is kept, and nothing is found against any.
 fn are_clean(alloc: Global, bundle: &[u8]) -> Result<bool, Fail> {
     let bundle = bundle_in(alloc, bundle)?;
     let counted = count_clean(alloc, bundle.header(), bundle.exhibits())?;

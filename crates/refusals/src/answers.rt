@@ -1,16 +1,11 @@
 //! What calls answer, and how it is said.
 use gen_audit::AuditFault;
-use gen_jobs::JobFault;
-use gen_node::{NodeFault, SpellingFault};
-use gen_threads::RunFault;
 use gen_types::ReadError;
-use gen_walks::WalkFault;
-use sha2::{Digest, Sha256};
-use std::alloc::{AllocError, Global};
+use std::alloc::AllocError;
 use std::io::{self, Write};
 
 /// Why a call gave nothing.
-#[derive(Clone, Copy, Debug, PartialEq, Eq)]
+#[derive(Drop)]
 pub(crate) enum Failure {
     /// Memory was refused.
     Memory,
@@ -38,16 +33,6 @@ impl<F: Drop> From<ReadError<F>> for Failure {
     }
 }
 
-impl From<RunFault> for Failure {
-    fn from(fault: RunFault) -> Failure {
-        match fault {
-            RunFault::Memory => Failure::Memory,
-            RunFault::Thread => Failure::Thread,
-            RunFault::Gone => Failure::Fault,
-        }
-    }
-}
-
 impl From<AuditFault> for Failure {
     fn from(fault: AuditFault) -> Failure {
         match fault {
@@ -57,97 +42,37 @@ impl From<AuditFault> for Failure {
     }
 }
 
-impl From<WalkFault> for Failure {
-    fn from(fault: WalkFault) -> Failure {
-        match fault {
-            WalkFault::Memory => Failure::Memory,
-            _ => Failure::Fault,
-        }
-    }
-}
-
-impl From<JobFault> for Failure {
-    fn from(fault: JobFault) -> Failure {
-        match fault {
-            JobFault::Memory => Failure::Memory,
-            JobFault::Thread => Failure::Thread,
-            _ => Failure::Fault,
-        }
-    }
-}
-
-impl From<NodeFault> for Failure {
-    fn from(fault: NodeFault) -> Failure {
-        match fault {
-            NodeFault::Memory => Failure::Memory,
-            _ => Failure::Fault,
-        }
-    }
-}
-
-impl From<SpellingFault> for Failure {
-    fn from(fault: SpellingFault) -> Failure {
-        match fault {
-            SpellingFault::Memory => Failure::Memory,
-            SpellingFault::TooLong => Failure::Fault,
-        }
-    }
-}
-
-/// Whether memory or a thread was refused.
-pub(crate) fn is_refused(answer: &Answer) -> bool {
-    matches!(answer, Err(Failure::Memory | Failure::Thread))
-}
-
 /// Writes a line to standard output.
 pub(crate) fn say<R: Print>(rt: &R, line: &str) -> io::Result<()> {
     io::writer(rt).write_all(line.as_bytes())
 }
 
-/// Writes the line that says how a call ended.
-pub(crate) fn say_end<R: Print>(rt: &R, failure: Option<Failure>) -> io::Result<()> {
-    let line = match failure {
-        None => "gave\n",
-        Some(Failure::Memory) => "memory\n",
-        Some(Failure::Thread) => "thread\n",
-        Some(Failure::Fault) => "fault\n",
-    };
-    say(rt, line)
-}
-
-/// Writes SHA-256 of bytes.
-pub(crate) fn tell<R: Print>(rt: &R, alloc: Global, bytes: &[u8]) -> io::Result<()> {
-    let mut hasher = Sha256::new();
-    hasher.update(bytes);
-    let mut line = hex::encode(alloc, hasher.finalize())?;
-    line.push('\n')?;
-    say(rt, line.as_str())
-}
-
-/// Says what a call answered.
-pub(crate) fn say_answer<R: Print>(rt: &R, answer: &Answer) -> io::Result<()> {
-    match answer {
-        Ok(_) => say_end(rt, None),
-        Err(failure) => say_end(rt, Some(*failure)),
+/// Returns the checksum of bytes: FNV-1a of 64 bits.
+fn checksum(bytes: &[u8]) -> u64 {
+    let mut sum: u64 = 0xCBF2_9CE4_8422_2325;
+    for byte in bytes {
+        sum = (sum ^ u64::from(*byte)).wrapping_mul(0x0100_0000_01B3);
     }
+    sum
 }
 
-/// Tells what a call gave, or that it gave nothing.
-pub(crate) fn tell_answer<R: Print>(rt: &R, alloc: Global, answer: &Answer) -> io::Result<()> {
-    match answer {
-        Ok(given) => tell(rt, alloc, given.as_slice()),
-        Err(_) => say(rt, "nothing\n"),
-    }
+/// Says that a call gave these bytes, and tells their checksum.
+fn say_given<R: Print>(rt: &R, given: &[u8]) -> io::Result<()> {
+    say(rt, "gave\n")?;
+    println!(rt; "{}", checksum(given))
 }
 
-/// Says how several calls ended, each of which was made again where it was refused: whether one was.
-pub(crate) fn say_steps<R: Print>(rt: &R, answer: Result<bool, Failure>) -> io::Result<()> {
-    match answer {
-        Ok(false) => say_end(rt, None),
-        Ok(true) => {
-            say_end(rt, Some(Failure::Memory))?;
-            say_end(rt, None)
+/// Says what a call answered, and tells what it gave. Returns whether it was refused.
+pub(crate) fn say_answer<R: Print>(rt: &R, answer: &Answer) -> io::Result<bool> {
+    let line = match answer {
+        Ok(given) => {
+            say_given(rt, given.as_slice())?;
+            return Ok(false);
         }
-        Err(failure) => say_end(rt, Some(failure)),
-    }
+        Err(Failure::Memory) => "memory\n",
+        Err(Failure::Thread) => "thread\n",
+        Err(Failure::Fault) => "fault\n",
+    };
+    say(rt, line)?;
+    Ok(true)
 }

@@ -1,25 +1,26 @@
 //! One call of the libraries, or a row of them, made where memory or threads may be refused.
 //!
-//! Its word is the name of the call, and standard input has what the call is made of: the text of a scenario with a seed,
-//! the bytes of a bundle, what a job reads, or nothing. It writes a line in front of the call and one with what the call
-//! answered, so that whoever refuses can tell what is asked for in between; where the call was refused it is made again, and
-//! the answer to that is the next line. The last line is SHA-256 of what was given, which is the same whatever was refused
-//! before.
+//! Its word is the name of the call, and standard input has what the call is made of: the text of a scenario with a seed, the
+//! bytes of a bundle, or those of a campaign. It writes a line in front of the call and one with what the call answered, so
+//! that whoever refuses can tell what is asked for in between. Where the call was refused it is made again, and the answer to
+//! that is the next line. The last line is a checksum of what was given, which is the same whatever was refused before.
+//!
+//! A call that changes what it is called on is a step of a row. Where it is refused it is made again within the row, on the
+//! same value. Where another step is refused the row is.
 #![tactic(auto)]
 
 mod acting;
 mod answers;
 mod bundles;
+mod campaigns;
+mod chains;
 mod desks;
-mod jobs;
-mod keys;
 mod logs;
-mod nodes;
+mod refuting;
 mod scenarios;
 mod stores;
-mod values;
 
-use answers::{Answer, is_refused, say, say_answer, tell_answer};
+use answers::{Answer, say, say_answer};
 use gen_audit::{Bundle, read_bundle};
 use gen_report::{ScenarioText, read_scenario};
 use gen_scenario::Scenario;
@@ -37,8 +38,8 @@ enum Subject {
     Scene(Scenario),
     /// A bundle.
     Shown(Bundle),
-    /// Nothing.
-    Nothing,
+    /// Bytes that are neither's.
+    Other,
 }
 
 /// Returns what standard input is.
@@ -49,9 +50,9 @@ fn subject_of(alloc: Global, input: &[u8]) -> Subject {
     match read_scenario(alloc, input) {
         Ok(ScenarioText::Signed(plan)) => match Scenario::of_plan(alloc, plan) {
             Ok(scenario) => Subject::Scene(scenario),
-            Err(_) => Subject::Nothing,
+            Err(_) => Subject::Other,
         },
-        _ => Subject::Nothing,
+        _ => Subject::Other,
     }
 }
 
@@ -63,30 +64,26 @@ fn make<R: Threads + Wait + Sync>(
     subject: &Subject,
     input: &[u8],
 ) -> Answer {
-    if jobs::is_job(name) {
-        return jobs::call(rt, alloc, name, input);
-    }
     match subject {
         Subject::Scene(scenario) => scenarios::call(rt, alloc, name, scenario),
         Subject::Shown(bundle) => bundles::call(rt, alloc, name, bundle, input),
-        Subject::Nothing => keys::call(alloc, name),
+        Subject::Other => campaigns::call(alloc, input),
     }
 }
 
-/// Makes a call, says how it ended, and returns what it gave, or whether it was refused.
+/// Makes a call, and says what it answered. Returns whether it was refused.
 fn try_once<R: Print + Threads + Wait + Sync>(
     rt: &R,
     alloc: Global,
     name: &str,
     subject: &Subject,
     input: &[u8],
-) -> io::Result<Answer> {
+) -> io::Result<bool> {
     let answer = make(rt, alloc, name, subject, input);
-    say_answer(rt, &answer)?;
-    Ok(answer)
+    say_answer(rt, &answer)
 }
 
-/// Makes a call, makes it again where it was refused, and tells what it gave.
+/// Makes a call, and makes it again where it was refused.
 fn try_call<R: Print + Threads + Wait + Sync>(
     rt: &R,
     alloc: Global,
@@ -95,48 +92,10 @@ fn try_call<R: Print + Threads + Wait + Sync>(
     input: &[u8],
 ) -> io::Result<()> {
     say(rt, "call\n")?;
-    let mut answer = try_once(rt, alloc, name, subject, input)?;
-    if is_refused(&answer) {
-        answer = try_once(rt, alloc, name, subject, input)?;
+    if try_once(rt, alloc, name, subject, input)? {
+        let _refused = try_once(rt, alloc, name, subject, input)?;
     }
-    tell_answer(rt, alloc, &answer)
-}
-
-/// Makes a call that changes what it is called on: where it was refused it is made again there.
-fn try_step<R: Print + Wait>(
-    rt: &R,
-    alloc: Global,
-    name: &str,
-    subject: &Subject,
-) -> io::Result<()> {
-    match subject {
-        Subject::Scene(scenario) => match name {
-            "Machine::act" => acting::acts(rt, alloc, scenario),
-            "Node" => nodes::driving(rt, alloc, scenario),
-            "Desk::file" => desks::filing(rt, alloc, scenario),
-            "Desk::claim" => desks::claiming(rt, alloc, scenario),
-            _ => desks::reporting(rt, alloc, scenario),
-        },
-        Subject::Shown(bundle) => match name {
-            "LogWriter::append" => logs::append(rt, alloc, bundle),
-            _ => stores::judging(rt, alloc, bundle),
-        },
-        Subject::Nothing => say(rt, "nothing\n"),
-    }
-}
-
-/// Whether a call of this name changes what it is called on.
-fn is_step(name: &str) -> bool {
-    matches!(
-        name,
-        "Machine::act"
-            | "Node"
-            | "Desk::file"
-            | "Desk::claim"
-            | "Desk::report"
-            | "LogWriter::append"
-            | "local_reports"
-    )
+    Ok(())
 }
 
 /// Returns the last word that the process was given, or none.
@@ -153,9 +112,5 @@ fn main(rt: HostRuntime) -> io::Result<()> {
     rt.reader().read_to_end(&mut input)?;
     let name = last_word(&rt)?;
     let subject = subject_of(rt.alloc(), input.as_slice());
-    if is_step(name.as_str()) {
-        try_step(&rt, rt.alloc(), name.as_str(), &subject)
-    } else {
-        try_call(&rt, rt.alloc(), name.as_str(), &subject, input.as_slice())
-    }
+    try_call(&rt, rt.alloc(), name.as_str(), &subject, input.as_slice())
 }

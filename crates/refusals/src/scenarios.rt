@@ -2,19 +2,18 @@
 ghost use Rattle.std.specs.Prelude.{IfOk};
 ghost use Rattle.gen_audit.specs.BundleParts.{AreListedWalks};
 
-use crate::acting;
 use crate::answers::{Answer, Failure};
+use crate::{acting, desks};
 use gen_audit::{AuditFault, JobGate, Judgement, WorkerCount};
-use gen_edge::Edge;
 use gen_judge::run_and_audit;
 use gen_log::SealedLog;
 use gen_report::{print_decisions, print_verdict};
 use gen_scenario::Scenario;
-use gen_threads::{Gate, run_threads};
+use gen_threads::Gate;
 use gen_types::GeneralNo;
 use gen_walks::{WalkFault, Walks, make_walks};
 use gen_world::run_world;
-use std::alloc::{AllocError, Global};
+use std::alloc::Global;
 use std::sync::Wait;
 use std::thread::Threads;
 
@@ -38,36 +37,27 @@ pub(crate) fn call<R: Threads + Wait + Sync>(
 ) -> Answer {
     match name {
         "run_world" => world(alloc, scenario),
-        "run_threads" => threads(rt, alloc, scenario),
+        "Machine" => acting::call(alloc, scenario),
+        "Desk" => desks::call(rt, alloc, scenario),
         "run_and_audit" => judgement(rt, alloc, scenario),
-        "Machine::finish" => acting::whole(alloc, scenario),
-        "Edge::new" => edge(rt, alloc, scenario),
         _ => Err(Failure::Fault),
     }
 }
 
-/// Returns the bytes of logs, one behind the other.
-pub(crate) fn bytes_of(alloc: Global, logs: &[SealedLog]) -> Result<Vec<u8>, AllocError> {
-    let mut bytes = Vec::new(alloc);
+/// Returns bytes, and behind them those of logs.
+pub(crate) fn with_logs(alloc: Global, front: &[u8], logs: &[SealedLog]) -> Answer {
+    let mut given = Vec::from_slice(alloc, front)?;
     for log in logs {
-        bytes.extend_from_slice(log.bytes())?;
+        given.extend_from_slice(log.bytes())?;
     }
-    Ok(bytes)
-}
-
-/// `run_world`: the logs and the decisions.
-fn world(alloc: Global, scenario: &Scenario) -> Answer {
-    let run = run_world(alloc, scenario)?;
-    let mut given = bytes_of(alloc, run.logs())?;
-    let decisions = print_decisions(alloc, run.decisions())?;
-    given.extend_from_slice(decisions.as_slice())?;
     Ok(given)
 }
 
-/// `run_threads`, over edges that hold one frame: the logs.
-fn threads<R: Threads + Wait + Sync>(rt: &R, alloc: Global, scenario: &Scenario) -> Answer {
-    let logs = run_threads(rt, alloc, scenario, 1, &Open)?;
-    Ok(bytes_of(alloc, logs.as_slice())?)
+/// `run_world` and `print_decisions`: the decisions and the logs.
+fn world(alloc: Global, scenario: &Scenario) -> Answer {
+    let run = run_world(alloc, scenario)?;
+    let decisions = print_decisions(alloc, run.decisions())?;
+    with_logs(alloc, decisions.as_slice(), run.logs())
 }
 
 /// Returns the walks between those without scripts.
@@ -98,16 +88,9 @@ fn audited_run<R: Threads + Wait + Sync>(
 
 /// `run_and_audit`: the text of the verdict.
 fn judgement<R: Threads + Wait + Sync>(rt: &R, alloc: Global, scenario: &Scenario) -> Answer {
-    let walks = walks_of(alloc, scenario)?;
+    let Ok(walks) = walks_of(alloc, scenario) else {
+        return Err(Failure::Memory);
+    };
     let judgement = audited_run(rt, alloc, scenario, &walks)?;
     Ok(print_verdict(alloc, scenario.header(), &judgement)?)
-}
-
-/// `Edge::new`, from general 0 to general 1: how many frames are left on it once it was settled.
-fn edge<R: Wait>(rt: &R, alloc: Global, scenario: &Scenario) -> Answer {
-    let (edge, put, take) = Edge::new(alloc, scenario, GeneralNo::at(0), GeneralNo::at(1), 4)?;
-    let left = edge.settle(rt, put, take);
-    let mut given = Vec::new(alloc);
-    given.extend_from_slice(&[u8::from(left.frames.is_empty())])?;
-    Ok(given)
 }

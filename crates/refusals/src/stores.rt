@@ -3,13 +3,12 @@ ghost use Rattle.std.specs.Prelude.{IfOk};
 ghost use Rattle.gen_chain.specs.Store.{Serves};
 ghost use Rattle.gen_audit.specs.Telling.{AreReports};
 
-use crate::answers::{Answer, is_refused, say, say_answer, tell_answer};
+use crate::answers::Answer;
 use gen_audit::{Bundle, judge_reports};
 use gen_chain::VerifyStore;
 use gen_local::{LocalReport, local_reports};
 use gen_report::print_verdict;
 use std::alloc::{AllocError, Global};
-use std::io;
 
 /// Returns the reports of the exhibits by a store.
 fn reports_by(
@@ -24,25 +23,21 @@ fn reports_by(
     local_reports(alloc, bundle.header(), bundle.exhibits(), store)
 }
 
-/// Returns the text of the verdict on a bundle by a store.
-fn verdict_by(alloc: Global, bundle: &Bundle, store: &mut VerifyStore) -> Answer
-    requires { Serves bundle.now.header store.old }
-    ensures { Serves bundle.now.header store.new }
+/// Returns the reports of the exhibits, which are made again by the same store where they were refused.
+fn reports_again(alloc: Global, bundle: &Bundle) -> Result<Vec<LocalReport>, AllocError>
+    ensures { IfOk result (λ reports. AreReports bundle.now reports.items) }
 {
-    let reports = reports_by(alloc, bundle, store)?;
-    let judgement = judge_reports(alloc, bundle, reports.as_slice())?;
-    Ok(print_verdict(alloc, bundle.header(), &judgement)?)
+    let mut store = VerifyStore::new(alloc)?;
+    match reports_by(alloc, bundle, &mut store) {
+        Ok(reports) => Ok(reports),
+        Err(_) => reports_by(alloc, bundle, &mut store),
+    }
 }
 
-/// `local_reports` and `judge_reports`: where they are refused they are made again by the same store.
-pub(crate) fn judging<R: Print>(rt: &R, alloc: Global, bundle: &Bundle) -> io::Result<()> {
-    let mut store = VerifyStore::new(alloc)?;
-    say(rt, "call\n")?;
-    let mut answer = verdict_by(alloc, bundle, &mut store);
-    say_answer(rt, &answer)?;
-    if is_refused(&answer) {
-        answer = verdict_by(alloc, bundle, &mut store);
-        say_answer(rt, &answer)?;
-    }
-    tell_answer(rt, alloc, &answer)
+/// `local_reports`, `judge_reports` and `print_verdict`: the text of the verdict. Where the reports are refused they are made
+/// again by the same store.
+pub(crate) fn call(alloc: Global, bundle: &Bundle) -> Answer {
+    let reports = reports_again(alloc, bundle)?;
+    let judgement = judge_reports(alloc, bundle, reports.as_slice())?;
+    Ok(print_verdict(alloc, bundle.header(), &judgement)?)
 }

@@ -1,4 +1,4 @@
-//! Stores of verifications: what is verified again, and what is not.
+//! Stores of verifications: which answers are kept, and are given again.
 ghost use Rattle.std.specs.Prelude.{◌≡◌, IfOk};
 ghost use Rattle.gen_chain.specs.Store.{Serves};
 

@@ -1,8 +1,0 @@
-//! The program once more, which the gate runs with the words that ask for `audit`.
-#![tactic(auto)]
-
-use std::process::ExitCode;
-
-fn main(rt: HostRuntime) -> ExitCode {
-    ExitCode::from(gen_program::run(&rt))
-}

@@ -1,0 +1,169 @@
+#!/usr/bin/env python3
+"""Tries the wrong bodies of the folder edits/: the checker must refuse each.
+
+    tools/edits.py [--in FOLDER] [CRATE ..]    tries the edits of these crates, or of all
+    tools/edits.py --check                     only looks whether each edit still applies to its source
+
+An edit is a file edits/CRATE/NAME.edit, of the form of the gate's own edits (crates/CRATE/must-fail). The edits are put into
+a copy of the repository, whose libraries are proved first; then `rt must-fail` tries the edits of as many crates at a time
+as there are cores and memory for. With --in the copy stands in that folder and stays there, so the next run over the same
+sources proves no library again. The last line is `N refused, M not refused`; the status is 1 where M is not 0.
+"""
+import concurrent.futures
+import os
+import shutil
+import subprocess
+import sys
+import tempfile
+
+TOP = os.path.dirname(os.path.dirname(os.path.abspath(__file__)))
+EDITS = os.path.join(TOP, "edits")
+PARTS = ("src", "specs", "proofs")
+# What one check takes at most, in the dearest crates.
+GIB_OF_A_CHECK = 4
+
+
+def stop(why):
+    sys.exit(f"edits: {why}")
+
+
+def read(path):
+    with open(path, encoding="utf-8") as file:
+        return file.read()
+
+
+def uses_of_crates():
+    """For each crate of crates.txt its line, and the names behind the colon."""
+    uses = {}
+    for line in read(os.path.join(TOP, "crates.txt")).splitlines():
+        head, _, names = line.partition("#")[0].partition(":")
+        if head.strip():
+            uses[head.split()[0]] = (line, names.split())
+    return uses
+
+
+def crates_below(names, uses):
+    """These crates and all of the repository that they stand on."""
+    found, left = [], list(names)
+    while left:
+        name = left.pop()
+        if name in uses and name not in found:
+            found.append(name)
+            left += uses[name][1]
+    return found
+
+
+def edits_of(crate):
+    folder = os.path.join(EDITS, crate)
+    return [os.path.join(folder, name) for name in sorted(os.listdir(folder))]
+
+
+def wrong_with(edit, crate):
+    """Why an edit doesn't apply to its source, or None."""
+    text, old = None, None
+    for line in read(edit).split("\n"):
+        word, _, rest = line.partition(": ")
+        if word == "file":
+            path = os.path.join(TOP, "crates", crate, rest.strip())
+            if not os.path.isfile(path):
+                return f"there is no file {rest.strip()}"
+            text = read(path)
+        elif word == "old":
+            old = rest
+        elif line.startswith("new:"):
+            if not text or not old or text.count(old) != 1:
+                return f"its text stands in the file {text.count(old) if text and old else 0} times, and not once"
+            text, old = text.replace(old, rest), None
+    return None if text else "it names no file"
+
+
+def check(crates):
+    """Looks whether each edit applies. Returns how many don't."""
+    wrong = 0
+    for crate in crates:
+        for edit in edits_of(crate):
+            why = wrong_with(edit, crate)
+            if why:
+                wrong += 1
+                print(f"edits/{crate}/{os.path.basename(edit)}: {why}")
+    return wrong
+
+
+def count_jobs():
+    """How many checks cores and memory allow."""
+    with open("/proc/meminfo", encoding="ascii") as lines:
+        free = next(int(line.split()[1]) for line in lines if line.startswith("MemAvailable:"))
+    return max(1, min(len(os.sched_getaffinity(0)), (free >> 20) // GIB_OF_A_CHECK))
+
+
+def make_copy(folder, crates, uses):
+    """Puts these crates and all below them into a folder, with the edits of these in the place of the gate's."""
+    names = crates_below(crates, uses)
+    shutil.copy(os.path.join(TOP, "HANDLES"), folder)
+    with open(os.path.join(folder, "crates.txt"), "w", encoding="utf-8") as file:
+        file.writelines(f"{line}\n" for name, (line, _) in uses.items() if name in names)
+    for name in names:
+        source, made = os.path.join(TOP, "crates", name), os.path.join(folder, "crates", name)
+        for part in (*PARTS, "must-fail"):
+            shutil.rmtree(os.path.join(made, part), ignore_errors=True)
+        for part in PARTS:
+            if os.path.isdir(os.path.join(source, part)):
+                shutil.copytree(os.path.join(source, part), os.path.join(made, part))
+        if name in crates:
+            shutil.copytree(os.path.join(EDITS, name), os.path.join(made, "must-fail"))
+
+
+def lines_of_code(crate):
+    total = 0
+    for at, _, files in os.walk(os.path.join(TOP, "crates", crate, "src")):
+        total += sum(read(os.path.join(at, name)).count("\n") for name in files)
+    return total
+
+
+def try_crate(folder, crate):
+    """Tries a crate's edits. Returns how many are refused, and how many are not."""
+    how = {"cwd": folder, "stdin": subprocess.DEVNULL, "capture_output": True, "text": True, "errors": "replace"}
+    ran = subprocess.run(["rt", "must-fail", crate], check=False, **how)
+    said = [line for line in ran.stdout.splitlines() if line.startswith("rt: must-fail ")]
+    refused = sum("refused, as it must be" in line for line in said)
+    print("\n".join(said) or f"edits: {crate} was not checked: {(ran.stdout + ran.stderr)[-600:]}", flush=True)
+    return refused, len(edits_of(crate)) - refused
+
+
+def try_all(folder, crates):
+    """Proves the libraries, and tries the edits of all crates. Returns the two numbers."""
+    jobs = count_jobs()
+    ran = subprocess.run(["rt", "all", "check", "--jobs", str(jobs)], cwd=folder, stdin=subprocess.DEVNULL, check=False)
+    if ran.returncode:
+        stop("the sources are not proved without an edit")
+    crates = sorted(crates, key=lines_of_code, reverse=True)
+    with concurrent.futures.ThreadPoolExecutor(jobs) as pool:
+        numbers = list(pool.map(lambda crate: try_crate(folder, crate), crates))
+    return sum(it[0] for it in numbers), sum(it[1] for it in numbers)
+
+
+def main():
+    words = sys.argv[1:]
+    every = sorted(os.listdir(EDITS))
+    every.remove("README.md")
+    if words == ["--check"]:
+        wrong = check(every)
+        print(f"{sum(len(edits_of(it)) for it in every) - wrong} edits apply, {wrong} do not")
+        return 1 if wrong else 0
+    kept = os.path.abspath(words[1]) if words[:1] == ["--in"] and len(words) > 1 else None
+    crates = (words[2:] if kept else words) or every
+    if not set(crates) <= set(every):
+        stop(f"there are no edits of {' '.join(sorted(set(crates) - set(every)))}")
+    if not shutil.which("rt"):
+        stop("the Rattle kit's rt is not on the path")
+    with tempfile.TemporaryDirectory() as scratch:
+        folder = kept or scratch
+        os.makedirs(folder, exist_ok=True)
+        make_copy(folder, crates, uses_of_crates())
+        refused, others = try_all(folder, crates)
+    print(f"{refused} refused, {others} not refused")
+    return 1 if others else 0
+
+
+if __name__ == "__main__":
+    sys.exit(main())

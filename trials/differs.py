@@ -1,0 +1,384 @@
+#!/usr/bin/env python3
+"""The program beside the reference (reference/sm.py), on cases that are drawn.
+
+    trials/differs.py PROGRAM [--seed N] [--cases N | --seconds N] [--first K] [--folder FOLDER]
+
+Status, standard output and standard error are compared. A case follows from the seed and its number alone.
+Where the two differ, the input is written into a folder, and the line that shows it is printed.
+`reference` in place of PROGRAM has the reference make all inputs and answer alone.
+Want of memory or of threads is not looked at.
+"""
+import argparse
+import collections
+import datetime
+import functools
+import hashlib
+import os
+import re
+import shlex
+import sys
+import tempfile
+import time
+import traceback
+
+from bends import bend_bundle, bend_bytes, bend_campaign, bend_evidence, bend_text
+from bent import plain_texts, seeded_texts
+from campaigns import bytes_of
+from drawn import COMMANDS, HELPS, campaign_lines, draw_campaign, draw_plan, draw_words, good_options
+from drawn import spell_lines, spoil_text
+from drawing import bundles_in
+from draws import Draws
+from forging import Forger, compose_evidence, forge_bundle, hold_for_faulty, replayed
+from layout import Bundle
+from programs import End, run, shown
+from reference import answer
+
+SECONDS = 120
+# So many cases share their bundles, so many bundles there are of them, and of so many bytes at most.
+SHARED, BUNDLES, MOST_BYTES = 48, 4, 3_000_000
+SEEDS, TRIES = 3, 100
+# Texts that are not drawn.
+SEEDED, PLAIN = seeded_texts(), plain_texts()
+# The line of status 2 ends with a pointer to --help; FORMATS.md fixes nothing else of it.
+POINTER = re.compile(rb"[^\n]*--help\W*\n")
+# What is counted of the text of a verdict.
+TOLD = re.compile(r"agreed|explained|\bno\b|across|K\d|N\d+|\bL\d(?: C\d)?")
+
+
+def kept(make):
+    """Has a method answer what it answered before to the same numbers."""
+
+    def call(self, *numbers):
+        key = (make.__name__, *numbers)
+        if key not in self.known:
+            self.known[key] = make(self, *numbers)
+        return self.known[key]
+
+    return functools.wraps(make)(call)
+
+
+class Block:
+    """The bundles, the campaign and the evidence that some cases share, made where they are first wanted."""
+
+    def __init__(self, seed, number, make):
+        self.name, self.make, self.known = f"{seed} block {number}", make, {}
+        self.seeds = [hashlib.sha256(f"{seed} key {key}".encode()).hexdigest() for key in range(SEEDS)]
+
+    @kept
+    def bundle(self, at):
+        """A bundle, with the plan and the seed that it was made of."""
+        draws = Draws(f"{self.name} bundle {at}")
+        for _ in range(TRIES):
+            seed = draws.one_of(self.seeds)
+            plan = draw_plan(draws, seed, draws.one_of([None, draws.below(4)]))
+            made = self.make(["run"], plan.spell())
+            if made.status == 0 and len(made.wrote) < MOST_BYTES:
+                return plan, made.wrote, seed
+        raise RuntimeError("no drawn scenario has a bundle")
+
+    @kept
+    def campaign(self):
+        """The bundles of a campaign, or of runs that use one slot twice or more, with their seed."""
+        draws = Draws(f"{self.name} campaign")
+        seed = draws.one_of(self.seeds)
+        for _ in range(TRIES):
+            if draws.below(2):
+                made = self.make(["campaign"], spell_lines(draw_campaign(draws, seed)))
+                runs = bundles_in(made.wrote) if made.status == 0 else []
+            else:
+                generals, count = draws.one_of([2, 3, 3, 4]), draws.one_of([2, 2, 3])
+                slots = sorted(draws.below(3) for _ in range(count))
+                plans = [draw_plan(draws, seed, slot, generals) for slot in slots]
+                ends = [self.make(["run"], plan.spell()) for plan in plans]
+                runs = [end.wrote for end in ends if end.status == 0]
+            if runs and sum(map(len, runs)) < MOST_BYTES:
+                return runs, seed
+        raise RuntimeError("no drawn campaign has bundles")
+
+    @kept
+    def forger(self, at):
+        """The pieces of a bundle, or of a run of the campaign where the number is less than 0."""
+        if at >= 0:
+            return Forger(*self.bundle(at)[1:])
+        runs, seed = self.campaign()
+        return Forger(runs[-1 - at], seed)
+
+    @kept
+    def evidence(self, at):
+        """The evidence against each general of a bundle whose logs were changed, or of the campaign."""
+        draws = Draws(f"{self.name} evidence {at}")
+        if at < 0:
+            given = bytes_of(*self.campaign()[0])
+        else:
+            _, data, seed = self.bundle(at)
+            given = draws.one_of([data, forge_bundle(draws, data, seed)])
+        ends = [self.make(["accuse", "--general", str(general)], given) for general in range(6)]
+        return [end.wrote for end in ends if end.status == 0]
+
+
+# Inputs.
+
+
+def scenario_input(draws, block, seeded):
+    """A scenario's text, whole or bent."""
+    way, slot = draws.below(20), draws.one_of([None, draws.below(4)])
+    if way == 0 and seeded:
+        plan, data, _ = block.bundle(draws.below(BUNDLES))
+        return replayed(draws, plan, data)
+    text = draw_plan(draws, draws.one_of(block.seeds) if seeded else None, slot).spell()
+    if draws.is_one_in(8):
+        text = draws.one_of(SEEDED if seeded else PLAIN)
+    if way < 10:
+        return text
+    if way < 14:
+        return bend_text(draws, text)
+    return spoil_text(draws, text) if way < 19 else foreign(draws, block)
+
+
+def foreign(draws, block):
+    """An input of another command."""
+    texts = [spell_lines(draw_campaign(draws, block.seeds[0])), b"", block.bundle(0)[1], *block.evidence(0)]
+    return draws.one_of(texts)[: draws.one_of([3, 4, 5, 100, 1 << 30])]
+
+
+def decide_input(draws, block):
+    return scenario_input(draws, block, draws.below(5) > 1)
+
+
+def run_input(draws, block):
+    return scenario_input(draws, block, not draws.is_one_in(25))
+
+
+def campaign_input(draws, block):
+    """A campaign's text, whole or bent, or of texts that make none together."""
+    seed, way = draws.one_of(block.seeds), draws.below(20)
+    text = spell_lines(draw_campaign(draws, seed))
+    if way < 8:
+        return text
+    if way < 11:
+        return bend_text(draws, text)
+    if way < 15:
+        return spoil_text(draws, text)
+    if way == 15:
+        return foreign(draws, block)
+    generals, count = draws.one_of([2, 3]), draws.one_of([0, 1, 2, 2, 3, 5])
+    slots = [draws.below(4) for _ in range(count)]
+    plans = [draw_plan(draws, seed, slot, generals) for slot in (slots if draws.below(3) else sorted(slots))]
+    for plan in plans[1:] if draws.below(3) else []:
+        plan.seed = draws.one_of([seed, seed.upper(), draws.one_of(block.seeds), None])
+    return spell_lines(campaign_lines(plans))
+
+
+def bundle_input(draws, block):
+    """A bundle or a campaign, whole, bent, or with logs that are changed and signed anew."""
+    way = draws.below(24)
+    if way == 0:
+        return foreign(draws, block)
+    if way < 7:
+        return several_input(draws, block)
+    _, data, seed = block.bundle(draws.below(BUNDLES))
+    if way < 9:
+        return data
+    if way < 11:
+        bundle = Bundle(data)
+        hold_for_faulty(draws, bundle)
+        return bundle.spell()
+    return bend_bundle(draws, data) if way < 16 else forge_bundle(draws, data, seed)
+
+
+def several_input(draws, block):
+    """A campaign, whole or bent, or with one of its bundles bent."""
+    runs, seed = block.campaign()
+    way, at = draws.below(8), draws.below(len(runs))
+    if way == 0:
+        return bytes_of(*runs)
+    if way < 4:
+        return bend_campaign(draws, runs, block.bundle(0)[1])
+    one = bend_bundle(draws, runs[at]) if way < 5 else forge_bundle(draws, runs[at], seed)
+    return bytes_of(*runs[:at], one, *runs[at + 1 :])
+
+
+def evidence_input(draws, block):
+    """Evidence as it was found, or bent, or put together of pieces."""
+    way, at = draws.below(20), draws.below(BUNDLES + 1) - 1
+    found = block.evidence(at)
+    if way == 0:
+        return foreign(draws, block)
+    if way < 10 and found:
+        piece = draws.one_of(found)
+        return piece if way < 3 else bend_evidence(draws, piece)
+    runs = len(block.campaign()[0])
+    first = -1 - draws.below(runs) if draws.below(2) else draws.below(BUNDLES)
+    second = -1 - draws.below(runs) if draws.below(3) else draws.below(BUNDLES)
+    if not block.forger(first).texts or not block.forger(second).texts:
+        return foreign(draws, block)
+    made = compose_evidence(draws, block.forger(first), block.forger(second) if draws.below(2) else None)
+    return bend_bytes(draws, made) if draws.is_one_in(10) else made
+
+
+INPUTS = {
+    "decide": decide_input, "run": run_input, "judge": run_input, "campaign": campaign_input,
+    "audit": bundle_input, "draw": bundle_input, "accuse": bundle_input, "evidence": evidence_input,
+}
+
+
+class Cases:
+    """The cases of a seed, by their numbers."""
+
+    def __init__(self, seed, make):
+        self.seed, self.make, self.block, self.number = seed, make, None, None
+
+    def case(self, number):
+        """The words and the input of a case. The commands take turns."""
+        if number // SHARED != self.number:
+            self.number = number // SHARED
+            self.block = Block(self.seed, self.number, self.make)
+        draws, command = Draws(f"{self.seed} case {number}"), COMMANDS[number % len(COMMANDS)]
+        given = INPUTS[command](draws, self.block)
+        if draws.is_one_in(12):
+            return draw_words(draws, command), given
+        return [command, *good_options(draws, command)], given
+
+
+# Comparing.
+
+
+def asks_for_help(words):
+    """Whether the words ask for help or for the version, whose text is not fixed."""
+    return words in HELPS or words[1:] in HELPS or words[:1] == ["help"]
+
+
+def difference(words, got, want):
+    """None where the program ends as the reference does, as far as FORMATS.md and COMMANDS.md fix it."""
+    if got.status == want.status == 2:
+        is_well = all(end.wrote == b"" and POINTER.fullmatch(end.said) for end in (got, want))
+        return None if is_well else f"{shown(got)}; the reference: {shown(want)}"
+    is_help = asks_for_help(words) and got.status == want.status == 0
+    if got == want or is_help and got.wrote and got.said == want.said == b"":
+        return None
+    return f"{shown(got)}; the reference: {shown(want)}{where(got.wrote, want.wrote)}"
+
+
+def where(got, want):
+    """Where two outputs first differ."""
+    if got == want:
+        return ""
+    place = next((at for at, (a, b) in enumerate(zip(got, want)) if a != b), min(len(got), len(want)))
+    near = slice(max(0, place - 30), place + 40)
+    return f"; the outputs differ at byte {place}: {got[near]!r}, {want[near]!r}"
+
+
+class Counts:
+    """How many cases each command, status and fault had, and how many verdicts had each finding."""
+
+    def __init__(self):
+        self.statuses, self.faults = collections.Counter(), collections.Counter()
+        self.told, self.failed = collections.Counter(), 0
+
+    def take(self, words, end):
+        """One case, under the name of its command."""
+        self.statuses[words[0] if words and words[0] in COMMANDS else "no command", end.status] += 1
+        if end.status == 3:
+            said = end.said.decode("ascii", "replace").split(" line ")[0].split()
+            self.faults[" ".join(part for part in said[1:] if not part.isdigit())] += 1
+        if words and words[0] in ("audit", "judge"):
+            self.told.update(set(TOLD.findall(end.wrote.decode())))
+
+    def lines(self):
+        """The counts, a line for each command."""
+        for command in sorted({command for command, _ in self.statuses}):
+            its = sorted((key[1], count) for key, count in self.statuses.items() if key[0] == command)
+            said = ", ".join(f"{count} of status {status}" for status, count in its)
+            yield f"{command}: {sum(count for _, count in its)} cases, {said}"
+        for name, counted in (("faults", self.faults), ("in verdicts", self.told)):
+            yield f"{name}: " + ", ".join(f"{count} {it}" for it, count in sorted(counted.items()))
+
+
+class Trial:
+    """Compares case by case, and keeps the inputs of those that differ."""
+
+    def __init__(self, program, seed, folder):
+        self.program, self.folder = program, folder
+        make = functools.partial(run, program) if program else answer
+        self.cases, self.counts, self.seed = Cases(seed, make), Counts(), seed
+
+    def wrong(self, words, given):
+        """What is wrong with the program's answer, or None; and the reference's answer."""
+        try:
+            want = answer(words, given)
+        except Exception:
+            return f"the reference broke off\n{traceback.format_exc()}", End(-1, b"", b"")
+        got = run(self.program, words, given) if self.program else want
+        return difference(words, got, want), want
+
+    def try_case(self, number):
+        """One case: what is to be said where it differs, or None."""
+        words, given = self.cases.case(number)
+        wrong, want = self.wrong(words, given)
+        self.counts.take(words, want)
+        if wrong is None:
+            return None
+        self.counts.failed += 1
+        self.folder = self.folder or tempfile.mkdtemp(prefix="differs-")
+        os.makedirs(self.folder, exist_ok=True)
+        path = os.path.join(self.folder, f"{self.seed}-{number}.input")
+        with open(path, "wb") as kept:
+            kept.write(given)
+        typed = " ".join(map(shlex.quote, [self.program or "reference/sm.py", *words]))
+        return f"case {number} of seed {self.seed}: {typed} < {path}\n  {wrong}"
+
+
+def trials(program, tally):
+    """As many cases of this day's seed as two minutes take."""
+    trial, since, number = Trial(program, day(), None), time.monotonic(), 0
+    while number < SHARED or time.monotonic() - since < SECONDS:
+        tally.hold("differs", trial.try_case(number))
+        number += 1
+    tally.count(number)
+    tally.note(f"seed {trial.seed}")
+    for line in trial.counts.lines():
+        tally.note(line)
+
+
+def day():
+    """The date as a number."""
+    return int(datetime.date.today().strftime("%Y%m%d"))
+
+
+def numbers(given):
+    """The numbers of the cases, until as many are done or as much time is over."""
+    since, number = time.monotonic(), given.first
+    while number - given.first < given.cases if given.cases else time.monotonic() - since < given.seconds:
+        yield number
+        number += 1
+
+
+def main():
+    parser = argparse.ArgumentParser(description=__doc__.splitlines()[0])
+    parser.add_argument("program")
+    parser.add_argument("--seed", type=int, default=int(time.time()))
+    parser.add_argument("--cases", type=int, default=0)
+    parser.add_argument("--seconds", type=int, default=SECONDS)
+    parser.add_argument("--first", type=int, default=0)
+    parser.add_argument("--folder")
+    given = parser.parse_args()
+    program = None if given.program == "reference" else os.path.abspath(given.program)
+    trial, since = Trial(program, given.seed, given.folder), time.monotonic()
+    print(f"seed {given.seed}", flush=True)
+    try:
+        for number in numbers(given):
+            said = trial.try_case(number)
+            if said:
+                print(said, flush=True)
+    except KeyboardInterrupt:
+        print("interrupted; what was compared until then:")
+    counts = trial.counts
+    for line in counts.lines():
+        print(line)
+    print(f"{time.monotonic() - since:.0f} s")
+    print(f"{sum(counts.statuses.values()) - counts.failed} passed, {counts.failed} failed", flush=True)
+    return 1 if counts.failed else 0
+
+
+if __name__ == "__main__":
+    sys.exit(main())

@@ -1,0 +1,68 @@
+"""The vectors of reference/vectors/ that are whole commands: the program answers as they say.
+
+What each file is, docs/VECTORS.md says. That the files are what the reference makes is tried too.
+"""
+import hashlib
+import json
+import os
+import re
+
+from programs import End, differs, run, side_by_side, spell
+import reference  # noqa: F401
+import make_vectors
+from vector_cases.parts import TOP, bytes_of
+
+# What bytes or files can't have: a fault of parts, and what hangs on what a node was handed before.
+UNTOLD = {"H8", "F1", "F2"}
+
+
+def stored():
+    """The vectors of all files, by the names of these."""
+    found = {}
+    for name in sorted(os.listdir(make_vectors.FOLDER)):
+        with open(os.path.join(make_vectors.FOLDER, name), encoding="ascii") as kept:
+            found[name[: -len(".json")]] = json.load(kept)
+    return found
+
+
+def wrong_output(end, vector):
+    """None where a run ended as a vector says, else what is wrong."""
+    if "fault" in vector:
+        return differs(end, End(vector["status"], b"", f"fault {vector['fault']}\n".encode()))
+    wanted = vector["result"]
+    if isinstance(wanted, str):
+        return differs(end, End(vector["status"], wanted.encode(), b""))
+    got = {"length": len(end.wrote), "sha256": hashlib.sha256(end.wrote).hexdigest()}
+    is_well = got == wanted and end.status == vector["status"] and not end.said
+    return None if is_well else f"status {end.status}, {got}, said {end.said[:100]}; wanted: {wanted}"
+
+
+def try_file(program, tally, name, vectors):
+    """The vectors of one file."""
+    commands = [vector for vector in vectors if vector.get("words", [""])[0] in tally.commands]
+    ends = side_by_side(lambda it: run(program, it["words"], bytes_of(it)), commands)
+    for end, vector in zip(ends, commands):
+        tally.hold(f"{name}, {spell(vector['words'])}, {vector['about']}", wrong_output(end, vector))
+    tally.count(len(commands))
+
+
+def told_by(vectors):
+    """The names of all faults, findings and kinds of conviction that vectors tell."""
+    told = " ".join(f"{vector.get('fault', '')} {vector.get('result', '')}" for vector in vectors)
+    return set(re.findall(r"\b[A-Z]\d+\b", told))
+
+
+def named_in_formats():
+    """The names of all faults and findings that docs/FORMATS.md has, and of the kinds of conviction."""
+    with open(os.path.join(TOP, "docs", "FORMATS.md"), encoding="utf-8") as kept:
+        names = re.findall(r"^\| `?([A-Z]\d+)\b", kept.read(), re.MULTILINE)
+    return {*names, "K1", "K2", "K3", "K4"} - UNTOLD
+
+
+def trials(program, tally):
+    for name, vectors in stored().items():
+        try_file(program, tally, name, vectors)
+    missing = named_in_formats() - told_by(vector for vectors in stored().values() for vector in vectors)
+    tally.hold("all faults and findings", f"no vector tells {sorted(missing)}" if missing else None)
+    stale = make_vectors.stale_files()
+    tally.hold("the files", f"not as make_vectors.py writes them: {', '.join(stale)}" if stale else None)
