@@ -21,6 +21,8 @@ from refusals import EXAMPLES
 HERE = os.path.dirname(os.path.abspath(__file__))
 TOP = os.path.dirname(HERE)
 MAKER = os.path.join(TOP, "embed", "page", "make_page.py")
+# How the line begins by which the maker refuses a kit that it was not tried with.
+OF_ANOTHER_KIT = "make_page.py: the toolchain is "
 ARCHIVE = os.path.join(TOP, "crates", "sm_embed", "out", "libsm_embed.a")
 FORMATS = os.path.join(TOP, "docs", "FORMATS.md")
 HUNDRED = 100
@@ -62,6 +64,9 @@ def make(folder, tally):
     page = os.path.join(folder, "page.html")
     words = [sys.executable, "-B", MAKER, page]
     made = subprocess.run(words, capture_output=True, text=True, check=False)
+    if made.stderr.startswith(OF_ANOTHER_KIT):
+        tally.note(f"left out: the page, since {made.stderr.removeprefix(OF_ANOTHER_KIT[:14]).strip()}")
+        return None
     tally.hold("make_page.py", None if made.returncode == 0 else made.stderr.strip() or f"status {made.returncode}")
     return page if made.returncode == 0 else None
 
@@ -99,7 +104,7 @@ def try_refused(folder, tally):
         it.write("#!/bin/sh\necho another-kit logic 0\n")
     os.chmod(it.name, 0o755)
     said = refused_line(folder, tools)
-    is_told = said.startswith("make_page.py: the toolchain is another-kit, ") and said.count("\n") == 1
+    is_told = said.startswith(f"{OF_ANOTHER_KIT}another-kit, ") and said.count("\n") == 1
     tally.hold("make_page.py with another kit", None if is_told else repr(said[:300]))
 
 
