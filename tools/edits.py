@@ -2,7 +2,7 @@
 """Tries the wrong bodies of the folder edits/: the checker must refuse each.
 
     tools/edits.py [--in FOLDER] [CRATE ..]    tries the edits of these crates, or of all
-    tools/edits.py --check                     only looks whether each edit still applies to its source
+    tools/edits.py --check                     only looks whether each edit, the gate's too, still applies to its source
 
 An edit is a file edits/CRATE/NAME.edit, of the form of the gate's own edits (crates/CRATE/must-fail). The edits are put into
 a copy of the repository, whose libraries are proved first; then `rt must-fail` tries the edits of as many crates at a time
@@ -53,9 +53,13 @@ def crates_below(names, uses):
     return found
 
 
+def edits_in(folder):
+    names = sorted(os.listdir(folder)) if os.path.isdir(folder) else []
+    return [os.path.join(folder, name) for name in names if name.endswith(".edit")]
+
+
 def edits_of(crate):
-    folder = os.path.join(EDITS, crate)
-    return [os.path.join(folder, name) for name in sorted(os.listdir(folder))]
+    return edits_in(os.path.join(EDITS, crate))
 
 
 def wrong_with(edit, crate):
@@ -77,16 +81,16 @@ def wrong_with(edit, crate):
     return None if text else "it names no file"
 
 
-def check(crates):
-    """Looks whether each edit applies. Returns how many don't."""
-    wrong = 0
-    for crate in crates:
-        for edit in edits_of(crate):
+def check():
+    """Looks whether each edit applies, those of the gate too. Returns how many do, and how many don't."""
+    well = wrong = 0
+    for crate in uses_of_crates():
+        for edit in edits_of(crate) + edits_in(os.path.join(TOP, "crates", crate, "must-fail")):
             why = wrong_with(edit, crate)
+            well, wrong = well + (not why), wrong + bool(why)
             if why:
-                wrong += 1
-                print(f"edits/{crate}/{os.path.basename(edit)}: {why}")
-    return wrong
+                print(f"{os.path.relpath(edit, TOP)}: {why}")
+    return well, wrong
 
 
 def count_jobs():
@@ -147,8 +151,8 @@ def main():
     every = sorted(os.listdir(EDITS))
     every.remove("README.md")
     if words == ["--check"]:
-        wrong = check(every)
-        print(f"{sum(len(edits_of(it)) for it in every) - wrong} edits apply, {wrong} do not")
+        well, wrong = check()
+        print(f"{well} edits apply, {wrong} do not")
         return 1 if wrong else 0
     kept = os.path.abspath(words[1]) if words[:1] == ["--in"] and len(words) > 1 else None
     crates = (words[2:] if kept else words) or every
