@@ -17,6 +17,7 @@ LONGEST = 35
 
 # The pages that keep the rules.
 KEPT = [
+    "README.md",
     "bench/README.md",
     "docs/ASSURANCE.md",
     "docs/STYLE.md",
