@@ -1,0 +1,24 @@
+//! Rows of cases: what a call of the libraries gives on an input, beside what it should give.
+//!
+//! Standard input has the names of files with rows, one a line; the files lie in the folder that the program is run in.
+//! docs/ROWS.md says how a row is written and which calls there are. The program writes a line for each row whose answer is
+//! another one than stands in the row, and a line for each file.
+#![tactic(auto)]
+
+mod commands;
+mod files;
+mod judging;
+mod names;
+mod rows;
+mod signing;
+mod texts;
+mod values;
+
+use std::io;
+
+fn main(rt: HostRuntime) -> io::Result<()> {
+    for name in rt.lines(rt.alloc()) {
+        files::try_file(&rt, name?.as_str())?;
+    }
+    Ok(())
+}

@@ -1,0 +1,1 @@
+"""What the reference answers to the calls of rows (docs/ROWS.md)."""

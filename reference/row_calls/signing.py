@@ -1,0 +1,10 @@
+"""Calls of keys, chains and logs (docs/ROWS.md)."""
+
+from __future__ import annotations
+
+from typing import Callable, Dict
+
+from .reading import Row
+
+# The reference's answer to each call.
+CALLS: Dict[str, Callable[[Row], str]] = {}
