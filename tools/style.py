@@ -25,6 +25,7 @@ KEPT = [
     "edits/README.md",
     "examples/README.md",
     "reference/README.md",
+    "trials/README.md",
 ]
 
 ITEM = re.compile(r"\s*(?:[-*+]|\d+[.)])\s+")

@@ -15,8 +15,8 @@ import traceback
 from programs import Hangs, commands_of
 from tally import Tally
 
-SUBJECTS = ["scripts", "worked", "walk", "campaigns", "pictures", "prefixes", "vectors", "differs"]
-SUBJECTS += ["refusals", "calls", "devices", "load", "embed", "nodes", "page"]
+SUBJECTS = ["scripts", "worked", "walk", "campaigns", "pictures", "prefixes", "vectors", "second_answers", "differs"]
+SUBJECTS += ["costs", "refusals", "calls", "devices", "load", "embed", "nodes", "page"]
 LIBRARIES = ["embed", "nodes", "page"]
 GROUPS = {"libraries": LIBRARIES, "program": [subject for subject in SUBJECTS if subject not in LIBRARIES]}
 

@@ -1,0 +1,113 @@
+"""What the program asks of the system: starts of threads, and memory. No output tells whether an option reaches its call.
+
+The library that counts is count.c. No clock is looked at, so other work on the machine changes nothing.
+"""
+import os
+import shutil
+import subprocess
+import tempfile
+from typing import NamedTuple
+
+from layout import front_length
+from programs import count_cores, run, spell
+from scenarios import chain, scenario, sixteen
+
+HERE = os.path.dirname(os.path.abspath(__file__))
+WORKERS = [1, 2, 5, 16]
+CAPACITIES = 1, 16
+MIB = 1 << 20
+# An input of so many logs of so many bytes, and the most that its audit may have of memory: half as much again.
+LOGS, LOG_BYTES = 64, 2 * MIB
+
+
+class Asked(NamedTuple):
+    """What a run asked for: starts of threads, bytes in all, and the most KiB at once."""
+
+    threads: int
+    allocated: int
+    peak: int
+
+
+class Counter:
+    """Runs of a program whose requests are counted."""
+
+    def __init__(self, program, tally, folder):
+        self.program, self.tally, self.library = program, tally, os.path.join(folder, "count.so")
+        source = os.path.join(HERE, "count.c")
+        subprocess.run(["cc", "-O2", "-shared", "-fPIC", source, "-o", self.library, "-ldl", "-pthread"], check=True)
+
+    def asked(self, words, given, cores=None):
+        """What a run asked for; on so many cores, where a number is given."""
+        reader, writer = os.pipe()
+        all_cores = os.sched_getaffinity(0)
+        try:
+            os.sched_setaffinity(0, set(sorted(all_cores)[:cores]))
+            run(self.program, words, given, env={**os.environ, "COUNT_TELL": str(writer), "LD_PRELOAD": self.library},
+                pass_fds=[writer])
+        finally:
+            os.sched_setaffinity(0, all_cores)
+            os.close(writer)
+            with os.fdopen(reader) as told:
+                line = told.read()
+        self.tally.count(1)
+        return Asked(*(int(number) for number in line.split()))
+
+    def hold(self, name, found, wanted):
+        """One trial: a number that is found, and the one that is wanted."""
+        self.tally.hold(name, None if found == wanted else f"{found}, not {wanted}")
+
+
+def try_workers(counter, text, bundle):
+    """So many workers are so many threads, of which the first is the program's own."""
+    for command in "audit", "draw":
+        for workers in WORKERS:
+            words = [command, "--workers", str(workers)]
+            counter.hold(f"threads of {spell(words)}", counter.asked(words, bundle).threads, workers - 1)
+    for words, given in ((["accuse", "--general", "0"], bundle), (["decide"], text)):
+        counter.hold(f"threads of {spell(words)}", counter.asked(words, given).threads, 0)
+    alone = counter.asked(["judge"], text).threads
+    for workers in WORKERS[1:]:
+        words = ["judge", "--workers", str(workers)]
+        counter.hold(f"threads of {spell(words)}", counter.asked(words, text).threads, alone + workers - 1)
+
+
+def try_trees(counter, text, campaign):
+    """The trees of keys are made by a thread for each core."""
+    cores = min(count_cores(), 16)
+    for words, given in ((["run"], text), (["judge"], text), (["campaign"], campaign)):
+        more = counter.asked(words, given).threads - counter.asked(words, given, cores=1).threads
+        counter.hold(f"threads of {spell(words)} for {cores} cores, more than for one", more, cores - 1)
+
+
+def try_capacity(counter, text, campaign):
+    """An edge of a larger capacity takes more memory."""
+    for command, given in (("run", text), ("judge", text), ("campaign", campaign)):
+        small, large = (counter.asked([command, "--capacity", str(it)], given).allocated for it in CAPACITIES)
+        name = f"memory of {command} --capacity {CAPACITIES[1]}"
+        counter.tally.hold(name, None if large > small else f"{large} bytes, and {small} with --capacity {CAPACITIES[0]}")
+
+
+def try_peak(counter, bundle):
+    """A long input stands once in memory."""
+    header = bundle[: front_length(bundle)]
+    exhibit = b"\0" + LOG_BYTES.to_bytes(4, "big") + bytes(LOG_BYTES)
+    long_bundle = header + b"\0\0\0" + bytes([LOGS]) + exhibit * LOGS
+    most = 3 * len(long_bundle) // 2048
+    for words in (["audit"], ["audit", "--workers", "16"], ["accuse", "--general", "0"]):
+        peak = counter.asked(words, long_bundle).peak
+        counter.tally.hold(f"memory of {spell(words)}", None if peak < most else f"{peak} KiB, at most {most}")
+
+
+def trials(program, tally):
+    if not shutil.which("cc"):
+        tally.fail("no C compiler (cc) is there to build count.c with, so nothing was counted")
+        return
+    text = sixteen()
+    campaign = b"campaign 2\n" + b"".join(scenario(chain(4), 0, 3, 1, slot=slot) for slot in (0, 1))
+    bundle = run(program, ["run"], text).wrote
+    with tempfile.TemporaryDirectory() as folder:
+        counter = Counter(program, tally, folder)
+        try_workers(counter, text, bundle)
+        try_trees(counter, text, campaign)
+        try_capacity(counter, text, campaign)
+        try_peak(counter, bundle)

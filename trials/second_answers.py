@@ -1,0 +1,13 @@
+"""The rows of crates/rows, which the gate tries on the libraries: the reference answers each as it stands there.
+
+Rows of wrong answers are to be answered otherwise. How rows are written, docs/ROWS.md says.
+"""
+import reference  # noqa: F401
+import rows
+
+
+def trials(_program, tally):
+    for name in rows.files_named():
+        for number, asked, wanted, found in rows.rows_of(name):
+            is_right = (found == wanted) != (name == rows.WRONG)
+            tally.hold(f"{name}, line {number}", None if is_right else f"{asked[:200]} = {found[:300]}, not {wanted[:300]}")
