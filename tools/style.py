@@ -19,7 +19,10 @@ LONGEST = 35
 KEPT = [
     "README.md",
     "bench/README.md",
+    "docs/ARCHITECTURE.md",
     "docs/ASSURANCE.md",
+    "docs/CHANGING.md",
+    "docs/ROWS.md",
     "docs/STYLE.md",
     "docs/VECTORS.md",
     "edits/README.md",
