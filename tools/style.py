@@ -22,6 +22,7 @@ KEPT = [
     "docs/ARCHITECTURE.md",
     "docs/ASSURANCE.md",
     "docs/CHANGING.md",
+    "docs/PROMISES.md",
     "docs/ROWS.md",
     "docs/STYLE.md",
     "docs/VECTORS.md",
