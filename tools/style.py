@@ -20,6 +20,7 @@ KEPT = [
     "README.md",
     "bench/README.md",
     "docs/ASSURANCE.md",
+    "docs/FORMATS.md",
     "docs/GLOSSARY.md",
     "docs/PROTOCOL.md",
     "docs/STYLE.md",
