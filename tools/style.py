@@ -20,6 +20,7 @@ KEPT = [
     "README.md",
     "bench/README.md",
     "docs/ASSURANCE.md",
+    "docs/EMBED.md",
     "docs/STYLE.md",
     "docs/VECTORS.md",
     "edits/README.md",
