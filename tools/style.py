@@ -21,6 +21,7 @@ KEPT = [
     "bench/README.md",
     "docs/ASSURANCE.md",
     "docs/EMBED.md",
+    "docs/LIBRARY.md",
     "docs/STYLE.md",
     "docs/VECTORS.md",
     "edits/README.md",
