@@ -22,6 +22,7 @@ KEPT = [
     "docs/ASSURANCE.md",
     "docs/EMBED.md",
     "docs/LIBRARY.md",
+    "docs/PAGE.md",
     "docs/STYLE.md",
     "docs/VECTORS.md",
     "edits/README.md",
