@@ -20,6 +20,7 @@ KEPT = [
     "README.md",
     "bench/README.md",
     "docs/ASSURANCE.md",
+    "docs/COMMANDS.md",
     "docs/EMBED.md",
     "docs/LIBRARY.md",
     "docs/PAGE.md",
