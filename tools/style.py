@@ -26,6 +26,7 @@ KEPT = [
     "docs/PAGE.md",
     "docs/STYLE.md",
     "docs/VECTORS.md",
+    "docs/WALK.md",
     "edits/README.md",
     "examples/README.md",
     "reference/README.md",
