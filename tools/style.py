@@ -20,6 +20,7 @@ KEPT = [
     "README.md",
     "bench/README.md",
     "docs/ASSURANCE.md",
+    "docs/DECISIONS.md",
     "docs/STYLE.md",
     "docs/VECTORS.md",
     "edits/README.md",
