@@ -23,6 +23,7 @@ KEPT = [
     "docs/ASSURANCE.md",
     "docs/CHANGING.md",
     "docs/COMMANDS.md",
+    "docs/DECISIONS.md",
     "docs/EMBED.md",
     "docs/FORMATS.md",
     "docs/GLOSSARY.md",
