@@ -31,6 +31,7 @@ KEPT = [
     "docs/PAGE.md",
     "docs/PROMISES.md",
     "docs/PROTOCOL.md",
+    "docs/README.md",
     "docs/ROWS.md",
     "docs/STYLE.md",
     "docs/VECTORS.md",
