@@ -17,6 +17,7 @@ LONGEST = 35
 
 # The pages that keep the rules.
 KEPT = [
+    "CHANGELOG.md",
     "README.md",
     "bench/README.md",
     "docs/ARCHITECTURE.md",
