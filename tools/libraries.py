@@ -16,7 +16,7 @@ import shutil
 import subprocess
 import sys
 
-KITS = ("rattle-kit-13b",)
+KITS = ("rattle-kit-13b", "rattle-kit-13f")
 
 
 def load_kit():

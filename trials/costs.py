@@ -71,12 +71,19 @@ def try_workers(counter, text, bundle):
         counter.hold(f"threads of {spell(words)}", counter.asked(words, text).threads, alone + workers - 1)
 
 
+def makers(cores, trees):
+    """How many threads are started to make so many trees of keys: two for each core, at most one for each tree, of which
+    the first is the program's own."""
+    return min(2 * cores, trees) - 1
+
+
 def try_trees(counter, text, campaign):
-    """The trees of keys are made by a thread for each core."""
-    cores = min(count_cores(), 16)
-    for words, given in ((["run"], text), (["judge"], text), (["campaign"], campaign)):
+    """The trees of keys are made by threads, on one core and on all."""
+    cores = count_cores()
+    for words, given, trees in ((["run"], text, 16), (["judge"], text, 16), (["campaign"], campaign, 4)):
         more = counter.asked(words, given).threads - counter.asked(words, given, cores=1).threads
-        counter.hold(f"threads of {spell(words)} for {cores} cores, more than for one", more, cores - 1)
+        wanted = makers(cores, trees) - makers(1, trees)
+        counter.hold(f"threads of {spell(words)} for {cores} cores, more than for one", more, wanted)
 
 
 def try_capacity(counter, text, campaign):

@@ -1,14 +1,14 @@
 /* Counts what a program asks of the system, loaded before the C library's (LD_PRELOAD).
 
-   When the program ends, one line is written to the file that is open under the number COUNT_TELL: the starts of threads, the
-   bytes that were asked for as memory in all, and the most KiB of memory that the process had at once. */
+   When the program ends by _exit, one line is written to the file that is open under the number COUNT_TELL: the starts of
+   threads, the bytes that were asked for as memory in all, and the most KiB of memory that the process had at once. */
 #define _GNU_SOURCE
 #include <dlfcn.h>
 #include <pthread.h>
 #include <stdatomic.h>
 #include <stdio.h>
 #include <stdlib.h>
-#include <sys/resource.h>
+#include <unistd.h>
 
 static atomic_long threads, bytes;
 
@@ -17,12 +17,34 @@ static atomic_long threads, bytes;
     if (!real) \
         real = (type (*)(__VA_ARGS__))dlsym(RTLD_NEXT, name)
 
-__attribute__((destructor)) static void tell(void)
+/* The most KiB of memory that the process had at once: what the system says of it since its program was loaded. */
+static long peak(void)
+{
+    char line[256];
+    long most = 0;
+    FILE *status = fopen("/proc/self/status", "r");
+    while (status && fgets(line, sizeof line, status))
+        if (sscanf(line, "VmHWM: %ld", &most) == 1)
+            break;
+    if (status)
+        fclose(status);
+    return most;
+}
+
+static void tell(void)
 {
     const char *open = getenv("COUNT_TELL");
-    struct rusage used;
-    if (open && !getrusage(RUSAGE_SELF, &used))
-        dprintf(atoi(open), "%ld %ld %ld\n", atomic_load(&threads), atomic_load(&bytes), used.ru_maxrss);
+    long started = atomic_load(&threads), asked = atomic_load(&bytes);
+    if (open)
+        dprintf(atoi(open), "%ld %ld %ld\n", started, asked, peak());
+}
+
+void _exit(int status)
+{
+    REAL("_exit", void, int);
+    tell();
+    real(status);
+    __builtin_unreachable();
 }
 
 static void add(size_t size)
