@@ -13,6 +13,11 @@ mod rows;
 mod signing;
 mod texts;
 mod values;
+mod values_headers;
+mod values_parts;
+mod values_rounds;
+mod values_scripts;
+mod values_walks;
 
 use std::io;
 

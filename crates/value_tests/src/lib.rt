@@ -1,18 +1,18 @@
 //! This crate has the tests of the crates of values and texts: `gen_types`, `gen_net`, `gen_walks`,
-//! `gen_script` and `gen_core`.
+//! `gen_script` and `gen_core`. Their calls on worked inputs, with each fault, are rows of the crate `rows`.
 #![tactic(auto)]
 
 #[cfg(test)]
 mod algorithm;
 #[cfg(test)]
-mod net;
+mod headers;
 #[cfg(test)]
-mod net_front;
-#[cfg(test)]
-mod net_header;
+mod made;
 #[cfg(test)]
 mod script;
 #[cfg(test)]
 mod types;
+#[cfg(test)]
+mod unlike;
 #[cfg(test)]
 mod walks;

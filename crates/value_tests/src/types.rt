@@ -1,78 +1,26 @@
-//! Rows whose answers come from outside the program, and each public call once.
+//! Values: choices through their types, numbers, sets, paths, and what readers share.
+use crate::made::path_of;
 use gen_types::*;
 use std::alloc::{AllocError, AllocFailed};
 use std::test::Fail;
 
-/// The set of the orders of these numbers, of those below 16.
-fn orders(numbers: &[u8]) -> OrderSet {
-    let mut set = OrderSet::new();
-    for number in numbers {
-        if let Some(order) = OrderNo::new(*number) {
-            set.insert(order);
-        }
+/// The bits of a set of orders, and what either choice chooses from it.
+const CHOICES: [(u16, u8, u8); 6] = [
+    (0, 0, 0),
+    (0b1, 0, 0),
+    (0b100, 2, 2),
+    (0b1010, 0, 1),
+    (0b1101, 0, 2),
+    (0b1110_0000_0000_0010, 0, 13),
+];
+
+#[test]
+fn types_choose(rt: HostRuntime) {
+    for (bits, only, median) in CHOICES {
+        let orders = OrderSet::from_bits(bits);
+        assert_eq!(rt; OnlyOrRetreat.choose(orders).get(), only, "{bits}");
+        assert_eq!(rt; MedianOrder.choose(orders).get(), median, "{bits}");
     }
-    set
-}
-
-/// The number of the order that is chosen, through the trait alone.
-fn chosen<C: Choice>(choice: &C, numbers: &[u8]) -> u8 {
-    choice.choose(orders(numbers)).get()
-}
-
-/// Numbers of orders, and the numbers of what is chosen of them by either choice.
-type ChoiceRow = (&'static [u8], u8, u8);
-
-const CHOICES: [ChoiceRow; 7] = [
-    (&[], 0, 0),
-    (&[0], 0, 0),
-    (&[2], 2, 2),
-    (&[1, 3], 0, 1),
-    (&[3, 1], 0, 1),
-    (&[2, 3, 0], 0, 2),
-    (&[15, 14, 13, 1], 0, 13),
-];
-
-/// Whether the types of the choices choose as a row says.
-fn types_choose(row: &ChoiceRow) -> bool {
-    let (numbers, only, median) = *row;
-    chosen(&OnlyOrRetreat, numbers) == only && chosen(&MedianOrder, numbers) == median
-}
-
-/// Whether the kinds of the choices do.
-fn kinds_choose(row: &ChoiceRow) -> bool {
-    let (numbers, only, median) = *row;
-    chosen(&ChoiceKind::Only, numbers) == only && chosen(&ChoiceKind::Median, numbers) == median
-}
-
-#[test]
-fn chooses(rt: HostRuntime) {
-    assert!(rt; CHOICES.iter().all(types_choose));
-    assert!(rt; CHOICES.iter().all(kinds_choose));
-}
-
-/// A number and the choice that it stands for.
-type KindRow = (u8, Option<ChoiceKind>);
-
-const KINDS: [KindRow; 4] = [
-    (0, Some(ChoiceKind::Only)),
-    (1, Some(ChoiceKind::Median)),
-    (2, None),
-    (255, None),
-];
-
-/// Whether a number stands for a choice as a row says, and the choice has that number.
-fn is_kind(row: &KindRow) -> bool {
-    let (number, kind) = *row;
-    ChoiceKind::new(number) == kind
-        && match kind {
-            Some(kind) => kind.number() == number,
-            None => true,
-        }
-}
-
-#[test]
-fn kinds_of_choices(rt: HostRuntime) {
-    assert!(rt; KINDS.iter().all(is_kind));
 }
 
 /// A number, and that of the general, if it is one.
@@ -92,31 +40,27 @@ const ORDERS: [(u8, Result<u8, NumberFault>); 3] = [
 ];
 
 #[test]
-fn numbers_of_generals(rt: HostRuntime) {
+fn numbers(rt: HostRuntime) {
     assert!(rt;
         GENERALS.iter().all(|(number, want)| GeneralNo::new(*number).map(GeneralNo::get) == *want)
     );
-    assert!(rt; GeneralNo::at(7).get() == 7 && GeneralNo::commander().get() == 0);
-}
-
-#[test]
-fn numbers_of_orders(rt: HostRuntime) {
     assert!(rt;
         ORDERS.iter().all(|(number, want)| OrderNo::try_from(*number).map(OrderNo::get) == *want)
     );
+    assert!(rt; GeneralNo::at(7).get() == 7 && GeneralNo::commander().get() == 0);
     assert!(rt; OrderNo::retreat().get() == 0);
 }
 
-/// The number of a general who is put into a set, and whether he is new there.
+/// The number of a general who is put into a set, and whether the general is new there.
 const INSERTED: [(u8, bool); 5] = [(9, true), (0, true), (15, true), (9, false), (0, false)];
 
-/// The number of a general, and whether he is a member then.
+/// The number of a general, and whether the general is a member then.
 const MEMBERS: [(u8, bool); 5] = [(0, true), (1, false), (9, true), (14, false), (15, true)];
 
 /// An index, and the number of the member there.
 const PLACES: [(usize, Option<u8>); 4] = [(0, Some(0)), (2, Some(15)), (3, None), (16, None)];
 
-/// The set of generals 0, 9 and 15; None where one of them is new or not otherwise than he should.
+/// The set of generals 0, 9 and 15; None where one of them is new or not otherwise than it should be.
 fn set_of_three() -> Option<GeneralSet> {
     let mut set = GeneralSet::default();
     for (number, new) in INSERTED {
@@ -125,12 +69,6 @@ fn set_of_three() -> Option<GeneralSet> {
         }
     }
     Some(set)
-}
-
-#[test]
-fn sets_begin_empty(rt: HostRuntime) {
-    let set = GeneralSet::default();
-    assert!(rt; set.is_empty() && set == GeneralSet::new());
 }
 
 #[test]
@@ -159,6 +97,7 @@ fn sets_in_bits(rt: HostRuntime) -> Result<(), Fail> {
     let set = set_of_three().ok_or("another set")?;
     assert!(rt; set.bits() == 0x8201 && GeneralSet::from_bits(0x8201) == set);
     let mut one = GeneralSet::new();
+    assert!(rt; one.is_empty() && one == GeneralSet::default());
     one.insert(GeneralNo::at(3));
     assert!(rt; one == GeneralSet::only(GeneralNo::at(3)) && one != set);
     Ok(())
@@ -186,7 +125,7 @@ fn refuses_commander(path: &mut Path, number: u8) -> bool {
     path.push(GeneralNo::at(0)) == Err(refusal) && *path == longer
 }
 
-/// The path of all generals; None where one of them is taken or refused otherwise than he should.
+/// The path of all generals; None where one of them is taken or refused otherwise than it should be.
 fn path_of_all() -> Option<Path> {
     let mut path = Path::default();
     for number in 0..16u8 {
@@ -206,39 +145,22 @@ fn paths_refuse(rt: HostRuntime) -> Result<(), Fail> {
     Ok(())
 }
 
-/// The path of generals 0, 2 and 1.
-fn path_of_three() -> Result<Path, PathFault> {
-    let mut short = Path::new();
-    short.push(GeneralNo::at(0))?;
-    short.push(GeneralNo::at(2))?;
-    short.push(GeneralNo::at(1))?;
-    Ok(short)
-}
-
 #[test]
-fn paths_begin_and_end(rt: HostRuntime) -> Result<(), Fail> {
-    let short = path_of_three()?;
+fn paths_begin_and_end(rt: HostRuntime) {
+    let short = path_of(&[0, 2, 1]);
     assert!(rt; short.len() == 3 && !Path::new().starts_with(&short));
     assert!(rt; short.generals().iter().map(|g| g.get()).eq([0, 2, 1]));
     assert!(rt; short.contains(GeneralNo::at(1)) && !short.contains(GeneralNo::at(3)));
     assert!(rt; short.ends_with(GeneralNo::at(1)) && !short.ends_with(GeneralNo::at(0)));
-    Ok(())
 }
 
 #[test]
-fn paths_of_the_commander(rt: HostRuntime) -> Result<(), Fail> {
+fn paths_of_the_commander(rt: HostRuntime) {
     let mut pair = Path::commander();
     assert!(rt; pair.generals() == [GeneralNo::at(0)].as_slice());
-    assert!(rt; path_of_three()?.starts_with(&pair));
+    assert!(rt; path_of(&[0, 2, 1]).starts_with(&pair));
     pair.push_new(GeneralNo::at(2));
     assert!(rt; pair.generals() == [GeneralNo::at(0), GeneralNo::at(2)].as_slice());
-    Ok(())
-}
-
-#[test]
-fn values_as_texts(rt: HostRuntime) -> Result<(), Fail> {
-    assert!(rt; OrderNo::at(15).to_string(rt.alloc())?.as_str() == "15");
-    Ok(())
 }
 
 #[test]
@@ -251,19 +173,13 @@ fn faults_of_paths_as_texts(rt: HostRuntime) -> Result<(), Fail> {
 }
 
 #[test]
-fn readers_share(rt: HostRuntime) {
+fn readers_share(rt: HostRuntime) -> Result<(), Fail> {
     assert!(rt; check(true, 'H') == Ok(()));
     assert!(rt; check(false, 'H') == Err(ReadError::Fault('H')));
     assert!(rt; ReadError::<char>::from(AllocError) == ReadError::Memory);
     assert!(rt; ReadError::<char>::from(AllocFailed { value: 1 }) == ReadError::Memory);
-}
-
-#[test]
-fn faults_of_readers_as_texts(rt: HostRuntime) -> Result<(), Fail> {
     let memory = ReadError::<char>::Memory.to_string(rt.alloc())?;
     assert!(rt; memory.as_str() == "memory was refused");
-    let fault = ReadError::Fault('H').to_string(rt.alloc())?;
-    assert!(rt; fault.as_str() == "H");
     Ok(())
 }
 
@@ -293,48 +209,4 @@ fn fields_of_bytes(rt: HostRuntime) {
         assert_eq!(rt; u64_at(front, 'H').is_err(), count < 8, "{count}");
     }
     assert_eq!(rt; u64_at(&bytes[..7], 'H'), Err(ReadError::Fault('H')));
-}
-
-/// Digits, and the number that they spell.
-const DIGITS: [(&[u8], Option<u8>); 14] = [
-    (b"0", Some(0)),
-    (b"9", Some(9)),
-    (b"10", Some(10)),
-    (b"99", Some(99)),
-    (b"100", Some(100)),
-    (b"255", Some(255)),
-    (b"256", None),
-    (b"", None),
-    (b"00", None),
-    (b"01", None),
-    (b"012", None),
-    (b"1000", None),
-    (b"+1", None),
-    (b"1a", None),
-];
-
-#[test]
-fn numbers_in_texts(rt: HostRuntime) {
-    assert!(rt;
-        DIGITS
-            .iter()
-            .all(|(digits, want)| decimal_number(*digits) == *want)
-    );
-}
-
-/// The fields of a line with two spaces in a row.
-const FIELDS: [&[u8]; 4] = [b"", b"make", b"", b"1"];
-
-#[test]
-fn texts_are_cut(rt: HostRuntime) -> Result<(), Fail> {
-    let fields = split_fields(rt.alloc(), b" make  1")?;
-    assert!(rt; fields.as_slice() == FIELDS.as_slice());
-    Ok(())
-}
-
-#[test]
-fn an_empty_text_is_cut(rt: HostRuntime) -> Result<(), Fail> {
-    let fields = split_fields(rt.alloc(), b"")?;
-    assert!(rt; fields.len() == 1 && fields[0].is_empty());
-    Ok(())
 }

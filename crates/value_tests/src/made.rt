@@ -1,0 +1,60 @@
+//! What several tests are of.
+use gen_net::{Header, Net, read_header};
+use gen_types::{GeneralNo, Path};
+use std::alloc::{AllocError, Global};
+use std::test::Fail;
+
+/// This many roots, of which root g is 32 bytes g + 1.
+pub fn roots(alloc: Global, count: u8) -> Result<Vec<[u8; 32]>, AllocError> {
+    let mut roots = Vec::new(alloc);
+    for number in 0..count {
+        roots.push([number.wrapping_add(1); 32])?;
+    }
+    Ok(roots)
+}
+
+/// The bytes of a header that begins with these and has this many roots.
+pub fn bytes_with(alloc: Global, front: &[u8], count: u8) -> Result<Vec<u8>, AllocError> {
+    let mut bytes = Vec::new(alloc);
+    bytes.extend_from_slice(front)?;
+    for root in &roots(alloc, count)? {
+        bytes.extend_from_slice(root)?;
+    }
+    Ok(bytes)
+}
+
+/// The header that is in front of these bytes.
+pub fn header_of(alloc: Global, bytes: &[u8]) -> Result<Header, Fail> {
+    match read_header(alloc, bytes) {
+        Ok((header, _)) => Ok(header),
+        Err(_) => Err("no header".into()),
+    }
+}
+
+/// The network with these edges, the numbers n, m, d and q, and choice 0.
+pub fn net_of(alloc: Global, numbers: [u8; 4], edges: &[(u8, u8)]) -> Result<Net, Fail> {
+    let [n, m, d, q] = numbers;
+    Net::new(alloc, n, edges, m, d, q, 0).map_err(|_| "no net".into())
+}
+
+/// The edges between 16 generals that join numbers at most this far apart, ascending.
+pub fn edges_up_to(alloc: Global, far: u8) -> Result<Vec<(u8, u8)>, AllocError> {
+    let mut edges = Vec::new(alloc);
+    for low in 0..15u8 {
+        for high in low + 1..16 {
+            if high - low <= far {
+                edges.push((low, high))?;
+            }
+        }
+    }
+    Ok(edges)
+}
+
+/// The path of these generals; one who stands in it already is left out.
+pub fn path_of(generals: &[u8]) -> Path {
+    let mut path = Path::new();
+    for number in generals {
+        let _pushed = path.push(GeneralNo::at(*number % 16));
+    }
+    path
+}
