@@ -11,6 +11,9 @@ mod judging;
 mod names;
 mod rows;
 mod signing;
+mod signing_chains;
+mod signing_keys;
+mod signing_logs;
 mod texts;
 mod values;
 
