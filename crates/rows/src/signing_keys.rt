@@ -4,7 +4,7 @@ use crate::rows::Row;
 use crate::texts::{digest_text, hex_text, or_none, text, with_number, yes_text};
 use gen_ots::{SigRoom, leaf_values};
 use gen_tree::sizes::signature_bytes;
-use gen_tree::{KeyRing, KeyTree, Signature, general_seed};
+use gen_tree::{KeyRing, Signature, general_seed};
 use gen_types::TreeHeight;
 use std::alloc::Global;
 use std::io;
@@ -47,11 +47,17 @@ pub(crate) fn seed(alloc: Global, mut row: Row<'_>) -> io::Result<String> {
     hex_text(alloc, &seed)
 }
 
-/// Returns the root of a seed's tree.
+/// Returns the root of a seed's ring, of which no leaf is taken.
 pub(crate) fn root(alloc: Global, mut row: Row<'_>) -> io::Result<String> {
     let seed = hash_of(alloc, &mut row)?;
-    let tree = KeyTree::from_seed(alloc, &seed, height_of(&mut row)?)?;
-    hex_text(alloc, &tree.root())
+    let height = height_of(&mut row)?;
+    let ring = KeyRing::from_seed(alloc, &seed, height)?;
+    let (root, found) = (ring.root(), ring.height());
+    let leaves = ring.close();
+    if found != height || !leaves.is_empty() {
+        return text(alloc, "another ring");
+    }
+    hex_text(alloc, &root)
 }
 
 /// Returns the value of a leaf of a seed's tree, which is hashed beside three others.
@@ -60,7 +66,9 @@ pub(crate) fn leaf_value(alloc: Global, mut row: Row<'_>) -> io::Result<String> 
     let height = height_of(&mut row)?;
     let leaf = row.byte()?;
     let first = leaf & 0xfc;
-    let end = first.checked_add(4).ok_or_else(unreadable)?;
+    let Some(end) = first.checked_add(4) else {
+        return Err(unreadable());
+    };
     if end > height.leaves() {
         return Err(unreadable());
     }

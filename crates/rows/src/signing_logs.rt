@@ -122,8 +122,9 @@ pub(crate) fn lengths(alloc: Global, mut row: Row<'_>) -> io::Result<String> {
         Ok(log) => log,
         Err(error) => return fault_text(alloc, error),
     };
+    let counts = entry_lengths(alloc, log.entries())?;
     let mut list = String::new(alloc);
-    for length in entry_lengths(alloc, log.entries())?.as_slice() {
+    for length in counts.as_slice() {
         let (comma, length) = (if list.is_empty() { "" } else { "," }, *length);
         let shown = format!(in alloc; "{comma}{length}")?;
         list.push_str(shown.as_str())?;
@@ -143,7 +144,7 @@ pub(crate) fn has_sign(alloc: Global, mut row: Row<'_>) -> io::Result<String> {
 }
 
 /// Returns `read`, or the fault of what was read.
-fn read_text<T: Drop, F: Display + Drop>(
+fn read_text<T: Drop, F: Display + Copy>(
     alloc: Global,
     found: Result<T, ReadError<F>>,
 ) -> io::Result<String> {
