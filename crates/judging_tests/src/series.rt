@@ -9,7 +9,7 @@ use gen_tree::LeafSet;
 use gen_types::GeneralNo;
 use std::alloc::Global;
 use std::sync::Wait;
-use std::test::*;
+use std::test::Fail;
 use std::thread::Threads;
 
 /// A gate at which nobody waits.
@@ -20,7 +20,7 @@ impl Gate for Open {
     fn before_round(&self, _general: GeneralNo, _round: u8) {}
 }
 
-/// The campaign of the scenarios that these texts tell.
+/// Returns the campaign of the scenarios that these texts tell.
 fn campaign_of(alloc: Global, texts: &[&[u8]]) -> Result<Result<Campaign, CampaignFault>, Fail> {
     let mut scenarios = Vec::new(alloc);
     for text in texts {
@@ -44,24 +44,17 @@ const CASES: [Case<'static>; 9] = [
     (&[FIRST, SECOND_OF_ONE, THIRD], None),
 ];
 
-/// The index of the first case that is not so.
-fn first_wrong(alloc: Global) -> Result<Option<usize>, Fail> {
-    for (index, (texts, fault)) in CASES.iter().enumerate() {
-        if campaign_of(alloc, texts)?.err() != *fault {
-            return Ok(Some(index));
-        }
-    }
-    Ok(None)
-}
-
 #[test]
 fn scenarios_that_make_no_campaign(rt: HostRuntime) -> Result<(), Fail> {
-    assert!(rt; first_wrong(rt.alloc())? == None);
+    for (index, (texts, fault)) in CASES.iter().enumerate() {
+        let made = campaign_of(rt.alloc(), texts)?;
+        assert!(rt; made.err() == *fault, "case {index}");
+    }
     assert!(rt; CampaignFault::SlotOrder.to_string(rt.alloc())?.as_str() == "X3");
     Ok(())
 }
 
-/// How many runs there were, and the leaves that each general took.
+/// Returns how many runs there were, and the leaves that each general took.
 fn runs_and_leaves<R: Threads + Wait + Sync>(
     rt: &R,
     alloc: Global,
@@ -96,15 +89,11 @@ fn have_leaves<R: Threads + Wait + Sync>(
     Ok(runs == 2 && has_leaves(one, commander) && has_leaves(other, lieutenant))
 }
 
+// A script takes no leaf.
 #[test]
 fn each_leaf_of_two_runs(rt: HostRuntime) -> Result<(), Fail> {
     let texts = [FIRST, THIRD];
     assert!(rt; have_leaves(&rt, rt.alloc(), &texts, &[1, 15, 33, 47], &[15, 47])?);
-    Ok(())
-}
-
-#[test]
-fn a_script_takes_no_leaf(rt: HostRuntime) -> Result<(), Fail> {
     let texts = [SCRIPTED, THIRD];
     assert!(rt; have_leaves(&rt, rt.alloc(), &texts, &[33, 47], &[15, 47])?);
     Ok(())

@@ -5,7 +5,7 @@ use Rattle.gen_local.specs.Report.{LocalReport}
 use Rattle.gen_convict.specs.AcrossFinding.{RunReports, runs_of}
 use Rattle.gen_convict.specs.AcrossLaws.{AreUnderHeaders}
 use Rattle.gen_convict.specs.Convictions.{AreUnderHeader}
-use Rattle.judging_tests.proofs.convict_across.found_in.Goals as goal
+use Rattle.judging_tests.proofs.across.found_in.Goals as goal
 
 two : (h k : RunHeader) (rs ss : List LocalReport) → AreUnderHeader h rs → AreUnderHeader k ss → AreUnderHeaders (runs_of (h ∷ k ∷ []) (rs ∷ ss ∷ []))
 two h k rs ss a b r m = elim (Contains_cases (record { header = h; reports = rs }) r (record { header = k; reports = ss } ∷ []) m) [
