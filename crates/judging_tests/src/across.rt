@@ -1,5 +1,6 @@
-//! Texts across two runs of two generals, whose headers differ in the slot or in how many may be faulty, or are one.
-//! The rings of each run are made anew from one seed, so that two runs of one slot sign by the same leaves.
+//! Texts across two runs of two generals, whose headers differ in the slot or in how many may be faulty, or
+//! are one. The rings of each run are made anew from one seed, so that two runs of one slot sign by the same
+//! leaves.
 ghost use Rattle.std.specs.Prelude.{IfOk};
 ghost use Rattle.gen_convict.specs.Convictions.{AreUnderHeader};
 
@@ -41,7 +42,8 @@ fn shown_of(alloc: Global, text: &[u8], general: usize) -> Result<(Header, Exhib
     Ok((header, exhibit))
 }
 
-/// Returns how many are convicted where the first run shows the log of general 1, and the second the commander's.
+/// Returns how many are convicted where the first run shows the log of general 1, and the second the
+/// commander's.
 fn convicted(alloc: Global, first: &[u8], second: &[u8]) -> Result<usize, Fail> {
     let (one, heard) = shown_of(alloc, first, 1)?;
     let (other, gave) = shown_of(alloc, second, 0)?;

@@ -39,8 +39,8 @@ fn exhibits_of(alloc: Global, generals: &[u8]) -> Result<Vec<Exhibit>, Fail> {
     Ok(exhibits)
 }
 
-/// Returns the bundle of two generals with these bits of the faulty, the walk from 0 to this general, and exhibits of
-/// these generals, or its fault.
+/// Returns the bundle of two generals with these bits of the faulty, the walk from 0 to this general, and
+/// exhibits of these generals, or its fault.
 fn made_of(
     alloc: Global,
     faulty: u16,

@@ -1,5 +1,5 @@
-//! This crate has the tests of the crates that judge, and of those of campaigns and of texts, that are no rows:
-//! of values that no bytes say, of runs in threads, and the laws.
+//! This crate has the tests of the crates that judge, and of those of campaigns and of texts, that are no
+//! rows: of values that no bytes say, of runs in threads, and the laws.
 #![tactic(auto)]
 
 #[cfg(test)]

@@ -22,8 +22,8 @@ const ON_THE_RING: [Option<Found>; 6] = [
     Some((None, true, None, 3)),
 ];
 
-/// Six exhibits of unequal lengths: whose each is, and whose log of the ring it has. The third has no bytes, and
-/// the fourth is another general's.
+/// Six exhibits of unequal lengths: whose each is, and whose log of the ring it has. The third has no bytes,
+/// and the fourth is another general's.
 const SIX: [(u8, Option<usize>); 6] = [
     (0, Some(0)),
     (2, Some(2)),
