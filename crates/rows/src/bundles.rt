@@ -57,8 +57,11 @@ pub(crate) fn campaign(alloc: Global, bytes: &[u8]) -> io::Result<String> {
         Err(ReadError::Memory) => return Err(unreadable()),
     };
     let again = write_campaign(alloc, &campaign)?;
-    if again.as_slice() != bytes || read_taken_campaign(alloc, again).is_err() {
+    if again.as_slice() != bytes {
         return text(alloc, "written otherwise");
+    }
+    if read_taken_campaign(alloc, again).is_err() {
+        return text(alloc, "read otherwise");
     }
     let mut all = text(
         alloc,
