@@ -1,7 +1,7 @@
 //! Calls of reports, evidence, bundles and campaigns.
 use crate::names::unreadable;
 use crate::rows::Row;
-use crate::{bundles, evidence, reports, scenarios};
+use crate::{judging_bundles, judging_evidence, judging_reports, judging_texts};
 use std::alloc::Global;
 use std::io;
 
@@ -32,9 +32,9 @@ pub(crate) fn answer(alloc: Global, call: &str, mut row: Row<'_>) -> io::Result<
         return Ok(Some(cuts(alloc, form, row)?));
     }
     match call {
-        "report" => Ok(Some(reports::report(alloc, row)?)),
-        "departs" => Ok(Some(reports::departs_at(alloc, row)?)),
-        "refute" => Ok(Some(evidence::refuted(alloc, row)?)),
+        "report" => Ok(Some(judging_reports::report(alloc, row)?)),
+        "departs" => Ok(Some(judging_reports::departs_at(alloc, row)?)),
+        "refute" => Ok(Some(judging_evidence::refuted(alloc, row)?)),
         _ => Ok(None),
     }
 }
@@ -55,12 +55,12 @@ fn form_of(call: &str) -> Option<Form> {
 /// Returns what bytes of a form are, or their fault.
 fn told(alloc: Global, form: Form, bytes: &[u8]) -> io::Result<String> {
     match form {
-        Form::Evidence => evidence::evidence(alloc, bytes),
-        Form::Bundle => bundles::bundle(alloc, bytes),
-        Form::Campaign => bundles::campaign(alloc, bytes),
-        Form::Convictions => bundles::convictions(alloc, bytes),
-        Form::Scenario => scenarios::scenario(alloc, bytes),
-        Form::Series => scenarios::series(alloc, bytes),
+        Form::Evidence => judging_evidence::evidence(alloc, bytes),
+        Form::Bundle => judging_bundles::bundle(alloc, bytes),
+        Form::Campaign => judging_bundles::campaign(alloc, bytes),
+        Form::Convictions => judging_bundles::convictions(alloc, bytes),
+        Form::Scenario => judging_texts::scenario(alloc, bytes),
+        Form::Series => judging_texts::series(alloc, bytes),
     }
 }
 

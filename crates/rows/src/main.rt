@@ -5,15 +5,15 @@
 //! another one than stands in the row, and a line for each file.
 #![tactic(auto)]
 
-mod bundles;
 mod commands;
-mod evidence;
 mod files;
 mod judging;
+mod judging_bundles;
+mod judging_evidence;
+mod judging_reports;
+mod judging_texts;
 mod names;
-mod reports;
 mod rows;
-mod scenarios;
 mod signing;
 mod texts;
 mod values;

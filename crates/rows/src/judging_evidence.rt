@@ -1,7 +1,7 @@
 //! Evidence, and what answers it.
 use crate::judging::push_line;
+use crate::judging_reports::{statement_said, text_said};
 use crate::names::unreadable;
-use crate::reports::{statement_said, text_said};
 use crate::rows::Row;
 use crate::texts::{fault_text, hex_text, text};
 use gen_chain::Statement;
