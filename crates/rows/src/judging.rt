@@ -1,4 +1,5 @@
 //! Calls of reports, evidence, bundles and campaigns.
+use crate::judging_reports::push_line;
 use crate::names::unreadable;
 use crate::rows::Row;
 use crate::{judging_bundles, judging_evidence, judging_reports, judging_texts};
@@ -80,12 +81,4 @@ fn cuts(alloc: Global, form: Form, mut row: Row<'_>) -> io::Result<String> {
         before = answer;
     }
     Ok(all)
-}
-
-/// Appends a line, behind ` / ` where it isn't the first.
-pub(crate) fn push_line(all: &mut String, line: &str) -> io::Result<()> {
-    if !all.is_empty() {
-        all.push_str(" / ")?;
-    }
-    Ok(all.push_str(line)?)
 }

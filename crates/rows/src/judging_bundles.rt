@@ -1,6 +1,6 @@
 //! Bundles, campaigns, and who is convicted by them.
-use crate::judging::push_line;
 use crate::judging_evidence::push_accusation;
+use crate::judging_reports::push_line;
 use crate::names::unreadable;
 use crate::texts::{fault_text, general_set_text, generals_text, hex_text, or_none, text};
 use gen_audit::{Bundle, read_bundle, write_bundle};

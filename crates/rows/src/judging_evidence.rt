@@ -1,6 +1,5 @@
 //! Evidence, and what answers it.
-use crate::judging::push_line;
-use crate::judging_reports::{statement_said, text_said};
+use crate::judging_reports::{push_line, statement_said, text_said};
 use crate::names::unreadable;
 use crate::rows::Row;
 use crate::texts::{fault_text, hex_text, text};

@@ -1,5 +1,4 @@
 //! Reports of exhibits, and texts that generals sign.
-use crate::judging::push_line;
 use crate::names::unreadable;
 use crate::rows::Row;
 use crate::texts::{fault_text, order_set_text, path_text, text, yes_text};
@@ -77,4 +76,12 @@ pub(crate) fn text_said(alloc: Global, said: &Text) -> io::Result<String> {
 pub(crate) fn statement_said(alloc: Global, statement: &Statement) -> io::Result<String> {
     let (order, path) = (statement.order, path_text(alloc, &statement.path)?);
     Ok(format!(in alloc; "order {order} path {path}")?)
+}
+
+/// Appends a line, behind ` / ` where it isn't the first.
+pub(crate) fn push_line(all: &mut String, line: &str) -> io::Result<()> {
+    if !all.is_empty() {
+        all.push_str(" / ")?;
+    }
+    Ok(all.push_str(line)?)
 }

@@ -1,5 +1,5 @@
 //! Texts of scenarios and of campaigns.
-use crate::judging::push_line;
+use crate::judging_reports::push_line;
 use crate::names::unreadable;
 use crate::texts::{hex_text, or_none};
 use gen_campaign_text::read_campaign_text;
