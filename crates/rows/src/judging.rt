@@ -76,7 +76,7 @@ fn cuts(alloc: Global, form: Form, mut row: Row<'_>) -> io::Result<String> {
         let beginning = bytes.get(..len).ok_or_else(unreadable)?;
         let answer = told(alloc, form, beginning)?;
         if answer.as_str() != before.as_str() {
-            push_line(&mut all, format!(in alloc; "{len} {answer}")?.as_str())?;
+            push_line(&mut all, format!(in alloc; "{len} {answer}")?)?;
         }
         before = answer;
     }

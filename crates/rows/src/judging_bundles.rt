@@ -26,25 +26,20 @@ pub(crate) fn bundle(alloc: Global, bytes: &[u8]) -> io::Result<String> {
 
 /// Appends what a bundle says.
 fn push_bundle(alloc: Global, all: &mut String, bundle: &Bundle) -> io::Result<()> {
-    let (run, slot) = (
-        hex_text(alloc, bundle.header().run_id())?,
-        bundle.header().slot(),
-    );
+    let header = bundle.header();
+    let (run, slot) = (hex_text(alloc, header.run_id())?, header.slot());
     let faulty = general_set_text(alloc, bundle.faulty())?;
     push_line(
         all,
-        format!(in alloc; "run {run} slot {slot} faulty {faulty}")?.as_str(),
+        format!(in alloc; "run {run} slot {slot} faulty {faulty}")?,
     )?;
     for walk in bundle.walks().as_slice() {
         let generals = generals_text(alloc, walk.generals())?;
-        push_line(all, format!(in alloc; "walk {generals}")?.as_str())?;
+        push_line(all, format!(in alloc; "walk {generals}")?)?;
     }
     for exhibit in bundle.exhibits() {
         let (general, len) = (exhibit.general(), exhibit.log().len());
-        push_line(
-            all,
-            format!(in alloc; "exhibit {general} length {len}")?.as_str(),
-        )?;
+        push_line(all, format!(in alloc; "exhibit {general} length {len}")?)?;
     }
     Ok(())
 }
@@ -63,14 +58,8 @@ pub(crate) fn campaign(alloc: Global, bytes: &[u8]) -> io::Result<String> {
     if read_taken_campaign(alloc, again).is_err() {
         return text(alloc, "read otherwise");
     }
-    let mut all = text(
-        alloc,
-        if campaign.is_alone() {
-            "alone"
-        } else {
-            "several"
-        },
-    )?;
+    let alone = campaign.is_alone();
+    let mut all = text(alloc, if alone { "alone" } else { "several" })?;
     for bundle in campaign.bundles() {
         push_bundle(alloc, &mut all, bundle)?;
     }

@@ -34,13 +34,10 @@ fn judged(alloc: Global, header: &Header, evidence: &Evidence) -> io::Result<Str
     let slot = header.slot();
     let mut all = format!(in alloc; "slot {slot}")?;
     push_accusation(alloc, &mut all, evidence)?;
+    let is_held = holds(alloc, header, evidence)?;
     push_line(
         &mut all,
-        if holds(alloc, header, evidence)? {
-            "holds"
-        } else {
-            "fails"
-        },
+        text(alloc, if is_held { "holds" } else { "fails" })?,
     )?;
     Ok(all)
 }
@@ -60,13 +57,10 @@ pub(crate) fn push_accusation(
     evidence: &Evidence,
 ) -> io::Result<()> {
     let (accused, kind) = (evidence.accused, evidence.claim.kind());
-    push_line(
-        all,
-        format!(in alloc; "accused {accused} kind {kind}")?.as_str(),
-    )?;
+    push_line(all, format!(in alloc; "accused {accused} kind {kind}")?)?;
     let (one, other) = parts(alloc, &evidence.claim)?;
-    push_line(all, one.as_str())?;
-    push_line(all, other.as_str())
+    push_line(all, one)?;
+    push_line(all, other)
 }
 
 /// Returns the two parts of a claim: its texts, or its log and what is missing from it or where it departs.

@@ -34,10 +34,7 @@ fn found(alloc: Global, log: &OwnLog) -> io::Result<String> {
     )?;
     for signed in log.texts() {
         let (signer, said) = (signed.signer, text_said(alloc, &signed.text)?);
-        push_line(
-            &mut all,
-            format!(in alloc; "{signer} signs {said}")?.as_str(),
-        )?;
+        push_line(&mut all, format!(in alloc; "{signer} signs {said}")?)?;
     }
     Ok(all)
 }
@@ -79,9 +76,9 @@ pub(crate) fn statement_said(alloc: Global, statement: &Statement) -> io::Result
 }
 
 /// Appends a line, behind ` / ` where it isn't the first.
-pub(crate) fn push_line(all: &mut String, line: &str) -> io::Result<()> {
+pub(crate) fn push_line(all: &mut String, line: String) -> io::Result<()> {
     if !all.is_empty() {
         all.push_str(" / ")?;
     }
-    Ok(all.push_str(line)?)
+    Ok(all.push_str(line.as_str())?)
 }

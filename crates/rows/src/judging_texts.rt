@@ -28,10 +28,7 @@ pub(crate) fn series(alloc: Global, bytes: &[u8]) -> io::Result<String> {
     };
     let mut all = String::new(alloc);
     for plan in plans {
-        push_line(
-            &mut all,
-            told_text(alloc, &ScenarioText::Signed(plan))?.as_str(),
-        )?;
+        push_line(&mut all, told_text(alloc, &ScenarioText::Signed(plan))?)?;
     }
     Ok(all)
 }
