@@ -1,40 +1,18 @@
-//! This crate has the tests of the crates that judge: `gen_local`, `gen_match`, `gen_convict`, `gen_audit`
-//! and `gen_report`.
+//! This crate has the tests of the crates that judge, and of those of campaigns and of texts, that are no
+//! rows: of values that no bytes say, of runs in threads, and the laws.
 #![tactic(auto)]
 
 #[cfg(test)]
-mod audit_bundle;
+mod across;
 #[cfg(test)]
-mod audit_cases;
+mod bundles;
 #[cfg(test)]
-mod audit_laws;
+mod laws;
 #[cfg(test)]
-mod convict_across;
+mod reports;
 #[cfg(test)]
-mod convict_evidence;
+mod scenarios;
 #[cfg(test)]
-mod convict_finding;
+mod series;
 #[cfg(test)]
-mod convict_laws;
-#[cfg(test)]
-mod convict_refuting;
-#[cfg(test)]
-mod local;
-#[cfg(test)]
-mod local_group;
-#[cfg(test)]
-mod local_report;
-#[cfg(test)]
-mod match_derived;
-#[cfg(test)]
-mod match_edge;
-#[cfg(test)]
-mod match_laws;
-#[cfg(test)]
-mod report;
-#[cfg(test)]
-mod report_signed;
-#[cfg(test)]
-mod report_verdict;
-#[cfg(test)]
-mod signed_logs;
+mod verdict_texts;

@@ -8,6 +8,10 @@
 mod commands;
 mod files;
 mod judging;
+mod judging_bundles;
+mod judging_evidence;
+mod judging_reports;
+mod judging_texts;
 mod names;
 mod rows;
 mod signing;

@@ -1,5 +1,0 @@
-use Rattle.std.proofs.Common.{Contains, subst}
-use Rattle.judging_tests.proofs.convict_finding.finds.Goals as goal
-
-pub find_evidence-requires : goal.find_evidence-requires
-find_evidence-requires c = λ r k. c.in_ok-reports.ensures r (subst (λ xs. Contains xs r) c.as_slice.ensures.value k)

@@ -1,0 +1,148 @@
+//! Reports of exhibits side by side and alone, through one store of verifications.
+use crate::scenarios::{RING, run_of};
+use gen_chain::VerifyStore;
+use gen_local::{Exhibit, LocalReport, Reading, local_report, local_reports};
+use gen_log::LogFault;
+use gen_net::Header;
+use gen_types::GeneralNo;
+use std::alloc::Global;
+use std::test::Fail;
+
+/// What is found of a log: the first entry with a signature that doesn't verify, whether the head verifies,
+/// where the log departs, and how many texts verify.
+type Found = (Option<usize>, bool, Option<usize>, usize);
+
+/// What is found in reports on the ring, of whose generals the third is silent.
+const ON_THE_RING: [Option<Found>; 6] = [
+    Some((None, true, None, 2)),
+    Some((None, true, None, 3)),
+    Some((None, true, None, 4)),
+    Some((None, true, Some(3), 7)),
+    Some((None, true, None, 4)),
+    Some((None, true, None, 3)),
+];
+
+/// Six exhibits of unequal lengths: whose each is, and whose log of the ring it has. The third has no bytes,
+/// and the fourth is another general's.
+const SIX: [(u8, Option<usize>); 6] = [
+    (0, Some(0)),
+    (2, Some(2)),
+    (1, None),
+    (4, Some(5)),
+    (3, Some(3)),
+    (5, Some(5)),
+];
+
+/// What is found in the reports of those.
+const IN_SIX: [Option<Found>; 6] = [
+    Some((None, true, None, 2)),
+    Some((None, true, None, 4)),
+    None,
+    None,
+    Some((None, true, Some(3), 7)),
+    Some((None, true, None, 3)),
+];
+
+/// Returns what a report finds of its log, if it is the general's own.
+fn found_in(report: &LocalReport) -> Option<Found> {
+    match report.reading() {
+        Reading::Own(found) => Some((
+            found.unsigned(),
+            found.is_sealed(),
+            found.departure(),
+            found.texts().len(),
+        )),
+        _ => None,
+    }
+}
+
+/// Whether that is found in these reports, from the first to the last.
+fn find(reports: &[LocalReport], found: &[Option<Found>]) -> bool {
+    reports.len() == found.len()
+        && reports
+            .iter()
+            .zip(found.iter())
+            .all(|(report, found)| found_in(report) == *found)
+}
+
+/// Returns the reports of exhibits by one store, side by side, and how many verifications it keeps then.
+fn together(
+    alloc: Global,
+    header: &Header,
+    exhibits: &[Exhibit],
+) -> Result<(Vec<LocalReport>, u64), Fail> {
+    let mut store = VerifyStore::new(alloc)?;
+    let reports = local_reports(alloc, header, exhibits, &mut store)?;
+    Ok((reports, store.runs()))
+}
+
+// Of 17 signatures of statements 5 are distinct.
+#[test]
+fn each_signature_once(rt: HostRuntime) -> Result<(), Fail> {
+    let (header, exhibits) = run_of(rt.alloc(), RING)?;
+    let (reports, kept) = together(rt.alloc(), &header, exhibits.as_slice())?;
+    assert!(rt; find(reports.as_slice(), &ON_THE_RING));
+    assert!(rt; kept == 5);
+    Ok(())
+}
+
+/// Returns the exhibit of a general with the log at a place among those of the ring, or with no bytes.
+fn exhibit_of(
+    alloc: Global,
+    ring: &[Exhibit],
+    general: u8,
+    place: Option<usize>,
+) -> Result<Exhibit, Fail> {
+    let general = GeneralNo::new(general).ok_or("no general")?;
+    let log = match place {
+        Some(place) => Vec::from_slice(alloc, ring.get(place).ok_or("no log")?.log())?,
+        None => Vec::new(alloc),
+    };
+    Ok(Exhibit::new(general, log)?)
+}
+
+/// Returns the six exhibits.
+fn six_of(alloc: Global, ring: &[Exhibit]) -> Result<Vec<Exhibit>, Fail> {
+    let mut six = Vec::new(alloc);
+    for (general, place) in SIX {
+        six.push(exhibit_of(alloc, ring, general, place)?)?;
+    }
+    Ok(six)
+}
+
+/// Returns the reports of exhibits, each alone.
+fn alone(alloc: Global, header: &Header, exhibits: &[Exhibit]) -> Result<Vec<LocalReport>, Fail> {
+    let mut reports = Vec::new(alloc);
+    for exhibit in exhibits {
+        reports.push(local_report(alloc, header, exhibit.general(), exhibit.log())?)?;
+    }
+    Ok(reports)
+}
+
+#[test]
+fn side_by_side_and_alone(rt: HostRuntime) -> Result<(), Fail> {
+    let (header, ring) = run_of(rt.alloc(), RING)?;
+    let six = six_of(rt.alloc(), ring.as_slice())?;
+    let (reports, _) = together(rt.alloc(), &header, six.as_slice())?;
+    assert!(rt; find(reports.as_slice(), &IN_SIX));
+    let reports = alone(rt.alloc(), &header, six.as_slice())?;
+    assert!(rt; find(reports.as_slice(), &IN_SIX));
+    Ok(())
+}
+
+/// Whether the only report says that bytes end too early.
+fn is_truncated(reports: &[LocalReport]) -> bool {
+    match reports {
+        [report] => matches!(report.reading(), Reading::Unreadable(LogFault::Truncated)),
+        _ => false,
+    }
+}
+
+#[test]
+fn one_of_no_bytes(rt: HostRuntime) -> Result<(), Fail> {
+    let (header, _) = run_of(rt.alloc(), RING)?;
+    let exhibits = [Exhibit::new(GeneralNo::at(1), Vec::new(rt.alloc()))?];
+    let (reports, _) = together(rt.alloc(), &header, &exhibits)?;
+    assert!(rt; is_truncated(reports.as_slice()));
+    Ok(())
+}
