@@ -230,6 +230,43 @@ fn leaves_of_a_pair_in_slot_1(rt: HostRuntime) -> Result<(), Fail> {
     Ok(())
 }
 
+/// Runs two generals and two others at once. How they end, or None where a thread could not be started.
+fn run_four<R: Threads + Wait + Sync, G: Gate + Sync>(
+    rt: &R,
+    alloc: Global,
+    gate: &G,
+    edges: &Edges,
+    lower: (&RunPart, &RunPart),
+    upper: (&RunPart, &RunPart),
+    first: Ready,
+    second: Ready,
+    third: Ready,
+    fourth: Ready,
+) -> Option<([GeneralEnd; 2], [GeneralEnd; 2])>
+    requires first { MayRunWith lower.0.now.scenario lower.0.now.me first.ring
+        × HaveCarried edges.now lower.0.now.scenario 0 lower.0.now.me
+        first.passes.puts.items first.passes.takes.items }
+    requires second { MayRunWith lower.1.now.scenario lower.1.now.me second.ring
+        × HaveCarried edges.now lower.1.now.scenario 0 lower.1.now.me
+        second.passes.puts.items second.passes.takes.items }
+    requires third { MayRunWith upper.0.now.scenario upper.0.now.me third.ring
+        × HaveCarried edges.now upper.0.now.scenario 0 upper.0.now.me
+        third.passes.puts.items third.passes.takes.items }
+    requires fourth { MayRunWith upper.1.now.scenario upper.1.now.me fourth.ring
+        × HaveCarried edges.now upper.1.now.scenario 0 upper.1.now.me
+        fourth.passes.puts.items fourth.passes.takes.items }
+{
+    let ends = thread::join(
+        rt,
+        || run_two(rt, alloc, gate, edges, lower, first, second),
+        || run_two(rt, alloc, gate, edges, upper, third, fourth),
+    );
+    match ends {
+        (Some(lower), Some(upper)) => Some((lower, upper)),
+        _ => None,
+    }
+}
+
 /// How the lower two and the upper two of four generals end who run over edges that hold one frame.
 fn ends_of_four<R: Threads + Wait + Sync, G: Gate + Sync>(
     rt: &R,
@@ -264,30 +301,12 @@ fn ends_of_four<R: Threads + Wait + Sync, G: Gate + Sync>(
     let second = make_ready(scenario, one, &edges, low)?;
     let third = make_ready(scenario, two, &edges, high)?;
     let fourth = make_ready(scenario, three, &edges, highest)?;
-    let ends = thread::join(
-        rt,
-        || run_two(
-            rt,
-            alloc,
-            gate,
-            &edges,
-            (&part_zero, &part_one),
-            first,
-            second,
-        ),
-        || run_two(
-            rt,
-            alloc,
-            gate,
-            &edges,
-            (&part_two, &part_three),
-            third,
-            fourth,
-        ),
-    );
-    match ends {
-        (Some(lower), Some(upper)) => Ok((lower, upper)),
-        _ => Err("no thread".into()),
+    let (lower, upper) = ((&part_zero, &part_one), (&part_two, &part_three));
+    match run_four(
+        rt, alloc, gate, &edges, lower, upper, first, second, third, fourth,
+    ) {
+        Some(ends) => Ok(ends),
+        None => Err("no thread".into()),
     }
 }
 
