@@ -1,6 +1,6 @@
 //! Logs of the machine so far, from START to DECIDE, and the frames that wait meanwhile. The bytes are worked
 //! out by hand, or are those of the run's logs.
-use crate::async_machine::{Held, moves_to_the_end};
+use crate::async_machine::{Held, answers_of, moves_to_the_end};
 use crate::scenarios::{pair, scenario_of, without_scripts};
 use gen_async::Machine;
 use gen_log::{SealedLog, entry_bytes};
@@ -35,17 +35,6 @@ fn so_far(alloc: Global, machine: &Machine, number: u8) -> Result<Vec<u8>, Alloc
         _ => {}
     }
     Ok(bytes)
-}
-
-/// Lets these generals act, one after the other.
-fn act_all(alloc: Global, machine: &mut Machine, acts: &[u8]) -> Result<(), AllocError> {
-    for number in acts {
-        match GeneralNo::new(*number) {
-            Some(me) if me.get() < machine.generals() => machine.run_acts(alloc, &[me])?,
-            _ => {}
-        }
-    }
-    Ok(())
 }
 
 /// Whether each general has written all entries of the log, of these of the run.
@@ -84,13 +73,13 @@ fn decide_comes_with_the_last_act(rt: HostRuntime) -> Result<(), Fail> {
     let scenario = pair(alloc)?;
     let run = run_world(alloc, &scenario)?;
     let mut held = Held::new(alloc, &scenario, 1)?;
-    act_all(alloc, &mut held.machine, &[1, 0])?;
+    answers_of(alloc, &mut held.machine, &[1, 0])?;
     let before = so_far(alloc, &held.machine, 1)?;
     assert!(rt; before.as_slice() == [1, 1, 255].as_slice());
-    act_all(alloc, &mut held.machine, &[1])?;
+    answers_of(alloc, &mut held.machine, &[1])?;
     let after = so_far(alloc, &held.machine, 1)?;
     assert!(rt; after.as_slice().ends_with(&[5, 0, 2, 1]));
-    act_all(alloc, &mut held.machine, &[0])?;
+    answers_of(alloc, &mut held.machine, &[0])?;
     assert!(rt; have_whole_logs(alloc, &held.machine, run.logs())?);
     Ok(())
 }
@@ -126,11 +115,11 @@ fn frames_wait_until_they_are_taken(rt: HostRuntime) -> Result<(), Fail> {
     let alloc = rt.alloc();
     let scenario = pair(alloc)?;
     let mut held = Held::new(alloc, &scenario, 1)?;
-    act_all(alloc, &mut held.machine, &[0, 1])?;
+    answers_of(alloc, &mut held.machine, &[0, 1])?;
     assert!(rt; waiting(&held.machine, (0, 1), 0) == (1, Some(1)));
     assert!(rt; waiting(&held.machine, (1, 0), 0) == (1, Some(0)));
     assert!(rt; waiting(&held.machine, (0, 1), 1) == (1, None));
-    act_all(alloc, &mut held.machine, &[1])?;
+    answers_of(alloc, &mut held.machine, &[1])?;
     assert!(rt; waiting(&held.machine, (0, 1), 0) == (0, None));
     Ok(())
 }

@@ -42,7 +42,11 @@ impl Held {
 }
 
 /// What the attempts of these generals answer, one after the other.
-fn answers_of(alloc: Global, machine: &mut Machine, acts: &[u8]) -> Result<Vec<Moved>, AllocError> {
+pub(crate) fn answers_of(
+    alloc: Global,
+    machine: &mut Machine,
+    acts: &[u8],
+) -> Result<Vec<Moved>, AllocError> {
     let mut answers = Vec::new(alloc);
     for number in acts {
         if let Some(me) = GeneralNo::new(*number) {

@@ -1,11 +1,10 @@
 //! Two generals, a line of four, and a ring of six in which one sends nothing: whoever acts when, so many
 //! acts move, and the logs are those of the run. Besides the machine's own movers the generals act as two
 //! lists say, which are drawn from seeds.
-use crate::async_machine::{Held, moves_to_the_end};
+use crate::async_machine::{Held, answers_of, moves_to_the_end};
 use crate::scenarios::{are_same, scenario_of};
 use gen_async::{Machine, Moved};
 use gen_log::SealedLog;
-use gen_types::GeneralNo;
 use gen_world::{Scenario, run_world};
 use rand_chacha::ChaCha20Rng;
 use rand_core::SeedableRng;
@@ -50,20 +49,13 @@ fn moves_by_lot(alloc: Global, machine: &mut Machine, seed: u8) -> Result<u32, A
     let mut moved = 0u32;
     for _ in 0..DRAWS {
         let number = (lots.next_word() % 6) as u8;
-        moved = moved.saturating_add(attempt(alloc, machine, number)?);
+        for answer in answers_of(alloc, machine, &[number])?.as_slice() {
+            if *answer == Moved::Put || *answer == Moved::Took {
+                moved = moved.saturating_add(1);
+            }
+        }
     }
     Ok(moved)
-}
-
-/// Lets a general act. How many acts moved, 0 or 1.
-fn attempt(alloc: Global, machine: &mut Machine, number: u8) -> Result<u32, AllocError> {
-    match GeneralNo::new(number) {
-        Some(me) if me.get() < machine.generals() => {
-            let answer = machine.act(alloc, me)?;
-            Ok(u32::from(answer == Moved::Put || answer == Moved::Took))
-        }
-        _ => Ok(0),
-    }
 }
 
 /// How many acts moved at this capacity, by the movers or by lots from a seed, and the logs.

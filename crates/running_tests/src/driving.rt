@@ -142,8 +142,7 @@ fn are_of(run: &WorldRun, log: &SealedLog, decision: Decision) -> bool {
 }
 
 /// Whether a node that is driven alone with the frames of a run sends, keeps and decides what the run has.
-pub(crate) fn is_driven(alloc: Global, run: &WorldRun, driven: Driven) -> Result<bool, Fail> {
-    let mut driven = driven;
+pub(crate) fn is_driven(alloc: Global, run: &WorldRun, mut driven: Driven) -> Result<bool, Fail> {
     let alike = all_rounds(alloc, &mut driven.node, run.frames())?;
     let (log, decision) = driven.into_end(alloc)?;
     Ok(alike && are_of(run, &log, decision))
