@@ -49,7 +49,8 @@ fn moves_by_lot(alloc: Global, machine: &mut Machine, seed: u8) -> Result<u32, A
     let mut moved = 0u32;
     for _ in 0..DRAWS {
         let number = (lots.next_word() % 6) as u8;
-        for answer in answers_of(alloc, machine, &[number])?.as_slice() {
+        let answers = answers_of(alloc, machine, &[number])?;
+        for answer in answers.as_slice() {
             if *answer == Moved::Put || *answer == Moved::Took {
                 moved = moved.saturating_add(1);
             }
