@@ -16,9 +16,9 @@ from typing import Dict, Iterator, List, Tuple
 sys.path.insert(0, os.path.dirname(os.path.abspath(__file__)))
 
 from model.faults import Fault  # noqa: E402
-from row_calls import commands, judging, reading, signing, values  # noqa: E402
+from row_calls import commands, frames, judging, reading, signing, values  # noqa: E402
 
-MODULES = (values, signing, judging, commands)
+MODULES = (values, signing, judging, frames, commands)
 # The file of rows that are wrong.
 WRONG = "wrong.rows"
 

@@ -1,7 +1,7 @@
 //! Files of rows.
 use crate::names::{Names, unreadable};
 use crate::rows::{Row, tokens_of};
-use crate::{commands, judging, signing, values};
+use crate::{commands, frames, judging, signing, values};
 use std::rt::Files;
 use std::sync::Wait;
 use std::thread::Threads;
@@ -89,6 +89,9 @@ fn answer<R: AllocGlobal + Threads + Wait + Sync>(
         return Ok(found);
     }
     if let Some(found) = judging::answer(alloc, call, row)? {
+        return Ok(found);
+    }
+    if let Some(found) = frames::answer(alloc, call, row)? {
         return Ok(found);
     }
     commands::answer(rt, call, row)?.ok_or_else(unreadable)

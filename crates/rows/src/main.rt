@@ -7,6 +7,7 @@
 
 mod commands;
 mod files;
+mod frames;
 mod judging;
 mod judging_bundles;
 mod judging_evidence;

@@ -1,8 +1,7 @@
-//! This crate has the tests of `gen_world` and `gen_async`.
+//! This crate has the tests of runs: in one thread (`gen_world`), by a machine (`gen_async`), by threads
+//! over edges (`gen_edge`, `gen_threads`), and by nodes that hand each other frames (`gen_node`).
 #![tactic(auto)]
 
-#[cfg(test)]
-mod async_laws;
 #[cfg(test)]
 mod async_logs;
 #[cfg(test)]
@@ -10,11 +9,37 @@ mod async_machine;
 #[cfg(test)]
 mod async_order;
 #[cfg(test)]
+mod driving;
+#[cfg(test)]
+mod early_end;
+#[cfg(test)]
+mod edge_frames;
+#[cfg(test)]
+mod edge_lanes;
+#[cfg(test)]
+mod edge_steps;
+#[cfg(test)]
+mod edge_threads;
+#[cfg(test)]
+mod exchange;
+#[cfg(test)]
+mod gates;
+#[cfg(test)]
+mod laws;
+#[cfg(test)]
+mod limits;
+#[cfg(test)]
+mod logs_of_runs;
+#[cfg(test)]
+mod own_threads;
+#[cfg(test)]
+mod refusals;
+#[cfg(test)]
 mod scenarios;
 #[cfg(test)]
-mod world_counting;
+mod trees;
 #[cfg(test)]
-mod world_plain;
+mod world_counting;
 #[cfg(test)]
 mod world_recording;
 #[cfg(test)]

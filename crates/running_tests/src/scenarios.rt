@@ -1,9 +1,10 @@
-//! Scenarios with scripts, and what each general knows of them.
+//! Scenarios that are run, and logs that are compared.
+use gen_log::SealedLog;
 use gen_net::{HeaderFault, Net};
 use gen_report::{ScenarioText, read_scenario};
 use gen_script::Script;
 use gen_types::{GeneralNo, OrderNo, ReadError};
-use gen_world::*;
+use gen_world::{Part, Scenario};
 use std::alloc::Global;
 use std::test::Fail;
 
@@ -23,6 +24,38 @@ pub(crate) fn scenario_of(alloc: Global, text: &[u8]) -> Result<Scenario, Fail> 
     }
 }
 
+/// The scenario with order 1 in which nobody has a script.
+#[tactic(auto, using(gen_scenario::proofs::ScriptPairs::no_scripts))]
+pub(crate) fn without_scripts(
+    alloc: Global,
+    n: u8,
+    edges: &[(u8, u8)],
+    (m, d): (u8, u8),
+) -> Result<Scenario, Fail> {
+    let net = Net::new(alloc, n, edges, m, d, 2, 0)?;
+    let _few = net.generals();
+    Ok(Scenario::new(alloc, net, OrderNo::at(1), &[0; 32], Vec::new(alloc))?)
+}
+
+/// Two generals who are neighbours, with one round.
+pub(crate) fn pair(alloc: Global) -> Result<Scenario, Fail> {
+    without_scripts(alloc, 2, &[(0, 1)], (0, 1))
+}
+
+/// Four generals in a line, with three rounds.
+pub(crate) fn line(alloc: Global) -> Result<Scenario, Fail> {
+    without_scripts(alloc, 4, &[(0, 1), (1, 2), (2, 3)], (0, 3))
+}
+
+/// Two generals who are neighbours, in the run of this slot of the four that their trees serve.
+#[tactic(auto, using(gen_scenario::proofs::ScriptPairs::no_scripts))]
+pub(crate) fn pair_in_slot(alloc: Global, slot: u8) -> Result<Scenario, ReadError<HeaderFault>> {
+    let net = Net::new(alloc, 2, &[(0, 1)], 0, 1, 2, 0)?;
+    let _few = net.generals();
+    let scripts: Vec<Script> = Vec::new(alloc);
+    Scenario::new_in_slot(alloc, net, slot, OrderNo::at(1), &[0; 32], scripts)
+}
+
 /// What a general of the scenario knows.
 pub(crate) fn part_of(alloc: Global, scenario: &Scenario, general: u8) -> Result<Part, Fail> {
     if general >= scenario.header().net().generals() {
@@ -31,51 +64,51 @@ pub(crate) fn part_of(alloc: Global, scenario: &Scenario, general: u8) -> Result
     Ok(scenario.part(alloc, GeneralNo::at(general))?)
 }
 
-/// The scenario of version 2 on a network, in which nobody has a script.
-#[tactic(auto, using(gen_scenario::proofs::ScriptPairs::no_scripts))]
-pub(crate) fn without_scripts(
-    alloc: Global,
-    net: Net,
-    slot: u8,
-) -> Result<Scenario, ReadError<HeaderFault>> {
-    let _few = net.generals();
-    let scripts: Vec<Script> = Vec::new(alloc);
-    Scenario::new_in_slot(alloc, net, slot, OrderNo::at(1), &[0; 32], scripts)
+/// Whether two logs are the same general's and have the same bytes.
+pub(crate) fn is_same(log: &SealedLog, other: &SealedLog) -> bool {
+    log.general() == other.general() && log.bytes() == other.bytes()
 }
 
-/// Of a general whether he knows lines, whether he knows the order, and how many trees he knows.
-fn known_by(alloc: Global, scenario: &Scenario, general: u8) -> Result<(bool, bool, usize), Fail> {
-    let part = part_of(alloc, scenario, general)?;
-    Ok((
-        part.lines().is_some(),
-        part.own().is_some(),
-        part.trees().len(),
-    ))
+/// Whether these are the same logs, in the same order.
+pub(crate) fn are_same(logs: &[SealedLog], others: &[SealedLog]) -> bool {
+    logs.len() == others.len()
+        && logs
+            .iter()
+            .zip(others)
+            .all(|(log, other)| is_same(log, other))
 }
 
+/// Of each general: whether the lines of a script are known, whether the order is, and how many trees are.
 #[test]
 fn what_each_general_knows(rt: HostRuntime) -> Result<(), Fail> {
-    let scenario = scenario_of(rt.alloc(), TWO_SCRIPTS)?;
-    assert!(rt; known_by(rt.alloc(), &scenario, 0)? == (true, true, 2));
-    assert!(rt; known_by(rt.alloc(), &scenario, 1)? == (true, false, 2));
-    assert!(rt; known_by(rt.alloc(), &scenario, 2)? == (false, false, 0));
+    let alloc = rt.alloc();
+    let scenario = scenario_of(alloc, TWO_SCRIPTS)?;
+    for (general, lines, order, trees) in [
+        (0, true, true, 2),
+        (1, true, false, 2),
+        (2, false, false, 0),
+    ] {
+        let part = part_of(alloc, &scenario, general)?;
+        assert!(rt;
+            part.lines().is_some() == lines && part.own().is_some() == order,
+            "{general}"
+        );
+        assert!(rt; part.trees().len() == trees, "{general}");
+    }
     assert!(rt; scenario.has_script(GeneralNo::at(1)) && scenario.scripted().len() == 2);
     Ok(())
 }
 
-/// Whether a scenario of two in this slot has it, where it is known, and else the fault of slots.
-fn is_slot(alloc: Global, slot: u8, known: bool) -> Result<bool, Fail> {
-    let net = Net::new(alloc, 2, &[(0, 1)], 0, 1, 2, 0)?;
-    match without_scripts(alloc, net, slot) {
-        Ok(scenario) => Ok(known && scenario.header().slot() == slot),
-        Err(ReadError::Fault(fault)) => Ok(!known && fault == HeaderFault::SlotRange),
-        Err(ReadError::Memory) => Err("memory".into()),
-    }
-}
-
 #[test]
 fn slots_of_scenarios(rt: HostRuntime) -> Result<(), Fail> {
-    assert!(rt; is_slot(rt.alloc(), 0, true)? && is_slot(rt.alloc(), 3, true)?);
-    assert!(rt; is_slot(rt.alloc(), 4, false)? && is_slot(rt.alloc(), 255, false)?);
+    for (slot, is_slot) in [(0, true), (3, true), (4, false), (255, false)] {
+        match pair_in_slot(rt.alloc(), slot) {
+            Ok(scenario) => assert!(rt; is_slot && scenario.header().slot() == slot, "{slot}"),
+            Err(ReadError::Fault(fault)) => {
+                assert!(rt; !is_slot && fault == HeaderFault::SlotRange, "{slot}");
+            }
+            Err(ReadError::Memory) => return Err("memory".into()),
+        }
+    }
     Ok(())
 }

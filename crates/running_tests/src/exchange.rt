@@ -1,0 +1,138 @@
+//! Two nodes, each with a seed of its own, that hand their frames to each other: what they decide, and the
+//! bundle of their logs, which is accepted.
+use crate::driving::Driven;
+use gen_audit::{JobGate, Verdict, WorkerCount, audit, read_bundle};
+use gen_local::Exhibit;
+use gen_net::{Header, Net};
+use gen_node::{Node, make_bundle, root_of};
+use gen_types::{GeneralNo, GeneralSet, OrderNo, ReadError, TreeHeight};
+use gen_walks::make_walks;
+use std::alloc::Global;
+use std::sync::Wait;
+use std::test::Fail;
+use std::thread::Threads;
+
+/// The seeds of the two.
+const SEEDS: [[u8; 32]; 2] = [[1; 32], [2; 32]];
+
+/// The bytes of a frame, with the ends between which they go.
+#[derive(Drop)]
+struct Packet {
+    from: GeneralNo,
+    to: GeneralNo,
+    bytes: Vec<u8>,
+}
+
+/// The header of two neighbours with these seeds, with one round and two orders.
+pub(crate) fn header_of_two(alloc: Global) -> Result<Header, Fail> {
+    let Ok(net) = Net::new(alloc, 2, &[(0, 1)], 0, 1, 2, 0) else {
+        return Err("no net".into());
+    };
+    let mut roots = Vec::new(alloc);
+    for seed in &SEEDS {
+        roots.push(root_of(alloc, seed, TreeHeight::Four)?)?;
+    }
+    Header::new(net, roots).map_err(|_| "no header".into())
+}
+
+/// Begins a round of a node, and gives the bytes of its frames to its neighbours.
+fn begin_round(alloc: Global, node: &mut Node) -> Result<Vec<Packet>, Fail> {
+    if !node.may_begin() {
+        return Err("no round is left".into());
+    }
+    node.begin_round(alloc)?;
+    let from = node.me();
+    let mut out = Vec::new(alloc);
+    for number in 0..16 {
+        let to = GeneralNo::at(number);
+        if node.awaits(to) {
+            let bytes = node.to_send(alloc, to)?;
+            out.push(Packet { from, to, bytes })?;
+        }
+    }
+    Ok(out)
+}
+
+/// Hands a node what came for it, and ends its round. A frame that it doesn't await does no harm.
+fn end_round(alloc: Global, node: &mut Node, came: &[Packet]) -> Result<(), Fail> {
+    for packet in came {
+        if packet.to == node.me() {
+            match node.heard(alloc, packet.from, packet.bytes.as_slice()) {
+                Ok(()) => {}
+                Err(ReadError::Fault(_)) => {}
+                Err(ReadError::Memory) => return Err("memory".into()),
+            }
+        }
+    }
+    if !node.may_end() {
+        return Err("no round is open".into());
+    }
+    node.end_round(alloc)?;
+    Ok(())
+}
+
+/// All rounds of two nodes.
+fn all_rounds(alloc: Global, one: &mut Node, other: &mut Node) -> Result<(), Fail> {
+    for _ in 0..one.header().net().rounds() {
+        let from_one = begin_round(alloc, one)?;
+        let from_other = begin_round(alloc, other)?;
+        end_round(alloc, one, from_other.as_slice())?;
+        end_round(alloc, other, from_one.as_slice())?;
+    }
+    Ok(())
+}
+
+/// What two nodes of the header show after all rounds, of which the first commands order 1. Both must have
+/// decided it.
+fn logs_of_two(alloc: Global, header: &Header) -> Result<Vec<Exhibit>, Fail> {
+    let [first, second] = &SEEDS;
+    let (zero, one) = (GeneralNo::at(0), GeneralNo::at(1));
+    let order = OrderNo::at(1);
+    let node = Node::new(alloc, header.clone()?, zero, first, Some(order))?;
+    let mut left = Driven { node };
+    let node = Node::new(alloc, header.clone()?, one, second, None)?;
+    let mut right = Driven { node };
+    all_rounds(alloc, &mut left.node, &mut right.node)?;
+    let mut logs = Vec::new(alloc);
+    for driven in [left, right] {
+        let (log, decision) = driven.into_end(alloc)?;
+        if decision.order != order {
+            return Err("another order".into());
+        }
+        logs.push(Exhibit::of_log(log)?)?;
+    }
+    Ok(logs)
+}
+
+/// A gate at which nobody waits.
+struct Open;
+
+impl JobGate for Open {
+    fn begin(&self, _piece: usize) {}
+}
+
+/// The verdict on the bytes of a bundle.
+fn verdict_on<R: Threads + Wait + Sync>(
+    rt: &R,
+    alloc: Global,
+    bytes: &[u8],
+) -> Result<Verdict, Fail> {
+    let bundle = read_bundle(alloc, bytes)?;
+    Ok(audit(rt, alloc, &bundle, WorkerCount::one(), &Open)?.verdict)
+}
+
+#[test]
+fn the_bundle_of_two_nodes_is_accepted(rt: HostRuntime) -> Result<(), Fail> {
+    let alloc = rt.alloc();
+    let header = header_of_two(alloc)?;
+    let logs = logs_of_two(alloc, &header)?;
+    let Ok(walks) = make_walks(alloc, header.net(), &GeneralSet::from_bits(3)) else {
+        return Err("no walks".into());
+    };
+    let bytes = make_bundle(alloc, header, GeneralSet::new(), walks, logs)?;
+    match verdict_on(&rt, alloc, bytes.as_slice())? {
+        Verdict::Agreed(order) => assert!(rt; order == OrderNo::at(1)),
+        _ => return Err("no order".into()),
+    }
+    Ok(())
+}
