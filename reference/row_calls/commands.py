@@ -48,5 +48,7 @@ def command_text(row: Row) -> str:
     return f"{status} {output_text(given)}"
 
 
-# The reference's answer to each call.
-CALLS: Dict[str, Callable[[Row], str]] = {"words": asked_text, "command": command_text}
+# The reference's answer to each call; the form in which a command is called changes none.
+CALLS: Dict[str, Callable[[Row], str]] = {
+    "words": asked_text, "command": command_text, "over_bytes": command_text, "in_place": command_text,
+}

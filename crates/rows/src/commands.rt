@@ -1,9 +1,10 @@
 //! Calls of words of the command line, and of whole commands.
+use crate::forms::{Form, done};
 use crate::names::unreadable;
 use crate::rows::Row;
 use crate::texts::{output_text, text};
 use clap::error::ErrorKind;
-use gen_jobs::{Job, JobEnd, do_job};
+use gen_jobs::Job;
 use gen_program::{WordsFault, read_words};
 use std::alloc::Global;
 use std::io;
@@ -18,7 +19,9 @@ pub(crate) fn answer<R: AllocGlobal + Threads + Wait + Sync>(
 ) -> io::Result<Option<String>> {
     match call {
         "words" => Ok(Some(asked_text(rt.alloc(), row)?)),
-        "command" => Ok(Some(command_text(rt, row)?)),
+        "command" => Ok(Some(command_text(rt, Form::Engine, row)?)),
+        "over_bytes" => Ok(Some(command_text(rt, Form::Bytes, row)?)),
+        "in_place" => Ok(Some(command_text(rt, Form::InPlace, row)?)),
         _ => Ok(None),
     }
 }
@@ -78,20 +81,23 @@ fn refusal_of(fault: &WordsFault) -> io::Result<&'static str> {
     }
 }
 
-/// Returns the status and the output of a command, or its fault. Of several with ` | ` between them each reads what the one
-/// before wrote, and the answer is that of the last, or of the first that fails.
+/// Returns the status and the output of a command in this form, or its fault. Of several with ` | ` between them each reads
+/// what the one before wrote, and the answer is that of the last, or of the first that fails.
 fn command_text<R: AllocGlobal + Threads + Wait + Sync>(
     rt: &R,
+    form: Form,
     mut row: Row<'_>,
 ) -> io::Result<String> {
     let alloc = rt.alloc();
     let said = row.word()?;
     let mut bytes = row.bytes(alloc)?;
     let mut status = 0u8;
-    for words in said.split(" | ") {
-        let Some((end, written)) = done(rt, words, &bytes)? else {
+    for command in said.split(" | ") {
+        let words = words_of(alloc, command)?;
+        let Ok(job) = read_words(alloc, &words) else {
             return text(alloc, "2");
         };
+        let (end, written) = done(rt, alloc, form, job, &bytes);
         status = end.status();
         bytes = written;
         if let Some(fault) = end.fault() {
@@ -100,20 +106,4 @@ fn command_text<R: AllocGlobal + Threads + Wait + Sync>(
     }
     let shown = output_text(alloc, &bytes)?;
     Ok(format!(in alloc; "{status} {shown}")?)
-}
-
-/// Returns how the job of these words ends on an input, and what it writes; None where they ask for no job.
-fn done<R: AllocGlobal + Threads + Wait + Sync>(
-    rt: &R,
-    said: &str,
-    input: &[u8],
-) -> io::Result<Option<(JobEnd, Vec<u8>)>> {
-    let words = words_of(rt.alloc(), said)?;
-    let Ok(job) = read_words(rt.alloc(), &words) else {
-        return Ok(None);
-    };
-    let mut reader = input;
-    let mut writer = Vec::new(rt.alloc());
-    let end = do_job(rt, rt.alloc(), job, &mut reader, &mut writer);
-    Ok(Some((end, writer)))
 }
