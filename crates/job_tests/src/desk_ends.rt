@@ -26,7 +26,8 @@ fn claims_of<R: Wait>(
     Ok(claims)
 }
 
-/// Whether the desk says that all is reported on after the reports of all claims alone, in the order of the claims.
+/// Whether the desk says that all is reported on after the reports of all claims alone, in the order of the
+/// claims.
 fn reports_each<R: Wait>(
     rt: &R,
     alloc: Global,
@@ -60,7 +61,8 @@ fn have_logs(rows: &[Row], logs: &[SealedLog]) -> bool {
     rows.len() == logs.len()
 }
 
-/// Whether so many logs of a run go from filing to the end, with the reports in the order of places or in the other.
+/// Whether so many logs of a run go from filing to the end, with the reports in the order of places or in the
+/// other.
 fn goes_to_the_end<R: Wait>(
     rt: &R,
     alloc: Global,
@@ -147,8 +149,8 @@ fn known<R: Wait>(
     Ok(count)
 }
 
-/// Whether a desk of so many places knows all receipts of the logs that are filed at it, and none where each place has
-/// the log of another general, other bytes of the same general, or nothing.
+/// Whether a desk of so many places knows all receipts of the logs that are filed at it, and none where each
+/// place has the log of another general, other bytes of the same general, or nothing.
 fn knows_filed<R: Wait>(rt: &R, alloc: Global, places: usize) -> Result<bool, Fail> {
     let receipts = receipts_of(rt, alloc, STAR, places)?;
     let own = logs_of(alloc, STAR)?;

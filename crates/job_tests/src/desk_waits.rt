@@ -97,7 +97,8 @@ fn wait_for_claim<R: Wait>(rt: &R, desk: &Desk, waits: &AtomicBool, over: &Atomi
     unreachable!()
 }
 
-/// Files a log while somebody waits for it, and returns whether that was enough. Then the test is over, and all are woken.
+/// Files a log while somebody waits for it, and returns whether that was enough. Then the test is over, and
+/// all are woken.
 fn file_for_waiter<R: Wait>(
     rt: &R,
     desk: &Desk,

@@ -10,7 +10,8 @@ use gen_report::{LineFault, ScenarioFault};
 use std::alloc::Global;
 use std::test::*;
 
-/// How many bytes are read of a text of which each call gives so many, where this call fails; none where reading fails.
+/// How many bytes are read of a text of which each call gives so many, where this call fails; none where
+/// reading fails.
 fn count_read(alloc: Global, text: &[u8], step: usize, call: u32) -> Option<usize> {
     let mut reader = source_of(text, step, call, Slip::Fails);
     read_all(alloc, &mut reader).ok().map(|all| all.len())

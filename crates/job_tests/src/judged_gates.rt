@@ -1,4 +1,5 @@
-//! That workers work at once, each on pieces of its own, and that logs are audited while others are still to be sealed.
+//! That workers work at once, each on pieces of its own, and that logs are audited while others are still to
+//! be sealed.
 //!
 //! The gates count who comes, and who comes waits for others, so that one worker alone can't go on.
 ghost use Rattle.std.specs.Prelude.{IfOk};
@@ -18,6 +19,7 @@ use std::alloc::Global;
 use std::sync::Wait;
 use std::sync::atomic::{AtomicBool, AtomicU64, AtomicUsize, Ordering};
 use std::test::*;
+use std::thread;
 use std::thread::Threads;
 
 /// A number of base 16 with a 1 for one general or piece, by its number.
@@ -55,9 +57,9 @@ type Late = (u8, u8, usize);
 /// No general waits.
 const NOBODY: Late = (16, 0, 0);
 
-/// Two gates. Of the pieces, so many are begun at once: a worker who begins one waits until the others of its party have
-/// begun theirs. A log is filed when all that were filed before it are begun, so no worker claims two of a party. One general
-/// waits before a round until so many pieces are begun.
+/// Two gates. Of the pieces, so many are begun at once: a worker who begins one waits until the others of its
+/// party have begun theirs. A log is filed when all that were filed before it are begun, so no worker claims
+/// two of a party. One general waits before a round until so many pieces are begun.
 #[derive(Drop)]
 struct Meeting {
     party: usize,
@@ -87,18 +89,22 @@ impl Meeting {
         }
     }
 
-    /// Waits until so many pieces are begun: for at most 1,000,000,000 looks, and not at all once somebody waited in vain.
+    /// Waits until so many pieces are begun: for at most 1,000,000,000 looks, and not at all once somebody
+    /// waited in vain. Others run in between.
     fn wait_for(&self, count: usize) {
-        for _ in 0..1_000_000_000u32 {
+        for look in 0..1_000_000_000u32 {
             if self.begun.load(Ordering::SeqCst) >= count || self.missed.load(Ordering::SeqCst) {
                 return;
+            }
+            if look % 256 == 255 {
+                thread::yield_now();
             }
         }
         self.missed.store(true, Ordering::SeqCst);
     }
 
-    /// Whether nobody waited in vain, each piece was begun as often as its digit says, each general's logs were shown as
-    /// often as its digit says, and the late general has waited if there is a run.
+    /// Whether nobody waited in vain, each piece was begun as often as its digit says, each general's logs
+    /// were shown as often as its digit says, and the late general has waited if there is a run.
     fn has_met(&self, pieces: u64, generals: u64) -> bool {
         !self.missed.load(Ordering::SeqCst)
             && self.pieces.load(Ordering::SeqCst) == pieces
@@ -192,11 +198,12 @@ fn judges_at_once<R: Threads + Wait + Sync>(
     Ok(is_agreed(&judgement) && gates.has_met(once, once))
 }
 
-/// A text, how many workers there are, how many of them wait for each other, which general waits, how many logs there
-/// are, and each of them once.
+/// A text, how many workers there are, how many of them wait for each other, which general waits, how many
+/// logs there are, and each of them once.
 type Case = (&'static [u8], usize, usize, Late, usize, u64);
 
-/// While a general waits before the last round, all but that general and its neighbours end, and these logs are begun.
+/// While a general waits before the last round, all but that general and its neighbours end, and these logs
+/// are begun.
 const CASES: [Case; 5] = [
     (LINE, 2, 2, (3, 3, 2), 4, FOUR_ONCE),
     (RING, 3, 3, (3, 5, 3), 6, SIX_ONCE),

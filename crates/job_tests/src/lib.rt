@@ -1,9 +1,10 @@
 //! This crate has the tests of `gen_jobs`, `gen_judge`, `gen_desk` and `gen_program` that rows can't say.
 //!
-//! `texts` has the texts, `made` what is made of them, `streams` a reader and a writer that slip, and `filing` logs at
-//! desks. `slips` has each job over readers and writers that slip, `ends` whole inputs and how jobs end, `words` what is
-//! said of words that ask for no job, `largest` the largest run by the machine, `judged_gates` workers who work at once,
-//! and `desk_ends`, `desk_faults`, `desk_turns` and `desk_waits` the desk.
+//! `texts` has the texts, `made` what is made of them, `streams` a reader and a writer that slip, and
+//! `filing` logs at desks. `slips` has each job over readers and writers that slip, `ends` whole inputs and
+//! how jobs end, `words` what is said of words that ask for no job, `largest` the largest run by the machine,
+//! `judged_gates` workers who work at once, and `desk_ends`, `desk_faults`, `desk_turns` and `desk_waits` the
+//! desk.
 #![tactic(auto)]
 
 #[cfg(test)]

@@ -40,8 +40,8 @@ fn ended<R: Threads + Wait + Sync>(
     (end, writer)
 }
 
-/// Whether a job ends where a read fails, and calls no writer then; and goes on where a read is interrupted, and writes
-/// the same.
+/// Whether a job ends where a read fails, and calls no writer then; and goes on where a read is interrupted,
+/// and writes the same.
 fn minds_read<R: Threads + Wait + Sync>(
     rt: &R,
     alloc: Global,
@@ -81,8 +81,8 @@ fn end_at_write<R: Threads + Wait + Sync>(
     }
 }
 
-/// Whether a job ends where a write fails. Before the last call, the flush, it also ends where a write takes nothing,
-/// and goes on where a write is interrupted.
+/// Whether a job ends where a write fails. Before the last call, the flush, it also ends where a write takes
+/// nothing, and goes on where a write is interrupted.
 fn minds_write<R: Threads + Wait + Sync>(
     rt: &R,
     alloc: Global,
@@ -107,7 +107,8 @@ fn minds_write<R: Threads + Wait + Sync>(
         && end_at_write(rt, alloc, job, input, (call, Slip::Interrupts), text) == goes_on
 }
 
-/// Whether a job of an input that ends so, with what its writer took, minds each slip, and flushes what it writes.
+/// Whether a job of an input that ends so, with what its writer took, minds each slip, and flushes what it
+/// writes.
 fn minds_each<R: Threads + Wait + Sync>(
     rt: &R,
     alloc: Global,
