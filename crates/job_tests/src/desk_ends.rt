@@ -77,10 +77,11 @@ fn goes_to_the_end<R: Wait>(
     if is_turned {
         claims.reverse();
     }
-    let told = receipts.len() == places
-        && reports_each(rt, alloc, &desk, &header_of(alloc, STAR)?, claims)?;
+    let header = header_of(alloc, STAR)?;
+    let told = reports_each(rt, alloc, &desk, &header, claims)?;
+    let are_all = receipts.len() == places;
     match desk.close(receipts) {
-        Ok(filed) => Ok(told && have_logs(filed.rows(), logs.as_slice())),
+        Ok(filed) => Ok(told && are_all && have_logs(filed.rows(), logs.as_slice())),
         Err(_strange) => Ok(false),
     }
 }

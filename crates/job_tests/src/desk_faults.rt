@@ -31,7 +31,8 @@ fn refused_by_strange_slip<R: Wait>(
     desk: &Desk,
     places: usize,
 ) -> Result<Option<(usize, u8, DeskFault)>, Fail> {
-    let log = logs_of(alloc, PAIR)?.pop().ok_or("no log")?;
+    let mut logs = logs_of(alloc, PAIR)?;
+    let log = logs.pop().ok_or("no log")?;
     let (_other, mut slips) = Desk::new(alloc, places)?;
     let back = match slips.pop() {
         Some(slip) => refused_log(rt, desk, slip, log),
