@@ -2,17 +2,17 @@
 //! be sealed.
 //!
 //! The gates count who comes, and who comes waits for others, so that one worker alone can't go on.
-ghost use Rattle.std.specs.Prelude.{IfOk};
+ghost use Rattle.std.specs.Prelude.{IfOk, ◌<◌};
 ghost use Rattle.gen_audit.specs.BundleParts.{AreListedWalks};
 
 use crate::made::{bundle_of, campaign_in, scenario_of, written};
-use crate::texts::{LINE, RING, STAR, TWO_RUNS};
-use gen_audit::{JobGate, Judgement, Verdict, WorkerCount, audit};
+use crate::texts::{LINE, PAIR, RING, STAR, TWO_RUNS};
+use gen_audit::{AuditFault, JobGate, Judgement, Verdict, WorkerCount, audit};
 use gen_campaign::audit_campaign;
 use gen_judge::run_and_audit;
 use gen_log::SealedLog;
 use gen_scenario::Scenario;
-use gen_threads::{Gate, run_threads};
+use gen_threads::{Gate, RunFault, run_threads};
 use gen_types::{GeneralNo, GeneralSet};
 use gen_walks::{Walks, make_walks};
 use std::alloc::Global;
@@ -162,20 +162,23 @@ fn count_of(workers: usize) -> Result<WorkerCount, Fail> {
     Ok(WorkerCount::new(workers).ok_or("no count")?)
 }
 
-/// The judgement on a run in which nobody is held for faulty, by so many workers, whom the gates see.
+/// The judgement on a run in which nobody is held for faulty, over edges of so much room, by so many workers,
+/// which the gates see; or why there is none.
 fn judged<R: Threads + Wait + Sync>(
     rt: &R,
     alloc: Global,
     scenario: &Scenario,
+    capacity: usize,
     workers: WorkerCount,
     gates: &Meeting,
-) -> Result<Judgement, Fail> {
+) -> Result<Result<Judgement, AuditFault>, Fail>
+    requires { 0 < capacity }
+{
     let walks = walks_of(alloc, scenario)?;
     let nobody = GeneralSet::new();
-    let judgement = run_and_audit(
-        rt, alloc, scenario, 1, &nobody, &walks, workers, gates, gates,
-    )?;
-    Ok(judgement)
+    Ok(run_and_audit(
+        rt, alloc, scenario, capacity, &nobody, &walks, workers, gates, gates,
+    ))
 }
 
 /// Whether all agree on order 1, and nobody is convicted.
@@ -194,8 +197,10 @@ fn judges_at_once<R: Threads + Wait + Sync>(
     once: u64,
 ) -> Result<bool, Fail> {
     let scenario = scenario_of(alloc, text)?;
-    let judgement = judged(rt, alloc, &scenario, count_of(workers)?, gates)?;
-    Ok(is_agreed(&judgement) && gates.has_met(once, once))
+    match judged(rt, alloc, &scenario, 1, count_of(workers)?, gates)? {
+        Ok(judgement) => Ok(is_agreed(&judgement) && gates.has_met(once, once)),
+        Err(_) => Ok(false),
+    }
 }
 
 /// A text, how many workers there are, how many of them wait for each other, which general waits, how many
@@ -294,5 +299,26 @@ fn each_general_shows_the_gate_its_logs(rt: HostRuntime) -> Result<(), Fail> {
         let logs = run_threads(&rt, rt.alloc(), &scenario, 1, &gate)?;
         assert!(rt; !logs.is_empty() && gate.has_met(0, once));
     }
+    Ok(())
+}
+
+/// More frames than memory can hold.
+const TOO_MUCH_ROOM: usize = 1_000_000_000_000_000;
+
+#[test]
+fn edges_of_too_much_room_want_memory(rt: HostRuntime) -> Result<(), Fail> {
+    let scenario = scenario_of(rt.alloc(), PAIR)?;
+    let gates = Meeting::new(0, 0, NOBODY);
+    let run = run_threads(&rt, rt.alloc(), &scenario, TOO_MUCH_ROOM, &gates);
+    assert!(rt; matches!(&run, Err(RunFault::Memory)));
+    let judgement = judged(
+        &rt,
+        rt.alloc(),
+        &scenario,
+        TOO_MUCH_ROOM,
+        count_of(3)?,
+        &gates,
+    )?;
+    assert!(rt; matches!(&judgement, Err(AuditFault::Memory)));
     Ok(())
 }
