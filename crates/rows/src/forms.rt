@@ -42,7 +42,7 @@ fn campaign_output<R: Threads + Wait + Sync>(
     })
 }
 
-/// Returns what the call of a job over bytes gives.
+/// Returns what the call of a job over bytes gives; that of `accuse` is by three workers.
 fn by_bytes<R: Threads + Wait + Sync>(
     rt: &R,
     alloc: Global,
@@ -58,7 +58,10 @@ fn by_bytes<R: Threads + Wait + Sync>(
         Job::Campaign { capacity } => campaign_output(rt, alloc, capacity, input),
         Job::Audit { workers } => audit(rt, alloc, workers, input),
         Job::Draw { workers } => draw(rt, alloc, workers, input),
-        Job::Accuse { general } => accuse(rt, alloc, WorkerCount::one(), general, input),
+        Job::Accuse { general } => {
+            let three = WorkerCount::new(3).unwrap_or(WorkerCount::one());
+            accuse(rt, alloc, three, general, input)
+        }
         Job::Evidence => evidence(alloc, input),
     }
 }
