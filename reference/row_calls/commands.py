@@ -2,9 +2,53 @@
 
 from __future__ import annotations
 
-from typing import Callable, Dict
+from typing import Callable, Dict, List
 
-from .reading import Row
+from model.command import OPTIONS, Asked, Refused, answer_words, asks_for_job, read_words
 
-# The reference's answer to each call.
-CALLS: Dict[str, Callable[[Row], str]] = {}
+from .reading import Row, output_text
+
+
+def refusal_of(refused: Refused) -> str:
+    """Which number of refused words is bad, or `words`."""
+    for option in ("capacity", "workers", "general"):
+        if str(refused).startswith(f"--{option} takes a number from"):
+            return f"refused {option}"
+    return "refused words"
+
+
+def asked_text(row: Row) -> str:
+    """The job that words ask for, or why they ask for none."""
+    words = row.word().split()
+    try:
+        job = read_words(words)
+    except Asked:
+        return "version" if words[0] == "--version" or words[0].startswith("-V") else "help"
+    except Refused as refused:
+        return refusal_of(refused)
+    told: List[str] = [job.command]
+    for option in OPTIONS[job.command]:
+        told += [option, str(job.numbers.get(option, 1))]
+    return " ".join(told)
+
+
+def command_text(row: Row) -> str:
+    """The status and the output of a command, or its fault.
+
+    Of several with ` | ` between them each reads what the one before wrote, and the answer is that of the last, or of the
+    first that fails.
+    """
+    said, given, status = row.word(), row.bytes(), 0
+    for words in said.split(" | "):
+        if not asks_for_job(words.split()):
+            return "2"
+        status, given, error = answer_words(words.split(), given)
+        if error:
+            return f"{status} {error.decode('ascii').rstrip()}"
+    return f"{status} {output_text(given)}"
+
+
+# The reference's answer to each call; the form in which a command is called changes none.
+CALLS: Dict[str, Callable[[Row], str]] = {
+    "words": asked_text, "command": command_text, "over_bytes": command_text, "in_place": command_text,
+}

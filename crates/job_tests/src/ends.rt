@@ -1,7 +1,6 @@
 //! Whole inputs, whole outputs, and how a job ends.
-use crate::deciding::LINE_DECISIONS;
-use crate::scenarios::LINE_WITHOUT_SEED;
-use crate::streams::{Slip, sink_for, source_of};
+use crate::streams::{Slip, Zeros, sink_for, source_of};
+use crate::texts::LINE_DECISIONS;
 use gen_audit::BundleFault;
 use gen_campaign::CampaignFault;
 use gen_convict::EvidenceFault;
@@ -11,18 +10,37 @@ use gen_report::{LineFault, ScenarioFault};
 use std::alloc::Global;
 use std::test::*;
 
-/// What is read of the line by pieces of three bytes, where this call fails.
-fn line_read(alloc: Global, call: u32) -> Result<Vec<u8>, JobFault> {
-    let mut reader = source_of(LINE_WITHOUT_SEED, 3, call, Slip::Fails);
-    read_all(alloc, &mut reader)
+/// How many bytes are read of a text of which each call gives so many, where this call fails; none where
+/// reading fails.
+fn count_read(alloc: Global, text: &[u8], step: usize, call: u32) -> Option<usize> {
+    let mut reader = source_of(text, step, call, Slip::Fails);
+    read_all(alloc, &mut reader).ok().map(|all| all.len())
 }
 
 #[test]
 fn reads_all(rt: HostRuntime) {
-    assert!(rt;
-        matches!(&line_read(rt.alloc(), 0), Ok(all) if all.as_slice() == LINE_WITHOUT_SEED)
+    let zeros = [0u8; 100_000];
+    assert!(rt; count_read(rt.alloc(), &zeros, 1, 0) == Some(100_000));
+    assert!(rt; count_read(rt.alloc(), &zeros, 3, 0) == Some(100_000));
+    assert!(rt; count_read(rt.alloc(), &zeros, 3, 2) == None);
+}
+
+/// The most bytes of an input.
+const MOST_BYTES: usize = 1_073_741_824;
+
+#[test]
+fn reads_the_longest_input(rt: HostRuntime) {
+    {
+        let longest = read_all(rt.alloc(), &mut Zeros { left: MOST_BYTES });
+        assert!(rt; matches!(&longest, Ok(all) if all.len() == MOST_BYTES));
+    }
+    let longer = read_all(
+        rt.alloc(),
+        &mut Zeros {
+            left: MOST_BYTES + 1,
+        },
     );
-    assert!(rt; matches!(&line_read(rt.alloc(), 2), Err(JobFault::Read)));
+    assert!(rt; matches!(&longer, Err(JobFault::Read)));
 }
 
 /// Whether an output that says no, or doesn't, is written twice, once by each call, with this end.
@@ -91,32 +109,18 @@ const CASES: [Case; 9] = [
     (JobFault::Write, 5, "write failed"),
 ];
 
-/// Whether a fault ends a job with its status, is the end's, and is shown in its line.
-fn is_shown(alloc: Global, case: &Case) -> Result<bool, Fail> {
-    let (fault, status, line) = *case;
-    let end = JobEnd::Failed(fault);
-    let shown = fault.to_string(alloc)?;
-    Ok(end.status() == status && end.fault() == Some(fault) && shown.as_str() == line)
-}
-
-/// The index of the first case that is not so.
-fn first_wrong(alloc: Global) -> Result<Option<usize>, Fail> {
-    for (index, case) in CASES.iter().enumerate() {
-        if !is_shown(alloc, case)? {
-            return Ok(Some(index));
-        }
+#[test]
+fn shows_ends(rt: HostRuntime) -> Result<(), Fail> {
+    for (fault, status, line) in CASES {
+        let end = JobEnd::Failed(fault);
+        assert!(rt;
+            end.status() == status && end.fault() == Some(fault),
+            "{line}"
+        );
+        let shown = fault.to_string(rt.alloc())?;
+        assert!(rt; shown.as_str() == line, "{line}");
     }
-    Ok(None)
-}
-
-#[test]
-fn shows_faults(rt: HostRuntime) -> Result<(), Fail> {
-    assert!(rt; first_wrong(rt.alloc())? == None);
-    Ok(())
-}
-
-#[test]
-fn shows_ends(rt: HostRuntime) {
     assert!(rt; JobEnd::Done.status() == 0 && JobEnd::Done.fault().is_none());
     assert!(rt; JobEnd::Negative.status() == 1 && JobEnd::Negative.fault().is_none());
+    Ok(())
 }

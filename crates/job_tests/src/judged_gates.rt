@@ -1,81 +1,147 @@
-//! That logs are audited while others are still to be sealed.
-ghost use Rattle.std.specs.Prelude.{IfOk};
+//! That workers work at once, each on pieces of its own, and that logs are audited while others are still to
+//! be sealed.
+//!
+//! The gates count who comes, and who comes waits for others, so that one worker alone can't go on.
+ghost use Rattle.std.specs.Prelude.{IfOk, ◌<◌};
 ghost use Rattle.gen_audit.specs.BundleParts.{AreListedWalks};
 
-use crate::bundles::scenario_of;
-use crate::scenarios::LINE;
-use gen_audit::{JobGate, Judgement, Verdict, WorkerCount};
+use crate::made::{bundle_of, campaign_in, scenario_of, written};
+use crate::texts::{LINE, PAIR, RING, STAR, TWO_RUNS};
+use gen_audit::{AuditFault, JobGate, Judgement, Verdict, WorkerCount, audit};
+use gen_campaign::audit_campaign;
 use gen_judge::run_and_audit;
+use gen_log::SealedLog;
 use gen_scenario::Scenario;
-use gen_threads::Gate;
+use gen_threads::{Gate, RunFault, run_threads};
 use gen_types::{GeneralNo, GeneralSet};
 use gen_walks::{Walks, make_walks};
 use std::alloc::Global;
 use std::sync::Wait;
-use std::sync::atomic::{AtomicBool, Ordering};
+use std::sync::atomic::{AtomicBool, AtomicU64, AtomicUsize, Ordering};
 use std::test::*;
+use std::thread;
 use std::thread::Threads;
 
-/// Loads a flag until it is set, at most 1,000,000,000 times, and returns whether it was.
-fn is_set_in_time(flag: &AtomicBool) -> bool {
-    for _ in 0..1_000_000_000 {
-        if flag.load(Ordering::SeqCst) {
-            return true;
-        }
-    }
-    false
-}
+/// A number of base 16 with a 1 for one general or piece, by its number.
+const DIGITS: [u64; 16] = [
+    0x1,
+    0x10,
+    0x100,
+    0x1000,
+    0x1_0000,
+    0x10_0000,
+    0x100_0000,
+    0x1000_0000,
+    0x1_0000_0000,
+    0x10_0000_0000,
+    0x100_0000_0000,
+    0x1000_0000_0000,
+    0x1_0000_0000_0000,
+    0x10_0000_0000_0000,
+    0x100_0000_0000_0000,
+    0x1000_0000_0000_0000,
+];
 
-/// Two gates of the line at which general 3, before round 3, and whoever begins place 0 wait for each other;
-/// whoever begins place 2 or 3 looks whether general 3 has waited.
+/// Each of 3, 4, 6 and 16 once.
+const THREE_ONCE: u64 = 0x111;
+
+const FOUR_ONCE: u64 = 0x1111;
+
+const SIX_ONCE: u64 = 0x11_1111;
+
+const ALL_ONCE: u64 = 0x1111_1111_1111_1111;
+
+/// Which general waits before which round until how many pieces are begun.
+type Late = (u8, u8, usize);
+
+/// No general waits.
+const NOBODY: Late = (16, 0, 0);
+
+/// Two gates. Of the pieces, so many are begun at once: a worker who begins one waits until the others of its
+/// party have begun theirs. A log is filed when all that were filed before it are begun, so no worker claims
+/// two of a party. One general waits before a round until so many pieces are begun.
 #[derive(Drop)]
 struct Meeting {
-    waits: AtomicBool,
-    begun: AtomicBool,
-    both: [AtomicBool; 2],
+    party: usize,
+    total: usize,
+    late: Late,
+    begun: AtomicUsize,
+    sealed: AtomicUsize,
+    pieces: AtomicU64,
+    generals: AtomicU64,
     waited: AtomicBool,
-    after: [AtomicBool; 2],
+    missed: AtomicBool,
 }
 
 impl Meeting {
-    /// The gates at which nobody was yet.
-    fn new() -> Meeting {
+    /// The gates at which nobody was yet, for so many pieces of which a party is begun at once.
+    fn new(party: usize, total: usize, late: Late) -> Meeting {
         Meeting {
-            waits: AtomicBool::new(false),
-            begun: AtomicBool::new(false),
-            both: [AtomicBool::new(false), AtomicBool::new(false)],
+            party,
+            total,
+            late,
+            begun: AtomicUsize::new(0),
+            sealed: AtomicUsize::new(0),
+            pieces: AtomicU64::new(0),
+            generals: AtomicU64::new(0),
             waited: AtomicBool::new(false),
-            after: [AtomicBool::new(false), AtomicBool::new(false)],
+            missed: AtomicBool::new(false),
         }
     }
 
-    /// Whether each saw the other, and places 2 and 3 were begun afterwards.
-    fn has_met(&self) -> bool {
-        let met = self.both[0].load(Ordering::SeqCst) && self.both[1].load(Ordering::SeqCst);
-        let after = self.after[0].load(Ordering::SeqCst) && self.after[1].load(Ordering::SeqCst);
-        met && after
+    /// Waits until so many pieces are begun: for at most 1,000,000,000 looks, and not at all once somebody
+    /// waited in vain. Others run in between.
+    fn wait_for(&self, count: usize) {
+        for look in 0..1_000_000_000u32 {
+            if self.begun.load(Ordering::SeqCst) >= count || self.missed.load(Ordering::SeqCst) {
+                return;
+            }
+            if look % 256 == 255 {
+                thread::yield_now();
+            }
+        }
+        self.missed.store(true, Ordering::SeqCst);
     }
+
+    /// Whether nobody waited in vain, each piece was begun as often as its digit says, each general's logs
+    /// were shown as often as its digit says, and the late general has waited if there is a run.
+    fn has_met(&self, pieces: u64, generals: u64) -> bool {
+        !self.missed.load(Ordering::SeqCst)
+            && self.pieces.load(Ordering::SeqCst) == pieces
+            && self.generals.load(Ordering::SeqCst) == generals
+            && self.waited.load(Ordering::SeqCst) == (generals > 0)
+    }
+}
+
+/// Adds the digit of a number to a count, and nothing where it has none.
+fn count_one(count: &AtomicU64, number: usize) {
+    let digit = DIGITS.get(number).copied().unwrap_or(0);
+    let _before = count.fetch_add(digit, Ordering::SeqCst);
 }
 
 impl Gate for Meeting {
     fn before_round(&self, general: GeneralNo, round: u8) {
-        if general.get() == 3 && round == 3 {
-            self.waits.store(true, Ordering::SeqCst);
-            self.both[0].store(is_set_in_time(&self.begun), Ordering::SeqCst);
+        let (late, before, count) = self.late;
+        if general.get() == late && round == before {
+            self.wait_for(count);
             self.waited.store(true, Ordering::SeqCst);
         }
+    }
+
+    fn sealed(&self, general: GeneralNo, _logs: &[SealedLog]) {
+        count_one(&self.generals, usize::from(general.get()));
+        let turn = self.sealed.fetch_add(1, Ordering::SeqCst);
+        self.wait_for(turn.min(self.total));
     }
 }
 
 impl JobGate for Meeting {
     fn begin(&self, piece: usize) {
-        if piece == 0 {
-            self.begun.store(true, Ordering::SeqCst);
-            self.both[1].store(is_set_in_time(&self.waits), Ordering::SeqCst);
-        }
-        if piece == 2 || piece == 3 {
-            let waited = self.waited.load(Ordering::SeqCst);
-            self.after[piece - 2].store(waited, Ordering::SeqCst);
+        count_one(&self.pieces, piece);
+        let turn = self.begun.fetch_add(1, Ordering::SeqCst);
+        if self.party > 0 {
+            let first = turn.saturating_sub(turn % self.party);
+            self.wait_for(first.saturating_add(self.party).min(self.total));
         }
     }
 }
@@ -91,27 +157,168 @@ fn walks_of(alloc: Global, scenario: &Scenario) -> Result<Walks, Fail>
     }
 }
 
-/// The judgement on a run in which nobody is held for faulty, by two workers, whom the gates see.
+/// So many workers, 1 to 16.
+fn count_of(workers: usize) -> Result<WorkerCount, Fail> {
+    Ok(WorkerCount::new(workers).ok_or("no count")?)
+}
+
+/// The judgement on a run in which nobody is held for faulty, over edges of so much room, by so many workers,
+/// which the gates see; or why there is none.
 fn judged<R: Threads + Wait + Sync>(
     rt: &R,
     alloc: Global,
     scenario: &Scenario,
+    capacity: usize,
+    workers: WorkerCount,
     gates: &Meeting,
-) -> Result<Judgement, Fail> {
+) -> Result<Result<Judgement, AuditFault>, Fail>
+    requires { 0 < capacity }
+{
     let walks = walks_of(alloc, scenario)?;
-    let Some(two) = WorkerCount::new(2) else {
-        return Err("no count".into());
-    };
     let nobody = GeneralSet::new();
-    let judgement = run_and_audit(rt, alloc, scenario, 1, &nobody, &walks, two, gates, gates)?;
-    Ok(judgement)
+    Ok(run_and_audit(
+        rt, alloc, scenario, capacity, &nobody, &walks, workers, gates, gates,
+    ))
+}
+
+/// Whether all agree on order 1, and nobody is convicted.
+fn is_agreed(judgement: &Judgement) -> bool {
+    let agrees = matches!(&judgement.verdict, Verdict::Agreed(order) if order.get() == 1);
+    agrees && judgement.convictions.is_empty()
+}
+
+/// Whether so many workers judge the run of a text while it goes on, each log once.
+fn judges_at_once<R: Threads + Wait + Sync>(
+    rt: &R,
+    alloc: Global,
+    text: &[u8],
+    workers: usize,
+    gates: &Meeting,
+    once: u64,
+) -> Result<bool, Fail> {
+    let scenario = scenario_of(alloc, text)?;
+    match judged(rt, alloc, &scenario, 1, count_of(workers)?, gates)? {
+        Ok(judgement) => Ok(is_agreed(&judgement) && gates.has_met(once, once)),
+        Err(_) => Ok(false),
+    }
+}
+
+/// A text, how many workers there are, how many of them wait for each other, which general waits, how many
+/// logs there are, and each of them once.
+type Case = (&'static [u8], usize, usize, Late, usize, u64);
+
+/// While a general waits before the last round, all but that general and its neighbours end, and these logs
+/// are begun.
+const CASES: [Case; 5] = [
+    (LINE, 2, 2, (3, 3, 2), 4, FOUR_ONCE),
+    (RING, 3, 3, (3, 5, 3), 6, SIX_ONCE),
+    (RING, 16, 6, (3, 5, 3), 6, SIX_ONCE),
+    (STAR, 3, 3, (15, 2, 14), 16, ALL_ONCE),
+    (STAR, 16, 16, (15, 2, 14), 16, ALL_ONCE),
+];
+
+#[test]
+fn runs_are_judged_while_they_go_on(rt: HostRuntime) -> Result<(), Fail> {
+    for (text, workers, party, late, logs, once) in CASES {
+        let gates = Meeting::new(party, logs, late);
+        let judged = judges_at_once(&rt, rt.alloc(), text, workers, &gates, once)?;
+        assert!(rt; judged, "{workers} workers, {party} at once");
+    }
+    Ok(())
+}
+
+/// Whether so many workers audit the bundle of a text's run at once, each log once.
+fn audits_at_once<R: Threads + Wait + Sync>(
+    rt: &R,
+    alloc: Global,
+    text: &[u8],
+    workers: usize,
+    gate: &Meeting,
+    once: u64,
+) -> Result<bool, Fail> {
+    let bundle = bundle_of(rt, alloc, text)?;
+    let judgement = audit(rt, alloc, &bundle, count_of(workers)?, gate)?;
+    Ok(is_agreed(&judgement) && gate.has_met(once, 0))
 }
 
 #[test]
-fn a_log_is_audited_before_the_last_is_sealed(rt: HostRuntime) -> Result<(), Fail> {
-    let gates = Meeting::new();
-    let judgement = judged(&rt, rt.alloc(), &scenario_of(rt.alloc(), LINE)?, &gates)?;
-    let agrees = matches!(&judgement.verdict, Verdict::Agreed(order) if order.get() == 1);
-    assert!(rt; gates.has_met() && agrees && judgement.convictions.is_empty());
+fn workers_audit_at_once(rt: HostRuntime) -> Result<(), Fail> {
+    let alloc = rt.alloc();
+    assert!(rt; audits_at_once(&rt, alloc, RING, 3, &Meeting::new(3, 6, NOBODY), SIX_ONCE)?);
+    assert!(rt; audits_at_once(&rt, alloc, RING, 16, &Meeting::new(6, 6, NOBODY), SIX_ONCE)?);
+    assert!(rt;
+        audits_at_once(
+            &rt,
+            alloc,
+            STAR,
+            16,
+            &Meeting::new(16, 16, NOBODY),
+            ALL_ONCE
+        )?
+    );
+    Ok(())
+}
+
+/// Whether so many workers audit what bytes show of a campaign at once, each log once.
+fn campaign_at_once<R: Threads + Wait + Sync>(
+    rt: &R,
+    alloc: Global,
+    bytes: &[u8],
+    workers: usize,
+    gate: &Meeting,
+    once: u64,
+) -> Result<bool, Fail> {
+    let campaign = campaign_in(alloc, bytes)?;
+    let verdict = audit_campaign(rt, alloc, &campaign, count_of(workers)?, gate)?;
+    Ok(
+        verdict
+            .judgements
+            .iter()
+            .all(|judgement| is_agreed(judgement))
+            && gate.has_met(once, 0),
+    )
+}
+
+#[test]
+fn workers_audit_a_campaign_at_once(rt: HostRuntime) -> Result<(), Fail> {
+    let alloc = rt.alloc();
+    let runs = written(&rt, alloc, &["sm_tool", "campaign"], TWO_RUNS)?;
+    let twice = 2 * THREE_ONCE;
+    assert!(rt; campaign_at_once(&rt, alloc, &runs, 3, &Meeting::new(3, 6, NOBODY), twice)?);
+    let star = written(&rt, alloc, &["sm_tool", "run"], STAR)?;
+    let gate = Meeting::new(16, 16, NOBODY);
+    assert!(rt; campaign_at_once(&rt, alloc, &star, 16, &gate, ALL_ONCE)?);
+    Ok(())
+}
+
+#[test]
+fn each_general_shows_the_gate_its_logs(rt: HostRuntime) -> Result<(), Fail> {
+    for (text, once) in [(RING, SIX_ONCE), (STAR, ALL_ONCE)] {
+        let gate = Meeting::new(0, 0, (0, 1, 0));
+        let scenario = scenario_of(rt.alloc(), text)?;
+        let logs = run_threads(&rt, rt.alloc(), &scenario, 1, &gate)?;
+        assert!(rt; !logs.is_empty() && gate.has_met(0, once));
+    }
+    Ok(())
+}
+
+/// More frames than memory can hold.
+const TOO_MUCH_ROOM: usize = 1_000_000_000_000_000;
+
+#[test]
+fn edges_of_too_much_room_want_memory(rt: HostRuntime) -> Result<(), Fail> {
+    let scenario = scenario_of(rt.alloc(), PAIR)?;
+    let gates = Meeting::new(0, 0, NOBODY);
+    let run = run_threads(&rt, rt.alloc(), &scenario, TOO_MUCH_ROOM, &gates);
+    assert!(rt; matches!(&run, Err(RunFault::Memory)));
+    let judgement = judged(
+        &rt,
+        rt.alloc(),
+        &scenario,
+        TOO_MUCH_ROOM,
+        count_of(3)?,
+        &gates,
+    )?;
+    assert!(rt; matches!(&judgement, Err(AuditFault::Memory)));
     Ok(())
 }

@@ -1,45 +1,35 @@
-//! This crate has the tests of `gen_jobs`, `gen_judge` and `gen_program`.
+//! This crate has the tests of `gen_jobs`, `gen_judge`, `gen_desk` and `gen_program` that rows can't say.
 //!
-//! `scenarios` has the texts, `streams` a reader and a writer that slip, and `bundles` makes bundles
-//! without the crate under test. `deciding`, `running`, `judging`, `campaigning`, `auditing`, `drawing`,
-//! `accusing` and `disputed` have the jobs, `over_bytes` the calls without reader and writer, `in_place`
-//! those without threads, `limits` the largest inputs, `ends` how jobs end, `words` the words that ask for
-//! jobs, and `workers` audits by several workers.
+//! `texts` has the texts, `made` what is made of them, `streams` a reader and a writer that slip, and
+//! `filing` logs at desks. `slips` has each job over readers and writers that slip, `ends` whole inputs and
+//! how jobs end, `words` what is said of words that ask for no job, `largest` the largest run by the machine,
+//! `judged_gates` workers who work at once, and `desk_ends`, `desk_faults`, `desk_turns` and `desk_waits` the
+//! desk.
 #![tactic(auto)]
 
 #[cfg(test)]
-mod accusing;
+mod desk_ends;
 #[cfg(test)]
-mod auditing;
+mod desk_faults;
 #[cfg(test)]
-mod bundles;
+mod desk_turns;
 #[cfg(test)]
-mod campaigning;
-#[cfg(test)]
-mod deciding;
-#[cfg(test)]
-mod disputed;
-#[cfg(test)]
-mod drawing;
+mod desk_waits;
 #[cfg(test)]
 mod ends;
 #[cfg(test)]
-mod in_place;
+mod filing;
 #[cfg(test)]
 mod judged_gates;
 #[cfg(test)]
-mod judging;
+mod largest;
 #[cfg(test)]
-mod limits;
+mod made;
 #[cfg(test)]
-mod over_bytes;
-#[cfg(test)]
-mod running;
-#[cfg(test)]
-mod scenarios;
+mod slips;
 #[cfg(test)]
 mod streams;
 #[cfg(test)]
-mod words;
+mod texts;
 #[cfg(test)]
-mod workers;
+mod words;

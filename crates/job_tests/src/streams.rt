@@ -59,16 +59,20 @@ impl<'a> Read for Source<'a> {
     }
 }
 
-/// Keeps what is written, a few bytes of each call.
+/// Keeps what is written, a few bytes of each call, and counts the calls.
 #[derive(Drop)]
 pub(crate) struct Sink {
     pub(crate) taken: Vec<u8>,
+    pub(crate) calls: u32,
+    pub(crate) flushed: bool,
     step: usize,
     turns: Turns,
 }
 
 impl Write for Sink {
     fn write(&mut self, buf: &[u8]) -> io::Result<usize> {
+        self.calls = self.calls.saturating_add(1);
+        self.flushed = false;
         match self.turns.next() {
             Some(Err(e)) => return Err(e),
             Some(Ok(_)) => return Ok(0),
@@ -80,6 +84,8 @@ impl Write for Sink {
     }
 
     fn flush(&mut self) -> io::Result<()> {
+        self.calls = self.calls.saturating_add(1);
+        self.flushed = true;
         match self.turns.next() {
             Some(Err(e)) => Err(e),
             _ => Ok(()),
@@ -90,7 +96,7 @@ impl Write for Sink {
 /// Gives so many zeros, without having them.
 #[derive(Drop)]
 pub(crate) struct Zeros {
-    left: usize,
+    pub(crate) left: usize,
 }
 
 impl Read for Zeros {
@@ -100,11 +106,6 @@ impl Read for Zeros {
         self.left -= count;
         Ok(count)
     }
-}
-
-/// A reader of so many zeros.
-pub(crate) fn zero_source(left: usize) -> Zeros {
-    Zeros { left }
 }
 
 /// A reader of these bytes, so many at each call, whose call of this number slips.
@@ -120,6 +121,8 @@ pub(crate) fn source_of(rest: &[u8], step: usize, left: u32, slip: Slip) -> Sour
 pub(crate) fn sink_for(alloc: Global, step: usize, left: u32, slip: Slip) -> Sink {
     Sink {
         taken: Vec::new(alloc),
+        calls: 0,
+        flushed: false,
         step,
         turns: Turns { left, slip },
     }

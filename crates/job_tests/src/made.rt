@@ -1,0 +1,69 @@
+//! What these tests are made of: jobs, scenarios, and what is read of bytes.
+ghost use Rattle.std.specs.Prelude.{IfOk};
+ghost use Rattle.gen_jobs.specs.Ranges.{IsInRange};
+
+use gen_audit::{Bundle, read_bundle};
+use gen_campaign::{CampaignBundle, read_campaign};
+use gen_jobs::{Job, JobEnd, do_job};
+use gen_program::read_words;
+use gen_report::{ScenarioText, read_scenario};
+use gen_scenario::Scenario;
+use std::alloc::Global;
+use std::sync::Wait;
+use std::test::Fail;
+use std::thread::Threads;
+
+/// The job that words ask for.
+pub(crate) fn job_of(alloc: Global, words: &[&str]) -> Result<Job, Fail>
+    ensures { IfOk result IsInRange }
+{
+    match read_words(alloc, words) {
+        Ok(job) => Ok(job),
+        Err(_) => Err("no job".into()),
+    }
+}
+
+/// What the job of these words writes of an input.
+pub(crate) fn written<R: Threads + Wait + Sync>(
+    rt: &R,
+    alloc: Global,
+    words: &[&str],
+    input: &[u8],
+) -> Result<Vec<u8>, Fail> {
+    let job = job_of(alloc, words)?;
+    let mut reader = input;
+    let mut text = Vec::new(alloc);
+    match do_job(rt, alloc, job, &mut reader, &mut text) {
+        JobEnd::Done => Ok(text),
+        _ => Err("not done".into()),
+    }
+}
+
+/// The scenario that a text with a seed tells.
+pub(crate) fn scenario_of(alloc: Global, text: &[u8]) -> Result<Scenario, Fail> {
+    match read_scenario(alloc, text) {
+        Ok(ScenarioText::Signed(plan)) => Ok(Scenario::of_plan(alloc, plan)?),
+        _ => Err("no scenario with signatures".into()),
+    }
+}
+
+/// The bundle of the run that a text tells.
+pub(crate) fn bundle_of<R: Threads + Wait + Sync>(
+    rt: &R,
+    alloc: Global,
+    text: &[u8],
+) -> Result<Bundle, Fail> {
+    let bytes = written(rt, alloc, &["sm_tool", "run"], text)?;
+    match read_bundle(alloc, &bytes) {
+        Ok(bundle) => Ok(bundle),
+        Err(_) => Err("no bundle".into()),
+    }
+}
+
+/// What bytes show of a campaign.
+pub(crate) fn campaign_in(alloc: Global, bytes: &[u8]) -> Result<CampaignBundle, Fail> {
+    match read_campaign(alloc, bytes) {
+        Ok(campaign) => Ok(campaign),
+        Err(_) => Err("no campaign".into()),
+    }
+}
