@@ -2,9 +2,11 @@
 """Asks the reference for the answer to each row (docs/ROWS.md).
 
     python3 reference/rows.py [FILE ..]
+    python3 reference/rows.py --stdout
 
 The files are those of crates/rows/stdin where none is named. A line names each row whose answer is another one than the
-reference's, but for those of wrong.rows, which are wrong. The last line is `N passed, M failed`.
+reference's, but for those of wrong.rows, which are wrong. The last line is `N passed, M failed`. With --stdout it prints what
+crates/rows has to write, which is the file crates/rows/stdout.
 """
 
 from __future__ import annotations
@@ -64,8 +66,21 @@ def files_named() -> List[str]:
         return file.read().split()
 
 
+def written() -> str:
+    """What crates/rows has to write: a line for each wrong row, and one for each file."""
+    lines = []
+    for name in files_named():
+        if name == WRONG:
+            lines += [f"{name}, line {number}: {found}, not {wanted}" for number, _, wanted, found in rows_of(name)]
+        lines.append(f"{name}: read to the end")
+    return "".join(f"{line}\n" for line in lines)
+
+
 def main() -> int:
     """Compare all rows, and tell how many answers are the reference's."""
+    if sys.argv[1:] == ["--stdout"]:
+        print(written(), end="")
+        return 0
     passed = failed = 0
     for name in sys.argv[1:] or files_named():
         for number, asked, wanted, found in rows_of(name):
