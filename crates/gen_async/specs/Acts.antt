@@ -1,4 +1,4 @@
--- The acts of a general: what he does on the queues of his edges, and in which order.
+-- The acts of a general: what it does on the queues of its edges, and in which order.
 use Rattle.std.specs.Prelude.{ℕ, ◌==◌, Bool, false, List, map, ◌++◌}
 use Rattle.std.specs.List.{flat_map, range_with_len}
 use Rattle.gen_net.specs.Network.{Network, rounds}
@@ -6,11 +6,11 @@ use Rattle.gen_scenario.specs.SignedWorld.{neighbours_of}
 use Rattle.gen_async.specs.declared.acts.Act.{Act}
 use Rattle.gen_async.specs.declared.acts.Act.TheVariants.{Puts, Takes}
 
--- In one round a general puts to each of his neighbours, then takes from each of them.
+-- In one round a general puts to each of its neighbours, then takes from each of them.
 abbrev pub acts_of_round : List ℕ → ℕ → List Act
 acts_of_round near l = map (Puts l) near ++ map (Takes l) near
 
--- the acts of so many rounds, from round l on
+-- the acts of `count` rounds, from round l on
 abbrev pub acts_of_rounds : List ℕ → ℕ → ℕ → List Act
 acts_of_rounds near l count = flat_map (acts_of_round near) (range_with_len l count)
 

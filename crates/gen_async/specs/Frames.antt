@@ -1,4 +1,4 @@
--- What lies on the queues and what the generals took, over any world of frames: world l a b is what a sends b
+-- What lies on the queues and what the generals took, for any world of frames: world l a b is what a sends b
 -- in round l.
 use Rattle.std.specs.Prelude.{ℕ, ◌≡◌, ◌+◌, ◌-◌, ◌≤◌, ◌==◌, ◌&&◌, List, [], ◌∷◌, ◌++◌, length, map, fold, Option, Some, None, nat_lt, slice_index, slice_set, if◌then◌else◌}
 use Rattle.std.specs.List.{flat_map, range_with_len}
@@ -9,13 +9,13 @@ use Rattle.gen_scenario.specs.SignedWorld.{neighbours_of}
 use Rattle.gen_async.specs.Machine.{at_start, moved_acts, next_act, taken, queued, after}
 use Rattle.gen_async.specs.Laws.{AreActs}
 
--- the queue from a to b: the frames of this edge in the world, from the number taken plus one to the number
--- put, in order
+-- the queue from a to b: the frames of this edge in the world, from the number taken plus one up to the
+-- number put, in order
 unfoldable pub queue : {F : Type 0} → Network → (ℕ → ℕ → ℕ → F) → List ℕ → ℕ → ℕ → List F
 queue net world progress a b =
     map (λ l. world l a b) (range_with_len (taken net progress a b + 1) (queued net progress a b))
 
--- a frame that a general took: in which round, from whom, and the frame
+-- a frame that a general took, with its round and its sender
 pub record Arrival (F : Type 0) : Type 0 where
   pub round : ℕ
   pub from : ℕ
@@ -32,34 +32,34 @@ taken_by world g (Takes l h ∷ acts) =
 unfoldable pub took : {F : Type 0} → Network → (ℕ → ℕ → ℕ → F) → List ℕ → ℕ → List (Arrival F)
 took net world progress g = taken_by world g (moved_acts net progress g)
 
--- what comes to g in so many rounds from round l on: the frames from his neighbours in ascending order, round
+-- what comes to g in `count` rounds from round l on: the frames from its neighbours in ascending order, round
 -- by round
 abbrev pub heard_in : {F : Type 0} → Network → (ℕ → ℕ → ℕ → F) → ℕ → ℕ → ℕ → List (Arrival F)
 heard_in net world g l count =
     flat_map (λ k. map (λ h. record { round = k; from = h; frame = world k h g }) (neighbours_of net g))
     (range_with_len l count)
 
--- The world is what these participants make: the frame of round l from g follows from what came to g in
+-- The world is what these participants make: the frame of round l from g follows from what came to g in the
 -- earlier rounds.
 abbrev pub IsMadeBy : {F : Type 0} → Network → (ℕ → List (Arrival F) → ℕ → ℕ → F) → (ℕ → ℕ → ℕ → F) → Type 0
 IsMadeBy net says world =
     (g l h : ℕ) → 1 ≤ l → l ≤ rounds net → AreNeighbours net g h
     → world l g h ≡ says g (heard_in net world g 1 (l - 1)) l h
 
--- The machine with its frames: progress, queues, and what each took.
+-- The machine with its frames: the progress of each general, the queues, and what each general took.
 pub record Running (F : Type 0) : Type 0 where
   pub progress : List ℕ
   pub queues : ℕ → ℕ → List F
   pub taken : ℕ → List (Arrival F)
 
--- the table f with x in one cell
+-- the table f with x in the cell of a and b, and the row f with x at a
 abbrev pub with_pair : {X : Type 0} → (ℕ → ℕ → X) → ℕ → ℕ → X → ℕ → ℕ → X
 with_pair f a b x c d = if c == a && d == b then x else f c d
 
 abbrev pub with_one : {X : Type 0} → (ℕ → X) → ℕ → X → ℕ → X
 with_one f a x c = if c == a then x else f c
 
--- a take of round l from h by g, off this queue
+-- the machine after g takes the front of this queue, the queue from h, in round l
 abbrev pub run_take : {F : Type 0} → Running F → ℕ → ℕ → ℕ → List F → Running F
 run_take s g l h [] = s
 run_take s g l h (frame ∷ rest) = record {
@@ -68,8 +68,8 @@ run_take s g l h (frame ∷ rest) = record {
   taken = with_one s.taken g (s.taken g ++ record { round = l; from = h; frame = frame } ∷ []);
 }
 
--- An attempt at this act: a put appends the frame that follows from what g took, where the queue isn't full;
--- a take removes the front, where there is one.
+-- An attempt at this act. A put appends the frame that follows from what g took, if the queue isn't full. A
+-- take removes the front of the queue, if there is one.
 abbrev pub run_act : {F : Type 0} → (ℕ → List (Arrival F) → ℕ → ℕ → F) → ℕ → Running F → ℕ → Option Act
     → Running F
 run_act says capacity s g None = s
@@ -90,13 +90,13 @@ run_step net says capacity s g = run_act says capacity s g (next_act net s.progr
 abbrev pub run_start : {F : Type 0} → Network → Running F
 run_start net = record { progress = at_start net; queues = λ a b. []; taken = λ g. [] }
 
--- what runs is the world's: every queue, and what each took
+-- every queue, and what each general took, is as the world says
 pub record IsOfWorld {F : Type 0} (net : Network) (world : ℕ → ℕ → ℕ → F) (s : Running F) : Type 0 where
   pub queues_same : (a b : ℕ) → s.queues a b ≡ queue net world s.progress a b
   pub taken_same : (g : ℕ) → s.taken g ≡ took net world s.progress g
 
--- Whatever the acts, in a world that the participants make they put the world's frames: the queue of an edge
--- holds them from the number taken plus one to the number put, in order.
+-- After any attempts at acts, in a world that the participants make, the frames that were put are the
+-- world's. The queue of an edge holds them from the number taken plus one up to the number put, in order.
 pub record RunsAsWorld {F : Type 0} (net : Network) (says : ℕ → List (Arrival F) → ℕ → ℕ → F)
     (world : ℕ → ℕ → ℕ → F) (capacity : ℕ) (acts : List ℕ) : Type 0 where
   pub progress : (fold (run_step net says capacity) (run_start net) acts).progress
@@ -109,7 +109,7 @@ RunLaw F =
     (acts : List ℕ)
     → IsNetwork net → IsMadeBy net says world → AreActs net acts → RunsAsWorld net says world capacity acts
 
--- What a general has taken before his put of round l is what comes to him in the rounds before.
+-- What a general has taken before its put of round l is what comes to it in the rounds before.
 abbrev pub HeardLaw : Type 0 → Type 0
 HeardLaw F =
     (net : Network) (world : ℕ → ℕ → ℕ → F) (progress : List ℕ) (g l h : ℕ) → IsNetwork net

@@ -1,4 +1,4 @@
--- The laws of the machine.
+-- Laws of the machine.
 use Rattle.std.specs.Prelude.{ℕ, ◌≡◌, ◌+◌, ◌*◌, ◌<◌, ◌≤◌, ◌↔◌, true, List, length, slice_index, sum, All, Option, Some, None, IfSome}
 use Rattle.gen_net.specs.Network.{Network, IsNetwork, rounds, AreNeighbours}
 use Rattle.gen_async.specs.declared.acts.Act.{Act}
@@ -6,28 +6,28 @@ use Rattle.gen_async.specs.declared.acts.Act.TheVariants.{Puts, Takes}
 use Rattle.gen_async.specs.Acts.{acts_of}
 use Rattle.gen_async.specs.Machine.{at_start, next_act, put, taken, answer, has_moved, after, moves_in, mover}
 
--- What holds of a machine at all times: each general has come some way along the list of his acts, at most to
--- its end, and no queue holds less than nothing or more than the capacity.
+-- What holds of a machine at all times. Each general has moved some of its acts, at most all of them. No more
+-- frames were taken off a queue than were put on it, and no queue holds more frames than its capacity.
 pub record IsMachine (net : Network) (capacity : ℕ) (progress : List ℕ) : Type 0 where
   pub generals : length progress ≡ net.generals
   pub within : (g : ℕ) → slice_index progress g ≤ length (acts_of net g)
   pub not_below : (a b : ℕ) → taken net progress a b ≤ put net progress a b
   pub fits : (a b : ℕ) → put net progress a b ≤ taken net progress a b + capacity
 
--- the acts are of generals of the network
+-- the attempts are of generals of the network
 abbrev pub AreActs : Network → List ℕ → Type 0
 AreActs net acts = All (λ g. g < net.generals) acts
 
--- after every list of acts, at every capacity
+-- this holds after every list of attempts, at every capacity
 abbrev pub QueueLaw : Type 0
 QueueLaw =
     (net : Network) (capacity : ℕ) (acts : List ℕ) → IsNetwork net → AreActs net acts
     → IsMachine net capacity (after net capacity (at_start net) acts)
 
--- Where g stands by his next act. Before his put of round l to h he has put l - 1 frames to h, taken all
--- frames of the rounds before and put to each neighbour l - 1 or l frames. Before his take of round l from h
--- he has put l frames to each neighbour, taken l - 1 from h and l - 1 or l from each neighbour. Without a
--- next act he has put and taken R.
+-- The progress of g, by its next act. Before its put of round l to h it has put l - 1 frames to h, taken all
+-- frames of the rounds before, and put l - 1 or l frames to each neighbour. Before its take of round l from h
+-- it has put l frames to each neighbour, taken l - 1 frames from h, and taken l - 1 or l frames from each
+-- neighbour. If it has no next act, it has put R frames to each neighbour and taken R frames from each.
 pub record IsAtPut (net : Network) (progress : List ℕ) (g l h : ℕ) : Type 0 where
   pub joined : AreNeighbours net g h
   pub first : 1 ≤ l
@@ -60,11 +60,12 @@ ProgressLaw =
     (net : Network) (progress : List ℕ) (g : ℕ) → IsNetwork net
     → IsAt net progress g (next_act net progress g)
 
--- nobody has an act left
+-- no general has an act left
 abbrev pub AllDone : Network → List ℕ → Type 0
 AllDone net progress = (g : ℕ) → g < net.generals → next_act net progress g ≡ None
 
--- Whom mover names is a general whose next act moves, and it names nobody only where all are done.
+-- The general that `mover` names is one whose next act moves. It names none if and only if all generals are
+-- done.
 pub record MoverNames (net : Network) (capacity : ℕ) (progress : List ℕ) (named : Option ℕ) : Type 0 where
   pub moves : IfSome named (λ g. (g < net.generals) × (has_moved (answer net capacity progress g) ≡ true))
   pub done : (named ≡ None) ↔ AllDone net progress
@@ -75,8 +76,8 @@ MoverLaw =
     → IsMachine net capacity progress
     → MoverNames net capacity progress (mover net capacity progress)
 
--- as many acts have moved as the progress of all adds up to, at most four times R for each edge, and just so
--- many once all are done
+-- the number of acts that have moved is the sum of the progress of all generals; it is at most four times R
+-- for each edge, and exactly that once all are done
 pub record CountsMoves (net : Network) (capacity : ℕ) (acts progress : List ℕ) : Type 0 where
   pub counted : moves_in net capacity (at_start net) acts ≡ sum progress
   pub at_most : sum progress ≤ 4 * length net.edges * rounds net

@@ -1,4 +1,4 @@
--- The machine: its state is one number for each general, his progress: how many of his acts have moved.
+-- The machine. Its state is one number for each general, its progress: how many of its acts have moved.
 use Rattle.std.specs.Prelude.{ℕ, ◌+◌, ◌-◌, Bool, true, false, cond, List, [], ◌∷◌, take, replicate, fold, count_by, find, Option, Some, None, nat_lt, slice_get, slice_index, slice_set, if◌then◌else◌}
 use Rattle.std.specs.List.{range_with_len}
 use Rattle.gen_net.specs.Network.{Network}
@@ -8,11 +8,11 @@ use Rattle.gen_async.specs.declared.acts.Moved.{Moved}
 use Rattle.gen_async.specs.declared.acts.Moved.TheVariants.{Put, Took, Blocked, Done}
 use Rattle.gen_async.specs.Acts.{acts_of, is_put_to, is_take_from}
 
--- nobody has moved
+-- no act has moved
 abbrev pub at_start : Network → List ℕ
 at_start net = replicate net.generals 0
 
--- the acts of g that have moved, and his next act
+-- the acts of g that have moved, and the next act of g
 unfoldable pub moved_acts : Network → List ℕ → ℕ → List Act
 moved_acts net progress g = take (slice_index progress g) (acts_of net g)
 
@@ -30,8 +30,8 @@ taken net progress a b = count_by (is_take_from a) (moved_acts net progress b)
 abbrev pub queued : Network → List ℕ → ℕ → ℕ → ℕ
 queued net progress a b = put net progress a b - taken net progress a b
 
--- What becomes of an attempt of g at this act: a put moves where the queue isn't full, a take where it isn't
--- empty.
+-- The answer to an attempt of g at this act: a put moves if the queue isn't full, a take moves if the queue
+-- isn't empty.
 abbrev pub answer_to : Network → ℕ → List ℕ → ℕ → Option Act → Moved
 answer_to net capacity progress g None = Done
 answer_to net capacity progress g (Some (Puts l h)) =
@@ -48,17 +48,17 @@ has_moved Took = true
 has_moved Blocked = false
 has_moved Done = false
 
--- one attempt of g at his next act
+-- the progress after one attempt of g at its next act
 unfoldable pub step : Network → ℕ → List ℕ → ℕ → List ℕ
 step net capacity progress g =
     if has_moved (answer net capacity progress g) then slice_set progress g (slice_index progress g + 1)
     else progress
 
--- the attempts of these generals, one after the other
+-- the progress after the attempts of these generals, one after another
 abbrev pub after : Network → ℕ → List ℕ → List ℕ → List ℕ
 after net capacity progress generals = fold (step net capacity) progress generals
 
--- how many of these attempts move
+-- the number of these attempts that move
 abbrev pub moves_in : Network → ℕ → List ℕ → List ℕ → ℕ
 moves_in net capacity progress [] = 0
 moves_in net capacity progress (g ∷ more) =

@@ -1,4 +1,4 @@
--- Two rows, by the definitions alone.
+-- Examples: two rows of attempts and their answers, which follow from the definitions alone.
 use Rattle.std.specs.Prelude.{ℕ, ◌≡◌, List, [], ◌∷◌, None}
 use Rattle.gen_types.specs.declared.choices.ChoiceKind.TheVariants.{Only}
 use Rattle.gen_net.specs.Network.{Network}
@@ -6,7 +6,7 @@ use Rattle.gen_async.specs.declared.acts.Moved.{Moved}
 use Rattle.gen_async.specs.declared.acts.Moved.TheVariants.{Put, Took, Blocked, Done}
 use Rattle.gen_async.specs.Machine.{at_start, answer, step, after, mover}
 
--- what the attempts of these generals answer, one after the other
+-- the answers to the attempts of these generals, one after another
 abbrev pub answers : Network → ℕ → List ℕ → List ℕ → List Moved
 answers net capacity progress [] = []
 answers net capacity progress (g ∷ more) =

@@ -1,4 +1,4 @@
--- What the machine's fields keep, and what an attempt answers.
+-- What holds of the machine's fields, and what an attempt answers.
 use Rattle.std.specs.Prelude.{ℕ, ◌≡◌, ◌<◌, ◌+◌, ◌*◌, List, [], length, map, take, slice_index, slice_index_or, slice_set, None}
 use Rattle.gen_log.specs.Writing.{LogBytes}
 use Rattle.gen_scenario.specs.WorldLogs.{log_bytes}
@@ -17,7 +17,7 @@ pub record Machine : Type 0 where
   pub capacity : ℕ
   pub progress : List ℕ
 
--- ---- its fields
+-- ---- the fields of a machine
 
 abbrev pub progress_of : List ActorState → List ℕ
 progress_of actors = map (λ a. a.progress) actors
@@ -30,7 +30,8 @@ queue_at rows a b = slice_index_or rows (a * 16 + b) []
 abbrev pub with_queue : {F : Type 0} → List (List F) → ℕ → ℕ → List F → List (List F)
 with_queue rows a b held = slice_set rows (a * 16 + b) held
 
--- the generals are the scenario's, in order, and the queues are what the progress of all says
+-- the generals are those of the scenario, in ascending order, and the queues are what the progress of all
+-- generals says
 pub record IsKept (s : Scenario) (capacity : ℕ) (progress : List ℕ) (actors : List ActorState)
     (rows : List (List (List (List ℕ)))) : Type 0 where
   pub lawful : IsScenario s
@@ -44,20 +45,20 @@ pub record IsKept (s : Scenario) (capacity : ℕ) (progress : List ℕ) (actors 
 
 -- ---- attempts
 
--- the attempt of g answers and changes what the definitions say
+-- the attempt of g gives the answer and the change that the definitions say
 pub record Answers (before : Machine) (g : ℕ) (moved : Moved) (later : Machine) : Type 0 where
   pub said : moved ≡ answer before.scenario.net before.capacity before.progress g
   pub progress : later.progress ≡ step before.scenario.net before.capacity before.progress g
   pub scenario : later.scenario ≡ before.scenario
   pub capacity : later.capacity ≡ before.capacity
 
--- these attempts, one after the other
+-- the machine after these attempts, one after another
 pub record RunsTo (before : Machine) (acts : List ℕ) (later : Machine) : Type 0 where
   pub progress : later.progress ≡ after before.scenario.net before.capacity before.progress acts
   pub scenario : later.scenario ≡ before.scenario
   pub capacity : later.capacity ≡ before.capacity
 
--- some of these attempts, from the first on
+-- the machine after the first few of these attempts, but not all
 pub record RunsPartly (before : Machine) (acts : List ℕ) (later : Machine) : Type 0 where
   pub count : ℕ
   pub within : count < length acts
@@ -65,7 +66,7 @@ pub record RunsPartly (before : Machine) (acts : List ℕ) (later : Machine) : T
 
 -- ---- the end
 
--- none of them has an act left
+-- none of these generals has an act left
 abbrev pub AreDone : List ActorState → Type 0
 AreDone actors = (i : ℕ) (d : ActorState) → i < length actors → act_at (slice_index_or actors i d) ≡ None
 

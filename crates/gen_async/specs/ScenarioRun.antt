@@ -1,4 +1,4 @@
--- The machine of a scenario: whatever the order of acts, its generals put the frames of the scenario's run
+-- The machine of a scenario. Whatever the order of acts, its generals put the frames of the scenario's run
 -- and write its logs.
 use Rattle.std.specs.Prelude.{ℕ, ◌≡◌, ◌-◌, ◌≤◌, List, [], ◌∷◌, ◌++◌, map, length, slice_index}
 use Rattle.std.specs.List.{flat_map}
@@ -21,17 +21,17 @@ use Rattle.gen_async.specs.Logs.{log_so_far, whole_log}
 
 -- ---- frames
 
--- what counts of a frame that came to a general
+-- the chains that count of a frame that came to a general
 abbrev pub heard_of_arrival : Scenario → ℕ → Arrival (List (List ℕ)) → List Heard
 heard_of_arrival s g a =
     map (λ c. record { from = a.from; chain = c })
     (counted_of (header_of s) (delivery a.round a.from g) a.frame)
 
--- the frame that a general of the scenario puts, by what came to him
+-- the frame that a general of the scenario puts, by the frames that came to it
 abbrev pub puts_by : Scenario → ℕ → List (Arrival (List (List ℕ))) → ℕ → ℕ → List (List ℕ)
 puts_by s g arrivals round to = frame_of (sender_of s g) (flat_map (heard_of_arrival s g) arrivals) round to
 
--- whatever the acts, the queues hold the frames of the scenario's run
+-- whatever the attempts, the queues hold the frames of the scenario's run
 abbrev pub PutsFrames : Type 0
 PutsFrames =
     (s : Scenario) (capacity : ℕ) (acts : List ℕ) → IsScenario s → AreActs s.net acts
@@ -47,12 +47,13 @@ written_by s g (Acts (Puts round to)) = send_entries (sender_of s g) (heard_by s
 written_by s g (Acts (Takes round from)) = recv_entries (sender_of s g) round from (counted_at s round from g)
 written_by s g Decides = decide_entry s.net (own_order s g) (middle_of s g) ∷ []
 
--- by all his steps he writes the entries of his log in the scenario's run
+-- by all its steps a general writes the entries of its first log in the scenario's run
 abbrev pub WritesLog : Type 0
 WritesLog =
     (s : Scenario) (g : ℕ) → whole_log s.net (written_by s) g ≡ entries_over (sender_of s g) (middle_of s g)
 
--- however far all have come, what he has written begins them, and is all of them once he is done
+-- whatever the progress of all generals, what a general has written begins these entries, and is all of them
+-- once the general is done
 pub record BeginsLog (s : Scenario) (progress : List ℕ) (g : ℕ) : Type 0 where
   pub rest : List Entry
   pub begins : entries_over (sender_of s g) (middle_of s g) ≡ log_so_far s.net (written_by s) progress g

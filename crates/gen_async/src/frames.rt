@@ -26,7 +26,7 @@ impl Frame {
         Frame { parcels }
     }
 
-    /// Returns its parcels.
+    /// Returns the parcels of the frame.
     pub(crate) fn parcels(&self) -> &[Parcel]
         ensures { result.now ≡ self.now }
     {

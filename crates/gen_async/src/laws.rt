@@ -5,48 +5,52 @@ ghost use Rattle.gen_async.specs.Frames.{HeardLaw, RunLaw};
 ghost use Rattle.gen_async.specs.ScenarioRun.{BeginsLogs, PutsFrames, WritesLog};
 ghost use Rattle.gen_async.specs.Laws.{CountLaw, MoverLaw, ProgressLaw, QueueLaw};
 
-/// Where a general stands by his next act.
+/// States what a general has put and taken so far, by its next act.
 pub fn progress()
     ensures { ProgressLaw }
 {}
 
-/// No queue holds less than nothing or more than the capacity.
+/// States that no more frames are taken off a queue than were put on it, and that no queue holds more frames
+/// than its capacity.
 pub fn queues()
     ensures { QueueLaw }
 {}
 
-/// While not all are done some general's next act moves.
+/// States that the next act of some general moves until all generals are done, if the capacity is at least 1.
 pub fn movers()
     ensures { MoverLaw }
 {}
 
-/// As many acts have moved as the progress of all adds up to, and never more than four for each edge and
-/// round.
+/// States that the number of acts that have moved is the sum of the progress of all generals, and at most
+/// four for each edge and round.
 pub fn counts()
     ensures { CountLaw }
 {}
 
-/// What a general has taken before his put of a round is what comes to him in the rounds before.
+/// States that what a general has taken before its put of a round is what comes to it in the rounds before.
 pub fn heard<F>()
     ensures { HeardLaw F }
 {}
 
-/// Whatever the acts, in a world that the participants make they put the world's frames.
+/// States that, in a world that the participants make, the frames that are put are the world's, whatever the
+/// order of acts.
 pub fn runs<F>()
     ensures { RunLaw F }
 {}
 
-/// The log so far begins the whole log, and is all of it where all acts have moved.
+/// States that the log so far begins the whole log, and is all of it if all acts have moved.
 pub fn logs<E>()
     ensures { LogLaw E }
 {}
 
-/// Which steps stand in the log so far.
+/// States which steps stand in the log so far.
 pub fn standing()
     ensures { StandLaw }
 {}
 
-/// Two rows, by the definitions alone.
+/// States the answers to two rows of attempts, which follow from the definitions alone. One is for two
+/// generals (`pair`), and none of them can act afterwards (`ends`). The other is for three generals, at a
+/// capacity of 1 (`triangle`) and of 2 (`roomy`).
 pub fn rows()
     ensures pair { PairRow }
     ensures ends { PairEnds }
@@ -54,9 +58,9 @@ pub fn rows()
     ensures roomy { TriangleTwo }
 {}
 
-/// Whatever the order of acts and the capacity, the queues hold the frames of the scenario's run (`frames`).
-/// By all his steps a general writes the entries of his first log in that run (`writes`), what he has written
-/// so far begins them and is all of them once he is done (`begins`).
+/// States that, whatever the order of acts and the capacity, the queues hold the frames of the scenario's run
+/// (`frames`). By all its steps a general writes the entries of its first log in that run (`writes`). What it
+/// has written so far begins them, and is all of them once it is done (`begins`).
 pub fn scenario_runs()
     ensures frames { PutsFrames }
     ensures writes { WritesLog }

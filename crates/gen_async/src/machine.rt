@@ -27,9 +27,9 @@ use std::alloc::{AllocError, Global};
 use std::collections::VecDeque;
 use std::marker::Model;
 
-/// The generals of a scenario, who put frames on queues and take them off, one act at a time, in any order.
+/// The generals of a scenario, which put frames on queues and take them off, one act at a time, in any order.
 ///
-/// A contract sees the scenario, the capacity of each queue and how many acts of each general have moved:
+/// A contract sees the scenario, the capacity of each queue, and how many acts of each general have moved:
 /// what the queues hold and what has been written follows from these. Generals may hold rings, so a machine
 /// has to be ended by `finish` or `close`.
 pub struct Machine {
@@ -55,14 +55,15 @@ impl Model for Machine {
         (map (λ queue. queue.items) m.queues.items) };
 }
 
-/// Returns where a general stands in the list of generals.
+/// Returns the index of a general in the list of generals.
 fn index_of(general: GeneralNo) -> usize
     ensures { result ≡ general }
 {
     usize::from(general.get())
 }
 
-/// Returns where the queue from one general to another stands.
+/// Returns the index of the queue from one general to another in the list of queues, which has 16 for each
+/// sender.
 fn spot(from: GeneralNo, to: GeneralNo) -> usize
     ensures value { result ≡ from * 16 + to }
     ensures below { result < 256 }
@@ -70,7 +71,7 @@ fn spot(from: GeneralNo, to: GeneralNo) -> usize
     index_of(from) * 16 + index_of(to)
 }
 
-/// Makes all queues, empty.
+/// Makes all 256 queues, empty.
 fn empty_queues(alloc: Global) -> Result<Vec<VecDeque<Frame>>, AllocError>
     ensures { IfOk result (λ queues. map (λ queue. queue.items) queues.items ≡ replicate 256 []) }
 {
@@ -96,7 +97,7 @@ fn add_actors(alloc: Global, scenario: &Scenario, actors: &mut Vec<Actor>) -> Re
     Ok(())
 }
 
-/// Ends all, and closes their rings.
+/// Ends all generals, and closes their rings.
 fn close_all(mut actors: Vec<Actor>) {
     while let Some(actor) = actors.pop() {
         actor.close();
@@ -104,7 +105,8 @@ fn close_all(mut actors: Vec<Actor>) {
     actors.destroy_empty();
 }
 
-/// All end one after another, and these are their logs. Where memory is refused the others are left.
+/// Ends all generals one after another, and returns their logs. If memory is refused, the generals that have
+/// not ended stay in the list.
 fn finish_all(alloc: Global, actors: &mut Vec<Actor>) -> Result<Vec<SealedLog>, AllocError>
     requires { AreDone actors.old.items }
     ensures { IfOk result (λ logs. logs.items ≡ flat_map logs_at actors.old.items) }
@@ -122,7 +124,7 @@ impl Machine {
     ///
     /// # Errors
     ///
-    /// `AllocError` where memory is refused.
+    /// `AllocError` if memory is refused.
     pub fn new(alloc: Global, scenario: &Scenario, capacity: usize) -> Result<Machine, AllocError>
         ensures { IfOk result (λ machine. machine
             ≡ record { scenario = scenario.now; capacity = capacity; progress = at_start scenario.now.net }) }
@@ -143,7 +145,7 @@ impl Machine {
         })
     }
 
-    /// An attempt of a general at a put, which is his next act.
+    /// Makes an attempt of a general at its next act, which must be a put to this neighbour.
     fn put(&mut self, alloc: Global, me: GeneralNo, to: GeneralNo) -> Result<Moved, AllocError>
         requires next { (l : ℕ) × (next_act self.old.scenario.net self.old.progress me ≡ Some (Puts l to)) }
         requires below { me < self.old.scenario.net.generals }
@@ -160,7 +162,7 @@ impl Machine {
         Ok(Moved::Put)
     }
 
-    /// An attempt of a general at a take, which is his next act.
+    /// Makes an attempt of a general at its next act, which must be a take from this neighbour.
     fn take(&mut self, alloc: Global, me: GeneralNo, from: GeneralNo) -> Result<Moved, AllocError>
         requires next { (l : ℕ) × (next_act self.old.scenario.net self.old.progress me ≡ Some (Takes l from)) }
         requires below { me < self.old.scenario.net.generals }
@@ -176,12 +178,12 @@ impl Machine {
         Ok(Moved::Took)
     }
 
-    /// One attempt of a general at his next act, and what became of it.
+    /// Makes one attempt of a general at its next act, and returns the answer to it.
     ///
     /// # Errors
     ///
-    /// `AllocError` where memory is refused: then nothing has changed, and the next attempt gives what this
-    /// one would have given.
+    /// `AllocError` if memory is refused: then nothing has changed, and the next attempt gives what this one
+    /// would have given.
     pub fn act(&mut self, alloc: Global, me: GeneralNo) -> Result<Moved, AllocError>
         requires below { me < self.old.scenario.net.generals }
         ensures ok { IfOk result (λ moved. Answers self.old me moved self.new) }
@@ -196,11 +198,11 @@ impl Machine {
         }
     }
 
-    /// The attempts of these generals, one after the other.
+    /// Makes the attempts of these generals, one after another.
     ///
     /// # Errors
     ///
-    /// `AllocError` where memory is refused: then the attempts before that one have been made.
+    /// `AllocError` if memory is refused: then the attempts before that one have been made.
     pub fn run_acts(&mut self, alloc: Global, acts: &[GeneralNo]) -> Result<(), AllocError>
         requires below { AreActs self.old.scenario.net acts.now }
         ensures ok { OnOk result (RunsTo self.old acts.now self.new) }
@@ -214,7 +216,7 @@ impl Machine {
         Ok(())
     }
 
-    /// Returns whether the next act of a general would move.
+    /// Whether the next act of a general would move.
     fn would_move(&self, me: GeneralNo) -> bool
         requires below { me < self.now.scenario.net.generals }
         ensures { result ≡ has_moved (answer self.now.scenario.net self.now.capacity self.now.progress me) }
@@ -228,8 +230,8 @@ impl Machine {
         }
     }
 
-    /// Returns the first general whose next act would move. There is one until all are done, unless the
-    /// capacity is 0.
+    /// Returns the first general whose next act would move. There is one until all generals are done, unless
+    /// the capacity is 0.
     pub fn mover(&self) -> Option<GeneralNo>
         ensures first { result ≡ mover self.now.scenario.net self.now.capacity self.now.progress }
         ensures names { 1 ≤ self.now.capacity
@@ -244,27 +246,28 @@ impl Machine {
         None
     }
 
-    /// Returns how many generals there are.
+    /// Returns the number of generals.
     pub fn generals(&self) -> u8
         ensures { result ≡ self.now.scenario.net.generals }
     {
         self.actors.len() as u8
     }
 
-    /// Returns how many frames a queue may hold.
+    /// Returns the number of frames that a queue may hold.
     pub fn capacity(&self) -> usize
         ensures { result ≡ self.now.capacity }
     {
         self.capacity
     }
 
-    /// Returns the log of a general so far: the bytes of the entries that he has written by the acts that have
-    /// moved, START first, and behind them DECIDE, which stands once all his acts have moved: from the start for
-    /// a general without neighbours. No memory is asked for. DECIDE is read off the bytes, which takes a walk
-    /// over them.
+    /// Returns the log of a general so far: the bytes of the entries that it has written by the acts that
+    /// have moved, START first, and the DECIDE entry behind them. DECIDE is there once all acts of the
+    /// general have moved, which holds from the start for a general without neighbours. No memory is asked
+    /// for. DECIDE is found by reading through the bytes.
     ///
-    /// The bytes of both are the entries of the steps that stand (`value`). They begin those of his first log in
-    /// the run (`begins`), and are all of them once he has no act left (`whole`).
+    /// The bytes of both are those of the entries of the steps that stand (`value`). They begin those of the
+    /// general's first log in the run (`begins`), and are all of them once the general has no act left
+    /// (`whole`).
     pub fn log_so_far(&self, me: GeneralNo) -> (&[u8], Option<Entry>)
         requires below { me < self.now.scenario.net.generals }
         ensures value { with_last result.0.now result.1 ≡ flat_map entry_spelling
@@ -281,7 +284,7 @@ impl Machine {
         (written, last)
     }
 
-    /// Returns how many frames wait on the queue from one general to another.
+    /// Returns the number of frames that wait on the queue from one general to another.
     pub fn queued(&self, from: GeneralNo, to: GeneralNo) -> usize
         ensures { result ≡ queued self.now.scenario.net self.now.progress from to }
     {
@@ -289,8 +292,8 @@ impl Machine {
     }
 
     /// Returns the parcels of a frame that waits on the queue from one general to another, where the front
-    /// has index 0; none where fewer frames wait. The frames are those of the scenario's run, from the number
-    /// taken plus one to the number put, in order.
+    /// has index 0, or none if fewer frames wait. The frames are those of the scenario's run, from the number
+    /// taken plus one up to the number put, in order.
     pub fn frame_queued(&self, from: GeneralNo, to: GeneralNo, index: usize) -> Option<&[Parcel]>
         ensures { option_map (λ parcels. parcels.now) result
             ≡ slice_get (queue self.now.scenario.net (frame_at self.now.scenario) self.now.progress from to)
@@ -302,12 +305,13 @@ impl Machine {
         }
     }
 
-    /// Ends a machine in which nobody has an act left, and returns the logs of the run: those of all
-    /// generals, in their order, a second log behind the first. All rings are closed, whatever comes.
+    /// Ends a machine in which no general has an act left, and returns the logs of the run: those of all
+    /// generals, in ascending order of generals, a second log behind the first. All rings are closed, also if
+    /// memory is refused.
     ///
     /// # Errors
     ///
-    /// `AllocError` where memory is refused.
+    /// `AllocError` if memory is refused.
     pub fn finish(self, alloc: Global) -> Result<Vec<SealedLog>, AllocError>
         requires done { AllDone self.scenario.net self.progress }
         ensures { IfOk result (λ logs. logs.items ≡ logs_of_all self.scenario) }

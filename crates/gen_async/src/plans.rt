@@ -23,7 +23,7 @@ fn neighbours(alloc: Global, net: &Net, me: GeneralNo) -> Result<Vec<GeneralNo>,
     Ok(near)
 }
 
-/// Appends a put to each neighbour.
+/// Appends a put to each of these neighbours.
 fn push_puts(acts: &mut Vec<Act>, near: &[GeneralNo], round: u8) -> Result<(), AllocError>
     ensures { OnOk result (acts.new.items ≡ acts.old.items ++ map (Puts round) near.now) }
 {
@@ -33,7 +33,7 @@ fn push_puts(acts: &mut Vec<Act>, near: &[GeneralNo], round: u8) -> Result<(), A
     Ok(())
 }
 
-/// Appends a take from each neighbour.
+/// Appends a take from each of these neighbours.
 fn push_takes(acts: &mut Vec<Act>, near: &[GeneralNo], round: u8) -> Result<(), AllocError>
     ensures { OnOk result (acts.new.items ≡ acts.old.items ++ map (Takes round) near.now) }
 {
@@ -43,7 +43,7 @@ fn push_takes(acts: &mut Vec<Act>, near: &[GeneralNo], round: u8) -> Result<(), 
     Ok(())
 }
 
-/// Appends the acts of a round.
+/// Appends the acts of a round: a put to each of these neighbours, then a take from each.
 fn push_round(acts: &mut Vec<Act>, near: &[GeneralNo], round: u8) -> Result<(), AllocError>
     ensures { OnOk result (acts.new.items ≡ acts.old.items ++ acts_of_round near.now round) }
 {

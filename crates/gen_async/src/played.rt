@@ -52,7 +52,7 @@ impl Played {
         })
     }
 
-    /// Returns the order that a general has of his own, as the commander has one.
+    /// Returns the own order of a general, which only the commander has.
     fn own(&self, me: GeneralNo) -> Option<OrderNo>
         ensures { result ≡ own_order self.now me }
     {
@@ -63,8 +63,7 @@ impl Played {
         }
     }
 
-    /// Returns the DECIDE that stands behind these entries of a general who has no act left, none of one who
-    /// has.
+    /// Returns the DECIDE entry behind these entries of a general, if the general has no act left.
     pub(crate) fn decide(&self, next: Option<Act>, me: GeneralNo, written: &[u8]) -> Option<Entry>
         ensures acting { (act : Does) → next ≡ Some act → result ≡ None }
         ensures done { next ≡ None → (entries : List Said)

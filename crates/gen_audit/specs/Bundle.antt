@@ -12,15 +12,15 @@ use Rattle.gen_log.specs.Writing.{LogBytes}
 use Rattle.gen_match.specs.Matching.{Logs}
 use Rattle.gen_audit.specs.BundleParts.{AreMembers, AreListedWalks, AreExhibits}
 
--- a header, the generals who are held for faulty, walks between the others, and what is shown as logs
+-- a header, the generals that are held for faulty, walks between the other generals, and exhibits
 pub record Bundle : Type 0 where
   pub header : RunHeader
   pub faulty : List ℕ
   pub walks : List (List ℕ)
   pub exhibits : List LogBytes
 
--- what each bundle keeps: its header is one, its parts are about the header's network, and what is shown are
--- bytes
+-- the invariant of a bundle: its header is lawful, its parts are about the header's network, and each exhibit
+-- consists of bytes
 pub record IsBundle (b : Bundle) : Type 0 where
   pub header : IsHeader b.header
   pub faulty : AreMembers b.header.network.generals b.faulty
@@ -28,7 +28,7 @@ pub record IsBundle (b : Bundle) : Type 0 where
   pub exhibits : AreExhibits b.header.network.generals b.exhibits
   pub bytes : (x : LogBytes) → Contains b.exhibits x → AreBelow 256 x.bytes
 
--- what is shown as a general's log
+-- the exhibits of a general
 abbrev pub exhibits_of : List LogBytes → ℕ → List LogBytes
 exhibits_of exhibits g = filter (λ x. x.general == g) exhibits
 
@@ -37,7 +37,7 @@ abbrev pub counted : RunHeader → ℕ → Result RunLog LogFault → Option (Li
 counted h g (Err fault) = None
 counted h g (Ok log) = if says_it_is_of h g log then Some (erased log.entries) else None
 
--- the log that counts: that of the one exhibit
+-- the log of a general that counts: that of the general's one exhibit; none if there are several exhibits
 abbrev pub sole_log : RunHeader → ℕ → List LogBytes → Option (List LogEntry)
 sole_log h g (x ∷ []) = counted h g (log_of h x.bytes)
 sole_log h g _ = None

@@ -1,5 +1,5 @@
--- Reading the mark, the header and the set in front of a bundle from left to right, with the first fault that
--- is met.
+-- Reading the mark, the header and the set at the beginning of a bundle, from left to right, with the first
+-- fault that is met.
 use Rattle.std.specs.Prelude.{ℕ, List, Result, Ok}
 use Rattle.std.specs.Int.{w16}
 use Rattle.gen_types.specs.Bits.{members_of}
@@ -14,7 +14,7 @@ use Rattle.gen_audit.specs.declared.bundle_fault.BundleFault.TheVariants as faul
 use Rattle.gen_audit.specs.BundleMaking.{are_below}
 use Rattle.gen_audit.specs.BundleSpelling.{bundle_marks}
 
--- a fault of the mark and the header as one of the bundle
+-- the fault of a bundle for a fault of the mark or the header
 abbrev pub front_fault : FrontFault → BundleFault
 front_fault fronts.Truncated = faults.Truncated
 front_fault fronts.UnknownMark = faults.UnknownMark
@@ -24,7 +24,7 @@ front_fault (fronts.BadHeader rule) = faults.BadHeader rule
 abbrev pub front_at : List ℕ → Result (RunHeader × List ℕ) BundleFault
 front_at bytes = map_fault front_fault (marked.front_at bundle_marks bytes)
 
--- a set of generals below n
+-- a set of generals below n, as a number of two bytes
 unfoldable pub faulty_at : ℕ → List ℕ → Result (List ℕ × List ℕ) BundleFault
 faulty_at n bytes = do
   bits ← number_at faults.Truncated w16 bytes

@@ -1,4 +1,4 @@
--- Which header, set, walks and exhibits make a bundle, and which rule others break first.
+-- Which parts make a bundle, and which rule other parts break first.
 use Rattle.std.specs.Prelude.{ℕ, ◌^◌, Bool, ◌&&◌, List, length, Result, Ok, nat_lt, nat_le}
 use Rattle.std.specs.List.{list_all}
 use Rattle.gen_types.specs.Reading.{◌>>=◌, check}
@@ -20,15 +20,15 @@ are_below n numbers = list_all (λ v. nat_lt v n) numbers
 abbrev pub is_walk_length : ℕ → Bool
 is_walk_length count = is_within fewest_in_walk most_in_walk count
 
--- the ends before those of the first walk
+-- the pair before the ends of the first walk
 abbrev pub no_ends : ℕ × ℕ
 no_ends = (0, 0)
 
--- a walk leads up, and its ends stand behind those of the walk before it
+-- the first general of a walk is less than its last, and this pair comes after the ends of the walk before
 abbrev pub may_follow : ℕ × ℕ → List ℕ → Bool
 may_follow before walk = nat_lt (ends_of walk).0 (ends_of walk).1 && goes_before before (ends_of walk)
 
--- one walk, and all
+-- the check of one walk after the ends of the walk before, and the check of all walks
 unfoldable pub walk_check : ℕ → ℕ × ℕ → List ℕ → Result (Unit {0}) BundleFault
 walk_check n before walk = do
   size ← check (is_walk_length (length walk)) faults.WalkCount
@@ -40,7 +40,7 @@ walks_check n walks = do
   few ← check (nat_le (length walks) most_walks) faults.WalkCount
   check_behind (walk_check n) ends_of no_ends walks
 
--- one exhibit, and all
+-- the check of one exhibit after the general of the exhibit before, and the check of all exhibits
 abbrev pub shown_general : LogBytes → ℕ
 shown_general x = x.general
 
@@ -55,7 +55,7 @@ exhibits_check n exhibits = do
   few ← check (nat_le (length exhibits) most_exhibits) faults.BadExhibit
   check_behind (exhibit_check n) shown_general 0 exhibits
 
--- the bundle of these, or the first rule that they break
+-- the bundle of these parts, or the first rule that they break
 unfoldable pub bundle_with : RunHeader → List ℕ → List (List ℕ) → List LogBytes → Result Bundle BundleFault
 bundle_with h faulty walks exhibits = do
   members ← check (are_below h.network.generals faulty) faults.FaultyRange

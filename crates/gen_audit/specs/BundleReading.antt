@@ -12,14 +12,14 @@ use Rattle.gen_audit.specs.BundleParts.{most_walks, most_exhibits, ends_of}
 use Rattle.gen_audit.specs.BundleMaking.{is_walk_length, no_ends, may_follow, shown_general}
 use Rattle.gen_audit.specs.BundleFields.{front_at, faulty_at}
 
--- a general of a walk
+-- a general below n of a walk
 unfoldable pub general_at : ℕ → List ℕ → Result (ℕ × List ℕ) BundleFault
 general_at n bytes = do
   number ← byte_at faults.Truncated bytes
   known ← check (nat_lt number.0 n) faults.BadWalk
   Ok number
 
--- a walk behind the ends of the one before it, and all walks
+-- a walk whose ends come after those of the walk before, and all walks with their number
 unfoldable pub walk_at : ℕ → ℕ × ℕ → List ℕ → Result (List ℕ × List ℕ) BundleFault
 walk_at n before bytes = do
   count ← byte_at faults.Truncated bytes
@@ -34,7 +34,7 @@ walks_at n bytes = do
   few ← check (nat_le count.0 most_walks) faults.WalkCount
   many_behind (walk_at n) ends_of no_ends count.0 count.1
 
--- the general of an exhibit, behind that of the one before it
+-- the general of an exhibit, not less than that of the exhibit before
 unfoldable pub owner_at : ℕ → ℕ → List ℕ → Result (ℕ × List ℕ) BundleFault
 owner_at n before bytes = do
   general ← byte_at faults.Truncated bytes
@@ -42,7 +42,7 @@ owner_at n before bytes = do
   ordered ← check (nat_le before general.0) faults.OutOfOrder
   Ok general
 
--- an exhibit, and all exhibits
+-- an exhibit, and all exhibits with their number
 unfoldable pub exhibit_at : ℕ → ℕ → List ℕ → Result (LogBytes × List ℕ) BundleFault
 exhibit_at n before bytes = do
   general ← owner_at n before bytes
@@ -65,7 +65,7 @@ bundle_at bytes = do
   exhibits ← exhibits_at header.0.network.generals walks.1
   Ok (record { header = header.0; faulty = faulty.0; walks = walks.0; exhibits = exhibits.0 }, exhibits.1)
 
--- the bundle that the whole of the bytes is
+-- the bundle, with no bytes left over
 unfoldable pub whole_bundle : List ℕ → Result Bundle BundleFault
 whole_bundle bytes = do
   bundle ← bundle_at bytes

@@ -13,7 +13,7 @@ use Rattle.gen_audit.specs.Bundle.{Bundle}
 abbrev pub bundle_marks : Marks
 bundle_marks = record { one = 1397572145; two = 1397572146 }
 
--- a walk is the number of its generals, and then the generals, a byte each
+-- a walk is the number of its generals and the generals, one byte each
 abbrev pub walk_spelling : List ℕ → List ℕ
 walk_spelling walk = length walk ∷ walk
 
@@ -29,7 +29,7 @@ exhibit_spelling x = x.general ∷ (to_be_bytes w32 (length x.bytes) ++ x.bytes)
 abbrev pub exhibits_spelling : List LogBytes → List ℕ
 exhibits_spelling exhibits = length exhibits ∷ flat_map exhibit_spelling exhibits
 
--- the mark and the header, F as a number of two bytes, the walks, and the exhibits
+-- the mark and the header, the faulty generals as a number of two bytes, the walks, and the exhibits
 abbrev pub bundle_spelling : Bundle → List ℕ
 bundle_spelling b =
     front_spelling bundle_marks b.header

@@ -15,43 +15,44 @@ use Rattle.gen_match.specs.Matching.{Logs, FindsUnmatched, FindsUnderivable}
 use Rattle.gen_audit.specs.Bundle.{exhibits_of}
 use Rattle.gen_audit.specs.LocalFindings.{finds}
 
--- the findings have become exactly those before and those with this property
+-- the new findings are exactly the old ones and those with the property
 abbrev pub Adds : (Finding → Type 0) → List Finding → List Finding → Type 0
 Adds P old new = (f : Finding) → Contains new f ↔ (Contains old f ⊎ P f)
 
--- what is found where so many things are shown as a general's log
+-- the finding for a number of exhibits of a general: none for one exhibit, `Missing` for none, `Several` for
+-- more
 abbrev pub amount_found : ℕ → ℕ → List Finding
 amount_found g zero = Missing g ∷ []
 amount_found g (suc zero) = []
 amount_found g (suc (suc more)) = Several g ∷ []
 
--- what is found for g where these are shown
+-- the finding for the number of g's exhibits
 abbrev pub shown_found : List LogBytes → ℕ → List Finding
 shown_found exhibits g = amount_found g (length (exhibits_of exhibits g))
 
--- the reading of a report finds it, and the report's general is in the set
+-- the reading of a report finds this, and the report's general is in the set
 abbrev pub FindsIn : List ℕ → LocalReport → Finding → Type 0
 FindsIn rest r f = Contains rest r.exhibit.general × Contains (finds r.exhibit.general r.reading) f
 
--- one of the reports finds it, of a general of the set
+-- one of the reports finds this, and its general is in the set
 abbrev pub FindsRead : List ℕ → List LocalReport → Finding → Type 0
 FindsRead rest reports f = (r : LocalReport) × Contains reports r × FindsIn rest r f
 
--- it is found between two of the logs, or in what the faulty sent
+-- this is found between two of the logs, or in what the rest received from the faulty
 abbrev pub FindsBetween : Network → List ℕ → Logs → Finding → Type 0
 FindsBetween net faulty logs f = FindsUnmatched net faulty logs f ⊎ FindsUnderivable net faulty logs f
 
--- it is the least pair of the set that no walk joins
+-- this is that the two generals are the least pair of the set that no walk joins
 abbrev pub FindsPair : Network → List ℕ → List (List ℕ) → Finding → Type 0
 FindsPair net rest walks (Unjoined a c) = IsLeastBadPair net rest (Bridges net rest walks) a c
 FindsPair net rest walks _ = ⊥
 
--- it is that the set is empty
+-- this is that the set is empty
 abbrev pub FindsEmpty : List ℕ → Finding → Type 0
 FindsEmpty rest Nobody = rest ≡ []
 FindsEmpty rest _ = ⊥
 
--- the report is of a log that says it is g's of the run, and what that log decides
+-- the report is of a log that says it is g's of the run; and the decision is that of the log's DECIDE
 abbrev pub IsOwnOf : LocalReport → ℕ → Type 0
 IsOwnOf r g = (r.exhibit.general ≡ g) × ((found : FoundLog) × (r.reading ≡ Own found))
 

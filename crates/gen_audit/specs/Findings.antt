@@ -22,7 +22,7 @@ use Rattle.gen_audit.specs.Bundle.{Bundle, exhibits_of, logs_of}
 abbrev pub IsOfRest : Bundle → ℕ → Type 0
 IsOfRest b g = IsLoyal b.header.network b.faulty g
 
--- g is of the rest, and a log is shown as his; and it says it is his of this run
+-- g is of the rest, and one of g's exhibits reads to this log; and such a log says that it is g's of this run
 pub record Shows (b : Bundle) (g : ℕ) (log : RunLog) : Type 0 where
   pub of_rest : IsOfRest b g
   pub exhibit : LogBytes
@@ -33,7 +33,7 @@ pub record ShowsOwn (b : Bundle) (g : ℕ) (log : RunLog) : Type 0 where
   pub shows : Shows b g log
   pub says : SaysItIsOf b.header g log
 
--- entry p is the first whose signatures don't all verify
+-- entry p is the first with a signature that doesn't verify
 pub record FailsAt (h : RunHeader) (entries : List Entry) (p : ℕ) : Type 0 where
   pub before : List Entry
   pub entry : Entry

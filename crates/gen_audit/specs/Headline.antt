@@ -1,4 +1,4 @@
--- The headline: what a yes of the auditor means.
+-- The headline: what a yes of the audit means.
 use Rattle.std.specs.Prelude.{ℕ, ◌≡◌, ◌↔◌}
 use Rattle.gen_audit.specs.Bundle.{Bundle, IsBundle}
 use Rattle.gen_audit.specs.Supported.{IsSupported, HasFew, AgreeOn}
@@ -14,12 +14,12 @@ IsYes (No findings) = ⊥
 
 -- what a verdict on a bundle means
 pub record Headline (b : Bundle) (verdict : Verdict) : Type 0 where
-  -- it is a yes exactly where the bundle supports it
+  -- the verdict is a yes if and only if the bundle supports it
   pub exactly : IsYes verdict ↔ IsSupported b
-  -- where it does, and at most m are held for faulty, the verdict is the one order that all of the rest
-  -- decided, which is the commander's if he is of the rest
+  -- If the bundle supports a yes and at most m generals are held for faulty, the verdict is the one order
+  -- that all of the rest decided. It is the commander's if the commander is of the rest.
   pub agreed : IsSupported b → HasFew b → (order : ℕ) × (verdict ≡ Agreed order) × AgreeOn b order
 
--- each verdict on a bundle means that
+-- each verdict on a bundle has the meaning of the headline
 abbrev pub HeadlineHolds : Type 0
 HeadlineHolds = (b : Bundle) → IsBundle b → (verdict : Verdict) → IsVerdict b verdict → Headline b verdict

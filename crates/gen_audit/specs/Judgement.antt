@@ -1,4 +1,4 @@
--- The judgement on a bundle: its verdict, and who is convicted by what is shown.
+-- The judgement on a bundle: its verdict, and the generals that its exhibits convict.
 use Rattle.std.specs.Prelude.{◌≡◌, List}
 use Rattle.gen_convict.specs.Convictions.{AreConvictions}
 use Rattle.gen_convict.specs.Evidence.{Accusation}
@@ -6,8 +6,7 @@ use Rattle.gen_audit.specs.declared.verdicts.Verdict.{Verdict}
 use Rattle.gen_audit.specs.Bundle.{Bundle, IsBundle}
 use Rattle.gen_audit.specs.Verdict.{IsVerdict}
 
--- the verdict is the bundle's, and of each general against whom a claim is made the exhibits' first one
--- stands among the convictions
+-- the verdict is the bundle's, and exactly the generals with a first claim are convicted, each by that claim
 pub record IsJudgement (b : Bundle) (v : Verdict) (xs : List Accusation) : Type 0 where
   pub verdict : IsVerdict b v
   pub convictions : AreConvictions b.header b.exhibits xs

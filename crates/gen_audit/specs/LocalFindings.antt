@@ -1,4 +1,4 @@
--- What is found against single logs is what the reports of the exhibits say.
+-- The findings against single logs are those of the reports of the exhibits.
 use Rattle.std.specs.Prelude.{ℕ, ◌↔◌, Bool, true, false, List, [], ◌∷◌, ◌++◌, Contains, Option, Some, None}
 use Rattle.gen_local.specs.declared.reading.Reading.{Reading}
 use Rattle.gen_local.specs.declared.reading.Reading.TheVariants as readings
@@ -40,13 +40,13 @@ IsLocal (Unsealed g) = Unit {0}
 IsLocal (Departs g p) = Unit {0}
 IsLocal _ = ⊥
 
--- the report of an exhibit of one of the rest finds it
+-- the report of an exhibit finds this, and the exhibit's general is of the rest
 abbrev pub IsReported : Bundle → List LocalReport → Finding → Type 0
 IsReported b reports finding =
     (r : LocalReport) × Contains reports r × IsOfRest b r.exhibit.general
     × Contains (finds r.exhibit.general r.reading) finding
 
--- what is found against single logs is what the reports of the rest find
+-- the findings against single logs are exactly those of the reports of the rest's exhibits
 abbrev pub ReportsFindLocal : Type 0
 ReportsFindLocal =
     (b : Bundle) (reports : List LocalReport) → AreReports b reports → (finding : Finding) → IsLocal finding

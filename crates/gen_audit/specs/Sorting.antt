@@ -1,4 +1,4 @@
--- Where a finding is sorted to.
+-- The ranks by which findings are sorted.
 use Rattle.std.specs.Prelude.{ℕ, slice_index}
 use Rattle.std.specs.declared.cmp.Ordering.{Ordering}
 use Rattle.std.specs.Ordering.{nat_cmp, ordering_then}
@@ -6,7 +6,7 @@ use Rattle.gen_match.specs.declared.finding.Finding.{Finding}
 use Rattle.gen_match.specs.Findings.{finding_rank}
 use Rattle.gen_audit.specs.declared.ranks.Rank.{Rank}
 
--- the numbers of a finding's rank, 0 for those that it hasn't
+-- the numbers of a finding's rank; a number that the finding doesn't have is 0
 abbrev pub sorting_rank : Finding → Rank
 sorting_rank f = record {
   number = slice_index (finding_rank f) 0;
@@ -16,7 +16,7 @@ sorting_rank f = record {
   order = slice_index (finding_rank f) 4;
 }
 
--- ranks are ordered by their numbers
+-- ranks are ordered by the first number, then by the next
 abbrev pub rank_cmp : Rank → Rank → Ordering
 rank_cmp a b =
     ordering_then (nat_cmp a.number b.number)

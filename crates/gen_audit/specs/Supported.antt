@@ -1,4 +1,4 @@
--- When a bundle supports a yes: what its logs must be, without a word of how that is tested.
+-- When a bundle supports a yes: what its logs have to be, without how that is tested.
 use Rattle.std.specs.Prelude.{ℕ, ◌≡◌, ◌≤◌, ◌↔◌, List, [], ◌∷◌, length, Ok}
 use Rattle.gen_types.specs.Ascending.{IsListOf}
 use Rattle.gen_walks.specs.Walks.{BoundsDiameter}
@@ -12,7 +12,7 @@ use Rattle.gen_audit.specs.Bundle.{Bundle, IsBundle, exhibits_of, logs_of}
 use Rattle.gen_audit.specs.Explained.{IsExplained}
 use Rattle.gen_audit.specs.Findings.{IsOfRest, IsFinding}
 
--- a general has one exhibit, it reads, and the log verifies
+-- a general has one exhibit, its bytes read as a log, and the log verifies
 pub record HasSoleLog (b : Bundle) (g : ℕ) : Type 0 where
   pub exhibit : LogBytes
   pub sole : exhibits_of b.exhibits g ≡ exhibit ∷ []
@@ -20,9 +20,9 @@ pub record HasSoleLog (b : Bundle) (g : ℕ) : Type 0 where
   pub reads : log_of b.header exhibit.bytes ≡ Ok log
   pub verifies : LogVerifies b.header g log
 
--- Somebody is of the rest; each of the rest has one log, and it verifies; the walks bound the diameter of the
--- rest; and a run explains the logs, in which everybody of the rest follows the algorithm and keeps exactly
--- these logs.
+-- At least one general is of the rest, and each of the rest has one log, which verifies. The walks bound the
+-- diameter of the rest. One run explains the logs: all of the rest follow the algorithm in it and keep
+-- exactly these logs.
 pub record IsSupported (b : Bundle) : Type 0 where
   pub somebody : (g : ℕ) × IsOfRest b g
   pub each : (g : ℕ) → IsOfRest b g → HasSoleLog b g
@@ -31,26 +31,26 @@ pub record IsSupported (b : Bundle) : Type 0 where
   pub bound : BoundsDiameter b.header.network rest b.walks
   pub explained : IsExplained b.header.network b.faulty (logs_of b)
 
--- nothing is found
+-- nothing is found in the bundle
 abbrev pub IsClean : Bundle → Type 0
 IsClean b = (finding : Finding) → IsFinding b finding → ⊥
 
--- nothing is found exactly where the bundle supports a yes
+-- nothing is found in a lawful bundle if and only if it supports a yes
 abbrev pub CleanIsSupported : Type 0
 CleanIsSupported = (b : Bundle) → IsBundle b → IsClean b ↔ IsSupported b
 
--- the one direction asks nothing of the bundle
+-- nothing is found in what supports a yes, even if it is no lawful bundle
 abbrev pub SupportedIsClean : Type 0
 SupportedIsClean = (b : Bundle) → IsSupported b → IsClean b
 
--- the logs of a bundle agree on an order
+-- the logs of a bundle that count agree on an order
 abbrev pub AgreeOn : Bundle → ℕ → Type 0
 AgreeOn b order = AgreesOn b.header.network b.faulty (logs_of b) order
 
--- at most m are held for faulty
+-- at most m generals are held for faulty
 abbrev pub HasFew : Bundle → Type 0
 HasFew b = length b.faulty ≤ b.header.network.traitors
 
--- with few faulty generals the logs of a bundle in which nothing is found agree on an order
+-- if at most m generals are held for faulty, the logs of a bundle in which nothing is found agree on an order
 abbrev pub CleanAgrees : Type 0
 CleanAgrees = (b : Bundle) → IsBundle b → IsClean b → HasFew b → (order : ℕ) × AgreeOn b order

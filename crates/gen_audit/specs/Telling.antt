@@ -4,7 +4,8 @@ use Rattle.gen_local.specs.Report.{LocalReport, IsReport}
 use Rattle.gen_match.specs.Reports.{told_logs}
 use Rattle.gen_audit.specs.Bundle.{Bundle, logs_of}
 
--- each is the report of one of the exhibits, under the bundle's header, in their order
+-- the reports are those of the bundle's exhibits, in their order, under the bundle's header; and such reports
+-- tell the logs of the bundle
 pub record AreReports (b : Bundle) (reports : List LocalReport) : Type 0 where
   pub exhibits : map (λ r. r.exhibit) reports ≡ b.exhibits
   pub header : (r : LocalReport) → Contains reports r → r.header ≡ b.header

@@ -11,17 +11,17 @@ use Rattle.gen_audit.specs.Bundle.{Bundle, IsBundle, logs_of}
 use Rattle.gen_audit.specs.Findings.{IsOfRest, IsFinding}
 use Rattle.gen_audit.specs.Supported.{IsClean, IsSupported, HasFew, AgreeOn}
 
--- this is what a general of the rest decided, as the DECIDE of his log says
+-- this is what a general of the rest decided, as the DECIDE of its log says
 abbrev pub IsDecision : Bundle → Decision → Type 0
 IsDecision b d = IsOfRest b d.general × Logged (logs_of b) d.general (Decided d.orders d.order)
 
--- what each of the rest decided, by general
+-- the decisions are those of the rest, in ascending order of generals
 pub record AreDecisions (b : Bundle) (decisions : List Decision) : Type 0 where
   pub in_order : AllPairs (λ x y. x.general < y.general) decisions
   pub members : (d : Decision) → Contains decisions d ↔ IsDecision b d
 
--- The verdict is the bundle's: no with all that is found, if anything is; else, with at most m held for
--- faulty, the order on which the rest agree; else what each of them decided.
+-- The verdict is the bundle's. It is a no with all findings, if there are any. Otherwise it is the order on
+-- which the rest agree if at most m generals are held for faulty, or else what each of the rest decided.
 abbrev pub IsVerdict : Bundle → Verdict → Type 0
 IsVerdict b (Agreed order) = IsClean b × HasFew b × AgreeOn b order
 IsVerdict b (Explained decisions) =
@@ -33,13 +33,13 @@ abbrev pub OneVerdict : Type 0
 OneVerdict =
     (b : Bundle) → IsBundle b → (one other : Verdict) → IsVerdict b one → IsVerdict b other → one ≡ other
 
--- whoever has all that is found has a verdict
+-- all findings of a bundle determine a verdict
 abbrev pub VerdictExists : Type 0
 VerdictExists =
     (b : Bundle) → IsBundle b → (findings : List Finding) → AreFindings (IsFinding b) findings
     → (verdict : Verdict) × IsVerdict b verdict
 
--- what one of the rest decided: the DECIDE of his log says so, and none says otherwise
+-- g decided d: the DECIDE of g's log says so, and no DECIDE of it says otherwise
 pub record DecidesOnce (b : Bundle) (g : ℕ) (d : Decision) : Type 0 where
   pub whose : d.general ≡ g
   pub decided : IsDecision b d

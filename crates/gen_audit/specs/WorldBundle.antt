@@ -1,4 +1,4 @@
--- The bundle of a scenario's own run: that it is one, and that the auditor accepts it.
+-- The bundle of a scenario's own run: that it is a bundle, and that its verdict is a yes.
 use Rattle.std.specs.Prelude.{ℕ, ◌≡◌, ◌⊎◌, List, [], map, Contains, Ok}
 use Rattle.gen_types.specs.Ascending.{IsListOf}
 use Rattle.gen_net.specs.Network.{Network, IsLoyal}
@@ -18,49 +18,50 @@ use Rattle.gen_audit.specs.declared.verdicts.Verdict.{Verdict}
 use Rattle.gen_audit.specs.Verdict.{IsVerdict}
 use Rattle.gen_audit.specs.Headline.{IsYes}
 
--- the bundle with the sealed logs of all, in the order of generals, a second log after the first, whoever is
--- held for faulty and whatever the walks are
+-- the bundle with the sealed logs of all generals, in the order of the generals, a second log after the
+-- first; with any generals held for faulty and any walks
 abbrev pub run_bundle : Scenario → List ℕ → List (List ℕ) → Bundle
 run_bundle s faulty walks =
     record { header = header_of s; faulty = faulty; walks = walks; exhibits = logs_of_all s }
 
--- that in which the generals who have scripts are held for faulty
+-- the bundle of the run in which the generals that have scripts are held for faulty
 abbrev pub bundle_of : Scenario → List (List ℕ) → Bundle
 bundle_of s walks = run_bundle s (scripted s.scripts) walks
 
--- the best walks between the rest, or none where two of them have no short walk
+-- the best walks between the rest, or no walks if two of the rest have no short walk
 abbrev pub AreWalksOfRun : Network → List ℕ → List (List ℕ) → Type 0
 AreWalksOfRun net rest walks =
     AreBestWalks net rest walks
     ⊎ ((walks ≡ []) × ((a : ℕ) × (b : ℕ) × IsLeastBadPair net rest (HasShortWalk net rest) a b))
 
--- the walks are those between the generals who have no scripts
+-- the walks are those of the run between the generals that have no scripts
 pub record HasWalks (s : Scenario) (walks : List (List ℕ)) : Type 0 where
   pub rest : List ℕ
   pub of_rest : IsListOf rest (IsLoyal s.net (scripted s.scripts))
   pub walks_are : AreWalksOfRun s.net rest walks
 
--- where these could be held for faulty and these walks be shown in a bundle, they are in one with the logs of
--- the run
+-- the logs of the run make a bundle with any generals below n held for faulty and any walks that a bundle can
+-- have
 abbrev pub LogsMakeBundle : Type 0
 LogsMakeBundle =
     (s : Scenario) (faulty : List ℕ) (walks : List (List ℕ)) → IsScenario s
     → AreBelow s.net.generals faulty → AreListedWalks s.net.generals walks
     → bundle_with (header_of s) faulty walks (logs_of_all s) ≡ Ok (run_bundle s faulty walks)
 
--- these parts break no rule of bundles
+-- the logs of the run, the generals that have scripts and the walks of the run break no rule of bundles
 abbrev pub WorldMakesBundle : Type 0
 WorldMakesBundle =
     (s : Scenario) (walks : List (List ℕ)) → IsScenario s → HasWalks s walks
     → bundle_with (header_of s) (scripted s.scripts) walks (logs_of_all s) ≡ Ok (bundle_of s walks)
 
--- and where the logs are bytes it is a bundle
+-- if the logs are bytes, these parts are a bundle
 abbrev pub WorldIsBundle : Type 0
 WorldIsBundle =
     (s : Scenario) (walks : List (List ℕ)) → IsScenario s → HasWalks s walks
     → ((x : LogBytes) → Contains (logs_of_all s) x → AreBelow 256 x.bytes) → IsBundle (bundle_of s walks)
 
--- no script has a raw line, somebody has no script, and the walks bound the diameter of those who have none
+-- no script has a raw line, at least one general has no script, and the walks bound the diameter of the
+-- generals that have none
 pub record IsAcceptable (s : Scenario) (walks : List (List ℕ)) : Type 0 where
   pub scenario : IsScenario s
   pub no_raw : HasNoRaw s
@@ -69,17 +70,17 @@ pub record IsAcceptable (s : Scenario) (walks : List (List ℕ)) : Type 0 where
   pub of_rest : IsListOf rest (IsLoyal s.net (scripted s.scripts))
   pub bound : BoundsDiameter s.net rest walks
 
--- such a scenario's bundle supports a yes
+-- the bundle of such a scenario supports a yes
 abbrev pub WorldIsSupported : Type 0
 WorldIsSupported =
     (s : Scenario) (walks : List (List ℕ)) → IsAcceptable s walks → IsSupported (bundle_of s walks)
 
--- so its verdict is one
+-- a verdict on the bundle of such a scenario is a yes
 abbrev pub WorldIsAccepted : Type 0
 WorldIsAccepted =
     (s : Scenario) (walks : List (List ℕ)) → IsAcceptable s walks → (verdict : Verdict)
     → IsVerdict (bundle_of s walks) verdict → IsYes verdict
 
--- what is shown are the bytes of all logs
+-- the bytes of the exhibits are those of all logs
 abbrev pub ShownAreLogs : Type 0
 ShownAreLogs = (s : Scenario) → map (λ x. x.bytes) (logs_of_all s) ≡ worlds.bytes_of_logs s

@@ -23,7 +23,7 @@ use std::alloc::{AllocError, Global};
 use std::sync::Wait;
 use std::thread::Threads;
 
-/// Returns the reports of all exhibits of a bundle, in their order, made by so many workers.
+/// Returns the reports of all exhibits of a bundle, in their order, made by this number of workers.
 fn reports_of_all<R: Threads + Wait + Sync, G: JobGate + Sync>(
     rt: &R,
     alloc: Global,
@@ -36,7 +36,7 @@ fn reports_of_all<R: Threads + Wait + Sync, G: JobGate + Sync>(
     reports_by_workers(rt, alloc, bundle.header(), bundle.exhibits(), workers, gate)
 }
 
-/// Returns what a general decided by a report, if it is of his log.
+/// Returns what a general decided by a report, if the report is of the general's log of this run.
 fn decision_in(report: &LocalReport, general: GeneralNo) -> Option<Decision>
     ensures some { IfSome result (DecidesIn report.now general) }
     ensures none { IfNone result (IsOwnOf report.now general → ⊥) }
@@ -57,7 +57,7 @@ fn decision_in(report: &LocalReport, general: GeneralNo) -> Option<Decision>
     }
 }
 
-/// Returns what a general of the rest decided, where nothing is found.
+/// Returns what a general of the rest decided. Nothing is found in the bundle.
 fn decision_of(bundle: &Bundle, reports: &[LocalReport], general: GeneralNo) -> Decision
     requires bundle { IsBundle bundle.now }
     requires clean { IsClean bundle.now }
@@ -74,7 +74,7 @@ fn decision_of(bundle: &Bundle, reports: &[LocalReport], general: GeneralNo) -> 
     unreachable!()
 }
 
-/// Returns what each of the rest decided, where nothing is found.
+/// Returns what each of the rest decided. Nothing is found in the bundle.
 fn decisions_of(
     alloc: Global,
     bundle: &Bundle,
@@ -94,7 +94,8 @@ fn decisions_of(
     Ok(decisions)
 }
 
-/// Returns the order that the rest agree on, where nothing is found and at most m are held for faulty.
+/// Returns the order that the rest agree on. Nothing is found in the bundle, and at most m generals are held for
+/// faulty.
 fn agreed_order(bundle: &Bundle, rest: &GeneralSet, reports: &[LocalReport]) -> OrderNo
     requires bundle { IsBundle bundle.now }
     requires clean { IsClean bundle.now }
@@ -109,7 +110,7 @@ fn agreed_order(bundle: &Bundle, rest: &GeneralSet, reports: &[LocalReport]) -> 
     }
 }
 
-/// Returns the yes on a bundle in which nothing is found.
+/// Returns the verdict on a bundle in which nothing is found: a yes.
 fn yes_on(
     alloc: Global,
     bundle: &Bundle,
@@ -128,7 +129,7 @@ fn yes_on(
     Ok(Verdict::Explained(Decisions::new(decisions)))
 }
 
-/// Returns what is found of a bundle of which these are the reports, or the yes on it.
+/// Returns the verdict on a bundle from the reports of its exhibits: no with all findings, or a yes.
 fn answer_by(alloc: Global, bundle: &Bundle, reports: &[LocalReport]) -> Result<Verdict, AllocError>
     requires { AreReports bundle.now reports.now }
     ensures verdict { IfOk result (IsVerdict bundle.now) }
@@ -142,7 +143,7 @@ fn answer_by(alloc: Global, bundle: &Bundle, reports: &[LocalReport]) -> Result<
     yes_on(alloc, bundle, &rest, reports)
 }
 
-/// Returns the verdict on a bundle of which these are the reports.
+/// Returns the verdict on a bundle from the reports of its exhibits.
 fn verdict_by(
     alloc: Global,
     bundle: &Bundle,
@@ -155,7 +156,7 @@ fn verdict_by(
     answer_by(alloc, bundle, reports)
 }
 
-/// Returns the evidence that a bundle's exhibits hold, of which these are the reports.
+/// Returns the evidence that a bundle's exhibits hold, from the reports of these exhibits.
 fn convictions_by(
     alloc: Global,
     bundle: &Bundle,
@@ -172,8 +173,8 @@ fn convictions_by(
     find_evidence(alloc, bundle.header(), reports)
 }
 
-/// Returns the judgement on a bundle of which these are the reports: of all its exhibits, in their order. Its clauses are
-/// those of `audit`, which makes the reports and calls this; it serves callers who have them already.
+/// Returns the judgement on a bundle from the reports of all its exhibits, in their order. The clauses are those of
+/// `audit`, which makes the reports and calls this function. It serves callers that have the reports already.
 ///
 /// # Errors
 ///
@@ -201,18 +202,18 @@ pub fn judge_reports(
     })
 }
 
-/// Returns the judgement on a bundle: the verdict, and the evidence that its exhibits hold. It is the same however many
-/// workers there are.
+/// Returns the judgement on a bundle: the verdict, and the evidence that its exhibits hold. The result doesn't depend
+/// on the number of workers.
 ///
-/// Piece i is exhibit i, counted from 0. Of W workers, worker w takes the pieces w, w + W, w + 2W and so on: he reads
-/// each log, verifies its signatures and hashes its links. The first one works in the thread that calls, each other in a
-/// thread of his own; one alone starts no thread. The gate is called for each piece by the worker who begins it, for four
-/// of his pieces in a row before he works on them.
+/// Piece i is exhibit i, counted from 0. Of W workers, worker w takes the pieces w, w + W, w + 2W and so on. It reads
+/// each log, verifies its signatures and hashes its links. The first worker runs in the calling thread, each other
+/// worker in a thread of its own; one worker alone starts no thread. The gate is called for each piece by the worker
+/// that takes it. A worker calls the gate for four of its pieces in a row before it works on them.
 ///
 /// # Errors
 ///
-/// `Memory` where it was refused to anybody; else `Thread` where a thread could not be started, for want of memory too.
-/// All threads have ended then.
+/// `Memory` if memory was refused to any worker; otherwise `Thread` if a thread could not be started, for whatever
+/// reason. All threads have ended then.
 pub fn audit<R: Threads + Wait + Sync, G: JobGate + Sync>(
     rt: &R,
     alloc: Global,
@@ -220,22 +221,22 @@ pub fn audit<R: Threads + Wait + Sync, G: JobGate + Sync>(
     workers: WorkerCount,
     gate: &G,
 ) -> Result<Judgement, AuditFault>
-    // The verdict is the bundle's: no with exactly what is found, if anything is; else, with at most m held for
-    // faulty, the order on which the rest agree; else what each of the rest decided.
+    // The verdict is the bundle's. It is a no with exactly the findings, if there are any. Otherwise it is the order on
+    // which the rest agree if at most m generals are held for faulty, or else what each of the rest decided.
     ensures verdict { IfOk result (λ judgement. IsVerdict bundle.now judgement.verdict) }
-    // It is a yes exactly where somebody is of the rest, each of the rest has one log, it verifies,
-    // the walks bound the diameter of the rest, and one run, in which no signature of the rest is
-    // forged, has all of the rest follow and keep exactly these logs (its field `exactly`). With at
-    // most m held for faulty such a bundle's verdict is the one order that all of the rest decided,
-    // which is the commander's if he is of the rest (its field `agreed`).
+    // The verdict is a yes if and only if the bundle supports one (its field `exactly`). It supports one if all of this
+    // is so. At least one general is of the rest, each of the rest has one log, and it verifies. The walks bound the
+    // diameter of the rest. In one run, in which no signature of the rest is forged, all of the rest follow and keep
+    // exactly these logs. If at most m generals are held for faulty, such a bundle's verdict is the one order that all
+    // of the rest decided. It is the commander's order if the commander is of the rest (its field `agreed`).
     ensures headline { IfOk result (λ judgement. Headline bundle.now judgement.verdict) }
-    // Each general against whom a first claim can be made is convicted by it, and nobody else is.
+    // Exactly the generals with a first claim against them are convicted, each by that claim.
     ensures convictions { IfOk result (λ judgement. AreConvictions bundle.now.header bundle.now.exhibits
         (map told_of judgement.convictions.items)) }
-    // So a general is convicted exactly where the exhibits hold a contradiction of his.
+    // So a general is convicted if and only if the exhibits hold a contradiction of the general.
     ensures held { IfOk result (λ judgement. ConvictsWhereHeld bundle.now.header bundle.now.exhibits
         (map told_of judgement.convictions.items)) }
-    // And each conviction can be written.
+    // Each conviction can be written as evidence.
     ensures lawful { IfOk result (λ judgement.
         AreEvidence bundle.now.header (map told_of judgement.convictions.items)) }
 {

@@ -1,6 +1,6 @@
-//! Reading bundles.
+//! Reads bundles.
 //!
-//! Numbers are read as they stand, and their types are made of them where a part is made.
+//! Numbers are read as bytes, and become values of their types where a part is made.
 ghost use Rattle.std.specs.Arc.{arc_slice_items};
 ghost use Rattle.std.specs.Prelude.{◌≡◌, ◌≤◌, ◌<◌, IfOk, Ok};
 ghost use Rattle.gen_types.specs.Reading.{Gives};
@@ -29,7 +29,7 @@ use gen_walks::{Walk, Walks};
 use std::alloc::Global;
 use std::sync::ArcSlice;
 
-/// A fault of the mark and the header as one of the bundle.
+/// Returns the fault of a bundle for a fault of the mark or the header.
 fn front_fault(fault: FrontFault) -> BundleFault
     ensures { result ≡ fields.front_fault fault }
 {
@@ -40,7 +40,7 @@ fn front_fault(fault: FrontFault) -> BundleFault
     }
 }
 
-/// The mark, and a header of the version that it says.
+/// Reads the mark, and a header of the version that the mark says.
 fn read_front_field(alloc: Global, bytes: &[u8]) -> Result<(Header, &[u8]), ReadError<BundleFault>>
     ensures { IsField result (fields.front_at bytes.now) }
 {
@@ -51,7 +51,7 @@ fn read_front_field(alloc: Global, bytes: &[u8]) -> Result<(Header, &[u8]), Read
     }
 }
 
-/// The bits of a set of generals below n.
+/// Reads the bits of a set of generals below n.
 #[tactic(auto, unfolding(crate::specs::BundleFields::faulty_at))]
 fn read_faulty(n: u8, bytes: &[u8]) -> Result<(u16, &[u8]), ReadError<BundleFault>>
     ensures { Gives (λ x. (members_of x.0, x.1.now)) result (fields.faulty_at n bytes.now) }
@@ -62,7 +62,7 @@ fn read_faulty(n: u8, bytes: &[u8]) -> Result<(u16, &[u8]), ReadError<BundleFaul
     Ok((bits, rest))
 }
 
-/// The number of a general of a walk.
+/// Reads the number of a general of a walk.
 #[tactic(auto, unfolding(crate::specs::BundleReading::general_at))]
 fn read_general(n: u8, bytes: &[u8]) -> Result<(u8, &[u8]), ReadError<BundleFault>>
     requires { n ≤ 16 }
@@ -74,7 +74,7 @@ fn read_general(n: u8, bytes: &[u8]) -> Result<(u8, &[u8]), ReadError<BundleFaul
     Ok((number, rest))
 }
 
-/// This many generals of a walk.
+/// Reads `count` generals of a walk.
 fn read_generals(
     alloc: Global,
     n: u8,
@@ -94,7 +94,7 @@ fn read_generals(
     Ok((generals, rest))
 }
 
-/// A walk behind the ends of the one before.
+/// Reads a walk whose ends come after those of the walk before.
 #[tactic(auto, unfolding(crate::specs::BundleReading::walk_at))]
 fn read_walk(
     alloc: Global,
@@ -112,7 +112,7 @@ fn read_walk(
     Ok((Walk::new(generals), rest))
 }
 
-/// This many walks.
+/// Reads `count` walks.
 fn read_each_walk(
     alloc: Global,
     n: u8,
@@ -134,7 +134,7 @@ fn read_each_walk(
     Ok((walks, rest))
 }
 
-/// The walks behind their number.
+/// Reads the number of walks and the walks.
 #[tactic(auto, unfolding(crate::specs::BundleReading::walks_at))]
 fn read_walks(alloc: Global, n: u8, bytes: &[u8]) -> Result<(Walks, &[u8]), ReadError<BundleFault>>
     requires { n ≤ 16 }
@@ -145,7 +145,7 @@ fn read_walks(alloc: Global, n: u8, bytes: &[u8]) -> Result<(Walks, &[u8]), Read
     read_each_walk(alloc, n, count, rest)
 }
 
-/// The general of an exhibit, behind that of the one before.
+/// Reads the general of an exhibit, which is not less than that of the exhibit before.
 #[tactic(auto, unfolding(crate::specs::BundleReading::owner_at))]
 fn read_owner(n: u8, before: u8, bytes: &[u8]) -> Result<(u8, &[u8]), ReadError<BundleFault>>
     requires { n ≤ 16 }
@@ -158,7 +158,8 @@ fn read_owner(n: u8, before: u8, bytes: &[u8]) -> Result<(u8, &[u8]), ReadError<
     Ok((general, rest))
 }
 
-/// An exhibit behind the general of the one before. Its log is shared with the input, whose end these bytes are.
+/// Reads an exhibit, whose general is not less than that of the exhibit before. The exhibit shares the input's bytes;
+/// `bytes` is the end of the input.
 #[tactic(auto, unfolding(crate::specs::BundleReading::exhibit_at))]
 fn read_exhibit<'a>(
     input: &ArcSlice<u8>,
@@ -179,7 +180,7 @@ fn read_exhibit<'a>(
     Ok((exhibit, rest))
 }
 
-/// This many exhibits.
+/// Reads `count` exhibits.
 fn read_each_exhibit<'a>(
     alloc: Global,
     input: &ArcSlice<u8>,
@@ -204,7 +205,7 @@ fn read_each_exhibit<'a>(
     Ok((exhibits, rest))
 }
 
-/// The exhibits behind their number.
+/// Reads the number of exhibits and the exhibits.
 #[tactic(auto, unfolding(crate::specs::BundleReading::exhibits_at))]
 fn read_exhibits<'a>(
     alloc: Global,
@@ -221,12 +222,12 @@ fn read_exhibits<'a>(
     read_each_exhibit(alloc, input, n, count, rest)
 }
 
-/// Returns the bundle in front of the bytes, which are the end of the input, and the bytes after it. Its exhibits share
-/// the input.
+/// Returns the bundle that the bytes begin with, and the bytes after it. The bytes are the end of the input, and the
+/// exhibits share the input.
 ///
 /// # Errors
 ///
-/// The first fault of `BundleFault` from left to right; and Memory where memory was refused before.
+/// The first fault of `BundleFault` from left to right, or `Memory` if memory was refused before that fault.
 #[tactic(auto, unfolding(crate::specs::BundleReading::bundle_at))]
 pub fn bundle_in_front<'a>(
     alloc: Global,
@@ -250,7 +251,7 @@ pub fn bundle_in_front<'a>(
     Ok((bundle, rest))
 }
 
-/// The bundle that the whole input is, which these bytes are.
+/// Reads the bundle that the whole input is. `bytes` are the bytes of the input.
 #[tactic(auto, unfolding(crate::specs::BundleReading::whole_bundle))]
 fn bundle_alone(
     alloc: Global,
@@ -265,7 +266,8 @@ fn bundle_alone(
     Ok(bundle)
 }
 
-/// The bundle that the whole input is, which these bytes are: what is found, and what alone can be.
+/// Reads the bundle that the whole input is. `bytes` are the bytes of the input. The clauses are those of
+/// `read_bundle`.
 fn bundle_of(
     alloc: Global,
     input: &ArcSlice<u8>,
@@ -279,7 +281,8 @@ fn bundle_of(
     bundle_alone(alloc, input, bytes)
 }
 
-/// As `read_bundle`, but the bytes are taken and not copied: the exhibits share them.
+/// Returns the bundle that all the bytes are, as `read_bundle` does. The bytes are taken and not copied: the exhibits
+/// share them.
 ///
 /// # Errors
 ///
@@ -287,30 +290,32 @@ fn bundle_of(
 pub fn read_taken_bundle(alloc: Global, input: Vec<u8>) -> Result<Bundle, ReadError<BundleFault>>
     // What is read is a bundle, and the bytes are its spelling.
     ensures found { IfOk result (Spells IsBundle bundle_spelling input.items) }
-    // What the bytes spell is read, unless memory runs out.
+    // A bundle that the bytes spell is read, unless memory is refused.
     ensures only { (b : Told) → Spells IsBundle bundle_spelling input.items b → IsRead result (Ok b) }
-    // Which fault it is.
+    // Unless memory is refused, the result is that of `whole_bundle`, with the same fault.
     ensures exact { IsRead result (whole_bundle input.items) }
 {
     let input = ArcSlice::from_vec(input)?;
     bundle_of(alloc, &input, input.as_slice())
 }
 
-/// Returns the bundle that all the bytes are: four bytes `SMB1` or `SMB2` and a header of version 1 or 2; the generals
-/// who are held for faulty, a number of two bytes, big-endian, in which general v has the value 2 to the power of v;
-/// the number of walks, and for each the number of its generals and these; the number of exhibits, and for each its
-/// general, the length of the log in four bytes, and the log. The bytes are copied once, for all exhibits, and the logs are
-/// not read.
+/// Returns the bundle that all the bytes are. The bytes begin with `SMB1` and a header of version 1, or with `SMB2` and
+/// a header of version 2. After the header stand the generals that are held for faulty: a number of two bytes,
+/// big-endian, in which general v has the value 2^v.
+///
+/// Then come the number of walks, and for each walk the number of its generals and the generals. Then come the number
+/// of exhibits, and for each exhibit its general, the length of the log in four bytes, and the log. The bytes are
+/// copied once, for all exhibits, and the logs are not read.
 ///
 /// # Errors
 ///
-/// The first fault of `BundleFault` from left to right; and Memory where memory was refused before.
+/// The first fault of `BundleFault` from left to right, or `Memory` if memory was refused before that fault.
 pub fn read_bundle(alloc: Global, bytes: &[u8]) -> Result<Bundle, ReadError<BundleFault>>
     // What is read is a bundle, and the bytes are its spelling.
     ensures found { IfOk result (Spells IsBundle bundle_spelling bytes.now) }
-    // What the bytes spell is read, unless memory runs out.
+    // A bundle that the bytes spell is read, unless memory is refused.
     ensures only { (b : Told) → Spells IsBundle bundle_spelling bytes.now b → IsRead result (Ok b) }
-    // Which fault it is.
+    // Unless memory is refused, the result is that of `whole_bundle`, with the same fault.
     ensures exact { IsRead result (whole_bundle bytes.now) }
 {
     read_taken_bundle(alloc, Vec::from_slice(alloc, bytes)?)

@@ -1,4 +1,4 @@
-//! The rules of a bundle's parts, as they are checked when a bundle is made.
+//! Checks the rules of a bundle's parts when a bundle is made.
 ghost use Rattle.std.specs.Prelude.{◌≡◌, ◌<◌, All, AllPairs, OnOk};
 ghost use Rattle.gen_types.specs.Reading as steps;
 ghost use Rattle.gen_net.specs.Edges.{goes_before};
@@ -24,20 +24,20 @@ const MOST_IN_WALK: usize = 16;
 /// The most exhibits of a bundle.
 pub const MOST_EXHIBITS: usize = 64;
 
-/// The first number that is no length of a log: 2 to the power of 32.
+/// The least number of bytes that is too long for a log in a bundle: 2^32.
 const TOO_LONG: usize = 1 << 32;
 
-/// The ends before those of the first walk.
+/// The pair before the ends of the first walk.
 pub const NO_ENDS: (u8, u8) = (0, 0);
 
-/// Checks one rule.
+/// Returns the fault unless the rule holds.
 pub fn check_rule(holds: bool, fault: BundleFault) -> Result<(), BundleFault>
     ensures { result ≡ steps.check holds fault }
 {
     if holds { Ok(()) } else { Err(fault) }
 }
 
-/// Whether a walk may have this many generals.
+/// Whether a walk may have this many generals: 2 to 16.
 pub fn is_walk_length(count: usize) -> bool
     ensures { result ≡ making.is_walk_length count }
 {
@@ -49,7 +49,7 @@ pub fn is_set_below(set: &GeneralSet, n: u8) -> bool
     ensures value { result ≡ making.are_below n set.now }
     ensures ascending { AllPairs (λ v w. v < w) set.now }
 {
-    // A look at their number makes known that the members ascend.
+    // Reading their number makes known that the members ascend.
     let _count = set.len();
     'generals: for general in set.iter() {
         if general.get() >= n {
@@ -66,7 +66,7 @@ fn are_below(generals: &[GeneralNo], n: u8) -> bool
     generals.iter().all(|general| general.get() < n)
 }
 
-/// The first and the last general of a walk.
+/// Returns the first and the last general of a walk.
 pub fn ends_of(walk: &[GeneralNo]) -> (u8, u8)
     ensures { result ≡ parts.ends_of walk.now }
 {
@@ -76,14 +76,15 @@ pub fn ends_of(walk: &[GeneralNo]) -> (u8, u8)
     }
 }
 
-/// Whether the pair e stands before the pair f.
+/// Whether the pair e comes before the pair f, in the order of pairs.
 fn is_before(e: (u8, u8), f: (u8, u8)) -> bool
     ensures { result ≡ goes_before e f }
 {
     e.0 < f.0 || (e.0 == f.0 && e.1 < f.1)
 }
 
-/// Whether a walk leads up, and its ends stand behind those of the walk before.
+/// Whether the first general of a walk is less than its last, and this pair comes after `before`, the ends of the walk
+/// before.
 pub fn may_follow(before: (u8, u8), walk: &[GeneralNo]) -> bool
     ensures { result ≡ making.may_follow before walk.now }
 {
@@ -91,7 +92,7 @@ pub fn may_follow(before: (u8, u8), walk: &[GeneralNo]) -> bool
     ends.0 < ends.1 && is_before(before, ends)
 }
 
-/// Checks one walk behind the ends of the one before.
+/// Checks one walk after a walk with the ends `before`.
 #[tactic(auto, unfolding(crate::specs::BundleMaking::walk_check))]
 fn check_walk(n: u8, before: (u8, u8), walk: &[GeneralNo]) -> Result<(), BundleFault>
     ensures { result ≡ making.walk_check n before walk.now }
@@ -101,7 +102,7 @@ fn check_walk(n: u8, before: (u8, u8), walk: &[GeneralNo]) -> Result<(), BundleF
     check_rule(may_follow(before, walk), BundleFault::BadWalk)
 }
 
-/// Checks walks, one behind the other.
+/// Checks walks, each after the one before it.
 fn check_each_walk(n: u8, walks: &[Walk]) -> Result<(), BundleFault>
     ensures { result ≡ check_behind (making.walk_check n) parts.ends_of making.no_ends walks.now }
 {
@@ -115,7 +116,7 @@ fn check_each_walk(n: u8, walks: &[Walk]) -> Result<(), BundleFault>
     Ok(())
 }
 
-/// Checks all walks.
+/// Checks the number of walks and each walk.
 #[tactic(auto, unfolding(crate::specs::BundleMaking::walks_check))]
 pub fn check_all_walks(n: u8, walks: &[Walk]) -> Result<(), BundleFault>
     ensures { result ≡ making.walks_check n walks.now }
@@ -124,7 +125,7 @@ pub fn check_all_walks(n: u8, walks: &[Walk]) -> Result<(), BundleFault>
     check_each_walk(n, walks)
 }
 
-/// Checks one exhibit behind the general of the one before.
+/// Checks one exhibit after an exhibit of the general `before`.
 #[tactic(auto, unfolding(crate::specs::BundleMaking::exhibit_check))]
 fn check_exhibit(n: u8, before: u8, exhibit: &Exhibit) -> Result<(), BundleFault>
     ensures value { result ≡ making.exhibit_check n before exhibit.now }
@@ -137,7 +138,7 @@ fn check_exhibit(n: u8, before: u8, exhibit: &Exhibit) -> Result<(), BundleFault
     check_rule(log.len() < TOO_LONG, BundleFault::LongLog)
 }
 
-/// Checks exhibits, one behind the other.
+/// Checks exhibits, each after the one before it.
 fn check_each_exhibit(n: u8, exhibits: &[Exhibit]) -> Result<(), BundleFault>
     ensures value { result ≡ check_behind (making.exhibit_check n) making.shown_general 0 exhibits.now }
     ensures bytes { OnOk result (All (λ x. AreBelow 256 x.bytes) exhibits.now) }
@@ -152,7 +153,7 @@ fn check_each_exhibit(n: u8, exhibits: &[Exhibit]) -> Result<(), BundleFault>
     Ok(())
 }
 
-/// Checks all exhibits.
+/// Checks the number of exhibits and each exhibit.
 #[tactic(auto, unfolding(crate::specs::BundleMaking::exhibits_check))]
 pub fn check_all_exhibits(n: u8, exhibits: &[Exhibit]) -> Result<(), BundleFault>
     ensures value { result ≡ making.exhibits_check n exhibits.now }

@@ -1,4 +1,4 @@
-//! Writing bundles.
+//! Writes bundles.
 ghost use Rattle.std.specs.Prelude.{◌≡◌, ◌<◌, ◌^◌, ◌++◌, length, All, IfOk, OnOk};
 ghost use Rattle.std.specs.List.{flat_map};
 ghost use Rattle.gen_audit.specs.BundleParts.{AreListedWalks, AreExhibits, IsListedWalk, IsExhibit};
@@ -12,7 +12,7 @@ use gen_types::GeneralNo;
 use gen_walks::Walk;
 use std::alloc::{AllocError, Global};
 
-/// Appends generals, a byte each.
+/// Appends generals, one byte each.
 fn put_generals(out: &mut Vec<u8>, generals: &[GeneralNo]) -> Result<(), AllocError>
     ensures { OnOk result (out.new.items ≡ out.old.items ++ generals.now) }
 {
@@ -22,7 +22,7 @@ fn put_generals(out: &mut Vec<u8>, generals: &[GeneralNo]) -> Result<(), AllocEr
     Ok(())
 }
 
-/// Appends a walk.
+/// Appends the number of a walk's generals and the generals.
 fn put_walk(out: &mut Vec<u8>, walk: &Walk) -> Result<(), AllocError>
     requires { length walk.now < 256 }
     ensures { OnOk result (out.new.items ≡ out.old.items ++ walk_spelling walk.now) }
@@ -43,8 +43,8 @@ fn put_each_walk(out: &mut Vec<u8>, walks: &[Walk]) -> Result<(), AllocError>
     Ok(())
 }
 
-/// Returns what stands before the bytes of an exhibit's log in a bundle: the general, and the log's length in four
-/// bytes. The log must be shorter than 2^32 bytes, as those of a bundle are.
+/// Returns the bytes before an exhibit's log in a bundle: the general, and the log's length in four bytes. The log has
+/// fewer than 2^32 bytes, as each log of a bundle has.
 pub fn exhibit_front(exhibit: &Exhibit) -> [u8; 5]
     requires { length exhibit.now.bytes < 2 ^ 32 }
     ensures { result ++ exhibit.now.bytes ≡ exhibit_spelling exhibit.now }
@@ -53,7 +53,7 @@ pub fn exhibit_front(exhibit: &Exhibit) -> [u8; 5]
     [exhibit.general().get(), a, b, c, d]
 }
 
-/// Appends an exhibit.
+/// Appends an exhibit: its general, the length of its log in four bytes, and the log.
 fn put_exhibit(out: &mut Vec<u8>, exhibit: &Exhibit) -> Result<(), AllocError>
     requires { length exhibit.now.bytes < 2 ^ 32 }
     ensures { OnOk result (out.new.items ≡ out.old.items ++ exhibit_spelling exhibit.now) }
@@ -73,7 +73,7 @@ fn put_each_exhibit(out: &mut Vec<u8>, exhibits: &[Exhibit]) -> Result<(), Alloc
     Ok(())
 }
 
-/// Returns what stands before the exhibits in the one spelling of a bundle: with it and `exhibit_front` a bundle is
+/// Returns the bytes before the exhibits in the one spelling of a bundle. With these and `exhibit_front` a bundle is
 /// written without a copy of its logs.
 ///
 /// # Errors
@@ -93,7 +93,7 @@ pub fn bundle_front(alloc: Global, bundle: &Bundle) -> Result<Vec<u8>, AllocErro
     Ok(out)
 }
 
-/// Returns the one spelling of a bundle, as `read_bundle` reads it. It fails only where memory was refused.
+/// Returns the one spelling of a bundle, which `read_bundle` reads. It fails only if memory is refused.
 pub fn write_bundle(alloc: Global, bundle: &Bundle) -> Result<Vec<u8>, AllocError>
     ensures { IfOk result (λ bytes. bytes.items ≡ bundle_spelling bundle.now) }
 {

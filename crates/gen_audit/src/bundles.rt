@@ -17,8 +17,8 @@ pub const BUNDLE_MARKS: Marks = Marks {
     two: 0x534d_4232,
 };
 
-/// What an audit is of: a header, the generals who are held for faulty, walks between the others, who are the
-/// rest, and what is shown as logs. A contract sees all of these as one record.
+/// The input of an audit: a header, the generals that are held for faulty, walks between the other generals, which are
+/// the rest, and exhibits. A contract sees these four as one record.
 #[derive(Drop)]
 pub struct Bundle {
     pub(crate) header: Header,
@@ -48,14 +48,14 @@ impl Model for Bundle {
 }
 
 impl Bundle {
-    /// Returns the bundle of a header, the generals who are held for faulty, walks, and what is shown as logs. It takes
-    /// no memory.
+    /// Returns the bundle of a header, the generals that are held for faulty, walks and exhibits. It takes no memory.
     ///
     /// # Errors
     ///
-    /// The first rule of these that is broken, and all is dropped then: FaultyRange; for the walks WalkCount where there
-    /// are more than 120, and then for each from the first WalkCount or BadWalk; for the exhibits BadExhibit where there
-    /// are more than 64, and then for each from the first BadExhibit, OutOfOrder or LongLog.
+    /// The first rule that is broken; then all the parts are dropped. The rules are tested in this order. `FaultyRange`
+    /// is first. Then comes `WalkCount` if there are more than 120 walks, and for each walk in turn `WalkCount` or
+    /// `BadWalk`. Last comes `BadExhibit` if there are more than 64 exhibits, and for each exhibit in turn
+    /// `BadExhibit`, `OutOfOrder` or `LongLog`.
     #[tactic(auto, unfolding(crate::specs::BundleMaking::bundle_with))]
     pub fn new(
         header: Header,
@@ -85,7 +85,7 @@ impl Bundle {
         &self.header
     }
 
-    /// Returns the generals who are held for faulty.
+    /// Returns the generals that are held for faulty.
     pub fn faulty(&self) -> &GeneralSet
         ensures { result.now ≡ self.now.faulty }
     {
@@ -99,7 +99,7 @@ impl Bundle {
         &self.walks
     }
 
-    /// Returns what is shown as logs, in ascending order of generals.
+    /// Returns the exhibits, in ascending order of generals.
     pub fn exhibits(&self) -> &[Exhibit]
         ensures { result.now ≡ self.now.exhibits }
     {

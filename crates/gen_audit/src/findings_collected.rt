@@ -1,4 +1,4 @@
-//! All that is found in a bundle.
+//! Collects all findings of a bundle.
 ghost use Rattle.std.specs.Prelude.{◌≡◌, ◌++◌, ◌↔◌, length, Contains, IfOk, OnOk};
 ghost use Rattle.std.specs.List.{flat_map};
 ghost use Rattle.gen_types.specs.Ascending.{IsListOf};
@@ -20,7 +20,7 @@ use gen_types::{GeneralNo, GeneralSet};
 use gen_walks::{Walks, check_walks};
 use std::alloc::{AllocError, Global};
 
-/// Returns how many things are shown as a general's log.
+/// Returns the number of a general's exhibits.
 fn amount_shown(exhibits: &[Exhibit], general: GeneralNo) -> usize
     ensures { result ≡ length (exhibits_of exhibits.now general) }
 {
@@ -30,7 +30,8 @@ fn amount_shown(exhibits: &[Exhibit], general: GeneralNo) -> usize
         .count()
 }
 
-/// Adds what is found where so many things are shown as a general's log.
+/// Appends the finding for this number of a general's exhibits: none for one exhibit, `Missing` for none, `Several` for
+/// more.
 fn add_amount(
     general: GeneralNo,
     amount: usize,
@@ -46,7 +47,7 @@ fn add_amount(
     Ok(())
 }
 
-/// Adds which generals of the rest have no exhibit, and which have several.
+/// Appends which generals of the rest have no exhibit, and which have several.
 fn add_amounts(
     exhibits: &[Exhibit],
     rest: &GeneralSet,
@@ -61,7 +62,7 @@ fn add_amounts(
     Ok(())
 }
 
-/// Adds what is found against a log that says it is the general's of this run.
+/// Appends what is found against a log that says it is the general's of this run.
 fn add_own(
     general: GeneralNo,
     found: &OwnLog,
@@ -83,7 +84,7 @@ fn add_own(
     Ok(())
 }
 
-/// Adds what a general's exhibit is found to be.
+/// Appends what the reading of a general's exhibit finds.
 fn add_reading(
     general: GeneralNo,
     reading: &Reading,
@@ -102,7 +103,7 @@ fn add_reading(
     Ok(())
 }
 
-/// Adds what a report finds, if its general is in the set.
+/// Appends what a report finds, if its general is in the set.
 fn add_report(
     rest: &GeneralSet,
     report: &LocalReport,
@@ -117,7 +118,7 @@ fn add_report(
     Ok(())
 }
 
-/// Adds what the reports of the rest's exhibits find.
+/// Appends what the reports of the rest's exhibits find.
 fn add_reports(
     rest: &GeneralSet,
     reports: &[LocalReport],
@@ -131,7 +132,7 @@ fn add_reports(
     Ok(())
 }
 
-/// Adds what is found between the logs that the reports tell.
+/// Appends what is found between the logs that the reports tell.
 fn add_matched(
     alloc: Global,
     header: &Header,
@@ -150,7 +151,7 @@ fn add_matched(
     Ok(())
 }
 
-/// Adds the least pair of the set that no walk joins, if there is one.
+/// Appends the least pair of the set that no walk joins, if there is one.
 fn add_unjoined(
     net: &Net,
     rest: &GeneralSet,
@@ -169,7 +170,7 @@ fn add_unjoined(
     Ok(())
 }
 
-/// Adds that the set is empty, if it is.
+/// Appends that the set is empty, if it is.
 fn add_nobody(rest: &GeneralSet, findings: &mut Vec<Finding>) -> Result<(), AllocError>
     ensures { OnOk result (Adds (FindsEmpty rest.now) findings.old.items findings.new.items) }
 {
@@ -179,7 +180,7 @@ fn add_nobody(rest: &GeneralSet, findings: &mut Vec<Finding>) -> Result<(), Allo
     Ok(())
 }
 
-/// Returns all that is found in a bundle, in any order.
+/// Returns all findings of a bundle, in any order.
 fn collected(
     alloc: Global,
     bundle: &Bundle,
@@ -205,7 +206,7 @@ fn collected(
     Ok(findings)
 }
 
-/// Returns all that is found in a bundle, given its rest and the reports of its exhibits.
+/// Returns all findings of a bundle in their one order, from its rest and the reports of its exhibits.
 ///
 /// # Errors
 ///

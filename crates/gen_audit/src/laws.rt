@@ -16,99 +16,101 @@ ghost use Rattle.gen_audit.specs.Telling.{ReportsTellLogs};
 ghost use Rattle.gen_audit.specs.Verdict.{EachDecidedOnce, OneVerdict, VerdictExists};
 ghost use Rattle.gen_audit.specs.WorldBundle.{LogsMakeBundle, ShownAreLogs, WorldIsAccepted, WorldIsBundle, WorldIsSupported, WorldMakesBundle};
 
-/// Logs of the rest, each alone one that its general could keep, and no two of which contradict each other,
-/// nor what the rest sent, come from one run (`explained`); and in the logs that the rest keep of a run
-/// nothing is found (`found`).
+/// States when logs of the rest come from one run: each could be kept by its general, no message is unmatched, and no
+/// received chain is underivable (`explained`). In the logs that the rest keep of a run nothing is found (`found`).
 pub fn logs_are_explained()
     ensures explained { NothingFoundExplains }
     ensures found { ExplainedFindsNothing }
 {}
 
-/// With at most m faulty generals and walks that bound the diameter of the rest, the logs that a run explains
-/// agree on an order, the commander's if he is of the rest.
+/// States that logs that a run explains agree on an order, if at most m generals are faulty and the walks bound the
+/// diameter of the rest. It is the commander's order if the commander is of the rest.
 pub fn few_faulty_agree()
     ensures { FewFaultyAgree }
 {}
 
-/// The rest of every run for the faulty generals keep logs, which it explains.
+/// States that in every run for the faulty generals the rest keep logs, which that run explains.
 pub fn runs_have_logs()
     ensures { RunsHaveLogs }
 {}
 
-/// Nothing is found in a bundle exactly where it supports a yes: somebody is of the rest, each of the rest
-/// has one log and it verifies, the walks bound the diameter of the rest, and one run explains the logs
-/// (`exactly`). The one direction asks nothing of the bundle (`clean`).
+/// States that nothing is found in a bundle if and only if the bundle supports a yes (`exactly`). A bundle supports a
+/// yes by four conditions. At least one general is of the rest. Each of the rest has one log, which verifies. The walks
+/// bound the diameter of the rest. One run explains the logs. Nothing is found in anything that supports a yes, even if
+/// it is no lawful bundle (`clean`).
 pub fn clean_is_supported()
     ensures exactly { CleanIsSupported }
     ensures clean { SupportedIsClean }
 {}
 
-/// With at most m faulty generals the logs of a bundle in which nothing is found agree on an order.
+/// States that the logs of a bundle in which nothing is found agree on an order, if at most m generals are held for
+/// faulty.
 pub fn clean_agrees()
     ensures { CleanAgrees }
 {}
 
-/// The headline: a verdict is a yes exactly where the bundle supports it, and with at most m faulty generals
-/// it is then the order on which the rest agree.
+/// States the headline: a verdict is a yes if and only if the bundle supports it. If at most m generals are held for
+/// faulty, a yes is the order on which the rest agree.
 pub fn headline()
     ensures { HeadlineHolds }
 {}
 
-/// A bundle has one verdict (`one`), and whoever has all that is found has a verdict (`exists`).
+/// States that a bundle has one verdict (`one`), and that all findings of a bundle determine a verdict (`exists`).
 pub fn one_verdict()
     ensures one { OneVerdict }
     ensures exists { VerdictExists }
 {}
 
-/// A bundle has one judgement: one verdict, and one list of convictions.
+/// States that a bundle has one judgement: one verdict, and one list of convictions.
 pub fn one_judgement()
     ensures { OneJudgement }
 {}
 
-/// In a supported bundle each of the rest decided once.
+/// States that in a supported bundle each of the rest decided once.
 pub fn each_decided_once()
     ensures { EachDecidedOnce }
 {}
 
-/// The reports of a bundle's exhibits tell its logs.
+/// States that the reports of a bundle's exhibits tell the logs of the bundle.
 pub fn reports_tell_logs()
     ensures { ReportsTellLogs }
 {}
 
-/// The bundle of a scenario's own run, in which the generals who have scripts are held for faulty, supports a
-/// yes (`supported`), and its verdict is one (`accepted`): where no script has a raw line, somebody has no
-/// script, and the walks bound the diameter of those who have none. It shows the sealed logs of the run,
-/// whoever made them: `run_world`, or a machine by any order of acts. These are the bytes of all logs
-/// (`shown`).
+/// States that the bundle of a scenario's own run supports a yes (`supported`), and that its verdict is a yes
+/// (`accepted`). The generals with scripts are held for faulty. This holds if no script has a raw line, at least one
+/// general has no script, and the walks bound the diameter of the generals without one.
+///
+/// The bundle shows the sealed logs of the run, whether `run_world` made them or a machine by any order of acts. They
+/// are the bytes of all logs (`shown`).
 pub fn own_runs_are_accepted()
     ensures supported { WorldIsSupported }
     ensures accepted { WorldIsAccepted }
     ensures shown { ShownAreLogs }
 {}
 
-/// The logs of a scenario's own run make a bundle with whatever generals and walks could stand in one
-/// (`any`). With the generals who have scripts and the walks that the run has, the parts so break no rule of
-/// bundles (`made`), whatever the scripts say, and where the logs are bytes they are a bundle (`bundle`). So
-/// no log of a run is too long to be shown.
+/// States that the logs of a scenario's own run make a bundle with any generals below n and any walks that a bundle can
+/// have (`any`). With the generals that have scripts and the run's own walks, the parts break no rule of bundles
+/// (`made`), whatever the scripts say. If the logs are bytes, the parts are a bundle (`bundle`). So no log of a run is
+/// too long to be shown.
 pub fn own_runs_make_bundles()
     ensures any { LogsMakeBundle }
     ensures made { WorldMakesBundle }
     ensures bundle { WorldIsBundle }
 {}
 
-/// What is found against single logs of a bundle is exactly what the reports of the rest's exhibits find.
+/// States that the findings against single logs of a bundle are exactly those of the reports of the rest's exhibits.
 pub fn reports_find_local()
     ensures { ReportsFindLocal }
 {}
 
-/// A bundle has one spelling, and no spelling of a bundle is the beginning of another (`one`); and what is
-/// written is read again (`again`).
+/// States that a bundle has one spelling, and that no spelling of a bundle is the beginning of another (`one`). What
+/// was written is read again (`again`).
 pub fn one_bundle_spelling()
     ensures one { HasOneSpelling IsBundle bundle_spelling }
     ensures again { (b : Bundle) → IsBundle b → whole_bundle (bundle_spelling b) ≡ Ok b }
 {}
 
-/// The parts of each bundle break no rule: `Bundle::new` makes it of them.
+/// States that the parts of a bundle break no rule: `Bundle::new` makes the bundle from them.
 pub fn parts_make_bundles()
     ensures { (b : Bundle) → IsBundle b → bundle_with b.header b.faulty b.walks b.exhibits ≡ Ok b }
 {}

@@ -1,15 +1,15 @@
 //! The auditor: whether one run of the signed message algorithm explains the logs of a bundle.
 //!
-//! A bundle has a header, the generals who are held for faulty, walks between the others, who are the rest,
-//! and what is shown as logs. The audit never makes a run. It looks at each log of the rest alone, at each
-//! two of them, and at the chains that the faulty sent them; and where nothing is found, such a run exists
-//! (`laws`).
+//! A bundle has a header, the generals that are held for faulty, walks between the other generals, which are the rest,
+//! and exhibits. The audit never makes a run. It looks at each log of the rest alone, at each two of them, and at the
+//! chains that the rest received from the faulty. If nothing is found, a run that explains the logs exists (`laws`).
 //!
-//! What is promised of a yes: each log of the rest verifies, the walks bound the diameter of the rest, and
-//! there is a run of SM(m) (L. Lamport, R. Shostak and M. Pease, "The Byzantine Generals Problem", ACM TOPLAS
-//! 4, 1982, sections 4 and 5) in which all of the rest follow the algorithm and keep exactly these logs. With
-//! at most m faulty generals the rest then decided alike. What is not: that the generals who are held for
-//! faulty are the traitors, or all of them.
+//! What a yes promises: each log of the rest verifies, and the walks bound the diameter of the rest. There is a run of
+//! SM(m) in which all of the rest follow the algorithm and keep exactly these logs. SM(m) is the algorithm of sections
+//! 4 and 5 of L. Lamport, R. Shostak and M. Pease, "The Byzantine Generals Problem", ACM TOPLAS 4, 1982. If at most m
+//! generals are faulty, the rest then decided alike.
+//!
+//! What a yes doesn't promise: that the generals that are held for faulty are the traitors, or all of them.
 #![tactic(auto)]
 
 mod audits;

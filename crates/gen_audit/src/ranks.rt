@@ -1,7 +1,7 @@
-//! What findings are sorted by.
+//! The ranks by which findings are sorted.
 
-/// The numbers of a finding's rank, 0 for those that it hasn't. Ranks are ordered by the first number, then by
-/// the next.
+/// The numbers of a finding's rank; a number that the finding doesn't have is 0. Ranks are ordered by the first number,
+/// then by the next.
 #[derive(Clone, Copy, PartialEq, Eq, PartialOrd, Ord)]
 pub(crate) struct Rank {
     /// The number of the finding, 1 to 11.

@@ -1,4 +1,4 @@
-//! Findings in their one order.
+//! Sorts findings into their one order.
 ghost use Rattle.std.specs.Prelude.{◌≡◌, ◌≢◌, ◌++◌, ◌∷◌, [], List, Contains, IfOk};
 ghost use Rattle.std.specs.Bool.{OnTrue, OnFalse};
 ghost use Rattle.std.specs.List.Sorted.{IsSortedByKey};
@@ -49,7 +49,7 @@ fn rank_of_two(number: u8, from: GeneralNo, to: GeneralNo, round: u8, order: u8)
     }
 }
 
-/// Returns the rank that a finding is sorted to.
+/// Returns the rank by which a finding is sorted.
 fn rank_of(finding: &Finding) -> Rank
     ensures { result ≡ sorting_rank finding.now }
 {
@@ -81,7 +81,7 @@ fn rank_of(finding: &Finding) -> Rank
     }
 }
 
-/// Returns whether two findings are the same, which they are if their ranks are.
+/// Returns whether two findings are equal. Their ranks are compared: findings with equal ranks are equal.
 fn are_same(one: &Finding, other: &Finding) -> bool
     ensures yes { OnTrue result (one.now ≡ other.now) }
     ensures no { OnFalse result (one.now ≢ other.now) }
@@ -89,7 +89,7 @@ fn are_same(one: &Finding, other: &Finding) -> bool
     rank_of(one) == rank_of(other)
 }
 
-/// Returns whether the finding is not the last of these.
+/// Returns whether the finding differs from the last of these, or there is none.
 fn is_new(findings: &[Finding], finding: &Finding) -> bool
     ensures yes { OnTrue result (
         (front : List Finding) → findings.now ≡ front ++ finding.now ∷ [] → ⊥) }
@@ -102,7 +102,7 @@ fn is_new(findings: &[Finding], finding: &Finding) -> bool
     }
 }
 
-/// Returns findings that are sorted by their ranks, each once.
+/// Returns each of the findings once. They are sorted by their ranks.
 fn each_once(alloc: Global, sorted: &[Finding]) -> Result<Vec<Finding>, AllocError>
     requires { IsSortedByKey sorting_rank rank_cmp sorted.now }
     ensures { IfOk result (λ findings. AreFindings (Contains sorted.now) findings.items) }
@@ -116,7 +116,7 @@ fn each_once(alloc: Global, sorted: &[Finding]) -> Result<Vec<Finding>, AllocErr
     Ok(findings)
 }
 
-/// Returns these findings in their one order, each once.
+/// Returns the findings in their one order, each once.
 ///
 /// # Errors
 ///

@@ -38,7 +38,7 @@ impl Decisions {
     }
 }
 
-/// What is found, in its one order.
+/// What is found in a bundle, in the one order of findings.
 #[derive(Debug, Drop)]
 pub struct Findings {
     findings: Vec<Finding>,
@@ -80,12 +80,12 @@ pub enum Verdict {
     No(Findings),
 }
 
-/// The judgement on a bundle: the verdict, and who is convicted by its exhibits. A conviction changes no verdict.
+/// The judgement on a bundle: the verdict, and the generals that its exhibits convict. A conviction changes no verdict.
 #[derive(Debug, Drop)]
 pub struct Judgement {
     /// The verdict.
     pub verdict: Verdict,
-    /// Of each general against whom the exhibits hold a contradiction the first one, in ascending order of
-    /// generals; of those who are held for faulty and of others.
+    /// The first contradiction of each general that the exhibits hold one of, in ascending order of generals. These may
+    /// be generals that are held for faulty and others.
     pub convictions: Vec<Evidence>,
 }

@@ -5,41 +5,41 @@ use Rattle.gen_net.specs.declared.version.Version.TheVariants.{One, Two}
 use Rattle.gen_net.specs.Header.{RunHeader, slot_of}
 use Rattle.gen_audit.specs.Bundle.{Bundle, IsBundle}
 
--- whether it is a bundle that stands alone, and the bundles
+-- what a contract sees of what is shown: whether it is a bundle that stands alone, and the bundles
 pub record CampaignBundle : Type 0 where
   pub alone : Bool
   pub bundles : List Bundle
 
--- the fewest and the most runs of a campaign
+-- the least and the greatest number of runs of a campaign
 abbrev pub fewest_runs : ℕ
 fewest_runs = 1
 
 abbrev pub most_runs : ℕ
 most_runs = 4
 
--- a run with the second header may stand behind one with the first: the generals are as many and have the
--- same keys, the slot is no less, and it is not the same run
+-- A run with the header h may stand behind a run with the header before. Both have the same number of
+-- generals and the same roots, the slot is not less, and the headers differ.
 pub record Joins (before h : RunHeader) : Type 0 where
   pub generals : before.network.generals ≡ h.network.generals
   pub roots : before.roots ≡ h.roots
   pub slot : slot_of before ≤ slot_of h
   pub other : before ≢ h
 
--- the same of two bundles
+-- the run of the bundle b may stand behind the run of the bundle before
 abbrev pub JoinsRun : Bundle → Bundle → Type 0
 JoinsRun before b = Joins before.header b.header
 
--- version 2, in which a tree of keys serves several runs
+-- the version is 2, in which a tree of keys serves several runs
 abbrev pub IsSecond : Version → Type 0
 IsSecond One = ⊥
 IsSecond (Two slot) = Unit {0}
 
--- a bundle of that version
+-- the bundle of a run: one of version 2
 pub record IsRun (b : Bundle) : Type 0 where
   pub bundle : IsBundle b
   pub second : IsSecond b.header.version
 
--- the bundles of 1 to 4 runs, each of which may stand behind each one before it
+-- the bundles of 1 to 4 runs, each of which may stand behind each run before it
 pub record AreRuns (bundles : List Bundle) : Type 0 where
   pub some : fewest_runs ≤ length bundles
   pub few : length bundles ≤ most_runs
@@ -51,7 +51,7 @@ abbrev pub IsAlone : List Bundle → Type 0
 IsAlone (b ∷ []) = IsBundle b
 IsAlone bundles = ⊥
 
--- what it keeps in either form
+-- what holds of the bundles in either form: alone, or of runs
 abbrev pub AreShown : Bool → List Bundle → Type 0
 AreShown true bundles = IsAlone bundles
 AreShown false bundles = AreRuns bundles

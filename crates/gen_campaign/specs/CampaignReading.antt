@@ -1,4 +1,4 @@
--- Reading from left to right what is shown of a campaign, with the first fault that is met.
+-- Reading what is shown of a campaign, from left to right, with the first fault that is met.
 use Rattle.std.specs.Prelude.{ℕ, zero, suc, Bool, true, false, not, ◌&&◌, ◌==◌, List, [], ◌∷◌, ◌++◌, length, drop, Result, Ok, Err, nat_le, if◌then◌else◌}
 use Rattle.std.specs.List.{list_all}
 use Rattle.std.specs.Int.{w32}
@@ -23,31 +23,32 @@ second_bundle_at bytes = do
   two ← check (mark.0 == bundle_marks.two) rules.UnknownMark
   bundle_at bytes
 
--- the same, as that of a run behind so many others
+-- a bundle of version 2 as that of run place, and the bytes after it; its faults are those of this run
 abbrev pub counted_at : ℕ → List ℕ → Result (Bundle × List ℕ) CampaignFault
 counted_at place bytes = map_fault (faults.BadRun place) (second_bundle_at bytes)
 
--- two runs have as many generals, and the same roots
+-- two runs have the same number of generals, and the same roots
 abbrev pub has_keys_of : RunHeader → RunHeader → Bool
 has_keys_of before h =
     before.network.generals == h.network.generals && same_roots before.roots h.roots
 
--- a run with the second header may stand behind one with the first
+-- a run with the header h may stand behind a run with the header before
 abbrev pub joins : RunHeader → RunHeader → Bool
 joins before h =
     has_keys_of before h && (nat_le (slot_of before) (slot_of h) && not (same_header before h))
 
--- it may stand behind all of these
+-- a run with the header h may stand behind each of these runs
 abbrev pub may_join : List Bundle → RunHeader → Bool
 may_join before h = list_all (λ b. joins b.header h) before
 
--- a run behind those before it, and n runs
+-- a run behind those before it, and the bytes after it
 unfoldable pub run_at : List Bundle → List ℕ → Result (Bundle × List ℕ) CampaignFault
 run_at before bytes = do
   run ← counted_at (length before) bytes
   joined ← check (may_join before run.0.header) faults.Unjoined
   Ok run
 
+-- n runs behind those before them, and the bytes after the last
 unfoldable pub runs_at : List Bundle → ℕ → List ℕ → Result (List Bundle × List ℕ) CampaignFault
 runs_at before zero bytes = Ok ([], bytes)
 runs_at before (suc n) bytes = do
@@ -55,11 +56,11 @@ runs_at before (suc n) bytes = do
   others ← runs_at (before ++ run.0 ∷ []) n run.1
   Ok (run.0 ∷ others.0, others.1)
 
--- there may be so many runs
+-- a campaign may have this many runs
 abbrev pub is_run_count : ℕ → Bool
 is_run_count count = nat_le fewest_runs count && nat_le count most_runs
 
--- the runs behind their number
+-- the number of runs, and then the runs; and the bytes after them
 unfoldable pub several_at : List ℕ → Result (CampaignBundle × List ℕ) CampaignFault
 several_at bytes = do
   count ← byte_at faults.NoCount bytes
@@ -67,7 +68,7 @@ several_at bytes = do
   runs ← runs_at [] count.0 count.1
   Ok (record { alone = false; bundles = runs.0 }, runs.1)
 
--- a bundle that stands alone
+-- a bundle that stands alone, and the bytes after it
 abbrev pub sole_at : List ℕ → Result (Bundle × List ℕ) CampaignFault
 sole_at bytes = map_fault faults.Alone (bundle_at bytes)
 
@@ -76,7 +77,7 @@ alone_at bytes = do
   b ← sole_at bytes
   Ok (record { alone = true; bundles = b.0 ∷ [] }, b.1)
 
--- the first four bytes are those of several runs
+-- the first four bytes are the mark of several runs, `SMC2`
 abbrev pub says_several : {F : Type 0} → Result (ℕ × List ℕ) F → Bool
 says_several (Ok mark) = mark.0 == campaign_mark
 says_several (Err fault) = false
@@ -84,7 +85,7 @@ says_several (Err fault) = false
 abbrev pub is_marked : List ℕ → Bool
 is_marked bytes = says_several (number_at faults.NoCount w32 bytes)
 
--- what is shown in either form, and the bytes after it
+-- what is shown of a campaign in either form, and the bytes after it
 unfoldable pub campaign_at : List ℕ → Result (CampaignBundle × List ℕ) CampaignFault
 campaign_at bytes = if is_marked bytes then several_at (drop 4 bytes) else alone_at bytes
 
@@ -92,7 +93,7 @@ campaign_at bytes = if is_marked bytes then several_at (drop 4 bytes) else alone
 abbrev pub left_over : CampaignBundle → CampaignFault
 left_over c = if c.alone then faults.Alone rules.LeftOver else faults.LeftOver
 
--- what the whole of the bytes shows
+-- what the bytes show of a campaign, of which none may be left over
 unfoldable pub whole_campaign : List ℕ → Result CampaignBundle CampaignFault
 whole_campaign bytes = do
   c ← campaign_at bytes

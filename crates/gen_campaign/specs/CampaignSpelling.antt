@@ -10,7 +10,8 @@ use Rattle.gen_campaign.specs.Campaign.{CampaignBundle}
 abbrev pub campaign_mark : ℕ
 campaign_mark = 1397572402
 
--- before the bundles of runs their mark and their number, and nothing before a bundle that stands alone
+-- the bytes before the bundles: the mark and the number of runs, or nothing before a bundle that stands
+-- alone
 abbrev pub front_with : Bool → List Bundle → List ℕ
 front_with true bundles = []
 front_with false bundles = to_be_bytes w32 campaign_mark ++ length bundles ∷ []
@@ -18,6 +19,6 @@ front_with false bundles = to_be_bytes w32 campaign_mark ++ length bundles ∷ [
 abbrev pub campaign_front : CampaignBundle → List ℕ
 campaign_front c = front_with c.alone c.bundles
 
--- that, and then each bundle's spelling
+-- these bytes, and then the spelling of each bundle
 abbrev pub campaign_spelling : CampaignBundle → List ℕ
 campaign_spelling c = campaign_front c ++ flat_map bundle_spelling c.bundles

@@ -18,7 +18,7 @@ use std::alloc::{AllocError, Global};
 use std::sync::Wait;
 use std::thread::Threads;
 
-/// The reports of all exhibits of a bundle, in their order, made by so many workers.
+/// Returns the reports on all exhibits of a bundle, in their order, made by this number of workers.
 fn reports_of_run<R: Threads + Wait + Sync, G: JobGate + Sync>(
     rt: &R,
     alloc: Global,
@@ -31,7 +31,7 @@ fn reports_of_run<R: Threads + Wait + Sync, G: JobGate + Sync>(
     reports_by_workers(rt, alloc, bundle.header(), bundle.exhibits(), workers, gate)
 }
 
-/// The judgement on a bundle of which these are the reports.
+/// Returns the judgement on a bundle whose exhibits have these reports.
 pub(crate) fn judgement_by(
     alloc: Global,
     bundle: &Bundle,
@@ -43,7 +43,7 @@ pub(crate) fn judgement_by(
     judge_reports(alloc, bundle, reports)
 }
 
-/// The judgement on a bundle, with the reports by which it was made.
+/// Returns the judgement on a bundle, with the reports by which it was made.
 fn judge_run<R: Threads + Wait + Sync, G: JobGate + Sync>(
     rt: &R,
     alloc: Global,
@@ -59,7 +59,7 @@ fn judge_run<R: Threads + Wait + Sync, G: JobGate + Sync>(
     Ok((judgement, reports))
 }
 
-/// Puts a judgement and its reports behind the others.
+/// Appends a judgement and its reports to those of the runs before.
 pub(crate) fn keep_run(
     judgements: &mut Vec<Judgement>,
     seen: &mut Vec<Vec<LocalReport>>,
@@ -74,7 +74,7 @@ pub(crate) fn keep_run(
     Ok(())
 }
 
-/// The judgements on bundles, one after the other, with the reports of each.
+/// Returns the judgements on the bundles, in their order, with the reports of each.
 fn judge_runs<R: Threads + Wait + Sync, G: JobGate + Sync>(
     rt: &R,
     alloc: Global,
@@ -94,7 +94,7 @@ fn judge_runs<R: Threads + Wait + Sync, G: JobGate + Sync>(
     Ok((judgements, seen))
 }
 
-/// Copies of the bundles' headers.
+/// Returns copies of the bundles' headers, in their order.
 fn headers_of(alloc: Global, bundles: &[Bundle]) -> Result<Vec<Header>, AllocError>
     ensures { IfOk result (λ headers. headers.items ≡ map (λ b. b.header) bundles.now) }
 {
@@ -105,7 +105,8 @@ fn headers_of(alloc: Global, bundles: &[Bundle]) -> Result<Vec<Header>, AllocErr
     Ok(headers)
 }
 
-/// What convicts generals across the runs of bundles, of which these are the reports.
+/// Returns the evidence that convicts generals across the runs of these bundles, whose exhibits have these
+/// reports.
 fn find_in_runs(
     alloc: Global,
     bundles: &[Bundle],
@@ -120,7 +121,8 @@ fn find_in_runs(
     find_across(alloc, headers.as_slice(), seen)
 }
 
-/// What convicts generals across the runs of what is shown, of whose bundles these are the reports.
+/// Returns the evidence that convicts generals across the runs of what is shown of a campaign, with these
+/// reports of its bundles.
 pub(crate) fn across_of(
     alloc: Global,
     campaign: &CampaignBundle,
@@ -136,17 +138,17 @@ pub(crate) fn across_of(
     find_in_runs(alloc, campaign.bundles(), seen)
 }
 
-/// Returns the verdict on a campaign: the judgement on each of its runs, as `audit` of `gen_audit` judges its bundle
-/// alone, one after the other; and the evidence that the exhibits of two runs hold together. It is the same however many
-/// workers there are.
+/// Returns the verdict on a campaign. For each run it has the judgement on the run's bundle alone, as
+/// `audit` of `gen_audit` makes it, in the order of the runs. It also has the evidence that the exhibits
+/// of two runs hold together. The verdict is the same for any number of workers.
 ///
-/// The reports of a run are made once, by the workers, as `audit` says; the gate is called for the pieces of each run,
-/// counted from 0 in each.
+/// The reports of a run are made once, by the workers, as `audit` says. The gate is called for the pieces
+/// of each run, which are counted from 0 in each run.
 ///
 /// # Errors
 ///
-/// `Memory` where it was refused to anybody; else `Thread` where a thread could not be started, for want of memory too.
-/// All threads have ended then.
+/// `Memory` if memory was refused to any thread; else `Thread` if a thread could not be started, for want
+/// of memory too. All threads have ended then.
 pub fn audit_campaign<R: Threads + Wait + Sync, G: JobGate + Sync>(
     rt: &R,
     alloc: Global,
@@ -154,13 +156,14 @@ pub fn audit_campaign<R: Threads + Wait + Sync, G: JobGate + Sync>(
     workers: WorkerCount,
     gate: &G,
 ) -> Result<CampaignVerdict, AuditFault>
-    // There are as many judgements as runs, in their order, and each has what `audit` promises of that run's bundle.
+    // There is one judgement for each run, in the order of the runs, and each has what `audit` promises
+    // for that run's bundle.
     ensures judged { IfOk result (λ v. AreJudged campaign.now.bundles v.judgements.items) }
-    // Each general of whom the exhibits of two runs hold two different texts under one leaf of one tree is convicted by
-    // the first two, and nobody else is.
+    // A general is convicted if and only if the exhibits of two runs hold two different texts of this
+    // general under one leaf of one tree. The first two such texts convict the general.
     ensures across { IfOk result (λ v.
         AreConvictedAcross (shown_bundles campaign.now.bundles) (map told_of v.across.items)) }
-    // All of that can be written.
+    // Each of these convictions can be written as evidence.
     ensures lawful { IfOk result (λ v. AreEvidenceAcross (map told_of v.across.items)) }
     // A bundle that stands alone convicts nobody across runs.
     ensures alone { IfOk result (λ v. campaign.now.alone ≡ true → v.across.items ≡ []) }

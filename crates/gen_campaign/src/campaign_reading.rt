@@ -1,4 +1,4 @@
-//! Reading what is shown of campaigns.
+//! Reading what is shown of campaigns from bytes.
 ghost use Rattle.std.specs.Arc.{arc_slice_items};
 ghost use Rattle.std.specs.Prelude.{◌≡◌, [], IfOk, Ok, length};
 ghost use Rattle.gen_types.specs.Reading.{Gives};
@@ -19,7 +19,8 @@ use std::sync::ArcSlice;
 /// The first four bytes of a bundle of version 2, `SMB2`.
 const SECOND_MARK: u32 = 0x534d_4232;
 
-/// The bundle of version 2 in front of the bytes, and the bytes after it.
+/// Reads the bundle of version 2 in front of the bytes. Returns it and the bytes after it. The bytes must
+/// be the end of the whole input.
 #[tactic(auto, unfolding(crate::specs::CampaignReading::second_bundle_at))]
 fn read_second<'a>(
     alloc: Global,
@@ -34,7 +35,7 @@ fn read_second<'a>(
     bundle_in_front(alloc, input, bytes)
 }
 
-/// The bundle of a run behind so many others, and the bytes after it.
+/// Reads the bundle of run `place`, counted from 0, and answers its faults as those of this run.
 fn read_counted<'a>(
     alloc: Global,
     input: &ArcSlice<u8>,
@@ -53,7 +54,7 @@ fn read_counted<'a>(
     }
 }
 
-/// A run behind those before it, whose number is `place`.
+/// Reads run `place`, counted from 0, which must be allowed to stand behind all runs before it.
 #[tactic(auto, unfolding(crate::specs::CampaignReading::run_at))]
 fn read_run<'a>(
     alloc: Global,
@@ -72,7 +73,7 @@ fn read_run<'a>(
     Ok((bundle, rest))
 }
 
-/// This many runs.
+/// Reads this many runs. Returns them and the bytes after the last.
 fn read_runs<'a>(
     alloc: Global,
     input: &ArcSlice<u8>,
@@ -92,14 +93,15 @@ fn read_runs<'a>(
     Ok((runs, rest))
 }
 
-/// Whether there may be so many runs.
+/// Whether a campaign may have this many runs: 1 to 4.
 fn is_run_count(count: u8) -> bool
     ensures { result ≡ reading.is_run_count count }
 {
     FEWEST_RUNS <= count && count <= MOST_RUNS
 }
 
-/// The runs behind their number.
+/// Reads the number of runs, and then the runs. Returns what they show of a campaign, and the bytes after
+/// them.
 #[tactic(auto, unfolding(crate::specs::CampaignReading::several_at))]
 fn read_several<'a>(
     alloc: Global,
@@ -119,7 +121,7 @@ fn read_several<'a>(
     Ok((campaign, rest))
 }
 
-/// The bundle that stands alone, and the bytes after it.
+/// Reads the bundle that stands alone, of either version. Returns it and the bytes after it.
 fn read_sole<'a>(
     alloc: Global,
     input: &ArcSlice<u8>,
@@ -135,7 +137,7 @@ fn read_sole<'a>(
     }
 }
 
-/// What is shown by a bundle that stands alone, and the bytes after it.
+/// Reads a bundle that stands alone. Returns what it shows of a campaign, and the bytes after it.
 #[tactic(auto, unfolding(crate::specs::CampaignReading::alone_at))]
 fn read_alone<'a>(
     alloc: Global,
@@ -155,7 +157,7 @@ fn read_alone<'a>(
     Ok((campaign, rest))
 }
 
-/// Whether the bytes begin as those of several runs do.
+/// Whether the bytes begin with `SMC2`, as those of several runs do.
 fn is_marked(bytes: &[u8]) -> bool
     ensures { result ≡ reading.is_marked bytes.now }
 {
@@ -165,7 +167,8 @@ fn is_marked(bytes: &[u8]) -> bool
     }
 }
 
-/// What is shown in front of the bytes, in either form, and the bytes after it.
+/// Reads what is shown of a campaign in front of the bytes, in either form. Returns it and the bytes after
+/// it.
 #[tactic(auto, unfolding(crate::specs::CampaignReading::campaign_at))]
 fn campaign_in_front<'a>(
     alloc: Global,
@@ -182,7 +185,7 @@ fn campaign_in_front<'a>(
     read_alone(alloc, input, bytes)
 }
 
-/// The fault of bytes that are left over, in either form.
+/// Returns the fault of bytes that are left over behind a campaign of either form.
 fn left_over(campaign: &CampaignBundle) -> CampaignFault
     ensures { result ≡ reading.left_over campaign.now }
 {
@@ -193,7 +196,7 @@ fn left_over(campaign: &CampaignBundle) -> CampaignFault
     }
 }
 
-/// What the whole input shows, which these bytes are.
+/// Reads what the whole input shows of a campaign. `bytes` is the whole input.
 #[tactic(auto, unfolding(crate::specs::CampaignReading::whole_campaign))]
 fn campaign_alone(
     alloc: Global,
@@ -208,7 +211,8 @@ fn campaign_alone(
     Ok(campaign)
 }
 
-/// What the whole input shows, which these bytes are: what is found, and what alone can be.
+/// Reads what the whole input shows of a campaign. `bytes` is the whole input. The contract says what is
+/// returned, and for which bytes.
 fn campaign_of(
     alloc: Global,
     input: &ArcSlice<u8>,
@@ -222,7 +226,8 @@ fn campaign_of(
     campaign_alone(alloc, input, bytes)
 }
 
-/// As `read_campaign`, but the bytes are taken and not copied: the exhibits of all runs share them.
+/// Reads a campaign as `read_campaign` does, but the bytes are taken and not copied: the exhibits of all
+/// runs share them.
 ///
 /// # Errors
 ///
@@ -231,34 +236,38 @@ pub fn read_taken_campaign(
     alloc: Global,
     input: Vec<u8>,
 ) -> Result<CampaignBundle, ReadError<CampaignFault>>
-    // What is read is a campaign, and the bytes are its spelling.
+    // What is returned is a campaign, and the bytes are its spelling.
     ensures found { IfOk result (Spells IsCampaign campaign_spelling input.items) }
-    // What the bytes spell is read, unless memory runs out.
+    // If the bytes spell a campaign, this campaign is returned, unless memory runs out.
     ensures only { (c : Told) → Spells IsCampaign campaign_spelling input.items c → IsRead result (Ok c) }
-    // Which fault it is.
+    // The campaign or the fault is that of the definition, unless memory runs out.
     ensures exact { IsRead result (reading.whole_campaign input.items) }
 {
     let input = ArcSlice::from_vec(input)?;
     campaign_of(alloc, &input, input.as_slice())
 }
 
-/// Returns what all the bytes show of a campaign: four bytes `SMC2`, the number of runs, 1 to 4, and for each run a
-/// bundle of version 2, as `read_bundle` of `gen_audit` reads it. All runs have as many generals and the same roots; no
-/// slot is less than that of a run before, and no header is that of a run before. Other bytes are read as a bundle that
-/// stands alone. The bytes are copied once, for all exhibits, and the logs are not read.
+/// Returns what the bytes show of a campaign. They are four bytes `SMC2`, one byte with the number of
+/// runs, 1 to 4, and for each run a bundle of version 2, as `read_bundle` of `gen_audit` reads it. All
+/// runs have the same number of generals and the same roots. No run has a lesser slot than a run before
+/// it, or the header of a run before it. Bytes that do not begin with `SMC2` are read as a bundle that
+/// stands alone.
+///
+/// The bytes are copied once, for all exhibits. The logs in them are not read.
 ///
 /// # Errors
 ///
-/// The first fault of `CampaignFault` from left to right; and Memory where memory was refused before.
+/// The first fault of `CampaignFault` from left to right. Memory if memory was refused before a fault was
+/// met.
 pub fn read_campaign(
     alloc: Global,
     bytes: &[u8],
 ) -> Result<CampaignBundle, ReadError<CampaignFault>>
-    // What is read is a campaign, and the bytes are its spelling.
+    // What is returned is a campaign, and the bytes are its spelling.
     ensures found { IfOk result (Spells IsCampaign campaign_spelling bytes.now) }
-    // What the bytes spell is read, unless memory runs out.
+    // If the bytes spell a campaign, this campaign is returned, unless memory runs out.
     ensures only { (c : Told) → Spells IsCampaign campaign_spelling bytes.now c → IsRead result (Ok c) }
-    // Which fault it is.
+    // The campaign or the fault is that of the definition, unless memory runs out.
     ensures exact { IsRead result (reading.whole_campaign bytes.now) }
 {
     read_taken_campaign(alloc, Vec::from_slice(alloc, bytes)?)

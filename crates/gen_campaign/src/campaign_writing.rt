@@ -1,4 +1,4 @@
-//! Writing what is shown of campaigns.
+//! Writing what is shown of campaigns as bytes.
 ghost use Rattle.std.specs.Prelude.{◌≡◌, ◌++◌, IfOk, OnOk};
 ghost use Rattle.std.specs.List.{flat_map};
 ghost use Rattle.gen_audit.specs.BundleSpelling.{bundle_spelling};
@@ -8,7 +8,7 @@ use crate::campaigns::{CAMPAIGN_MARK, CampaignBundle};
 use gen_audit::{Bundle, write_bundle};
 use std::alloc::{AllocError, Global};
 
-/// Appends bundles.
+/// Appends the bytes of the bundles, one after another.
 fn put_bundles(alloc: Global, out: &mut Vec<u8>, bundles: &[Bundle]) -> Result<(), AllocError>
     ensures { OnOk result (out.new.items ≡ out.old.items ++ flat_map bundle_spelling bundles.now) }
 {
@@ -19,7 +19,8 @@ fn put_bundles(alloc: Global, out: &mut Vec<u8>, bundles: &[Bundle]) -> Result<(
     Ok(())
 }
 
-/// Returns what stands before the bundles.
+/// Returns the bytes that stand before the bundles: the mark and the number of runs, or nothing before a
+/// bundle that stands alone.
 fn front_of(alloc: Global, campaign: &CampaignBundle) -> Result<Vec<u8>, AllocError>
     ensures { IfOk result (λ bytes. bytes.items ≡ campaign_front campaign.now) }
 {
@@ -31,8 +32,8 @@ fn front_of(alloc: Global, campaign: &CampaignBundle) -> Result<Vec<u8>, AllocEr
     Ok(out)
 }
 
-/// Returns the one spelling of what is shown of a campaign, as `read_campaign` reads it. It fails only where memory was
-/// refused.
+/// Returns the one spelling of what is shown of a campaign, as `read_campaign` reads it. It fails only if
+/// memory was refused.
 pub fn write_campaign(alloc: Global, campaign: &CampaignBundle) -> Result<Vec<u8>, AllocError>
     ensures { IfOk result (λ bytes. bytes.items ≡ campaign_spelling campaign.now) }
 {

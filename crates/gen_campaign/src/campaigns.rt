@@ -5,7 +5,8 @@ ghost use Rattle.gen_campaign.specs.Campaign.{IsCampaign};
 use gen_audit::Bundle;
 use std::marker::Model;
 
-/// The first four bytes of a campaign that is no bundle alone, `SMC2`.
+/// The first four bytes of what is shown of a campaign, `SMC2`, as a number. A bundle that stands alone
+/// does not have them.
 pub const CAMPAIGN_MARK: u32 = 0x534d_4332;
 
 /// The fewest runs of a campaign.
@@ -14,8 +15,9 @@ pub const FEWEST_RUNS: u8 = 1;
 /// The most runs of a campaign.
 pub const MOST_RUNS: u8 = 4;
 
-/// What is shown of a campaign: 1 to 4 bundles of version 2, one for each run, each joined to those before it; or a
-/// bundle that stands alone, of version 1 or 2. A contract sees which form it is, and the bundles.
+/// What is shown of a campaign. It is 1 to 4 bundles of version 2, one for each run, each of which may
+/// stand behind those before it; or it is a bundle that stands alone, of version 1 or 2. A contract sees
+/// which of the two it is, and the bundles.
 #[derive(Drop)]
 pub struct CampaignBundle {
     pub(crate) alone: bool,
@@ -33,7 +35,7 @@ impl Model for CampaignBundle {
 }
 
 impl CampaignBundle {
-    /// Returns whether it is a bundle that stands alone.
+    /// Returns whether this is a bundle that stands alone.
     pub fn is_alone(&self) -> bool
         ensures value { result ≡ self.now.alone }
         ensures campaign { IsCampaign self.now }

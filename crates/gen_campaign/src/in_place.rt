@@ -1,4 +1,4 @@
-//! The audit of a campaign in the thread that calls.
+//! The audit of a campaign in the caller's thread.
 ghost use Rattle.std.specs.Prelude.{◌≡◌, [], true, IfOk, map};
 ghost use Rattle.std.specs.List.{AllZip};
 ghost use Rattle.gen_convict.specs.AcrossLaws.{AreConvictedAcross, AreEvidenceAcross};
@@ -14,7 +14,8 @@ use gen_chain::VerifyStore;
 use gen_local::{LocalReport, local_reports};
 use std::alloc::{AllocError, Global};
 
-/// The reports of all exhibits of a bundle, in their order, through one store of verifications.
+/// Returns the reports on all exhibits of a bundle, in their order. One store of verifications serves them
+/// all.
 fn reports_in_place(alloc: Global, bundle: &Bundle) -> Result<Vec<LocalReport>, AllocError>
     ensures { IfOk result (λ reports. AreReports bundle.now reports.items) }
 {
@@ -22,7 +23,7 @@ fn reports_in_place(alloc: Global, bundle: &Bundle) -> Result<Vec<LocalReport>, 
     local_reports(alloc, bundle.header(), bundle.exhibits(), &mut store)
 }
 
-/// The judgement on a bundle, with the reports by which it was made.
+/// Returns the judgement on a bundle, with the reports by which it was made.
 fn judge_run_in_place(
     alloc: Global,
     bundle: &Bundle,
@@ -35,7 +36,7 @@ fn judge_run_in_place(
     Ok((judgement, reports))
 }
 
-/// The judgements on bundles, one after the other, with the reports of each.
+/// Returns the judgements on the bundles, in their order, with the reports of each.
 fn judge_runs_in_place(
     alloc: Global,
     bundles: &[Bundle],
@@ -52,12 +53,13 @@ fn judge_runs_in_place(
     Ok((judgements, seen))
 }
 
-/// Returns the verdict on a campaign, as `audit_campaign` does, but starts no thread and waits for none: for callers
-/// who have no threads to give. Its clauses are those of `audit_campaign`, so the verdict is the same.
+/// Returns the verdict on a campaign, as `audit_campaign` does, but starts no thread and waits for none.
+/// It is for callers that have no threads to give. Its clauses are those of `audit_campaign`, so the
+/// verdict is the same.
 ///
 /// # Errors
 ///
-/// `AllocError` where memory is refused.
+/// `AllocError` if memory is refused.
 pub fn audit_campaign_in_place(
     alloc: Global,
     campaign: &CampaignBundle,

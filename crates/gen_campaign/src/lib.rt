@@ -1,10 +1,12 @@
-//! Campaigns: up to four runs of the signed message algorithm whose generals sign with one tree of keys each.
+//! Campaigns: up to four runs of the signed message algorithm, in which each general signs with one tree
+//! of keys.
 //!
-//! What is shown of a campaign is a list of bundles, one for each run, in ascending order of slots. A bundle
-//! alone is read too, as what is shown of one run, and is written again in that form.
+//! What is shown of a campaign is a list of bundles, one for each run, in ascending order of slots. A
+//! bundle that stands alone is read too, as what is shown of one run, and it is written again in that
+//! form.
 //!
-//! The audit of a campaign judges each run alone, and convicts a general of whom two runs show different
-//! texts under one leaf.
+//! The audit of a campaign judges each run alone. It also convicts each general of which two runs show
+//! different texts under one leaf.
 #![tactic(auto)]
 
 mod auditing;

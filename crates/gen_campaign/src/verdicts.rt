@@ -7,14 +7,15 @@ ghost use Rattle.gen_campaign.specs.Judged.{AreYes, says_yes};
 use gen_audit::{Judgement, Verdict};
 use gen_convict::Evidence;
 
-/// The verdict on a campaign: the judgements on its runs, and who is convicted across them. A conviction changes no
-/// judgement.
+/// The verdict on a campaign: the judgements on its runs, and the convictions across them. A conviction
+/// changes no judgement.
 #[derive(Debug, Drop)]
 pub struct CampaignVerdict {
     /// The judgement on each run, run by run.
     pub judgements: Vec<Judgement>,
-    /// Of each general of whom two runs show texts that contradict each other the first two, in ascending order of
-    /// generals; of those who are held for faulty and of others.
+    /// The convictions across two runs, in ascending order of generals. Each general of which two runs
+    /// show texts that contradict each other is convicted by the first two such texts, whether the general
+    /// is held for faulty or not.
     pub across: Vec<Evidence>,
 }
 
@@ -28,7 +29,7 @@ fn says_yes(verdict: &Verdict) -> bool
     }
 }
 
-/// Whether the verdicts of all judgements are.
+/// Whether the verdict of each judgement is a yes.
 fn all_say_yes(judgements: &[Judgement]) -> bool
     ensures { result ≡ list_all (λ j. says_yes j.verdict) judgements.now }
 {
@@ -38,7 +39,7 @@ fn all_say_yes(judgements: &[Judgement]) -> bool
 }
 
 impl CampaignVerdict {
-    /// Returns whether the verdict on each run is a yes; who is convicted doesn't count.
+    /// Returns whether the verdict on each run is a yes. Convictions don't count.
     pub fn is_yes(&self) -> bool
         ensures { Decides result (AreYes self.now.judgements.items) }
     {

@@ -4,7 +4,7 @@ use Rattle.gen_scenario.specs.Scenario.{Scenario}
 use Rattle.gen_series.specs.Campaign.{campaign_of}
 use Rattle.gen_campaign_text.specs.CampaignText.{SpellsCampaignText}
 
--- each rule of campaigns is kept
+-- the scenarios that a text spells keep each rule of campaigns
 abbrev pub TextsMakeCampaigns : Type 0
 TextsMakeCampaigns =
     (text : List ℕ) (runs : List Scenario) → SpellsCampaignText text runs → campaign_of runs ≡ Ok runs

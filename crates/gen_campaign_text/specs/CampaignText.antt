@@ -1,4 +1,4 @@
--- Which texts spell a campaign, apart from how they are read.
+-- Which texts spell a campaign. How a text is read is told elsewhere, in CampaignTextReading.
 use Rattle.std.specs.Prelude.{ℕ, ◌≡◌, ◌≤◌, ◌<◌, List, [], ◌∷◌, ◌++◌, length, codes, All, AllPairs}
 use Rattle.gen_net.specs.Version.{slot_in}
 use Rattle.gen_scenario.specs.Scenario.{Scenario}
@@ -7,31 +7,31 @@ use Rattle.gen_report.specs.declared.scenario_text.ScenarioText.TheVariants as t
 use Rattle.gen_report.specs.Fields.{line_of, said}
 use Rattle.gen_report.specs.Scenario.{SpellsScenario}
 
--- the second scenario may stand behind the first in a campaign: the generals are as many, the seed is the
--- same, and the slot is greater
+-- the second scenario may stand behind the first in a campaign: both have the same number of generals and
+-- the same seed, and the slot of the second is greater
 pub record Precedes (s t : Scenario) : Type 0 where
   pub generals : s.net.generals ≡ t.net.generals
   pub seed : s.master ≡ t.master
   pub slot : slot_in s.version < slot_in t.version
 
--- it is of version 2, which has slots
+-- the scenario is of version 2, which has slots
 abbrev pub HasSlot : Scenario → Type 0
 HasSlot s = IsSecond s.version
 
--- 1 to 4 scenarios of version 2, each of which may stand behind each one before it
+-- 1 to 4 scenarios of version 2, each of which may stand behind each scenario before it
 pub record AreOneCampaign (runs : List Scenario) : Type 0 where
   pub some : fewest_runs ≤ length runs
   pub few : length runs ≤ most_runs
   pub slots : All HasSlot runs
   pub ordered : AllPairs Precedes runs
 
--- The text is made of texts that spell these, one after another.
+-- The text is made of texts that spell these scenarios, one after another.
 abbrev pub SpellsTexts : List ℕ → List Scenario → Type 0
 SpellsTexts text [] = text ≡ []
 SpellsTexts text (s ∷ others) =
     (one rest : List ℕ) × (text ≡ one ++ rest) × SpellsScenario one (texts.Signed s) × SpellsTexts rest others
 
--- The text spells these: a line with their number, and behind it their texts.
+-- The text spells these scenarios: it is a line with their number, and behind it their texts.
 pub record SpellsCampaignText (text : List ℕ) (runs : List Scenario) : Type 0 where
   pub behind : List ℕ
   pub text_is : text ≡ line_of (said (codes "campaign") (length runs)) ++ 10 ∷ behind

@@ -1,4 +1,5 @@
--- Which scenarios the text of a campaign says, line by line, or which fault is its first and in which line.
+-- The scenarios that the text of a campaign says, read line by line, or its first fault and the line of
+-- this fault.
 use Rattle.std.specs.Prelude.{ℕ, zero, suc, Bool, List, [], ◌∷◌, ◌++◌, codes, Option, Some, None, Result, Ok, Err, nat_lt, ◌==◌}
 use Rattle.std.specs.List.{list_all}
 use Rattle.std.specs.Str.{bytes_eq}
@@ -15,25 +16,25 @@ use Rattle.gen_report.specs.NumbersReading.{plain_at}
 use Rattle.gen_report.specs.KeysReading.{seed_at, slot_at}
 use Rattle.gen_report.specs.ScenarioReading.{signed_at}
 
--- each of these has so many generals
+-- each of these scenarios has n generals
 abbrev pub has_generals_of : List Scenario → ℕ → Bool
 has_generals_of before n = list_all (λ s. s.net.generals == n) before
 
--- each has this seed
+-- each of these scenarios has this seed
 abbrev pub has_seed_of : List Scenario → List ℕ → Bool
 has_seed_of before seed = list_all (λ s. bytes_eq s.master seed) before
 
--- the slot is greater than that of each
+-- the slot is greater than that of each of these scenarios
 abbrev pub comes_after : List Scenario → ℕ → Bool
 comes_after before slot = list_all (λ s. nat_lt (slot_in s.version) slot) before
 
--- what the line k says, which may not be absent
+-- what was read at line k, which may not be absent
 abbrev pub owed : {A : Type 0} → ℕ → Option A → Result A ScenarioFault
 owed k None = Err (fault_at Shape k)
 owed k (Some x) = Ok x
 
--- the network and the order of a text behind these, and the cursor behind their lines: another number of
--- generals is told of its own line
+-- The network and the order of a text behind these, and the cursor behind their lines. Another number of
+-- generals is a fault of the line that has it.
 unfoldable pub like_plain_at : List Scenario → Cursor → Result (Plain × Cursor) ScenarioFault
 like_plain_at before c = do
   n ← numbered (codes "generals") c
@@ -48,7 +49,7 @@ like_seed_at before c = do
   same ← check (has_seed_of before master) (fault_at Unlike c.line)
   Ok (master, seed.1)
 
--- the slot of a text behind these is greater than theirs
+-- the slot of a text behind these, which must be greater than theirs
 unfoldable pub later_slot_at : List Scenario → Cursor → Result (Unit {0}) ScenarioFault
 later_slot_at before c = do
   slot ← slot_at c

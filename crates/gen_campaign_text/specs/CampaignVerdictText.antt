@@ -1,4 +1,4 @@
--- The text of the verdicts on all runs of a campaign, and of who is convicted across two of them.
+-- The text of the verdicts on all runs of a campaign, and of the convictions across two of them.
 use Rattle.std.specs.Prelude.{ℕ, List, [], ◌∷◌, ◌++◌, length, map, codes, if◌then◌else◌}
 use Rattle.std.specs.List.{flat_map, position_or_len}
 use Rattle.std.specs.Fmt.{decimal}
@@ -11,23 +11,24 @@ use Rattle.gen_audit.specs.declared.verdicts.Judgement.{Judgement}
 use Rattle.gen_campaign.specs.Campaign.{CampaignBundle}
 use Rattle.gen_report.specs.VerdictText.{convicted_line, verdict_text}
 
--- the texts of the verdicts, run by run
+-- the texts of the verdicts, run by run; a run without a judgement has none
 abbrev pub verdict_texts : List Bundle → List Judgement → List ℕ
 verdict_texts [] judgements = []
 verdict_texts (b ∷ bundles) [] = []
 verdict_texts (b ∷ bundles) (j ∷ judgements) =
     verdict_text b.header j.verdict (map told_of j.convictions.items) ++ verdict_texts bundles judgements
 
--- the place of the run with this header: how many runs stand before it
+-- the place of the run with this header: the number of runs before it, or of all runs if none has the
+-- header
 abbrev pub place_of : List Bundle → RunHeader → ℕ
 place_of bundles h = position_or_len (λ b. same_header b.header h) bundles
 
--- two runs by their places
+-- the end of a line of a conviction, which names two runs by their places
 abbrev pub places_named : ℕ → ℕ → List ℕ
 places_named first second =
     codes " by K1 across " ++ decimal first ++ codes " " ++ decimal second ++ codes "\n"
 
--- who is convicted across which runs; evidence of one run alone is named by its kind
+-- the line of a conviction across two runs, or of evidence of one run alone, which is named by its kind
 abbrev pub across_line_of : List Bundle → ℕ → Claim → List ℕ
 across_line_of bundles accused (AcrossRuns x y) =
     codes "convicted " ++ decimal accused
@@ -37,13 +38,15 @@ across_line_of bundles accused claim = convicted_line (record { accused = accuse
 abbrev pub across_line : List Bundle → Accusation → List ℕ
 across_line bundles e = across_line_of bundles e.accused e.claim
 
--- the number of runs, the verdicts on them, the convictions across two runs, and an end
+-- the text of several runs: their number, the verdicts on them, the convictions across two of them, and an
+-- end
 abbrev pub several_text : List Bundle → List Judgement → List Accusation → List ℕ
 several_text bundles judgements across =
     codes "campaign " ++ decimal (length bundles) ++ codes "\n" ++ verdict_texts bundles judgements
     ++ flat_map (across_line bundles) across ++ codes "end campaign\n"
 
--- the same where several runs are shown; of a bundle that stands alone it is the text of its verdict
+-- the text of the verdict on what is shown of a campaign: that of several runs, or of a bundle that stands
+-- alone the text of its verdict
 abbrev pub campaign_text : CampaignBundle → List Judgement → List Accusation → List ℕ
 campaign_text c judgements across =
     if c.alone then verdict_texts c.bundles judgements else several_text c.bundles judgements across

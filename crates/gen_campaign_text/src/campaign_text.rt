@@ -1,4 +1,4 @@
-//! Reading campaigns as texts.
+//! Reading campaigns from texts.
 ghost use Rattle.std.specs.Prelude.{◌≡◌, List, [], All, IfOk, Ok};
 ghost use Rattle.gen_types.specs.Reading.{Gives};
 ghost use Rattle.gen_types.specs.Spelled.{IsRead};
@@ -20,10 +20,12 @@ use gen_scenario::{PlainScenario, SignedPlan};
 use gen_types::ReadError;
 use std::alloc::Global;
 
-/// The most scenario texts of a campaign.
+/// The greatest number of scenario texts of a campaign.
 const MOST_TEXTS: u8 = 4;
 
-/// Returns the network and the order whose lines begin here, behind these texts, and the cursor behind them.
+/// Reads the lines of a network and of an order of a text behind these texts. Returns the two, and the
+/// cursor behind the lines. The fault is `Unlike` at the line of the generals if their number is not that
+/// of the texts before.
 #[tactic(auto, unfolding(crate::specs::CampaignTextReading::like_plain_at))]
 fn read_like_plain<'a>(
     alloc: Global,
@@ -39,7 +41,9 @@ fn read_like_plain<'a>(
     read_plain(alloc, start)
 }
 
-/// Returns the seed whose line begins here, behind these texts, and the cursor behind it.
+/// Reads the line of a seed of a text behind these texts. Returns the seed, and the cursor behind the
+/// line. The fault is `Shape` if the line is absent, and `Unlike` if the seed is not that of the texts
+/// before.
 #[tactic(auto, unfolding(crate::specs::CampaignTextReading::like_seed_at))]
 fn read_like_seed<'a>(
     alloc: Global,
@@ -59,7 +63,8 @@ fn read_like_seed<'a>(
     Ok((master, after))
 }
 
-/// Passes where the line of a slot begins here that is greater than those of these texts.
+/// Tests that the line of a slot stands here, and that its slot is greater than those of these texts. The
+/// fault is `Shape` if the line is absent, and `Unlike` if the slot is not greater.
 #[tactic(auto, unfolding(crate::specs::CampaignTextReading::later_slot_at))]
 fn check_slot(
     alloc: Global,
@@ -78,7 +83,8 @@ fn check_slot(
     Ok(())
 }
 
-/// Returns the scenario whose text begins here, behind these texts, and the cursor behind its last line.
+/// Reads a scenario text behind these texts. Returns the scenario, and the cursor behind the last line of
+/// its text.
 #[tactic(auto, unfolding(crate::specs::CampaignTextReading::text_at))]
 fn read_text<'a>(
     alloc: Global,
@@ -92,12 +98,13 @@ fn read_text<'a>(
     let (master, rest) = read_like_seed(alloc, before, rest)?;
     check_slot(alloc, before, &rest)?;
     let (signed, after) = read_signed(alloc, plain, master, rest)?;
-    // What each scenario keeps, a read of it tells.
+    // This read of the scenario makes known to the proof what holds of each scenario.
     let _scripts = signed.scripts();
     Ok((signed, after))
 }
 
-/// Returns this many scenarios whose texts begin here, one after another, and the cursor behind the last.
+/// Reads this many scenario texts, one after another. Returns the scenarios, and the cursor behind the
+/// last text.
 fn read_texts<'a>(
     alloc: Global,
     count: u8,
@@ -116,14 +123,14 @@ fn read_texts<'a>(
     Ok((plans, cursor))
 }
 
-/// Returns whether a campaign may have so many texts.
+/// Returns whether a campaign may have this many texts: 1 to 4.
 fn is_text_count(count: u8) -> bool
     ensures { result ≡ is_run_count count }
 {
     0 < count && count <= MOST_TEXTS
 }
 
-/// Reads the text line by line.
+/// Reads the text of a campaign line by line.
 #[tactic(auto, unfolding(crate::specs::CampaignTextReading::campaign_text_of))]
 fn whole(alloc: Global, text: &[u8]) -> Result<Vec<SignedPlan>, ReadError<ScenarioFault>>
     ensures exact { Gives (λ v. v.items) result (campaign_text_of text.now) }
@@ -140,33 +147,35 @@ fn whole(alloc: Global, text: &[u8]) -> Result<Vec<SignedPlan>, ReadError<Scenar
     Ok(plans)
 }
 
-/// Returns the scenarios that the text of a campaign spells: a line `campaign N`, N from 1 to 4, and behind it N scenario
-/// texts as `read_scenario` of `gen_report` reads them, each with a seed and a slot. All have as many generals and the same
-/// seed, and the slots ascend strictly. Lines count through the whole text.
+/// Returns the scenarios that the text of a campaign spells. The text is a line `campaign N`, N from 1 to
+/// 4, and behind it N scenario texts, as `read_scenario` of `gen_report` reads them, each with a seed and
+/// a slot. All have the same number of generals and the same seed, and the slots ascend strictly. Lines
+/// count through the whole text.
 ///
 /// # Errors
 ///
-/// The text's first fault and its line. Of the lines of a scenario's text the faults are those of `read_scenario`, but for
-/// these: `Unlike` where the number of generals or the seed is another than that of a text before, or the slot isn't
-/// greater, after that line's own faults and before any of a later line; `Shape` of the line that stands where the
-/// seed or the slot is absent; and `Extra` of bytes behind the last text alone. `RunCount` where N isn't 1 to 4.
-/// Memory where memory was refused before a fault was met.
+/// The text's first fault, with its line. The lines of a scenario text have the faults of `read_scenario`,
+/// with these differences. `Unlike`: the number of generals or the seed is not that of a text before, or
+/// the slot is not greater than that of a text before. It comes after that line's own faults, and before
+/// any fault of a later line. `Shape`: the seed or the slot is absent; the fault is that of the line that
+/// stands in its place. `Extra`: bytes follow the last text; what follows any other text is no such fault.
+/// `RunCount`: N is not 1 to 4. Memory if memory was refused before a fault was met.
 pub fn read_campaign_text(
     alloc: Global,
     text: &[u8],
 ) -> Result<Vec<SignedPlan>, ReadError<ScenarioFault>>
-    // What is read is spelled so.
+    // The text spells the scenarios that are returned.
     ensures found { IfOk result (λ v. SpellsCampaignText text.now v.items) }
-    // What is spelled so is read, unless memory runs out.
+    // If the text spells scenarios, these are returned, unless memory runs out.
     ensures only { (runs : List Scenario) → SpellsCampaignText text.now runs
         → Gives (λ v. v.items) result (Ok runs) }
-    // Which fault is the first, and of which line.
+    // The scenarios, or the fault and its line, are those of the definition, unless memory runs out.
     ensures exact { Gives (λ v. v.items) result (campaign_text_of text.now) }
 {
     whole(alloc, text)
 }
 
-/// A text spells at most one campaign.
+/// States that a text spells at most one campaign.
 ///
 /// A law: a function with an empty body, whose caller knows what it ensures.
 pub fn one_campaign_text()

@@ -1,9 +1,10 @@
-//! Campaigns as texts: scenario texts one after another that are read, and verdicts of all runs that are
+//! Campaigns as texts. Scenario texts, one after another, are read, and the verdicts on all runs are
 //! printed.
 //!
-//! The text of a campaign has a line `campaign N`, and behind it N scenario texts, each with the same number
-//! of generals, the same seed, and a greater slot than the one before. `read_campaign_text` says exactly
-//! which texts are campaigns, and of each other text which fault comes first and in which line.
+//! The text of a campaign is a line `campaign N`, and behind it N scenario texts. All have the same number
+//! of generals and the same seed, and each has a greater slot than the one before it. The contract of
+//! `read_campaign_text` says which texts are campaigns, and of each other text which fault comes first and
+//! in which line.
 #![tactic(auto)]
 
 mod campaign_text;

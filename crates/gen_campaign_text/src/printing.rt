@@ -21,14 +21,15 @@ use gen_net::Header;
 use gen_report::print_verdict;
 use std::alloc::{AllocError, Global};
 
-/// Returns the index of the first run with this header.
+/// Returns the index of the first run with this header, and None if there is none.
 fn first_with(bundles: &[Bundle], header: &Header) -> Option<usize>
     ensures { result ≡ position (λ b. same_header b.header header.now) bundles.now }
 {
     bundles.iter().position(|run| run.header() == header)
 }
 
-/// Returns the place of the run with this header: how many runs stand before it, which are all where none has it.
+/// Returns the place of the run with this header, counted from 0, or the number of all runs if none has
+/// it.
 fn place_of(bundles: &[Bundle], header: &Header) -> usize
     ensures { result ≡ place_of bundles.now header.now }
 {
@@ -38,11 +39,13 @@ fn place_of(bundles: &[Bundle], header: &Header) -> usize
     }
 }
 
-/// Appends the line of a conviction across two runs: who is convicted, and the places of the two runs among these bundles.
+/// Appends the line of a conviction across two runs: the general that is convicted, and the places of the
+/// two runs among these bundles. If the evidence is of one run alone, the line has its kind, K1 to K4, in
+/// place of the runs.
 ///
 /// # Errors
 ///
-/// `AllocError` where memory is refused; then what stands in `out` isn't said.
+/// `AllocError` if memory is refused; then nothing is promised of what stands in `out`.
 pub fn push_across(
     out: &mut String,
     bundles: &[Bundle],
@@ -65,7 +68,7 @@ pub fn push_across(
     }
 }
 
-/// Appends the lines of convictions across two runs.
+/// Appends the lines of convictions across two runs, in their order.
 fn push_all_across(
     out: &mut String,
     bundles: &[Bundle],
@@ -80,7 +83,7 @@ fn push_all_across(
     Ok(())
 }
 
-/// Returns the line of the number of runs.
+/// Returns the first line of several runs: `campaign N`, where N is the number of runs.
 fn front_line(alloc: Global, runs: usize) -> Result<Vec<u8>, AllocError>
     ensures { IfOk result (λ v. v.items ≡ codes "campaign " ++ decimal runs ++ codes "\n") }
 {
@@ -89,7 +92,7 @@ fn front_line(alloc: Global, runs: usize) -> Result<Vec<u8>, AllocError>
     Ok(out.into_bytes())
 }
 
-/// Returns the lines behind the verdicts.
+/// Returns the lines behind the verdicts: those of the convictions across two runs, and `end campaign`.
 fn last_lines(alloc: Global, bundles: &[Bundle], across: &[Evidence]) -> Result<Vec<u8>, AllocError>
     ensures { IfOk result (λ v. v.items
         ≡ flat_map (across_line bundles.now) (map told_of across.now) ++ codes "end campaign\n") }
@@ -114,7 +117,7 @@ fn put_verdict(
     out.extend_from_slice(text.as_slice())
 }
 
-/// Appends the texts of the verdicts on runs, as far as there are verdicts.
+/// Appends the texts of the verdicts on the runs, in their order. A run without a judgement has no text.
 fn put_verdicts(
     alloc: Global,
     out: &mut Vec<u8>,
@@ -137,7 +140,7 @@ fn put_verdicts(
     Ok(())
 }
 
-/// Returns the text of the verdicts on several runs.
+/// Returns the text of the verdicts on several runs and of the convictions across them.
 fn print_several(
     alloc: Global,
     bundles: &[Bundle],
@@ -167,15 +170,17 @@ fn print_alone(
     Ok(out)
 }
 
-/// Returns the text of the verdict on a campaign: a line `campaign N`; for each run the text that `print_verdict` of
-/// `gen_report` gives of its judgement; a line `convicted G by K1 across I J` for each conviction across two runs, by the
-/// places of the runs in the campaign, counted from 0; and a line `end campaign`. Of a bundle that stands alone it is the
-/// text that `print_verdict` gives. The verdict is meant to be that of `audit_campaign` on the same campaign, with a
-/// judgement for each run.
+/// Returns the text of the verdict on a campaign. It begins with a line `campaign N`. For each run follows
+/// the text that `print_verdict` of `gen_report` gives for its judgement. For each conviction across two
+/// runs follows a line `convicted G by K1 across I J`, with the places of the two runs in the campaign,
+/// counted from 0. The last line is `end campaign`.
+///
+/// For a bundle that stands alone the text is that of `print_verdict` alone. The verdict is meant to be
+/// that of `audit_campaign` on the same campaign, with a judgement for each run.
 ///
 /// # Errors
 ///
-/// `AllocError` where memory is refused.
+/// `AllocError` if memory is refused.
 pub fn print_campaign(
     alloc: Global,
     campaign: &CampaignBundle,
@@ -197,14 +202,16 @@ pub fn print_campaign(
     }
 }
 
-/// Of several runs the place of a run's header is the place of that run, since no two have the same header.
+/// States that among the runs of a campaign the place of a run's header is the place of that run, since no
+/// two runs have the same header.
 ///
 /// A law: a function with an empty body, whose caller knows what it ensures.
 pub fn places_name_runs()
     ensures { PlacesNameRuns }
 {}
 
-/// The text of the verdict on a bundle that stands alone is that of its judgement, as `print_verdict` gives it.
+/// States that the text of the verdict on a bundle that stands alone is that of its judgement, as
+/// `print_verdict` gives it.
 ///
 /// A law: a function with an empty body, whose caller knows what it ensures.
 pub fn one_bundle_is_printed_as_before()

@@ -6,7 +6,7 @@ use Rattle.gen_types.specs.Ends.{BeginsWith}
 use Rattle.gen_tree.specs.Sizes.{signature_length}
 use Rattle.gen_chain.specs.declared.chains.Signer.{Signer}
 
--- an order, and those who signed it
+-- an order and its signers
 pub record Chain : Type 0 where
   pub order : ℕ
   pub signers : List Signer
@@ -18,17 +18,17 @@ greatest_order = 14
 abbrev pub most_signers : ℕ
 most_signers = 16
 
--- the generals who signed, from the first to the last
+-- the generals that signed, from the first to the last
 abbrev pub signed_path : List Signer → List ℕ
 signed_path signers = map (λ s. s.general) signers
 
--- each signature has as many bytes as those by trees of this height
+-- each signature has the length of signatures by trees of this height
 abbrev pub AreSignatures : TreeHeight → List Signer → Type 0
 AreSignatures height signers =
     AllByRecursion (λ s. length s.signature ≡ signature_length height) signers
 
--- What each chain keeps: its order is not too great, its signers are distinct generals of whom the
--- commander is the first, and they signed by trees of one height.
+-- The invariant of a chain: its order is at most 14, its signers are 1 to 16 distinct generals, the commander
+-- first, and its signatures are by trees of one height.
 pub record IsSignedChain (height : TreeHeight) (c : Chain) : Type 0 where
   pub order : c.order ≤ greatest_order
   pub some : 1 ≤ length c.signers
@@ -38,7 +38,8 @@ pub record IsSignedChain (height : TreeHeight) (c : Chain) : Type 0 where
   pub from_commander : BeginsWith (signed_path c.signers) (0 ∷ [])
   pub wide : AreSignatures height c.signers
 
--- the bytes of a signer: a byte with his number, and his signature
+-- a signer is a byte with its number, and its signature; and the numbers of bytes of one signer and of
+-- several
 abbrev pub signer_length : TreeHeight → ℕ
 signer_length height = 1 + signature_length height
 
@@ -48,10 +49,10 @@ signer_spelling s = s.general ∷ s.signature
 abbrev pub signers_length : List Signer → ℕ
 signers_length signers = length (flat_map signer_spelling signers)
 
--- the one spelling of a chain: the order, how many signed, and each of them
+-- the one spelling of a chain: the order, the number of signers, and each signer
 abbrev pub chain_spelling : Chain → List ℕ
 chain_spelling c = c.order ∷ length c.signers ∷ flat_map signer_spelling c.signers
 
--- how many bytes that is
+-- the number of bytes of a chain's spelling
 abbrev pub chain_length : Chain → ℕ
 chain_length c = length (chain_spelling c)

@@ -10,7 +10,7 @@ use Rattle.gen_chain.specs.declared.fault.ChainFault.TheVariants.{Truncated, Ord
 use Rattle.gen_chain.specs.declared.chains.Signer.{Signer}
 use Rattle.gen_chain.specs.Chain.{Chain, greatest_order, most_signers, signed_path, signer_length}
 
--- some general stands in the path twice
+-- some general is twice in the path
 abbrev pub repeats : List ℕ → Bool
 repeats [] = false
 repeats (g ∷ others) = is_among others g || repeats others
@@ -20,7 +20,7 @@ abbrev pub begins_with_commander : List ℕ → Bool
 begins_with_commander [] = false
 begins_with_commander (g ∷ others) = g == 0
 
--- a signer, and the bytes after him
+-- a signer: its number and its signature
 unfoldable pub signer_at : TreeHeight → List ℕ → Result (Signer × List ℕ) ChainFault
 signer_at height bytes = do
   general ← byte_at Truncated bytes
@@ -28,7 +28,7 @@ signer_at height bytes = do
   known ← check (nat_lt general.0 16) BadSigner
   Ok (record { general = general.0; signature = signature.0 }, signature.1)
 
--- what stands before the signers: the order, and the number of signers
+-- the order and the number of signers, which stand before the signers
 pub record ChainFront : Type 0 where
   pub order : ℕ
   pub count : ℕ
@@ -41,7 +41,7 @@ chain_front_at bytes = do
   lawful ← check (nat_le 1 count.0 && nat_le count.0 most_signers) SignerCount
   Ok (record { order = order.0; count = count.0 }, count.1)
 
--- this many signers, who make a path
+-- count signers: distinct generals, the commander first
 unfoldable pub signers_at : TreeHeight → ℕ → List ℕ → Result (List Signer × List ℕ) ChainFault
 signers_at height count bytes = do
   signers ← many_at (signer_at height) count bytes
@@ -49,7 +49,7 @@ signers_at height count bytes = do
   first ← check (begins_with_commander (signed_path signers.0)) NotFromCommander
   Ok signers
 
--- a chain, and the bytes after it
+-- a chain: its order, the number of its signers, and the signers
 unfoldable pub chain_at : TreeHeight → List ℕ → Result (Chain × List ℕ) ChainFault
 chain_at height bytes = do
   front ← chain_front_at bytes

@@ -1,4 +1,4 @@
--- The numbers of the rules that a chain may break.
+-- The numbers of the rules that a chain can break.
 use Rattle.std.specs.Prelude.{ℕ}
 use Rattle.gen_chain.specs.declared.fault.ChainFault.{ChainFault}
 use Rattle.gen_chain.specs.declared.fault.ChainFault.TheVariants.{Truncated, OrderRange, SignerCount, BadSigner, NotFromCommander}

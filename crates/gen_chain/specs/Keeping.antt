@@ -8,18 +8,18 @@ use Rattle.gen_chain.specs.declared.kept.Verified.{Verified}
 use Rattle.gen_chain.specs.declared.kept.Kept.{Kept}
 use Rattle.gen_chain.specs.Store.{Store, KeepsOnce, runs_of}
 
--- what is verified in the order of the map: by signer, then by order, then by path
+-- the order of the map: by signer, then by order, then by path
 abbrev pub verified_cmp : Verified → Verified → Ordering
 verified_cmp a b =
     ordering_then (nat_cmp a.signer b.signer)
     (ordering_then (nat_cmp a.statement.order b.statement.order)
     (slice_cmp nat_cmp a.statement.path b.statement.path))
 
--- the keys of the map, each with the list of what is kept for it
+-- the keys of the map, each with the list that is kept for it
 abbrev pub items_of : List (Verified × Vec Kept) → List (Verified × List Kept)
 items_of entries = map (λ e. (e.0, e.1.items)) entries
 
--- the count is that of the kept answers, and none of them is kept twice
+-- the count is the number of kept answers, and no answer is kept twice
 pub record IsCounted (store : Store) (runs : ℕ) : Type 0 where
   pub count : runs ≡ runs_of store
   pub once : KeepsOnce store

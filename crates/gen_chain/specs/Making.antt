@@ -1,4 +1,4 @@
--- The chains that are made: each signer signs the order together with the path up to himself.
+-- The chains that are made: each signer signs the order together with the path up to and with itself.
 use Rattle.std.specs.Prelude.{◌≡◌, ℕ, [], ◌∷◌, ◌++◌}
 use Rattle.gen_ots.specs.Secrets.{KeyName}
 use Rattle.gen_tree.specs.Rings.{ring_root}
@@ -10,7 +10,7 @@ use Rattle.gen_chain.specs.Chain.{Chain, signed_path}
 use Rattle.gen_chain.specs.Leaves.{leaf_of_order}
 use Rattle.gen_chain.specs.Texts.{statement_digest}
 
--- a general and his signature of a statement by a key
+-- a general and its signature of a statement by a key
 abbrev pub signed_by : KeyName → RunHeader → Statement → ℕ → Signer
 signed_by key h statement me =
     record { general = me; signature = tree_signature key (statement_digest h statement) }
@@ -22,11 +22,11 @@ begun h order key = record {
   signers = signed_by key h (record { order = order; path = 0 ∷ [] }) 0 ∷ [];
 }
 
--- what one signer more signs
+-- the statement that one more signer of a chain signs
 abbrev pub next_statement : Chain → ℕ → Statement
 next_statement c me = record { order = c.order; path = signed_path c.signers ++ me ∷ [] }
 
--- the chain with one signer more
+-- the chain with one more signer
 abbrev pub extended : RunHeader → Chain → ℕ → KeyName → Chain
 extended h c me key = record {
   order = c.order;

@@ -5,6 +5,6 @@ use Rattle.gen_chain.specs.contracts.store.VerifyStore as store
 use Rattle.gen_tree.specs.declared.pool.SignaturePool.{SignaturePool}
 use Rattle.gen_tree.specs.contracts.pool.SignaturePool as pool
 
--- whatever comes into the pool, the store is as it was
+-- the store is unchanged, whatever is put into the pool that it lends
 abbrev pub LendsPool : MutBor VerifyStore → MutBor SignaturePool → Fml
 LendsPool s r = Lends store.the_row pool.the_row s r (λ _. s.now)

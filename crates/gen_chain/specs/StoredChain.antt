@@ -7,7 +7,7 @@ use Rattle.gen_chain.specs.Verifying.{AreSigned}
 use Rattle.gen_chain.specs.Signings.{triple_next}
 use Rattle.gen_chain.specs.Store.{Store, Triple, answer_of}
 
--- the signer's signature of the order together with the path of those in front of him and himself
+-- the claim that the signer signed the order with the path of the signers before it and itself
 abbrev pub triple_behind : ℕ → List Signer → Signer → Triple
 triple_behind order front s = record {
   signer = s.general;
@@ -15,18 +15,18 @@ triple_behind order front s = record {
   signature = s.signature;
 }
 
--- the signature of each of the signers who stands behind signers who have signed is kept
+-- the answer is kept for each signer whose predecessors all signed
 abbrev pub KeepsSigners : RunHeader → Store → ℕ → List Signer → Type 0
 KeepsSigners h store order signers =
     (front back : List Signer) (s : Signer) → signers ≡ front ++ s ∷ back → AreSigned h order front
     → IsSome (answer_of store (triple_behind order front s))
 
--- The store keeps all that verifying the chain has to verify, which is nothing where its order is none of the
+-- The store keeps all answers that verifying the chain needs; none is needed if the order is none of the
 -- network's.
 abbrev pub KeepsChain : RunHeader → Store → Chain → Type 0
 KeepsChain h store c = c.order < h.network.orders → KeepsSigners h store c.order c.signers
 
--- the signatures of so many of the signers are kept who stand behind a path
+-- the answers are kept for the first n of these signers, which come after a path
 abbrev pub KeepsNext : Store → ℕ → ℕ → List ℕ → List Signer → Type 0
 KeepsNext store order zero path signers = Unit {0}
 KeepsNext store order (suc n) path [] = ⊥

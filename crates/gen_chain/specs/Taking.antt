@@ -4,7 +4,7 @@ use Rattle.gen_chain.specs.declared.kept.Verified.{Verified}
 use Rattle.gen_chain.specs.declared.kept.Kept.{Kept}
 use Rattle.gen_chain.specs.Store.{Store, Triple, answer_of}
 
--- the answer that the one has for a triple, if it has one, the other has too
+-- the answer that the other store has for a triple, if it has one, the new store has too
 abbrev pub Takes : Store → Store → Triple → Type 0
 Takes other new t = (answer : Bool) → answer_of other t ≡ Some answer → answer_of new t ≡ Some answer
 
@@ -12,6 +12,7 @@ Takes other new t = (answer : Bool) → answer_of other t ≡ Some answer → an
 abbrev pub triple_at : Verified → List ℕ → Triple
 triple_at v signature = record { signer = v.signer; statement = v.statement; signature = signature }
 
--- the same of each signature that is kept for a general and a statement
+-- the answers that the other store has for signatures that are kept for a general and a statement, the new
+-- store has too
 abbrev pub TakesEach : Store → Store → Verified → List Kept → Type 0
 TakesEach other new v kept = All (λ k. Takes other new (triple_at v k.signature)) kept

@@ -8,26 +8,26 @@ use Rattle.gen_chain.specs.Chain.{Chain, signed_path}
 use Rattle.gen_chain.specs.Leaves.{leaf_of_order}
 use Rattle.gen_chain.specs.Texts.{statement_digest}
 
--- The general is one of the network, and the signature of the statement stands under his root and
--- the order's leaf.
+-- The general is of the network, and the signature of the statement verifies under the general's root and the
+-- order's leaf.
 abbrev pub HasSigned : RunHeader → ℕ → Statement → List ℕ → Type 0
 HasSigned h general statement signature =
     (general < h.network.generals)
     × Verifies (root_of h general) (height_of h) (leaf_of_order h statement.order)
     (statement_digest h statement) signature
 
--- the signer has signed the order together with the path of those in front of him and himself
+-- the signer signed the order together with the path of the signers before it and itself
 abbrev pub HasSignedBehind : RunHeader → ℕ → List Signer → Signer → Type 0
 HasSignedBehind h order front s =
     HasSigned h s.general (record { order = order; path = signed_path front ++ s.general ∷ [] })
     s.signature
 
--- each signer has signed the order together with the path up to himself
+-- each signer signed the order together with the path up to and with itself
 abbrev pub AreSigned : RunHeader → ℕ → List Signer → Type 0
 AreSigned h order signers =
     (front back : List Signer) (s : Signer) → signers ≡ front ++ s ∷ back
     → HasSignedBehind h order front s
 
--- the order is one of the network's, and each signer has signed
+-- the order is one of the network's, and each signer signed
 abbrev pub ChainVerifies : RunHeader → Chain → Type 0
 ChainVerifies h c = (c.order < h.network.orders) × AreSigned h c.order c.signers

@@ -1,4 +1,4 @@
-//! Chains.
+//! Signed chains.
 ghost use Rattle.std.specs.Prelude.{◌≡◌, ◌≢◌, ◌≤◌, AllPairs, IfOk, length};
 ghost use Rattle.gen_chain.specs.Chain.{IsSignedChain, signed_path};
 
@@ -9,21 +9,21 @@ use gen_types::{GeneralNo, OrderNo, Path, TreeHeight};
 use std::alloc::{AllocError, Global};
 use std::marker::Model;
 
-/// A general, and his signature.
+/// A general and a signature.
 #[derive(Debug, Drop)]
 pub struct Signer {
     /// The general.
     pub general: GeneralNo,
-    /// What he signed with. It may be anybody's bytes: whether it is his is what `has_signed` says.
+    /// The signature that is said to be the general's. It may be any bytes; `has_signed` says whether it verifies.
     pub signature: Signature,
 }
 
-/// An order, and those who signed it, each over those before him: the message `v:0:j1:..:jk` of
-/// section 4 of the paper of 1982, with its signatures.
+/// An order and its signers, each of which signed it after the signers before: the message `v:0:j1:..:jk` of section 4
+/// of the paper of 1982, with its signatures.
 ///
-/// Its order is at most 14. Its signers are 1 to 16 distinct generals, of whom general 0, the
-/// commander, is the first, and all their signatures are by trees of one height. A contract sees
-/// the order and the list of signers.
+/// The order is at most 14. There are 1 to 16 signers, which are distinct generals; the first is general 0, the
+/// commander. All signatures have the length of signatures by trees of one height. A contract sees the order and the
+/// list of signers.
 #[derive(Debug, Drop)]
 pub struct SignedChain {
     pub(crate) order: OrderNo,
@@ -51,14 +51,14 @@ impl SignedChain {
         self.order
     }
 
-    /// Returns the height of the trees by which its signers signed.
+    /// Returns the height of the trees that the signatures are by.
     pub fn height(&self) -> TreeHeight
         ensures { IsSignedChain result self.now }
     {
         self.height
     }
 
-    /// Returns the generals who signed, from the first to the last.
+    /// Returns the generals that signed, from the first to the last.
     pub fn path(&self) -> Path
         ensures { result ≡ signed_path self.now.signers }
     {
@@ -73,7 +73,7 @@ impl SignedChain {
     }
 }
 
-/// A copy is equal to its original, and shares its signatures. It fails only where memory was refused.
+/// A copy equals its original and shares its signatures. Copying fails only if memory is refused.
 impl Clone for SignedChain {
     ghost is_clone = { λ chain copy. copy ≡ chain };
 
@@ -92,7 +92,7 @@ impl Clone for SignedChain {
 }
 
 impl Signer {
-    /// Returns the same signer again, who shares the signature.
+    /// Returns a copy of the signer that shares the signature.
     ///
     /// # Errors
     ///
@@ -106,7 +106,7 @@ impl Signer {
         })
     }
 
-    /// Returns the same signer again, with his signature in other room.
+    /// Returns a copy of the signer. Its signature is copied into the room.
     pub fn copy(&self, room: SigRoom) -> Signer
         ensures { result ≡ self.now }
     {
@@ -117,7 +117,7 @@ impl Signer {
     }
 }
 
-/// The path of distinct signers.
+/// Returns the path of distinct signers.
 fn path_along(signers: &[Signer]) -> Path
     requires few { length signers.now ≤ MOST_SIGNERS }
     requires distinct { AllPairs (λ g h. g ≢ h) (signed_path signers.now) }

@@ -1,10 +1,10 @@
-//! Why bytes are no chain.
+//! The rules that bytes of a chain can break.
 ghost use Rattle.std.specs.Prelude.{◌≡◌};
 ghost use Rattle.gen_chain.specs.FaultNumber.{chain_fault_number};
 
 use thiserror::Error;
 
-/// Which rule the bytes of a chain break. The texts are `C1` to `C5`.
+/// The rule that the bytes of a chain break. The texts are `C1` to `C5`.
 ///
 /// Bytes are tested in this order: fewer than 2 bytes (`C1`), `C2`, `C3`, fewer bytes than that many
 /// signers take (`C1`), `C4`, `C5`.
@@ -19,7 +19,7 @@ pub enum ChainFault {
     /// The number of signers is not 1 to 16.
     #[error("C3")]
     SignerCount,
-    /// A signer's number is above 15, or comes twice.
+    /// A signer's number is above 15, or stands in the chain twice.
     #[error("C4")]
     BadSigner,
     /// The first signer is not general 0, the commander.

@@ -10,7 +10,7 @@ use gen_tree::Signature;
 use gen_types::GeneralNo;
 use std::cmp::Ordering;
 
-/// What was verified: that a general has signed a statement.
+/// What is verified: that a general signed a statement.
 #[derive(Clone, Copy, Debug, PartialEq, Eq)]
 pub(crate) struct Verified {
     /// The general.
@@ -19,7 +19,7 @@ pub(crate) struct Verified {
     pub(crate) statement: Statement,
 }
 
-/// A signature of the statement that was verified for the general.
+/// A signature that was verified as a general's signature of a statement, and the answer.
 #[derive(Debug, Drop)]
 pub(crate) struct Kept {
     /// The signature.
@@ -28,7 +28,7 @@ pub(crate) struct Kept {
     pub(crate) answer: bool,
 }
 
-/// By signer, then by order, then by path.
+/// Ordered by signer, then by order, then by path.
 impl Ord for Verified {
     ghost cmp = { verified_cmp };
 

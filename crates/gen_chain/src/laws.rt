@@ -11,15 +11,14 @@ ghost use Rattle.gen_chain.specs.declared.statements.HeadText.{HeadText};
 ghost use Rattle.gen_chain.specs.Texts.{statement_text, head_text};
 ghost use Rattle.gen_chain.specs.Verified.{TestsVerifying};
 
-/// Each chain has one spelling, and no spelling of a chain is the beginning of another of one
-/// height: where two strings of bytes begin with spellings of chains and are equal, the chains are
-/// equal, and so is what follows.
+/// States that each chain has one spelling, and that no spelling of a chain is the beginning of another one of the same
+/// height. If two equal strings begin with spellings of chains, the chains are equal, and so are the bytes after them.
 pub fn one_chain_spelling()
     ensures { (height : TreeHeight) → HasOneSpelling (IsSignedChain height) chain_spelling }
 {}
 
-/// What is read as a chain is a chain, and its spelling stands in front of what was read. This holds of
-/// any list of numbers, also of one that is no list of bytes.
+/// States that what is read as a chain is a chain (`chain`), and that the bytes begin with its spelling (`spelled`).
+/// This holds of any list of numbers, even if they are no bytes.
 pub fn chains_are_spelled()
     ensures chain { (height : TreeHeight) (bytes rest : List ℕ) (c : Chain)
         → chain_at height bytes ≡ Ok (c, rest) → IsSignedChain height c }
@@ -27,14 +26,14 @@ pub fn chains_are_spelled()
         → chain_at height bytes ≡ Ok (c, rest) → bytes ≡ chain_spelling c ++ rest }
 {}
 
-/// No statement of any run is the head of a log of any run, for the bytes before them differ. So a
-/// signature of the one is none of the other, unless two texts have one digest.
+/// States that no statement of any run is the head of a log of any run: their first bytes differ. So a signature of one
+/// is none of the other, unless two texts have one digest.
 pub fn no_statement_is_a_head()
     ensures { (h k : RunHeader) (statement : Statement) (head : HeadText)
         → statement_text h statement ≢ head_text k head }
 {}
 
-/// Whether a chain verifies can be tested: the test of the definitions says exactly whether it does.
+/// States that it can be tested whether a chain verifies: the test of the definitions is exact.
 pub fn verifying_is_tested()
     ensures { TestsVerifying }
 {}

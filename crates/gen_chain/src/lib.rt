@@ -1,16 +1,17 @@
 //! Signed chains, and the texts that generals sign.
 //!
-//! A chain is the message `v:0:j1:..:jk` of the signed message algorithm (section 4 of L. Lamport,
-//! R. Shostak and M. Pease, "The Byzantine Generals Problem", ACM TOPLAS 4, 1982): an order, and those
-//! who signed it one after another. Each signed the order together with the path up to himself, under
-//! the leaf of the order in his own tree of keys. A general also signs the head of his log.
+//! A chain is the message `v:0:j1:..:jk` of the signed message algorithm (section 4 of L. Lamport, R. Shostak and M.
+//! Pease, "The Byzantine Generals Problem", ACM TOPLAS 4, 1982). It is an order with the generals that signed it, one
+//! after another. Each signer signs the order together with the path up to and with itself, under the leaf of the order
+//! in its own tree of keys. A general also signs the head of its log.
 //!
-//! A store keeps verifications that were made, so that their answers can be given again.
+//! A store keeps verifications with their answers, so that an answer can be returned again.
 //!
-//! What is promised: the texts that are signed and the bytes of a chain are exactly the definitions, each
-//! chain has one spelling, `chain_verifies` is true exactly where every signature of the chain verifies, and
-//! so with a store, a chain that is made with the signers' own keys verifies, and no statement is the head of
-//! a log. What is not: that nobody else can make a signature that verifies.
+//! What is promised: the texts that are signed and the bytes of a chain are exactly those of the definitions, and each
+//! chain has one spelling. `chain_verifies` is true if and only if every signature of the chain verifies, with a store
+//! and without. A chain that is made with the signers' own keys verifies. No statement is the head of a log.
+//!
+//! What is not promised: that nobody else can make a signature that verifies.
 #![tactic(auto)]
 
 mod chains;

@@ -1,4 +1,4 @@
-//! Making chains, in room that was made before.
+//! Makes chains in memory that was taken before.
 ghost use Rattle.std.specs.Prelude.{◌≡◌, ◌≤◌, ◌<◌, ◌+◌, IfOk, ◌∷◌, [], ◌++◌};
 ghost use Rattle.std.specs.Prelude.{length, vec_len, vec_capacity, Contains};
 ghost use Rattle.gen_net.specs.Header.{height_of};
@@ -17,8 +17,8 @@ use gen_types::{GeneralNo, OrderNo, Path, TreeHeight};
 use std::alloc::{AllocError, Global};
 use std::marker::Model;
 
-/// Room for a chain: all the memory that making one takes, without that of its last signature. A
-/// contract sees for how many signers it is.
+/// Room for a chain: all the memory for making it, except that of its last signature. A contract sees the number of
+/// signers that it is for.
 #[derive(Drop)]
 pub struct ChainRoom {
     length: u8,
@@ -41,8 +41,8 @@ impl Model for ChainRoom {
 }
 
 impl ChainRoom {
-    /// Returns room for a chain of this many signers. Any number may be asked for, though no chain has
-    /// none or more than 16.
+    /// Returns room for a chain of this many signers. Any number may be asked for, although a chain has 1 to 16
+    /// signers.
     ///
     /// # Errors
     ///
@@ -53,7 +53,7 @@ impl ChainRoom {
         let signers = Vec::with_capacity(alloc, usize::from(length))?;
         let mut copies = Vec::with_capacity(alloc, usize::from(length))?;
         'rooms: for _room in 1..length {
-            // Room takes as much for either height, and a copy may be of either.
+            // Room has one size for both heights, and a copy may be of either height.
             let room = SigRoom::new(alloc, TreeHeight::Six)?;
             copies.push(room)?;
         }
@@ -65,7 +65,7 @@ impl ChainRoom {
     }
 }
 
-/// Appends a copy of each signer, in room that was made before.
+/// Appends a copy of each signer, in room that was taken before.
 fn copy_signers(from: &[Signer], into: &mut Vec<Signer>, copies: &mut Vec<SigRoom>)
     requires rooms { length from.now ≤ vec_len copies.old }
     requires room { vec_len into.old + length from.now ≤ vec_capacity into.old }
@@ -79,7 +79,7 @@ fn copy_signers(from: &[Signer], into: &mut Vec<Signer>, copies: &mut Vec<SigRoo
     }
 }
 
-/// Signs a statement, and puts the signer behind the others, in room that was made before.
+/// Signs a statement, and appends the signer, in room that was taken before.
 fn sign_behind(
     header: &Header,
     me: GeneralNo,
@@ -108,12 +108,11 @@ fn sign_behind(
     signers.push(signer).unwrap();
 }
 
-/// Returns the chain of an order that general 0, the commander, alone has signed, with this key.
+/// Returns the chain of an order that general 0, the commander, alone signs with this key.
 ///
-/// It asks that the order is at most 14, that the room is for 1 signer or more, that the key and
-/// the room for its signature are of the run's height, and that the key is of the order's leaf. The
-/// key is spent. It takes no memory beyond the rooms, and can't fail. The chain verifies where the
-/// key is of a ring with the commander's root and the order is below q.
+/// The order is at most 14, the room is for at least 1 signer, the key and the room for its signature are of the run's
+/// height, and the key is of the order's leaf. The key is consumed. It takes no memory beyond the rooms, and can't
+/// fail. The chain verifies if the key is of a ring with the commander's root and the order is below q.
 pub fn begin_chain(
     header: &Header,
     order: OrderNo,
@@ -147,14 +146,13 @@ pub fn begin_chain(
     }
 }
 
-/// Returns the chain that a general hands on: the given one with himself as one signer more, who
-/// signs with this key.
+/// Returns the chain that a general relays: the given chain with the general `me` as one more signer, which signs with
+/// this key.
 ///
-/// It asks that he is a general of the network and not in the chain's path, that the room is for
-/// one signer more than the chain has, or for more, that the chain, the key and the room for its
-/// signature are of the run's height, and that the key is of the order's leaf. The key is spent. It
-/// takes no memory beyond the rooms, and can't fail. The chain verifies where the key is of a ring
-/// with his root and the given chain verifies.
+/// The general is of the network and not in the chain's path. The room is for at least one more signer than the chain
+/// has. The chain, the key and the room for its signature are of the run's height, and the key is of the order's leaf.
+/// The key is consumed. It takes no memory beyond the rooms, and can't fail. The chain verifies if the key is of a ring
+/// with the general's root and the given chain verifies.
 pub fn extend_chain(
     header: &Header,
     me: GeneralNo,

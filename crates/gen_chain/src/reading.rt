@@ -1,4 +1,4 @@
-//! Reading chains.
+//! Reads chains.
 ghost use Rattle.std.specs.Prelude.{◌≡◌, ◌≤◌, length, IfOk, Ok, not, ◌==◌};
 ghost use Rattle.std.specs.List.{list_any};
 ghost use Rattle.gen_types.specs.Reading.{Gives};
@@ -17,14 +17,14 @@ use gen_types::limits::MOST_GENERALS;
 use gen_types::{GeneralNo, OrderNo, ReadError, TreeHeight, bytes_at, check, u8_at};
 use std::alloc::Global;
 
-/// What stands before the signers: the order, and the number of signers.
+/// The bytes before the signers: the order and the number of signers.
 #[derive(Clone, Copy)]
 struct ChainFront {
     order: u8,
     count: u8,
 }
 
-/// A signer, and the bytes after him.
+/// Reads a signer.
 #[tactic(auto, unfolding(crate::specs::ChainReading::signer_at))]
 fn read_signer<'a>(
     height: TreeHeight,
@@ -56,7 +56,7 @@ fn read_front(bytes: &[u8]) -> Result<(ChainFront, &[u8]), ReadError<ChainFault>
     Ok((ChainFront { order, count }, rest))
 }
 
-/// This many signers.
+/// Reads `count` signers.
 fn read_many<'a>(
     alloc: Global,
     height: TreeHeight,
@@ -83,7 +83,7 @@ fn stands_in(general: GeneralNo, signers: &[Signer]) -> bool
     signers.iter().any(|s| s.general == general)
 }
 
-/// Whether no general comes twice.
+/// Whether no general is twice among these signers.
 fn are_distinct(signers: &[Signer]) -> bool
     ensures { result ≡ not (repeats (signed_path signers.now)) }
 {
@@ -97,7 +97,7 @@ fn are_distinct(signers: &[Signer]) -> bool
     true
 }
 
-/// Whether the commander is the first.
+/// Whether the commander is the first signer.
 fn begin(signers: &[Signer]) -> bool
     ensures { result ≡ begins_with_commander (signed_path signers.now) }
 {
@@ -107,7 +107,7 @@ fn begin(signers: &[Signer]) -> bool
     }
 }
 
-/// This many signers, who make a path.
+/// Reads `count` signers: distinct generals, the commander first.
 #[tactic(auto, unfolding(crate::specs::ChainReading::signers_at))]
 fn read_signers<'a>(
     alloc: Global,
@@ -124,7 +124,7 @@ fn read_signers<'a>(
     Ok((signers, rest))
 }
 
-/// The chain in front of the bytes, and the bytes after it.
+/// Reads the chain that the bytes begin with.
 #[tactic(auto, unfolding(crate::specs::ChainReading::chain_at))]
 fn chain_in_front<'a>(
     alloc: Global,
@@ -146,7 +146,7 @@ fn chain_in_front<'a>(
     Ok((chain, rest))
 }
 
-/// The chain in front of the bytes, and how many bytes it has.
+/// Reads the chain that the bytes begin with, and returns the number of its bytes too.
 fn counted_chain(
     alloc: Global,
     height: TreeHeight,
@@ -159,31 +159,31 @@ fn counted_chain(
     Ok((chain, bytes.len() - rest.len()))
 }
 
-/// Returns the chain in front of the bytes, whose signatures are by trees of this height, and how many
-/// bytes it has; more may follow it. Signatures are read and not verified.
+/// Returns the chain that the bytes begin with, and the number of its bytes; more bytes may follow. The chain's
+/// signatures are by trees of this height. They are read and not verified.
 ///
 /// # Errors
 ///
-/// The first rule of `ChainFault` that the bytes break, in the order that stands there; and Memory
-/// where memory was refused before.
+/// The first rule of `ChainFault` that the bytes break, in the order that `ChainFault` states; or `Memory` if memory
+/// was refused before that fault.
 pub fn read_chain(
     alloc: Global,
     height: TreeHeight,
     bytes: &[u8],
 ) -> Result<(SignedChain, usize), ReadError<ChainFault>>
-    // What is read stands there.
+    // The bytes begin with the spelling of the chain that is read, and the number is the length of that spelling.
     ensures found { IfOk result (IsReadFrom (IsSignedChain height) chain_spelling bytes.now) }
-    // What stands there is read, unless memory runs out.
+    // If the bytes begin with the spelling of a chain, that chain is read, unless memory is refused.
     ensures only { (c : Chain) → StandsInFront (IsSignedChain height) chain_spelling bytes.now c
         → IsRead result (Ok (c, length (chain_spelling c))) }
-    // Which fault it is.
+    // Unless memory is refused, the result is that of `chain_at`, with the same fault.
     ensures exact { IsRead result (counted (chain_at height) bytes.now) }
 {
     read_chain_with(alloc, height, bytes, &mut SignaturePool::new(alloc))
 }
 
-/// Returns what `read_chain` does. The chain's signatures share their memory with equal ones of the pool,
-/// and are read into it.
+/// Returns what `read_chain` returns. The chain's signatures are read into the pool, and share their memory with equal
+/// signatures of the pool.
 ///
 /// # Errors
 ///

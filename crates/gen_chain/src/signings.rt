@@ -1,4 +1,4 @@
-//! Four signatures of statements that are verified side by side.
+//! Verifies four signatures of statements side by side.
 ghost use Rattle.std.specs.Prelude.{IsTrue, ℕ, ◌≡◌, ◌≢◌, ◌≤◌, ◌<◌, ◌+◌, ◌↔◌, ◌++◌, ◌∷◌, [], AllPairs, Contains, false, length, map, slice_index_or, take};
 ghost use Rattle.gen_tree.specs.Claims.{Stands};
 ghost use Rattle.gen_chain.specs.Chain.{signed_path};
@@ -14,19 +14,20 @@ use gen_net::Header;
 use gen_tree::{Signature, SignatureClaim, verify_four};
 use gen_types::{GeneralNo, OrderNo, Path};
 
-/// That a general signed a statement with this signature, as whoever shows it says.
+/// A claim, by whoever shows it, that a general signed a statement with this signature.
 #[derive(Clone, Copy)]
 pub struct Signing<'a> {
     /// The general.
     pub signer: GeneralNo,
     /// The statement.
     pub statement: Statement,
-    /// The signature. It may be anybody's bytes.
+    /// The signature. It may be any bytes.
     pub signature: &'a Signature,
 }
 
 impl<'a> Signing<'a> {
-    /// What the next signer of an order is to have signed, who is put at the end of the path.
+    /// Returns the claim that the next signer of an order signed it with the path up to itself, and appends the signer
+    /// to the path.
     fn next(order: OrderNo, path: &mut Path, signer: &'a Signer) -> Signing<'a>
         requires room { length path.old < MOST_SIGNERS }
         requires new { ¬ Contains path.old signer.now.general }
@@ -45,7 +46,7 @@ impl<'a> Signing<'a> {
         }
     }
 
-    /// The claim that is to be verified, of a general below n.
+    /// Returns the claim about the signature and the general's root. The general is below n.
     fn claim<'b>(&'b self, header: &'b Header) -> SignatureClaim<'b>
         requires { self.now.signer < header.now.network.generals }
         ensures { Stands result ↔ IsSigned header.now (triple_of self.now) }
@@ -59,7 +60,7 @@ impl<'a> Signing<'a> {
         }
     }
 
-    /// Whether it is true.
+    /// Whether the claim is true: the general signed the statement.
     fn is_true(&self, header: &Header) -> bool
         ensures { IsTrue result ↔ IsSigned header.now (triple_of self.now) }
     {
@@ -74,7 +75,8 @@ impl<'a> Signing<'a> {
     }
 }
 
-/// What the next four signers of an order are to have signed, who are put at the end of the path.
+/// Returns the claims that the next four signers of an order signed it, each with the path up to itself, and appends
+/// these signers to the path.
 pub(crate) fn next_four<'a>(order: OrderNo, path: &mut Path, rest: &'a [Signer]) -> [Signing<'a>; 4]
     requires many { 4 ≤ length rest.now }
     requires few { length path.old + 4 ≤ MOST_SIGNERS }
@@ -91,8 +93,8 @@ pub(crate) fn next_four<'a>(order: OrderNo, path: &mut Path, rest: &'a [Signer])
     ]
 }
 
-/// Returns of each of four generals whether he signed his statement, as `has_signed` does of one. It takes no
-/// memory.
+/// Returns, for each of four claims, whether the general signed the statement, as `has_signed` does for one. It takes
+/// no memory.
 pub(crate) fn have_signed(header: &Header, signings: &[Signing<'_>; 4]) -> [bool; 4]
     ensures { (j : ℕ) → j < 4 → (other : Triple) → IsTrue (slice_index_or result j false)
         ↔ IsSigned header.now (slice_index_or (map triple_of signings.now) j other) }

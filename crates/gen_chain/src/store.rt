@@ -1,4 +1,4 @@
-//! Verifications that are kept with their answers, so that these can be given again.
+//! Keeps verifications with their answers, so that an answer can be returned again.
 ghost use Rattle.std.specs.Prelude.{IsTrue, Bool, ℕ, List, ◌≡◌, ◌≢◌, ◌≤◌, ◌+◌, ◌↔◌, ◌++◌, ◌∷◌, [], AllPairs, length, false, Ok, None, Some, IfOk, IsOk, IsSome, OnOk, OnErr, ◌<◌, is_some, map, slice_index_or};
 ghost use Rattle.gen_net.specs.Header.{RunHeader};
 ghost use Rattle.gen_chain.specs.Chain.{signed_path};
@@ -27,7 +27,7 @@ use std::alloc::{AllocError, Global};
 use std::collections::BTreeMap;
 use std::marker::Model;
 
-/// The answer that is kept for a signature.
+/// Returns the answer that is kept for a signature, if there is one.
 fn answer_in(kept: &[Kept], signature: &Signature) -> Option<bool>
     ensures { result ≡ answer_in kept.now signature.now }
 {
@@ -35,7 +35,7 @@ fn answer_in(kept: &[Kept], signature: &Signature) -> Option<bool>
     Some(found.answer)
 }
 
-/// Keeps a signature of a statement by a general, after those that are kept for the two.
+/// Appends a signature with its answer to those that are kept for a general and a statement.
 fn keep(
     alloc: Global,
     kept: &mut BTreeMap<Verified, Vec<Kept>>,
@@ -60,12 +60,11 @@ fn keep(
     Ok(())
 }
 
-/// Verifications that were made, each kept with its answer, so that the answer can be given again.
+/// Verifications that were made, each with its answer, so that the answer can be returned again.
 ///
-/// A verification is of a triple: a signer, a statement and a signature. A contract sees what is
-/// kept; how many answers are kept is counted beside it, whichever calls were made, and that is no
-/// count of verifications. A store serves a header where each kept answer is right under it; an
-/// empty store serves every header.
+/// A verification is of a triple: a signer, a statement and a signature. A contract sees what is kept. The number of
+/// kept answers is counted as well, whatever calls were made; it is not a count of verifications. A store serves a
+/// header if each kept answer is right under that header; an empty store serves every header.
 #[derive(Debug, Drop)]
 pub struct VerifyStore {
     alloc: Global,
@@ -90,7 +89,7 @@ impl VerifyStore {
     ///
     /// # Errors
     ///
-    /// Only where memory was refused. It takes none before the first check, so it does not fail.
+    /// None occurs, because no memory is taken before the first check.
     pub fn new(alloc: Global) -> Result<VerifyStore, AllocError>
         ensures ok { IsOk result }
         ensures empty { IfOk result (λ store. (triple : Triple) → answer_of store triple ≡ None) }
@@ -105,8 +104,8 @@ impl VerifyStore {
         })
     }
 
-    /// Returns how many answers are kept, which is no count of verifications. None is kept twice.
-    /// The count stays at its last value, 18,446,744,073,709,551,615.
+    /// Returns the number of kept answers, which is no count of verifications. No answer is kept twice. The count stays
+    /// at its last value, 2^64 - 1.
     pub fn runs(&self) -> u64
         ensures count { result ≡ runs_of self.now }
         ensures once { KeepsOnce self.now }
@@ -114,14 +113,14 @@ impl VerifyStore {
         self.runs
     }
 
-    /// Returns the store's pool, by which signatures are read, so that equal ones share their memory.
+    /// Returns the store's pool. Signatures that are read with it share the memory of equal ones.
     pub fn pool(&mut self) -> &mut SignaturePool
         ensures* { sem 𝓛 (LendsPool self.entry result) }
     {
         &mut self.pool
     }
 
-    /// The answer that is kept for the signature of a statement by a general.
+    /// Returns the answer that is kept for the signature of a statement by a general, if there is one.
     fn answer_of(&self, verified: &Verified, signature: &Signature) -> Option<bool>
         ensures { result ≡ answer_of self.now (record {
           signer = verified.now.signer;
@@ -135,7 +134,7 @@ impl VerifyStore {
         }
     }
 
-    /// Keeps the answer of a verification that was made, where none is kept.
+    /// Keeps the answer of a verification that was made. No answer is kept for it before.
     fn keep_answer(
         &mut self,
         verified: Verified,
@@ -180,7 +179,7 @@ impl VerifyStore {
         self.keep_answer(Verified { signer, statement }, signature, answer)
     }
 
-    /// Returns whether the answer is kept to whether a general signed a statement with a signature.
+    /// Returns whether the answer is kept that says whether a general signed a statement with a signature.
     pub fn keeps(&self, signing: &Signing<'_>) -> bool
         ensures { result ≡ is_some (answer_of self.now (triple_of signing.now)) }
     {
@@ -193,7 +192,7 @@ impl VerifyStore {
             .is_some()
     }
 
-    /// Keeps the answer that another store has for a signature of what was verified, if it has one.
+    /// Keeps the answer that another store has for this signature, general and statement, if it has one.
     fn take_answer(
         &mut self,
         header: &Header,
@@ -219,7 +218,7 @@ impl VerifyStore {
         self.add_answer(&signing, answer)
     }
 
-    /// Keeps the answers that another store has for signatures of what was verified, if it has some.
+    /// Keeps the answers that another store has for these signatures of a general and a statement, if it has any.
     fn take_answers(
         &mut self,
         header: &Header,
@@ -239,12 +238,12 @@ impl VerifyStore {
         Ok(())
     }
 
-    /// Keeps the answers too that another store keeps, which serves the same header. Nothing is verified, and the bytes of
-    /// signatures are shared.
+    /// Keeps all answers of another store that serves the same header, with its own. Nothing is verified, and the bytes
+    /// of signatures are shared.
     ///
     /// # Errors
     ///
-    /// Only where memory was refused: then the store keeps what it kept, and may keep some of the others.
+    /// Only if memory is refused. Then the store keeps its own answers, and possibly some of the other store's.
     pub fn take_from(&mut self, header: &Header, other: &VerifyStore) -> Result<(), AllocError>
         requires serves { Serves header.now self.old }
         requires other { Serves header.now other.now }
@@ -258,7 +257,7 @@ impl VerifyStore {
         Ok(())
     }
 
-    /// Whether no answer is kept for any of the four. The contract says it of the first alone.
+    /// Whether no answer is kept for any of the four claims. The contract says so of the first claim alone.
     fn keeps_none(&self, signings: &[Signing<'_>; 4]) -> bool
         ensures { IsTrue result → (other : Triple)
             → answer_of self.now (slice_index_or (map triple_of signings.now) 0 other) ≡ None }
@@ -267,12 +266,13 @@ impl VerifyStore {
         !self.keeps(a) && !self.keeps(b) && !self.keeps(c) && !self.keeps(d)
     }
 
-    /// Verifies four signatures of statements side by side, each as `has_signed` does, and keeps the answers that are not
-    /// kept yet. A check of one of the four verifies nothing then. It takes about as long as verifying two and a half.
+    /// Verifies four signatures of statements side by side, each as `has_signed` does, and keeps the answers that are
+    /// not kept yet. A later check of one of the four verifies nothing. The four take about as long as two and a half
+    /// single verifications.
     ///
     /// # Errors
     ///
-    /// Only where memory was refused: then the store keeps what it kept, and may keep some of the four.
+    /// Only if memory is refused. Then the store keeps its old answers, and possibly some of the four.
     pub fn verify_four(
         &mut self,
         header: &Header,
@@ -292,8 +292,8 @@ impl VerifyStore {
         Ok(())
     }
 
-    /// Verifies the signatures of the next four signers side by side, unless an answer is kept for one of them.
-    /// `ahead` is how many of the next signers' answers are known to be kept before, and the result, how many then.
+    /// Verifies the signatures of the next four signers side by side, unless an answer is kept for one of them. `ahead`
+    /// is the number of next signers whose answers are known to be kept; the result is that number after the call.
     fn look_ahead(
         &mut self,
         header: &Header,
@@ -326,12 +326,12 @@ impl VerifyStore {
         Ok(4)
     }
 
-    /// Returns whether a general signed a statement in the run of this header, as `has_signed` does.
-    /// The answer is kept: what is kept is not verified again, and takes no memory.
+    /// Returns whether a general signed a statement in the run of this header, as `has_signed` does. The answer is
+    /// kept. If it is kept already, nothing is verified and no memory is taken.
     ///
     /// # Errors
     ///
-    /// Only where memory was refused: then the store is unchanged.
+    /// Only if memory is refused. Then the store is unchanged.
     pub fn check(
         &mut self,
         header: &Header,
@@ -342,11 +342,12 @@ impl VerifyStore {
         requires serves { Serves header.now self.old }
         ensures answer { IfOk result (λ answer.
             IsTrue answer ↔ HasSigned header.now signer statement.now signature.now) }
-        // What is kept then, and of how many answers.
+        // After the check the answer to this triple is kept, and all others are as before. One more answer is kept if
+        // this one wasn't kept before.
         ensures kept { IfOk result (λ answer. IsAfter self.old
             (record { signer = signer; statement = statement.now; signature = signature.now })
             answer self.new) }
-        // An answer that was kept is given again, and the store stays as it was.
+        // A kept answer is returned again, and the store is unchanged.
         ensures known { (answer : Bool) → answer_of self.old
             (record { signer = signer; statement = statement.now; signature = signature.now })
             ≡ Some answer → (result ≡ Ok answer) × (self.new ≡ self.old) }
@@ -366,7 +367,7 @@ impl VerifyStore {
         Ok(answer)
     }
 
-    /// Whether each signer signed the order together with the path up to himself.
+    /// Whether each signer signed the order together with the path up to and with itself.
     fn are_signed(
         &mut self,
         header: &Header,
@@ -401,14 +402,14 @@ impl VerifyStore {
         Ok(true)
     }
 
-    /// Returns whether a chain verifies in the run of this header, as `gen_chain::chain_verifies` does.
-    /// Its signatures are checked from the first signer's on, up to the first that fails, and their
-    /// answers are kept: a chain of which all those are kept takes no memory, and adds no answer.
-    /// Where no answer is kept for the next four signers, the four are verified side by side.
+    /// Returns whether a chain verifies in the run of this header, as `gen_chain::chain_verifies` does. Its signatures
+    /// are checked from the first signer on, up to the first one that fails, and the answers are kept. If all these
+    /// answers are kept already, it takes no memory and adds no answer. If no answer is kept for the next four signers,
+    /// their four signatures are verified side by side.
     ///
     /// # Errors
     ///
-    /// Only where memory was refused: then the store keeps the checks that were made before.
+    /// Only if memory is refused. Then the store keeps the checks that were made before.
     pub fn chain_verifies(
         &mut self,
         header: &Header,
@@ -417,7 +418,7 @@ impl VerifyStore {
         requires serves { Serves header.now self.old }
         ensures answer { IfOk result (λ answer. IsTrue answer ↔ ChainVerifies header.now chain.now) }
         ensures kept { OnOk result (KeepsChain header.now self.new chain.now) }
-        // Where all answers were kept the store stays as it was.
+        // If all answers were kept, the store is unchanged.
         ensures known { KeepsChain header.now self.old chain.now → IsOk result × (self.new ≡ self.old) }
         ensures count { kept_count self.new ≤ kept_count self.old + length chain.now.signers }
         ensures grows { KeepsAll self.old self.new }

@@ -1,4 +1,4 @@
-//! Whether the signatures of a chain verify.
+//! Verifies the signatures of a chain.
 ghost use Rattle.std.specs.Prelude.{IsTrue, ◌≡◌, ◌≢◌, ◌≤◌, ◌↔◌, AllPairs, length};
 ghost use Rattle.gen_chain.specs.Chain.{signed_path};
 ghost use Rattle.gen_chain.specs.Verifying.{HasSigned, AreSigned, ChainVerifies};
@@ -12,8 +12,8 @@ use gen_net::Header;
 use gen_tree::{Signature, verify};
 use gen_types::{GeneralNo, OrderNo, Path};
 
-/// Returns whether a general signed a statement in the run of this header: he is below n, and the
-/// signature of the statement verifies under his root and the leaf of its order. It takes no memory.
+/// Returns whether a general signed a statement in the run of this header: the general is below n, and the signature of
+/// the statement verifies under the general's root and the leaf of the order. It takes no memory.
 pub fn has_signed(
     header: &Header,
     general: GeneralNo,
@@ -31,7 +31,7 @@ pub fn has_signed(
     verify(root, header.height(), leaf, &digest, signature)
 }
 
-/// Whether each signer signed the order together with the path up to himself.
+/// Whether each signer signed the order together with the path up to and with itself.
 fn are_signed(header: &Header, order: OrderNo, signers: &[Signer]) -> bool
     requires few { length signers.now ≤ MOST_SIGNERS }
     requires distinct { AllPairs (λ g h. g ≢ h) (signed_path signers.now) }
@@ -60,9 +60,9 @@ fn are_signed(header: &Header, order: OrderNo, signers: &[Signer]) -> bool
     true
 }
 
-/// Returns whether a chain verifies in the run of this header: its order is below q, and each of
-/// its signers is below n, and his signature of the order together with the path up to himself
-/// verifies under his own root and the leaf of the order. It takes no memory.
+/// Returns whether a chain verifies in the run of this header. Its order is below q, and each signer is below n. Each
+/// signer's signature of the order, together with the path up to and with itself, verifies under its own root and the
+/// leaf of the order. It takes no memory.
 pub fn chain_verifies(header: &Header, chain: &SignedChain) -> bool
     ensures { IsTrue result ↔ ChainVerifies header.now chain.now }
 {

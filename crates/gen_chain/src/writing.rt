@@ -1,4 +1,4 @@
-//! Writing chains.
+//! Writes chains.
 ghost use Rattle.std.specs.Prelude.{◌≡◌, ◌≤◌, ◌<◌, ◌+◌, ◌*◌, ◌++◌, IfOk, OnOk, OnErr, length, vec_len, vec_capacity};
 ghost use Rattle.std.specs.List.{flat_map};
 ghost use Rattle.gen_chain.specs.Chain.{signer_spelling, signers_length, chain_spelling, chain_length};
@@ -7,7 +7,7 @@ use crate::chains::{SignedChain, Signer};
 use crate::sizes::{FRONT_BYTES, MOST_CHAIN_BYTES, signers_bytes};
 use std::alloc::{AllocError, Global};
 
-/// Appends signers, in reserved room.
+/// Appends signers, in room that was reserved before.
 fn put_signers(out: &mut Vec<u8>, signers: &[Signer])
     requires room { vec_len out.old + signers_length signers.now ≤ vec_capacity out.old }
     ensures items { out.new.items ≡ out.old.items ++ flat_map signer_spelling signers.now }
@@ -21,7 +21,7 @@ fn put_signers(out: &mut Vec<u8>, signers: &[Signer])
 }
 
 impl SignedChain {
-    /// Returns how many bytes the chain has.
+    /// Returns the number of bytes of the chain's spelling.
     pub fn byte_count(&self) -> usize
         ensures value { result ≡ chain_length self.now }
         ensures most { result ≤ MOST_CHAIN_BYTES }
@@ -29,13 +29,12 @@ impl SignedChain {
         FRONT_BYTES + signers_bytes(self.height, self.signers.len() as u8)
     }
 
-    /// Appends the one spelling of the chain: the order and the number of signers, a byte each, and
-    /// for each signer a byte with his number, and his signature. Where the vector has room for the
-    /// chain, no memory is asked for.
+    /// Appends the one spelling of the chain: the order and the number of signers, one byte each, and for each signer
+    /// its number in one byte and its signature. If the vector has room for the chain, no memory is asked for.
     ///
     /// # Errors
     ///
-    /// `AllocError` where memory is refused: then the vector is unchanged.
+    /// `AllocError` where memory is refused. Then the vector is unchanged.
     pub fn append_to(&self, out: &mut Vec<u8>) -> Result<(), AllocError>
         ensures ok { OnOk result (out.new.items ≡ out.old.items ++ chain_spelling self.now) }
         ensures err { OnErr result (out.new.items ≡ out.old.items) }
@@ -51,8 +50,8 @@ impl SignedChain {
     }
 }
 
-/// Returns the one spelling of a chain: the order and the number of signers, a byte each, and for each
-/// signer a byte with his number, and his signature.
+/// Returns the one spelling of a chain: the order and the number of signers, one byte each, and for each signer its
+/// number in one byte and its signature.
 ///
 /// # Errors
 ///

@@ -1,4 +1,4 @@
--- What convicts a general across two runs: two different texts of his under one leaf of one tree.
+-- What convicts a general across two runs: two different texts of the general under one leaf of one tree.
 use Rattle.std.specs.Prelude.{ℕ, ◌≡◌, ◌≢◌, ◌⊎◌, List, map}
 use Rattle.std.specs.List.{flat_map}
 use Rattle.gen_net.specs.declared.version.Version.TheVariants.{Two}
@@ -14,8 +14,8 @@ use Rattle.gen_convict.specs.Accused.{TextVerifies}
 use Rattle.gen_convict.specs.Exhibits.{texts_of}
 use Rattle.gen_convict.specs.Firsts.{IsFirstPair}
 
--- two runs, whose headers are not the same, use the same leaves of the same trees: both are of version 2 and
--- of one slot, with as many generals and the same roots
+-- two runs with different headers use the same leaves of the same trees: both have version 2 and one slot, as
+-- many generals and the same roots
 pub record ShareLeaves (h k : RunHeader) : Type 0 where
   pub slot : ℕ
   pub one : h.version ≡ Two slot
@@ -31,25 +31,26 @@ AreOfOneKind (OfHead s) (OfHead t) = Unit {0}
 AreOfOneKind (OfStatement s) (OfHead t) = ⊥
 AreOfOneKind (OfHead s) (OfStatement t) = ⊥
 
--- two texts of two such runs, which stand under one leaf, and are different: texts of unequal run ids are
+-- two texts of two such runs that have one subject, so stand under one leaf, and differ: texts under unequal
+-- run ids do differ
 pub record AreRivals (x y : RunText) : Type 0 where
   pub runs : ShareLeaves x.header y.header
   pub kind : AreOfOneKind x.text.text y.text.text
   pub different : (run_id_of x.header ≢ run_id_of y.header) ⊎ (x.text.text ≢ y.text.text)
 
--- and both verify as the general's, each under its header
+-- two rivals that both verify as the general's, each under its own header
 pub record AreAcross (general : ℕ) (x y : RunText) : Type 0 where
   pub one : TextVerifies x.header general x.text
   pub other : TextVerifies y.header general y.text
   pub rivals : AreRivals x y
 
--- as evidence under a header says it: the first text is of the run of that header
+-- two texts of the general that contradict each other across runs, the first of the run of this header
 pub record IsAcrossFrom (h : RunHeader) (general : ℕ) (x y : RunText) : Type 0 where
   pub of_first : x.header ≡ h
   pub across : AreAcross general x y
 
--- the text is that of one run, it verifies as the general's, and his own log is of another run id: a log has
--- no text of another run id
+-- the text is this text of a run, it verifies as the general's, and the general's own log has another run id:
+-- a log has no text of another run
 pub record IsOfOtherRun (general : ℕ) (x : RunText) (own : RunLog) (text : SignedText) : Type 0 where
   pub is : text ≡ x.text
   pub verifies : TextVerifies x.header general text
@@ -75,6 +76,6 @@ unfoldable pub texts_across : List ShownRun → ℕ → List RunText
 texts_across runs general =
     flat_map (λ r. map (of_run r.header) (texts_of r.header r.exhibits general)) runs
 
--- the first pair of them that are rivals
+-- the first pair of the general's texts that are rivals
 abbrev pub IsFirstAcross : List ShownRun → ℕ → RunText → RunText → Type 0
 IsFirstAcross runs general x y = IsFirstPair AreRivals (texts_across runs general) x y

@@ -7,17 +7,17 @@ use Rattle.gen_convict.specs.declared.run_texts.RunText.{RunText}
 use Rattle.gen_convict.specs.Across.{IsOfOtherRun}
 use Rattle.gen_convict.specs.Refuting.{Refutation, Forged, Collision, AreColliding}
 
--- the answer: one of the two texts is of the run that the log isn't of, or two strings collide
+-- the answer is one of the two texts, of the run that the log isn't of, or two strings that collide
 abbrev pub IsAnswerAcross : ℕ → RunText → RunText → RunLog → Refutation → Type 0
 IsAnswerAcross general x y own (Forged text) =
     IsOfOtherRun general x own text ⊎ IsOfOtherRun general y own text
 IsAnswerAcross general x y own (Collision a b) = AreColliding a b
 
--- what is hashed for a run id
+-- the bytes that are hashed for a run id: the prefix and the header's spelling
 abbrev pub run_id_text : RunHeader → List ℕ
 run_id_text h = run_id_prefix ∷ header_spelling h
 
--- where two headers have one run id and are not the same, these texts collide
+-- if two different headers have one run id, the bytes that are hashed for it collide
 abbrev pub HeadersCollide : Type 0
 HeadersCollide =
     (h k : RunHeader) → IsHeader h → IsHeader k → h ≢ k → run_id_of h ≡ run_id_of k

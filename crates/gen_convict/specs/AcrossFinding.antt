@@ -22,7 +22,7 @@ is_rival x y =
     && (not (pointwise nat_eq (run_id_of x.header) (run_id_of y.header))
     || is_unlike x.text.text y.text.text))
 
--- two texts stand under one leaf, in two runs that use the same leaves, different or not
+-- two texts stand under one leaf, in two runs that use the same leaves; they may be equal or differ
 unfoldable pub meets : RunText → RunText → Bool
 meets x y = is_like x.text.text y.text.text && share_leaves x.header y.header
 
@@ -30,7 +30,7 @@ meets x y = is_like x.text.text y.text.text && share_leaves x.header y.header
 unfoldable pub is_beside : RunText → RunText → Bool
 is_beside x y = is_like x.text.text y.text.text && same_header x.header y.header
 
--- the first text that has a rival behind it, with the first such rival
+-- the first text that has a rival after it, with the first such rival
 abbrev pub with_rival : RunText → Option RunText → Option (RunText × RunText) → Option (RunText × RunText)
 with_rival x (Some y) more = Some (x, y)
 with_rival x None more = more
@@ -44,7 +44,7 @@ pub record RunReports : Type 0 where
   pub header : RunHeader
   pub reports : List LocalReport
 
--- the texts of a general in all reports, run by run
+-- the texts of a general in the reports of a run, and in those of all runs, run by run
 abbrev pub his_in_run : ℕ → RunReports → List RunText
 his_in_run general r = map (of_run r.header) (his_texts general r.reports)
 
@@ -59,7 +59,7 @@ unfoldable pub accusations_across : List RunReports → List ℕ → List Accusa
 accusations_across runs generals =
     flat_map (λ g. accusing_across g (first_rivals (his_across g runs))) generals
 
--- the headers and the lists of reports, run by run
+-- each header with the list of reports at its index
 abbrev pub runs_of : List RunHeader → List (List LocalReport) → List RunReports
 runs_of [] lists = []
 runs_of (h ∷ headers) [] = []

@@ -11,7 +11,7 @@ use Rattle.gen_convict.specs.Convictions.{AreUnderHeader, shown_in}
 use Rattle.gen_convict.specs.Exhibits.{AllBytes}
 use Rattle.gen_convict.specs.SharedLeaves.{share_leaves}
 
--- the tests say exactly whether two runs use the same leaves, and whether two texts are rivals
+-- the tests are exact: whether two runs use the same leaves, and whether two texts are rivals
 abbrev pub TestsSharing : Type 0
 TestsSharing = (h k : RunHeader) → (share_leaves h k ≡ true) ↔ ShareLeaves h k
 
@@ -28,35 +28,35 @@ SlotsApart =
     (h k : RunHeader) (m n : ℕ) → m < leaves_per_run → n < leaves_per_run → slot_of h ≢ slot_of k
     → leaf_of_order h m ≢ leaf_of_order k n
 
--- each header is one, and what exhibits have are bytes
+-- each header is lawful, and each exhibit consists of bytes
 abbrev pub AreLawful : List ShownRun → Type 0
 AreLawful runs = (r : ShownRun) → Contains runs r → IsHeader r.header × AllBytes r.exhibits
 
--- the exhibits of two runs hold two texts that contradict each other across
+-- the exhibits of two runs hold two texts of the general that contradict each other across these runs
 abbrev pub HoldAcross : List ShownRun → ℕ → Type 0
 HoldAcross runs general =
     (x : RunText) × (y : RunText) × Contains (texts_across runs general) x
     × Contains (texts_across runs general) y × AreAcross general x y
 
--- such two are found exactly where the exhibits hold two
+-- a first pair of rivals exists if and only if the exhibits hold two texts that contradict each other across
 abbrev pub FoundWhereHeld : Type 0
 FoundWhereHeld =
     (runs : List ShownRun) (general : ℕ) → AreLawful runs
     → HoldAcross runs general ↔ ((x : RunText) × (y : RunText) × IsFirstAcross runs general x y)
 
--- and they contradict each other across
+-- the first pair of rivals verifies and contradicts each other across
 abbrev pub FirstContradict : Type 0
 FirstContradict =
     (runs : List ShownRun) (general : ℕ) (x y : RunText) → AreLawful runs
     → IsFirstAcross runs general x y → AreAcross general x y
 
--- there are no two first ones
+-- there is at most one first pair of rivals
 abbrev pub OneFirstAcross : Type 0
 OneFirstAcross =
     (runs : List ShownRun) (general : ℕ) (x y v w : RunText) → IsFirstAcross runs general x y
     → IsFirstAcross runs general v w → (x ≡ v) × (y ≡ w)
 
--- two texts are of two of these runs, the first of the earlier
+-- the headers of the two texts are those of two of these runs, the first text's run the earlier
 pub record AreOfTwoRuns (runs : List ShownRun) (x y : RunText) : Type 0 where
   pub front : List ShownRun
   pub one : ShownRun
@@ -67,18 +67,19 @@ pub record AreOfTwoRuns (runs : List ShownRun) (x y : RunText) : Type 0 where
   pub first : x.header ≡ one.header
   pub second : y.header ≡ other.header
 
--- and so are the first ones
+-- the texts of the first pair of rivals are of two of the runs, the first text's run the earlier
 abbrev pub FirstOfTwoRuns : Type 0
 FirstOfTwoRuns =
     (runs : List ShownRun) (general : ℕ) (x y : RunText) → IsFirstAcross runs general x y
     → AreOfTwoRuns runs x y
 
--- the claim is by the first two
+-- the claim is by the first pair of the general's rivals
 abbrev pub IsFirstClaimAcross : List ShownRun → ℕ → Claim → Type 0
 IsFirstClaimAcross runs general claim =
     (x : RunText) × (y : RunText) × (claim ≡ AcrossRuns x y) × IsFirstAcross runs general x y
 
--- for each general for whom there are first ones these two, in ascending order of generals, and no other
+-- exactly the generals below 16 with a first pair of rivals are accused, each by that pair, in ascending
+-- order of generals
 pub record AreConvictedAcross (runs : List ShownRun) (convictions : List Accusation) : Type 0 where
   pub in_order : AllPairs (λ x y. x.accused < y.accused) convictions
   pub first : (x : Accusation) → Contains convictions x
@@ -86,13 +87,13 @@ pub record AreConvictedAcross (runs : List ShownRun) (convictions : List Accusat
   pub each : (general : ℕ) (x y : RunText) → general < 16 → IsFirstAcross runs general x y
       → Contains convictions (record { accused = general; claim = AcrossRuns x y })
 
--- each can stand in evidence, under the header of its first text
+-- each accusation can be written as evidence, under the header of its first text
 abbrev pub AreEvidenceAcross : List Accusation → Type 0
 AreEvidenceAcross convictions =
     (x : Accusation) (v w : RunText) → Contains convictions x → x.claim ≡ AcrossRuns v w
     → IsEvidence v.header x
 
--- the exhibits that the reports of runs are of
+-- the exhibits of a run's reports, with the run's header; and those of each run
 abbrev pub shown_run : RunReports → ShownRun
 shown_run r = record { header = r.header; exhibits = shown_in r.reports }
 

@@ -9,7 +9,7 @@ abbrev pub answer_of : answers.Refutation → Refutation
 answer_of (kinds.Forged text) = Forged text
 answer_of (kinds.Collision a b) = Collision a.items b.items
 
--- it says that the text is forged with this signature as the signer's
+-- the answer is that the text is forged with this signature, which it shows as the signer's
 abbrev pub SaysForged : ℕ → Text → List ℕ → answers.Refutation → Type 0
 SaysForged signer text signature answer =
     answer_of answer ≡ Forged (record { signer = signer; text = text; signature = signature })

@@ -1,4 +1,4 @@
--- Reading what is held against a general, of each kind, from left to right.
+-- Reading a claim against a general, of each kind, from left to right.
 use Rattle.std.specs.Prelude.{ℕ, ◌==◌, if◌then◌else◌, List, Result, Ok, Err}
 use Rattle.std.specs.Int.{w32}
 use Rattle.gen_types.specs.Reading.{◌>>=◌, check}
@@ -13,14 +13,14 @@ use Rattle.gen_convict.specs.EvidenceFields.{order_at, statement_at, signature_a
 use Rattle.gen_convict.specs.EvidenceSpelling.{statement_kind}
 use Rattle.gen_convict.specs.SharedLeaves.{is_two, share_leaves}
 
--- two texts of the accused
+-- two signed texts of the accused
 unfoldable pub two_texts_at : RunHeader → ℕ → List ℕ → Result (Claim × List ℕ) EvidenceFault
 two_texts_at h accused bytes = do
   first ← signed_at h accused bytes
   second ← signed_at h accused first.1
   Ok (TwoTexts first.0 second.0, second.1)
 
--- an order with the signature of the commander's statement, and two of these
+-- an order with the signature of the commander's statement, and a pair of these
 unfoldable pub command_at : RunHeader → List ℕ → Result ((ℕ × List ℕ) × List ℕ) EvidenceFault
 command_at h bytes = do
   order ← order_at h.network bytes
@@ -33,7 +33,7 @@ two_orders_at h bytes = do
   second ← command_at h first.1
   Ok (TwoOrders first.0.0 first.0.1 second.0.0 second.0.1, second.1)
 
--- a log, and a text that is a statement
+-- a text that has to be a statement, and a log with such a statement and its signature
 unfoldable pub missing_statement_at : Network → List ℕ → Result (Statement × List ℕ) EvidenceFault
 missing_statement_at net bytes = do
   kind ← byte_at faults.Truncated bytes
@@ -47,15 +47,15 @@ missing_at h bytes = do
   signature ← signature_at h statement.1
   Ok (MissingFromLog log.0 statement.0 signature.0, signature.1)
 
--- a log, and the number of an entry
+-- a log, and the number of an entry in four bytes
 unfoldable pub departing_at : List ℕ → Result (Claim × List ℕ) EvidenceFault
 departing_at bytes = do
   log ← log_at bytes
   entry ← number_at faults.Truncated w32 log.1
   Ok (DepartingLog log.0 entry.0, entry.1)
 
--- the header of another run, which uses the same leaves, and a text of each run; under a header of version 2
--- alone
+-- the header of another run that uses the same leaves, and a signed text of each run; under a header of
+-- version 2 alone
 unfoldable pub across_at : RunHeader → ℕ → List ℕ → Result (Claim × List ℕ) EvidenceFault
 across_at h accused bytes = do
   lawful ← check (is_two h.version) faults.OutOfRange
@@ -69,7 +69,7 @@ across_at h accused bytes = do
     second.1,
   )
 
--- the claim of the kind that a byte names
+-- the claim of the kind that a byte names, and the claim behind that byte
 unfoldable pub claim_of_kind : RunHeader → ℕ → ℕ → List ℕ → Result (Claim × List ℕ) EvidenceFault
 claim_of_kind h accused kind bytes =
     if kind == 1 then two_texts_at h accused bytes

@@ -1,4 +1,4 @@
--- The convictions that exhibits give: of each general the first claim, if there is one.
+-- The convictions that exhibits give: for each general the first claim, if there is one.
 use Rattle.std.specs.Prelude.{ℕ, ◌≡◌, ◌<◌, ◌^◌, ◌↔◌, List, length, map, Contains, AllPairs}
 use Rattle.gen_net.specs.Header.{RunHeader}
 use Rattle.gen_local.specs.Report.{LocalReport}
@@ -8,8 +8,8 @@ use Rattle.gen_convict.specs.Evidence.{Accusation, IsEvidence}
 use Rattle.gen_convict.specs.First.{IsFirstClaim}
 use Rattle.gen_convict.specs.Held.{HoldContradiction}
 
--- for each general of the network who has a first claim this claim, in ascending order of generals, and no
--- other
+-- exactly the generals of the network with a first claim are accused, each by that claim, in ascending order
+-- of generals
 pub record AreConvictions (h : RunHeader) (exhibits : List LogBytes) (convictions : List Accusation) :
     Type 0 where
   pub in_order : AllPairs (λ x y. x.accused < y.accused) convictions
@@ -23,13 +23,13 @@ pub record AreConvictions (h : RunHeader) (exhibits : List LogBytes) (conviction
 abbrev pub IsConvicted : List Accusation → ℕ → Type 0
 IsConvicted convictions general = (x : Accusation) × Contains convictions x × (x.accused ≡ general)
 
--- a general of the network is convicted exactly where the exhibits hold a contradiction of his
+-- a general of the network is convicted if and only if the exhibits hold a contradiction of the general
 abbrev pub ConvictsWhereHeld : RunHeader → List LogBytes → List Accusation → Type 0
 ConvictsWhereHeld h exhibits convictions =
     (general : ℕ) → general < h.network.generals
     → HoldContradiction h exhibits general ↔ IsConvicted convictions general
 
--- the exhibits that reports are of
+-- the exhibits of these reports
 abbrev pub shown_in : List LocalReport → List LogBytes
 shown_in reports = map (λ r. r.exhibit) reports
 
@@ -37,15 +37,15 @@ shown_in reports = map (λ r. r.exhibit) reports
 abbrev pub AreUnderHeader : RunHeader → List LocalReport → Type 0
 AreUnderHeader h reports = (r : LocalReport) → Contains reports r → r.header ≡ h
 
--- each is the first claim against its general
+-- each accusation is the first claim against its general
 abbrev pub AreFirst : RunHeader → List LogBytes → List Accusation → Type 0
 AreFirst h exhibits convictions =
     (x : Accusation) → Contains convictions x → IsFirstClaim h exhibits x.accused x.claim
 
--- no exhibit has 2 to the power of 32 bytes or more
+-- each exhibit has fewer than 2^32 bytes
 abbrev pub AreShort : List LogBytes → Type 0
 AreShort exhibits = (x : LogBytes) → Contains exhibits x → length x.bytes < 2 ^ 32
 
--- each can stand in evidence
+-- each accusation can be written as evidence
 abbrev pub AreEvidence : RunHeader → List Accusation → Type 0
 AreEvidence h convictions = (x : Accusation) → Contains convictions x → IsEvidence h x

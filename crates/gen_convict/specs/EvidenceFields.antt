@@ -24,19 +24,20 @@ use Rattle.gen_convict.specs.declared.evidence_fault.EvidenceFault.{EvidenceFaul
 use Rattle.gen_convict.specs.declared.evidence_fault.EvidenceFault.TheVariants as faults
 use Rattle.gen_convict.specs.EvidenceSpelling.{statement_kind, head_kind}
 
--- a fault of a log's field as one of evidence: where the field ends too early, so does the evidence
+-- the fault of evidence for a fault of a field that logs have too: truncated stays truncated, all else is out
+-- of range
 abbrev pub field_fault : LogFault → EvidenceFault
 field_fault rules.Truncated = faults.Truncated
 field_fault fault = faults.OutOfRange
 
--- an order and a path of the network, as in logs
+-- an order and a path of the network, as they stand in logs
 abbrev pub order_at : Network → List ℕ → Result (ℕ × List ℕ) EvidenceFault
 order_at net bytes = map_fault field_fault (logs.order_at net bytes)
 
 abbrev pub path_at : Network → List ℕ → Result (List ℕ × List ℕ) EvidenceFault
 path_at net bytes = map_fault field_fault (paths.path_at net bytes)
 
--- a statement, and a head of the general's log
+-- a statement of the network, and a head of the general's log
 unfoldable pub statement_at : Network → List ℕ → Result (Statement × List ℕ) EvidenceFault
 statement_at net bytes = do
   order ← order_at net bytes
@@ -49,7 +50,8 @@ head_at general bytes = do
   link ← bytes_at faults.Truncated 32 entries.1
   Ok (record { general = general; entries = entries.0; last_link = link.0 }, link.1)
 
--- a text of the kind that a byte names
+-- a statement as a text, a head as a text, the text of the kind that a byte names, and the text behind that
+-- byte
 unfoldable pub statement_text_at : Network → List ℕ → Result (Text × List ℕ) EvidenceFault
 statement_text_at net bytes = do
   statement ← statement_at net bytes
@@ -81,18 +83,18 @@ signed_at h general bytes = do
   signature ← signature_at h text.1
   Ok (record { signer = general; text = text.0; signature = signature.0 }, signature.1)
 
--- the bytes of a log behind their number
+-- a length in four bytes and as many bytes of a log
 unfoldable pub log_at : List ℕ → Result (List ℕ × List ℕ) EvidenceFault
 log_at bytes = do
   size ← number_at faults.Truncated w32 bytes
   bytes_at faults.Truncated size.0 size.1
 
--- a fault of the mark and the header as one of evidence
+-- the fault of evidence for a fault of the mark or the header
 abbrev pub front_fault : FrontFault → EvidenceFault
 front_fault fronts.Truncated = faults.Truncated
 front_fault fronts.UnknownMark = faults.UnknownMark
 front_fault (fronts.BadHeader rule) = faults.BadHeader rule
 
--- the header of another run, which is of version 2
+-- the header of another run, which has version 2
 unfoldable pub second_header_at : List ℕ → Result (RunHeader × List ℕ) EvidenceFault
 second_header_at bytes = map_fault front_fault (header_behind version_two bytes)

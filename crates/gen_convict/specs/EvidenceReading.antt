@@ -11,11 +11,11 @@ use Rattle.gen_convict.specs.Evidence.{Accusation, IsEvidence}
 use Rattle.gen_convict.specs.EvidenceFields.{front_fault}
 use Rattle.gen_convict.specs.EvidenceSpelling.{HeaderAndEvidence, evidence_marks}
 
--- what evidence in bytes keeps: its header is one, and the evidence can stand under it
+-- the header is lawful, and the evidence can stand under it
 abbrev pub IsWhole : HeaderAndEvidence → Type 0
 IsWhole x = IsHeader x.header × IsEvidence x.header x.evidence
 
--- the accused, who is a general of the network, and the claim
+-- the accused, who is a general of the network, and the accused with the claim
 unfoldable pub accused_at : ℕ → List ℕ → Result (ℕ × List ℕ) EvidenceFault
 accused_at n bytes = do
   accused ← byte_at faults.Truncated bytes
@@ -28,14 +28,14 @@ accusation_at h bytes = do
   claim ← claim_at h accused.0 accused.1
   Ok (record { accused = accused.0; claim = claim.0 }, claim.1)
 
--- the mark and the header, the evidence under it, and the bytes after it
+-- the mark and the header, the evidence under the header, and the bytes after it
 unfoldable pub evidence_at : List ℕ → Result (HeaderAndEvidence × List ℕ) EvidenceFault
 evidence_at bytes = do
   header ← map_fault front_fault (front_at evidence_marks bytes)
   evidence ← accusation_at header.0 header.1
   Ok (record { header = header.0; evidence = evidence.0 }, evidence.1)
 
--- the header and the evidence that the whole of the bytes is
+-- the header and the evidence, with no bytes left over
 unfoldable pub whole_evidence : List ℕ → Result HeaderAndEvidence EvidenceFault
 whole_evidence bytes = do
   whole ← evidence_at bytes

@@ -11,7 +11,7 @@ use Rattle.gen_local.specs.declared.texts.SignedText.{SignedText}
 use Rattle.gen_log.specs.Writing.{LogBytes}
 use Rattle.gen_local.specs.SignedTexts as signed
 
--- what exhibits have are bytes
+-- each exhibit consists of bytes
 abbrev pub AllBytes : List LogBytes → Type 0
 AllBytes exhibits = (exhibit : LogBytes) → Contains exhibits exhibit → AreBelow 256 exhibit.bytes
 
@@ -21,8 +21,8 @@ pub record HeldLog : Type 0 where
   pub bytes : List ℕ
   pub log : RunLog
 
--- what an exhibit's bytes read to: the log, where it says that it is the exhibit's general's of this run, and
--- else nothing
+-- the log that an exhibit's bytes read to, if it says that it is of this run and of the exhibit's general, or
+-- else nothing; and such logs of all exhibits
 abbrev pub held : RunHeader → LogBytes → Result RunLog LogFault → List HeldLog
 held h exhibit (Ok log) =
     cond (says_it_is_of h exhibit.general log)
@@ -32,14 +32,14 @@ held h exhibit (Err fault) = []
 unfoldable pub logs_in : RunHeader → List LogBytes → List HeldLog
 logs_in h exhibits = flat_map (λ exhibit. held h exhibit (log_of h exhibit.bytes)) exhibits
 
--- the texts of a log that verify, and those of all exhibits in their order
+-- the texts of a log that verify, and those of all exhibits in the order of the exhibits
 abbrev pub log_texts : RunHeader → HeldLog → List SignedText
 log_texts h l = signed.texts_of h l.general l.log
 
 unfoldable pub texts_in : RunHeader → List LogBytes → List SignedText
 texts_in h exhibits = flat_map (log_texts h) (logs_in h exhibits)
 
--- those of one general
+-- the texts of all exhibits that verify and that one general signed
 abbrev pub is_by : ℕ → SignedText → Bool
 is_by general t = t.signer == general
 

@@ -1,4 +1,4 @@
--- How the first claim is found: what reports say of one general, and tests on his texts.
+-- How the first claim is found: what reports say of one general, and tests on the general's texts.
 use Rattle.std.specs.Prelude.{ℕ, Bool, true, false, ◌&&◌, ◌==◌, not, cond, List, [], ◌∷◌, ◌++◌, filter}
 use Rattle.std.specs.Bool.{nat_eq}
 use Rattle.std.specs.List.{flat_map, list_any}
@@ -13,7 +13,7 @@ use Rattle.gen_local.specs.declared.texts.Text.TheVariants.{OfStatement, OfHead}
 use Rattle.gen_local.specs.Report.{LocalReport}
 use Rattle.gen_convict.specs.Exhibits.{is_by}
 
--- the texts that verify, in what an exhibit reads to, and those of one general in all reports
+-- the texts that verify in the reading of an exhibit, and those of one general in all reports
 abbrev pub read_texts : Reading → List SignedText
 read_texts (Own found) = found.texts
 read_texts (Unreadable fault) = []
@@ -29,7 +29,7 @@ is_like (OfHead s) (OfHead t) = true
 is_like (OfStatement s) (OfHead t) = false
 is_like (OfHead s) (OfStatement t) = false
 
--- they are unlike: of one subject, and not the same
+-- the texts are unlike: they have one subject and differ
 abbrev pub is_unlike : Text → Text → Bool
 is_unlike (OfStatement s) (OfStatement t) = s.order == t.order && not (pointwise nat_eq s.path t.path)
 is_unlike (OfHead s) (OfHead t) =
@@ -41,7 +41,7 @@ is_unlike (OfHead s) (OfStatement t) = false
 abbrev pub has_unlike : List SignedText → SignedText → Bool
 has_unlike texts t = list_any (λ x. is_unlike t.text x.text) texts
 
--- a statement of the commander alone, and two such of different orders
+-- a statement whose path is the commander alone, and two such statements of different orders
 abbrev pub is_command : Text → Bool
 is_command (OfStatement s) = pointwise nat_eq s.path (0 ∷ [])
 is_command (OfHead head) = false
@@ -53,11 +53,11 @@ are_orders (OfStatement s) (OfHead t) = false
 are_orders (OfHead s) (OfStatement t) = false
 are_orders (OfHead s) (OfHead t) = false
 
--- the text alone, unless one of those before it has its subject
+-- a list of the text alone, or an empty list if one of the texts before has its subject
 abbrev pub new_one : List SignedText → SignedText → List SignedText
 new_one before t = cond (list_any (λ x. is_like x.text t.text) before) [] (t ∷ [])
 
--- of the texts that are left, the first of each subject that none of those before them has
+-- the first text of each subject that none of the texts before has
 abbrev pub one_each : List SignedText → List SignedText → List SignedText
 one_each before [] = []
 one_each before (t ∷ texts) = new_one before t ++ one_each (before ++ new_one before t) texts

@@ -17,7 +17,7 @@ use Rattle.gen_convict.specs.Contradictions.{Claim, TwoTexts, TwoOrders, Missing
 use Rattle.gen_convict.specs.Exhibits.{HeldLog, texts_of, logs_of}
 use Rattle.gen_convict.specs.Firsts.{IsFirst, IsFirstPair}
 
--- two statements of the commander alone, of different orders
+-- two statements of different orders, each with the path of the commander alone
 abbrev pub DifferInOrder : Text → Text → Type 0
 DifferInOrder (OfStatement s) (OfStatement t) = (s.path ≡ 0 ∷ []) × (t.path ≡ 0 ∷ []) × (s.order ≢ t.order)
 DifferInOrder (OfStatement s) (OfHead t) = ⊥
@@ -27,7 +27,7 @@ DifferInOrder (OfHead s) (OfHead t) = ⊥
 abbrev pub AreOrders : SignedText → SignedText → Type 0
 AreOrders x y = DifferInOrder x.text y.text
 
--- the text is a statement of which the log has no SIGN
+-- the text is a statement without a SIGN in the log
 abbrev pub IsUnsaid : RunLog → Text → Type 0
 IsUnsaid log (OfStatement s) = HasSign log s → ⊥
 IsUnsaid log (OfHead head) = ⊥
@@ -40,7 +40,7 @@ abbrev pub LacksSome : RunHeader → List SignedText → HeldLog → Type 0
 LacksSome h texts l =
     HeadVerifies h l.general l.log × ((text : SignedText) × Contains texts text × IsMissing l.log text)
 
--- the log's head verifies, and it departs at p
+-- the log's head verifies, and the log departs at entry p; and it does so at some entry
 abbrev pub IsDeparting : RunHeader → HeldLog → ℕ → Type 0
 IsDeparting h l p =
     HeadVerifies h l.general l.log × DepartsAt h.network l.general (erased l.log.entries) p
@@ -63,7 +63,7 @@ IsFirstOfKind h exhibits general (DepartingLog bytes p) =
     × IsFirst (DepartsSomewhere h) (logs_of h exhibits general) l × IsDeparting h l p
 IsFirstOfKind h exhibits general (AcrossRuns x y) = ⊥
 
--- the number of a kind
+-- the number of a claim's kind
 abbrev pub kind_of : Claim → ℕ
 kind_of (TwoTexts first second) = 1
 kind_of (TwoOrders v a w b) = 2
@@ -71,7 +71,7 @@ kind_of (MissingFromLog bytes s signature) = 3
 kind_of (DepartingLog bytes p) = 4
 kind_of (AcrossRuns x y) = 5
 
--- the claim is the one that is made: the first of its kind, and no other kind that the exhibits hold is less
+-- the claim that is made: it is the first of its kind, and the exhibits hold no claim of a lower kind
 pub record IsFirstClaim (h : RunHeader) (exhibits : List LogBytes) (general : ℕ) (claim : Claim)
     : Type 0 where
   pub first : IsFirstOfKind h exhibits general claim

@@ -9,7 +9,7 @@ use Rattle.gen_convict.specs.Exhibits.{HeldLog, AllBytes, texts_of, logs_of}
 use Rattle.gen_convict.specs.First.{DepartsSomewhere, IsFirstClaim}
 use Rattle.gen_convict.specs.Held.{HoldContradiction}
 
--- each text in a general's list verifies as his
+-- each text in a general's list verifies as the general's
 abbrev pub TextsVerify : Type 0
 TextsVerify =
     (h : RunHeader) (exhibits : List LogBytes) (general : ℕ) (text : SignedText) → IsHeader h
@@ -21,8 +21,8 @@ FirstHolds =
     (h : RunHeader) (exhibits : List LogBytes) (general : ℕ) (claim : Claim) → IsHeader h
     → AllBytes exhibits → IsFirstClaim h exhibits general claim → IsContradiction h general claim
 
--- a claim is made against a general exactly where the exhibits hold a contradiction of his, if it is told of
--- each of his logs whether it departs
+-- a claim is made against a general if and only if the exhibits hold a contradiction of the general, provided
+-- that it is decided of each of the general's logs whether it departs
 abbrev pub GivenWhereHeld : Type 0
 GivenWhereHeld =
     (h : RunHeader) (exhibits : List LogBytes) (general : ℕ) → IsHeader h → AllBytes exhibits
@@ -30,7 +30,7 @@ GivenWhereHeld =
     → DepartsSomewhere h l ⊎ (DepartsSomewhere h l → ⊥))
     → HoldContradiction h exhibits general ↔ ((claim : Claim) × IsFirstClaim h exhibits general claim)
 
--- one claim at most is made against a general
+-- at most one claim is made against a general
 abbrev pub OneClaim : Type 0
 OneClaim =
     (h : RunHeader) (exhibits : List LogBytes) (general : ℕ) (a b : Claim)

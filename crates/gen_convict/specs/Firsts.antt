@@ -1,7 +1,7 @@
 -- The first member of a list with a property, and its first pair that is related.
 use Rattle.std.specs.Prelude.{◌≡◌, List, ◌∷◌, ◌++◌, Contains}
 
--- x is the first of the list with the property
+-- x is the first member of the list with the property
 pub record IsFirst {X : Type 0} (P : X → Type 0) (xs : List X) (x : X) : Type 0 where
   pub before : List X
   pub after : List X
@@ -9,8 +9,8 @@ pub record IsFirst {X : Type 0} (P : X → Type 0) (xs : List X) (x : X) : Type 
   pub holds : P x
   pub none_before : (z : X) → Contains before z → P z → ⊥
 
--- x and y, which stands behind x, are the first pair of the list that is so related: no pair begins before x,
--- and none that begins at x ends before y
+-- x and y, with x before y, are the first related pair of the list: no related pair begins before x, and none
+-- that begins at x ends before y
 pub record IsFirstPair {X : Type 0} (R : X → X → Type 0) (xs : List X) (x y : X) : Type 0 where
   pub before : List X
   pub between : List X

@@ -1,4 +1,4 @@
--- When exhibits hold a claim, and a contradiction of a general.
+-- When exhibits hold a claim against a general, and a contradiction of the general.
 use Rattle.std.specs.Prelude.{ℕ, ◌≡◌, List, Contains}
 use Rattle.gen_net.specs.Header.{RunHeader}
 use Rattle.gen_log.specs.Writing.{LogBytes}
@@ -25,7 +25,7 @@ AreHeld h exhibits general (MissingFromLog bytes s signature) =
 AreHeld h exhibits general (DepartingLog bytes p) = HoldLog h exhibits general bytes
 AreHeld h exhibits general (AcrossRuns x y) = ⊥
 
--- the exhibits hold a contradiction of the general
+-- the exhibits hold a claim that is a contradiction of the general
 abbrev pub HoldContradiction : RunHeader → List LogBytes → ℕ → Type 0
 HoldContradiction h exhibits general =
     (claim : Claim) × AreHeld h exhibits general claim × IsContradiction h general claim

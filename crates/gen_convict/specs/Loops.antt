@@ -1,2 +1,2 @@
--- Texts that are looked at in a loop: no public contract speaks of them.
+-- Texts that a loop compares. No public contract speaks of them.
 pub mod Alone

@@ -1,4 +1,4 @@
--- Logs of a general that he sealed beside the log that he kept.
+-- Logs that verify as sealed by a general and differ from the log that the general kept.
 use Rattle.std.specs.Prelude.{ℕ, ◌≢◌, List}
 use Rattle.gen_net.specs.Header.{RunHeader}
 use Rattle.gen_log.specs.Log.{RunLog}
@@ -6,13 +6,14 @@ use Rattle.gen_convict.specs.Accused.{TextVerifies}
 use Rattle.gen_convict.specs.Contradictions.{IsSealedLogOf}
 use Rattle.gen_convict.specs.Refuting.{HasText, IsHeadIn, Refutation, Forged, Collision, AreColliding}
 
--- the bytes are a log that says it is the general's of this run, whose head verifies, with other entries than
--- his own log's
+-- the bytes are a log that says it is the general's of this run, its head verifies, and its entries are not
+-- those of the general's own log
 abbrev pub IsOtherLog : RunHeader → ℕ → RunLog → List ℕ → Type 0
 IsOtherLog h general own bytes =
     (log : RunLog) × IsSealedLogOf h general bytes log × (log.entries ≢ own.entries)
 
--- the answer to it: its head, which verifies and isn't that of his own log, or two strings that collide
+-- the answer to such a log: its head, which verifies and isn't the head of the general's own log, or two
+-- strings that collide
 abbrev pub IsAnswerToLog : RunHeader → ℕ → RunLog → List ℕ → Refutation → Type 0
 IsAnswerToLog h general own bytes (Forged text) =
     IsHeadIn h general bytes text × TextVerifies h general text × (HasText h general own text.text → ⊥)

@@ -1,5 +1,5 @@
--- What answers a claim against a general who kept a follower's log: a text that he didn't log, or two texts
--- with one hash.
+-- What answers a claim against a general that kept a follower's log: a text that the log doesn't have, or two
+-- texts with one hash.
 use Rattle.std.specs.Prelude.{ℕ, ◌≡◌, ◌≢◌, ◌⊎◌, List, ◌∷◌, ◌++◌}
 use Rattle.sha2.specs.Sha256.{sha256}
 use Rattle.gen_types.specs.Spelled.{Spells}
@@ -26,7 +26,7 @@ pub record IsOwnLog (h : RunHeader) (general : ℕ) (own : RunLog) : Type 0 wher
   pub followed : IsFollowersLog h.network general (erased own.entries)
   pub sealed : HeadVerifies h general own
 
--- the log has the text: a statement as SIGN, or a head as its own
+-- the log has the text: a statement as a SIGN, or a head as the log's own head
 abbrev pub HasText : RunHeader → ℕ → RunLog → Text → Type 0
 HasText h general log (OfStatement statement) = HasSign log statement
 HasText h general log (OfHead head) = head ≡ head_over h general log.entries
@@ -36,7 +36,7 @@ abbrev pub IsHeadIn : RunHeader → ℕ → List ℕ → SignedText → Type 0
 IsHeadIn h general bytes text =
     (log : RunLog) × Spells (IsLog h) log_spelling bytes log × (text ≡ head_in h general log)
 
--- the text is one of those of the run that the claim has
+-- the text is one of the claim's texts, of the run of this header
 abbrev pub IsTextIn : RunHeader → ℕ → Claim → SignedText → Type 0
 IsTextIn h accused (TwoTexts first second) text = (text ≡ first) ⊎ (text ≡ second)
 IsTextIn h accused (TwoOrders v a w b) text = (text ≡ command v a) ⊎ (text ≡ command w b)
@@ -50,14 +50,15 @@ pub data Refutation : Type 0 where
   Forged : (text : SignedText) → Refutation
   Collision : (a b : List ℕ) → Refutation
 
--- the text is one of the claim, it verifies as the accused's, and his own log doesn't have it
+-- the text is one of the claim's, it verifies as the accused's, and the accused's own log doesn't have it
 pub record IsForged (h : RunHeader) (accused : ℕ) (claim : Claim) (own : RunLog) (text : SignedText)
     : Type 0 where
   pub inside : IsTextIn h accused claim text
   pub verifies : TextVerifies h accused text
   pub absent : HasText h accused own text.text → ⊥
 
--- of a claim by two runs, the text is that of the run that his own log isn't of
+-- the text is forged; if the claim is of two runs, the text is that of the run that the accused's own log
+-- isn't of
 abbrev pub IsForgedIn : RunHeader → ℕ → Claim → RunLog → SignedText → Type 0
 IsForgedIn h accused (TwoTexts x y) own text = IsForged h accused (TwoTexts x y) own text
 IsForgedIn h accused (TwoOrders v a w b) own text = IsForged h accused (TwoOrders v a w b) own text
@@ -71,16 +72,16 @@ IsForgedIn h accused (AcrossRuns x y) own text =
 abbrev pub AreColliding : List ℕ → List ℕ → Type 0
 AreColliding a b = (a ≢ b) × (sha256 a ≡ sha256 b)
 
--- a text is forged, or two strings collide
+-- the answer refutes the claim: a text of it is forged, or two strings collide
 abbrev pub IsRefutation : RunHeader → ℕ → Claim → RunLog → Refutation → Type 0
 IsRefutation h accused claim own (Forged text) = IsForgedIn h accused claim own text
 IsRefutation h accused claim own (Collision a b) = AreColliding a b
 
--- what is hashed for the link behind an entry
+-- the bytes that are hashed for the link after an entry
 abbrev pub link_text : List ℕ → Entry → List ℕ
 link_text link e = link_prefix ∷ (link ++ entry_spelling e)
 
--- a claim by two runs has another run than that of the evidence, and the log is of this one
+-- the claim is of two runs, and the log is of the run that isn't the evidence's
 abbrev pub IsOwnLogOfOther : ℕ → Claim → RunLog → Type 0
 IsOwnLogOfOther accused (TwoTexts x y) own = ⊥
 IsOwnLogOfOther accused (TwoOrders v a w b) own = ⊥
@@ -88,11 +89,11 @@ IsOwnLogOfOther accused (MissingFromLog bytes s signature) own = ⊥
 IsOwnLogOfOther accused (DepartingLog bytes p) own = ⊥
 IsOwnLogOfOther accused (AcrossRuns x y) own = IsOwnLog y.header accused own
 
--- the log that answers a claim is of the run of the evidence, or of the other run of a claim by two
+-- the log is of the run of the evidence, or, if the claim is of two runs, of the other run
 abbrev pub IsOwnLogFor : RunHeader → ℕ → Claim → RunLog → Type 0
 IsOwnLogFor h accused claim own = IsOwnLog h accused own ⊎ IsOwnLogOfOther accused claim own
 
--- the headers in a claim are headers
+-- the headers in a claim are lawful
 abbrev pub HasHeaders : Claim → Type 0
 HasHeaders (TwoTexts x y) = Unit {0}
 HasHeaders (TwoOrders v a w b) = Unit {0}

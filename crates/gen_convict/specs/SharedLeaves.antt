@@ -1,11 +1,11 @@
--- Whether two runs use the same leaves, as a test.
+-- Tests whether two runs use the same leaves.
 use Rattle.std.specs.Prelude.{Bool, true, false, ◌&&◌, ◌==◌, not}
 use Rattle.gen_net.specs.declared.version.Version.{Version}
 use Rattle.gen_net.specs.declared.version.Version.TheVariants.{One, Two}
 use Rattle.gen_net.specs.Header.{RunHeader}
 use Rattle.gen_net.specs.SameHeaders.{same_roots, same_header}
 
--- version 2
+-- the version is version 2
 abbrev pub is_two : Version → Bool
 is_two One = false
 is_two (Two slot) = true
@@ -16,7 +16,7 @@ is_one_slot (Two a) (Two b) = a == b
 is_one_slot (Two a) One = false
 is_one_slot One v = false
 
--- version 2 and one slot, as many generals, the same roots, and not the same header
+-- both have version 2 and one slot, as many generals and the same roots, and the headers differ
 unfoldable pub share_leaves : RunHeader → RunHeader → Bool
 share_leaves h k =
     is_one_slot h.version k.version

@@ -1,4 +1,4 @@
-//! Checking and refuting evidence across runs.
+//! Checks and refutes evidence across runs.
 ghost use Rattle.std.specs.Prelude.{IsTrue, ◌≡◌, ◌<◌, ◌⊎◌, ◌↔◌, IfOk};
 ghost use Rattle.gen_net.specs.Header.{run_id_of};
 ghost use Rattle.gen_convict.specs.Across.{AreAcross, IsAcrossFrom};
@@ -17,11 +17,11 @@ use gen_net::{Header, header_bytes};
 use gen_types::GeneralNo;
 use std::alloc::{AllocError, Global};
 
-/// The byte before a header, where its run id is hashed.
+/// The byte before a header's spelling in the text that is hashed for its run id.
 const RUN_ID_PREFIX: u8 = 0x31;
 
-/// Whether these are two texts of the general, who is one of the first network's, that verify in their runs
-/// and contradict each other across the runs.
+/// Whether both texts verify as the general's, each under the header of its run, and contradict each other across the
+/// two runs. The general's number is below the number of generals of the first run.
 fn are_across(general: GeneralNo, first: &RunText, second: &RunText) -> bool
     requires { general < first.now.header.network.generals }
     ensures { IsTrue result ↔ AreAcross general first.now second.now }
@@ -41,7 +41,8 @@ fn are_across(general: GeneralNo, first: &RunText, second: &RunText) -> bool
         && text_verifies(&second.header, general, &second.text)
 }
 
-/// Returns whether these are such texts, the first of the run of this header.
+/// Whether both texts verify as the general's and contradict each other across their runs, and the header of the first
+/// is this header.
 pub fn is_across_from(
     header: &Header,
     general: GeneralNo,
@@ -57,7 +58,7 @@ pub fn is_across_from(
     are_across(general, first, second)
 }
 
-/// What is hashed for a header's run id.
+/// Returns the bytes whose SHA-256 is a header's run id: the byte 0x31 and the header's spelling.
 fn hashed_header(alloc: Global, header: &Header) -> Result<Vec<u8>, AllocError>
     ensures { IfOk result (λ bytes. bytes.items ≡ run_id_text header.now) }
 {
@@ -67,8 +68,9 @@ fn hashed_header(alloc: Global, header: &Header) -> Result<Vec<u8>, AllocError>
     Ok(bytes)
 }
 
-/// Answers two texts of a general that contradict each other across runs by the text of the run that his own log
-/// isn't of, or, where both runs have one run id, by what is hashed for it.
+/// Answers evidence of two texts of a general that contradict each other across runs. The answer is the text of the run
+/// that the general's own log isn't of. If both runs have one run id, the answer is the two strings of bytes that are
+/// hashed for it.
 ///
 /// # Errors
 ///
@@ -84,7 +86,7 @@ pub fn refute_across(
     ensures { IfOk result
         (λ answer. IsAnswerAcross general first.now second.now own.now (answer_of answer)) }
 {
-    // A read of the networks makes known what each header keeps.
+    // Reading the networks makes the invariants of the headers known.
     let _net = first.header.net();
     let _other = second.header.net();
     headers_collide();

@@ -1,4 +1,4 @@
-//! Finding evidence across runs.
+//! Finds evidence across runs.
 ghost use Rattle.std.specs.Prelude.{◌≡◌, ◌≤◌, ◌++◌, Contains, IfOk, OnOk, length, map};
 ghost use Rattle.std.specs.List.{range_with_len};
 ghost use Rattle.gen_log.specs.Fields.{AreBelow};
@@ -23,7 +23,7 @@ use gen_types::GeneralNo;
 use gen_types::limits::MOST_GENERALS;
 use std::alloc::{AllocError, Global};
 
-/// The runs of these headers and lists of reports.
+/// Returns each header with the list of reports at its index.
 fn seen_runs<'a>(
     alloc: Global,
     headers: &'a [Header],
@@ -43,7 +43,7 @@ fn seen_runs<'a>(
     Ok(runs)
 }
 
-/// A copy of a text with its header.
+/// Returns a copy of a text and of the header of its run.
 fn copied(alloc: Global, text: SeenText) -> Result<RunText, AllocError>
     ensures { IfOk result (λ copy. copy ≡ seen text.entry) }
 {
@@ -53,7 +53,7 @@ fn copied(alloc: Global, text: SeenText) -> Result<RunText, AllocError>
     })
 }
 
-/// Puts what is held against a general across the runs behind the others.
+/// Appends the evidence across the runs against a general, if there is any.
 fn add_rivals(
     alloc: Global,
     general: GeneralNo,
@@ -78,7 +78,7 @@ fn add_rivals(
     Ok(())
 }
 
-/// What is held against so many generals across the runs.
+/// Returns the evidence across the runs against each general whose number is below `generals`, which is at most 16.
 fn rivals_of_all(alloc: Global, generals: u8, runs: &[SeenRun]) -> Result<Vec<Evidence>, AllocError>
     requires { generals ≤ 16 }
     ensures { IfOk result (λ found. map told_of found.items
@@ -91,7 +91,8 @@ fn rivals_of_all(alloc: Global, generals: u8, runs: &[SeenRun]) -> Result<Vec<Ev
     Ok(found)
 }
 
-/// Makes known what the header and the reports of a run keep.
+/// Makes known that the header of a run is a lawful header, and that each of its reports is one, of an exhibit that
+/// consists of bytes.
 fn read_run(run: SeenRun)
     ensures header { IsHeader run.entry.header.now }
     ensures reports { (r : Report) → Contains run.entry.reports.now r
@@ -101,7 +102,7 @@ fn read_run(run: SeenRun)
     read_all(run.reports);
 }
 
-/// Makes known what the headers and the reports of runs keep.
+/// Makes known of each of the runs what `read_run` makes known of one: its header and reports are lawful.
 fn read_runs(runs: &[SeenRun])
     ensures { (run : RunReports) → Contains (map seen_run runs.now) run → IsHeader run.header
         × ((r : Report) → Contains run.reports r → IsReport r × AreBelow 256 r.exhibit.bytes) }
@@ -111,9 +112,10 @@ fn read_runs(runs: &[SeenRun])
     }
 }
 
-/// Returns of each general the first two texts of his, in two of these runs, that contradict each other, in
-/// ascending order of generals: two different texts under one leaf of one tree. The texts are listed run by run, and
-/// in each run in the order of its reports. There is a list of reports for each header, and they are under it.
+/// Returns, for each general, the first two of its texts that contradict each other across two of these runs: two
+/// different texts under one leaf of one tree. The generals are in ascending order. The texts are listed run by run,
+/// and in each run in the order of its reports. There is one list of reports for each header, and its reports were made
+/// under that header.
 ///
 /// # Errors
 ///
@@ -125,10 +127,10 @@ pub fn find_across(
 ) -> Result<Vec<Evidence>, AllocError>
     requires count { length headers.now ≡ length reports.now }
     requires under { AreUnderHeaders (runs_of headers.now (map (λ v. v.items) reports.now)) }
-    // Each general against whom the exhibits of two runs hold such texts has the first two, and nobody else has any.
+    // Each general against which the exhibits of two runs hold such texts has the first two; nothing else is returned.
     ensures found { IfOk result (λ found. AreConvictedAcross
         (shown_runs (runs_of headers.now (map (λ v. v.items) reports.now))) (map told_of found.items)) }
-    // All of it has a spelling.
+    // Each of these can be written as evidence.
     ensures lawful { IfOk result (λ found. AreEvidenceAcross (map told_of found.items)) }
 {
     let runs = seen_runs(alloc, headers, reports)?;

@@ -1,4 +1,4 @@
-//! Checking evidence.
+//! Checks evidence.
 ghost use Rattle.std.specs.Prelude.{IsTrue, ◌≡◌, ◌<◌, ◌↔◌, IfOk, IfSome, None, List, ℕ};
 ghost use Rattle.gen_net.specs.Departs.{DepartsAt};
 ghost use Rattle.gen_net.specs.Header.{IsHeader};
@@ -23,7 +23,7 @@ use gen_tree::{Signature, verify};
 use gen_types::{GeneralNo, OrderNo, Path, ReadError};
 use std::alloc::{AllocError, Global};
 
-/// Whether a text is the general's.
+/// Whether a text is the general's: a statement whose path ends with the general, or a head that names it.
 fn is_text_of(general: GeneralNo, text: &Text) -> bool
     ensures { IsTrue result ↔ accused_texts.IsTextOf general text.now }
 {
@@ -33,7 +33,7 @@ fn is_text_of(general: GeneralNo, text: &Text) -> bool
     }
 }
 
-/// Whether a general signed a text.
+/// Whether a signature of a text verifies under the general's root and the text's leaf.
 fn has_signed_text(header: &Header, general: GeneralNo, text: &Text, signature: &Signature) -> bool
     requires { general < header.now.network.generals }
     ensures { IsTrue result
@@ -55,7 +55,8 @@ fn has_signed_text(header: &Header, general: GeneralNo, text: &Text, signature: 
     }
 }
 
-/// Returns whether a text verifies as the general's.
+/// Returns whether a signed text verifies as the general's: it names the general as its signer, it is the general's
+/// text, and its signature verifies.
 pub fn text_verifies(header: &Header, general: GeneralNo, text: &SignedText) -> bool
     requires { general < header.now.network.generals }
     ensures { IsTrue result ↔ accused_texts.TextVerifies header.now general text.now }
@@ -65,7 +66,7 @@ pub fn text_verifies(header: &Header, general: GeneralNo, text: &SignedText) -> 
         && has_signed_text(header, general, &text.text, &text.signature)
 }
 
-/// Whether a statement verifies as the general's.
+/// Whether a statement verifies as the general's: its path ends with the general, and the signature verifies.
 fn statement_verifies(
     header: &Header,
     general: GeneralNo,
@@ -78,7 +79,7 @@ fn statement_verifies(
     statement.path.ends_with(general) && has_signed(header, general, statement, signature)
 }
 
-/// Whether an order verifies as one that the commander sent out.
+/// Whether the commander's signature verifies on the statement of this order and the path of the commander alone.
 fn command_verifies(header: &Header, order: OrderNo, signature: &Signature) -> bool
     ensures { IsTrue result ↔ accused_texts.TextVerifies header.now 0
         (accused_texts.command order signature.now) }
@@ -88,7 +89,7 @@ fn command_verifies(header: &Header, order: OrderNo, signature: &Signature) -> b
     statement_verifies(header, GeneralNo::at(0), &statement, signature)
 }
 
-/// Whether two texts are two statements of one order, or two heads, and not the same.
+/// Whether two texts are two statements of one order, or two heads, and differ.
 fn are_unlike(first: &Text, second: &Text) -> bool
     ensures { IsTrue result ↔ accused_texts.AreUnlike first.now second.now }
 {
@@ -99,7 +100,7 @@ fn are_unlike(first: &Text, second: &Text) -> bool
     }
 }
 
-/// Whether these are two different texts of the general that verify.
+/// Whether both texts verify as the general's and contradict each other.
 fn are_two_texts(
     header: &Header,
     general: GeneralNo,
@@ -114,7 +115,7 @@ fn are_two_texts(
         && are_unlike(&first.text, &second.text)
 }
 
-/// Whether two orders verify as ones that the commander sent out.
+/// Whether the commander's signature verifies on both orders, each with the path of the commander alone.
 fn commands_verify(
     header: &Header,
     first: OrderNo,
@@ -131,7 +132,7 @@ fn commands_verify(
         && command_verifies(header, second, second_signature)
 }
 
-/// Whether these are two orders of the general, who is the commander, that verify.
+/// Whether the general is the commander, both orders verify as the commander's, and they differ.
 fn are_two_orders(
     header: &Header,
     general: GeneralNo,
@@ -162,7 +163,7 @@ fn starts_as(general: GeneralNo, entries: &[Entry]) -> bool
     }
 }
 
-/// Whether a log says that it is the general's of this run.
+/// Whether a log says that it is the general's log of this run: by its run id and its START.
 fn says_it_is_of(header: &Header, general: GeneralNo, log: &Log) -> bool
     ensures { IsTrue result ↔ SaysItIsOf header.now general log.now }
 {
@@ -178,7 +179,7 @@ pub fn is_sealed_by(header: &Header, general: GeneralNo, log: &Log) -> bool
     says_it_is_of(header, general, log) && head_verifies(header, general, log)
 }
 
-/// The log that the bytes are, where it says that it is the general's of this run and its head verifies.
+/// Reads the bytes as a log, and returns it if it says that it is the general's of this run and its head verifies.
 fn sealed_log(
     alloc: Global,
     header: &Header,
@@ -191,7 +192,7 @@ fn sealed_log(
     ensures none { IfOk result (λ log. log ≡ None
         → (other : RunLog) → IsSealedLogOf header.now general bytes.now other → ⊥) }
 {
-    // A read of the network makes known what each header keeps.
+    // Reading the network makes the header's invariant known.
     let _net = header.net();
     match read_log(alloc, header, bytes) {
         Err(ReadError::Memory) => Err(AllocError),
@@ -206,7 +207,7 @@ fn sealed_log(
     }
 }
 
-/// Whether a statement verifies as the general's, and his log has no SIGN of it.
+/// Whether a statement verifies as the general's, and the log has no SIGN of it.
 fn lacks(
     header: &Header,
     general: GeneralNo,
@@ -224,7 +225,7 @@ fn lacks(
     statement_verifies(header, general, statement, signature)
 }
 
-/// Whether a statement of the general is missing from a log that he sealed.
+/// Whether a statement that verifies as the general's is missing from a log that the general sealed.
 fn is_missing_from(
     alloc: Global,
     header: &Header,
@@ -255,7 +256,7 @@ fn departs_there(header: &Header, general: GeneralNo, log: &Log, entry: u32) -> 
     }
 }
 
-/// Whether a log that the general sealed departs at this entry.
+/// Whether the bytes are a log that the general sealed and that departs at this entry.
 fn is_departing_at(
     alloc: Global,
     header: &Header,
@@ -311,8 +312,8 @@ fn check_claim(
     }
 }
 
-/// Returns whether evidence holds against the accused, who is a general of the network: its texts verify as his
-/// and contradict each other, or its log is one that he sealed, and it lacks the statement or departs at the
+/// Returns whether evidence holds against the accused, a general of the network. Either its two texts verify as the
+/// accused's and contradict each other, or its log is sealed by the accused and lacks the statement or departs at the
 /// entry. A log that doesn't read is no error: then the evidence doesn't hold.
 ///
 /// # Errors

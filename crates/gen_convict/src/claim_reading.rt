@@ -1,4 +1,4 @@
-//! Reading what is held against a general.
+//! Reads claims against a general.
 ghost use Rattle.std.specs.Prelude.{◌<◌, IfOk};
 ghost use Rattle.gen_types.specs.Reading.{Gives};
 ghost use Rattle.gen_types.specs.Spelled.{IsField};
@@ -20,7 +20,7 @@ use gen_tree::Signature;
 use gen_types::{GeneralNo, OrderNo, ReadError, check, u8_at, u32_at};
 use std::alloc::Global;
 
-/// Two texts of the accused.
+/// Reads two texts of the accused, each with its signature.
 #[tactic(auto, unfolding(crate::specs::ClaimReading::two_texts_at))]
 fn read_two_texts<'a>(
     alloc: Global,
@@ -36,7 +36,7 @@ fn read_two_texts<'a>(
     Ok((Claim::Texts { first, second }, rest))
 }
 
-/// The number of an order, and the signature of the commander's statement.
+/// Reads the number of an order, and the signature of the commander's statement of it.
 #[tactic(auto, unfolding(crate::specs::ClaimReading::command_at))]
 fn read_command<'a>(
     alloc: Global,
@@ -51,7 +51,7 @@ fn read_command<'a>(
     Ok((order, signature, rest))
 }
 
-/// Two orders of the commander.
+/// Reads two orders of the commander, each with the signature of its statement.
 #[tactic(auto, unfolding(crate::specs::ClaimReading::two_orders_at))]
 fn read_two_orders<'a>(
     alloc: Global,
@@ -71,7 +71,7 @@ fn read_two_orders<'a>(
     Ok((claim, rest))
 }
 
-/// A text that has to be a statement.
+/// Reads a text that has to be a statement.
 #[tactic(auto, unfolding(crate::specs::ClaimReading::missing_statement_at))]
 fn read_missing_statement<'a>(
     bytes: &'a [u8],
@@ -84,7 +84,7 @@ fn read_missing_statement<'a>(
     read_statement(rest, net)
 }
 
-/// A log, and a statement that it lacks.
+/// Reads a log, and a signed statement that is claimed to be missing from it.
 #[tactic(auto, unfolding(crate::specs::ClaimReading::missing_at))]
 fn read_missing<'a>(
     alloc: Global,
@@ -108,7 +108,7 @@ fn read_missing<'a>(
     Ok((claim, rest))
 }
 
-/// A log, and the number of the entry at which it departs.
+/// Reads a log, and the number of the entry at which it is claimed to depart.
 #[tactic(auto, unfolding(crate::specs::ClaimReading::departing_at))]
 fn read_departing(alloc: Global, bytes: &[u8]) -> Result<(Claim, &[u8]), ReadError<EvidenceFault>>
     ensures { Gives (λ x. (told x.0, x.1.now)) result (reading.departing_at bytes.now) }
@@ -118,7 +118,7 @@ fn read_departing(alloc: Global, bytes: &[u8]) -> Result<(Claim, &[u8]), ReadErr
     Ok((Claim::Departing { log, entry }, rest))
 }
 
-/// A header of another run that uses the same leaves, and a text of each run.
+/// Reads the header of another run that uses the same leaves, and a signed text of each run.
 #[tactic(auto, unfolding(crate::specs::ClaimReading::across_at))]
 fn read_across<'a>(
     alloc: Global,
@@ -145,7 +145,7 @@ fn read_across<'a>(
     Ok((Claim::Across { first, second }, rest))
 }
 
-/// The claim of the kind that a byte names.
+/// Reads the claim of the kind that a byte names, 1 to 5.
 #[tactic(auto, unfolding(crate::specs::ClaimReading::claim_of_kind))]
 fn read_claim_of_kind<'a>(
     alloc: Global,
@@ -172,7 +172,7 @@ fn read_claim_of_kind<'a>(
     }
 }
 
-/// A claim against the accused, whose first byte names its kind.
+/// Reads a claim against the accused, whose first byte names its kind.
 #[tactic(auto, unfolding(crate::specs::ClaimReading::claim_at))]
 pub fn read_claim<'a>(
     alloc: Global,

@@ -1,4 +1,4 @@
-//! Two strings of bytes with one hash, where links agree behind entries that differ.
+//! Finds two strings of bytes with one hash, where links agree after entries that differ.
 ghost use Rattle.std.specs.Prelude.{◌≡◌, ◌≢◌, ◌↔◌, IsTrue, IfOk, OnOk, length};
 ghost use Rattle.std.specs.List.{AllByRecursion};
 ghost use Rattle.sha2.specs.Sha256.{sha256};
@@ -12,16 +12,16 @@ use gen_net::Header;
 use sha2::{Digest, Sha256};
 use std::alloc::{AllocError, Global};
 
-/// How far a walk over the entries of a log has come.
+/// The state of a walk over the entries of a log.
 #[derive(Drop)]
 struct Side {
-    /// The link behind the entries so far.
+    /// The link after the entries that were walked over.
     link: [u8; 32],
-    /// What was hashed for it; before all entries nothing.
+    /// The bytes that were hashed for the link; empty before the first entry.
     text: Vec<u8>,
 }
 
-/// Fills a buffer anew with what is hashed for the link behind an entry.
+/// Replaces the content of a buffer by the bytes that are hashed for the link after an entry.
 fn fill(alloc: Global, text: &mut Vec<u8>, link: &[u8; 32], entry: &Entry) -> Result<(), AllocError>
     ensures { OnOk result (text.new.items ≡ link_text link.now entry.now) }
 {
@@ -32,14 +32,14 @@ fn fill(alloc: Global, text: &mut Vec<u8>, link: &[u8; 32], entry: &Entry) -> Re
     text.extend_from_slice(&spelled)
 }
 
-/// The hash of a string of bytes.
+/// Returns the SHA-256 of a string of bytes.
 fn hash_of(text: &[u8]) -> [u8; 32]
     ensures { result ≡ sha256 text.now }
 {
     Sha256::digest(text)
 }
 
-/// Walks on over one entry.
+/// Walks over one more entry: sets the hashed bytes and the link after the entry.
 fn walk_on(alloc: Global, side: &mut Side, entry: &Entry) -> Result<(), AllocError>
     ensures text { OnOk result (side.new.text.items ≡ link_text side.old.link entry.now) }
     ensures link { OnOk result (side.new.link ≡ sha256 side.new.text.items) }
@@ -49,7 +49,7 @@ fn walk_on(alloc: Global, side: &mut Side, entry: &Entry) -> Result<(), AllocErr
     Ok(())
 }
 
-/// Whether the links of two walks are equal, and not what was hashed for them.
+/// Whether the links of two walks are equal, and the bytes that were hashed for them differ.
 fn have_met(left: &Side, right: &Side) -> bool
     ensures { IsTrue result
         ↔ ((left.now.link ≡ right.now.link) × (left.now.text.items ≢ right.now.text.items)) }
@@ -57,12 +57,12 @@ fn have_met(left: &Side, right: &Side) -> bool
     left.link == right.link && left.text != right.text
 }
 
-/// Returns two strings of bytes that are not the same and have one hash of SHA-256. It asks for two lists of as
-/// many entries, which are not the same, with equal last links over them from one first link.
+/// Returns two different strings of bytes with one SHA-256. The two lists of entries have one length and differ, and
+/// from the same first link both lead to the same last link.
 ///
-/// The strings are what was hashed at the first entry where that differs and the links behind it agree. There
-/// is such an entry: where what is hashed is equal, so are the entries and the links before them. Which of the
-/// two comes first plays no part.
+/// The strings are what was hashed at the first entry where the hashed bytes differ and the links after it agree. There
+/// is such an entry: equal hashed bytes have equal entries and equal links before them. It plays no part which of the
+/// two lists is the general's own.
 ///
 /// # Errors
 ///
@@ -81,7 +81,7 @@ pub fn collide(
     requires differ { own.now ≢ other.now }
     ensures { IfOk result (λ pair. AreColliding pair.0.items pair.1.items) }
 {
-    // A read of the network makes known what each header keeps.
+    // Reading the network makes the header's invariant known.
     let _net = header.net();
     links_tell();
     let mut left = Side {

@@ -2,11 +2,11 @@
 use crate::claims::Claim;
 use gen_types::GeneralNo;
 
-/// Evidence: a general who is accused, and what is held against him.
+/// Evidence: a general that is accused, and the claim against it.
 #[derive(Debug, Drop)]
 pub struct Evidence {
-    /// Who is accused.
+    /// The general that is accused.
     pub accused: GeneralNo,
-    /// What is held against him.
+    /// The claim against the accused.
     pub claim: Claim,
 }

@@ -1,4 +1,4 @@
-//! Fields of evidence: texts, signatures and logs.
+//! Reads the fields of evidence: texts, signatures and logs.
 ghost use Rattle.std.specs.Prelude.{◌≡◌, ◌<◌, [], IfOk};
 ghost use Rattle.gen_types.specs.Reading.{Gives};
 ghost use Rattle.gen_types.specs.Spelled.{IsField};
@@ -21,7 +21,7 @@ pub const TEXTS_KIND: u8 = 1;
 /// The kind of a claim by two orders.
 pub const ORDERS_KIND: u8 = 2;
 
-/// The kind of a claim by a log and a statement that is missing from it.
+/// The kind of a claim by a log and a statement that the log lacks.
 pub const MISSING_KIND: u8 = 3;
 
 /// The kind of a claim by a log that departs.
@@ -36,10 +36,10 @@ pub const STATEMENT_KIND: u8 = 1;
 /// The byte before a head.
 pub const HEAD_KIND: u8 = 2;
 
-/// The bytes of a last link.
+/// The number of bytes of a last link.
 const LINK_BYTES: usize = 32;
 
-/// A fault of a log's field as one of evidence.
+/// Returns the fault of evidence for a fault in one of the fields that logs have too.
 fn field_fault(fault: LogFault) -> EvidenceFault
     ensures { result ≡ field.field_fault fault }
 {
@@ -49,7 +49,7 @@ fn field_fault(fault: LogFault) -> EvidenceFault
     }
 }
 
-/// The number of an order of the network.
+/// Reads the number of an order of the network.
 pub fn read_order_field<'a>(
     bytes: &'a [u8],
     net: &Net,
@@ -80,7 +80,7 @@ fn read_path_field<'a>(
     }
 }
 
-/// A statement.
+/// Reads a statement: an order and a path of the network.
 #[tactic(auto, unfolding(crate::specs::EvidenceFields::statement_at))]
 pub fn read_statement<'a>(
     bytes: &'a [u8],
@@ -95,7 +95,7 @@ pub fn read_statement<'a>(
     Ok((Statement { order, path }, rest))
 }
 
-/// A head of the general's log.
+/// Reads a head of the general's log: a number of entries in eight bytes and a last link of 32 bytes.
 #[tactic(auto, unfolding(crate::specs::EvidenceFields::head_at))]
 fn read_head(
     bytes: &[u8],
@@ -115,7 +115,7 @@ fn read_head(
     Ok((head, rest))
 }
 
-/// A statement as a text.
+/// Reads a statement, and returns it as a text.
 #[tactic(auto, unfolding(crate::specs::EvidenceFields::statement_text_at))]
 fn read_statement_text<'a>(
     bytes: &'a [u8],
@@ -129,7 +129,7 @@ fn read_statement_text<'a>(
     }
 }
 
-/// A head as a text.
+/// Reads a head of the general's log, and returns it as a text.
 #[tactic(auto, unfolding(crate::specs::EvidenceFields::head_text_at))]
 fn read_head_text(
     bytes: &[u8],
@@ -143,7 +143,7 @@ fn read_head_text(
     }
 }
 
-/// The general's text of the kind that a byte names.
+/// Reads the general's text of the kind that a byte names: 1 for a statement, 2 for a head.
 #[tactic(auto, unfolding(crate::specs::EvidenceFields::text_of_kind))]
 fn read_text_of_kind<'a>(
     bytes: &'a [u8],
@@ -162,7 +162,7 @@ fn read_text_of_kind<'a>(
     }
 }
 
-/// A text of the general, whose first byte names its kind.
+/// Reads a text of the general, whose first byte names its kind.
 #[tactic(auto, unfolding(crate::specs::EvidenceFields::text_at))]
 fn read_text<'a>(
     bytes: &'a [u8],
@@ -175,7 +175,7 @@ fn read_text<'a>(
     read_text_of_kind(rest, net, general, kind)
 }
 
-/// A signature by a tree of the run's height.
+/// Reads a signature, whose length is that of signatures by trees of the run's height.
 pub fn read_signature<'a>(
     alloc: Global,
     bytes: &'a [u8],
@@ -189,7 +189,7 @@ pub fn read_signature<'a>(
     Ok((Signature::read(room, signature), rest))
 }
 
-/// A text of the general with its signature.
+/// Reads a text of the general and its signature.
 #[tactic(auto, unfolding(crate::specs::EvidenceFields::signed_at))]
 pub fn read_signed<'a>(
     alloc: Global,
@@ -213,7 +213,7 @@ pub fn read_signed<'a>(
     Ok((signed, rest))
 }
 
-/// The bytes of a log, which are copied, behind their number.
+/// Reads the length of a log in four bytes and its bytes, and returns a copy of these bytes.
 #[tactic(auto, unfolding(crate::specs::EvidenceFields::log_at))]
 pub fn read_log_bytes(
     alloc: Global,
@@ -226,7 +226,7 @@ pub fn read_log_bytes(
     Ok((Vec::from_slice(alloc, log)?, rest))
 }
 
-/// Returns a fault of the mark and the header as one of evidence.
+/// Returns the fault of evidence for a fault of the mark or the header.
 pub fn front_fault(fault: FrontFault) -> EvidenceFault
     ensures { result ≡ field.front_fault fault }
 {
@@ -237,7 +237,7 @@ pub fn front_fault(fault: FrontFault) -> EvidenceFault
     }
 }
 
-/// The header of another run, which is of version 2, and the bytes after it.
+/// Reads the header of another run, which has version 2.
 #[tactic(auto, unfolding(crate::specs::EvidenceFields::second_header_at))]
 pub fn read_second_header(
     alloc: Global,

@@ -1,4 +1,4 @@
-//! Reading evidence.
+//! Reads evidence.
 ghost use Rattle.std.specs.Prelude.{◌≡◌, ◌≤◌, ◌<◌, IfOk, Ok};
 ghost use Rattle.gen_types.specs.Reading.{Gives, map_fault};
 ghost use Rattle.gen_types.specs.Spelled.{IsField, Spells};
@@ -23,7 +23,7 @@ pub const EVIDENCE_MARKS: Marks = Marks {
     two: 0x534d_4532,
 };
 
-/// The mark and the header.
+/// Reads the mark and the header.
 fn read_front_field(
     alloc: Global,
     bytes: &[u8],
@@ -37,7 +37,7 @@ fn read_front_field(
     }
 }
 
-/// The number of the accused, who is a general of the network.
+/// Reads the number of the accused, which is below the network's number of generals `n`.
 #[tactic(auto, unfolding(crate::specs::EvidenceReading::accused_at))]
 fn read_accused(n: u8, bytes: &[u8]) -> Result<(u8, &[u8]), ReadError<EvidenceFault>>
     requires { n ≤ 16 }
@@ -49,7 +49,7 @@ fn read_accused(n: u8, bytes: &[u8]) -> Result<(u8, &[u8]), ReadError<EvidenceFa
     Ok((accused, rest))
 }
 
-/// The accused, and what is held against him.
+/// Reads the number of the accused and the claim against it.
 #[tactic(auto, unfolding(crate::specs::EvidenceReading::accusation_at))]
 fn read_accusation<'a>(
     alloc: Global,
@@ -65,7 +65,7 @@ fn read_accusation<'a>(
     Ok((Evidence { accused, claim }, rest))
 }
 
-/// The header and the evidence in front of the bytes, and the bytes after them.
+/// Reads the header and the evidence at the beginning of the bytes, and returns the bytes after them too.
 #[tactic(auto, unfolding(crate::specs::EvidenceReading::evidence_at))]
 fn evidence_in_front(
     alloc: Global,
@@ -79,7 +79,7 @@ fn evidence_in_front(
     Ok((header, evidence, rest))
 }
 
-/// The header and the evidence that all the bytes are.
+/// Reads the header and the evidence that all the bytes are.
 #[tactic(auto, unfolding(crate::specs::EvidenceReading::whole_evidence))]
 fn evidence_alone(
     alloc: Global,
@@ -93,27 +93,32 @@ fn evidence_alone(
     Ok((header, evidence))
 }
 
-/// Returns the header and the evidence that all the bytes are: four bytes `SME1` or `SME2` and a header of
-/// version 1 or 2; the accused, and the kind of the claim, 1 to 5; then two texts, each with its signature; or two
-/// orders, each with the signature of the commander's statement; or the length of a log in four bytes, the log,
-/// and a statement with its signature; or such a log, and the number of an entry in four bytes; or, in version 2
-/// alone, the header of another run, and a text of each run. A text is 1, an order, the length of a path and the
-/// path; or 2, a number of entries in eight bytes and a last link. The bytes of a log are not read.
+/// Returns the header and the evidence that all the bytes are. The bytes begin with `SME1` and a header of version 1,
+/// or with `SME2` and a header of version 2. After the header stand the number of the accused, the kind of the claim, 1
+/// to 5, and the claim.
+///
+/// Kind 1 is two signed texts. Kind 2 is two orders, each followed by the signature of the commander's statement. Kind
+/// 3 is a log and a signed statement. Kind 4 is a log and the number of an entry in four bytes. Kind 5, in version 2
+/// alone, is the header of another run and a signed text of each run.
+///
+/// A signed text is a text and its signature. A text is 1, an order, the length of a path and the path; or it is 2, a
+/// number of entries in eight bytes and a last link. A log is its length in four bytes and its bytes, which are not
+/// read as a log.
 ///
 /// # Errors
 ///
-/// The first fault of `EvidenceFault` from left to right; and Memory where memory was refused before.
+/// The first fault of `EvidenceFault` from left to right, or `Memory` if memory was refused before that fault.
 pub fn read_evidence(
     alloc: Global,
     bytes: &[u8],
 ) -> Result<(Header, Evidence), ReadError<EvidenceFault>>
-    // What is read is evidence under a header, and the bytes are its spelling.
+    // What is read is lawful evidence under a lawful header, and the bytes are its spelling.
     ensures found { IfOk result (λ x. Spells IsWhole whole_spelling bytes.now
         (record { header = x.0; evidence = told_of x.1 })) }
-    // What the bytes spell is read, unless memory runs out.
+    // Evidence that the bytes spell is read, unless memory is refused.
     ensures only { (e : HeaderAndEvidence) → Spells IsWhole whole_spelling bytes.now e
         → Gives (λ x. record { header = x.0; evidence = told_of x.1 }) result (Ok e) }
-    // Which fault it is.
+    // Unless memory is refused, the result is that of `whole_evidence`, with the same fault.
     ensures exact { Gives (λ x. record { header = x.0; evidence = told_of x.1 }) result
         (whole_evidence bytes.now) }
 {

@@ -1,4 +1,4 @@
-//! Writing evidence.
+//! Writes evidence.
 ghost use Rattle.std.specs.Prelude.{◌≡◌, ◌<◌, ◌^◌, ◌∷◌, ◌++◌, length, IfOk, OnOk};
 ghost use Rattle.gen_net.specs.Header.{header_spelling};
 ghost use Rattle.gen_convict.specs.Evidence.{IsEvidence, HasShortLog, told_of};
@@ -19,7 +19,7 @@ use gen_tree::Signature;
 use gen_types::OrderNo;
 use std::alloc::{AllocError, Global};
 
-/// Appends a statement behind the byte of its kind.
+/// Appends the byte of the kind and a statement.
 fn put_statement(out: &mut Vec<u8>, statement: &Statement) -> Result<(), AllocError>
     ensures { OnOk result (out.new.items
         ≡ out.old.items ++ spelling.statement_kind ∷ spelling.statement_spelling statement.now) }
@@ -31,7 +31,7 @@ fn put_statement(out: &mut Vec<u8>, statement: &Statement) -> Result<(), AllocEr
     Ok(())
 }
 
-/// Appends a head behind the byte of its kind.
+/// Appends the byte of the kind and a head.
 fn put_head(out: &mut Vec<u8>, head: &HeadText) -> Result<(), AllocError>
     ensures { OnOk result (out.new.items
         ≡ out.old.items ++ spelling.head_kind ∷ spelling.head_spelling head.now) }
@@ -41,7 +41,7 @@ fn put_head(out: &mut Vec<u8>, head: &HeadText) -> Result<(), AllocError>
     out.extend_from_slice(&head.last_link)
 }
 
-/// Appends a text.
+/// Appends a text: the byte of its kind, and the statement or the head.
 fn put_text(out: &mut Vec<u8>, text: &Text) -> Result<(), AllocError>
     ensures { OnOk result (out.new.items ≡ out.old.items ++ text_spelling text.now) }
 {
@@ -51,7 +51,7 @@ fn put_text(out: &mut Vec<u8>, text: &Text) -> Result<(), AllocError>
     }
 }
 
-/// Appends a text with its signature.
+/// Appends a text and its signature.
 fn put_signed(out: &mut Vec<u8>, signed: &SignedText) -> Result<(), AllocError>
     ensures { OnOk result (out.new.items ≡ out.old.items ++ signed_spelling signed.now) }
 {
@@ -59,7 +59,7 @@ fn put_signed(out: &mut Vec<u8>, signed: &SignedText) -> Result<(), AllocError>
     signed.signature.append_to(out)
 }
 
-/// Appends an order, and the signature of the commander's statement.
+/// Appends an order and the signature of the commander's statement of it.
 fn put_command(out: &mut Vec<u8>, order: OrderNo, signature: &Signature) -> Result<(), AllocError>
     ensures { OnOk result (out.new.items ≡ out.old.items ++ order ∷ signature.now) }
 {
@@ -67,7 +67,7 @@ fn put_command(out: &mut Vec<u8>, order: OrderNo, signature: &Signature) -> Resu
     signature.append_to(out)
 }
 
-/// Appends the bytes of a log behind their number.
+/// Appends the length of a log in four bytes and its bytes. The length is below 2^32.
 fn put_log(out: &mut Vec<u8>, log: &[u8]) -> Result<(), AllocError>
     requires { length log.now < 2 ^ 32 }
     ensures { OnOk result (out.new.items ≡ out.old.items ++ shown_spelling log.now) }
@@ -84,7 +84,7 @@ fn put_header(out: &mut Vec<u8>, header: &Header) -> Result<(), AllocError>
     out.extend_from_slice(&bytes)
 }
 
-/// Appends what is held against a general.
+/// Appends a claim without the byte of its kind.
 fn put_claim(out: &mut Vec<u8>, claim: &Claim) -> Result<(), AllocError>
     requires { HasShortLog (told claim.now) }
     ensures { OnOk result (out.new.items ≡ out.old.items ++ claim_spelling (told claim.now)) }
@@ -124,8 +124,8 @@ fn put_claim(out: &mut Vec<u8>, claim: &Claim) -> Result<(), AllocError>
     }
 }
 
-/// Returns the one spelling of evidence under its header, as `read_evidence` reads it. It fails only where memory
-/// was refused.
+/// Returns the one spelling of evidence under its header, which `read_evidence` reads. It fails only if memory is
+/// refused.
 pub fn write_evidence(
     alloc: Global,
     header: &Header,

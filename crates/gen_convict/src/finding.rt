@@ -1,4 +1,4 @@
-//! Finding evidence.
+//! Finds evidence in the reports of one run.
 ghost use Rattle.std.specs.Prelude.{◌≡◌, ◌≤◌, ◌++◌, Contains, IfOk, OnOk, map};
 ghost use Rattle.std.specs.Option.{option_map};
 ghost use Rattle.std.specs.List.{range_with_len};
@@ -19,7 +19,8 @@ use gen_net::Header;
 use gen_types::GeneralNo;
 use std::alloc::{AllocError, Global};
 
-/// The claim from one of a general's logs: that it lacks what he signed, or else that it departs.
+/// Returns the claim by one of the general's logs: that it lacks a statement that the general signed, or else that it
+/// departs.
 fn claim_from_logs(
     alloc: Global,
     general: GeneralNo,
@@ -35,7 +36,7 @@ fn claim_from_logs(
     }
 }
 
-/// The claim from two orders, if the general is the commander, or else from one of his logs.
+/// Returns the claim by two orders, if the general is the commander, or else the claim by one of the general's logs.
 fn claim_from_orders_or_logs(
     alloc: Global,
     general: GeneralNo,
@@ -52,7 +53,7 @@ fn claim_from_orders_or_logs(
     }
 }
 
-/// The claim of the least kind against a general, from these texts of his or from one of his logs.
+/// Returns the claim of the least kind against a general, by the general's texts or by one of its logs.
 fn least_claim(
     alloc: Global,
     general: GeneralNo,
@@ -69,7 +70,7 @@ fn least_claim(
     }
 }
 
-/// The claim against a general.
+/// Returns the claim that the reports give against a general, if there is one.
 fn claim_against(
     alloc: Global,
     general: GeneralNo,
@@ -82,7 +83,7 @@ fn claim_against(
     least_claim(alloc, general, firsts.as_slice(), texts.as_slice(), reports)
 }
 
-/// Puts what is held against a general behind the others.
+/// Appends the evidence that the reports give against a general, if there is any.
 fn add_claim(
     alloc: Global,
     general: GeneralNo,
@@ -102,7 +103,7 @@ fn add_claim(
     Ok(())
 }
 
-/// What is held against so many generals.
+/// Returns the evidence against each general whose number is below `generals`, which is at most 16.
 fn claims_against(
     alloc: Global,
     generals: u8,
@@ -119,14 +120,14 @@ fn claims_against(
     Ok(found)
 }
 
-/// Makes known that bytes are bytes.
+/// Makes known that each of the bytes is less than 256.
 fn read_bytes(bytes: &[u8])
     ensures { AreBelow 256 bytes.now }
 {
     let _bytes = bytes.len();
 }
 
-/// Makes known what a report keeps.
+/// Makes known that a report is one, and that its exhibit consists of bytes.
 fn read_one(report: &LocalReport)
     ensures report { IsReport report.now }
     ensures bytes { AreBelow 256 report.now.exhibit.bytes }
@@ -136,7 +137,7 @@ fn read_one(report: &LocalReport)
     read_bytes(exhibit.log());
 }
 
-/// Makes known what each report keeps.
+/// Makes known of each report that it is one, and that its exhibit consists of bytes.
 pub fn read_all(reports: &[LocalReport])
     ensures { (r : Report) → Contains reports.now r → IsReport r × AreBelow 256 r.exhibit.bytes }
 {
@@ -145,9 +146,9 @@ pub fn read_all(reports: &[LocalReport])
     }
 }
 
-/// Returns of each general the first claim that the exhibits hold against him, in ascending order of generals:
-/// of the least kind, and the first of that kind in the one order of the exhibits' texts and logs. The reports
-/// are those of the exhibits, in their order, under the header.
+/// Returns, for each general, the first claim that the exhibits hold against it, in ascending order of generals. The
+/// first claim is of the least kind, and the first of that kind in the one order of the exhibits' texts and logs. The
+/// reports are those of the exhibits, in their order, under the header.
 ///
 /// # Errors
 ///
@@ -158,17 +159,17 @@ pub fn find_evidence(
     reports: &[LocalReport],
 ) -> Result<Vec<Evidence>, AllocError>
     requires { AreUnderHeader header.now reports.now }
-    // Each is the first contradiction that the exhibits hold against its general.
+    // Each is the first claim that the exhibits hold against its general.
     ensures right { IfOk result (λ found.
         AreFirst header.now (shown_in reports.now) (map told_of found.items)) }
-    // Where the exhibits are so short that the entry at which a log departs has four bytes, each general against
-    // whom a claim can be made has the first one, and nobody else has one.
+    // If each exhibit has fewer than 2^32 bytes, exactly the generals of the network with a first claim are convicted,
+    // each by that claim. Then the number of the entry at which a log departs fits into four bytes.
     ensures found { IfOk result (λ found. AreShort (shown_in reports.now)
         → AreConvictions header.now (shown_in reports.now) (map told_of found.items)) }
-    // So a general has one exactly where the exhibits hold a contradiction of his.
+    // So a general is convicted if and only if the exhibits hold a contradiction of the general.
     ensures held { IfOk result (λ found. AreShort (shown_in reports.now)
         → ConvictsWhereHeld header.now (shown_in reports.now) (map told_of found.items)) }
-    // All of it has a spelling.
+    // Each of these can be written as evidence.
     ensures lawful { IfOk result (λ found. AreShort (shown_in reports.now)
         → AreEvidence header.now (map told_of found.items)) }
 {

@@ -1,4 +1,4 @@
-//! The first text of some kind.
+//! Finds the first text of a list with some property. Two texts are unlike if they have one subject and differ.
 ghost use Rattle.std.specs.Prelude.{◌≡◌, map};
 ghost use Rattle.std.specs.Option.{option_map};
 ghost use Rattle.std.specs.List.{find};
@@ -8,7 +8,7 @@ use crate::text_likeness::{are_orders, is_command, is_unlike, is_unsaid};
 use gen_local::SignedText;
 use gen_log::Log;
 
-/// Whether one of the texts is unlike this one.
+/// Whether one of the texts is unlike this one: it has the same subject and differs.
 fn has_unlike(texts: &[&SignedText], text: &SignedText) -> bool
     ensures { result ≡ finds.has_unlike (map (λ t. t.now) texts.now) text.now }
 {
@@ -20,7 +20,7 @@ fn has_unlike(texts: &[&SignedText], text: &SignedText) -> bool
     false
 }
 
-/// Returns the first of these texts to which one of all texts is unlike.
+/// Returns the first text of `firsts` to which one of `texts` is unlike.
 pub fn first_with_unlike<'a>(
     firsts: &[&'a SignedText],
     texts: &[&SignedText],
@@ -49,7 +49,7 @@ pub fn first_unlike<'a>(text: &SignedText, texts: &[&'a SignedText]) -> Option<&
     None
 }
 
-/// Returns the first statement of the commander alone.
+/// Returns the first statement whose path is the commander alone.
 pub fn first_command<'a>(texts: &[&'a SignedText]) -> Option<&'a SignedText>
     ensures { option_map (λ t. t.now) result
         ≡ find (λ t. finds.is_command t.text) (map (λ t. t.now) texts.now) }
@@ -62,7 +62,7 @@ pub fn first_command<'a>(texts: &[&'a SignedText]) -> Option<&'a SignedText>
     None
 }
 
-/// Returns the first statement of the commander alone that is of another order than this one.
+/// Returns the first statement of another order, if both statements have the path of the commander alone.
 pub fn first_other_order<'a>(text: &SignedText, texts: &[&'a SignedText]) -> Option<&'a SignedText>
     ensures { option_map (λ t. t.now) result
         ≡ find (λ x. finds.are_orders text.now.text x.text) (map (λ t. t.now) texts.now) }
@@ -75,7 +75,7 @@ pub fn first_other_order<'a>(text: &SignedText, texts: &[&'a SignedText]) -> Opt
     None
 }
 
-/// Returns the first of the texts that is a statement of which a log has no SIGN.
+/// Returns the first of the texts that is a statement without a SIGN in the log.
 pub fn first_unsaid<'a>(log: &Log, texts: &[&'a SignedText]) -> Option<&'a SignedText>
     ensures { option_map (λ t. t.now) result
         ≡ find (λ t. finds.is_unsaid log.now t.text) (map (λ t. t.now) texts.now) }

@@ -1,4 +1,4 @@
-//! The texts of one general in all reports, and one of each subject.
+//! Gathers the texts of one general in all reports, and of these the first of each subject.
 ghost use Rattle.std.specs.Prelude.{◌≡◌, [], ◌∷◌, ◌++◌, IfOk, OnOk, map, filter};
 ghost use Rattle.std.specs.List.{list_any};
 ghost use Rattle.gen_convict.specs.Exhibits.{is_by};
@@ -9,7 +9,7 @@ use gen_local::{LocalReport, Reading, SignedText};
 use gen_types::GeneralNo;
 use std::alloc::{AllocError, Global};
 
-/// The texts of a report that verify.
+/// Returns the texts that verify in a report's reading; none if the exhibit is no log of its general and this run.
 fn read_texts(reading: &Reading) -> &[SignedText]
     ensures { result.now ≡ finds.read_texts reading.now }
 {
@@ -19,7 +19,7 @@ fn read_texts(reading: &Reading) -> &[SignedText]
     }
 }
 
-/// Puts a text behind those that are gathered, if it is the general's.
+/// Appends a text if its signer is the general.
 fn gather_one<'a>(
     general: GeneralNo,
     text: &'a SignedText,
@@ -34,7 +34,7 @@ fn gather_one<'a>(
     Ok(())
 }
 
-/// Puts the texts of a general behind those that are gathered.
+/// Appends the texts whose signer is the general.
 fn gather<'a>(
     general: GeneralNo,
     texts: &'a [SignedText],
@@ -49,7 +49,7 @@ fn gather<'a>(
     Ok(())
 }
 
-/// Returns the texts of a general in all the reports, in their order.
+/// Returns the texts of a general in all the reports, in the order of the reports.
 pub fn texts_by<'a>(
     alloc: Global,
     general: GeneralNo,
@@ -65,7 +65,7 @@ pub fn texts_by<'a>(
     Ok(texts)
 }
 
-/// Whether one of the texts has the subject of this one.
+/// Whether one of the texts has the same subject as this one.
 fn has_like(texts: &[&SignedText], text: &SignedText) -> bool
     ensures { result
         ≡ list_any (λ x. finds.is_like x.text text.now.text) (map (λ t. t.now) texts.now) }
@@ -78,7 +78,7 @@ fn has_like(texts: &[&SignedText], text: &SignedText) -> bool
     false
 }
 
-/// Puts a text behind the others, unless one of them has its subject.
+/// Appends a text, unless one of the others has its subject.
 fn put_new<'a>(text: &'a SignedText, firsts: &mut Vec<&'a SignedText>) -> Result<(), AllocError>
     ensures { OnOk result (map (λ t. t.now) firsts.new.items
         ≡ map (λ t. t.now) firsts.old.items ++ finds.new_one (map (λ t. t.now) firsts.old.items) text.now) }
@@ -89,7 +89,7 @@ fn put_new<'a>(text: &'a SignedText, firsts: &mut Vec<&'a SignedText>) -> Result
     Ok(())
 }
 
-/// Returns the first text of each subject, in their order.
+/// Returns the first text of each subject, in the order of the texts.
 pub fn one_of_each<'a>(
     alloc: Global,
     texts: &[&'a SignedText],

@@ -14,16 +14,16 @@ ghost use Rattle.gen_convict.specs.FirstLaws.{TextsVerify, FirstHolds, GivenWher
 use gen_log::laws::one_entry_spelling;
 use gen_net::laws::one_header_spelling;
 
-/// A follower signs one statement of an order at most, as the commander one order alone, and his log
-/// departs nowhere.
+/// States that a follower signs at most one statement of each order (`statement`), and statements of one order alone if
+/// it is the commander (`order`). A follower's log departs nowhere (`nowhere`).
 pub fn followers_logs()
     ensures statement { OneStatementOfEach }
     ensures order { OneOrderOfCommander }
     ensures nowhere { NowhereDeparts }
 {}
 
-/// What is hashed for a link tells the link before it and the entry. So equal last links over as many
-/// entries are over the same entries, or two of the texts that were hashed collide.
+/// States that the bytes that are hashed for a link determine the link before it and the entry (`text`). So two lists
+/// with as many entries and equal links before and after them are equal, or two hashed texts collide (`entries`).
 pub fn links_tell()
     ensures text { OneLinkText }
     ensures entries { LinksTell }
@@ -31,8 +31,8 @@ pub fn links_tell()
     one_entry_spelling();
 }
 
-/// A claim that holds against a general is answered wherever he kept a follower's log: by a text of the
-/// claim that his log doesn't have, or by two strings of bytes with one hash.
+/// States that a claim that holds against a general has an answer if the general kept a follower's log. The answer is a
+/// text of the claim that this log doesn't have, or two strings of bytes with one hash.
 pub fn claims_are_refuted()
     ensures { Refutes }
 {
@@ -40,7 +40,10 @@ pub fn claims_are_refuted()
     links_tell();
 }
 
-/// A list has at most one first pair of different texts, and it begins with the first text of its subject.
+/// States how first pairs are found. A list of texts has one first pair of different texts (`one`), or no two of its
+/// texts differ (`found`). The pair begins with the first text of its subject (`subject`), and of all subjects' pairs
+/// it is the one that begins first (`earliest`). The first pair of two orders begins with the first statement of the
+/// commander alone (`command`). If no two texts differ, texts of one subject are equal (`each`).
 pub fn first_pairs()
     ensures subject { FirstOfSubject }
     ensures earliest { EarliestSubject }
@@ -50,8 +53,9 @@ pub fn first_pairs()
     ensures one { OneFirstPair }
 {}
 
-/// What is claimed of a general holds. A claim is made exactly where the exhibits hold a contradiction of
-/// his, and it is one.
+/// States that the texts in a general's list verify as the general's (`texts`), and that the first claim against a
+/// general holds (`holds`). If it is decided of each log whether it departs, there is a claim if and only if the
+/// exhibits hold a contradiction of the general (`given`). There is at most one claim (`one`).
 pub fn first_claims()
     ensures texts { TextsVerify }
     ensures holds { FirstHolds }
@@ -59,15 +63,15 @@ pub fn first_claims()
     ensures one { OneClaim }
 {}
 
-/// Evidence under a header has one spelling, and no spelling of evidence is the beginning of another (`one`);
-/// and what is written is read again (`again`).
+/// States that evidence under a header has one spelling, and that no spelling of evidence is the beginning of another
+/// (`one`). What was written is read again (`again`).
 pub fn one_evidence_spelling()
     ensures one { HasOneSpelling IsWhole whole_spelling }
     ensures again { (e : HeaderAndEvidence) → IsWhole e → whole_evidence (whole_spelling e) ≡ Ok e }
 {}
 
-/// The tests of runs that use the same leaves and of rivals say exactly what they test. Rivals stand under
-/// one leaf, and runs of different slots have no leaf in common.
+/// States that two tests are exact: whether two runs use the same leaves (`sharing`), and whether two texts are rivals
+/// (`rivals`). Rivals stand under one leaf (`leaf`), and runs of different slots have no leaf in common (`slots`).
 pub fn rivals_are_tested()
     ensures sharing { TestsSharing }
     ensures rivals { TestsRivals }
@@ -75,9 +79,9 @@ pub fn rivals_are_tested()
     ensures slots { SlotsApart }
 {}
 
-/// Texts of a general that contradict each other across runs are found exactly where the exhibits of two runs
-/// hold such texts (`found`). What is found contradicts (`holds`), it is one pair (`one`), and its texts are
-/// of two runs, the first of the earlier (`runs`).
+/// States when rivals are found: if and only if the exhibits of two runs hold two texts that contradict each other
+/// across the runs (`found`). What is found contradicts (`holds`), and it is the only first pair (`one`). Its texts are
+/// of two runs, and the first text is of the earlier run (`runs`).
 pub fn first_rivals()
     ensures found { FoundWhereHeld }
     ensures holds { FirstContradict }
@@ -85,15 +89,15 @@ pub fn first_rivals()
     ensures runs { FirstOfTwoRuns }
 {}
 
-/// Where two headers that are not the same have one run id, what is hashed for it collides.
+/// States that the bytes that are hashed for the run ids of two different headers collide if the run ids are equal.
 pub fn headers_collide()
     ensures { HeadersCollide }
 {
     one_header_spelling();
 }
 
-/// Over logs that a general could have kept by following, of runs whose slots ascend strictly, each leaf of
-/// his ring has one text: so one ring serves all these runs.
+/// States that one ring serves several runs. If a general could have kept their logs by following, and their slots
+/// ascend strictly, each leaf of the general's ring has at most one text in these logs.
 pub fn one_text_of_leaf()
     ensures { OneTextOfLeaf }
 {}

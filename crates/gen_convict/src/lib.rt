@@ -1,11 +1,14 @@
-//! Evidence against a general: what he signed, where it contradicts itself or the signed message algorithm
-//! (section 4 of L. Lamport, R. Shostak and M. Pease, "The Byzantine Generals Problem", ACM TOPLAS 4, 1982).
+//! Evidence against a general: texts that the general signed, and that contradict each other or the signed message
+//! algorithm. The algorithm is that of section 4 of L. Lamport, R. Shostak and M. Pease, "The Byzantine Generals
+//! Problem", ACM TOPLAS 4, 1982.
 //!
-//! A general is convicted by two different texts that he signed under one leaf, as the commander by two
-//! orders, by a statement that is missing from a log that he sealed, or by such a log that departs from the
-//! algorithm. Two runs of version 2 can use the same leaves: then two different texts of his under one leaf
-//! convict him across the runs. A general who follows can be convicted only by a text that he didn't sign or
-//! by a collision of SHA-256: his own log shows which.
+//! There are four ways to convict a general in one run. It signed two different texts under one leaf; it signed two
+//! orders as the commander; a log that it sealed lacks a statement that it signed; or such a log departs from the
+//! algorithm. Two runs of version 2 can use the same leaves: then two different texts of a general under one leaf
+//! convict it across the runs.
+//!
+//! A general that follows can be convicted only by a text that it didn't sign, or by a collision of SHA-256. The
+//! general's own log shows which.
 #![tactic(auto)]
 
 mod across_checking;

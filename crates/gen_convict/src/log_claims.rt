@@ -1,4 +1,4 @@
-//! Claims by a log.
+//! Finds claims by a log of the general.
 ghost use Rattle.std.specs.Prelude.{◌≡◌, IfOk, Some, map};
 ghost use Rattle.std.specs.Option.{option_map};
 ghost use Rattle.std.specs.List.{find};
@@ -11,7 +11,7 @@ use gen_local::{LocalReport, Reading, SignedText, Text};
 use gen_types::GeneralNo;
 use std::alloc::{AllocError, Global};
 
-/// The first of the texts that is a statement of which a sealed log has no SIGN.
+/// Returns the first of the texts that is a statement without a SIGN in the log of this reading, if that log is sealed.
 fn unsaid_in<'a>(firsts: &[&'a SignedText], reading: &Reading) -> Option<&'a SignedText>
     ensures { option_map (λ t. t.now) result
         ≡ finds.unsaid_in (map (λ t. t.now) firsts.now) reading.now }
@@ -34,7 +34,7 @@ fn lacks(general: GeneralNo, firsts: &[&SignedText], report: &LocalReport) -> bo
     report.exhibit().general() == general && unsaid_in(firsts, report.reading()).is_some()
 }
 
-/// The first report of such a log.
+/// Returns the first report of a sealed log of the general that has no SIGN of one of these statements.
 fn first_lacking<'a>(
     general: GeneralNo,
     firsts: &[&SignedText],
@@ -51,7 +51,7 @@ fn first_lacking<'a>(
     None
 }
 
-/// The claim that a statement is missing from a log.
+/// Returns the claim that the text, a statement, is missing from the log; none if the text is a head.
 fn missing_of(alloc: Global, log: &[u8], text: &SignedText) -> Result<Option<Claim>, AllocError>
     ensures { IfOk result (λ claim. option_map told claim
         ≡ finds.missing_of log.now text.now.signature text.now.text) }
@@ -89,7 +89,7 @@ pub fn missing_claim(
     }
 }
 
-/// Where a sealed log departs.
+/// Returns the entry at which the log of a reading departs, if that log is sealed and departs.
 fn departure_in(reading: &Reading) -> Option<usize>
     ensures { result ≡ finds.departure_in reading.now }
 {
@@ -112,7 +112,7 @@ fn departs(general: GeneralNo, report: &LocalReport) -> bool
     report.exhibit().general() == general && departure_in(report.reading()).is_some()
 }
 
-/// The first report of such a log.
+/// Returns the first report of a sealed log of the general that departs.
 fn first_departing<'a>(general: GeneralNo, reports: &'a [LocalReport]) -> Option<&'a LocalReport>
     ensures { option_map (λ r. r.now) result ≡ find (finds.departs general) reports.now }
 {
@@ -124,7 +124,7 @@ fn first_departing<'a>(general: GeneralNo, reports: &'a [LocalReport]) -> Option
     None
 }
 
-/// The claim that a log departs at an entry, if the entry's number has four bytes.
+/// Returns the claim that a log departs at an entry, if the entry's number fits into four bytes.
 fn departing_at(alloc: Global, log: &[u8], index: usize) -> Result<Option<Claim>, AllocError>
     ensures { IfOk result (λ claim. option_map told claim
         ≡ finds.departing_at log.now (Some index)) }

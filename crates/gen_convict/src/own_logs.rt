@@ -1,4 +1,4 @@
-//! Logs that a general could have kept by following.
+//! Tests whether a log is one that a general could have kept by following.
 ghost use Rattle.std.specs.Prelude.{IsTrue, ◌<◌, ◌↔◌};
 ghost use Rattle.gen_log.specs.Log.{IsLog};
 ghost use Rattle.gen_convict.specs.Refuting.{IsOwnLog};
@@ -9,9 +9,9 @@ use gen_log::Log;
 use gen_net::Header;
 use gen_types::GeneralNo;
 
-/// Returns whether a log, as `read_log` gives it under this header, is one that a general of the network
-/// could have kept of this run by following, and its head verifies as his: what `refute` asks for. It takes
-/// no memory.
+/// Whether a log is one that a general of the network could have kept of this run by following, and its head verifies
+/// as the general's. The log is as `read_log` returns it under this header. `refute` requires such a log. It takes no
+/// memory.
 pub fn is_own_log(header: &Header, general: GeneralNo, log: &Log) -> bool
     requires general { general < header.now.network.generals }
     requires log { IsLog header.now log.now }

@@ -1,4 +1,4 @@
-//! The first two texts of a general that contradict each other across runs.
+//! Finds the first two texts of a general that contradict each other across runs.
 ghost use Rattle.std.specs.Prelude.{◌≡◌, ◌∷◌, ◌++◌, IfOk, OnOk, map};
 ghost use Rattle.std.specs.Option.{option_map};
 ghost use Rattle.std.specs.List.{find, list_any};
@@ -16,7 +16,7 @@ use gen_net::Header;
 use gen_types::GeneralNo;
 use std::alloc::{AllocError, Global};
 
-/// Whether two texts of two runs that use the same leaves stand under one leaf.
+/// Whether two texts stand under one leaf, in two runs that use the same leaves.
 #[tactic(auto, unfolding(crate::specs::AcrossFinding::meets))]
 fn meets(first: SeenText, second: SeenText) -> bool
     ensures { result ≡ finds.meets (seen first.entry) (seen second.entry) }
@@ -24,7 +24,7 @@ fn meets(first: SeenText, second: SeenText) -> bool
     is_like(&first.text.text, &second.text.text) && share_leaves(first.header, second.header)
 }
 
-/// Returns whether two texts of two runs that use the same leaves stand under one leaf and are different.
+/// Whether two texts stand under one leaf, in two runs that use the same leaves, and differ.
 #[tactic(auto, unfolding(crate::specs::AcrossFinding::is_rival))]
 pub fn is_rival(first: SeenText, second: SeenText) -> bool
     ensures { result ≡ finds.is_rival (seen first.entry) (seen second.entry) }
@@ -43,7 +43,7 @@ fn is_beside(first: SeenText, second: SeenText) -> bool
     is_like(&first.text.text, &second.text.text) && first.header == second.header
 }
 
-/// Whether one of these texts stands under the leaf of this one, in another run.
+/// Whether one of the other texts stands under the leaf of this one, in another run.
 fn has_meeting(text: SeenText, others: &[SeenText]) -> bool
     ensures { result ≡ list_any (finds.meets (seen text.entry)) (map seen others.now) }
 {
@@ -55,7 +55,7 @@ fn has_meeting(text: SeenText, others: &[SeenText]) -> bool
     false
 }
 
-/// Whether one of these texts is of the run of this one and has its subject.
+/// Whether one of these texts has the run and the subject of `text`.
 fn has_beside(texts: &[SeenText], text: SeenText) -> bool
     ensures { result ≡ list_any (λ x. finds.is_beside x (seen text.entry)) (map seen texts.now) }
 {
@@ -67,7 +67,7 @@ fn has_beside(texts: &[SeenText], text: SeenText) -> bool
     false
 }
 
-/// Returns the first of these texts that is a rival of this one.
+/// Returns the first of the other texts that is a rival of this one.
 fn first_rival<'a>(text: SeenText, others: &[SeenText<'a>]) -> Option<SeenText<'a>>
     ensures { option_map seen result ≡ find (finds.is_rival (seen text.entry)) (map seen others.now) }
 {
@@ -79,8 +79,9 @@ fn first_rival<'a>(text: SeenText, others: &[SeenText<'a>]) -> Option<SeenText<'
     None
 }
 
-/// The first of the texts behind this one that is a rival of it. Those that met nobody behind them are kept, one of
-/// each run and subject: a text beside one of these has no rival either, so that its others aren't looked at.
+/// Returns the first of `others`, the texts after this one, that is a rival of it. A text that meets none of the texts
+/// after it is kept in `alone`, one for each run and subject. A text with the run and the subject of a kept one has no
+/// rival either, and isn't compared.
 fn rival_behind<'a>(
     text: SeenText<'a>,
     others: &[SeenText<'a>],
@@ -101,8 +102,7 @@ fn rival_behind<'a>(
     Ok(None)
 }
 
-/// Returns the first text that has a rival behind it, with the first such rival. It fails only where memory was
-/// refused.
+/// Returns the first text that has a rival after it, with the first such rival. It fails only if memory is refused.
 pub fn first_rivals<'a>(
     alloc: Global,
     texts: &[SeenText<'a>],
@@ -121,7 +121,7 @@ pub fn first_rivals<'a>(
     Ok(None)
 }
 
-/// Puts texts of a run behind those that are gathered.
+/// Appends texts of a run, each with the run's header.
 fn put_texts<'a>(
     header: &'a Header,
     texts: &[&'a SignedText],
@@ -139,7 +139,7 @@ fn put_texts<'a>(
     Ok(())
 }
 
-/// Puts a general's texts of a run behind those that are gathered.
+/// Appends the texts of a general in a run, each with the run's header.
 fn gather_run<'a>(
     alloc: Global,
     general: GeneralNo,

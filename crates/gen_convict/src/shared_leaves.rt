@@ -1,4 +1,4 @@
-//! Whether two runs use the same leaves.
+//! Tests whether two runs use the same leaves.
 ghost use Rattle.std.specs.Prelude.{◌≡◌};
 ghost use Rattle.gen_net.specs.SameHeaders.{same_roots};
 ghost use Rattle.gen_convict.specs.SharedLeaves as shared;
@@ -15,7 +15,7 @@ pub fn is_two(version: Version) -> bool
     }
 }
 
-/// Whether two versions are version 2 with one slot.
+/// Whether both versions are version 2 and have one slot.
 fn is_one_slot(first: Version, second: Version) -> bool
     ensures { result ≡ shared.is_one_slot first second }
 {
@@ -25,14 +25,15 @@ fn is_one_slot(first: Version, second: Version) -> bool
     }
 }
 
-/// Whether two lists of roots are the same.
+/// Whether two lists of roots are equal.
 fn are_same_roots(first: &[[u8; 32]], second: &[[u8; 32]]) -> bool
     ensures { result ≡ same_roots first.now second.now }
 {
     first == second
 }
 
-/// Returns whether two runs, whose headers are not the same, use the same leaves of the same trees.
+/// Whether two runs with different headers use the same leaves of the same trees: both have version 2, one slot, as
+/// many generals and the same roots.
 #[tactic(auto, unfolding(crate::specs::SharedLeaves::share_leaves))]
 pub fn share_leaves(first: &Header, second: &Header) -> bool
     ensures { result ≡ shared.share_leaves first.now second.now }

@@ -1,4 +1,4 @@
-//! Which texts contradict each other.
+//! Tests which texts contradict each other.
 ghost use Rattle.std.specs.Prelude.{◌≡◌};
 ghost use Rattle.gen_convict.specs.Finding as finds;
 
@@ -17,7 +17,7 @@ pub fn is_like(first: &Text, second: &Text) -> bool
     }
 }
 
-/// Whether two texts have one subject and are not the same.
+/// Whether two texts have one subject and differ.
 pub fn is_unlike(first: &Text, second: &Text) -> bool
     ensures { result ≡ finds.is_unlike first.now second.now }
 {
@@ -28,7 +28,7 @@ pub fn is_unlike(first: &Text, second: &Text) -> bool
     }
 }
 
-/// Whether a text is a statement of the commander alone.
+/// Whether a text is a statement whose path is the commander alone.
 pub fn is_command(text: &Text) -> bool
     ensures { result ≡ finds.is_command text.now }
 {
@@ -38,7 +38,7 @@ pub fn is_command(text: &Text) -> bool
     }
 }
 
-/// Whether two texts are statements of the commander alone, of different orders.
+/// Whether two texts are statements of different orders, each with the path of the commander alone.
 pub fn are_orders(first: &Text, second: &Text) -> bool
     ensures { result ≡ finds.are_orders first.now second.now }
 {
@@ -50,7 +50,7 @@ pub fn are_orders(first: &Text, second: &Text) -> bool
     }
 }
 
-/// Whether a text is a statement of which a log has no SIGN.
+/// Whether a text is a statement without a SIGN in the log.
 pub fn is_unsaid(log: &Log, text: &Text) -> bool
     ensures { result ≡ finds.is_unsaid log.now text.now }
 {

@@ -5,13 +5,13 @@ use Rattle.gen_net.specs.Run.{Run, IsRun}
 use Rattle.gen_net.specs.Follows.{Conduct}
 use Rattle.gen_net.specs.Log.{LogEntry, Keeps}
 
--- in each run there is a log of a general with this conduct
+-- for each run, general and conduct there is a log
 abbrev pub HasLog : Type 0
 HasLog =
     (net : Network) (run : Run) (g : ℕ) (conduct : Conduct) → IsRun net run
     → (log : List LogEntry) × Keeps net run g conduct log
 
--- and no other
+-- for each run, general and conduct there is only one log
 abbrev pub OneLog : Type 0
 OneLog =
     (net : Network) (run : Run) (g : ℕ) (conduct : Conduct) (log other : List LogEntry)

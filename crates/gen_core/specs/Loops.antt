@@ -1,3 +1,3 @@
--- What loops and private functions keep on their way: no public contract speaks of it.
+-- What holds inside loops and private functions: no public contract uses it.
 pub mod Picking
 pub mod Pushing

@@ -1,4 +1,4 @@
--- What a lieutenant sees of a run, round by round, and what he adds and decides.
+-- What a lieutenant sees of a run, round by round, and what it adds and decides.
 use Rattle.std.specs.Prelude.{ℕ, ◌≡◌, ◌≤◌, ◌↔◌, List, Contains, Option, Some, slice_get}
 use Rattle.gen_types.specs.Ascending.{IsListOf}
 use Rattle.gen_types.specs.declared.choices.ChoiceKind.{ChoiceKind}
@@ -7,8 +7,8 @@ use Rattle.gen_net.specs.declared.message.Message.{Message}
 use Rattle.gen_net.specs.Run.{Run, Arrives, OrderArrives, Adds, IsRun}
 use Rattle.gen_core.specs.declared.arrivals.Seen.{Seen}
 
--- what a lieutenant keeps: who he is, how many rounds there are and have gone, the orders that arrived, and
--- how he chooses
+-- what a lieutenant keeps: its number, the number of all rounds and of those that have gone, the orders that
+-- arrived, and its choice
 pub record Lieutenant : Type 0 where
   pub me : ℕ
   pub rounds : ℕ
@@ -16,7 +16,7 @@ pub record Lieutenant : Type 0 where
   pub known : List ℕ
   pub choice : ChoiceKind
 
--- what always holds of the numbers of rounds
+-- what always holds of the two numbers of rounds: those that have gone, and all
 pub record IsKept (gone all : ℕ) : Type 0 where
   pub within : gone ≤ all
   pub limit : all ≤ 16
@@ -27,7 +27,8 @@ AreArrivals run g l seen =
     (s : Seen) → Contains seen s
     ↔ Arrives run g l (record { from = s.from; to = g; order = s.order; path = s.path })
 
--- he has seen the rounds of the run that have gone, and knows exactly the orders that arrived in them
+-- the lieutenant has seen the rounds of the run that have gone, and knows exactly the orders that arrived in
+-- them
 pub record HasSeen (net : Network) (run : Run) (state : Lieutenant) : Type 0 where
   pub run_of_net : IsRun net run
   pub few_orders : net.orders ≤ 15
@@ -35,7 +36,7 @@ pub record HasSeen (net : Network) (run : Run) (state : Lieutenant) : Type 0 whe
   pub choice : state.choice ≡ net.choice
   pub known : IsListOf state.known (λ v. (k : ℕ) × (k ≤ state.gone) × OrderArrives run state.me k v)
 
--- for this order this path is picked
+-- this path is picked for this order
 abbrev pub Picked : List (Option (List ℕ)) → ℕ → List ℕ → Type 0
 Picked adds v path = slice_get adds v ≡ Some (Some path)
 
@@ -45,7 +46,7 @@ pub record IsFromLeast (run : Run) (g l v : ℕ) (path : List ℕ) : Type 0 wher
   pub arrives : Arrives run g l (record { from = from; to = g; order = v; path = path })
   pub least : (message : Message) → Arrives run g l message → message.order ≡ v → from ≤ message.from
 
--- exactly the orders that g adds in round l, each with the path from the least sender
+-- the list picks exactly for the orders that g adds in round l a path, which is the one from the least sender
 abbrev pub AreAdds : Run → ℕ → ℕ → List (Option (List ℕ)) → Type 0
 AreAdds run g l adds =
     (v : ℕ) (path : List ℕ) → Picked adds v path ↔ (Adds run g l v × IsFromLeast run g l v path)

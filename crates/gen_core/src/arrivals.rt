@@ -4,10 +4,10 @@ use gen_types::{GeneralNo, OrderNo, Path};
 /// A chain that arrived at a general in a round: its sender, its order and its path.
 #[derive(Clone, Copy, Debug, PartialEq, Eq)]
 pub struct Seen {
-    /// The general who sent it.
+    /// The general that sent it.
     pub from: GeneralNo,
     /// The chain's order.
     pub order: OrderNo,
-    /// The chain's path: the generals who signed, of whom the sender is the last.
+    /// The chain's path: the generals that signed it; the sender is the last.
     pub path: Path,
 }

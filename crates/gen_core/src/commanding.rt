@@ -8,7 +8,7 @@ use gen_types::{GeneralNo, OrderNo, OrderSet, Path};
 use std::alloc::{AllocError, Global};
 use std::marker::Model;
 
-/// The commander, general 0, who has an order. A contract sees the order alone.
+/// The commander, general 0, with its order. A contract sees only the order.
 #[derive(Clone, Copy, Debug)]
 pub struct Commander {
     order: OrderNo,
@@ -32,9 +32,9 @@ impl Commander {
         Commander { order }
     }
 
-    /// Returns what he sends in round 1 (step 1 of SM(m), section 4 of the paper of 1982): his order,
-    /// signed by himself alone, to each neighbour, in ascending order of neighbours. It fails only where
-    /// memory was refused.
+    /// Returns what the commander sends in round 1 (step 1 of SM(m), section 4 of the paper of 1982): its
+    /// order, signed by itself alone, to each neighbour, in ascending order of neighbours. It fails only if
+    /// memory is refused.
     pub fn sends(&self, alloc: Global, net: &Net) -> Result<Vec<Outgoing>, AllocError>
         ensures { IfOk result (λ out. AreSends (IsCommand net.now self.now) out.items) }
     {
@@ -50,7 +50,7 @@ impl Commander {
         Ok(out)
     }
 
-    /// Returns what he decides: the set of his own order alone, and his own order.
+    /// Returns what the commander decides: the set of its own order alone, and its own order.
     pub fn decide(&self) -> (OrderSet, OrderNo)
         ensures set { result.0 ≡ self.now ∷ [] }
         ensures order { result.1 ≡ self.now }

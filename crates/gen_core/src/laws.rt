@@ -2,8 +2,7 @@
 //! calls it knows the law.
 ghost use Rattle.gen_core.specs.Keeping.{HasLog, OneLog};
 
-/// A general has exactly one log of a run: his entries are finitely many, no two of them have one
-/// place, and the order of the places is the order of the log.
+/// States that a general with a given conduct has a log of each run (`some`), and only one (`one`).
 pub fn logs_are_kept()
     ensures some { HasLog }
     ensures one { OneLog }

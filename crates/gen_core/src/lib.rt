@@ -1,9 +1,9 @@
-//! This crate has the signed message algorithm without signatures and bytes: the commander, the
-//! lieutenants, and what they send.
+//! The signed message algorithm without signatures and bytes: the commander, the lieutenants, and what they
+//! send.
 //!
-//! It is SM(m) of section 4 of L. Lamport, R. Shostak and M. Pease, "The Byzantine Generals Problem",
-//! ACM TOPLAS 4 (1982), with messages to neighbours only, as in section 5. One thing differs: an order
-//! that a lieutenant adds in the last round is relayed to nobody, also where there is only one round.
+//! It is SM(m) of section 4 of L. Lamport, R. Shostak and M. Pease, "The Byzantine Generals Problem", ACM
+//! TOPLAS 4 (1982), with messages to neighbours only, as in section 5. One thing differs: an order that a
+//! lieutenant adds in the last round is not relayed, even if there is only one round.
 #![tactic(auto)]
 
 mod arrivals;

@@ -13,19 +13,19 @@ use gen_net::Net;
 use gen_types::{Choice, ChoiceKind, GeneralNo, OrderNo, OrderSet};
 use std::marker::Model;
 
-/// Adds the orders of the chains.
+/// Adds the orders of these chains to the set.
 fn learn(known: &mut OrderSet, seen: &[Seen])
     ensures { IsListOf known.new (λ v. Contains known.old v ⊎ OrderIn seen.now v) }
 {
-    // The set's list ascends, which a read makes known.
+    // The set's list ascends, which a call of `len` makes known to the proof.
     let _ = known.len();
     for chain in seen {
         known.insert(chain.order);
     }
 }
 
-/// A lieutenant after some of the rounds: his number, 1 to 15, the rounds, the orders that arrived so
-/// far (the set V of SM(m), section 4 of the paper of 1982), and his choice.
+/// A lieutenant after some of the rounds: its number, 1 to 15, the number of rounds, and its choice. It keeps
+/// the orders that arrived so far, which are the set V of SM(m) (section 4 of the paper of 1982).
 #[derive(Clone, Copy, Debug)]
 pub struct Lieutenant {
     me: GeneralNo,
@@ -60,8 +60,8 @@ impl Model for Lieutenant {
 }
 
 impl Lieutenant {
-    /// Makes the lieutenant of this number as he is before round 1, when nothing has arrived. He must
-    /// be a general of the network and not the commander.
+    /// Makes the lieutenant of this number in its state before round 1, when nothing has arrived. The number
+    /// must be that of a general of the network other than the commander.
     pub fn new(net: &Net, me: GeneralNo) -> Lieutenant
         requires lieutenant { me ≢ 0 }
         requires general { me < net.now.generals }
@@ -70,7 +70,7 @@ impl Lieutenant {
         ensures rounds { result.rounds ≡ rounds net.now }
         ensures seen { (run : Run) → IsRun net.now run → HasSeen net.now run result }
     {
-        // A network has at most 15 orders, which a read makes known.
+        // A network has at most 15 orders, which a call of `orders` makes known to the proof.
         let _ = net.orders();
         Lieutenant {
             me,
@@ -81,14 +81,14 @@ impl Lieutenant {
         }
     }
 
-    /// Returns his number.
+    /// Returns the number of the lieutenant.
     pub fn me(&self) -> GeneralNo
         ensures { result ≡ self.now.me }
     {
         self.me
     }
 
-    /// Returns how many rounds have gone, 0 to m + d.
+    /// Returns the number of rounds that have gone, 0 to m + d.
     pub fn gone(&self) -> u8
         ensures value { result ≡ self.now.gone }
         ensures at_most { result ≤ self.now.rounds }
@@ -97,12 +97,13 @@ impl Lieutenant {
         self.gone
     }
 
-    /// Takes what arrives in the next round (step 2 of SM(m), section 4 of the paper of 1982), and
-    /// returns the orders that he adds, each with the path of the chain that the least sender sent. Fewer
+    /// Takes what arrives in the next round (step 2 of SM(m), section 4 of the paper of 1982). Returns the
+    /// orders that the lieutenant adds, each with the path of the chain that the least sender sent. Fewer
     /// than all rounds must have gone.
     ///
-    /// For each run of whose earlier rounds he has seen what arrived, and of whose next round the list
-    /// is what arrives: the result is what he adds in this round of it, and he has seen this round too.
+    /// The contract speaks of each run of which the lieutenant has seen what arrived in the rounds that have
+    /// gone, and in whose next round this list is what arrives. For such a run the result is what the
+    /// lieutenant adds in this round, and the lieutenant has then seen this round too.
     pub fn round(&mut self, seen: &[Seen]) -> Adds
         requires { self.old.gone < self.old.rounds }
         ensures me { self.new.me ≡ self.old.me }
@@ -123,8 +124,9 @@ impl Lieutenant {
         adds
     }
 
-    /// Returns the set of orders that he accepted and the order that he decides (step 3 of SM(m), section
-    /// 4 of the paper of 1982), in each run of which he has seen what arrived. All rounds must have gone.
+    /// Returns the set of orders that the lieutenant accepted and the order that it decides (step 3 of SM(m),
+    /// section 4 of the paper of 1982). This holds for each run of which it has seen what arrived. All rounds
+    /// must have gone.
     pub fn decide(&self) -> (OrderSet, OrderNo)
         requires { self.now.gone ≡ self.now.rounds }
         ensures { (net : Network) (run : Run) →

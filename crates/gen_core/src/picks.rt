@@ -7,8 +7,8 @@ use crate::arrivals::Seen;
 use gen_types::{OrderNo, OrderSet, Path};
 use std::marker::Model;
 
-/// The orders that a lieutenant adds in a round, each with the path that he picked. A contract sees
-/// for each order perhaps a path.
+/// The orders that a lieutenant adds in a round, each with the path that it picked. A contract sees a path or
+/// none for each order.
 #[derive(Debug, Drop)]
 pub struct Adds {
     picked: [Option<Seen>; 16],
@@ -26,7 +26,7 @@ impl Model for Adds {
 }
 
 impl Adds {
-    /// Returns how many orders there are places for.
+    /// Returns the number of orders that there are places for, which is 16.
     pub(crate) fn places(&self) -> u8
         ensures value { result ≡ length self.now }
         ensures all { result ≡ 16 }
@@ -35,7 +35,7 @@ impl Adds {
         picked.len() as u8
     }
 
-    /// Returns the path that is picked for the order, and None where the order is not added.
+    /// Returns the path that is picked for the order, or None if the order is not added.
     pub fn get(&self, order: OrderNo) -> Option<Path>
         ensures { (path : List ℕ) → (result ≡ Some path) ↔ Picked self.now order path }
     {
@@ -46,7 +46,8 @@ impl Adds {
     }
 }
 
-/// Returns of two chains of one order the one from the lesser sender.
+/// Returns of two chains of one order the one from the lesser sender, or the first if the senders are the
+/// same.
 fn lesser(before: Option<Seen>, seen: Seen) -> Seen
     ensures { result ≡ better before seen }
 {
@@ -56,7 +57,7 @@ fn lesser(before: Option<Seen>, seen: Seen) -> Seen
     }
 }
 
-/// Returns for each order that isn't known the chain from the least sender.
+/// Returns, for each order that is not known, the chain from the least sender, if the order has a chain.
 fn best_of(known: &OrderSet, seen: &[Seen]) -> [Option<Seen>; 16]
     ensures { AreBest known.now seen.now result }
 {
@@ -70,7 +71,8 @@ fn best_of(known: &OrderSet, seen: &[Seen]) -> [Option<Seen>; 16]
     picked
 }
 
-/// Returns the orders of the chains that aren't known, each with the chain from its least sender.
+/// Returns the orders of these chains that are not known, each with the path of the chain from its least
+/// sender.
 pub(crate) fn pick(known: &OrderSet, seen: &[Seen]) -> Adds
     ensures { AreBestPaths known.now seen.now result }
 {

@@ -11,16 +11,16 @@ use std::alloc::{AllocError, Global};
 /// A chain that is to be sent: its receiver, its order and its path.
 #[derive(Clone, Copy, Debug, PartialEq, Eq)]
 pub struct Outgoing {
-    /// The general to whom it goes.
+    /// The general that is to receive it.
     pub to: GeneralNo,
     /// The chain's order.
     pub order: OrderNo,
-    /// The chain's path: the generals who signed, of whom the sender is the last.
+    /// The chain's path: the generals that signed it; the sender is the last.
     pub path: Path,
 }
 
-/// Returns the path lengthened by `me`, and None where it has as many signers as there are rounds, or
-/// has `me`, or has `to` once it is longer.
+/// Returns the path lengthened by `me`. Returns None if the path has as many signers as there are rounds, or
+/// if it contains `me`, or if the longer path contains `to`.
 fn due(net: &Net, me: GeneralNo, to: GeneralNo, path: &Path) -> Option<Path>
     ensures { (longer : List ℕ) → (result ≡ Some longer) ↔ GoesOn net.now me to path.now longer }
 {
@@ -35,7 +35,7 @@ fn due(net: &Net, me: GeneralNo, to: GeneralNo, path: &Path) -> Option<Path>
     Some(longer)
 }
 
-/// Returns the path of one order that is due to one general, if there is one.
+/// Returns the path that a lieutenant has to send a general for one order, if there is one.
 fn due_at(net: &Net, me: GeneralNo, to: GeneralNo, adds: &Adds, order: OrderNo) -> Option<Path>
     ensures { (path : List ℕ) →
         (result ≡ Some path) ↔ IsDue net.now me adds.now (outgoing to order path) }
@@ -46,7 +46,7 @@ fn due_at(net: &Net, me: GeneralNo, to: GeneralNo, adds: &Adds, order: OrderNo) 
     due(net, me, to, &adds.get(order)?)
 }
 
-/// Appends what is due to one general, by order.
+/// Appends what a lieutenant has to send a general, in ascending order of orders.
 fn push_due(
     out: &mut Vec<Outgoing>,
     net: &Net,
@@ -68,11 +68,11 @@ fn push_due(
     Ok(())
 }
 
-/// Returns what a lieutenant sends in the round after the one in which he added these orders (step 2 of
-/// SM(m), section 4 of the paper of 1982): each picked path lengthened by himself, to each neighbour who
-/// is not in the longer path, in ascending order of receiver and order. He sends nothing for a path that
-/// has as many signers as there are rounds, or that has himself, which none that arrives at him has. It
-/// fails only where memory was refused.
+/// Returns what a lieutenant sends in the round after the one in which it added these orders (step 2 of
+/// SM(m), section 4 of the paper of 1982). It lengthens each picked path by itself and sends it to each
+/// neighbour that is not in the longer path. The chains stand in ascending order of receiver, then order.
+/// Nothing is sent for a path that has as many signers as there are rounds, or that contains the lieutenant,
+/// which no path that arrives at it does. It fails only if memory is refused.
 pub fn sends(
     alloc: Global,
     net: &Net,

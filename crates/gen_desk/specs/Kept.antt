@@ -1,4 +1,4 @@
--- How a desk keeps its history: the steps in their order, and the contents of each at its place.
+-- How a desk keeps its history: the steps in their order, and the content of each at its place.
 use Rattle.std.specs.Prelude.{◌≡◌, List, [], ◌∷◌, length, map, IsSome}
 use Rattle.std.specs.Option.{option_to_list}
 use Rattle.std.specs.List.{flat_map}
@@ -8,19 +8,19 @@ use Rattle.gen_desk.specs.declared.rows.Step.TheVariants.{Filed, Claimed, Report
 use Rattle.gen_desk.specs.History.{Event, Filing, Claiming, Reporting, row_at, replay, IsLegal}
 use Rattle.gen_desk.specs.Histories.{History}
 
--- the event of a step, where the place has its contents
+-- the event of a step, if the place has its content
 abbrev pub event_of : List Row → Step → List Event
 event_of rows (Filed p) = map (Filing p) (option_to_list (row_at rows p).filed)
 event_of rows (Claimed p) = Claiming p ∷ []
 event_of rows (Reported p) = map (Reporting p) (option_to_list (row_at rows p).report)
 
--- the place has the contents of the step
+-- the place has the content of the step
 abbrev pub IsTold : List Row → Step → Type 0
 IsTold rows (Filed p) = IsSome (row_at rows p).filed
 IsTold rows (Claimed p) = Unit {0}
 IsTold rows (Reported p) = IsSome (row_at rows p).report
 
--- for each step
+-- the place of each step has its content
 abbrev pub AreTold : List Row → List Step → Type 0
 AreTold rows [] = Unit {0}
 AreTold rows (s ∷ ss) = IsTold rows s × AreTold rows ss

@@ -1,4 +1,4 @@
-//! One event more.
+//! Adds one event to a desk's rows and steps.
 ghost use Rattle.std.specs.Prelude.{◌≡◌, ◌<◌, vec_len, vec_capacity};
 ghost use Rattle.gen_desk.specs.History.{Filing, Claiming, Reporting, MayHappen, after};
 ghost use Rattle.gen_desk.specs.Histories.{with_event};
@@ -7,7 +7,7 @@ ghost use Rattle.gen_desk.specs.Kept.{IsKept, history_of};
 use crate::rows::{Row, Step};
 use gen_local::{Exhibit, LocalReport};
 
-/// Puts what is filed at a place.
+/// Puts an exhibit at a place.
 fn put_filing(rows: &mut Vec<Row>, place: usize, exhibit: Exhibit)
     requires { place < vec_len rows.old }
     ensures { rows.new.items ≡ after rows.old.items (Filing place exhibit) }
@@ -15,7 +15,7 @@ fn put_filing(rows: &mut Vec<Row>, place: usize, exhibit: Exhibit)
     rows[place].filed = Some(exhibit);
 }
 
-/// Notes that a place is claimed.
+/// Marks a place as claimed.
 fn put_claim(rows: &mut Vec<Row>, place: usize)
     requires { place < vec_len rows.old }
     ensures { rows.new.items ≡ after rows.old.items (Claiming place) }
@@ -23,7 +23,7 @@ fn put_claim(rows: &mut Vec<Row>, place: usize)
     rows[place].claimed = true;
 }
 
-/// Puts what is reported of a place.
+/// Puts a report at a place.
 fn put_report(rows: &mut Vec<Row>, place: usize, report: LocalReport)
     requires { place < vec_len rows.old }
     ensures { rows.new.items ≡ after rows.old.items (Reporting place report) }
@@ -31,7 +31,7 @@ fn put_report(rows: &mut Vec<Row>, place: usize, report: LocalReport)
     rows[place].report = Some(report);
 }
 
-/// Adds a filing.
+/// Adds the filing of an exhibit at a place.
 pub(crate) fn add_filing(rows: &mut Vec<Row>, steps: &mut Vec<Step>, place: usize, exhibit: Exhibit)
     requires kept { IsKept rows.old.items steps.old.items }
     requires may { MayHappen rows.old.items (Filing place exhibit) }
@@ -44,7 +44,7 @@ pub(crate) fn add_filing(rows: &mut Vec<Row>, steps: &mut Vec<Step>, place: usiz
     steps.push_reserved(Step::Filed(place));
 }
 
-/// Adds a claim.
+/// Adds the claim of a place.
 pub(crate) fn add_claim(rows: &mut Vec<Row>, steps: &mut Vec<Step>, place: usize)
     requires kept { IsKept rows.old.items steps.old.items }
     requires may { MayHappen rows.old.items (Claiming place) }
@@ -57,7 +57,7 @@ pub(crate) fn add_claim(rows: &mut Vec<Row>, steps: &mut Vec<Step>, place: usize
     steps.push_reserved(Step::Claimed(place));
 }
 
-/// Adds a report.
+/// Adds the report on a place.
 pub(crate) fn add_report(
     rows: &mut Vec<Row>,
     steps: &mut Vec<Step>,

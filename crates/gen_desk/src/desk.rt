@@ -1,4 +1,4 @@
-//! The desk that generals and workers share.
+//! A desk that generals and workers share.
 ghost use Rattle.std.specs.Prelude.{◌≡◌, All, IfOk, IfErr, MatchResult, IfSome};
 ghost use Rattle.std.specs.List.{range_with_len};
 ghost use Rattle.gen_desk.specs.Filings.{HasOnce, IsFirstStrange};
@@ -14,7 +14,7 @@ use gen_log::SealedLog;
 use std::alloc::{AllocError, Global};
 use std::sync::{Mutex, Wait};
 
-/// A desk that threads share. Whenever nobody holds its lock its history is legal, and replays to what is filed,
+/// A desk that threads share. Whenever no thread holds its lock, its history is legal, and replays to what is filed,
 /// claimed and reported.
 #[derive(Drop)]
 pub struct Desk {
@@ -23,7 +23,7 @@ pub struct Desk {
     moved: EventCount,
 }
 
-/// One slip for each place.
+/// Returns one slip for each place.
 fn slips_of(alloc: Global, places: usize) -> Result<Vec<Slip>, AllocError>
     ensures { IfOk result (λ slips. slips.items ≡ range_with_len 0 places) }
 {
@@ -35,7 +35,7 @@ fn slips_of(alloc: Global, places: usize) -> Result<Vec<Slip>, AllocError>
 }
 
 impl Desk {
-    /// Returns a desk of so many places, and a slip for each.
+    /// Returns a desk with this number of places, and one slip for each place.
     ///
     /// # Errors
     ///
@@ -55,11 +55,11 @@ impl Desk {
         ))
     }
 
-    /// Files a log at the place of a slip, and wakes one who sleeps. It is `file_shared`, and the log ends.
+    /// Files a log at the place of a slip, as `file_shared` does, and drops the log.
     ///
     /// # Errors
     ///
-    /// The slip and the log, and what `file_shared` says.
+    /// The slip, the log, and the fault of `file_shared`.
     pub fn file<R: Wait>(
         &self,
         rt: &R,
@@ -75,14 +75,15 @@ impl Desk {
         }
     }
 
-    /// Files a log that the caller keeps at the place of a slip, and wakes one who sleeps, if anybody does: a log is
-    /// claimed by one, and whoever is awake looks again before he sleeps. The place is looked at first; then the bytes
-    /// are shared, or copied where they can't be, and the receipt is made while nobody is kept from the desk.
+    /// Files a log, which the caller keeps, at the place of a slip, and wakes one sleeping thread, if there is one. One
+    /// is enough: a log is claimed by one worker, and a worker that is awake looks again before it sleeps. The place is
+    /// tested first. Then the bytes are shared, or copied if they can't be, and the receipt is made, without the desk's
+    /// lock.
     ///
     /// # Errors
     ///
-    /// The slip, and: WrongPlace where the place isn't this desk's or something was filed there; else Memory where
-    /// memory is refused.
+    /// The slip, with one of two faults. It is `WrongPlace` if the place isn't this desk's or something was filed
+    /// there, and otherwise `Memory` if memory is refused.
     pub fn file_shared<R: Wait>(
         &self,
         rt: &R,
@@ -103,8 +104,8 @@ impl Desk {
         outcome
     }
 
-    /// Whether the log of a receipt is filed at its place. The bytes are compared while nobody is kept from the desk. It
-    /// answers no also where what is filed has too many owners, 2^63 or more.
+    /// Whether the log of a receipt is filed at its place. The bytes are compared without the desk's lock. The answer
+    /// is no, too, if what is filed has too many owners, 2^63 or more.
     pub fn knows<R: Wait>(&self, rt: &R, receipt: &Receipt) -> bool {
         let filed = self.state.lock(rt).filed(receipt.place());
         match filed {
@@ -114,7 +115,7 @@ impl Desk {
         }
     }
 
-    /// Claims the least place at which something is filed that nobody claimed.
+    /// Claims the least place with a filed exhibit that isn't claimed. Returns None if there is none.
     ///
     /// # Errors
     ///
@@ -123,12 +124,13 @@ impl Desk {
         self.state.lock(rt).claim_in()
     }
 
-    /// Reports on what was claimed.
+    /// Reports on what was claimed, and wakes all sleeping threads.
     ///
     /// # Errors
     ///
-    /// The claim and the report, and: WrongPlace where the place isn't claimed at this desk or is reported on; else
-    /// WrongExhibit where the report is not of what is filed there; else Memory where memory is refused.
+    /// The claim and the report, with one of three faults. It is `WrongPlace` if the place isn't claimed at this desk
+    /// or is reported on already. Otherwise it is `WrongExhibit` if the report is not of what is filed there, and
+    /// otherwise `Memory` if memory is refused.
     pub fn report<R: Wait>(
         &self,
         rt: &R,
@@ -142,14 +144,14 @@ impl Desk {
         outcome
     }
 
-    /// Announces that the caller is going to wait for something to be filed or reported. What is waited for is to be
-    /// looked for once more before the wait, so that a worker who waits sleeps, and nothing is missed. Of those who
-    /// sleep a filing wakes one, and a report all.
+    /// Announces that the caller is going to wait for something to be filed or reported. The caller has to look for it
+    /// once more before it waits, so that nothing is missed. A filing wakes one of the sleeping threads, and a report
+    /// wakes all of them.
     pub fn prepare_wait(&self) -> Key<'_> {
         self.moved.prepare_wait()
     }
 
-    /// Wakes whoever waits.
+    /// Wakes all sleeping threads.
     pub fn wake_all(&self) {
         self.moved.notify_all();
     }
@@ -159,11 +161,12 @@ impl Desk {
         self.state.lock(rt).all_reported()
     }
 
-    /// Ends the desk. It takes no memory.
+    /// Ends the desk. Each receipt has to be of a filing at the desk. It takes no memory.
     ///
     /// # Errors
     ///
-    /// The first receipt whose filing the desk's history lacks, all receipts, and the state with that history.
+    /// The index of the first receipt whose filing the desk's history lacks, all receipts, and the state with that
+    /// history.
     pub fn close(self, receipts: Vec<Receipt>) -> Result<Filed, StrangeReceipt>
         ensures filed { IfOk result (λ filed. All (HasOnce filed) receipts.items) }
         ensures back { IfErr result (λ e. e.receipts ≡ receipts) }

@@ -1,11 +1,12 @@
 //! A desk at which generals file their logs, each at a place of its own, while workers claim what is filed
 //! and report on it.
 //!
-//! A desk's state keeps its history, a list of filings, claims and reports, which is legal, and replays to
-//! what is filed, claimed and reported. What is promised: each call on the state appends its one event, or
-//! refuses and changes nothing, and a desk that ends has each receipt's filing once. What is not: that
-//! anything is known from one call on the shared desk to the next, but that its history is legal; what its
-//! calls answer is tested.
+//! A desk's state keeps its history, a list of filings, claims and reports. The history is legal, and replays to what
+//! is filed, claimed and reported. What is promised: each call on the state appends its one event, or refuses and
+//! changes nothing. A desk that ends has the filing of each receipt once.
+//!
+//! What is not promised: between two calls on the shared desk nothing is known but that its history is legal. What its
+//! calls return beyond their clauses is tested.
 #![tactic(auto)]
 
 mod changes;

@@ -1,4 +1,4 @@
-//! What stands behind a desk's lock.
+//! The state that a desk's lock guards.
 ghost use Rattle.std.specs.Prelude.{◌≡◌, ◌<◌, ◌↔◌, [], IsTrue, Some, None, IfOk, IfErr, OnOk, OnErr, MatchOption, length, replicate, vec_len, vec_capacity};
 ghost use Rattle.gen_log.specs.Writing.{LogBytes};
 ghost use Rattle.gen_desk.specs.History.{Filing, Claiming, Reporting, empty, row_at, IsLegal};
@@ -14,8 +14,8 @@ use gen_log::SealedLog;
 use std::alloc::{AllocError, Global};
 use std::marker::Model;
 
-/// What is filed at a desk, claimed and reported. A contract sees how many places it has, and its history, which is
-/// legal: all else is what the history replays to.
+/// What is filed, claimed and reported at a desk. A contract sees the number of places and the history, which is legal:
+/// all else is what the history replays to.
 #[derive(Drop)]
 pub struct DeskState {
     alloc: Global,
@@ -34,8 +34,8 @@ impl Model for DeskState {
     ghost invariant = { λ d. IsKept d.rows.items d.steps.items };
 }
 
-/// A log as the desk keeps it, and the receipt of it at a place, which shares its bytes. They are shared with the log
-/// too, where its bytes can be.
+/// Returns a log as the desk keeps it, and the receipt for it at a place, which share their bytes. They share them with
+/// the log, too, if its bytes can be shared.
 pub(crate) fn exhibit_with_receipt(
     alloc: Global,
     place: usize,
@@ -49,7 +49,7 @@ pub(crate) fn exhibit_with_receipt(
     Ok((exhibit, receipt))
 }
 
-/// What is filed at a place.
+/// Returns the exhibit that is filed at a place, if there is one.
 fn filed_at(rows: &[Row], place: usize) -> Result<Option<Exhibit>, AllocError>
     ensures { IfOk result (λ found. found ≡ (row_at rows.now place).filed) }
 {
@@ -63,7 +63,7 @@ fn filed_at(rows: &[Row], place: usize) -> Result<Option<Exhibit>, AllocError>
 }
 
 impl DeskState {
-    /// Returns the state of a desk of so many places, at which nothing happened.
+    /// Returns the state of a desk with this number of places, at which nothing has happened.
     ///
     /// # Errors
     ///
@@ -87,7 +87,7 @@ impl DeskState {
         self.rows.as_slice()
     }
 
-    /// Ends the desk, and returns what is filed, claimed and reported at each place. It takes no memory.
+    /// Ends the desk's state, and returns what is filed, claimed and reported at each place. It takes no memory.
     pub(crate) fn into_rows(self) -> Vec<Row>
         ensures rows { result.items ≡ rows_of self }
         ensures places { length result.items ≡ self.places }
@@ -101,14 +101,14 @@ impl DeskState {
         rows
     }
 
-    /// Whether a log may be filed at a place: it is one of the desk's, and nothing was filed there.
+    /// Whether a log can be filed at a place: it is one of the desk's, and nothing was filed there.
     pub fn is_open(&self, place: usize) -> bool
         ensures { IsTrue result ↔ IsOpen self.now place }
     {
         is_open(self.rows.as_slice(), place)
     }
 
-    /// Returns what is filed at a place, if anything is.
+    /// Returns the exhibit that is filed at a place, if there is one.
     ///
     /// # Errors
     ///
@@ -123,8 +123,8 @@ impl DeskState {
     ///
     /// # Errors
     ///
-    /// The slip and the log, and: WrongPlace where the place isn't this desk's or something was filed there; else
-    /// Memory where memory is refused.
+    /// The slip and the log, with one of two faults. It is `WrongPlace` if the place isn't this desk's or something was
+    /// filed there, and otherwise `Memory` if memory is refused.
     pub fn file_in(
         &mut self,
         slip: Slip,
@@ -149,13 +149,12 @@ impl DeskState {
         }
     }
 
-    /// Files an exhibit at the place of a slip, with the receipt that was made of it, which is given back. No bytes
-    /// are copied.
+    /// Files an exhibit at the place of a slip, and returns the receipt that was made of it. No bytes are copied.
     ///
     /// # Errors
     ///
-    /// The slip, and: WrongPlace where the place isn't this desk's or something was filed there; else Memory where
-    /// memory is refused.
+    /// The slip, with one of two faults. It is `WrongPlace` if the place isn't this desk's or something was filed
+    /// there, and otherwise `Memory` if memory is refused.
     pub(crate) fn file_made(
         &mut self,
         slip: Slip,
@@ -179,7 +178,7 @@ impl DeskState {
         Ok(receipt)
     }
 
-    /// Claims the least place at which something is filed that nobody claimed.
+    /// Claims the least place with a filed exhibit that isn't claimed. Returns None if there is none.
     ///
     /// # Errors
     ///
@@ -205,8 +204,9 @@ impl DeskState {
     ///
     /// # Errors
     ///
-    /// The claim and the report, and: WrongPlace where the place isn't claimed at this desk or is reported on; else
-    /// WrongExhibit where the report is not of what is filed there; else Memory where memory is refused.
+    /// The claim and the report, with one of three faults. It is `WrongPlace` if the place isn't claimed at this desk
+    /// or is reported on already. Otherwise it is `WrongExhibit` if the report is not of what is filed there, and
+    /// otherwise `Memory` if memory is refused.
     pub fn report_in(
         &mut self,
         claim: Claim,
@@ -241,7 +241,7 @@ impl DeskState {
     }
 }
 
-/// So many places at which nothing happened.
+/// Returns rows for this number of places, at which nothing has happened.
 fn empty_rows(alloc: Global, places: usize) -> Result<Vec<Row>, AllocError>
     ensures { IfOk result (λ rows. rows.items ≡ replicate places empty) }
 {

@@ -1,4 +1,4 @@
--- The lines of messages.
+-- The arrows of messages.
 use Rattle.std.specs.Prelude.{ℕ, List, ◌++◌, codes, length}
 use Rattle.std.specs.List.{flat_map}
 use Rattle.std.specs.Fmt.{decimal}
@@ -11,45 +11,45 @@ use Rattle.gen_draw.specs.Grid.{lane_of, middle_at, tip_at}
 use Rattle.gen_draw.specs.Rows.{middle_of, row_of}
 use Rattle.gen_draw.specs.Shapes.{stroke_between, words_at}
 
--- the line from the sender to the receiver, in the round and beside those of other orders
+-- the line from the sender to the receiver, in the column of the round and the lane of the order
 unfoldable pub message_stroke : Grid → ℕ → ℕ → ℕ → ℕ → List ℕ
 message_stroke grid from to round order =
     stroke_between (lane_of grid round order) (row_of from) (tip_at grid round order) (row_of to)
 
--- solid or dashed, and in the colour of the order
+-- the beginning of an arrow: whether it is solid or dashed, and the colour of the order
 unfoldable pub arrow_opening : ToldBy → ℕ → List ℕ
 arrow_opening Both order = codes "<g class=\"both o" ++ (decimal order ++ codes "\"><title>")
 arrow_opening Sender order = codes "<g class=\"alone o" ++ (decimal order ++ codes "\"><title>")
 arrow_opening Receiver order = codes "<g class=\"alone o" ++ (decimal order ++ codes "\"><title>")
 
--- the message in words
+-- a message in words, without its path
 unfoldable pub message_words : ℕ → ℕ → ℕ → ℕ → List ℕ
 message_words from to round order =
     codes "from " ++ (decimal from ++ (codes " to " ++ (decimal to ++ (codes " round " ++ (decimal round
     ++ (codes " order " ++ (decimal order ++ codes " path")))))))
 
--- its path in words
+-- a path in words
 abbrev pub path_words : List ℕ → List ℕ
 path_words path = flat_map (λ g. codes " " ++ decimal g) path
 
--- which logs have it
+-- which logs have a message, in words
 unfoldable pub told_words : ToldBy → ℕ → ℕ → List ℕ
 told_words Both from to = codes ": both logs have it</title>"
 told_words Sender from to = codes ": only the log of " ++ (decimal from ++ codes " has it</title>")
 told_words Receiver from to = codes ": only the log of " ++ (decimal to ++ codes " has it</title>")
 
--- all of it in words, for the title
+-- a message in words, with its path and which logs have it, for the title
 unfoldable pub message_title : Arrow → List ℕ
 message_title x =
     message_words x.message.from x.message.to (length x.message.path) x.message.order
     ++ (path_words x.message.path ++ told_words x.told x.message.from x.message.to)
 
--- the order's number, at the middle of the line
+-- the order's number, at the middle of the message's line
 unfoldable pub order_label : Grid → ℕ → ℕ → ℕ → ℕ → List ℕ
 order_label grid from to round order =
     words_at (middle_at grid round order) (middle_of from to) ++ (decimal order ++ codes "</text></g>\n")
 
--- a message that some shown log has
+-- the arrow of a message that some shown log has
 unfoldable pub arrow_line : Grid → Arrow → List ℕ
 arrow_line grid x =
     arrow_opening x.told x.message.order

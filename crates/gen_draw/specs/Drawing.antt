@@ -1,4 +1,4 @@
--- Where a message stands in a picture: exactly where a shown log says so.
+-- Where a message stands in a picture: there if and only if a shown log says so.
 use Rattle.std.specs.Prelude.{ℕ, ◌≡◌, ◌⊎◌, ◌↔◌, List, Contains, Result, Ok}
 use Rattle.gen_net.specs.Header.{RunHeader}
 use Rattle.gen_net.specs.declared.message.Message.{Message}
@@ -15,7 +15,7 @@ use Rattle.gen_draw.specs.declared.arrow.ToldBy.TheVariants.{Both, Sender, Recei
 use Rattle.gen_draw.specs.Shown.{all_received, all_sent}
 use Rattle.gen_draw.specs.Telling.{arrows_between}
 
--- what is shown as the general's log reads as one that has the entry
+-- something that is shown as the general's log reads as a log that has the entry
 pub record HasEntry (h : RunHeader) (exhibits : List LogBytes) (general : ℕ) (entry : Entry) : Type 0 where
   pub exhibit : LogBytes
   pub shown : Contains exhibits exhibit
@@ -28,24 +28,25 @@ pub record HasEntry (h : RunHeader) (exhibits : List LogBytes) (general : ℕ) (
 abbrev pub SaysSent : RunHeader → List LogBytes → Message → Type 0
 SaysSent h exhibits m = HasEntry h exhibits m.from (Send m.to m.order m.path)
 
--- a shown log of its receiver has a RECV of it
+-- a shown log of its receiver has a RECV of the message
 pub record SaysReceived (h : RunHeader) (exhibits : List LogBytes) (m : Message) : Type 0 where
   pub chain : Chain
   pub order : chain.order ≡ m.order
   pub path : signed_path chain.signers ≡ m.path
   pub received : HasEntry h exhibits m.to (Recv m.from chain)
 
--- the messages that are drawn
+-- the arrows of the messages that the shown logs have
 abbrev pub arrows_of : RunHeader → List LogBytes → List Arrow
 arrows_of h exhibits = arrows_between (all_sent h exhibits) (all_received h exhibits)
 
--- the message is drawn, as one that these logs have
+-- the message is drawn as one that these logs have: Both, Sender or Receiver
 abbrev pub IsDrawn : RunHeader → List LogBytes → ToldBy → Message → Type 0
 IsDrawn h exhibits told m = Contains (arrows_of h exhibits) (record { message = m; told = told })
 
--- It is drawn as its sender's exactly where a shown log of his says that he sent it: solid where one of its
--- receiver says that he received it, and else dashed. And dashed as its receiver's exactly where his alone
--- has it.
+-- A message is drawn as one that its sender's log has (Both or Sender) if and only if a shown log of the
+-- sender says that it was sent. It is solid (Both) if a shown log of its receiver says that it was received,
+-- and else dashed. It is drawn dashed as Receiver if and only if a shown log of the receiver says that it was
+-- received and no shown log of the sender says that it was sent.
 pub record DrawsWhatLogsSay (h : RunHeader) (exhibits : List LogBytes) : Type 0 where
   pub sent : (m : Message) → (IsDrawn h exhibits Both m ⊎ IsDrawn h exhibits Sender m) ↔ SaysSent h exhibits m
   pub both : (m : Message) → IsDrawn h exhibits Both m ↔ (SaysSent h exhibits m × SaysReceived h exhibits m)
@@ -54,6 +55,6 @@ pub record DrawsWhatLogsSay (h : RunHeader) (exhibits : List LogBytes) : Type 0 
   pub receiver : (m : Message)
       → IsDrawn h exhibits Receiver m ↔ (SaysReceived h exhibits m × (SaysSent h exhibits m → ⊥))
 
--- so of each header and all that is shown under it
+-- this holds of each header and all that is shown under it
 abbrev pub MessagesStandWhereLogsSay : Type 0
 MessagesStandWhereLogsSay = (h : RunHeader) (exhibits : List LogBytes) → DrawsWhatLogsSay h exhibits

@@ -1,30 +1,29 @@
--- How far to the right things stand in a picture: rounds are columns.
+-- How far to the right things stand in a picture, in pixels from the left; rounds are columns.
 use Rattle.std.specs.Prelude.{ℕ, ◌+◌, ◌*◌}
 use Rattle.gen_draw.specs.declared.grid.Grid.{Grid}
 use Rattle.gen_draw.specs.Rows.{legend_row}
 
--- how far it is to the right from a message's beginning to its middle: the further, the more generals
--- there are
+-- the distance to the right from a message's beginning to its middle, which grows with the number of generals
 unfoldable pub half_reach : Grid → ℕ
 half_reach grid = 12 + 6 * grid.generals
 
--- how wide a round is: room for each order, for a message, and a gap
+-- the width of a round's column: room for each order and for a message, and a gap
 unfoldable pub round_width : Grid → ℕ
 round_width grid = 24 + 12 * grid.orders + 2 * half_reach grid
 
--- where a round begins; column 0 has the names, and the one behind the last round the decisions
+-- where a round's column begins; column 0 has the names, and the column after the last round the decisions
 unfoldable pub column_of : Grid → ℕ → ℕ
 column_of grid round = 16 + round_width grid * round
 
--- where the lines end
+-- where the lines of generals end
 abbrev pub end_of : Grid → ℕ
 end_of grid = column_of grid (grid.rounds + 1)
 
--- where the messages of an order begin in a round: beside those of the order before
+-- where the messages of an order begin in a round's column: to the right of those of the order before
 unfoldable pub lane_of : Grid → ℕ → ℕ → ℕ
 lane_of grid round order = column_of grid round + 8 + 12 * order
 
--- where such a message has its middle, and where it ends
+-- where the messages of an order in a round have their middle, and where they end
 abbrev pub middle_at : Grid → ℕ → ℕ → ℕ
 middle_at grid round order = lane_of grid round order + half_reach grid
 

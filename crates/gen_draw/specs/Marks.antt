@@ -1,4 +1,4 @@
--- What is found and who is convicted, where a picture says so.
+-- Findings, decisions and convictions, where a picture has them.
 use Rattle.std.specs.Prelude.{ℕ, Bool, false, ◌||◌, ◌==◌, ◌+◌, ◌*◌, if◌then◌else◌, List, [], ◌++◌, codes}
 use Rattle.std.specs.List.{flat_map}
 use Rattle.std.specs.Fmt.{decimal}
@@ -15,25 +15,27 @@ use Rattle.gen_draw.specs.Grid.{end_of, middle_at}
 use Rattle.gen_draw.specs.Rows.{end_row, middle_of, note_row}
 use Rattle.gen_draw.specs.Shapes.{words_at}
 
--- a finding in words, for the title
+-- a finding in words, as a title
 unfoldable pub found_front : List ℕ
 found_front = codes "<g class=\"found\"><title>"
 
 unfoldable pub found_opening : Finding → List ℕ
 found_opening finding = found_front ++ (finding_named finding ++ codes "</title>")
 
--- and to be read at a place
+-- a finding in words, to be read at a place
 unfoldable pub found_words : ℕ → ℕ → Finding → List ℕ
 found_words x y finding = words_at x y ++ (finding_named finding ++ codes "</text></g>\n")
 
--- a message that is found, marked along its line; of different orders the words stand below one another
+-- the mark of a finding about a message, along the message's line; the words of different orders stand below
+-- one another
 unfoldable pub found_message : Grid → ℕ → ℕ → ℕ → ℕ → Finding → List ℕ
 found_message grid from to round order finding =
     found_opening finding
     ++ (message_stroke grid from to round order
     ++ found_words (middle_at grid round order + 12) (middle_of from to + 11 * order) finding)
 
--- what is marked of a finding at a message, or on the page where nobody is of the rest
+-- the mark of a finding about a message, or of the finding that there is nobody of the rest; nothing for any
+-- other finding
 unfoldable pub message_mark : Grid → Finding → List ℕ
 message_mark grid (Missing general) = []
 message_mark grid (Several general) = []
@@ -49,7 +51,7 @@ message_mark grid (Underivable from to round order) =
 message_mark grid (Unjoined first second) = []
 message_mark grid Nobody = found_opening Nobody ++ found_words 16 64 Nobody
 
--- whether a finding is marked at a general
+-- whether a finding is marked at a general: it is about that general's log, or about a pair with that general
 abbrev pub is_about : ℕ → Finding → Bool
 is_about g (Missing general) = general == g
 is_about g (Several general) = general == g
@@ -63,7 +65,7 @@ is_about g (Underivable from to round order) = false
 is_about g (Unjoined first second) = first == g || second == g
 is_about g Nobody = false
 
--- what is found, in words behind others
+-- a finding in words, behind others on a line
 unfoldable pub found_span : Finding → List ℕ
 found_span finding =
     codes "<tspan class=\"found\" dx=\"8\"><title>" ++ (finding_named finding
@@ -82,7 +84,7 @@ decided_span general order =
 abbrev pub decided_at : ℕ → ℕ × ℕ → List ℕ
 decided_at g d = if d.0 == g then decided_span d.0 d.1 else []
 
--- by which kind of evidence somebody is convicted
+-- the kind of evidence by which a general is convicted
 unfoldable pub convicted_span : ℕ → ℕ → List ℕ
 convicted_span general kind =
     codes "<tspan class=\"found\" dx=\"8\"><title>general " ++ (decimal general
@@ -92,14 +94,14 @@ convicted_span general kind =
 abbrev pub convicted_at : ℕ → Accusation → List ℕ
 convicted_at g x = if x.accused == g then convicted_span x.accused (kind_of x.claim) else []
 
--- at the end of a general's line: what he decided, and behind it his conviction
+-- the words at the end of a general's line: its decision, and behind it its conviction
 unfoldable pub end_line : Grid → List (ℕ × ℕ) → List Accusation → ℕ → List ℕ
 end_line grid decided convictions general =
     words_at (end_of grid) (end_row general)
     ++ (flat_map (decided_at general) decided
     ++ (flat_map (convicted_at general) convictions ++ codes "</text>\n"))
 
--- below a general's line: what is found against him
+-- the words below a general's line: the findings that are marked at it
 unfoldable pub note_line : List Finding → ℕ → List ℕ
 note_line findings general =
     words_at 16 (note_row general) ++ (flat_map (found_at general) findings ++ codes "</text>\n")

@@ -1,4 +1,5 @@
--- What each picture of one size has: its beginning, the columns of rounds, the lines of generals, the legend.
+-- What every picture of one size has: the columns of rounds, the lines of generals, the legend and the heads
+-- of arrows.
 use Rattle.std.specs.Prelude.{ℕ, Bool, true, false, List, ◌++◌, ◌+◌, codes}
 use Rattle.std.specs.List.{flat_map, range_with_len}
 use Rattle.std.specs.Fmt.{decimal}
@@ -21,13 +22,13 @@ round_line grid round =
     ++ (stroke_between (column_of grid round) 64 (column_of grid round) (row_of grid.generals)
     ++ round_name grid round)
 
--- a general's line, and his number above it
+-- a general's line, and the general's number above it
 unfoldable pub life_of : Grid → ℕ → List ℕ
 life_of grid general =
     stroke_between 16 (row_of general) (end_of grid) (row_of general)
     ++ (words_at 16 (name_row general) ++ (codes "general " ++ (decimal general ++ codes "</text>")))
 
--- that somebody is held for faulty, in the title of his line and below the line
+-- the words that a general is held for faulty: in the title of its line, and below the line
 unfoldable pub held_opening : ℕ → List ℕ
 held_opening general =
     codes "<g class=\"faulty\"><title>general " ++ (decimal general ++ codes " is held for faulty</title>")
@@ -35,7 +36,7 @@ held_opening general =
 unfoldable pub held_note : ℕ → List ℕ
 held_note general = words_at 16 (note_row general) ++ codes "held for faulty</text></g>\n"
 
--- the line of a general; that of one who is held for faulty is grey, and says so
+-- the line of a general; that of a general that is held for faulty is grey and says so
 unfoldable pub general_line : Grid → Bool → ℕ → List ℕ
 general_line grid true general = held_opening general ++ (life_of grid general ++ held_note general)
 general_line grid false general =

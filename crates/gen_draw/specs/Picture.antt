@@ -23,11 +23,11 @@ use Rattle.gen_draw.specs.Shapes.{opening_of}
 use Rattle.gen_draw.specs.Shown.{all_decided}
 use Rattle.gen_draw.specs.Style.{style}
 
--- how large the picture of a network's run is
+-- the size of the picture of a network's run: its generals, orders and rounds
 unfoldable pub grid_of : Network → Grid
 grid_of net = record { generals = net.generals; orders = net.orders; rounds = rounds net }
 
--- which run it is, by the 64 digits of its id: as the title of the whole, and to be read
+-- the run id in 64 hexadecimal digits: as the title of the picture, and as words to be read
 unfoldable pub run_title : List ℕ → List ℕ
 run_title digits = codes "<title>run " ++ (digits ++ codes "</title>\n")
 
@@ -37,7 +37,7 @@ run_words digits = codes "<text x=\"16\" y=\"24\">run " ++ (digits ++ codes "</t
 abbrev pub run_heading : RunHeader → List ℕ
 run_heading h = run_title (encode_lower (run_id_of h)) ++ run_words (encode_lower (run_id_of h))
 
--- the verdict
+-- the verdict in words, without its findings
 unfoldable pub agreed_heading : ℕ → List ℕ
 agreed_heading order =
     codes "<text x=\"16\" y=\"44\"><title>the verdict</title>verdict agreed "
@@ -54,13 +54,13 @@ verdict_heading (Agreed order) = agreed_heading order
 verdict_heading (Explained decisions) = explained_heading
 verdict_heading (No findings) = no_heading
 
--- what is found
+-- the findings of a verdict; none if the verdict is a yes
 abbrev pub findings_in : Verdict → List Finding
 findings_in (Agreed order) = []
 findings_in (Explained decisions) = []
 findings_in (No findings) = findings
 
--- the lines of all generals, what stands at their ends, and what stands below them
+-- the lines of all generals, the words at their ends, and the words below them
 unfoldable pub line_in : Network → List ℕ → ℕ → List ℕ
 line_in net faulty general = general_line (grid_of net) (is_among faulty general) general
 
@@ -74,7 +74,7 @@ end_lines grid generals decided convictions =
 abbrev pub note_lines : Network → List Finding → List ℕ
 note_lines net findings = flat_map (note_line findings) (range_with_len 0 net.generals)
 
--- what the lines mean, and the end
+-- the words that say what the lines mean, and the end of the text
 unfoldable pub legend_opening : Grid → List ℕ
 legend_opening grid =
     codes "<g transform=\"translate(160 " ++ (decimal (legend_word_row grid.generals 0) ++ codes ")\">\n")
@@ -86,11 +86,11 @@ closing =
     codes "<text y=\"18\" class=\"faulty\">grey: held for faulty</text>\n" ++ (
     codes "<text y=\"36\" class=\"found\">red: found by the audit, or convicted</text></g>\n</svg>\n"))
 
--- the page: its beginning, how things look, and the heads of arrows
+-- the beginning of the page: its size, its style and the heads of arrows
 unfoldable pub page_front : Grid → List ℕ
 page_front grid = opening_of (width_of grid) (height_of grid) ++ (style ++ heads_of grid)
 
--- which run it is, and the verdict
+-- the run id and the verdict
 unfoldable pub heading : RunHeader → Verdict → List ℕ
 heading h verdict = run_heading h ++ verdict_heading verdict
 
@@ -98,30 +98,31 @@ heading h verdict = run_heading h ++ verdict_heading verdict
 unfoldable pub frame : Network → List ℕ → List ℕ
 frame net faulty = round_lines (grid_of net) ++ general_lines net faulty
 
--- the messages, and over them those that are found
+-- the messages, and over them the findings at messages
 unfoldable pub story : RunHeader → List LogBytes → Verdict → List ℕ
 story h exhibits verdict =
     flat_map (arrow_line (grid_of h.network)) (arrows_of h exhibits)
     ++ flat_map (message_mark (grid_of h.network)) (findings_in verdict)
 
--- what each general decided, who is convicted, and what is found against whom
+-- what each general decided, which generals are convicted, and what is found against each
 unfoldable pub notes : RunHeader → List LogBytes → Verdict → List Accusation → List ℕ
 notes h exhibits verdict convictions =
     end_lines (grid_of h.network) h.network.generals (all_decided h exhibits) convictions
     ++ note_lines h.network (findings_in verdict)
 
--- the legend, and the end
+-- the legend of orders, the words that say what the lines mean, and the end of the text
 unfoldable pub page_back : Grid → List ℕ
 page_back grid = legend_lines grid ++ (legend_opening grid ++ closing)
 
--- what a picture says of a header, those held for faulty, what is shown as logs, the verdict and the
--- convictions, and its end
+-- what a picture says of a header, the generals held for faulty, the shown logs, the verdict and the
+-- convictions, and the end of the text
 unfoldable pub run_part : RunHeader → List ℕ → List LogBytes → Verdict → List Accusation → List ℕ
 run_part h faulty exhibits verdict convictions =
     heading h verdict ++ (frame h.network faulty ++ (story h exhibits verdict
     ++ (notes h exhibits verdict convictions ++ page_back (grid_of h.network))))
 
--- The picture of all that: the page, and what it says.
+-- the picture of a header, the generals held for faulty, the shown logs, the verdict and the convictions: the
+-- beginning of the page, and what the picture says
 unfoldable pub picture : RunHeader → List ℕ → List LogBytes → Verdict → List Accusation → List ℕ
 picture h faulty exhibits verdict convictions =
     page_front (grid_of h.network) ++ run_part h faulty exhibits verdict convictions

@@ -17,31 +17,33 @@ use Rattle.gen_draw.specs.Picture.{grid_of, run_part}
 use Rattle.gen_draw.specs.Shapes.{opening_of}
 use Rattle.gen_draw.specs.Style.{style}
 
--- how large the picture of a bundle is
+-- the size of the picture of a bundle: its generals, orders and rounds
 abbrev pub grid_in : Bundle → Grid
 grid_in b = grid_of b.header.network
 
--- how far down the pictures end of which the first begins at a height
+-- how far down the pictures of bundles end, if the first begins at a height
 abbrev pub bottom_from : ℕ → List Bundle → ℕ
 bottom_from down [] = down
 bottom_from down (b ∷ bundles) = bottom_from (down + height_of (grid_in b)) bundles
 
--- the width of the widest, where it is more than this one
+-- the greater of two widths
 abbrev pub wider : ℕ → ℕ → ℕ
 wider width other = if nat_le width other then other else width
 
+-- the width of the widest picture of bundles, or this width if it is greater
 abbrev pub widest_from : ℕ → List Bundle → ℕ
 widest_from width [] = width
 widest_from width (b ∷ bundles) = widest_from (wider width (width_of (grid_in b))) bundles
 
--- the height of the lines of those who are convicted across runs: there are at most 16
+-- the number of lines for generals that are convicted across runs: at most 16
 abbrev pub lines_for : ℕ → ℕ
 lines_for count = if nat_le count 16 then count else 16
 
+-- the height of the lines of the generals that are convicted across runs
 unfoldable pub across_height : ℕ → ℕ
 across_height count = 24 + 18 * lines_for count
 
--- a run at a height
+-- the picture of a run at a height
 unfoldable pub run_opening : ℕ → List ℕ
 run_opening down = codes "<g transform=\"translate(0 " ++ (decimal down ++ codes ")\">\n")
 
@@ -50,49 +52,50 @@ run_at down b j =
     run_opening down ++ (opening_of (width_of (grid_in b)) (height_of (grid_in b))
     ++ (run_part b.header b.faulty b.exhibits j.verdict (map told_of j.convictions.items) ++ codes "</g>\n"))
 
--- the runs, each below the one before it, as far as there are judgements
+-- the pictures of runs, each below the one before it, as far as there are judgements
 abbrev pub runs_from : ℕ → List Bundle → List Judgement → List ℕ
 runs_from down [] judgements = []
 runs_from down (b ∷ bundles) [] = []
 runs_from down (b ∷ bundles) (j ∷ judgements) =
     run_at down b j ++ runs_from (down + height_of (grid_in b)) bundles judgements
 
--- the place of the first run with this header, counted from 0
+-- the place of the first run with this header, counted from 0; none if there is no such run
 abbrev pub place_with : List Bundle → RunHeader → Option ℕ
 place_with bundles h = position (λ b. same_header b.header h) bundles
 
--- a run by its place, where it has one
+-- the place of a run in words, if it has one
 abbrev pub place_words : Option ℕ → List ℕ
 place_words None = []
 place_words (Some place) = codes " " ++ decimal place
 
--- who is convicted, and by what
+-- which general is convicted, and by which kind of claim
 unfoldable pub convicted_words : ℕ → ℕ → List ℕ
 convicted_words accused kind =
     codes "general " ++ (decimal accused ++ (codes " is convicted by K" ++ decimal kind))
 
--- across which runs
+-- the places of the two runs that a claim is across; nothing for a claim within one run
 unfoldable pub across_words : List Bundle → Claim → List ℕ
 across_words bundles (AcrossRuns x y) =
     codes " across"
     ++ (place_words (place_with bundles x.header) ++ place_words (place_with bundles y.header))
 across_words bundles claim = []
 
--- the kind by which the verdict names a claim: two texts under one leaf are the first across two runs too
+-- the kind by which the verdict names a claim: two texts under one leaf are of kind 1 across two runs too
 abbrev pub kind_across : Claim → ℕ
 kind_across (AcrossRuns x y) = 1
 kind_across claim = kind_of claim
 
--- both, as a title and to be read
+-- which general is convicted, by which kind of claim, and across which runs
 abbrev pub both_words : List Bundle → Accusation → List ℕ
 both_words bundles x = convicted_words x.accused (kind_across x.claim) ++ across_words bundles x.claim
 
+-- the line of a general that is convicted across runs, with a title
 unfoldable pub across_span : List Bundle → Accusation → List ℕ
 across_span bundles x =
     codes "<tspan class=\"found\" x=\"16\" dy=\"18\"><title>" ++ (both_words bundles x
     ++ (codes "</title>" ++ (both_words bundles x ++ codes "</tspan>\n")))
 
--- below the runs, those who are convicted across them
+-- below the runs, the generals that are convicted across them, and the end of the text
 unfoldable pub across_opening : ℕ → List ℕ
 across_opening down = codes "<text x=\"16\" y=\"" ++ (decimal down ++ codes "\">\n")
 
@@ -100,20 +103,22 @@ unfoldable pub across_part : ℕ → List Bundle → List Accusation → List �
 across_part down bundles across =
     across_opening down ++ (flat_map (across_span bundles) across ++ codes "</text>\n</svg>\n")
 
--- the heads of arrows for all orders that there may be
+-- the heads of arrows for all orders that a run can have
 abbrev pub all_heads : List ℕ
 all_heads = heads_of (record { generals = 16; orders = 15; rounds = 16 })
 
+-- the number of runs, as the title of the picture
 unfoldable pub several_title : ℕ → List ℕ
 several_title count = codes "<title>campaign of " ++ (decimal count ++ codes " runs</title>\n")
 
--- the page: its beginning, how things look, the heads of arrows, and how many runs there are
+-- the beginning of the page: its size, its style, the heads of arrows, and the number of runs
 unfoldable pub several_front : List Bundle → ℕ → List ℕ
 several_front bundles convicted =
     opening_of (widest_from 0 bundles) (bottom_from 0 bundles + across_height convicted)
     ++ (style ++ (all_heads ++ several_title (length bundles)))
 
--- The picture of a campaign: of its bundles, the judgements on them, and those who are convicted across runs.
+-- The picture of a campaign: of its bundles, the judgements on them, and the generals that are convicted
+-- across runs.
 unfoldable pub several_picture : List Bundle → List Judgement → List Accusation → List ℕ
 several_picture bundles judgements across =
     several_front bundles (length across)

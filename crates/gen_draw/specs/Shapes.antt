@@ -1,8 +1,8 @@
--- Shapes, by where they stand.
+-- The shapes of a picture, and its beginning.
 use Rattle.std.specs.Prelude.{ℕ, List, ◌++◌, codes}
 use Rattle.std.specs.Fmt.{decimal}
 
--- a picture of a width and a height begins
+-- the beginning of a picture of a width and a height, in pixels
 unfoldable pub opening_of : ℕ → ℕ → List ℕ
 opening_of width height =
     codes "<svg xmlns=\"http://www.w3.org/2000/svg\" width=\"" ++ (decimal width
@@ -15,7 +15,7 @@ stroke_between x y to_x to_y =
     codes "<path d=\"M" ++ (decimal x ++ (codes " " ++ (decimal y
     ++ (codes "L" ++ (decimal to_x ++ (codes " " ++ (decimal to_y ++ codes "\"/>")))))))
 
--- words at a place begin
+-- the beginning of words that stand at a place
 unfoldable pub words_at : ℕ → ℕ → List ℕ
 words_at x y = codes "<text x=\"" ++ (decimal x ++ (codes "\" y=\"" ++ (decimal y ++ codes "\">")))
 

@@ -2,7 +2,7 @@
 -- dark ones.
 use Rattle.std.specs.Prelude.{ℕ, List, ◌++◌, codes}
 
--- lines, words and arrow heads; grey for those held for faulty, red for findings
+-- the style of lines, words and arrow heads: grey for generals that are held for faulty, red for findings
 unfoldable pub plain_style : List ℕ
 plain_style =
     codes "<style>\n" ++ (
@@ -15,7 +15,7 @@ plain_style =
     codes ".both text,.alone text,.found text,tspan.found{font-size:11px}\n" ++ (
     codes ".both text,.alone text,.found text{stroke:#fff;stroke-width:3;paint-order:stroke}\n")))))))
 
--- the colours of orders
+-- the colours of orders on a light page
 unfoldable pub light_style : List ℕ
 light_style =
     codes ".o0{color:#0072b2;marker-end:url(#h0)}.o1{color:#d07b00;marker-end:url(#h1)}\n" ++ (
@@ -27,7 +27,7 @@ light_style =
     codes ".o12{color:#dd00bb;marker-end:url(#h12)}.o13{color:#553377;marker-end:url(#h13)}\n" ++ (
     codes ".o14{color:#003333;marker-end:url(#h14)}\n")))))))
 
--- the colours on a dark page, and the page
+-- the colours on a dark page, and the page's background
 unfoldable pub dark_style : List ℕ
 dark_style =
     codes "@media(prefers-color-scheme:dark){\n" ++ (
@@ -42,6 +42,6 @@ dark_style =
     codes "</style>\n" ++ (
     codes "<rect class=\"page\" width=\"100%\" height=\"100%\"/>\n"))))))))))
 
--- all of it
+-- the style of all parts
 abbrev pub style : List ℕ
 style = plain_style ++ (light_style ++ dark_style)

@@ -1,14 +1,14 @@
-//! Messages as they are drawn.
+//! Messages as a picture draws them.
 use gen_net::Message;
 
-/// Which of the logs of its sender and its receiver have a message.
+/// Which logs have a message: those of its sender and of its receiver.
 #[derive(Clone, Copy, Debug, PartialEq, Eq)]
 pub enum ToldBy {
-    /// Both have it.
+    /// Logs of both have it.
     Both,
-    /// The sender's alone.
+    /// Only a log of the sender has it.
     Sender,
-    /// The receiver's alone.
+    /// Only a log of the receiver has it.
     Receiver,
 }
 

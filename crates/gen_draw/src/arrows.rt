@@ -1,4 +1,4 @@
-//! The lines of messages.
+//! The arrows of messages.
 ghost use Rattle.std.specs.Prelude.{◌≡◌, ◌++◌, OnOk, length, string_bytes};
 ghost use Rattle.std.specs.List.{flat_map};
 ghost use Rattle.gen_draw.specs.Arrows.{
@@ -20,7 +20,7 @@ use gen_net::Message;
 use gen_types::GeneralNo;
 use std::alloc::AllocError;
 
-/// Appends the line of a message from its sender to its receiver.
+/// Appends the line of a message from its sender's line to its receiver's.
 #[tactic(auto, unfolding(crate::specs::Arrows::message_stroke))]
 pub fn push_message_stroke(
     out: &mut String,
@@ -37,7 +37,7 @@ pub fn push_message_stroke(
     push_stroke(out, x, row_of(from), grid.tip(round, order), row_of(to))
 }
 
-/// Appends the beginning of a message's line: solid or dashed, and in the colour of the order.
+/// Appends the beginning of a message's arrow, which says whether it is solid or dashed, and the colour of its order.
 #[tactic(auto, unfolding(crate::specs::Arrows::arrow_opening))]
 fn push_arrow_opening(out: &mut String, told: ToldBy, order: u8) -> Result<(), AllocError>
     ensures { OnOk result
@@ -50,7 +50,7 @@ fn push_arrow_opening(out: &mut String, told: ToldBy, order: u8) -> Result<(), A
     }
 }
 
-/// Appends a message in words.
+/// Appends a message in words, without its path: its sender, receiver, round and order.
 #[tactic(auto, unfolding(crate::specs::Arrows::message_words))]
 fn push_message_words(
     out: &mut String,
@@ -65,7 +65,7 @@ fn push_message_words(
     write!(out, "from {from} to {to} round {round} order {order} path")
 }
 
-/// Appends a path in words.
+/// Appends the generals of a path in words.
 fn push_path(out: &mut String, generals: &[GeneralNo]) -> Result<(), AllocError>
     ensures { OnOk result
         (string_bytes out.new ≡ string_bytes out.old ++ path_words generals.now) }
@@ -77,7 +77,7 @@ fn push_path(out: &mut String, generals: &[GeneralNo]) -> Result<(), AllocError>
     Ok(())
 }
 
-/// Appends which logs have a message.
+/// Appends in words which logs have a message.
 #[tactic(auto, unfolding(crate::specs::Arrows::told_words))]
 fn push_told(out: &mut String, told: ToldBy, from: u8, to: u8) -> Result<(), AllocError>
     ensures { OnOk result
@@ -97,7 +97,7 @@ fn round_of(message: &Message) -> u16
     message.path.len() as u16
 }
 
-/// Appends all of a message in words.
+/// Appends a message in words, with its path and which logs have it.
 #[tactic(auto, unfolding(crate::specs::Arrows::message_title))]
 fn push_title(out: &mut String, arrow: &Arrow) -> Result<(), AllocError>
     ensures { OnOk result
@@ -116,7 +116,7 @@ fn push_title(out: &mut String, arrow: &Arrow) -> Result<(), AllocError>
     push_told(out, arrow.told, from, to)
 }
 
-/// Appends an order's number at the middle of a message's line.
+/// Appends the number of a message's order, at the middle of its line.
 #[tactic(auto, unfolding(crate::specs::Arrows::order_label))]
 fn push_label(
     out: &mut String,
@@ -133,7 +133,7 @@ fn push_label(
     write!(out, "{order}</text></g>\n")
 }
 
-/// Appends a message that some shown log has.
+/// Appends the arrow of a message that some shown log has.
 #[tactic(auto, unfolding(crate::specs::Arrows::arrow_line))]
 fn push_arrow(out: &mut String, grid: Grid, arrow: &Arrow) -> Result<(), AllocError>
     ensures { OnOk result
@@ -149,7 +149,7 @@ fn push_arrow(out: &mut String, grid: Grid, arrow: &Arrow) -> Result<(), AllocEr
     push_label(out, grid, from, to, round, order)
 }
 
-/// Appends the messages that shown logs have.
+/// Appends the arrows of the messages that shown logs have.
 pub fn push_arrows(out: &mut String, grid: Grid, arrows: &[Arrow]) -> Result<(), AllocError>
     ensures { OnOk result
         (string_bytes out.new ≡ string_bytes out.old ++ flat_map (arrow_line grid) arrows.now) }

@@ -1,9 +1,9 @@
-//! How far to the right things stand in a picture.
+//! How far to the right things stand in a picture, in pixels from the left.
 ghost use Rattle.std.specs.Prelude.{◌≡◌, ◌<◌, ◌+◌, ◌^◌};
 
 use crate::rows::legend_row;
 
-/// How large a picture is: its generals, its orders and its rounds.
+/// The size of a picture: the numbers of its generals, its orders and its rounds.
 #[derive(Clone, Copy, Debug)]
 pub struct Grid {
     /// How many generals there are.
@@ -17,7 +17,7 @@ pub struct Grid {
 impl Grid {
     ghost use Rattle.gen_draw.specs.Grid.{column_of, end_of, half_reach, height_of, lane_of, middle_at, round_width, tip_at, width_of};
 
-    /// Returns how far it is to the right from a message's beginning to its middle.
+    /// Returns the distance to the right from a message's beginning to its middle.
     #[tactic(auto, unfolding(crate::specs::Grid::half_reach))]
     fn half_reach(self) -> u32
         ensures value { result ≡ half_reach self }
@@ -26,7 +26,7 @@ impl Grid {
         12 + 6 * u32::from(self.generals)
     }
 
-    /// Returns how wide a round is.
+    /// Returns the width of a round's column.
     #[tactic(auto, unfolding(crate::specs::Grid::round_width))]
     fn round_width(self) -> u32
         ensures value { result ≡ round_width self }
@@ -35,7 +35,7 @@ impl Grid {
         24 + 12 * u32::from(self.orders) + 2 * self.half_reach()
     }
 
-    /// Returns where a round begins.
+    /// Returns where a round's column begins.
     #[tactic(auto, unfolding(crate::specs::Grid::column_of))]
     pub fn column(self, round: u16) -> u32
         ensures value { result ≡ column_of self round }
@@ -44,7 +44,7 @@ impl Grid {
         16 + self.round_width() * u32::from(round)
     }
 
-    /// Returns where the lines end.
+    /// Returns where the lines of generals end.
     pub fn end(self) -> u32
         ensures value { result ≡ end_of self }
         ensures small { result < 2 ^ 30 + 16 }
@@ -52,7 +52,7 @@ impl Grid {
         self.column(u16::from(self.rounds) + 1)
     }
 
-    /// Returns where the messages of an order begin in a round.
+    /// Returns where the messages of an order begin in a round's column.
     #[tactic(auto, unfolding(crate::specs::Grid::lane_of))]
     pub fn lane(self, round: u16, order: u8) -> u32
         ensures value { result ≡ lane_of self round order }
@@ -61,7 +61,7 @@ impl Grid {
         self.column(round) + 8 + 12 * u32::from(order)
     }
 
-    /// Returns where a message of an order in a round has its middle.
+    /// Returns where the messages of an order in a round have their middle.
     pub fn middle(self, round: u16, order: u8) -> u32
         ensures value { result ≡ middle_at self round order }
         ensures small { result < 2 ^ 31 }
@@ -69,7 +69,7 @@ impl Grid {
         self.lane(round, order) + self.half_reach()
     }
 
-    /// Returns where a message of an order in a round ends.
+    /// Returns where the messages of an order in a round end.
     pub fn tip(self, round: u16, order: u8) -> u32
         ensures { result ≡ tip_at self round order }
     {

@@ -1,12 +1,12 @@
-//! What pictures say of logs.
+//! What pictures say of logs, as a law.
 ghost use Rattle.gen_draw.specs.Drawing.{MessagesStandWhereLogsSay};
 
-/// A message stands in a picture as its sender's exactly where a shown log of his says that he sent it: with
-/// a solid line where a shown log of its receiver says that he received it, and else with a dashed one. And
-/// it stands there with a dashed line as its receiver's exactly where a log of his says that he received it,
-/// and none of its sender's that he sent it.
+/// A message is drawn as one that its sender's log has (`Both` or `Sender`) if and only if a shown log of the sender
+/// says that it was sent. Its line is then solid if a shown log of its receiver says that it was received (`Both`), and
+/// else dashed. A message is drawn as `Receiver`, with a dashed line, if and only if a shown log of the receiver says
+/// that it was received and no shown log of the sender says that it was sent.
 ///
-/// A law: a function with an empty body, whose caller knows what it ensures.
+/// This is a law: a function with an empty body, whose caller knows what it ensures.
 pub fn messages_stand_where_logs_say()
     ensures { MessagesStandWhereLogsSay }
 {}

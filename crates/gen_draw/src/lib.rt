@@ -1,11 +1,11 @@
 //! The picture of a run as its logs tell it, and of the judgement on it, as an SVG text.
 //!
-//! Generals are lines from left to right and rounds are columns; each message that a shown log has is an
-//! arrow from its sender's line to its receiver's, and findings, decisions and convictions stand where they
-//! belong.
+//! Generals are lines from left to right and rounds are columns. Each message that a shown log has is an arrow from its
+//! sender's line to its receiver's. Findings, decisions and convictions stand at the generals and messages that they
+//! are about.
 //!
-//! What is promised: the text, line for line (`draw`), and that a message stands in it exactly where a shown
-//! log says so (`laws`). What is not: how a browser shows it.
+//! What is promised: the text, line for line (`draw`), and that a message stands in it if and only if a shown log says
+//! so (`laws`). What is not promised: how a browser shows it.
 #![tactic(auto)]
 
 mod arrow;

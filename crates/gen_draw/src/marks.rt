@@ -1,4 +1,4 @@
-//! What is found and who is convicted, where a picture says so.
+//! Findings, decisions and convictions, where a picture has them.
 ghost use Rattle.std.specs.Prelude.{◌≡◌, ◌++◌, OnOk, map, string_bytes};
 ghost use Rattle.std.specs.List.{flat_map};
 ghost use Rattle.gen_convict.specs.Evidence.{told_of};
@@ -29,7 +29,7 @@ use gen_report::push_finding_name;
 use gen_types::{GeneralNo, OrderNo};
 use std::alloc::AllocError;
 
-/// Appends the beginning of a finding.
+/// Appends the beginning of a marked finding.
 #[tactic(auto, unfolding(crate::specs::Marks::found_front))]
 fn push_found_front(out: &mut String) -> Result<(), AllocError>
     ensures { OnOk result (string_bytes out.new ≡ string_bytes out.old ++ found_front) }
@@ -37,7 +37,7 @@ fn push_found_front(out: &mut String) -> Result<(), AllocError>
     out.push_str("<g class=\"found\"><title>")
 }
 
-/// Appends a finding in words, for the title.
+/// Appends a finding in words, as a title.
 #[tactic(auto, unfolding(crate::specs::Marks::found_opening))]
 fn push_found_opening(out: &mut String, finding: &Finding) -> Result<(), AllocError>
     ensures { OnOk result (string_bytes out.new ≡ string_bytes out.old ++ found_opening finding.now) }
@@ -47,7 +47,7 @@ fn push_found_opening(out: &mut String, finding: &Finding) -> Result<(), AllocEr
     out.push_str("</title>")
 }
 
-/// Appends a finding to be read at a place.
+/// Appends a finding in words to be read at a place.
 #[tactic(auto, unfolding(crate::specs::Marks::found_words))]
 fn push_found_words(out: &mut String, x: u32, y: u32, finding: &Finding) -> Result<(), AllocError>
     ensures { OnOk result (string_bytes out.new ≡ string_bytes out.old ++ found_words x y finding.now) }
@@ -57,7 +57,7 @@ fn push_found_words(out: &mut String, x: u32, y: u32, finding: &Finding) -> Resu
     out.push_str("</text></g>\n")
 }
 
-/// Appends a message that is found, marked along its line.
+/// Appends the mark of a finding about a message, along the message's line.
 #[tactic(auto, unfolding(crate::specs::Marks::found_message))]
 fn push_found_message(
     out: &mut String,
@@ -81,7 +81,8 @@ fn push_found_message(
     push_found_words(out, x, middle_of(from, to) + 11 * u32::from(order), finding)
 }
 
-/// Appends what is marked of a finding at a message, or on the page where nobody is of the rest.
+/// Appends the mark of a finding about a message, or of the finding that there is nobody of the rest; nothing for any
+/// other finding.
 #[tactic(auto, unfolding(crate::specs::Marks::message_mark))]
 fn push_message_mark(out: &mut String, grid: Grid, finding: &Finding) -> Result<(), AllocError>
     ensures { OnOk result
@@ -115,7 +116,7 @@ fn push_message_mark(out: &mut String, grid: Grid, finding: &Finding) -> Result<
     }
 }
 
-/// Appends what is marked of findings at messages.
+/// Appends the marks of the findings about messages, and of the finding that there is nobody of the rest.
 pub fn push_message_marks(
     out: &mut String,
     grid: Grid,
@@ -130,7 +131,7 @@ pub fn push_message_marks(
     Ok(())
 }
 
-/// Returns whether a finding is marked at a general.
+/// Returns whether a finding is marked at a general: it is about that general's log, or about a pair with that general.
 fn is_about(general: GeneralNo, finding: &Finding) -> bool
     ensures { result ≡ is_about general finding.now }
 {
@@ -147,7 +148,7 @@ fn is_about(general: GeneralNo, finding: &Finding) -> bool
     }
 }
 
-/// Appends what is found, in words behind others.
+/// Appends a finding in words, behind others on a line.
 #[tactic(auto, unfolding(crate::specs::Marks::found_span))]
 fn push_found_span(out: &mut String, finding: &Finding) -> Result<(), AllocError>
     ensures { OnOk result (string_bytes out.new ≡ string_bytes out.old ++ found_span finding.now) }
@@ -159,7 +160,7 @@ fn push_found_span(out: &mut String, finding: &Finding) -> Result<(), AllocError
     out.push_str("</tspan>")
 }
 
-/// Appends what is found, if it is marked at this general.
+/// Appends a finding in words, if it is marked at this general.
 fn push_found_at(out: &mut String, general: GeneralNo, finding: &Finding) -> Result<(), AllocError>
     ensures { OnOk result
         (string_bytes out.new ≡ string_bytes out.old ++ found_at general finding.now) }
@@ -171,7 +172,7 @@ fn push_found_at(out: &mut String, general: GeneralNo, finding: &Finding) -> Res
     }
 }
 
-/// Appends what is found that is marked at this general.
+/// Appends the findings that are marked at this general.
 fn push_found(out: &mut String, general: GeneralNo, findings: &[Finding]) -> Result<(), AllocError>
     ensures { OnOk result
         (string_bytes out.new ≡ string_bytes out.old ++ flat_map (found_at general) findings.now) }
@@ -182,7 +183,7 @@ fn push_found(out: &mut String, general: GeneralNo, findings: &[Finding]) -> Res
     Ok(())
 }
 
-/// Appends what a general decided.
+/// Appends in words what a general decided.
 #[tactic(auto, unfolding(crate::specs::Marks::decided_span))]
 fn push_decided_span(out: &mut String, general: u8, order: u8) -> Result<(), AllocError>
     ensures { OnOk result
@@ -194,7 +195,7 @@ fn push_decided_span(out: &mut String, general: u8, order: u8) -> Result<(), All
     )
 }
 
-/// Appends what was decided, if it was by this general.
+/// Appends a decision in words, if it is this general's.
 fn push_decided_at(
     out: &mut String,
     general: GeneralNo,
@@ -210,7 +211,7 @@ fn push_decided_at(
     }
 }
 
-/// Appends what this general decided.
+/// Appends the decisions of this general among these.
 fn push_decided(
     out: &mut String,
     general: GeneralNo,
@@ -225,7 +226,7 @@ fn push_decided(
     Ok(())
 }
 
-/// Appends by which kind of evidence somebody is convicted.
+/// Appends by which kind of evidence a general is convicted.
 #[tactic(auto, unfolding(crate::specs::Marks::convicted_span))]
 fn push_convicted_span(out: &mut String, general: u8, kind: u8) -> Result<(), AllocError>
     ensures { OnOk result
@@ -237,7 +238,7 @@ fn push_convicted_span(out: &mut String, general: u8, kind: u8) -> Result<(), Al
     )
 }
 
-/// Appends a conviction, if it is this general's.
+/// Appends a conviction in words, if it is this general's.
 fn push_convicted_at(
     out: &mut String,
     general: GeneralNo,
@@ -253,7 +254,7 @@ fn push_convicted_at(
     }
 }
 
-/// Appends the convictions of this general.
+/// Appends the convictions of this general among these.
 fn push_convicted(
     out: &mut String,
     general: GeneralNo,
@@ -268,7 +269,7 @@ fn push_convicted(
     Ok(())
 }
 
-/// Appends what stands at the end of a general's line.
+/// Appends the words at the end of a general's line: its decision and its conviction.
 #[tactic(auto, unfolding(crate::specs::Marks::end_line))]
 pub fn push_end(
     out: &mut String,
@@ -286,7 +287,7 @@ pub fn push_end(
     out.push_str("</text>\n")
 }
 
-/// Appends what stands below a general's line.
+/// Appends the words below a general's line: the findings that are marked at it.
 #[tactic(auto, unfolding(crate::specs::Marks::note_line))]
 pub fn push_note(
     out: &mut String,

@@ -1,4 +1,4 @@
-//! What each picture of one size has.
+//! What every picture of one size has: heads of arrows, columns, lines and the legend.
 ghost use Rattle.std.specs.Prelude.{◌≡◌, ◌++◌, OnOk, string_bytes};
 ghost use Rattle.gen_draw.specs.Page.{
   general_line,
@@ -32,7 +32,7 @@ pub fn push_heads(out: &mut String, grid: Grid) -> Result<(), AllocError>
     Ok(())
 }
 
-/// Appends the beginning of a round's column.
+/// Appends the beginning of a round's column, with its title.
 #[tactic(auto, unfolding(crate::specs::Page::round_opening))]
 fn push_round_opening(out: &mut String, round: u16) -> Result<(), AllocError>
     ensures { OnOk result (string_bytes out.new ≡ string_bytes out.old ++ round_opening round) }
@@ -71,7 +71,7 @@ pub fn push_rounds(out: &mut String, grid: Grid) -> Result<(), AllocError>
     Ok(())
 }
 
-/// Appends a general's line, and his number above it.
+/// Appends a general's line, and the general's number above it.
 #[tactic(auto, unfolding(crate::specs::Page::life_of))]
 fn push_life(out: &mut String, grid: Grid, general: u8) -> Result<(), AllocError>
     ensures { OnOk result (string_bytes out.new ≡ string_bytes out.old ++ life_of grid general) }
@@ -82,7 +82,7 @@ fn push_life(out: &mut String, grid: Grid, general: u8) -> Result<(), AllocError
     write!(out, "general {general}</text>")
 }
 
-/// Appends the beginning of the line of one who is held for faulty.
+/// Appends the beginning of the line of a general that is held for faulty.
 #[tactic(auto, unfolding(crate::specs::Page::held_opening))]
 fn push_held_opening(out: &mut String, general: u8) -> Result<(), AllocError>
     ensures { OnOk result (string_bytes out.new ≡ string_bytes out.old ++ held_opening general) }
@@ -93,7 +93,7 @@ fn push_held_opening(out: &mut String, general: u8) -> Result<(), AllocError>
     )
 }
 
-/// Appends the note below the line of one who is held for faulty.
+/// Appends the note below the line of a general that is held for faulty.
 #[tactic(auto, unfolding(crate::specs::Page::held_note))]
 fn push_held_note(out: &mut String, general: u8) -> Result<(), AllocError>
     ensures { OnOk result (string_bytes out.new ≡ string_bytes out.old ++ held_note general) }
@@ -102,7 +102,7 @@ fn push_held_note(out: &mut String, general: u8) -> Result<(), AllocError>
     out.push_str("held for faulty</text></g>\n")
 }
 
-/// Appends the line of a general.
+/// Appends the line of a general, with a title; that of a general that is held for faulty is grey and says so.
 #[tactic(auto, unfolding(crate::specs::Page::general_line))]
 pub fn push_general(out: &mut String, grid: Grid, held: bool, general: u8) -> Result<(), AllocError>
     ensures { OnOk result
@@ -119,7 +119,7 @@ pub fn push_general(out: &mut String, grid: Grid, held: bool, general: u8) -> Re
     }
 }
 
-/// Appends the beginning of an order of the legend.
+/// Appends the beginning of an order in the legend, with its title.
 #[tactic(auto, unfolding(crate::specs::Page::order_opening))]
 fn push_order_opening(out: &mut String, order: u8) -> Result<(), AllocError>
     ensures { OnOk result (string_bytes out.new ≡ string_bytes out.old ++ order_opening order) }
@@ -127,7 +127,7 @@ fn push_order_opening(out: &mut String, order: u8) -> Result<(), AllocError>
     write!(out, "<g class=\"o{order}\"><title>order {order}</title>")
 }
 
-/// Appends the number of an order of the legend.
+/// Appends the number of an order in the legend.
 #[tactic(auto, unfolding(crate::specs::Page::order_name))]
 fn push_order_name(out: &mut String, generals: u8, order: u8) -> Result<(), AllocError>
     ensures { OnOk result
@@ -137,7 +137,7 @@ fn push_order_name(out: &mut String, generals: u8, order: u8) -> Result<(), Allo
     write!(out, "order {order}</text></g>\n")
 }
 
-/// Appends an order of the legend.
+/// Appends an order in the legend: a line in its colour, and its number.
 #[tactic(auto, unfolding(crate::specs::Page::legend_line))]
 fn push_legend(out: &mut String, generals: u8, order: u8) -> Result<(), AllocError>
     ensures { OnOk result

@@ -1,4 +1,4 @@
-//! The picture as a whole.
+//! The picture of a run as a whole.
 ghost use Rattle.std.specs.Prelude.{◌≡◌, ◌++◌, IfOk, OnOk, map, string_bytes};
 ghost use Rattle.gen_types.specs.Ends.{is_among};
 ghost use Rattle.gen_convict.specs.Evidence.{told_of};
@@ -47,14 +47,14 @@ use gen_net::{Header, Net};
 use gen_types::{GeneralNo, GeneralSet, OrderNo};
 use std::alloc::{AllocError, Global};
 
-/// What the lines mean, and the end.
+/// The words that say what the lines mean, and the end of the text.
 const CLOSING: &str = "\
 <title>what the lines mean</title><text>dashed: only one of the two logs has the message</text>\n\
 <text y=\"18\" class=\"faulty\">grey: held for faulty</text>\n\
 <text y=\"36\" class=\"found\">red: found by the audit, or convicted</text></g>\n</svg>\n\
 ";
 
-/// Returns how large the picture of a network's run is.
+/// Returns the size of the picture of a network's run: its generals, orders and rounds.
 #[tactic(auto, unfolding(crate::specs::Picture::grid_of))]
 pub(crate) fn grid_of(net: &Net) -> Grid
     ensures { result ≡ grid_of net.now }
@@ -73,7 +73,7 @@ fn is_held(faulty: &GeneralSet, general: GeneralNo) -> bool
     faulty.contains(general)
 }
 
-/// Returns what is found.
+/// Returns the findings of a verdict; none if the verdict is a yes.
 fn findings_in(verdict: &Verdict) -> &[Finding]
     ensures { result.now ≡ findings_in verdict.now }
 {
@@ -83,7 +83,7 @@ fn findings_in(verdict: &Verdict) -> &[Finding]
     }
 }
 
-/// Appends which run it is, as the title of the whole.
+/// Appends the run id as the title of the picture.
 #[tactic(auto, unfolding(crate::specs::Picture::run_title))]
 fn push_run_title(out: &mut String, digits: &str) -> Result<(), AllocError>
     ensures { OnOk result (string_bytes out.new ≡ string_bytes out.old ++ run_title digits.now) }
@@ -91,7 +91,7 @@ fn push_run_title(out: &mut String, digits: &str) -> Result<(), AllocError>
     write!(out, "<title>run {digits}</title>\n")
 }
 
-/// Appends which run it is, to be read.
+/// Appends the run id as words to be read.
 #[tactic(auto, unfolding(crate::specs::Picture::run_words))]
 fn push_run_words(out: &mut String, digits: &str) -> Result<(), AllocError>
     ensures { OnOk result (string_bytes out.new ≡ string_bytes out.old ++ run_words digits.now) }
@@ -99,7 +99,7 @@ fn push_run_words(out: &mut String, digits: &str) -> Result<(), AllocError>
     write!(out, "<text x=\"16\" y=\"24\">run {digits}</text>\n")
 }
 
-/// Appends which run it is.
+/// Appends the run id in hexadecimal, as the title of the picture and as words to be read.
 fn push_run(alloc: Global, out: &mut String, header: &Header) -> Result<(), AllocError>
     ensures { OnOk result (string_bytes out.new ≡ string_bytes out.old ++ run_heading header.now) }
 {
@@ -127,7 +127,7 @@ fn push_explained(out: &mut String) -> Result<(), AllocError>
     out.push_str("<text x=\"16\" y=\"44\"><title>the verdict</title>verdict explained</text>\n")
 }
 
-/// Appends the verdict no.
+/// Appends the verdict "no".
 #[tactic(auto, unfolding(crate::specs::Picture::no_heading))]
 fn push_no(out: &mut String) -> Result<(), AllocError>
     ensures { OnOk result (string_bytes out.new ≡ string_bytes out.old ++ no_heading) }
@@ -135,7 +135,7 @@ fn push_no(out: &mut String) -> Result<(), AllocError>
     out.push_str("<text x=\"16\" y=\"44\"><title>the verdict</title>verdict no</text>\n")
 }
 
-/// Appends the verdict.
+/// Appends the verdict, without its findings.
 fn push_verdict(out: &mut String, verdict: &Verdict) -> Result<(), AllocError>
     ensures { OnOk result
         (string_bytes out.new ≡ string_bytes out.old ++ verdict_heading verdict.now) }
@@ -147,7 +147,7 @@ fn push_verdict(out: &mut String, verdict: &Verdict) -> Result<(), AllocError>
     }
 }
 
-/// Appends the beginning of the page.
+/// Appends the beginning of the page: its size, its style and the heads of arrows.
 #[tactic(auto, unfolding(crate::specs::Picture::page_front))]
 fn push_front(out: &mut String, grid: Grid) -> Result<(), AllocError>
     ensures { OnOk result (string_bytes out.new ≡ string_bytes out.old ++ page_front grid) }
@@ -157,7 +157,7 @@ fn push_front(out: &mut String, grid: Grid) -> Result<(), AllocError>
     push_heads(out, grid)
 }
 
-/// Appends which run it is, and the verdict.
+/// Appends the run id and the verdict.
 #[tactic(auto, unfolding(crate::specs::Picture::heading))]
 fn push_heading(
     alloc: Global,
@@ -172,7 +172,7 @@ fn push_heading(
     push_verdict(out, verdict)
 }
 
-/// Appends the line of a general.
+/// Appends the line of a general, in grey if it is held for faulty.
 #[tactic(auto, unfolding(crate::specs::Picture::line_in))]
 fn push_line(
     out: &mut String,
@@ -208,7 +208,7 @@ fn push_frame(out: &mut String, net: &Net, faulty: &GeneralSet) -> Result<(), Al
     push_lines(out, net, faulty)
 }
 
-/// Appends what stands at the ends of all generals' lines.
+/// Appends the words at the ends of all generals' lines: decisions and convictions.
 fn push_ends(
     out: &mut String,
     net: &Net,
@@ -225,7 +225,7 @@ fn push_ends(
     Ok(())
 }
 
-/// Appends what stands below all generals' lines.
+/// Appends the words below all generals' lines: findings.
 fn push_notes(out: &mut String, net: &Net, findings: &[Finding]) -> Result<(), AllocError>
     ensures { OnOk result
         (string_bytes out.new ≡ string_bytes out.old ++ note_lines net.now findings.now) }
@@ -236,7 +236,7 @@ fn push_notes(out: &mut String, net: &Net, findings: &[Finding]) -> Result<(), A
     Ok(())
 }
 
-/// Appends the beginning of what the lines mean.
+/// Appends the beginning of the words that say what the lines mean.
 #[tactic(auto, unfolding(crate::specs::Picture::legend_opening))]
 fn push_legend_opening(out: &mut String, grid: Grid) -> Result<(), AllocError>
     ensures { OnOk result (string_bytes out.new ≡ string_bytes out.old ++ legend_opening grid) }
@@ -245,7 +245,7 @@ fn push_legend_opening(out: &mut String, grid: Grid) -> Result<(), AllocError>
     write!(out, "<g transform=\"translate(160 {y})\">\n")
 }
 
-/// Appends what the lines mean, and the end.
+/// Appends the words that say what the lines mean, and the end of the text.
 #[tactic(auto, unfolding(crate::specs::Picture::closing))]
 fn push_closing(out: &mut String) -> Result<(), AllocError>
     ensures { OnOk result (string_bytes out.new ≡ string_bytes out.old ++ closing) }
@@ -253,7 +253,7 @@ fn push_closing(out: &mut String) -> Result<(), AllocError>
     out.push_str(CLOSING)
 }
 
-/// Appends the legend, and the end.
+/// Appends the legend of orders, the words that say what the lines mean, and the end of the text.
 #[tactic(auto, unfolding(crate::specs::Picture::page_back))]
 fn push_back(out: &mut String, grid: Grid) -> Result<(), AllocError>
     ensures { OnOk result (string_bytes out.new ≡ string_bytes out.old ++ page_back grid) }
@@ -263,7 +263,7 @@ fn push_back(out: &mut String, grid: Grid) -> Result<(), AllocError>
     push_closing(out)
 }
 
-/// Appends the messages, and over them those that are found.
+/// Appends the messages, and over them the findings at messages.
 #[tactic(auto, unfolding(crate::specs::Picture::story))]
 fn push_story(
     out: &mut String,
@@ -280,7 +280,7 @@ fn push_story(
     push_message_marks(out, grid, findings_in(verdict))
 }
 
-/// Appends what each general decided, who is convicted, and what is found against whom.
+/// Appends what each general decided, which generals are convicted, and what is found against each.
 #[tactic(auto, unfolding(crate::specs::Picture::notes))]
 fn push_all_notes(
     out: &mut String,
@@ -304,7 +304,7 @@ fn push_all_notes(
     push_notes(out, net, findings_in(&judgement.verdict))
 }
 
-/// Appends what a picture says of a bundle and of the judgement on it, and its end.
+/// Appends what a picture says of a bundle and of the judgement on it, and the end of the text.
 #[tactic(auto, unfolding(crate::specs::Picture::run_part))]
 pub(crate) fn push_run_part(
     alloc: Global,
@@ -326,17 +326,17 @@ pub(crate) fn push_run_part(
     push_back(out, grid_of(header.net()))
 }
 
-/// Returns the picture of a bundle and of the judgement on it, as an SVG text: each general is a line from left to
-/// right and each round a column; each message that a shown log has is an arrow in the colour of its order, dashed
-/// where only one of the logs of its sender and its receiver has it; who is held for faulty is grey; each finding
-/// stands in red at its general or along its message, what a general decided at the end of his line, and his
-/// conviction behind it. The judgement is meant to be that of `audit` on the bundle.
+/// Returns the picture of a bundle and of the judgement on it, as an SVG text. Each general is a line from left to
+/// right, and each round a column. Each message that a shown log has is an arrow in the colour of its order; it is
+/// dashed if only one of the logs of its sender and its receiver has it. A general that is held for faulty is grey.
+/// Each finding stands in red at its general or along its message. A general's decision stands at the end of its line,
+/// and its conviction behind that. The judgement is meant to be that of `audit` on the bundle.
 ///
 /// The text is well-formed XML, fetches nothing and runs nothing, and its size is linear in the number of entries.
 ///
 /// # Errors
 ///
-/// `AllocError` where memory is refused.
+/// `AllocError` if memory is refused.
 #[tactic(auto, unfolding(crate::specs::Picture::picture))]
 pub fn draw(alloc: Global, bundle: &Bundle, judgement: &Judgement) -> Result<Vec<u8>, AllocError>
     ensures { IfOk result (λ v. v.items ≡ picture bundle.now.header bundle.now.faulty

@@ -1,8 +1,8 @@
-//! How far down things stand in a picture.
+//! How far down things stand in a picture, in pixels from the top.
 ghost use Rattle.std.specs.Prelude.{◌≡◌, ◌<◌, ◌≤◌, ◌^◌};
 ghost use Rattle.gen_draw.specs.Rows.{row_of, middle_of, legend_row};
 
-/// Returns the height of the line of a general.
+/// Returns the height at which a general's line stands.
 #[tactic(auto, unfolding(crate::specs::Rows::row_of))]
 pub fn row_of(general: u8) -> u32
     ensures value { result ≡ row_of general }
@@ -12,7 +12,7 @@ pub fn row_of(general: u8) -> u32
     96 + 56 * u32::from(general)
 }
 
-/// Returns the height half way between the lines of two generals, for words there.
+/// Returns the height half way between the lines of two generals, for words that stand there.
 #[tactic(auto, unfolding(crate::specs::Rows::middle_of))]
 pub fn middle_of(from: u8, to: u8) -> u32
     ensures value { result ≡ middle_of from to }
@@ -21,7 +21,7 @@ pub fn middle_of(from: u8, to: u8) -> u32
     100 + 28 * (u32::from(from) + u32::from(to))
 }
 
-/// Returns the height of an order in the legend.
+/// Returns the height of an order in the legend of a picture of this many generals.
 #[tactic(auto, unfolding(crate::specs::Rows::legend_row))]
 pub fn legend_row(generals: u8, order: u8) -> u32
     ensures value { result ≡ legend_row generals order }

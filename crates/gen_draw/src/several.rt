@@ -40,14 +40,14 @@ use gen_convict::{Claim, Evidence};
 use gen_net::Header;
 use std::alloc::{AllocError, Global};
 
-/// Returns how large the picture of a bundle is.
+/// Returns the size of the picture of a bundle: its generals, orders and rounds.
 fn grid_in(bundle: &Bundle) -> Grid
     ensures { result ≡ grid_in bundle.now }
 {
     grid_of(bundle.header().net())
 }
 
-/// Returns how far down the pictures of bundles end that begin at the top.
+/// Returns how far down the pictures of bundles end if they stand below one another from the top.
 fn bottom_of(bundles: &[Bundle]) -> u32
     requires { length bundles.now < 2 ^ 16 }
     ensures value { result ≡ bottom_from 0 bundles.now }
@@ -69,7 +69,7 @@ fn wider(width: u32, other: u32) -> u32
     if width <= other { other } else { width }
 }
 
-/// Returns the width of the widest picture of bundles.
+/// Returns the width of the widest picture of bundles; 0 if there is none.
 fn widest_of(bundles: &[Bundle]) -> u32
     ensures { result ≡ widest_from 0 bundles.now }
 {
@@ -82,7 +82,7 @@ fn widest_of(bundles: &[Bundle]) -> u32
     width
 }
 
-/// Returns how many lines those have who are convicted across runs.
+/// Returns the number of lines for this many generals that are convicted across runs: at most 16.
 fn lines_for(count: usize) -> u32
     ensures value { result ≡ lines_for count }
     ensures small { result ≤ 16 }
@@ -90,7 +90,7 @@ fn lines_for(count: usize) -> u32
     if count <= 16 { count as u32 } else { 16 }
 }
 
-/// Returns the height of these lines.
+/// Returns the height of the lines for this many generals that are convicted across runs.
 #[tactic(auto, unfolding(crate::specs::Several::across_height))]
 fn across_height(count: usize) -> u32
     ensures value { result ≡ across_height count }
@@ -99,7 +99,7 @@ fn across_height(count: usize) -> u32
     24 + 18 * lines_for(count)
 }
 
-/// Appends the beginning of a run at a height.
+/// Appends the beginning of the picture of a run at a height.
 #[tactic(auto, unfolding(crate::specs::Several::run_opening))]
 fn push_run_opening(out: &mut String, down: u32) -> Result<(), AllocError>
     ensures { OnOk result (string_bytes out.new ≡ string_bytes out.old ++ run_opening down) }
@@ -152,14 +152,14 @@ fn push_runs(
     Ok(())
 }
 
-/// Returns the place of the first run with this header, counted from 0.
+/// Returns the place of the first run with this header, counted from 0; none if there is no such run.
 fn place_with(bundles: &[Bundle], header: &Header) -> Option<usize>
     ensures { result ≡ place_with bundles.now header.now }
 {
     bundles.iter().position(|run| run.header() == header)
 }
 
-/// Appends a run by its place, where it has one.
+/// Appends the place of a run, if it has one.
 fn push_place(out: &mut String, place: Option<usize>) -> Result<(), AllocError>
     ensures { OnOk result (string_bytes out.new ≡ string_bytes out.old ++ place_words place) }
 {
@@ -169,7 +169,7 @@ fn push_place(out: &mut String, place: Option<usize>) -> Result<(), AllocError>
     }
 }
 
-/// Appends who is convicted, and by what.
+/// Appends which general is convicted, and by which kind of claim.
 #[tactic(auto, unfolding(crate::specs::Several::convicted_words))]
 fn push_convicted_words(out: &mut String, accused: u8, kind: u8) -> Result<(), AllocError>
     ensures { OnOk result
@@ -178,7 +178,7 @@ fn push_convicted_words(out: &mut String, accused: u8, kind: u8) -> Result<(), A
     write!(out, "general {accused} is convicted by K{kind}")
 }
 
-/// Appends across which runs a claim is.
+/// Appends the places of the two runs that a claim is across; nothing for a claim within one run.
 #[tactic(auto, unfolding(crate::specs::Several::across_words))]
 fn push_across_words(out: &mut String, bundles: &[Bundle], claim: &Claim) -> Result<(), AllocError>
     ensures { OnOk result (string_bytes out.new
@@ -197,8 +197,8 @@ fn push_across_words(out: &mut String, bundles: &[Bundle], claim: &Claim) -> Res
     }
 }
 
-/// Returns the number of the kind by which the verdict names a claim: two texts under one leaf are the first across
-/// two runs too.
+/// Returns the number of the kind by which the verdict names a claim. Two texts under one leaf are of kind 1 across two
+/// runs too.
 fn kind_across(claim: &Claim) -> u8
     ensures { result ≡ kind_across (told claim.now) }
 {
@@ -211,7 +211,7 @@ fn kind_across(claim: &Claim) -> u8
     }
 }
 
-/// Appends who is convicted, by what, and across which runs.
+/// Appends which general is convicted, by which kind of claim, and across which runs.
 fn push_both_words(
     out: &mut String,
     bundles: &[Bundle],
@@ -224,7 +224,7 @@ fn push_both_words(
     push_across_words(out, bundles, &evidence.claim)
 }
 
-/// Appends the line of somebody who is convicted across runs.
+/// Appends the line of a general that is convicted across runs.
 #[tactic(auto, unfolding(crate::specs::Several::across_span))]
 fn push_across_span(
     out: &mut String,
@@ -241,7 +241,7 @@ fn push_across_span(
     out.push_str("</tspan>\n")
 }
 
-/// Appends the lines of all who are convicted across runs.
+/// Appends the lines of all generals that are convicted across runs.
 fn push_across_spans(
     out: &mut String,
     bundles: &[Bundle],
@@ -256,7 +256,7 @@ fn push_across_spans(
     Ok(())
 }
 
-/// Appends the beginning of these lines.
+/// Appends the beginning of the lines of generals that are convicted across runs.
 #[tactic(auto, unfolding(crate::specs::Several::across_opening))]
 fn push_across_opening(out: &mut String, down: u32) -> Result<(), AllocError>
     ensures { OnOk result (string_bytes out.new ≡ string_bytes out.old ++ across_opening down) }
@@ -264,7 +264,7 @@ fn push_across_opening(out: &mut String, down: u32) -> Result<(), AllocError>
     write!(out, "<text x=\"16\" y=\"{down}\">\n")
 }
 
-/// Appends those who are convicted across runs, below these, and the end.
+/// Appends the lines of the generals that are convicted across runs, at a height, and the end of the text.
 #[tactic(auto, unfolding(crate::specs::Several::across_part))]
 fn push_across(
     out: &mut String,
@@ -280,7 +280,7 @@ fn push_across(
     out.push_str("</text>\n</svg>\n")
 }
 
-/// Appends the heads of arrows for all orders that there may be.
+/// Appends the heads of arrows for all orders that a run can have.
 fn push_all_heads(out: &mut String) -> Result<(), AllocError>
     ensures { OnOk result (string_bytes out.new ≡ string_bytes out.old ++ all_heads) }
 {
@@ -292,7 +292,7 @@ fn push_all_heads(out: &mut String) -> Result<(), AllocError>
     push_heads(out, grid)
 }
 
-/// Appends how many runs there are, as the title of the whole.
+/// Appends the number of runs as the title of the picture.
 #[tactic(auto, unfolding(crate::specs::Several::several_title))]
 fn push_several_title(out: &mut String, count: usize) -> Result<(), AllocError>
     ensures { OnOk result (string_bytes out.new ≡ string_bytes out.old ++ several_title count) }
@@ -300,7 +300,7 @@ fn push_several_title(out: &mut String, count: usize) -> Result<(), AllocError>
     write!(out, "<title>campaign of {count} runs</title>\n")
 }
 
-/// Appends the beginning of the page.
+/// Appends the beginning of the page: its size, its style, the heads of arrows and its title.
 #[tactic(auto, unfolding(crate::specs::Several::several_front))]
 fn push_several_front(
     out: &mut String,
@@ -318,16 +318,16 @@ fn push_several_front(
     push_several_title(out, bundles.len())
 }
 
-/// Returns the picture of a campaign as one SVG text: the pictures that `draw` makes of its bundles and of the judgements
-/// on them, one below the other, and below them in red who is convicted across runs, with the places of the runs, counted
-/// from 0. The judgements are meant to be those of an audit of the campaign, one for each bundle and in their order; where
-/// there are fewer, the bundles behind them are left out.
+/// Returns the picture of a campaign as one SVG text. The pictures that `draw` makes of its bundles and of the
+/// judgements on them stand one below the other. Below them stands in red which generals are convicted across runs,
+/// with the places of the runs, counted from 0. The judgements are meant to be those of an audit of the campaign, one
+/// for each bundle and in their order. If there are fewer, the bundles without one are left out.
 ///
 /// The text is well-formed XML, fetches nothing and runs nothing, and its size is linear in the number of entries.
 ///
 /// # Errors
 ///
-/// `AllocError` where memory is refused.
+/// `AllocError` if memory is refused.
 #[tactic(auto, unfolding(crate::specs::Several::several_picture))]
 pub fn draw_campaign(
     alloc: Global,

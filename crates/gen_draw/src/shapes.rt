@@ -1,10 +1,10 @@
-//! Shapes, by where they stand.
+//! The shapes of a picture, and its beginning.
 ghost use Rattle.std.specs.Prelude.{◌≡◌, ◌++◌, OnOk, string_bytes};
 ghost use Rattle.gen_draw.specs.Shapes.{head_of, opening_of, stroke_between, words_at};
 
 use std::alloc::AllocError;
 
-/// Appends the beginning of a picture.
+/// Appends the beginning of a picture of this width and height, in pixels.
 #[tactic(auto, unfolding(crate::specs::Shapes::opening_of))]
 pub fn push_opening(out: &mut String, width: u32, height: u32) -> Result<(), AllocError>
     ensures { OnOk result
@@ -25,7 +25,7 @@ pub fn push_stroke(out: &mut String, x: u32, y: u32, to_x: u32, to_y: u32) -> Re
     write!(out, "<path d=\"M{x} {y}L{to_x} {to_y}\"/>")
 }
 
-/// Appends the beginning of words at a place.
+/// Appends the beginning of words that stand at a place.
 #[tactic(auto, unfolding(crate::specs::Shapes::words_at))]
 pub fn push_words(out: &mut String, x: u32, y: u32) -> Result<(), AllocError>
     ensures { OnOk result (string_bytes out.new ≡ string_bytes out.old ++ words_at x y) }

@@ -1,4 +1,4 @@
-//! What shown logs say was sent, was received and was decided.
+//! What shown logs say was sent, received and decided.
 ghost use Rattle.std.specs.Prelude.{◌≡◌, ◌++◌, IfOk, OnOk, OnErr};
 ghost use Rattle.std.specs.List.{flat_map};
 ghost use Rattle.gen_draw.specs.Shown.{
@@ -19,18 +19,18 @@ use gen_net::{Header, Message};
 use gen_types::{GeneralNo, OrderNo, ReadError};
 use std::alloc::{AllocError, Global};
 
-/// What shown logs say.
+/// What shown logs say, in the order of the logs and of their entries.
 #[derive(Drop)]
 pub struct Told {
-    /// The messages that their generals sent.
+    /// The messages that the logs' generals sent, by their SEND entries.
     pub sent: Vec<Message>,
-    /// The messages that their generals received.
+    /// The messages that the logs' generals received, by their RECV entries.
     pub received: Vec<Message>,
-    /// The orders that their generals decided.
+    /// The orders that the logs' generals decided, by their DECIDE entries.
     pub decided: Vec<(GeneralNo, OrderNo)>,
 }
 
-/// Puts what an entry of a general's log says behind what is told.
+/// Appends what an entry of a general's log says.
 fn put_entry(told: &mut Told, general: GeneralNo, entry: &Entry) -> Result<(), AllocError>
     ensures sent { OnOk result
         (told.new.sent.items ≡ told.old.sent.items ++ sent_by general entry.now) }
@@ -64,7 +64,7 @@ fn put_entry(told: &mut Told, general: GeneralNo, entry: &Entry) -> Result<(), A
     Ok(())
 }
 
-/// Puts what the entries of a general's log say behind what is told.
+/// Appends what the entries of a general's log say.
 fn put_entries(told: &mut Told, general: GeneralNo, entries: &[Entry]) -> Result<(), AllocError>
     ensures sent { OnOk result
         (told.new.sent.items ≡ told.old.sent.items ++ flat_map (sent_by general) entries.now) }
@@ -79,7 +79,7 @@ fn put_entries(told: &mut Told, general: GeneralNo, entries: &[Entry]) -> Result
     Ok(())
 }
 
-/// Puts what is shown as a general's log behind what is told: nothing where it is no log.
+/// Appends what is shown as a general's log says; nothing if it doesn't read as a log.
 #[tactic(auto, unfolding(crate::specs::Shown::sent_in, crate::specs::Shown::received_in, crate::specs::Shown::decided_in))]
 fn put_exhibit(
     alloc: Global,
@@ -101,11 +101,11 @@ fn put_exhibit(
     }
 }
 
-/// Returns what all that is shown as logs says.
+/// Returns what all shown logs say. What doesn't read as a log says nothing.
 ///
 /// # Errors
 ///
-/// `AllocError` where memory is refused.
+/// `AllocError` if memory is refused.
 pub fn told_by(alloc: Global, header: &Header, exhibits: &[Exhibit]) -> Result<Told, AllocError>
     ensures sent { IfOk result (λ told. told.sent.items ≡ all_sent header.now exhibits.now) }
     ensures received { IfOk result (λ told.

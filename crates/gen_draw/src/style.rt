@@ -4,7 +4,7 @@ ghost use Rattle.gen_draw.specs.Style.{dark_style, light_style, plain_style, sty
 
 use std::alloc::AllocError;
 
-/// Lines, words and arrow heads; grey for those held for faulty, red for findings.
+/// The style of lines, words and arrow heads: grey for generals that are held for faulty, red for findings.
 const PLAIN_STYLE: &str = "\
 <style>\n\
 svg{color:#1b1b1b;font:13px sans-serif}.page{fill:#fff}text,tspan{fill:currentColor}\n\
@@ -15,7 +15,7 @@ path{fill:none;stroke:currentColor}marker path{fill:currentColor;stroke:none;mar
 .both text,.alone text,.found text{stroke:#fff;stroke-width:3;paint-order:stroke}\n\
 ";
 
-/// The colours of orders.
+/// The colours of orders on a light page.
 const LIGHT_STYLE: &str = "\
 .o0{color:#0072b2;marker-end:url(#h0)}.o1{color:#d07b00;marker-end:url(#h1)}\n\
 .o2{color:#000000;marker-end:url(#h2)}.o3{color:#9900ff;marker-end:url(#h3)}\n\
@@ -27,7 +27,7 @@ const LIGHT_STYLE: &str = "\
 .o14{color:#003333;marker-end:url(#h14)}\n\
 ";
 
-/// The colours on a dark page, and the page.
+/// The colours on a dark page, and the page's background.
 const DARK_STYLE: &str = "\
 @media(prefers-color-scheme:dark){\n\
 svg{color:#eee}.page{fill:#16181d}.round path{stroke:#444}.faulty{color:#8a8a8a}.found{color:#ff5a4a}\n\
@@ -41,7 +41,7 @@ svg{color:#eee}.page{fill:#16181d}.round path{stroke:#444}.faulty{color:#8a8a8a}
 <rect class=\"page\" width=\"100%\" height=\"100%\"/>\n\
 ";
 
-/// Appends how lines, words and arrow heads look.
+/// Appends the style of lines, words and arrow heads.
 #[tactic(auto, unfolding(crate::specs::Style::plain_style))]
 fn push_plain(out: &mut String) -> Result<(), AllocError>
     ensures { OnOk result (string_bytes out.new ≡ string_bytes out.old ++ plain_style) }
@@ -49,7 +49,7 @@ fn push_plain(out: &mut String) -> Result<(), AllocError>
     out.push_str(PLAIN_STYLE)
 }
 
-/// Appends the colours of orders.
+/// Appends the colours of orders on a light page.
 #[tactic(auto, unfolding(crate::specs::Style::light_style))]
 fn push_light(out: &mut String) -> Result<(), AllocError>
     ensures { OnOk result (string_bytes out.new ≡ string_bytes out.old ++ light_style) }
@@ -57,7 +57,7 @@ fn push_light(out: &mut String) -> Result<(), AllocError>
     out.push_str(LIGHT_STYLE)
 }
 
-/// Appends the colours on a dark page, and the page.
+/// Appends the colours on a dark page, and the page's background.
 #[tactic(auto, unfolding(crate::specs::Style::dark_style))]
 fn push_dark(out: &mut String) -> Result<(), AllocError>
     ensures { OnOk result (string_bytes out.new ≡ string_bytes out.old ++ dark_style) }
@@ -65,7 +65,7 @@ fn push_dark(out: &mut String) -> Result<(), AllocError>
     out.push_str(DARK_STYLE)
 }
 
-/// Appends how all parts look.
+/// Appends the style of all parts of a picture.
 pub fn push_style(out: &mut String) -> Result<(), AllocError>
     ensures { OnOk result (string_bytes out.new ≡ string_bytes out.old ++ style) }
 {

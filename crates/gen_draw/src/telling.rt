@@ -1,4 +1,4 @@
-//! Which messages are drawn.
+//! Which messages a picture draws.
 ghost use Rattle.std.specs.Prelude.{◌≡◌, ◌++◌, IfOk, OnOk, map};
 ghost use Rattle.std.specs.List.{flat_map};
 ghost use Rattle.gen_draw.specs.Telling.{arrows_between, is_same, receiver_arrows, sender_arrow, tells};
@@ -7,7 +7,7 @@ use crate::arrow::{Arrow, ToldBy};
 use gen_net::Message;
 use std::alloc::{AllocError, Global};
 
-/// Returns whether two messages are the same, by their paths too.
+/// Returns whether two messages are the same: sender, receiver, order and path.
 fn is_same(a: &Message, b: &Message) -> bool
     ensures { result ≡ is_same a.now b.now }
 {
@@ -21,7 +21,8 @@ fn tells(messages: &[Message], message: &Message) -> bool
     messages.iter().any(|other| is_same(message, other))
 }
 
-/// Returns what is drawn of a message that was sent.
+/// Returns the arrow of a message that was sent. Both logs have it if it is among the received messages, else the
+/// sender's alone.
 fn sender_arrow(received: &[Message], message: &Message) -> Arrow
     ensures { result ≡ sender_arrow received.now message.now }
 {
@@ -36,7 +37,7 @@ fn sender_arrow(received: &[Message], message: &Message) -> Arrow
     }
 }
 
-/// Puts what is drawn of the messages that were sent behind others.
+/// Appends the arrows of the messages that were sent.
 fn put_sent(
     arrows: &mut Vec<Arrow>,
     sent: &[Message],
@@ -51,7 +52,7 @@ fn put_sent(
     Ok(())
 }
 
-/// Puts what is drawn of a message that was received behind others.
+/// Appends the arrow of a message that was received, if it isn't among the messages that were sent.
 fn put_received(
     arrows: &mut Vec<Arrow>,
     sent: &[Message],
@@ -69,7 +70,7 @@ fn put_received(
     Ok(())
 }
 
-/// Puts what is drawn of the messages that were received behind others.
+/// Appends the arrows of the messages that were received and aren't among those that were sent.
 fn put_all_received(
     arrows: &mut Vec<Arrow>,
     sent: &[Message],
@@ -84,7 +85,7 @@ fn put_all_received(
     Ok(())
 }
 
-/// Returns what is drawn of the messages that were sent and of those that were received.
+/// Returns the arrows of the messages that were sent, and then of those that were received alone.
 pub fn arrows_between(
     alloc: Global,
     sent: &[Message],

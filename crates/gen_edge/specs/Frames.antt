@@ -11,7 +11,7 @@ use Rattle.gen_edge.specs.declared.frames.Frame.TheVariants as variants
 abbrev pub Parcels : Type 0
 Parcels = List (List ℕ)
 
--- what is carried: the frame of a round, or the word that no more comes
+-- what goes over an edge: the frame of a round, or the word that no more comes
 pub data Carried : Type 0 where
   round : ℕ → Parcels → Carried
   gone : Carried
@@ -20,7 +20,7 @@ abbrev pub carried : Frame → Carried
 carried (variants.Round number parcels) = round number parcels.items
 carried variants.Gone = gone
 
--- the round of a frame
+-- the round of a frame, or none for the last word
 abbrev pub number_of : Carried → Option ℕ
 number_of (round number parcels) = Some number
 number_of gone = None
@@ -34,7 +34,7 @@ abbrev pub ending : Bool → List Carried
 ending true = gone ∷ []
 ending false = []
 
--- the run's first n frames, and then the word that no more comes, if it came
+-- the run's first n frames, and then the word that no more comes, if it was put
 abbrev pub row : List Parcels → ℕ → Bool → List Carried
 row frames n ended = numbered 0 (take n frames) ++ ending ended
 

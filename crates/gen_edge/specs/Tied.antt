@@ -8,7 +8,7 @@ use Rattle.gen_edge.specs.Frames.{Parcels, Carried, round, gone, carried, row}
 
 -- ---- what a pass knows
 
--- the one pass of an edge before it is opened: it may do both, and knows no frames
+-- the one pass of an edge before the edge is opened: it may put and take, and knows no frames
 abbrev pub unopened : PassView
 unopened = record {
   puts = true;
@@ -27,11 +27,11 @@ unopened = record {
 abbrev pub spent_side : PassView
 spent_side = record unopened { puts = false; takes = false }
 
--- the pass of who puts: of these frames n were put, and then the last word, if it was; he was told nothing
+-- the pass to put: n of these frames were put and then, if `ended`, the last word; it was told nothing
 abbrev pub put_side : List Parcels → ℕ → Bool → PassView
 put_side frames n ended = record unopened { takes = false; frames = frames; put = n; gone_put = ended }
 
--- the pass of who takes: n of them were taken, and then the last word, if it was; he was told nothing
+-- the pass to take: n of these frames were taken and then, if `ended`, the last word; it was told nothing
 abbrev pub take_side : List Parcels → ℕ → Bool → PassView
 take_side frames n ended = record unopened { puts = false; frames = frames; taken = n; gone_taken = ended }
 
@@ -42,39 +42,39 @@ putter frames = put_side frames 0 false
 abbrev pub taker : List Parcels → PassView
 taker frames = take_side frames 0 false
 
--- one pass for both sides, from those of either
+-- one pass for both sides, made of a pass to put and a pass to take
 abbrev pub both_sides : PassView → PassView → PassView
 both_sides v w = record v { takes = true; taken = w.taken; gone_taken = w.gone_taken }
 
 -- ---- what one pass is told of the other
 
--- what one who puts can tell: how many frames were put, and whether the last word was
+-- what a pass to put can tell: how many frames were put, and whether the last word was put
 abbrev pub news_of_puts : PassView → PassView
 news_of_puts v = record spent_side { known = v.put; known_gone = v.gone_put }
 
--- what one who takes can tell: how many frames were taken
+-- what a pass to take can tell: how many frames were taken
 abbrev pub news_of_takes : PassView → PassView
 news_of_takes v = record spent_side { freed = v.taken }
 
--- one who takes after he heard such news
+-- a pass to take after it was told how much was put
 abbrev pub puts_heard : PassView → PassView → PassView
 puts_heard v w = record v { known = w.known; known_gone = w.known_gone }
 
--- one who puts after he heard such news
+-- a pass to put after it was told how many frames were taken
 abbrev pub takes_heard : PassView → PassView → PassView
 takes_heard v w = record v { freed = w.freed }
 
--- one who takes knows of as much as one who puts has put
+-- a pass to take that was told all that the pass to put has put
 abbrev pub taker_told : PassView → PassView → PassView
 taker_told v w = record v { known = w.put; known_gone = w.gone_put }
 
--- one who puts knows of as many frames as one who takes has taken
+-- a pass to put that was told all frames that the pass to take has taken
 abbrev pub putter_told : PassView → PassView → PassView
 putter_told v w = record v { freed = w.taken }
 
 -- ---- what one step does
 
--- these are the number and the parcels of the run's frame behind its first n
+-- these are the number and the parcels of the run's frame that follows its first n frames
 abbrev pub IsFrame : List Parcels → ℕ → ℕ → Parcels → Type 0
 IsFrame frames n number parcels = (number ≡ n + 1) × (get_elem? frames n ≡ some parcels)
 
@@ -83,17 +83,18 @@ abbrev pub IsRunFrame : List Parcels → ℕ → Carried → Type 0
 IsRunFrame frames number x =
     (p : Parcels) × (x ≡ round number p) × (0 < number) × (get_elem? frames (number - 1) ≡ some p)
 
--- x may come next behind n frames: it is the run's next frame, or the last word; and that word did not come
+-- x may come next behind n frames: it is the run's next frame or the last word, and the last word did not
+-- come yet
 abbrev pub ComesNext : List Parcels → ℕ → Bool → Carried → Type 0
 ComesNext frames n ended (round number parcels) = (ended ≡ false) × IsFrame frames n number parcels
 ComesNext frames n ended gone = ended ≡ false
 
--- one who puts after he put this
+-- a pass to put after it put this
 abbrev pub after_put : PassView → Carried → PassView
 after_put v (round number parcels) = record v { put = v.put + 1 }
 after_put v gone = record v { gone_put = true }
 
--- one who takes after he took this
+-- a pass to take after it took this
 abbrev pub after_take : PassView → Carried → PassView
 after_take v (round number parcels) = record v { taken = v.taken + 1 }
 after_take v gone = record v { gone_taken = true }
@@ -102,18 +103,18 @@ after_take v gone = record v { gone_taken = true }
 abbrev pub PutsNext : PassView → Frame → PassView → Type 0
 PutsNext v x w = w ≡ after_put v (carried x)
 
--- a step that takes: what comes is what may come next
+-- a step that takes: what comes is something that may come next
 abbrev pub TakesNext : PassView → Frame → PassView → Type 0
 TakesNext v x w = ComesNext v.frames v.taken v.gone_taken (carried x) × (w ≡ after_take v (carried x))
 
 -- ---- what a look at the queue tells
 
--- to one pass with both sides: what was put is what was taken, and then what the queue holds
+-- what one pass with both sides learns: what was put is what was taken, followed by what the queue holds
 abbrev pub Rests : PassView → List Frame → Type 0
 Rests v items = row v.frames v.put v.gone_put ≡ row v.frames v.taken v.gone_taken ++ map carried items
 
--- to one who puts: what was put is what some number of takes took, no fewer than he was told of, and then
--- what the queue holds
+-- what a pass to put learns: what was put is what was taken, followed by what the queue holds, where at least
+-- as many frames were taken as the pass was told of
 abbrev pub PutsSee : PassView → List Frame → Type 0
 PutsSee v items =
     (taken : ℕ) × (gone_taken : Bool)
@@ -121,12 +122,12 @@ PutsSee v items =
     × (taken ≤ v.put)
     × (row v.frames v.put v.gone_put ≡ row v.frames taken gone_taken ++ map carried items)
 
--- no more is known than was put
+-- the pass was told of no more than was put
 abbrev pub Known : PassView → ℕ → Bool → Type 0
 Known v put gone_put = (v.known ≤ put) × (v.known_gone ≡ true → gone_put ≡ true)
 
--- to one who takes: what some number of puts put, no fewer than he was told of, is what was taken, and then
--- what the queue holds
+-- what a pass to take learns: what was put is what was taken, followed by what the queue holds, where at
+-- least as much was put as the pass was told of
 abbrev pub TakesSee : PassView → List Frame → Type 0
 TakesSee v items =
     (put : ℕ) × (gone_put : Bool)
@@ -137,7 +138,8 @@ TakesSee v items =
 
 -- ---- the rule
 
--- how far an edge is, and which of its passes puts and which takes
+-- the state of an edge: which of its passes puts and which takes, the frames of the run, and how much was put
+-- and taken
 pub record State : Type 0 where
   pub writer : ℕ
   pub reader : ℕ
@@ -147,8 +149,8 @@ pub record State : Type 0 where
   pub taken : ℕ
   pub gone_taken : Bool
 
--- a pass that puts is the one that does, and knows how much was put; so with one that takes; and none was
--- told of more than was done
+-- A pass fits the state. If it may put, it is the pass that puts and knows how much was put. If it may take,
+-- it is the pass that takes and knows how much was taken. It was told of no more than was put and taken.
 pub record Fits (s : State) (port : ℕ) (v : PassView) : Type 0 where
   pub putting : v.puts ≡ true
       → (port ≡ s.writer) × (v.frames ≡ s.frames) × (v.put ≡ s.put) × (v.gone_put ≡ s.gone_put)
@@ -157,7 +159,7 @@ pub record Fits (s : State) (port : ℕ) (v : PassView) : Type 0 where
   pub known : Known v s.put s.gone_put
   pub freed : v.freed ≤ s.taken
 
--- what was put is what was taken and what the queue holds, and nothing comes behind the last word
+-- what was put is what was taken, followed by what the queue holds, and nothing comes behind the last word
 pub record Counted (s : State) (items : List Frame) : Type 0 where
   pub rests : row s.frames s.put s.gone_put ≡ row s.frames s.taken s.gone_taken ++ map carried items
   pub within : s.put ≤ length s.frames
@@ -165,7 +167,7 @@ pub record Counted (s : State) (items : List Frame) : Type 0 where
   pub last : s.gone_taken ≡ true → items ≡ []
   pub after : s.gone_taken ≡ true → s.gone_put ≡ true
 
--- the rule itself: all passes fit one state, which counts what the queue holds
+-- the rule itself: there is one state that all passes fit, and that agrees with what the queue holds
 abbrev pub Tied : List Frame → List PassView → Type 0
 Tied items views =
     (s : State)

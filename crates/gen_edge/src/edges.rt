@@ -17,12 +17,13 @@ use std::marker::Brand;
 use std::sync::Wait;
 
 impl Edge {
-    /// Returns the edge of a scenario's network from one general to a neighbour, on which nothing was put yet and
-    /// which holds so many frames, at least one; the pass to put on it and the pass to take from it.
+    /// Returns the edge of a scenario's network from one general to a neighbour, the pass to put on it, and
+    /// the pass to take from it. The edge has room for this many frames, which must be at least one. Nothing
+    /// is put yet.
     ///
     /// # Errors
     ///
-    /// `AllocError` where memory is refused.
+    /// `AllocError` if memory is refused.
     pub fn new(
         alloc: Global,
         scenario: &Scenario,
@@ -39,13 +40,13 @@ impl Edge {
         open::<Brand>(alloc, scenario, from, to, capacity)
     }
 
-    /// Puts the next frame of the run on this edge, or the word that no more comes, which wasn't put yet. It is one
-    /// step on the queue, which may try again, and takes no memory.
+    /// Puts the next frame of the run on this edge, or the word that no more comes. That word must not have
+    /// been put before. It is one step on the queue, which may try again, and takes no memory.
     ///
     /// # Errors
     ///
-    /// The frame, only where the queue was full at one moment of the call, and never where the pass was told that so
-    /// many were taken that there is room. Then nothing was put.
+    /// The frame, with nothing put. This happens only if the queue was full at one moment of the call. It
+    /// never happens if the pass was told of enough frames taken to know that there is room.
     pub fn try_put<R: Wait>(&self, rt: &R, pass: &mut PutPass, frame: Frame) -> Result<(), Frame>
         requires pass { IsPutPassOf self.now pass.old }
         requires next { let v = put_view pass.old in ComesNext v.frames v.put v.gone_put (carried frame) }
@@ -66,10 +67,10 @@ impl Edge {
         Ok(())
     }
 
-    /// Takes what stands first on this edge: the frame of the run behind the last one taken, or the word that no
-    /// more comes, behind which nothing comes. It is one step on the queue, which may try again, and takes no
-    /// memory. It answers None only where the queue was empty at one moment of the call, and never
-    /// where the pass was told of something that it has not taken.
+    /// Takes the first thing on this edge: the frame of the run behind the last one taken, or the word that
+    /// no more comes, behind which nothing comes. It is one step on the queue, which may try again, and takes
+    /// no memory. It returns None only if the queue was empty at one moment of the call, and never if the
+    /// pass was told of something that it has not taken.
     pub fn try_take<R: Wait>(&self, rt: &R, pass: &mut TakePass) -> Option<Frame>
         requires { IsTakePassOf self.now pass.old }
         ensures pass { IsTakePassOf self.now pass.new }
@@ -89,17 +90,20 @@ impl Edge {
         Some(frame)
     }
 
-    /// Announces that the caller is going to wait for the next step on this edge. What is waited for, room or a frame,
-    /// is to be looked for once more before the wait, which ends once anything is put on the edge or taken from it. So
-    /// a general who waits sleeps, and no step is missed.
+    /// Announces that the caller is going to wait for the next step on this edge. The caller then has to look
+    /// once more for what it waits for, room or a frame, before it waits with the key. The wait ends once
+    /// anything is put on the edge or taken from it. So a general that waits sleeps, and no step is missed.
     pub fn prepare_wait(&self) -> Key<'_> {
         self.moved.prepare_wait()
     }
 
-    /// Tells the pass to take how many frames were put until now, and whether the last word was; and the pass to put
-    /// how many were taken. It is for whoever holds both passes, before threads start or after they were joined: from
-    /// then on no take answers None until all of this was taken, and no frame comes back until as many more were put
-    /// than were taken as the edge holds. It changes nothing on the edge, and takes no memory.
+    /// Tells the pass to take how many frames were put until now and whether the last word was, and tells the
+    /// pass to put how many frames were taken. It is for a caller that holds both passes, before threads
+    /// start or after they were joined.
+    ///
+    /// From then on no take returns None until all of this was taken. No put gives its frame back until the
+    /// number of frames that were put is the number that were taken until now plus the capacity of the edge.
+    /// It changes nothing on the edge, and takes no memory.
     pub fn tell(&self, put: &mut PutPass, take: &mut TakePass)
         requires { IsPutPassOf self.now put.old × IsTakePassOf self.now take.old }
         ensures passes { IsPutPassOf self.now put.new × IsTakePassOf self.now take.new }
@@ -112,8 +116,8 @@ impl Edge {
         self.line.absorb::<HearsTakes>(&mut put.pass, takes);
     }
 
-    /// Ends an edge, and returns what is left on it: what was taken followed by what is left is what was put. It
-    /// takes no memory.
+    /// Ends an edge, and returns what is left on it: what was put is what was taken, followed by what is
+    /// left. It takes no memory.
     pub fn settle<R: Wait>(self, rt: &R, put: PutPass, take: TakePass) -> Left
         requires { IsPutPassOf self put × IsTakePassOf self take }
         ensures left { let p = put_view put in let t = take_view take in
@@ -138,7 +142,7 @@ impl Edge {
     }
 }
 
-/// Returns an edge over which the frames of this name go.
+/// Returns an edge with its passes, over which the frames of the run that `N` names go.
 fn open<N: Naming>(
     alloc: Global,
     scenario: &Scenario,

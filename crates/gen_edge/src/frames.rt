@@ -4,12 +4,12 @@ ghost use Rattle.gen_edge.specs.Frames.{carried, number_of};
 
 use gen_script::Parcel;
 
-/// What one general puts on an edge to a neighbour, and the neighbour takes.
+/// What one general puts on an edge to a neighbour, and the neighbour takes from it.
 #[derive(Drop, Debug)]
 pub enum Frame {
     /// The parcels of one round, and the round's number, 1 to R.
     Round {
-        /// The round.
+        /// The number of the round.
         number: u8,
         /// The parcels, in order.
         parcels: Vec<Parcel>,
@@ -19,7 +19,7 @@ pub enum Frame {
 }
 
 impl Frame {
-    /// Returns the round of the frame, and None of the last word.
+    /// Returns the round of the frame, or None for the last word.
     pub fn number(&self) -> Option<u8>
         ensures { result ≡ number_of (carried self.now) }
     {

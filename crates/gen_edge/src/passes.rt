@@ -1,4 +1,4 @@
-//! An edge, and the passes of the two who use it.
+//! An edge, and the two passes by which it is used.
 ghost use Rattle.std.specs.Prelude.{◌≡◌, ◌≤◌, [], length, vec_capacity};
 ghost use Rattle.crossbeam_queue.specs.Passes.{ruled_capacity, view};
 
@@ -10,8 +10,9 @@ use crossbeam_utils::sync::EventCount;
 /// A queue under the rule of an edge.
 pub(crate) type Line = RuledArrayQueue<Frame, PassView, Tie>;
 
-/// One direction between two generals: a queue that holds so many frames, at least one, and no lock. One pass puts on
-/// it and one takes from it. It has room for what is left in the end.
+/// One direction between two generals: a queue without a lock, with room for a fixed number of frames, at
+/// least one. One pass puts on it and one takes from it. It also has the memory for the frames that are left
+/// in the end.
 ///
 /// It may be dropped with frames on it; then nothing is said of them.
 #[derive(Drop)]
@@ -22,8 +23,8 @@ pub struct Edge {
     ghost roomy: { (room.items ≡ []) × (ruled_capacity line ≤ vec_capacity room) },
 }
 
-/// The right to put on one edge, which no other value has. It keeps how many frames were put by it, at most one for
-/// each round of the run, and whether the last word was.
+/// The right to put on one edge, which no other value has. It keeps how many frames were put by it, at most
+/// one for each round of the run, and whether the last word was put.
 #[derive(Drop)]
 pub struct PutPass {
     pub(crate) pass: Pass<Frame, PassView>,
@@ -33,8 +34,8 @@ pub struct PutPass {
     ghost within: { put ≤ length (view pass).frames },
 }
 
-/// The right to take from one edge, which no other value has. It keeps how many frames were taken by it, at most one
-/// for each round of the run, and whether the last word was.
+/// The right to take from one edge, which no other value has. It keeps how many frames were taken by it, at
+/// most one for each round of the run, and whether the last word was taken.
 #[derive(Drop)]
 pub struct TakePass {
     pub(crate) pass: Pass<Frame, PassView>,
@@ -47,6 +48,7 @@ pub struct TakePass {
 /// What was put on an edge and not taken.
 #[derive(Drop)]
 pub struct Left {
-    /// The frames, in the order in which they were put, and last the word that no more comes where it was put.
+    /// The frames, in the order in which they were put, and behind them the word that no more comes, if it
+    /// was put and not taken.
     pub frames: Vec<Frame>,
 }

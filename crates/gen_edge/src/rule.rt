@@ -1,11 +1,11 @@
-//! The rule of an edge's queue, and what its steps tell.
+//! The rule of an edge's queue, and what the steps on it tell.
 use crate::frames::Frame;
 use crossbeam_queue::protocol::{Join, Lesson, Outcome, Protocol, Split};
 use std::collections::LinkedList;
 use std::marker::{Brand, PhantomData};
 
-// What a pass may do, the frames of the run on this edge, how far it has come, and how much it was told was taken and
-// put. No value of it is made.
+// What a pass may do, the frames of the run on this edge, how much the pass has put and taken, and how much
+// it was told was taken and put. No value of this type is made.
 pub struct PassView {
     pub puts: bool,
     pub takes: bool,
@@ -43,7 +43,7 @@ impl Naming for Brand {
     ghost frames = { [] };
 }
 
-// Gives the two ends their sides, and both the run's frames.
+// Splits the first pass into a pass to put and a pass to take, both with the run's frames.
 pub struct Opens<N> {
     named: PhantomData<N>,
 }
@@ -66,7 +66,7 @@ impl Join<PassView> for Ends {
     ghost spent = { spent_side };
 }
 
-// Who puts makes news of what was put.
+// A pass to put tells how much was put.
 pub struct TellsPuts;
 
 impl Split<PassView> for TellsPuts {
@@ -77,7 +77,7 @@ impl Split<PassView> for TellsPuts {
     ghost right = { news_of_puts };
 }
 
-// Who takes hears it.
+// A pass to take is told how much was put.
 pub struct HearsPuts;
 
 impl Join<PassView> for HearsPuts {
@@ -88,7 +88,7 @@ impl Join<PassView> for HearsPuts {
     ghost spent = { spent_side };
 }
 
-// Who takes makes news of what was taken.
+// A pass to take tells how many frames were taken.
 pub struct TellsTakes;
 
 impl Split<PassView> for TellsTakes {
@@ -99,7 +99,7 @@ impl Split<PassView> for TellsTakes {
     ghost right = { news_of_takes };
 }
 
-// Who puts hears it.
+// A pass to put is told how many frames were taken.
 pub struct HearsTakes;
 
 impl Join<PassView> for HearsTakes {
@@ -138,7 +138,7 @@ impl Lesson<Frame, PassView> for Takes {
     ghost fact = { TakesSee };
 }
 
-// A take with both sides in one pass.
+// A take by one pass that has both sides.
 pub struct Drains;
 
 impl Outcome<Frame, PassView> for Drains {
@@ -153,7 +153,7 @@ impl Lesson<Frame, PassView> for Drains {
     ghost fact = { Rests };
 }
 
-// With both sides in one pass: what was put is what was taken and what the queue holds.
+// What one pass with both sides learns: what was put is what was taken, followed by what the queue holds.
 pub struct Settles;
 
 impl Lesson<Frame, PassView> for Settles {

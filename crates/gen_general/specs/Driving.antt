@@ -1,4 +1,4 @@
--- The generals of a scenario, all together, while they go from round to round.
+-- All generals of a scenario together, round by round.
 use Rattle.std.specs.Prelude.{ℕ, ◌≡◌, ◌+◌, not, List, map, filter}
 use Rattle.std.specs.List.{range_with_len, flat_map}
 use Rattle.gen_scenario.specs.declared.heard.Heard.{Heard}
@@ -11,7 +11,7 @@ use Rattle.gen_scenario.specs.Rows.{FrameRow, row_at, rows_by, rows_in}
 use Rattle.gen_general.specs.Participant.{Participant}
 use Rattle.gen_general.specs.ParticipantLaws.{IsGeneralOf, IsIn}
 
--- he stands as this general of the scenario after the first k rounds
+-- the participant has the state of this general of the scenario after the first k rounds
 pub record StandsAfter (s : Scenario) (k g : ℕ) (p : Participant) : Type 0 where
   pub part : IsGeneralOf s g p
   pub heard : p.heard ≡ heard_by s k g
@@ -20,25 +20,25 @@ pub record StandsAfter (s : Scenario) (k g : ℕ) (p : Participant) : Type 0 whe
 abbrev pub AllStand : Scenario → ℕ → List Participant → Type 0
 AllStand s k = AllAre (StandsAfter s k) s.net.generals
 
--- before anybody hears
+-- all generals have begun round k + 1, and nobody has heard a frame of it
 abbrev pub AllBegun : Scenario → ℕ → List Participant → Type 0
 AllBegun s k = AllAre (λ g p. IsIn s k g p × (p.heard ≡ heard_by s k g)) s.net.generals
 
--- what a general hears of these in the round after the first k
+-- what a general hears from these senders in round k + 1
 abbrev pub hears_of : Scenario → ℕ → ℕ → List ℕ → List Heard
 hears_of s k to froms = flat_map (heard_of s (heard_by s k) (k + 1) to) froms
 
--- his frames to these
+-- the frames of round k + 1 from one general to these receivers
 abbrev pub rows_for : Scenario → ℕ → ℕ → List ℕ → List FrameRow
 rows_for s k from tos = map (row_at s (k + 1) from) tos
 
--- the frames of the first generals, and those of the first rounds
+-- the frames of the first n generals in round k + 1, and the frames of the first k rounds
 unfoldable pub rows_first : Scenario → ℕ → ℕ → List FrameRow
 rows_first s k n = flat_map (rows_by s (k + 1)) (range_with_len 0 n)
 
 unfoldable pub rows_until : Scenario → ℕ → List FrameRow
 rows_until s k = flat_map (rows_in s) (range_with_len 1 k)
 
--- what those of these generals decide who have no script
+-- the decisions of those of these generals that have no script
 abbrev pub decided_of : Scenario → List ℕ → List Decision
 decided_of s gs = map (decision_of s) (filter (λ g. not (has_script s g)) gs)

@@ -1,4 +1,4 @@
--- Definitions that only loops and the functions inside them speak of.
+-- Definitions that only loops and the functions inside them use.
 pub mod Acting
 pub mod Deciding
 pub mod Journals

@@ -1,4 +1,4 @@
--- A general as he stands in a run.
+-- The state of a general in a run.
 use Rattle.std.specs.Prelude.{ℕ, ◌≡◌, ◌<◌, ◌+◌, ◌↔◌, ◌⊎◌, List, [], ◌++◌, map, Option, Some, None, Contains}
 use Rattle.gen_tree.specs.Rings.{Ring}
 use Rattle.gen_net.specs.Header.{RunHeader, height_of}
@@ -12,8 +12,9 @@ use Rattle.gen_scenario.specs.SignedWorld.{delivery}
 use Rattle.gen_scenario.specs.SignerTrees.{keys_with}
 use Rattle.gen_scenario.specs.Part.{Part, own_keys}
 
--- what he knows of his own, his ring if he has no script, what he heard so far, what of it he had heard when
--- the round began that he is in, and that round, 0 before the first
+-- What the general knows of its own; its ring, if it has no script; and all chains that it heard so far. Also
+-- the chains of these that it heard before its current round began, and the number of that round, 0 before
+-- the first.
 pub record Participant : Type 0 where
   pub known : Part
   pub ring : Option Ring
@@ -21,11 +22,12 @@ pub record Participant : Type 0 where
   pub before : List Heard
   pub round : ℕ
 
--- as he is before the first round
+-- the state before the first round
 abbrev pub at_start : Part → Option Ring → Participant
 at_start known ring = record { known = known; ring = ring; heard = []; before = []; round = 0 }
 
--- what he signs with: the key of his own seed, or those whose trees he has
+-- the keys with which the general signs: its own, made of the ring's seed, or, with a script, those of the
+-- trees that it has
 abbrev pub keys_at : Part → Option Ring → Keys
 keys_at k None = keys_with k.header k.trees
 keys_at k (Some ring) = own_keys k.header ring.seed
@@ -34,17 +36,17 @@ abbrev pub sender_at : Participant → Sender
 sender_at p =
     record { keys = keys_at p.known p.ring; me = p.known.me; own = p.known.own; script = p.known.script }
 
--- the frame of this round that he sends a neighbour
+-- the frame of the current round that the general sends a neighbour
 abbrev pub sends : Participant → ℕ → List (List ℕ)
 sends p to = frame_of (sender_at p) p.before p.round to
 
--- what he hears of a frame of this round
+-- what the general hears of a frame of the current round: the chains of it that count
 abbrev pub hears : Participant → ℕ → List (List ℕ) → List Heard
 hears p from frame =
     map (λ c. record { from = from; chain = c })
     (counted_of p.known.header (delivery p.round from p.known.me) frame)
 
--- when he has heard it
+-- the state after the general heard that frame
 abbrev pub with_frame : Participant → ℕ → List (List ℕ) → Participant
 with_frame p from frame = record {
   known = p.known;
@@ -54,17 +56,17 @@ with_frame p from frame = record {
   round = p.round;
 }
 
--- no leaf of the run was taken from the ring, which is of the run's height
+-- the ring is of the run's height, and no leaf of the run was taken from it
 pub record IsUnused (h : RunHeader) (ring : Ring) : Type 0 where
   pub height : ring.height ≡ height_of h
   pub free : (n : ℕ) → n < leaves_per_run → Contains ring.taken (leaf_of_order h n) → ⊥
 
--- he has either a script or such a ring
+-- the general has either a script or such a ring
 abbrev pub MayStart : Part → Option Ring → Type 0
 MayStart k (Some ring) = (k.script ≡ None) × IsUnused k.header ring
 MayStart k None = k.script ≡ None → ⊥
 
--- the leaves that were taken from a ring in a round are those of the orders that he signed
+-- the leaves that were taken from a ring in a round are those of the orders that the general signed in it
 pub record IsSpentOn (h : RunHeader) (own : Option ℕ) (heard : List Heard) (round : ℕ) (old new : Ring) :
     Type 0 where
   pub seed : new.seed ≡ old.seed
@@ -77,7 +79,7 @@ RingAfter p (Some old) (Some new) = IsSpentOn p.known.header p.known.own p.heard
 RingAfter p None None = Unit {0}
 RingAfter p _ _ = ⊥
 
--- he has begun the next round
+-- the general has begun the next round
 pub record HasBegun (old new : Participant) : Type 0 where
   pub known : new.known ≡ old.known
   pub ring : RingAfter old old.ring new.ring

@@ -1,4 +1,5 @@
--- A general who is driven as the scenario says stands as it says: whoever drives him.
+-- A general that is driven as the scenario says has the state that the scenario says, whatever code drives
+-- it.
 use Rattle.std.specs.Prelude.{ℕ, ◌≡◌, ◌+◌, List, Option, Some, None}
 use Rattle.gen_tree.specs.Rings.{Ring, seed_of}
 use Rattle.gen_net.specs.Network.{rounds}
@@ -11,27 +12,28 @@ use Rattle.gen_scenario.specs.PartLaws.{ActAlike}
 use Rattle.gen_general.specs.Participant.{Participant, HasBegun, at_start, sender_at, sends, hears, with_frame}
 use Rattle.gen_scenario.specs.SignedWorld.{sender_of, own_order, heard_by, heard_of}
 
--- he is this general of the scenario: he knows its header, his number and his order, and acts as it says
+-- the participant is this general of the scenario: it knows the scenario's header, the general's number and
+-- order, and acts as the scenario says
 pub record IsGeneralOf (s : Scenario) (g : ℕ) (p : Participant) : Type 0 where
   pub header : p.known.header ≡ header_of s
   pub me : p.known.me ≡ g
   pub own : p.known.own ≡ own_order s g
   pub alike : ActAlike (sender_at p) (sender_of s g)
 
--- the ring of his own seed, or none where he has a script
+-- the ring has the general's own seed, or there is none because the general has a script
 abbrev pub IsOwnRing : Scenario → ℕ → Option (List ScriptLine) → Option Ring → Type 0
 IsOwnRing s g None (Some ring) = ring.seed ≡ seed_of s.master g
 IsOwnRing s g None None = ⊥
 IsOwnRing s g (Some lines) (Some ring) = ⊥
 IsOwnRing s g (Some lines) None = Unit {0}
 
--- with what he knows and such a ring he is he
+-- with the knowledge and the ring of a general, a participant is that general before the first round
 abbrev pub StartsAsHe : Type 0
 StartsAsHe =
     (s : Scenario) (g : ℕ) (ring : Option Ring) → IsScenario s → IsOwnRing s g (script_of s.scripts g) ring
     → IsGeneralOf s g (at_start (part_of s g) ring)
 
--- and he stays it when a round begins, and when he hears
+-- the participant still is that general after it begins a round, and after it hears a frame
 abbrev pub BeginsAsHe : Type 0
 BeginsAsHe = (s : Scenario) (g : ℕ) (p q : Participant) → IsGeneralOf s g p → HasBegun p q → IsGeneralOf s g q
 
@@ -40,13 +42,13 @@ HearsAsHe =
     (s : Scenario) (g from : ℕ) (p : Participant) (frame : List (List ℕ)) → IsGeneralOf s g p
     → IsGeneralOf s g (with_frame p from frame)
 
--- he is in the round after the first k, before which he had heard what the scenario has him hear
+-- the general is in round k + 1, and before that round it had heard what the scenario says
 pub record IsIn (s : Scenario) (k g : ℕ) (p : Participant) : Type 0 where
   pub part : IsGeneralOf s g p
   pub before : p.before ≡ heard_by s k g
   pub round : p.round ≡ k + 1
 
--- then he sends the scenario's frames, and hears of a neighbour's what it has him hear
+-- then it sends the scenario's frames, and from a neighbour's frame it hears what the scenario says
 abbrev pub SendsFrames : Type 0
 SendsFrames =
     (s : Scenario) (k g to : ℕ) (p : Participant) → IsIn s k g p
@@ -58,7 +60,7 @@ HearsFrames =
     → hears p from (frame_of (sender_of s from) (heard_by s k from) (k + 1) g)
     ≡ heard_of s (heard_by s k) (k + 1) g from
 
--- and after the last round he decides what it has him decide
+-- after the last round it decides what the scenario says
 abbrev pub DecidesAsHe : Type 0
 DecidesAsHe =
     (s : Scenario) (g : ℕ) (p : Participant) → IsGeneralOf s g p → p.heard ≡ heard_by s (rounds s.net) g

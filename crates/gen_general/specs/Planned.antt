@@ -11,7 +11,7 @@ use Rattle.gen_scenario.specs.Signing.{Keys}
 use Rattle.gen_scenario.specs.Frames.{Sender, signed_by_line, parcels_of, traitors_frame}
 use Rattle.gen_scenario.specs.RoundEntries.{signs_by, sends_by}
 
--- the line sends something in this round
+-- whether the line sends something in this round
 abbrev pub is_sent_in : ℕ → ScriptLine → Bool
 is_sent_in at (Make round to order path) = round == at
 is_sent_in at (Pass round to from order path) = round == at
@@ -19,7 +19,7 @@ is_sent_in at (Bend round to from order) = round == at
 is_sent_in at (Raw round to parcel) = round == at
 is_sent_in at _ = false
 
--- what the line sends: a chain that its general signs, or bytes
+-- what the line sends: a chain, or other bytes
 abbrev pub planned_of : Keys → ℕ → List Heard → ScriptLine → List Planned
 planned_of k me heard (Make round to order path) =
     map (Signed to) (signed_by_line k heard (Make round to order path))
@@ -34,7 +34,7 @@ planned_of k me heard _ = []
 unfoldable pub planned_in : Keys → ℕ → List ScriptLine → List Heard → ℕ → List Planned
 planned_in k me lines heard round = flat_map (planned_of k me heard) (filter (is_sent_in round) lines)
 
--- who gets it, its bytes, and the chain that it is
+-- the neighbour that gets it, its bytes, and the chain that it is, if it is one
 abbrev pub receiver_of : Planned → ℕ
 receiver_of (Signed to chain) = to
 receiver_of (Bytes to parcel) = to
@@ -47,20 +47,20 @@ abbrev pub chain_of : Planned → List Chain
 chain_of (Signed to chain) = chain ∷ []
 chain_of (Bytes to parcel) = []
 
--- of what is planned, what goes to a neighbour
+-- what is planned for one neighbour
 abbrev pub planned_to : ℕ → List Planned → List Planned
 planned_to to planned = filter (λ one. receiver_of one == to) planned
 
 -- ---- laws
 
--- its bytes are the frame to a neighbour
+-- the bytes of what is planned for a neighbour are the frame to that neighbour
 abbrev pub PlansFrames : Type 0
 PlansFrames =
     (k : Keys) (me : ℕ) (lines : List ScriptLine) (heard : List Heard) (round to : ℕ)
     → map bytes_of (planned_to to (planned_in k me lines heard round))
     ≡ traitors_frame k me lines heard round to
 
--- its chains are what he signs, and of those that go to a neighbour what he sends
+-- the planned chains are what the general signs, and those for a neighbour are what it sends that neighbour
 abbrev pub PlansSigns : Type 0
 PlansSigns =
     (p : Sender) (lines : List ScriptLine) (heard : List Heard) (round : ℕ)

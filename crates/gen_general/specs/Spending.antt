@@ -1,4 +1,4 @@
--- Which leaves of a general's ring the texts of his log take.
+-- Which leaves of a general's ring the signed texts of its log take.
 use Rattle.std.specs.Prelude.{ℕ, ◌≡◌, ◌↔◌, ◌⊎◌, List, Contains, None}
 use Rattle.gen_tree.specs.Rings.{Ring}
 use Rattle.gen_net.specs.Header.{RunHeader}
@@ -15,7 +15,7 @@ use Rattle.gen_scenario.specs.RoundEntries.{sign_entries}
 use Rattle.gen_scenario.specs.WorldLogs.{logs_of}
 use Rattle.gen_general.specs.Following.{IsSignedWith}
 
--- the leaf is that of the order of a SIGN among these entries
+-- the leaf belongs to the order of a SIGN among these entries
 pub record IsLeafOfSign (h : RunHeader) (entries : List Entry) (leaf : ℕ) : Type 0 where
   pub order : ℕ
   pub path : List ℕ
@@ -23,7 +23,7 @@ pub record IsLeafOfSign (h : RunHeader) (entries : List Entry) (leaf : ℕ) : Ty
   pub stands : Contains entries (Sign order path signature)
   pub leaf_is : leaf ≡ leaf_of_order h order
 
--- the leaf is that of a text that is signed in the log: of its head, or of the statement of a SIGN
+-- the leaf belongs to a text that is signed in the log: to its head, or to the statement of a SIGN
 abbrev pub IsLeafOfLog : RunHeader → RunLog → ℕ → Type 0
 IsLeafOfLog h log leaf = (leaf ≡ leaf_of_head h) ⊎ IsLeafOfSign h log.entries leaf
 
@@ -35,14 +35,15 @@ IsSpentOnLogs h logs old new =
 
 -- ---- laws
 
--- the leaves that one without a script takes in a round are those of the SIGNs that he writes in it
+-- the leaves that a general without a script takes in a round are those of the SIGNs that it writes in that
+-- round
 abbrev pub SignsTakeLeaves : Type 0
 SignsTakeLeaves =
     (p : Sender) (heard : List Heard) (round leaf : ℕ) → p.script ≡ None
     → IsSignedWith p.keys.header p.own heard round leaf
     ↔ IsLeafOfSign p.keys.header (sign_entries p heard round) leaf
 
--- one leaf has one text of the log
+-- each leaf signs at most one text of the log
 pub record EachLeafSignsOnce (h : RunHeader) (log : RunLog) : Type 0 where
   pub statements : (x y : Statement) → HasSign log x → HasSign log y
       → leaf_of_order h x.order ≡ leaf_of_order h y.order → x ≡ y

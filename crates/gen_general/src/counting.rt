@@ -13,7 +13,8 @@ use gen_script::Parcel;
 use gen_types::{GeneralNo, OrderNo, ReadError};
 use std::alloc::{AllocError, Global};
 
-/// Whether a chain of this frame may count. The signatures come last.
+/// Whether a chain of this frame may count: it has as many signers as the round's number, the sender is the
+/// last of them, the receiver is none, and the signatures verify. The signatures are checked last.
 fn may_count(
     header: &Header,
     store: &mut VerifyStore,
@@ -37,7 +38,7 @@ fn may_count(
     store.chain_verifies(header, chain)
 }
 
-/// The chain that a parcel is, where it is exactly one and may count.
+/// Returns the chain that a parcel holds, if the parcel is exactly one chain and that chain may count.
 fn carried(
     alloc: Global,
     header: &Header,
@@ -74,7 +75,7 @@ fn has_order(chains: &[SignedChain], order: OrderNo) -> bool
     chains.iter().any(|chain| chain.order() == order)
 }
 
-/// Appends the chain of one parcel more, where it counts after those of the parcels before it.
+/// Appends the chain of one more parcel, if it counts behind the chains of the parcels before it.
 fn count_parcel(
     alloc: Global,
     header: &Header,
@@ -97,16 +98,17 @@ fn count_parcel(
     Ok(())
 }
 
-/// Returns the chains of a frame that count at its receiver, in the order of their parcels: none where the
-/// frame has more parcels than there are orders; else each parcel that is exactly one chain, verifies, has
-/// as many signers as the round's number, of whom the sender is the last and the receiver none, and is the
-/// first such of its order. All other parcels are ignored.
+/// Returns the chains of a frame that count at its receiver, in the order of their parcels. There are none if
+/// the frame has more parcels than there are orders. Otherwise a parcel counts if it is exactly one chain
+/// that may count, and no parcel before it has such a chain of the same order. A chain may count if it
+/// verifies and has as many signers as the round's number, the last of them the sender and none of them the
+/// receiver. All other parcels are ignored.
 ///
-/// The signatures are checked through the store, so what it keeps is not verified again.
+/// The signatures are checked through the store, so a check that the store keeps is not made again.
 ///
 /// # Errors
 ///
-/// Only where memory was refused: then the store keeps the checks that were made before.
+/// `AllocError` if memory is refused: the store then keeps the checks that were made before.
 pub fn count_frame(
     alloc: Global,
     header: &Header,
@@ -115,10 +117,10 @@ pub fn count_frame(
     frame: &[Parcel],
 ) -> Result<Vec<SignedChain>, AllocError>
     requires serves { Serves header.now store.old }
-    // Which chains they are.
+    // Which chains count.
     ensures counted { IfOk result (λ chains.
         AreCounted header.now delivery.now frame.now chains.items) }
-    // And in which order.
+    // In which order they stand.
     ensures exact { IfOk result (λ chains.
         chains.items ≡ counted_of header.now delivery.now frame.now) }
     ensures serves { Serves header.now store.new }

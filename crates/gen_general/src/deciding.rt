@@ -16,7 +16,7 @@ fn has_heard(order: OrderNo, heard: &[Heard]) -> bool
     heard.iter().any(|x| x.chain.order() == order)
 }
 
-/// Makes an order that was heard a member of the set.
+/// Inserts the order into the set, if a chain of it was heard.
 fn note_order(set: &mut OrderSet, order: OrderNo, heard: &[Heard])
     ensures { IsListOf set.new (λ v. Contains set.old v ⊎ ((v ≡ order) × HasHeard heard.now order)) }
 {
@@ -26,7 +26,7 @@ fn note_order(set: &mut OrderSet, order: OrderNo, heard: &[Heard])
     }
 }
 
-/// The set of those of the first orders that were heard.
+/// Returns the set of the orders below `orders` of which a chain was heard.
 fn orders_among(orders: u8, heard: &[Heard]) -> OrderSet
     requires { orders ≤ 16 }
     ensures { result ≡ orders_heard orders heard.now }
@@ -38,8 +38,8 @@ fn orders_among(orders: u8, heard: &[Heard]) -> OrderSet
     set
 }
 
-/// Returns what a general decides who heard this in all rounds: the commander his own order, a lieutenant
-/// the choice from the orders that he heard.
+/// Returns the decision of a general that heard these chains in all rounds. The commander decides its own
+/// order. A lieutenant decides the choice from the set of orders that it heard.
 pub(crate) fn decide(net: &Net, me: GeneralNo, own: Option<OrderNo>, heard: &[Heard]) -> Decision
     ensures { result ≡ decided_by net.now me own heard.now }
 {

@@ -1,4 +1,4 @@
-//! The generals of a scenario, before whoever drives them.
+//! Making the generals of a scenario, for whatever code drives them.
 ghost use Rattle.std.specs.Prelude.{◌<◌, IfOk};
 ghost use Rattle.gen_general.specs.Driving.{StandsAfter};
 ghost use Rattle.gen_general.specs.DrivenRecords.{RecordsAfter};
@@ -10,11 +10,12 @@ use gen_tree::close_ring;
 use gen_types::GeneralNo;
 use std::alloc::{AllocError, Global};
 
-/// Makes a general of the scenario, as he is before the first round. He must be one of the network's.
+/// Makes a general of the scenario, in its state before the first round. The number must be that of a general
+/// of the network.
 ///
 /// # Errors
 ///
-/// `AllocError` where memory is refused.
+/// `AllocError` if memory is refused.
 pub fn participant_of(
     alloc: Global,
     scenario: &Scenario,
@@ -35,11 +36,12 @@ pub fn participant_of(
     }
 }
 
-/// Makes a general of the scenario who keeps his log, as he is before the first round. He must be one of the network's.
+/// Makes a general of the scenario that keeps a log, in its state before the first round. The number must be
+/// that of a general of the network.
 ///
 /// # Errors
 ///
-/// `AllocError` where memory is refused.
+/// `AllocError` if memory is refused.
 pub fn recorder_of(
     alloc: Global,
     scenario: &Scenario,

@@ -1,4 +1,4 @@
-//! A general without a script: his ring, and what he signed in the round that he is in.
+//! A general without a script: its ring, and what it signed in its current round.
 ghost use Rattle.std.specs.Prelude.{◌≡◌, [], map, option_map, IfOk, OnOk, OnErr};
 ghost use Rattle.gen_chain.specs.Chain.{chain_spelling};
 ghost use Rattle.gen_scenario.specs.Frames.{outside_of};
@@ -16,8 +16,8 @@ use gen_types::{GeneralNo, OrderNo};
 use std::alloc::{AllocError, Global};
 use std::marker::Model;
 
-/// Who has no script. He holds his ring, so he has to be ended by `into_ring`. A contract sees the ring and
-/// the chains that he signed in this round.
+/// A general that has no script. It holds its ring, so it has to be ended by `into_ring`. A contract sees the
+/// ring and the chains that the general signed in this round.
 pub(crate) struct Follower {
     ring: KeyRing,
     signed: Vec<SignedChain>,
@@ -32,7 +32,7 @@ impl Model for Follower {
 }
 
 impl Follower {
-    /// Returns the general with this ring, who has signed nothing.
+    /// Returns the general with this ring, which has signed nothing.
     pub(crate) fn new(alloc: Global, ring: KeyRing) -> Follower
         ensures { result ≡ record { ring = ring; signed = [] } }
     {
@@ -42,8 +42,8 @@ impl Follower {
         }
     }
 
-    /// Signs what is to be signed in this round, where this was heard before. Where memory is refused
-    /// nothing has changed.
+    /// Signs what the general has to sign in this round; `heard` is what it heard in earlier rounds. If
+    /// memory is refused, nothing has changed.
     pub(crate) fn begin(
         &mut self,
         alloc: Global,
@@ -78,21 +78,21 @@ impl Follower {
         frame_of_chains(alloc, self.signed.as_slice(), to)
     }
 
-    /// Returns the first chain of an order among those that he signed in this round.
+    /// Returns the first chain of an order among those that the general signed in this round.
     pub(crate) fn first_signed(&self, order: OrderNo) -> Option<&SignedChain>
         ensures { option_map (λ c. c.now) result ≡ chain_with order self.now.signed }
     {
         find_chain(order, self.signed.as_slice())
     }
 
-    /// Returns the first chain of an order among those that he sends a neighbour in this round.
+    /// Returns the first chain of an order among those that the general sends a neighbour in this round.
     pub(crate) fn first_sent(&self, to: GeneralNo, order: OrderNo) -> Option<&SignedChain>
         ensures { option_map (λ c. c.now) result ≡ chain_with order (outside_of to self.now.signed) }
     {
         find_outside(to, order, self.signed.as_slice())
     }
 
-    /// Ends the general, and returns his ring.
+    /// Ends the general, and returns its ring.
     pub(crate) fn into_ring(self) -> KeyRing
         ensures { result ≡ self.ring }
     {

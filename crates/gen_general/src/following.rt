@@ -1,4 +1,4 @@
-//! What a general without a script signs, and the parcels of it.
+//! What a general without a script signs, and the parcels of the chains that it signed.
 ghost use Rattle.std.specs.Prelude.{◌≡◌, ◌≤◌, ◌<◌, ◌+◌, ◌↔◌, ◌⊎◌, ◌++◌, ◌∷◌, [], ℕ, map, Some, None, All, Contains, IfSome, IfOk, OnOk, OnErr, length, option_map, vec_len, vec_capacity};
 ghost use Rattle.gen_net.specs.Header.{height_of};
 ghost use Rattle.gen_chain.specs.Chain.{IsSignedChain, signed_path, chain_spelling};
@@ -21,7 +21,7 @@ use gen_types::{GeneralNo, OrderNo};
 use std::alloc::{AllocError, Global};
 use std::marker::Model;
 
-/// SignRoom for signing one chain. A contract sees for how many signers it is, and the height of the trees
+/// Room for signing one chain. A contract sees how many signers it has room for, and the height of the trees
 /// by which they sign.
 #[derive(Drop)]
 struct SignRoom {
@@ -37,7 +37,7 @@ impl Model for SignRoom {
     ghost view = { λ r. record { signers = r.chain; height = r.signature } };
 }
 
-/// Returns what was first heard of an order, where that was in the round before this one.
+/// Returns the first chain that was heard of an order, if it was heard in the round before this one.
 fn due_in(order: OrderNo, round: u8, heard: &[Heard]) -> Option<&Heard>
     ensures { option_map (λ x. x.now) result ≡ due_of round (first_of order heard.now) }
 {
@@ -47,7 +47,7 @@ fn due_in(order: OrderNo, round: u8, heard: &[Heard]) -> Option<&Heard>
     }
 }
 
-/// Makes room for signing what is due of an order, if something is.
+/// Makes room for signing an order, if it has to be signed in this round.
 fn add_room(
     alloc: Global,
     header: &Header,
@@ -89,7 +89,8 @@ fn rooms_for(
     Ok(rooms)
 }
 
-/// Signs a chain with the ring's key of its order, in room that was made before.
+/// Signs a chain with the ring's key of its order, in room that was made before. The general must be a new
+/// signer, and the leaf of the order must not be taken.
 fn sign_on(
     header: &Header,
     ring: &mut KeyRing,
@@ -118,7 +119,7 @@ fn sign_on(
     extend_chain(header, me, chain, chain_room, signature, key)
 }
 
-/// Signs what is due of an order, if something is, in room that was made before.
+/// Signs an order, if it has to be signed in this round, in room that was made before.
 fn relay_order(
     header: &Header,
     ring: &mut KeyRing,
@@ -160,8 +161,8 @@ fn relay_order(
     }
 }
 
-/// Signs what a lieutenant first heard in the round before, in ascending order of orders. Where memory is
-/// refused the ring is as before.
+/// Signs each chain that a lieutenant first heard of its order in the round before, in ascending order of
+/// orders. If memory is refused, the ring is as before.
 fn sign_relays(
     alloc: Global,
     header: &Header,
@@ -201,7 +202,8 @@ fn sign_relays(
     Ok(signed)
 }
 
-/// Signs the commander's order in round 1. Where memory is refused the ring is as before.
+/// Signs the commander's order if this is round 1; in other rounds nothing is signed. If memory is refused,
+/// the ring is as before.
 fn sign_own(
     alloc: Global,
     header: &Header,
@@ -234,8 +236,8 @@ fn sign_own(
     Ok(signed)
 }
 
-/// Signs what a general without a script signs in a round, the commander's order or what a lieutenant first
-/// heard in the round before. Where memory is refused the ring is as before.
+/// Signs what a general without a script signs in a round: the commander its order in round 1, a lieutenant
+/// the chains that it first heard in the round before. If memory is refused, the ring is as before.
 pub(crate) fn sign_round(
     alloc: Global,
     header: &Header,
@@ -265,7 +267,7 @@ pub(crate) fn sign_round(
     }
 }
 
-/// Puts the parcel of a chain into a frame, unless the receiver is one of its signers.
+/// Appends the parcel of a chain to a frame, unless the receiver is one of its signers.
 fn put_parcel(
     alloc: Global,
     chain: &SignedChain,
@@ -281,7 +283,7 @@ fn put_parcel(
     Ok(())
 }
 
-/// Returns the parcels of those chains of whose signers the receiver is none.
+/// Returns the parcels of those chains that the receiver has not signed.
 pub(crate) fn frame_of_chains(
     alloc: Global,
     chains: &[SignedChain],

@@ -1,4 +1,4 @@
-//! Looking through what a general heard.
+//! Finding a chain among what a general heard.
 ghost use Rattle.std.specs.Prelude.{◌≡◌, option_map, ◌==◌, ◌&&◌, length};
 ghost use Rattle.gen_chain.specs.Chain.{signed_path};
 ghost use Rattle.gen_scenario.specs.Heard.{first_of, heard_from};

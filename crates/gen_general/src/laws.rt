@@ -1,22 +1,25 @@
-//! Laws of what one general does. Each is a function with an empty body whose contract is the law: a caller
-//! that calls it knows the law.
+//! Laws about what one general does. Each is a function with an empty body whose contract is the law: a
+//! caller that calls it knows the law.
 ghost use Rattle.gen_general.specs.ParticipantLaws.{StartsAsHe, BeginsAsHe, HearsAsHe, SendsFrames, HearsFrames, DecidesAsHe};
 ghost use Rattle.gen_general.specs.Planned.{PlansFrames, PlansSends, PlansSigns};
 ghost use Rattle.gen_general.specs.Spending.{FollowersSignOnce, SignsTakeLeaves};
 
-/// What a script has its general send in a round, as `Planned` has it: `frames`, its bytes make the frame to
-/// a neighbour; `signs`, its chains are what he signs; `sends`, those for a neighbour are what he sends him.
+/// States what `Planned` says about a script in a round. The bytes of what is planned for a neighbour make
+/// the frame to that neighbour (`frames`). The planned chains are those that the general signs (`signs`).
+/// Those for a neighbour are the chains that the general sends that neighbour (`sends`).
 pub fn plans_are_frames()
     ensures frames { PlansFrames }
     ensures signs { PlansSigns }
     ensures sends { PlansSends }
 {}
 
-/// Who is driven as a scenario says stands in its run, whoever drives him: with what he knows of the scenario
-/// and his own ring he is its general (`start`), and stays it when a round begins (`begin`) and when he hears
-/// (`hear`); in a round before which he heard what the scenario has him hear, he sends the frames of the run
-/// (`frames`) and hears of them what the scenario has him hear (`heard`); and after the last round he decides
-/// what it has him decide (`decide`).
+/// States that a general that is driven as a scenario says has the scenario's state, whatever code drives it.
+/// With its own knowledge of the scenario and its own ring it is the scenario's general (`start`). It remains
+/// so when it begins a round (`begin`) and when it hears a frame (`hear`).
+///
+/// In a round before which it heard what the scenario says, it sends the frames of the run (`frames`), and
+/// hears of a neighbour's frame what the scenario says (`heard`). After the last round it decides what the
+/// scenario says (`decide`).
 pub fn participants_are_generals()
     ensures start { StartsAsHe }
     ensures begin { BeginsAsHe }
@@ -26,8 +29,9 @@ pub fn participants_are_generals()
     ensures decide { DecidesAsHe }
 {}
 
-/// Which leaves of his ring one without a script takes: in each round those of the SIGNs that he writes in it
-/// (`round`); and in his log of a scenario's run each leaf has one text (`once`).
+/// States which leaves of its ring a general without a script takes. In each round they are those of the
+/// SIGNs that it writes in that round (`round`). In its log of a scenario's run each leaf signs at most one
+/// text (`once`).
 pub fn texts_take_leaves()
     ensures round { SignsTakeLeaves }
     ensures once { FollowersSignOnce }

@@ -1,9 +1,10 @@
-//! What one general does in a run, and the log that he keeps of it.
+//! What one general does in a run, and the log that it keeps of the run.
 //!
-//! A participant is a general as he stands in a run: what he knows of his own, his ring, what he heard. A
-//! recorder is one who also writes his log. Their contracts speak of what he knows and heard, and of no
-//! scenario; laws say that whoever drives him as a scenario says has that scenario's general before him. In
-//! which order generals act is left to who drives them: rounds, a machine of interleavings, threads.
+//! A participant is the state of a general in a run: what it knows of its own, its ring, and what it heard. A
+//! recorder is a participant that also writes its log. Their contracts speak of what the general knows and
+//! heard, not of a scenario. Laws say that a participant that is driven as a scenario says is that scenario's
+//! general. The order in which generals act is left to the code that drives them: rounds, a machine of
+//! interleavings, or threads.
 #![tactic(auto)]
 
 mod counting;

@@ -1,4 +1,4 @@
-//! What a general does in a round, by whether he has a script.
+//! What a general does in a round, which depends on whether it has a script.
 ghost use Rattle.std.specs.Prelude.{◌≡◌, Some, option_map, IfOk, OnOk, OnErr};
 ghost use Rattle.gen_general.specs.Following.{AreOthers};
 ghost use Rattle.gen_general.specs.Loops.Journals.{chain_with};
@@ -15,14 +15,14 @@ use std::alloc::{AllocError, Global};
 
 /// How a general behaves.
 pub(crate) enum Role {
-    /// He has no script, and follows the algorithm.
+    /// The general has no script, and follows the algorithm.
     Loyal(Follower),
-    /// He has a script, and does what it says.
+    /// The general has a script, and does what the script says.
     Scripted(Traitor),
 }
 
 impl Role {
-    /// Returns the role of a general before the first round: with a ring he has no script.
+    /// Returns the role of a general before the first round. A general with a ring has no script.
     pub(crate) fn new(alloc: Global, ring: Option<KeyRing>) -> Role
         ensures ring { ring_of result ≡ ring }
         ensures start { IsStart result }
@@ -33,7 +33,8 @@ impl Role {
         }
     }
 
-    /// Begins a round, where this was heard before. Where memory is refused nothing has changed.
+    /// Begins a round; `heard` is what the general heard in earlier rounds. If memory is refused, nothing has
+    /// changed.
     pub(crate) fn begin(
         &mut self,
         alloc: Global,
@@ -62,7 +63,7 @@ impl Role {
         }
     }
 
-    /// Returns the first chain of an order among those that he signs in this round.
+    /// Returns the first chain of an order among those that the general signs in this round.
     pub(crate) fn first_signed(&self, order: OrderNo) -> Option<&SignedChain>
         ensures { option_map (λ c. c.now) result ≡ chain_with order (role_signs self.now) }
     {
@@ -72,7 +73,7 @@ impl Role {
         }
     }
 
-    /// Returns the first chain of an order among those that he sends a neighbour in this round.
+    /// Returns the first chain of an order among those that the general sends a neighbour in this round.
     pub(crate) fn first_sent(&self, to: GeneralNo, order: OrderNo) -> Option<&SignedChain>
         ensures { option_map (λ c. c.now) result ≡ chain_with order (role_sends self.now to) }
     {
@@ -82,7 +83,7 @@ impl Role {
         }
     }
 
-    /// Ends the general, and returns his ring, if he has one.
+    /// Ends the general, and returns its ring, if it has one.
     pub(crate) fn into_ring(self) -> Option<KeyRing>
         ensures { result ≡ ring_of self }
     {

@@ -26,19 +26,19 @@ use std::alloc::{AllocError, Global};
 /// The most significant bit of a byte.
 const TOP_BIT: u8 = 0x80;
 
-/// What a line of a script sends: a chain that its general signs, or bytes of other making.
+/// What a line of a script sends: a chain, or other bytes.
 #[derive(Debug, Drop)]
 pub enum Planned {
-    /// A chain.
+    /// A chain that the line has its general sign.
     Chain {
-        /// The neighbour who gets it.
+        /// The neighbour that gets it.
         to: GeneralNo,
         /// The chain.
         chain: SignedChain,
     },
-    /// A parcel of bytes, of which his log says nothing.
+    /// A parcel of bytes, which has no entry in the general's log.
     Bytes {
-        /// The neighbour who gets it.
+        /// The neighbour that gets it.
         to: GeneralNo,
         /// The parcel.
         parcel: Parcel,
@@ -46,7 +46,7 @@ pub enum Planned {
 }
 
 impl Planned {
-    /// Returns the neighbour who gets it.
+    /// Returns the neighbour that gets it.
     pub(crate) fn to(&self) -> GeneralNo
         ensures { result ≡ receiver_of self.now }
     {
@@ -55,11 +55,11 @@ impl Planned {
         }
     }
 
-    /// Returns the parcel that it is in a frame.
+    /// Returns the parcel that stands for it in a frame: the bytes of the chain, or the bytes themselves.
     ///
     /// # Errors
     ///
-    /// `AllocError` where memory is refused.
+    /// `AllocError` if memory is refused.
     fn parcel(&self, alloc: Global) -> Result<Parcel, AllocError>
         ensures { IfOk result (λ parcel. parcel ≡ bytes_of self.now) }
     {
@@ -83,21 +83,22 @@ fn is_sent_in(line: &ScriptLine, at: u8) -> bool
     }
 }
 
-/// Whether the general stands in the path.
+/// Whether the general is in the path.
 pub(crate) fn stands_in(path: &Path, general: GeneralNo) -> bool
     ensures { result ≡ is_among path.now general }
 {
     path.contains(general)
 }
 
-/// Whether a general of the path has signed already.
+/// Whether a general of the path is among those that have signed.
 fn repeats(signed: &Path, path: &[GeneralNo]) -> bool
     ensures { result ≡ list_any (is_among signed.now) path.now }
 {
     path.iter().any(|general| stands_in(signed, *general))
 }
 
-/// The chain that was heard, lengthened by a path; none where nothing was heard, or a general would repeat.
+/// Returns the chain that was heard, lengthened by a path, or none if nothing was heard or a general would
+/// sign twice.
 fn pass_along(
     alloc: Global,
     header: &Header,
@@ -122,14 +123,14 @@ fn pass_along(
     Ok(Some(longer))
 }
 
-/// The byte with its most significant bit flipped.
+/// Returns the byte with its most significant bit flipped.
 fn flip_top_bit(byte: u8) -> u8
     ensures { result ≡ flipped byte }
 {
     byte ^ TOP_BIT
 }
 
-/// The parcel that is this chain, but for the most significant bit of the last signature's first byte.
+/// Returns the bytes of this chain, with the most significant bit of the last signature's first byte flipped.
 fn bend(alloc: Global, chain: &SignedChain) -> Result<Parcel, AllocError>
     ensures { IfOk result (λ parcel. parcel ≡ chain_spelling (bent chain.now)) }
 {
@@ -139,7 +140,7 @@ fn bend(alloc: Global, chain: &SignedChain) -> Result<Parcel, AllocError>
     Ok(Parcel::new(bytes))
 }
 
-/// The chain, if there is one, for a neighbour.
+/// Returns the chain, if there is one, as planned for a neighbour.
 fn chain_to(to: GeneralNo, chain: Option<SignedChain>) -> Option<Planned>
     ensures { option_to_list result ≡ map (Signed to) (option_to_list chain) }
 {
@@ -149,7 +150,7 @@ fn chain_to(to: GeneralNo, chain: Option<SignedChain>) -> Option<Planned>
     }
 }
 
-/// The chain, if there is one, with its last signature bent, for a neighbour.
+/// Returns the bytes of the chain, if there is one, with its last signature bent, as planned for a neighbour.
 fn bent_to(
     alloc: Global,
     to: GeneralNo,
@@ -167,7 +168,7 @@ fn bent_to(
     }
 }
 
-/// What a line sends, whatever its round.
+/// Returns what a line sends, whatever its round.
 fn plan_line(
     alloc: Global,
     header: &Header,
@@ -224,7 +225,7 @@ fn plan_line(
     }
 }
 
-/// Appends what a line sends, if it sends something.
+/// Appends what a line sends, if it sends anything.
 fn push_planned(planned: &mut Vec<Planned>, one: Option<Planned>) -> Result<(), AllocError>
     ensures { OnOk result (planned.new.items ≡ planned.old.items ++ option_to_list one) }
 {
@@ -234,19 +235,19 @@ fn push_planned(planned: &mut Vec<Planned>, one: Option<Planned>) -> Result<(), 
     Ok(())
 }
 
-/// Returns what the lines of a general's script send in a round, in their order, where he heard this
-/// before: a `make` line a chain that its path has signed; a `pass` line the chain that it names,
-/// lengthened by its path, unless that chain did not count at him or a general would repeat; a `bend` line
-/// the bytes of such a chain, lengthened by himself, with a bit of his signature flipped; a `raw` line its
-/// bytes.
+/// Returns what the lines of a general's script send in a round, in their order; `heard` is what the general
+/// heard in earlier rounds. A `make` line sends a chain that all of its path have signed. A `pass` line sends
+/// the chain that it names, lengthened by its path, unless that chain did not count at this general or a
+/// general would sign twice. A `bend` line sends the bytes of such a chain, lengthened by this general alone,
+/// with one bit of its signature flipped. A `raw` line sends its own bytes.
 ///
-/// The lines must be such as `read_script_line` reads in his script, the signatures that they ask for such
-/// as can be made, and what he heard signed by trees of the run's height. Each signature is made with a ring
-/// that is opened anew from its signer's tree.
+/// The lines must be lawful lines of this general's script, and the signatures that they ask for must be
+/// possible with these trees. The chains that were heard must be signed with trees of the run's height. Each
+/// signature is made with a ring that is opened anew from its signer's tree.
 ///
 /// # Errors
 ///
-/// `AllocError` where memory is refused.
+/// `AllocError` if memory is refused.
 pub(crate) fn plan_round(
     alloc: Global,
     header: &Header,
@@ -272,11 +273,11 @@ pub(crate) fn plan_round(
     Ok(planned)
 }
 
-/// Returns the frame to a neighbour: the parcels of what is planned for him, in their order.
+/// Returns the frame to a neighbour: the parcels of what is planned for that neighbour, in their order.
 ///
 /// # Errors
 ///
-/// `AllocError` where memory is refused.
+/// `AllocError` if memory is refused.
 pub(crate) fn planned_frame(
     alloc: Global,
     planned: &[Planned],

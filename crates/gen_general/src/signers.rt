@@ -8,7 +8,7 @@ use gen_scenario::SignerTree;
 use gen_tree::KeyTree;
 use gen_types::GeneralNo;
 
-/// The general with his tree, if he is one of these.
+/// Returns the entry of a general in the list of trees, if it has one.
 fn find_signer(trees: &[SignerTree], general: GeneralNo) -> Option<&SignerTree>
     ensures { option_map (λ signer. signer.now.tree) result ≡ tree_in trees.now general }
 {
@@ -22,7 +22,8 @@ fn find_signer(trees: &[SignerTree], general: GeneralNo) -> Option<&SignerTree>
     None
 }
 
-/// Returns the tree of a general whose signatures can be made in the run of a header.
+/// Returns the tree of a general, whose signatures in the run of this header must be possible with these
+/// trees.
 pub(crate) fn tree_of<'a>(
     header: &Header,
     trees: &'a [SignerTree],

@@ -1,4 +1,5 @@
-//! Signing for several generals, each signature with a ring that is opened anew from its signer's tree.
+//! Signing for several generals. Each signature is made with a ring that is opened anew from its signer's
+//! tree.
 ghost use Rattle.std.specs.Prelude.{◌≡◌, ◌≢◌, ◌≤◌, ◌∷◌, [], ℕ, AllPairs, Contains, IfOk};
 ghost use Rattle.gen_types.specs.Ends.{BeginsWith};
 ghost use Rattle.gen_net.specs.Header.{height_of};
@@ -16,7 +17,7 @@ use gen_tree::KeyRing;
 use gen_types::{GeneralNo, OrderNo, Path};
 use std::alloc::{AllocError, Global};
 
-/// The chain of an order that the commander alone has signed.
+/// Returns the chain of an order that only the commander has signed.
 fn begin_by(
     alloc: Global,
     header: &Header,
@@ -38,7 +39,7 @@ fn begin_by(
     Ok(chain)
 }
 
-/// The chain with one signer more.
+/// Returns the chain with the signature of one more general.
 fn lengthen_by(
     alloc: Global,
     header: &Header,
@@ -63,14 +64,14 @@ fn lengthen_by(
     Ok(longer)
 }
 
-/// Returns the chain lengthened by the generals of a path, who sign one after another.
+/// Returns the chain lengthened by the generals of a path, which sign one after another.
 ///
-/// They must be distinct and not among the chain's signers, and their signatures must be such as can be
-/// made.
+/// They must be distinct and not among the chain's signers, and their signatures must be possible with these
+/// trees.
 ///
 /// # Errors
 ///
-/// `AllocError` where memory is refused.
+/// `AllocError` if memory is refused.
 pub(crate) fn lengthen_along(
     alloc: Global,
     header: &Header,
@@ -93,14 +94,14 @@ pub(crate) fn lengthen_along(
     Ok(longer)
 }
 
-/// Returns the chain of an order that all of a path have signed.
+/// Returns the chain of an order that all generals of a path have signed.
 ///
-/// The order must be at most 14, the path must begin with the commander, and the signatures must be such as
-/// can be made.
+/// The order must be at most 14, the path must begin with the commander, and the signatures must be possible
+/// with these trees.
 ///
 /// # Errors
 ///
-/// `AllocError` where memory is refused.
+/// `AllocError` if memory is refused.
 pub(crate) fn make_along(
     alloc: Global,
     header: &Header,

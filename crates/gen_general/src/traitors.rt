@@ -1,4 +1,4 @@
-//! A general with a script: what it has him send in the round that he is in.
+//! A general with a script: what the script has it send in its current round.
 ghost use Rattle.std.specs.Prelude.{◌≡◌, [], map, option_map, IfOk, OnOk, OnErr};
 ghost use Rattle.std.specs.List.{flat_map};
 ghost use Rattle.gen_general.specs.Following.{AreOthers};
@@ -15,7 +15,7 @@ use gen_types::{GeneralNo, OrderNo};
 use std::alloc::{AllocError, Global};
 use std::marker::Model;
 
-/// Who has a script. A contract sees what he sends in this round.
+/// A general that has a script. A contract sees what it sends in this round.
 #[derive(Drop)]
 pub(crate) struct Traitor {
     planned: Vec<Planned>,
@@ -31,7 +31,7 @@ impl Model for Traitor {
 }
 
 impl Traitor {
-    /// Returns one who sends nothing.
+    /// Returns a general that sends nothing yet.
     pub(crate) fn new(alloc: Global) -> Traitor
         ensures { result ≡ [] }
     {
@@ -40,8 +40,8 @@ impl Traitor {
         }
     }
 
-    /// Plans what his script has him send in this round, where this was heard before. Where memory is
-    /// refused nothing has changed.
+    /// Plans what the script has the general send in this round; `heard` is what it heard in earlier rounds.
+    /// If memory is refused, nothing has changed.
     pub(crate) fn begin(
         &mut self,
         alloc: Global,
@@ -75,14 +75,14 @@ impl Traitor {
         planned_frame(alloc, self.planned.as_slice(), to)
     }
 
-    /// Returns the first chain of an order among those that he signs in this round.
+    /// Returns the first chain of an order among those that the general signs in this round.
     pub(crate) fn first_signed(&self, order: OrderNo) -> Option<&SignedChain>
         ensures { option_map (λ c. c.now) result ≡ chain_with order (flat_map chain_of self.now) }
     {
         find_planned(order, self.planned.as_slice())
     }
 
-    /// Returns the first chain of an order among those that he sends a neighbour in this round.
+    /// Returns the first chain of an order among those that the general sends a neighbour in this round.
     pub(crate) fn first_sent(&self, to: GeneralNo, order: OrderNo) -> Option<&SignedChain>
         ensures { option_map (λ c. c.now) result
             ≡ chain_with order (flat_map chain_of (planned_to to self.now)) }

@@ -1,4 +1,4 @@
--- What the job campaign writes the job audit reads, and accepts.
+-- What the job campaign writes is read by the job audit, which accepts it.
 use Rattle.std.specs.Prelude.{ℕ, ◌≡◌, Bool, false, List, All, Ok}
 use Rattle.gen_log.specs.Fields.{AreBelow}
 use Rattle.gen_audit.specs.Bundle.{Bundle}
@@ -8,7 +8,7 @@ use Rattle.gen_jobs.specs.Accepted.{IsSound}
 use Rattle.gen_jobs.specs.Audit.{IsAudited}
 use Rattle.gen_jobs.specs.Campaigning.{IsCampaignRun}
 
--- the bundles of the runs of a campaign, as what is shown of it
+-- the bundles of the runs of a campaign, as a `CampaignBundle`
 abbrev pub together : List Bundle → CampaignBundle
 together bundles = record { alone = false; bundles = bundles }
 
@@ -18,7 +18,8 @@ CampaignsAreRead =
     (input text : List ℕ) (said : Bool) (run : IsCampaignRun input text said) → AreBelow 256 text
     → whole_campaign text ≡ Ok (together run.makes.0)
 
--- what the job audit makes of it does not say no, where each of its scenarios is sound
+-- if each of its scenarios is sound, what the job audit makes of the output of the job campaign does not say
+-- no
 abbrev pub CampaignsAreAccepted : Type 0
 CampaignsAreAccepted =
     (input text report : List ℕ) (said negative : Bool) (run : IsCampaignRun input text said)

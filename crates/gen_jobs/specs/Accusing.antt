@@ -13,21 +13,21 @@ use Rattle.gen_convict.specs.Evidence.{Accusation}
 use Rattle.gen_convict.specs.EvidenceSpelling.{evidence_spelling}
 use Rattle.gen_convict.specs.First.{IsFirstClaim}
 
--- one of the convictions is the general's, and the text is its spelling; or none is, and then the text is
--- empty and says no
+-- One of the convictions is the general's, and the text is the spelling of its evidence. Otherwise none is,
+-- the text is empty, and it says no.
 abbrev pub TellsOf : RunHeader → List Accusation → ℕ → List ℕ → Bool → Type 0
 TellsOf h convictions general text false =
     (x : Accusation) × Contains convictions x × (x.accused ≡ general) × (text ≡ evidence_spelling h x)
 TellsOf h convictions general text true =
     ((x : Accusation) → Contains convictions x → x.accused ≡ general → ⊥) × (text ≡ [])
 
--- each of these convicts across two runs
+-- each of these convictions is of a claim across two runs
 abbrev pub AreOfRuns : List Accusation → Type 0
 AreOfRuns convictions =
     (x : Accusation) → Contains convictions x → (v : RunText) × (w : RunText) × (x.claim ≡ AcrossRuns v w)
 
--- one of them is the general's, and the text is its spelling under its first run's header; or none is, and
--- then the text is empty and says no
+-- One of the convictions across runs is the general's, and the text is the spelling of its evidence under its
+-- first run's header. Otherwise none is, the text is empty, and it says no.
 abbrev pub TellsAcross : List Accusation → ℕ → List ℕ → Bool → Type 0
 TellsAcross convictions general text false =
     (v : RunText) × (w : RunText)
@@ -36,12 +36,13 @@ TellsAcross convictions general text false =
 TellsAcross convictions general text true =
     ((x : Accusation) → Contains convictions x → x.accused ≡ general → ⊥) × (text ≡ [])
 
--- the general is one of the network, and this is the first claim that the bundle's exhibits hold against him
+-- the general is one of the network, and this is the first claim that the bundle's exhibits hold against it
 abbrev pub IsClaimOn : Bundle → ℕ → Claim → Type 0
 IsClaimOn bundle general claim =
     (general < bundle.header.network.generals) × IsFirstClaim bundle.header bundle.exhibits general claim
 
--- the text is evidence of that claim; or there is no such claim, and the text is empty and says no
+-- The text is evidence of the first claim against the general. Otherwise there is no such claim, the text is
+-- empty, and it says no.
 abbrev pub Accuses : Bundle → ℕ → List ℕ → Bool → Type 0
 Accuses bundle general text false =
     (claim : Claim) × IsClaimOn bundle general claim
@@ -52,16 +53,16 @@ Accuses bundle general text true = ((claim : Claim) → IsClaimOn bundle general
 abbrev pub HoldsNone : ℕ → Bundle → Type 0
 HoldsNone general bundle = (claim : Claim) → IsClaimOn bundle general claim → ⊥
 
--- the text is evidence that the first of the bundles holds which hold any; or none holds any, and the text is
--- empty
+-- The text is evidence of the first bundle that holds a claim against the general. Otherwise no bundle holds
+-- one, the text is empty, and it says no.
 abbrev pub AccusesWithin : List Bundle → ℕ → List ℕ → Bool → Type 0
 AccusesWithin bundles general text false =
     (before : List Bundle) × (bundle : Bundle) × (after : List Bundle) × (bundles ≡ before ++ bundle ∷ after)
     × All (HoldsNone general) before × Accuses bundle general text false
 AccusesWithin bundles general text true = All (HoldsNone general) bundles × (text ≡ [])
 
--- the text is evidence of the first two texts by which the exhibits of two runs hold a claim; or there are no
--- such two, and the text is empty
+-- The text is evidence of the first two texts by which the exhibits of two runs hold a claim against the
+-- general. Otherwise there are no such two, the text is empty, and it says no.
 abbrev pub AccusesAcross : List Bundle → ℕ → List ℕ → Bool → Type 0
 AccusesAcross bundles general text false =
     (x : RunText) × (y : RunText) × (general < 16) × IsFirstAcross (shown_bundles bundles) general x y
@@ -69,13 +70,13 @@ AccusesAcross bundles general text false =
 AccusesAcross bundles general text true =
     ((x y : RunText) → general < 16 → IsFirstAcross (shown_bundles bundles) general x y → ⊥) × (text ≡ [])
 
--- the text is evidence within a run, where any run holds it, else across runs
+-- the text is evidence within a run, if any run holds a claim against the general; else evidence across runs
 abbrev pub AccusesRuns : List Bundle → ℕ → List ℕ → Bool → Type 0
 AccusesRuns bundles general text negative =
     AccusesWithin bundles general text false × (negative ≡ false)
     ⊎ (All (HoldsNone general) bundles × AccusesAcross bundles general text negative)
 
--- The text is the evidence against the general that what the input spells holds.
+-- The text is the evidence against the general that the bundle or campaign in the input holds.
 pub record IsAccused (general : ℕ) (input text : List ℕ) (negative : Bool) : Type 0 where
   pub shown : CampaignBundle
   pub spelled : Spells IsCampaign campaign_spelling input shown

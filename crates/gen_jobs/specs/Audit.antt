@@ -27,7 +27,7 @@ is_no (Explained decisions) = false
 is_no (No findings) = true
 
 -- The text is that of the judgement on a bundle: its verdict, and the convictions that its exhibits give. It
--- says no exactly where the bundle doesn't support a yes.
+-- says no if and only if the bundle doesn't support a yes.
 pub record Audits (bundle : Bundle) (text : List ℕ) (negative : Bool) : Type 0 where
   pub verdict : Verdict
   pub judged : IsVerdict bundle verdict
@@ -39,8 +39,8 @@ pub record Audits (bundle : Bundle) (text : List ℕ) (negative : Bool) : Type 0
   pub negative_is : negative ≡ is_no verdict
   pub supported : (negative ≡ false) ↔ IsSupported bundle
 
--- The text is that of the judgements on the runs of a campaign, and of who is convicted across them. It says
--- no exactly where some run's bundle doesn't support a yes.
+-- The text is that of the judgements on the runs of a campaign, and of the convictions across them. It says
+-- no if and only if some run's bundle doesn't support a yes.
 pub record AuditsRuns (bundles : List Bundle) (text : List ℕ) (negative : Bool) : Type 0 where
   pub judgements : List Judgement
   pub judged : AreJudged bundles judgements
@@ -49,26 +49,26 @@ pub record AuditsRuns (bundles : List Bundle) (text : List ℕ) (negative : Bool
   pub text_is : text ≡ several_text bundles judgements across
   pub supported : (negative ≡ false) ↔ All IsSupported bundles
 
--- what is shown is a bundle that stands alone, or the bundles of a campaign
+-- the text is that of the audit of one bundle that stands alone, or of the bundles of a campaign
 abbrev pub AuditsForm : Bool → List Bundle → List ℕ → Bool → Type 0
 AuditsForm true [] text negative = ⊥
 AuditsForm true (b ∷ []) text negative = Audits b text negative
 AuditsForm true (b ∷ c ∷ others) text negative = ⊥
 AuditsForm false bundles text negative = AuditsRuns bundles text negative
 
--- The text is that of the judgement on what the input spells.
+-- The text is that of the judgement on the bundle or campaign that the input spells.
 pub record IsAudited (input text : List ℕ) (negative : Bool) : Type 0 where
   pub shown : CampaignBundle
   pub spelled : Spells IsCampaign campaign_spelling input shown
   pub audits : AuditsForm shown.alone shown.bundles text negative
 
--- want of memory or of a thread
+-- memory was refused, or a thread was
 abbrev pub IsWant : JobFault → Type 0
 IsWant faults.Memory = Unit {0}
 IsWant faults.Thread = Unit {0}
 IsWant _ = ⊥
 
--- the fault is the first of an input that spells no campaign and no bundle, or want of memory or of a thread
+-- the first fault of an input that spells no campaign and no bundle; or memory was refused, or a thread was
 abbrev pub IsAuditFault : List ℕ → JobFault → Type 0
 IsAuditFault input faults.Memory = Unit {0}
 IsAuditFault input faults.Thread = Unit {0}

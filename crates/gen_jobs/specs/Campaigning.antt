@@ -10,7 +10,7 @@ use Rattle.gen_jobs.specs.Run.{IsOfRun}
 use Rattle.gen_jobs.specs.declared.ends.JobFault.{JobFault}
 use Rattle.gen_jobs.specs.declared.ends.JobFault.TheVariants as faults
 
--- each bundle is that of the run of its scenario
+-- each bundle is the one of the run of its scenario
 abbrev pub AreBundlesOf : List Scenario → List Bundle → Type 0
 AreBundlesOf runs bundles = AllZip IsOfRun runs bundles
 
@@ -27,7 +27,7 @@ pub record IsCampaignRun (input text : List ℕ) (negative : Bool) : Type 0 wher
   pub makes : MakesTexts runs text
   pub positive : negative ≡ false
 
--- the fault is the first of an input that spells no campaign, or want of memory or of a thread
+-- the first fault of an input that spells no campaign; or memory was refused, or a thread was
 abbrev pub IsCampaignFault : List ℕ → JobFault → Type 0
 IsCampaignFault input faults.Memory = Unit {0}
 IsCampaignFault input faults.Thread = Unit {0}

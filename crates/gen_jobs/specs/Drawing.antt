@@ -15,20 +15,20 @@ use Rattle.gen_draw.specs.Several.{several_picture}
 abbrev pub picture_with : Bundle → Judgement → List ℕ
 picture_with b j = picture b.header b.faulty b.exhibits j.verdict (map told_of j.convictions.items)
 
--- that of the first bundle and the first judgement, where there are both
+-- the picture of the first bundle and the first judgement; no bytes if one of them is missing
 abbrev pub first_picture : List Bundle → List Judgement → List ℕ
 first_picture [] judgements = []
 first_picture (b ∷ bundles) [] = []
 first_picture (b ∷ bundles) (j ∷ judgements) = picture_with b j
 
--- The text is the picture of a bundle and of the judgement on it, which is the one that the job audit tells.
+-- The text is the picture of a bundle and of the judgement on it, which is the one of the job audit.
 pub record Draws (bundle : Bundle) (text : List ℕ) : Type 0 where
   pub judgement : Judgement
   pub judged : IsJudged bundle judgement
   pub text_is : text ≡ picture_with bundle judgement
 
--- The text is the picture of the runs of a campaign, of the judgements on them, and of who is convicted
--- across them.
+-- The text is the picture of the runs of a campaign, of the judgements on them, and of the convictions across
+-- them.
 pub record DrawsRuns (bundles : List Bundle) (text : List ℕ) : Type 0 where
   pub judgements : List Judgement
   pub judged : AreJudged bundles judgements
@@ -36,14 +36,15 @@ pub record DrawsRuns (bundles : List Bundle) (text : List ℕ) : Type 0 where
   pub convicted : AreConvictedAcross (shown_bundles bundles) across
   pub text_is : text ≡ several_picture bundles judgements across
 
--- what is shown is a bundle that stands alone, or the bundles of a campaign
+-- the text is the picture of one bundle that stands alone, or of the bundles of a campaign
 abbrev pub DrawsForm : Bool → List Bundle → List ℕ → Type 0
 DrawsForm true [] text = ⊥
 DrawsForm true (b ∷ []) text = Draws b text
 DrawsForm true (b ∷ c ∷ others) text = ⊥
 DrawsForm false bundles text = DrawsRuns bundles text
 
--- The text is the picture of what the input spells. It never says no: there is a picture of each verdict.
+-- The text is the picture of the bundle or campaign that the input spells. It never says no: there is a
+-- picture of each verdict.
 pub record IsDrawn (input text : List ℕ) (negative : Bool) : Type 0 where
   pub shown : CampaignBundle
   pub spelled : Spells IsCampaign campaign_spelling input shown

@@ -6,7 +6,7 @@ use Rattle.gen_jobs.specs.declared.ends.JobEnd.TheVariants.{Done, Negative, Fail
 use Rattle.gen_jobs.specs.declared.ends.JobFault.{JobFault}
 use Rattle.gen_jobs.specs.declared.ends.JobFault.TheVariants as faults
 
--- the exit status of a job that failed so
+-- the exit status for this fault of a job
 abbrev pub fault_status : JobFault → ℕ
 fault_status (faults.Scenario f) = 3
 fault_status (faults.Campaign f) = 3
@@ -16,32 +16,33 @@ fault_status faults.Thread = 4
 fault_status faults.Read = 5
 fault_status faults.Write = 5
 
--- the exit status of a job that ended so
+-- the exit status for this end of a job
 abbrev pub status_of : JobEnd → ℕ
 status_of Done = 0
 status_of Negative = 1
 status_of (Failed f) = fault_status f
 
--- the fault whose line stands on standard error
+-- the fault whose line is written to standard error, if the job failed
 abbrev pub fault_in : JobEnd → Option JobFault
 fault_in Done = None
 fault_in Negative = None
 fault_in (Failed f) = Some f
 
--- the input could not be read whole
+-- the input could not be read whole: memory was refused, or a read failed
 abbrev pub IsReadFault : JobFault → Type 0
 IsReadFault faults.Memory = Unit {0}
 IsReadFault faults.Read = Unit {0}
 IsReadFault _ = ⊥
 
--- An input of more than 1,073,741,824 bytes is not taken: the read of it fails, or memory is refused before.
+-- An input of more than 1,073,741,824 bytes (2^30) is not taken: the read of it fails, or memory is refused
+-- before.
 abbrev pub IsTaken : List ℕ → JobEnd → Type 0
 IsTaken input (Failed faults.Memory) = Unit {0}
 IsTaken input (Failed faults.Read) = Unit {0}
 IsTaken input _ = length input ≤ 1073741824
 
--- The output was written behind what the writer held, and the end is no where the output says so; or the
--- write failed.
+-- The output was appended to what the writer held, and the end is Negative if and only if the output says no;
+-- or the write failed.
 abbrev pub IsWritten : List ℕ → Bool → Option (List ℕ) → Option (List ℕ) → JobEnd → Type 0
 IsWritten text negative old new Done = (negative ≡ false) × Appends old new text
 IsWritten text negative old new Negative = (negative ≡ true) × Appends old new text

@@ -1,4 +1,4 @@
--- How a job fails where its input can't be read.
+-- How a job fails if its input can't be read, or an audit or a run can't be made.
 use Rattle.gen_types.specs.declared.reading.ReadError.{ReadError}
 use Rattle.gen_types.specs.declared.reading.ReadError.TheVariants as errors
 use Rattle.gen_report.specs.declared.fault.ScenarioFault.{ScenarioFault}
@@ -11,27 +11,27 @@ use Rattle.gen_threads.specs.declared.ends.RunFault.TheVariants as runs
 use Rattle.gen_jobs.specs.declared.ends.JobFault.{JobFault}
 use Rattle.gen_jobs.specs.declared.ends.JobFault.TheVariants as faults
 
--- by a scenario that can't be read
+-- the job's fault for a scenario that can't be read
 abbrev pub scenario_failure : ReadError ScenarioFault → JobFault
 scenario_failure errors.Memory = faults.Memory
 scenario_failure (errors.Fault f) = faults.Scenario f
 
--- by a campaign that can't be read
+-- the job's fault for a campaign that can't be read
 abbrev pub campaign_failure : ReadError CampaignFault → JobFault
 campaign_failure errors.Memory = faults.Memory
 campaign_failure (errors.Fault f) = faults.Campaign f
 
--- by evidence that can't be read
+-- the job's fault for evidence that can't be read
 abbrev pub evidence_failure : ReadError EvidenceFault → JobFault
 evidence_failure errors.Memory = faults.Memory
 evidence_failure (errors.Fault f) = faults.Evidence f
 
--- by an audit that could not be made
+-- the job's fault for an audit that could not be made
 abbrev pub audit_failure : AuditFault → JobFault
 audit_failure audits.Memory = faults.Memory
 audit_failure audits.Thread = faults.Thread
 
--- by a run that ended early
+-- the job's fault for a run that has no logs
 abbrev pub run_failure : RunFault → JobFault
 run_failure runs.Memory = faults.Memory
 run_failure runs.Thread = faults.Thread

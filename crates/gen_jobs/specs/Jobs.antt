@@ -12,7 +12,7 @@ use Rattle.gen_jobs.specs.declared.ends.JobFault.{JobFault}
 use Rattle.gen_jobs.specs.declared.jobs.Job.{Job}
 use Rattle.gen_jobs.specs.declared.jobs.Job.TheVariants as jobs
 
--- the text answers the input of the job, and says no where it does
+-- the text is an answer of the job to the input, and says no if `negative` is true
 abbrev pub JobAnswers : Job → List ℕ → List ℕ → Bool → Type 0
 JobAnswers jobs.Decide input text negative = IsDecided input text negative
 JobAnswers (jobs.Run n) input text negative = IsRun input text negative

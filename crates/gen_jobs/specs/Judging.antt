@@ -14,13 +14,13 @@ pub record JudgesRun (s : Scenario) (text : List ℕ) (negative : Bool) : Type 0
   pub has_walks : HasWalks s walks
   pub audits : Audits (bundle_of s walks) text negative
 
--- the scenario is the one that the input spells
+-- the text is that of the judgement on the run of the scenario that the input spells
 pub record IsJudged (input text : List ℕ) (negative : Bool) : Type 0 where
   pub scenario : Scenario
   pub spelled : SpellsScenario input (texts.Signed scenario)
   pub judges : JudgesRun scenario text negative
 
--- what the job audit makes of what the job run writes is what the job judge makes of the scenario
+-- what the job audit makes of the output of the job run is what the job judge makes of the same input
 abbrev pub RunsAreJudged : Type 0
 RunsAreJudged =
     (input text report : List ℕ) (said negative : Bool) → IsRun input text said → AreBelow 256 text

@@ -23,30 +23,31 @@ pub record IsRun (input text : List ℕ) (negative : Bool) : Type 0 where
   pub text_is : text ≡ bundle_spelling (bundle_of scenario walks)
   pub positive : negative ≡ false
 
--- Before the line after the commander's order stand those of `generals`, of each edge, and of `traitors`,
--- `diameter`, `orders`, `choice` and `order`.
+-- The number of the line after that of the commander's order in a scenario text. The lines before it are
+-- `generals`, one for each edge, `traitors`, `diameter`, `orders`, `choice` and `order`.
 abbrev pub line_after_order : Network → ℕ
 line_after_order net = length net.edges + 7
 
--- the input spells a scenario without a seed, which is missed at the line after the order's
+-- the input spells a scenario without a seed, and the fault is that it is missing at the line after the
+-- order's
 pub record MissesSeed (input : List ℕ) (fault : ScenarioFault) : Type 0 where
   pub plain : Plain
   pub spelled : SpellsScenario input (texts.Plain plain)
   pub fault_is : fault ≡ fault_at BadSeed (line_after_order plain.net)
 
--- the bundle is that of the scenario's run
+-- the bundle is the one of the scenario's run
 abbrev pub IsOfRun : Scenario → Bundle → Type 0
 IsOfRun s bundle = (walks : List (List ℕ)) × HasWalks s walks × (bundle ≡ bundle_of s walks)
 
--- the run of the scenario has this bundle, or memory or a thread was refused
+-- the bundle is the one of the scenario's run, or memory or a thread was refused
 abbrev pub MakesBundle : Scenario → Result Bundle JobFault → Type 0
 MakesBundle s (Ok bundle) = IsOfRun s bundle
 MakesBundle s (Err faults.Memory) = Unit {0}
 MakesBundle s (Err faults.Thread) = Unit {0}
 MakesBundle s (Err _) = ⊥
 
--- The fault is the first of an input that spells no scenario, or that a seed is missing; or want of memory or
--- of a thread.
+-- The first fault of an input that spells no scenario, or a missing seed; or memory was refused, or a thread
+-- was.
 abbrev pub IsRunFault : List ℕ → JobFault → Type 0
 IsRunFault input faults.Memory = Unit {0}
 IsRunFault input faults.Thread = Unit {0}

@@ -1,4 +1,4 @@
-//! The job `accuse`.
+//! The job `accuse`: writes the evidence against a general.
 ghost use Rattle.std.specs.Prelude.{◌≡◌, ◌==◌, IfOk, IfErr, IfSome, find, map, option_map};
 ghost use Rattle.gen_convict.specs.Convictions.{AreEvidence};
 ghost use Rattle.gen_convict.specs.Evidence.{told_of};
@@ -24,7 +24,7 @@ use std::io::{Read, Write};
 use std::sync::Wait;
 use std::thread::Threads;
 
-/// Returns the first conviction of a general.
+/// Returns the first conviction of a general among these, if there is one.
 fn conviction_of(convictions: &[Evidence], general: GeneralNo) -> Option<&Evidence>
     ensures { option_map (λ e. e.now) result ≡ find (λ e. e.accused == general) convictions.now }
 {
@@ -33,7 +33,8 @@ fn conviction_of(convictions: &[Evidence], general: GeneralNo) -> Option<&Eviden
         .find(|evidence| evidence.accused == general)
 }
 
-/// Returns the bytes of a general's conviction, or none where he has none, which says no.
+/// Returns the bytes of the evidence of a general's conviction. If there is none, there are no bytes, and the output
+/// says no.
 fn accusation(
     alloc: Global,
     header: &Header,
@@ -56,7 +57,8 @@ fn accusation(
     }
 }
 
-/// Returns the bytes of the evidence of the first run that convicts a general, or none where none does, which says no.
+/// Returns the bytes of the evidence of the first run that convicts a general. If no run does, there are no bytes, and
+/// the output says no.
 fn accusation_within(
     alloc: Global,
     bundles: &[Bundle],
@@ -79,7 +81,8 @@ fn accusation_within(
     })
 }
 
-/// Returns the bytes of a general's conviction across runs, or none where he has none, which says no.
+/// Returns the bytes of the evidence of a general's conviction across runs. If there is none, there are no bytes, and
+/// the output says no.
 fn accusation_across(
     alloc: Global,
     across: &[Evidence],
@@ -104,7 +107,8 @@ fn accusation_across(
     }
 }
 
-/// Returns the bytes of the evidence against a general by the verdict on what is shown, or none, which says no.
+/// Returns the bytes of the evidence against a general, by the verdict on a bundle or a campaign. If there is none,
+/// there are no bytes, and the output says no.
 pub(crate) fn evidence_by(
     alloc: Global,
     general: GeneralNo,
@@ -125,7 +129,8 @@ pub(crate) fn evidence_by(
     accusation_across(alloc, verdict.across.as_slice(), general)
 }
 
-/// Returns the bytes of the evidence against a general that is held by what is shown, or none, which says no.
+/// Returns the bytes of the evidence that a bundle or a campaign holds against a general. If there is none, there are
+/// no bytes, and the output says no.
 #[tactic(auto, using(crate::proofs::Audited::is_want))]
 fn accuse_of<T: Threads + Wait + Sync>(
     rt: &T,
@@ -141,15 +146,15 @@ fn accuse_of<T: Threads + Wait + Sync>(
     Ok(evidence_by(alloc, general, campaign, &verdict)?)
 }
 
-/// Returns the bytes of the evidence against a general that the bundle holds which the input spells: of the
-/// first claim that its exhibits hold against him. Of a campaign it is that of the first run that holds any, else of the
-/// first claim across two runs. Where there is none, or he is no general of the network, there are no bytes, and that says
-/// no. It is the same however many workers there are.
+/// Returns the bytes of the evidence against a general that the bundle or campaign in the input holds. For a bundle it
+/// is of the first claim that its exhibits hold against the general. For a campaign it is that of the first run that
+/// holds any, else of the first claim across two runs. If there is no claim, or the number is no general of the
+/// network, there are no bytes, and the output says no. The answer does not depend on the number of workers.
 ///
 /// # Errors
 ///
-/// `Campaign` with the first fault of an input that spells neither, `Memory` where memory is refused, and `Thread`
-/// where a worker's thread can't be started.
+/// `Campaign` with the first fault of an input that spells neither; `Memory` if memory is refused; `Thread` if a
+/// worker's thread can't be started.
 #[tactic(auto, using(crate::proofs::Audited::are_wants))]
 pub fn accuse<T: Threads + Wait + Sync>(
     rt: &T,
@@ -165,7 +170,7 @@ pub fn accuse<T: Threads + Wait + Sync>(
     accuse_of(rt, alloc, workers, general, &campaign)
 }
 
-/// As `accuse`, but takes the input, whose bytes are not copied.
+/// Returns what `accuse` returns for the input, but takes the input, whose bytes are not copied.
 ///
 /// # Errors
 ///
@@ -186,10 +191,10 @@ pub fn accuse_taken<T: Threads + Wait + Sync>(
 }
 
 /// Reads the bytes of a bundle or of a campaign to their end, and writes the bytes of the evidence against the general
-/// that `accuse` returns of them. Where there is none nothing is written, and the end is negative.
+/// that `accuse` returns for them. If there is none, nothing is written, and the end is negative.
 ///
-/// A fault of the input is looked for once it was read whole, and nothing is written before the output
-/// is whole. Where a read, a write, memory or a worker's thread fails the job ends so.
+/// A fault of the input is looked for after the whole input was read, and nothing is written before the output is
+/// whole. If a read, a write, memory or a worker's thread fails, the job ends with that fault.
 #[tactic(auto, using(crate::proofs::Delivering::output_engine))]
 pub fn accuse_engine<T: Threads + Wait + Sync, R: Read, W: Write>(
     rt: &T,

@@ -1,4 +1,4 @@
-//! The job `audit`.
+//! The job `audit`: writes the verdict on a bundle or a campaign.
 ghost use Rattle.std.specs.Prelude.{◌≡◌, IfOk, IfErr, IfSome, map};
 ghost use Rattle.gen_convict.specs.AcrossLaws.{AreConvictedAcross};
 ghost use Rattle.gen_convict.specs.Evidence.{told_of};
@@ -50,7 +50,7 @@ pub(crate) fn judgement_text(
     })
 }
 
-/// Returns the text of a verdict on what is shown, and whether that on some run is a no.
+/// Returns the text of a verdict on a bundle or a campaign, and whether it is a no on some run.
 pub(crate) fn output_by(
     alloc: Global,
     campaign: &CampaignBundle,
@@ -62,7 +62,7 @@ pub(crate) fn output_by(
     ensures { IfOk result (λ o.
         AuditsForm campaign.now.alone campaign.now.bundles o.text.items o.negative) }
 {
-    // What is said of the form needs what each campaign keeps, which a read of it tells.
+    // The contract needs what every campaign keeps, which this read tells.
     let _lawful = campaign.is_alone();
     let text = print_campaign(alloc, campaign, verdict)?;
     Ok(Output {
@@ -71,7 +71,7 @@ pub(crate) fn output_by(
     })
 }
 
-/// Returns the text of the verdict on what is shown, and whether that on some run is a no.
+/// Returns the text of the verdict on a bundle or a campaign, and whether it is a no on some run.
 #[tactic(auto, using(crate::proofs::Audited::is_want))]
 fn audit_of<T: Threads + Wait + Sync>(
     rt: &T,
@@ -87,14 +87,14 @@ fn audit_of<T: Threads + Wait + Sync>(
     Ok(output_by(alloc, campaign, &verdict)?)
 }
 
-/// Returns the text of the judgement on the bundle that the input spells, or on the campaign, and whether its verdict is a
-/// no, or that on some run of the campaign, which it is exactly where the bundle doesn't support a yes. It is the same
-/// however many workers there are.
+/// Returns the text of the judgement on the bundle or the campaign that the input spells, and whether its verdict is a
+/// no. For a bundle it is a no if and only if the bundle doesn't support a yes. For a campaign it is a no if and only
+/// if some run's bundle doesn't support a yes. The answer does not depend on the number of workers.
 ///
 /// # Errors
 ///
-/// `Campaign` with the first fault of an input that spells neither, `Memory` where memory is refused, and `Thread`
-/// where a worker's thread can't be started.
+/// `Campaign` with the first fault of an input that spells neither; `Memory` if memory is refused; `Thread` if a
+/// worker's thread can't be started.
 #[tactic(auto, using(crate::proofs::Audited::are_wants))]
 pub fn audit<T: Threads + Wait + Sync>(
     rt: &T,
@@ -109,7 +109,7 @@ pub fn audit<T: Threads + Wait + Sync>(
     audit_of(rt, alloc, workers, &campaign)
 }
 
-/// As `audit`, but takes the input, whose bytes are not copied.
+/// Returns what `audit` returns for the input, but takes the input, whose bytes are not copied.
 ///
 /// # Errors
 ///
@@ -128,11 +128,11 @@ pub fn audit_taken<T: Threads + Wait + Sync>(
     audit_of(rt, alloc, workers, &campaign)
 }
 
-/// Reads the bytes of a bundle or of a campaign to their end, and writes the verdict on it, or nothing where they spell
-/// neither. The end is negative where the verdict is a no, or that on some run.
+/// Reads the bytes of a bundle or of a campaign to their end, and writes the verdict on it; nothing if they spell
+/// neither. The end is negative if the verdict is a no, for a campaign on some run.
 ///
-/// A fault of the input is looked for once it was read whole, and nothing is written before the output
-/// is whole. Where a read, a write, memory or a worker's thread fails the job ends so.
+/// A fault of the input is looked for after the whole input was read, and nothing is written before the output is
+/// whole. If a read, a write, memory or a worker's thread fails, the job ends with that fault.
 #[tactic(auto, using(crate::proofs::Delivering::output_engine))]
 pub fn audit_engine<T: Threads + Wait + Sync, R: Read, W: Write>(
     rt: &T,

@@ -14,8 +14,8 @@ use std::io;
 use std::io::Write;
 use std::marker::Model;
 
-/// The one spelling of a bundle, whole in memory: what stands before the exhibits, and the bundle, which has
-/// these. A contract sees the list of its bytes.
+/// The one spelling of a bundle, whole in memory: the bytes before the exhibits, and the bundle, which has the
+/// exhibits. A contract sees the list of its bytes.
 #[derive(Drop)]
 pub struct BundleText {
     front: Vec<u8>,
@@ -35,7 +35,7 @@ impl Model for BundleText {
         t.front.items ++ flat_map exhibit_spelling t.bundle.exhibits ≡ bundle_spelling t.bundle };
 }
 
-/// Writes exhibits as they stand in a bundle, one behind another.
+/// Writes exhibits as they stand in a bundle, one after another.
 fn write_exhibits<W: Write>(writer: &mut W, exhibits: &[Exhibit]) -> Result<(), io::Error>
     requires { All (λ x. length x.bytes < 2 ^ 32) exhibits.now }
     ensures { OnOk result (Appends (W.contents writer.old) (W.contents writer.new)
@@ -49,7 +49,7 @@ fn write_exhibits<W: Write>(writer: &mut W, exhibits: &[Exhibit]) -> Result<(), 
 }
 
 impl BundleText {
-    /// Returns the text of a bundle. It fails only where memory was refused.
+    /// Returns the text of a bundle. It fails only if memory was refused.
     pub fn new(alloc: Global, bundle: Bundle) -> Result<BundleText, AllocError>
         ensures { IfOk result (λ text. text ≡ bundle_spelling bundle) }
     {
@@ -61,7 +61,7 @@ impl BundleText {
     ///
     /// # Errors
     ///
-    /// That of a write that failed.
+    /// The error of the write that failed.
     pub fn write_to<W: Write>(&self, writer: &mut W) -> Result<(), io::Error>
         ensures { OnOk result (Appends (W.contents writer.old) (W.contents writer.new) self.now) }
     {
@@ -71,7 +71,7 @@ impl BundleText {
     }
 }
 
-/// Writes the whole text of a bundle, and returns how the job ends by it.
+/// Writes the whole text of a bundle, and returns how the job ends: Done, or with the fault Write.
 fn write_text<W: Write>(writer: &mut W, text: &BundleText) -> JobEnd
     ensures { IsWritten text.now false (W.contents writer.old) (W.contents writer.new) result }
 {
@@ -81,7 +81,7 @@ fn write_text<W: Write>(writer: &mut W, text: &BundleText) -> JobEnd
     JobEnd::Done
 }
 
-/// Writes the bundle that answers the input, and returns how the job ends: so, or by the fault in its place.
+/// Writes the bundle that answers the input, or nothing if there is a fault in its place, and returns how the job ends.
 pub fn deliver_bundle<W: Write>(writer: &mut W, answer: Result<BundleText, JobFault>) -> JobEnd
     ensures { DeliversText answer (W.contents writer.old) (W.contents writer.new) result }
 {

@@ -14,7 +14,7 @@ use std::io;
 use std::io::Write;
 use std::marker::Model;
 
-/// The bytes of a campaign of several runs, whole in memory: what stands before the bundles, and the text of each. A
+/// The bytes of a campaign of several runs, whole in memory: the five bytes before the bundles, and the text of each. A
 /// contract sees the list of its bytes.
 #[derive(Drop)]
 pub struct CampaignText {
@@ -31,7 +31,7 @@ impl Model for CampaignText {
     ghost view = { λ t. t.front ++ flat_map (λ text. text) t.texts.items };
 }
 
-/// Writes the texts of bundles one behind another.
+/// Writes the texts of bundles, one after another.
 fn write_texts<W: Write>(writer: &mut W, texts: &[BundleText]) -> Result<(), io::Error>
     ensures { OnOk result (Appends (W.contents writer.old) (W.contents writer.new)
         (flat_map (λ text. text) texts.now)) }
@@ -43,7 +43,8 @@ fn write_texts<W: Write>(writer: &mut W, texts: &[BundleText]) -> Result<(), io:
 }
 
 impl CampaignText {
-    /// Returns the bytes of the campaign whose runs' bundles have these texts, at most 255.
+    /// Returns the bytes of the campaign whose runs' bundles have these texts, at most 255. The bytes are the mark, the
+    /// number of runs, and the texts.
     pub fn new(texts: Vec<BundleText>) -> CampaignText
         requires { length texts.items ≤ 255 }
         ensures { result ≡ (to_be_bytes w32 campaign_mark ++ length texts.items ∷ [])
@@ -59,7 +60,7 @@ impl CampaignText {
     ///
     /// # Errors
     ///
-    /// That of a write that failed.
+    /// The error of the write that failed.
     pub fn write_to<W: Write>(&self, writer: &mut W) -> Result<(), io::Error>
         ensures { OnOk result (Appends (W.contents writer.old) (W.contents writer.new) self.now) }
     {
@@ -68,7 +69,7 @@ impl CampaignText {
     }
 }
 
-/// Writes all bytes of a campaign, and returns how the job ends by it.
+/// Writes all bytes of a campaign, and returns how the job ends: Done, or with the fault Write.
 fn write_campaign_text<W: Write>(writer: &mut W, text: &CampaignText) -> JobEnd
     ensures { IsWritten text.now false (W.contents writer.old) (W.contents writer.new) result }
 {
@@ -78,7 +79,8 @@ fn write_campaign_text<W: Write>(writer: &mut W, text: &CampaignText) -> JobEnd
     JobEnd::Done
 }
 
-/// Writes the campaign that answers the input, and returns how the job ends: so, or by the fault in its place.
+/// Writes the campaign that answers the input, or nothing if there is a fault in its place, and returns how the job
+/// ends.
 pub fn deliver_campaign<W: Write>(writer: &mut W, answer: Result<CampaignText, JobFault>) -> JobEnd
     ensures { DeliversText answer (W.contents writer.old) (W.contents writer.new) result }
 {

@@ -1,4 +1,4 @@
-//! The job `campaign`.
+//! The job `campaign`: runs the scenarios of a campaign, and writes the bundles of their runs.
 ghost use Rattle.std.specs.Prelude.{◌≡◌, ◌<◌, Ok, IfErr, IfOk, IfSome, false, map};
 ghost use Rattle.gen_scenario.specs.Rows.{logs_of_all};
 ghost use Rattle.gen_audit.specs.BundleSpelling.{bundle_spelling};
@@ -24,7 +24,7 @@ use std::io::{Read, Write};
 use std::sync::Wait;
 use std::thread::Threads;
 
-/// Returns the bundles of runs of these scenarios, of which these are the logs.
+/// Returns the bundles of the runs of these scenarios with these logs.
 fn bundles_of_runs(
     alloc: Global,
     scenarios: &[Scenario],
@@ -45,7 +45,7 @@ fn bundles_of_runs(
     Ok(bundles)
 }
 
-/// Returns the texts of bundles.
+/// Returns the texts of bundles, in their order.
 fn texts_of(alloc: Global, bundles: Vec<Bundle>) -> Result<Vec<BundleText>, AllocError>
     ensures { IfOk result (λ texts. texts.items ≡ map bundle_spelling bundles.items) }
 {
@@ -74,14 +74,14 @@ fn run_plans<T: Threads + Wait + Sync>(
     Ok(CampaignText::new(texts_of(alloc, bundles)?))
 }
 
-/// Returns the bytes of the campaign that the input spells, kept in pieces so that its logs need no copy. They never say
-/// no. The trees of keys are made by threads, once for all runs, and each general signs with one ring in all runs in which
-/// he has no script. The runs follow one another, each as that of the job `run`; its bundle is the one of that job.
+/// Returns the bytes of the campaign that the input spells, kept in pieces so that its logs need no copy. The answer
+/// never says no. The trees of keys are made by threads, once for all runs. Each general signs with one ring in all
+/// runs in which it has no script. The runs follow one another, each with the bundle that the job `run` makes of it.
 ///
 /// # Errors
 ///
-/// `Scenario` with the first fault of an input that spells no campaign; `Memory` where memory is refused, and `Thread`
-/// where a thread can't be started.
+/// `Scenario` with the first fault of an input that spells no campaign; `Memory` if memory is refused; `Thread` if a
+/// thread can't be started.
 pub fn campaign<T: Threads + Wait + Sync>(
     rt: &T,
     alloc: Global,
@@ -97,11 +97,11 @@ pub fn campaign<T: Threads + Wait + Sync>(
     run_plans(rt, alloc, capacity, plans)
 }
 
-/// Reads the text of a campaign to its end, runs its scenarios one after another, each general in a thread of his own over
-/// edges that hold so many frames each, at least one, and writes the campaign: the bundles of all runs.
+/// Reads the text of a campaign to its end, runs its scenarios one after another, and writes the campaign: the bundles
+/// of all runs. Each general runs in a thread of its own; the edges hold `capacity` frames each, at least one.
 ///
-/// A fault of the input is looked for once it was read whole, and nothing is written before the output
-/// is whole. Where a read, a write, memory or a thread fails the job ends so.
+/// A fault of the input is looked for after the whole input was read, and nothing is written before the output is
+/// whole. If a read, a write, memory or a thread fails, the job ends with that fault.
 #[tactic(auto, using(crate::proofs::Delivering::text_engine))]
 pub fn campaign_engine<T: Threads + Wait + Sync, R: Read, W: Write>(
     rt: &T,

@@ -1,4 +1,4 @@
-//! The job `evidence`.
+//! The job `evidence`: checks whether evidence holds.
 ghost use Rattle.std.specs.Prelude.{◌≡◌, IfOk, IfErr, IfSome};
 ghost use Rattle.gen_convict.specs.Evidence.{told_of};
 ghost use Rattle.gen_convict.specs.EvidenceReading.{IsWhole};
@@ -13,13 +13,13 @@ use gen_net::Header;
 use std::alloc::{AllocError, Global};
 use std::io::{Read, Write};
 
-/// What is written of evidence that holds.
+/// The output for evidence that holds.
 const HOLDS: &[u8] = b"evidence holds\n";
 
-/// What is written of evidence that doesn't hold.
+/// The output for evidence that doesn't hold.
 const FAILS: &[u8] = b"evidence fails\n";
 
-/// Returns the text that says whether evidence holds under its header. It says no where it doesn't.
+/// Returns the text that says whether evidence holds under its header. The output says no if it doesn't hold.
 fn told(alloc: Global, header: &Header, evidence: &Evidence) -> Result<Output, AllocError>
     requires { IsWhole (record { header = header.now; evidence = told_of evidence.now }) }
     ensures { IfOk result (λ o. Tells
@@ -39,11 +39,11 @@ fn told(alloc: Global, header: &Header, evidence: &Evidence) -> Result<Output, A
     }
 }
 
-/// Returns the text that says whether the evidence holds that the input spells. It says no where it doesn't.
+/// Returns the text that says whether the evidence that the input spells holds. The output says no if it doesn't hold.
 ///
 /// # Errors
 ///
-/// `Evidence` with the first fault of an input that spells no evidence, and `Memory` where memory is refused.
+/// `Evidence` with the first fault of an input that spells no evidence; `Memory` if memory is refused.
 pub fn evidence(alloc: Global, input: &[u8]) -> Result<Output, JobFault>
     ensures answer { IfOk result (λ o. IsChecked input.now o.text.items o.negative) }
     ensures fault { IfErr result (IsEvidenceFault input.now) }
@@ -52,11 +52,11 @@ pub fn evidence(alloc: Global, input: &[u8]) -> Result<Output, JobFault>
     Ok(told(alloc, &header, &evidence)?)
 }
 
-/// Reads the bytes of evidence to their end, and writes whether it holds: `evidence holds` or `evidence
-/// fails`, and LF. The end is negative where it fails.
+/// Reads the bytes of evidence to their end, and writes whether it holds: `evidence holds` or `evidence fails`, and LF.
+/// The end is negative if the evidence fails.
 ///
-/// A fault of the input is looked for once it was read whole, and nothing is written before the output
-/// is whole. Where a read, a write or memory fails the job ends so.
+/// A fault of the input is looked for after the whole input was read, and nothing is written before the output is
+/// whole. If a read, a write or memory fails, the job ends with that fault.
 #[tactic(auto, using(crate::proofs::Delivering::output_engine))]
 pub fn evidence_engine<R: Read, W: Write>(alloc: Global, reader: &mut R, writer: &mut W) -> JobEnd
     // What is written says whether the evidence that was read holds.

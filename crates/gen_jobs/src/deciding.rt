@@ -1,4 +1,4 @@
-//! The job `decide`.
+//! The job `decide`: writes what each general decides.
 ghost use Rattle.std.specs.Prelude.{◌≡◌, IfOk, IfErr, IfSome};
 ghost use Rattle.gen_scenario.specs.Deciding as decisions;
 ghost use Rattle.gen_report.specs.Decisions.{decisions_text};
@@ -31,12 +31,12 @@ fn decisions_of(alloc: Global, told: ScenarioText) -> Result<Vec<u8>, AllocError
     }
 }
 
-/// Returns the text of what each general without a script decides in the run of the scenario that the input
-/// spells. It never says no.
+/// Returns the text of what each general without a script decides in the run of the scenario that the input spells. The
+/// output never says no.
 ///
 /// # Errors
 ///
-/// `Scenario` with the first fault of an input that spells no scenario, and `Memory` where memory is refused.
+/// `Scenario` with the first fault of an input that spells no scenario; `Memory` if memory is refused.
 pub fn decide(alloc: Global, input: &[u8]) -> Result<Output, JobFault>
     ensures answer { IfOk result (λ o. IsDecided input.now o.text.items o.negative) }
     ensures fault { IfErr result (IsDecideFault input.now) }
@@ -49,11 +49,11 @@ pub fn decide(alloc: Global, input: &[u8]) -> Result<Output, JobFault>
     })
 }
 
-/// Reads a scenario text to its end, and writes what each general without a script decides, or nothing
-/// where the text has a fault.
+/// Reads a scenario text to its end, and writes what each general without a script decides; nothing if the text has a
+/// fault.
 ///
-/// A fault of the input is looked for once it was read whole, and nothing is written before the output
-/// is whole. Where a read, a write or memory fails the job ends so.
+/// A fault of the input is looked for after the whole input was read, and nothing is written before the output is
+/// whole. If a read, a write or memory fails, the job ends with that fault.
 #[tactic(auto, using(crate::proofs::Delivering::output_engine))]
 pub fn decide_engine<R: Read, W: Write>(alloc: Global, reader: &mut R, writer: &mut W) -> JobEnd
     // What is written answers what was read.

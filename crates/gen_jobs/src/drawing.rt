@@ -1,4 +1,4 @@
-//! The job `draw`.
+//! The job `draw`: writes the picture of a bundle or a campaign.
 ghost use Rattle.std.specs.Prelude.{◌≡◌, ◌≤◌, false, IfOk, IfErr, IfSome, if◌then◌else◌, length, map};
 ghost use Rattle.gen_convict.specs.AcrossLaws.{AreConvictedAcross};
 ghost use Rattle.gen_convict.specs.Evidence.{told_of};
@@ -22,7 +22,7 @@ use std::io::{Read, Write};
 use std::sync::Wait;
 use std::thread::Threads;
 
-/// Returns the picture of the first bundle and of the first judgement, or no bytes where one of them is missing.
+/// Returns the picture of the first bundle and of the first judgement; no bytes if one of them is missing.
 fn first_picture(
     alloc: Global,
     bundles: &[Bundle],
@@ -39,7 +39,7 @@ fn first_picture(
     draw_bundle(alloc, bundle, judgement)
 }
 
-/// Returns the picture of what is shown and of the verdict on it.
+/// Returns the picture of a bundle or a campaign and of the verdict on it.
 #[tactic(auto, using(crate::proofs::Drawn::few))]
 fn picture_of(
     alloc: Global,
@@ -60,7 +60,7 @@ fn picture_of(
     }
 }
 
-/// Returns the picture of what is shown and of the verdict on it, which doesn't say no.
+/// Returns the picture of a bundle or a campaign and of the verdict on it, as an output that doesn't say no.
 pub(crate) fn picture_by(
     alloc: Global,
     campaign: &CampaignBundle,
@@ -72,7 +72,7 @@ pub(crate) fn picture_by(
     ensures answer { IfOk result (λ o. DrawsForm campaign.now.alone campaign.now.bundles o.text.items) }
     ensures positive { IfOk result (λ o. o.negative ≡ false) }
 {
-    // What is said of the form needs what each campaign keeps, which a read of it tells.
+    // The contract needs what every campaign keeps, which this read tells.
     let _lawful = campaign.is_alone();
     let text = picture_of(alloc, campaign, verdict)?;
     Ok(Output {
@@ -81,7 +81,7 @@ pub(crate) fn picture_by(
     })
 }
 
-/// Returns the picture of what is shown and of the judgement on it.
+/// Returns the picture of a bundle or a campaign and of the judgement on it.
 #[tactic(auto, using(crate::proofs::Audited::is_want))]
 fn draw_of<T: Threads + Wait + Sync>(
     rt: &T,
@@ -97,14 +97,14 @@ fn draw_of<T: Threads + Wait + Sync>(
     Ok(picture_by(alloc, campaign, &verdict)?)
 }
 
-/// Returns the picture of the bundle that the input spells and of the judgement on it, as an SVG text, or that of the
-/// runs of the campaign, one below the other. It never says no, whatever the verdict is, and it is the same however many
-/// workers there are.
+/// Returns the picture of the bundle that the input spells and of the judgement on it, as an SVG text. For a campaign
+/// it is that of its runs, one below the other. The output never says no, whatever the verdict is, and it does not
+/// depend on the number of workers.
 ///
 /// # Errors
 ///
-/// `Campaign` with the first fault of an input that spells neither, `Memory` where memory is refused, and `Thread`
-/// where a worker's thread can't be started.
+/// `Campaign` with the first fault of an input that spells neither; `Memory` if memory is refused; `Thread` if a
+/// worker's thread can't be started.
 #[tactic(auto, using(crate::proofs::Audited::are_wants))]
 pub fn draw<T: Threads + Wait + Sync>(
     rt: &T,
@@ -119,7 +119,7 @@ pub fn draw<T: Threads + Wait + Sync>(
     draw_of(rt, alloc, workers, &campaign)
 }
 
-/// As `draw`, but takes the input, whose bytes are not copied.
+/// Returns what `draw` returns for the input, but takes the input, whose bytes are not copied.
 ///
 /// # Errors
 ///
@@ -138,11 +138,11 @@ pub fn draw_taken<T: Threads + Wait + Sync>(
     draw_of(rt, alloc, workers, &campaign)
 }
 
-/// Reads the bytes of a bundle or of a campaign to their end, and writes the picture of it and of the judgement on it, or
-/// nothing where they spell neither. The end is never negative.
+/// Reads the bytes of a bundle or of a campaign to their end, and writes the picture of it and of the judgement on it;
+/// nothing if they spell neither. The end is never negative.
 ///
-/// A fault of the input is looked for once it was read whole, and nothing is written before the output
-/// is whole. Where a read, a write, memory or a worker's thread fails the job ends so.
+/// A fault of the input is looked for after the whole input was read, and nothing is written before the output is
+/// whole. If a read, a write, memory or a worker's thread fails, the job ends with that fault.
 #[tactic(auto, using(crate::proofs::Delivering::output_engine))]
 pub fn draw_engine<T: Threads + Wait + Sync, R: Read, W: Write>(
     rt: &T,

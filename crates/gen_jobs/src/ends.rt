@@ -12,13 +12,13 @@ use gen_types::ReadError;
 use std::alloc::AllocError;
 use thiserror::Error;
 
-/// Why a job failed, shown as the line that the program then writes to standard error.
+/// Why a job failed. Its text is the line that the program then writes to standard error.
 #[derive(Clone, Copy, Debug, PartialEq, Eq, Error)]
 pub enum JobFault {
     /// The input is no scenario.
     #[error("{0}")]
     Scenario(ScenarioFault),
-    /// The input is no campaign, and no bundle that stands alone.
+    /// The input is no campaign, and no bundle on its own.
     #[error("fault {0}")]
     Campaign(CampaignFault),
     /// The input is no evidence.
@@ -111,12 +111,12 @@ impl From<ReadError<EvidenceFault>> for JobFault {
     }
 }
 
-/// What a job is to write.
+/// The output of a job.
 #[derive(Debug, Drop)]
 pub struct Output {
     /// The text.
     pub text: Vec<u8>,
-    /// Whether it says no.
+    /// Whether the text says no.
     pub negative: bool,
 }
 
@@ -132,8 +132,8 @@ pub enum JobEnd {
 }
 
 impl JobEnd {
-    /// Returns the program's exit status: 0 where the job is done, 1 where its output says no, 3 for the
-    /// input, 4 for memory or a thread, 5 for a read or a write.
+    /// Returns the program's exit status. It is 0 if the job is done, 1 if its output says no, 3 for a fault of the
+    /// input, 4 for memory or a thread, and 5 for a read or a write.
     pub fn status(self) -> u8
         ensures { result ≡ status_of self }
     {
@@ -147,7 +147,7 @@ impl JobEnd {
         }
     }
 
-    /// Returns why the job failed, whose text is the one line for standard error, and None where it didn't.
+    /// Returns why the job failed, whose text is the one line for standard error; None if it didn't fail.
     pub fn fault(self) -> Option<JobFault>
         ensures { result ≡ fault_in self }
     {

@@ -1,9 +1,9 @@
-//! A gate at which nobody waits.
+//! A gate that makes nobody wait.
 use gen_audit::JobGate;
 use gen_threads::Gate;
 use gen_types::GeneralNo;
 
-/// A gate at which no general and no worker waits.
+/// A gate that makes no general and no worker wait.
 pub(crate) struct Open;
 
 impl Gate for Open {

@@ -1,6 +1,7 @@
-//! The jobs `audit`, `draw` and `accuse` in the thread that calls: no thread is started, and none is waited for.
+//! The jobs `audit`, `draw` and `accuse` in the caller's thread: no thread is started, and none is waited for.
 //!
-//! They serve callers who have no threads to give, as a library for C; `decide` and `evidence` start none anyway.
+//! They serve callers that have no threads to give, such as a library for C. The jobs `decide` and `evidence` start no
+//! thread anyway.
 ghost use Rattle.std.specs.Prelude.{◌≡◌, false, IfErr, IfOk};
 ghost use Rattle.gen_jobs.specs.Accusing.{AccusesRuns, IsAccused};
 ghost use Rattle.gen_jobs.specs.Audit.{AuditsForm, IsAudited, IsAuditFault};
@@ -14,7 +15,7 @@ use gen_campaign::{CampaignBundle, audit_campaign_in_place, read_campaign};
 use gen_types::GeneralNo;
 use std::alloc::{AllocError, Global};
 
-/// Returns the text of the verdict on what is shown, and whether that on some run is a no.
+/// Returns the text of the verdict on a bundle or a campaign, and whether it is a no on some run.
 fn audit_shown(alloc: Global, campaign: &CampaignBundle) -> Result<Output, AllocError>
     ensures { IfOk result (λ o.
         AuditsForm campaign.now.alone campaign.now.bundles o.text.items o.negative) }
@@ -23,7 +24,7 @@ fn audit_shown(alloc: Global, campaign: &CampaignBundle) -> Result<Output, Alloc
     output_by(alloc, campaign, &verdict)
 }
 
-/// Returns the picture of what is shown and of the judgement on it.
+/// Returns the picture of a bundle or a campaign and of the judgement on it.
 fn draw_shown(alloc: Global, campaign: &CampaignBundle) -> Result<Output, AllocError>
     ensures answer { IfOk result (λ o. DrawsForm campaign.now.alone campaign.now.bundles o.text.items) }
     ensures positive { IfOk result (λ o. o.negative ≡ false) }
@@ -32,7 +33,8 @@ fn draw_shown(alloc: Global, campaign: &CampaignBundle) -> Result<Output, AllocE
     picture_by(alloc, campaign, &verdict)
 }
 
-/// Returns the bytes of the evidence against a general that is held by what is shown, or none, which says no.
+/// Returns the bytes of the evidence that a bundle or a campaign holds against a general. If there is none, there are
+/// no bytes, and the output says no.
 fn accuse_shown(
     alloc: Global,
     general: GeneralNo,
@@ -44,11 +46,11 @@ fn accuse_shown(
     evidence_by(alloc, general, campaign, &verdict)
 }
 
-/// Returns what `audit` returns of the input, in the thread that calls.
+/// Returns what `audit` returns for the input, but works in the caller's thread.
 ///
 /// # Errors
 ///
-/// Those of `audit` but `Thread`.
+/// Those of `audit`, without `Thread`.
 pub fn audit_in_place(alloc: Global, input: &[u8]) -> Result<Output, JobFault>
     ensures answer { IfOk result (λ o. IsAudited input.now o.text.items o.negative) }
     ensures fault { IfErr result (IsAuditFault input.now) }
@@ -57,11 +59,11 @@ pub fn audit_in_place(alloc: Global, input: &[u8]) -> Result<Output, JobFault>
     Ok(audit_shown(alloc, &campaign)?)
 }
 
-/// Returns what `draw` returns of the input, in the thread that calls.
+/// Returns what `draw` returns for the input, but works in the caller's thread.
 ///
 /// # Errors
 ///
-/// Those of `draw` but `Thread`.
+/// Those of `draw`, without `Thread`.
 pub fn draw_in_place(alloc: Global, input: &[u8]) -> Result<Output, JobFault>
     ensures answer { IfOk result (λ o. IsDrawn input.now o.text.items o.negative) }
     ensures fault { IfErr result (IsAuditFault input.now) }
@@ -70,11 +72,11 @@ pub fn draw_in_place(alloc: Global, input: &[u8]) -> Result<Output, JobFault>
     Ok(draw_shown(alloc, &campaign)?)
 }
 
-/// Returns what `accuse` returns of the input, in the thread that calls.
+/// Returns what `accuse` returns for the input, but works in the caller's thread.
 ///
 /// # Errors
 ///
-/// Those of `accuse` but `Thread`.
+/// Those of `accuse`, without `Thread`.
 pub fn accuse_in_place(alloc: Global, general: GeneralNo, input: &[u8]) -> Result<Output, JobFault>
     ensures answer { IfOk result (λ o. IsAccused general input.now o.text.items o.negative) }
     ensures fault { IfErr result (IsAuditFault input.now) }

@@ -21,12 +21,12 @@ use std::io::{Read, Write};
 use std::sync::Wait;
 use std::thread::Threads;
 
-/// What can be done with an input.
+/// A job: what can be done with an input.
 #[derive(Clone, Copy, Debug, PartialEq, Eq)]
 pub enum Job {
     /// Reads a scenario, and writes what each general decides.
     Decide,
-    /// Reads a scenario with a seed, and runs it in threads: it writes the bundle of the run.
+    /// Reads a scenario with a seed, runs it in threads, and writes the bundle of the run.
     Run {
         /// How many frames an edge holds, 1 to 16.
         capacity: u8,
@@ -38,7 +38,8 @@ pub enum Job {
         /// How many workers read and verify logs.
         workers: WorkerCount,
     },
-    /// Reads the text of a campaign, and runs its scenarios one after another in threads: it writes the campaign.
+    /// Reads the text of a campaign, runs its scenarios one after another in threads, and writes the campaign: the
+    /// bundles of its runs.
     Campaign {
         /// How many frames an edge holds, 1 to 16.
         capacity: u8,
@@ -55,18 +56,17 @@ pub enum Job {
     },
     /// Reads a bundle or a campaign, and writes the evidence that it holds against a general.
     Accuse {
-        /// Who is accused.
+        /// The general that is accused, 0 to 15.
         general: GeneralNo,
     },
     /// Reads evidence, and writes whether it holds.
     Evidence,
 }
 
-/// Does a job, by its engine: reads its input to its end and writes what answers it, or nothing where it has
-/// a fault.
+/// Does a job by its engine: reads its input to its end and writes the answer; nothing if the input has a fault.
 ///
-/// A fault of the input is looked for once it was read whole, and nothing is written before the output
-/// is whole. Where a read, a write, memory or a thread fails the job ends so.
+/// A fault of the input is looked for after the whole input was read, and nothing is written before the output is
+/// whole. If a read, a write, memory or a thread fails, the job ends with that fault.
 pub fn do_job<T: Threads + Wait + Sync, R: Read, W: Write>(
     rt: &T,
     alloc: Global,

@@ -1,4 +1,4 @@
-//! The job `judge`.
+//! The job `judge`: runs a scenario, and audits its logs meanwhile.
 ghost use Rattle.std.specs.Prelude.{◌<◌, IfOk, IfErr, IfSome};
 ghost use Rattle.gen_jobs.specs.Answering.{Answers};
 ghost use Rattle.gen_jobs.specs.Audit.{IsWant};
@@ -42,16 +42,15 @@ fn judge_run<T: Threads + Wait + Sync>(
     Ok(judgement_text(alloc, scenario.header(), &judgement)?)
 }
 
-/// Returns the text of the judgement on the run of the scenario that the input spells, and whether its verdict is a
-/// no. It is what `audit` makes of what `run` makes of the input; but each general's logs are read and verified while
-/// others may still run, and no bundle is written. The trees of keys are made by threads, each general runs in a thread
-/// of his own over edges that hold so many frames each, at least one, and each worker in one too.
+/// Returns the text of the judgement on the run of the scenario that the input spells, and whether its verdict is a no.
+/// It is what `audit` makes of what `run` makes of the input. But each general's logs are read and verified while other
+/// generals may still run, and no bundle is written. The trees of keys are made by threads. Each general and each
+/// worker runs in a thread of its own; the edges hold `capacity` frames each, at least one.
 ///
 /// # Errors
 ///
-/// `Scenario` with the first fault of an input that spells no scenario, or `P6` at the line behind the order
-/// where it spells one without a seed; `Memory` where memory is refused, and `Thread` where a thread can't be
-/// started.
+/// `Scenario` with the first fault of an input that spells no scenario. `Scenario` with `P6`, at the line after the
+/// order's, for a scenario without a seed. `Memory` if memory is refused; `Thread` if a thread can't be started.
 pub fn judge<T: Threads + Wait + Sync>(
     rt: &T,
     alloc: Global,
@@ -72,12 +71,12 @@ pub fn judge<T: Threads + Wait + Sync>(
     }
 }
 
-/// Reads a scenario text with a seed to its end, runs it, each general in a thread of his own over edges that hold so
-/// many frames each, at least one, while so many workers audit the logs that are there, and writes the verdict on the
-/// bundle that `run_engine` would write. The end is negative where the verdict is a no.
+/// Reads a scenario text with a seed to its end, runs it while this many workers audit the logs that are there, and
+/// writes the verdict on the bundle that `run_engine` would write. Each general runs in a thread of its own; the edges
+/// hold `capacity` frames each, at least one. The end is negative if the verdict is a no.
 ///
-/// A fault of the input is looked for once it was read whole, and nothing is written before the output
-/// is whole. Where a read, a write, memory or a thread fails the job ends so.
+/// A fault of the input is looked for after the whole input was read, and nothing is written before the output is
+/// whole. If a read, a write, memory or a thread fails, the job ends with that fault.
 #[tactic(auto, using(crate::proofs::Delivering::output_engine))]
 pub fn judge_engine<T: Threads + Wait + Sync, R: Read, W: Write>(
     rt: &T,

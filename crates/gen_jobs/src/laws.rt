@@ -4,23 +4,22 @@ ghost use Rattle.gen_jobs.specs.Accepted.{RunsAreAccepted, RunsAreRead};
 ghost use Rattle.gen_jobs.specs.AcceptedCampaigns.{CampaignsAreAccepted, CampaignsAreRead};
 ghost use Rattle.gen_jobs.specs.Judging.{RunsAreJudged};
 
-/// What the job `run` writes is read as the bundle of its run (`read`); and what the job `audit` makes of it
-/// does not say no (`accepted`): where no script has a raw line, somebody has no script, and any two of those
-/// who have none are joined inside them by at most d edges.
+/// What the job `run` writes is read as the bundle of its run (`read`). What the job `audit` makes of it does not say
+/// no if the scenario is sound (`accepted`). A scenario is sound if no script has a raw line, some general has no
+/// script, and any two generals without one are joined inside these by at most d edges.
 pub fn runs_are_accepted()
     ensures read { RunsAreRead }
     ensures accepted { RunsAreAccepted }
 {}
 
-/// What the job `audit` makes of what the job `run` writes is what the job `judge` makes of the same
-/// scenario.
+/// What the job `audit` makes of what the job `run` writes is what the job `judge` makes of the same scenario.
 pub fn runs_are_judged()
     ensures { RunsAreJudged }
 {}
 
-/// What the job `campaign` writes is read as the bundles of its runs (`read`); and what the job `audit` makes
-/// of it does not say no (`accepted`): where in each of its scenarios no script has a raw line, somebody has
-/// no script, and any two of those who have none are joined inside them by at most d edges.
+/// What the job `campaign` writes is read as the bundles of its runs (`read`). What the job `audit` makes of it does
+/// not say no if each of its scenarios is sound (`accepted`). A scenario is sound if no script has a raw line, some
+/// general has no script, and any two generals without one are joined inside these by at most d edges.
 pub fn campaigns_are_accepted()
     ensures read { CampaignsAreRead }
     ensures accepted { CampaignsAreAccepted }

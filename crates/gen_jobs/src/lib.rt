@@ -1,12 +1,12 @@
-//! The eight jobs that can be done with an input: to decide, to run, to judge, to run a campaign, to audit,
-//! to draw, to accuse and to check evidence.
+//! The eight jobs that can be done with an input: decide, run, judge, run a campaign, audit, draw, accuse, and check
+//! evidence.
 //!
-//! `decide`, `run`, `judge`, `campaign`, `audit`, `draw`, `accuse` and `evidence` take the bytes of an input,
-//! and give the text that answers it or its first fault; they need no reader, no writer and no words. Over
-//! them stand the engines, which read an input to its end and write what answers it; `do_job` takes the engine
-//! of a `Job`. A contract of an engine says what stands behind what the writer held, as far as reader and
-//! writer are known, and that nothing is written before the text is whole. It doesn't say when a reader, a
-//! writer, memory or a thread fails.
+//! `decide`, `run`, `judge`, `campaign`, `audit`, `draw`, `accuse` and `evidence` take the bytes of an input, and
+//! return the text that answers it or its first fault. They need no reader, no writer and no words of a command line.
+//! Above them stand the engines, which read an input to its end and write the answer; `do_job` runs the engine of a
+//! `Job`. A contract of an engine says what is appended to what the writer held, as far as reader and writer are known,
+//! and that nothing is written before the text is whole. It doesn't say when a reader, a writer, memory or a thread
+//! fails.
 #![tactic(auto)]
 
 mod accusing;

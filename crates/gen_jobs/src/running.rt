@@ -1,4 +1,4 @@
-//! The job `run`.
+//! The job `run`: runs a scenario, and writes the bundle of the run.
 ghost use Rattle.std.specs.Prelude.{◌≡◌, ◌<◌, false, IfErr, IfOk, IfSome};
 ghost use Rattle.gen_audit.specs.BundleSpelling.{bundle_spelling};
 ghost use Rattle.gen_audit.specs.WorldBundle.{AreWalksOfRun};
@@ -28,7 +28,7 @@ use std::io::{Read, Write};
 use std::sync::Wait;
 use std::thread::Threads;
 
-/// Returns how the job fails on a scenario without a seed.
+/// Returns the fault of a scenario without a seed: `P6` at the line after the order's.
 pub(crate) fn missing_seed(plain: &PlainScenario) -> JobFault
     ensures { result ≡ faults.Scenario (fault_at BadSeed (line_after_order plain.now.net)) }
 {
@@ -51,7 +51,7 @@ pub(crate) fn make_scenario<R: Threads + Sync>(
     Scenario::of_trees(alloc, plan, trees)
 }
 
-/// Returns the best walks between these generals, or none where two of them have no short one.
+/// Returns the best walks between these generals; none if two of them have no short one.
 pub(crate) fn walks_between(
     alloc: Global,
     net: &Net,
@@ -66,8 +66,8 @@ pub(crate) fn walks_between(
     }
 }
 
-/// Returns the bundle of a scenario's run, of which these are the logs: the generals who have scripts are held for faulty,
-/// and all logs are shown. What a run gives breaks no rule of bundles.
+/// Returns the bundle of a scenario's run with these logs. The generals that have scripts are held for faulty, and all
+/// logs are shown. What a run gives breaks no rule of bundles.
 pub(crate) fn bundle_with_logs(
     alloc: Global,
     scenario: &Scenario,
@@ -84,7 +84,7 @@ pub(crate) fn bundle_with_logs(
     Ok(Bundle::new(header, faulty, walks, exhibits).unwrap())
 }
 
-/// Returns the bundle of the scenario's run.
+/// Returns the bundle of the scenario's run, in which each edge holds `capacity` frames.
 fn bundle_of_run<T: Threads + Wait + Sync>(
     rt: &T,
     alloc: Global,
@@ -98,7 +98,7 @@ fn bundle_of_run<T: Threads + Wait + Sync>(
     Ok(bundle_with_logs(alloc, scenario, logs)?)
 }
 
-/// Returns the bundle of the run of the scenario that the input spells.
+/// Returns the bundle of the run of the scenario that the input spells, in which each edge holds `capacity` frames.
 fn bundle_of<T: Threads + Wait + Sync>(
     rt: &T,
     alloc: Global,
@@ -118,7 +118,7 @@ fn bundle_of<T: Threads + Wait + Sync>(
     }
 }
 
-/// As `run`, but the text is kept in pieces, so that its logs need no copy.
+/// Returns what `run` returns for the input, but keeps the text in pieces, so that its logs need no copy.
 ///
 /// # Errors
 ///
@@ -137,16 +137,15 @@ pub fn run_in_pieces<T: Threads + Wait + Sync>(
     Ok(BundleText::new(alloc, bundle)?)
 }
 
-/// Returns the bytes of the bundle of the run of the scenario that the input spells. They never say no. The
-/// trees of keys are made by threads, and each general runs in a thread of his own over edges that hold so
-/// many frames each, at least one: the generals who have scripts are held for faulty, all logs are shown, and
-/// the walks are the best ones between the others, or none where two of them have no short one.
+/// Returns the bytes of the bundle of the run of the scenario that the input spells. The output never says no. The
+/// trees of keys are made by threads. Each general runs in a thread of its own; the edges hold `capacity` frames each,
+/// at least one. The generals that have scripts are held for faulty, and all logs are shown. The walks are the best
+/// ones between the other generals, or none if two of them have no short one.
 ///
 /// # Errors
 ///
-/// `Scenario` with the first fault of an input that spells no scenario, or `P6` at the line behind the order
-/// where it spells one without a seed; `Memory` where memory is refused, and `Thread` where a thread can't be
-/// started.
+/// `Scenario` with the first fault of an input that spells no scenario. `Scenario` with `P6`, at the line after the
+/// order's, for a scenario without a seed. `Memory` if memory is refused; `Thread` if a thread can't be started.
 pub fn run<T: Threads + Wait + Sync>(
     rt: &T,
     alloc: Global,
@@ -165,13 +164,13 @@ pub fn run<T: Threads + Wait + Sync>(
     })
 }
 
-/// Reads a scenario text with a seed to its end, makes the trees of keys by threads, runs it, each general in
-/// a thread of his own over edges that hold so many frames each, at least one, and writes the bundle of the
-/// run: the generals who have scripts are held for faulty, all logs are shown, and the walks are the best
-/// ones between the others, or none where two of them have no short one.
+/// Reads a scenario text with a seed to its end, makes the trees of keys by threads, runs it, and writes the bundle of
+/// the run. Each general runs in a thread of its own; the edges hold `capacity` frames each, at least one. The generals
+/// that have scripts are held for faulty, and all logs are shown. The walks are the best ones between the other
+/// generals, or none if two of them have no short one.
 ///
-/// A fault of the input is looked for once it was read whole, and nothing is written before the output
-/// is whole. Where a read, a write, memory or a thread fails the job ends so.
+/// A fault of the input is looked for after the whole input was read, and nothing is written before the output is
+/// whole. If a read, a write, memory or a thread fails, the job ends with that fault.
 #[tactic(auto, using(crate::proofs::Delivering::text_engine))]
 pub fn run_engine<T: Threads + Wait + Sync, R: Read, W: Write>(
     rt: &T,

@@ -1,4 +1,4 @@
-//! The whole input, and the whole output.
+//! Reads the whole input, and writes the whole output.
 ghost use Rattle.std.specs.Prelude.{◌≡◌, ◌≤◌, IfErr, IfOk, IfSome, length};
 ghost use Rattle.gen_jobs.specs.Answering.{Delivers};
 ghost use Rattle.gen_jobs.specs.Ends.{IsReadFault, IsWritten};
@@ -7,18 +7,18 @@ use crate::ends::{JobEnd, JobFault, Output};
 use std::alloc::Global;
 use std::io::{ErrorKind, Read, Write};
 
-/// The most bytes of an input.
+/// The greatest number of bytes of an input: 2^30.
 const MOST_BYTES: usize = 1_073_741_824;
 
-/// The most calls of `read` that an input may take, the one that finds its end included.
+/// The greatest number of calls of `read` for an input, including the one that finds its end: 2^32.
 const MOST_READS: u64 = 4_294_967_296;
 
-/// Returns all that the reader gives up to its end: at most 1,073,741,824 bytes, by at most 4,294,967,296
-/// calls of `read`. An interrupted read is tried again.
+/// Returns all that the reader gives to its end: at most 1,073,741,824 bytes, by at most 4,294,967,296 calls of `read`.
+/// An interrupted read is tried again.
 ///
 /// # Errors
 ///
-/// `Read` where a read fails or the input is past either limit, and `Memory` where memory is refused.
+/// `Read` if a read fails or the input is past either limit; `Memory` if memory is refused.
 pub fn read_all<R: Read>(alloc: Global, reader: &mut R) -> Result<Vec<u8>, JobFault>
     ensures whole { IfOk result (λ v. IfSome (R.remaining reader.old) (λ input. v.items ≡ input)) }
     ensures short { IfOk result (λ v. length v.items ≤ 1073741824) }
@@ -45,7 +45,8 @@ pub fn read_all<R: Read>(alloc: Global, reader: &mut R) -> Result<Vec<u8>, JobFa
     Err(JobFault::Read)
 }
 
-/// Writes the whole output, and returns how the job ends by it.
+/// Writes the whole output, and returns how the job ends: Done, Negative if the output says no, or with the fault
+/// Write.
 pub fn write_output<W: Write>(writer: &mut W, output: &Output) -> JobEnd
     ensures { IsWritten output.now.text.items output.now.negative
         (W.contents writer.old) (W.contents writer.new) result }
@@ -60,7 +61,7 @@ pub fn write_output<W: Write>(writer: &mut W, output: &Output) -> JobEnd
     }
 }
 
-/// Writes what answers the input, and returns how the job ends: so, or by the fault in its place.
+/// Writes the output that answers the input, or nothing if there is a fault in its place, and returns how the job ends.
 pub fn deliver<W: Write>(writer: &mut W, answer: Result<Output, JobFault>) -> JobEnd
     ensures { Delivers answer (W.contents writer.old) (W.contents writer.new) result }
 {

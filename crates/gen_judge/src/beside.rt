@@ -1,4 +1,4 @@
-//! Workers beside a run.
+//! Runs a scenario beside workers that report on its logs.
 ghost use Rattle.std.specs.Prelude.{◌≡◌, ◌<◌, IfOk};
 ghost use Rattle.gen_scenario.specs.Rows.{logs_of_all};
 ghost use Rattle.gen_judge.specs.Faults.{ended_as};
@@ -18,8 +18,8 @@ use std::sync::Wait;
 use std::thread;
 use std::thread::{JoinHandle, Scope, Threads};
 
-/// Starts as many workers as there is room for their handles, and returns whether all could be started. After one that
-/// can't be no other is.
+/// Starts up to `count` workers, as long as there is room for their handles, and returns whether all could be started.
+/// After one that can't be started no other is.
 fn start_workers<'s, E, R: Threads + Wait + Sync, J: JobGate + Sync>(
     rt: &'s R,
     alloc: Global,
@@ -43,15 +43,15 @@ fn start_workers<'s, E, R: Threads + Wait + Sync, J: JobGate + Sync>(
     true
 }
 
-/// Joins workers.
+/// Joins all workers.
 fn join_workers<R: Threads>(rt: &R, handles: Vec<JoinHandle<()>>) {
     for handle in handles {
         handle.join(rt);
     }
 }
 
-/// Returns what is answered where a run ended so beside workers who were all started or not, and memory was refused to
-/// somebody who files or reports or not.
+/// Returns the answer for a run that ended with these logs or this fault. `started` says whether all workers were
+/// started, `refused` whether memory was refused to one that files or reports.
 fn ended(
     logs: Result<Vec<SealedLog>, RunFault>,
     started: bool,
@@ -74,8 +74,8 @@ fn ended(
     }
 }
 
-/// Runs the generals while workers wait for what they file, ends the receipts that the desk knows, and joins the
-/// workers.
+/// Starts the workers and runs the generals, while the workers wait for what the generals file. Then it ends the
+/// receipts that the desk knows, and joins the workers.
 fn run_within<'s, E, R: Threads + Wait + Sync, G: Gate + Sync, J: JobGate + Sync>(
     rt: &'s R,
     alloc: Global,
@@ -119,12 +119,12 @@ fn run_within<'s, E, R: Threads + Wait + Sync, G: Gate + Sync, J: JobGate + Sync
     ended(logs, started, stop.was_refused())
 }
 
-/// Runs a scenario, whose generals file at the gate, beside so many workers, each in a thread of his own. All threads
-/// have ended then.
+/// Runs a scenario, whose generals file at the gate, beside this many workers, each in a thread of its own. All threads
+/// have ended when it returns.
 ///
 /// # Errors
 ///
-/// `Memory` where it was refused to anybody; else `Thread` where a thread could not be started.
+/// `Memory` if memory was refused to any thread; else `Thread` if a thread could not be started.
 pub(crate) fn run_beside<R: Threads + Wait + Sync, G: Gate + Sync, J: JobGate + Sync>(
     rt: &R,
     alloc: Global,

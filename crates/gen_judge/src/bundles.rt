@@ -1,4 +1,4 @@
-//! The bundle of a run.
+//! Makes the bundle of a run.
 ghost use Rattle.std.specs.Prelude.{◌≡◌, IfOk};
 ghost use Rattle.gen_log.specs.Fields.{AreBelow};
 ghost use Rattle.gen_scenario.specs.Rows.{logs_of_all};
@@ -15,7 +15,7 @@ use gen_types::GeneralSet;
 use gen_walks::Walks;
 use std::alloc::{AllocError, Global};
 
-/// Returns the bundle of a scenario's run, of its parts.
+/// Returns the bundle of a scenario's run from its parts, which must be those of the scenario.
 fn bundle_of_parts(
     scenario: &Scenario,
     header: Header,
@@ -33,8 +33,8 @@ fn bundle_of_parts(
     Bundle::new(header, faulty, walks, exhibits).unwrap()
 }
 
-/// Returns the bundle of a scenario's run, whose logs these are, with the generals who are held for faulty and the
-/// walks. It breaks no rule of bundles.
+/// Returns the bundle of a scenario's run, with its logs, the generals that are held for faulty, and the walks. The
+/// bundle breaks no rule of bundles.
 pub(crate) fn bundle_of_run(
     alloc: Global,
     scenario: &Scenario,

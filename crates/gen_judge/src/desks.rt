@@ -1,4 +1,4 @@
-//! A run at a desk.
+//! Runs a scenario at a desk.
 ghost use Rattle.std.specs.Prelude.{◌≡◌, ◌<◌, IfOk};
 ghost use Rattle.gen_scenario.specs.Rows.{logs_of_all};
 
@@ -16,14 +16,14 @@ use std::alloc::Global;
 use std::sync::Wait;
 use std::thread::Threads;
 
-/// A run at a desk: its logs, and what stands at the places of the desk, if that knows all receipts.
+/// A run at a desk: its logs, and what stands at the places of the desk, if the desk knows all receipts.
 #[derive(Drop)]
 pub(crate) struct FiledRun {
     pub(crate) logs: Vec<SealedLog>,
     pub(crate) rows: Option<Vec<Row>>,
 }
 
-/// Returns what stands at the places of a desk, if it knows all receipts.
+/// Closes a desk, and returns what stands at its places, if it knows all receipts.
 fn rows_of(desk: Desk, receipts: Vec<Receipt>) -> Option<Vec<Row>> {
     match desk.close(receipts) {
         Ok(filed) => Some(filed.into_rows()),
@@ -31,11 +31,11 @@ fn rows_of(desk: Desk, receipts: Vec<Receipt>) -> Option<Vec<Row>> {
     }
 }
 
-/// Runs a scenario beside so many workers, who report on each log once its general has filed it.
+/// Runs a scenario beside this many workers, which report on each log once its general has filed it.
 ///
 /// # Errors
 ///
-/// `Memory` where it was refused to anybody; else `Thread` where a thread could not be started. All threads have ended
+/// `Memory` if memory was refused to any thread; else `Thread` if a thread could not be started. All threads have ended
 /// then.
 pub(crate) fn run_at_desk<R: Threads + Wait + Sync, G: Gate + Sync, J: JobGate + Sync>(
     rt: &R,

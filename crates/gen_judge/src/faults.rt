@@ -5,7 +5,7 @@ ghost use Rattle.gen_judge.specs.Faults.{fault_of_run};
 use gen_audit::AuditFault;
 use gen_threads::RunFault;
 
-/// Returns what is answered where a run has no logs.
+/// Returns the audit's fault for a run that has no logs: Memory, or else Thread.
 pub(crate) fn fault_of(fault: RunFault) -> AuditFault
     ensures { result ≡ fault_of_run fault }
 {

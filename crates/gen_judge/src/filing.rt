@@ -9,8 +9,8 @@ use gen_threads::Gate;
 use gen_types::GeneralNo;
 use std::sync::Wait;
 
-/// A gate that passes all on to another, and files each log that is sealed, at its place among the logs of the run. The
-/// desk shares the log's bytes.
+/// A gate that passes every call on to another gate, and files each sealed log at its place among the logs of the run.
+/// The desk shares the log's bytes.
 #[derive(Drop)]
 pub(crate) struct FilingGate<'a, R, G> {
     pub(crate) rt: &'a R,
@@ -21,7 +21,7 @@ pub(crate) struct FilingGate<'a, R, G> {
     pub(crate) stop: &'a StopWord,
 }
 
-/// Files a log at a place. Where that can't be done the stop word is set.
+/// Files a log at a place. If that can't be done, the stop word is set.
 fn file_one<R: Wait>(
     rt: &R,
     desk: &Desk,

@@ -1,4 +1,4 @@
-//! The judgement of a run.
+//! Judges a run.
 ghost use Rattle.std.specs.Prelude.{◌≡◌, IfOk, IfSome, map};
 ghost use Rattle.gen_log.specs.Fields.{AreBelow};
 ghost use Rattle.gen_convict.specs.Convictions.{AreConvictions, AreEvidence, ConvictsWhereHeld};
@@ -23,7 +23,7 @@ use std::alloc::{AllocError, Global};
 use std::sync::Wait;
 use std::thread::Threads;
 
-/// Returns the reports that stand in the rows, if each exhibit of a bundle has one at its place.
+/// Returns the reports in the rows, if each exhibit of a bundle has one at its place.
 fn reports_in(
     alloc: Global,
     bundle: &Bundle,
@@ -34,8 +34,8 @@ fn reports_in(
     reports_among(alloc, bundle.header(), bundle.exhibits(), rows)
 }
 
-/// Returns the judgement on a bundle by the reports that stand in the rows, if each of its exhibits has one there, and
-/// else by so many workers who report on its exhibits.
+/// Returns the judgement on a bundle by the reports in the rows, if each of its exhibits has one there. Otherwise this
+/// many workers audit the bundle.
 fn judge_by<R: Threads + Wait + Sync, J: JobGate + Sync>(
     rt: &R,
     alloc: Global,
@@ -62,8 +62,8 @@ fn judge_by<R: Threads + Wait + Sync, J: JobGate + Sync>(
     }
 }
 
-/// Returns the judgement on the bundle of a run, whose logs these are, by the reports that stand in the rows, if they are
-/// those of the logs, and else by so many workers.
+/// Returns the judgement on the bundle of a run with these logs. It is made by the reports in the rows, if they are
+/// those of the logs; otherwise this many workers audit the bundle.
 pub(crate) fn judge_run<R: Threads + Wait + Sync, J: JobGate + Sync>(
     rt: &R,
     alloc: Global,

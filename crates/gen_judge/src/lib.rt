@@ -1,9 +1,8 @@
-//! A run whose logs are judged while it goes on.
+//! Judges the logs of a run while the run goes on.
 //!
-//! Generals run in threads, each files his logs at a desk once they are sealed, and workers beside
-//! them report on what is filed. What is promised: the judgement is the one on the bundle that the run makes,
-//! in each case. What is not: that threads run, that waiting ends, or that a report was made while others
-//! ran.
+//! The generals run in threads, and each files its logs at a desk once they are sealed. Workers beside them report on
+//! what is filed. What is promised: the judgement is the one on the bundle that the run makes, in each case. What is
+//! not promised: that threads run, that waiting ends, or that a report was made while other generals ran.
 #![tactic(auto)]
 
 mod beside;

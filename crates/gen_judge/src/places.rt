@@ -1,4 +1,4 @@
-//! Which logs a run has.
+//! Where each log stands among the logs of a run.
 use gen_scenario::Scenario;
 use gen_script::{Script, ScriptLine};
 
@@ -10,8 +10,8 @@ fn has_two_logs(script: &Script) -> bool {
         .any(|line| matches!(line, ScriptLine::TwoHeads))
 }
 
-/// Returns how many logs the generals below a number have: one each, and two where a script says so. So it is the place
-/// of the general's first log among all.
+/// Returns how many logs the generals below a number have: one each, and two if a script says so. This is the place of
+/// that general's first log among all logs.
 pub(crate) fn logs_below(scenario: &Scenario, number: u8) -> usize {
     let mut count = usize::from(number);
     for script in scenario.scripts() {

@@ -1,4 +1,4 @@
-//! Which reports of a desk are those of a bundle.
+//! Which reports of a desk are those of a bundle's exhibits.
 ghost use Rattle.std.specs.Prelude.{◌≡◌, ◌↔◌, ◌++◌, ◌∷◌, [], List, true, IsTrue, IfOk, IfSome};
 ghost use Rattle.gen_log.specs.Writing.{LogBytes};
 ghost use Rattle.gen_local.specs.Report.{AreReportsOf};
@@ -22,14 +22,14 @@ fn is_same_header(one: &Header, other: &Header) -> bool
     one == other
 }
 
-/// Returns whether a report is that of an exhibit under a header.
+/// Returns whether a report is the one of this exhibit under this header.
 fn is_report_of(report: &LocalReport, header: &Header, exhibit: &Exhibit) -> bool
     ensures { IsTrue result ↔ ((report.now.header ≡ header.now) × (report.now.exhibit ≡ exhibit.now)) }
 {
     is_same_header(report.header(), header) && is_same(report.exhibit(), exhibit)
 }
 
-/// Adds a place's report, if it is that of the exhibit, and returns whether it is.
+/// Appends the report at a place, if it is the one of the exhibit under the header, and returns whether it is.
 fn add_report(
     row: Row,
     header: &Header,
@@ -55,7 +55,8 @@ fn add_report(
     Ok(true)
 }
 
-/// Returns the reports that stand in the rows, if each exhibit has one under the header at its place. Each is tested.
+/// Returns the reports in the rows, if each exhibit has one under the header at its place. Each report is compared with
+/// its exhibit and the header.
 pub(crate) fn reports_among(
     alloc: Global,
     header: &Header,

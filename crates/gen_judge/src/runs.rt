@@ -1,4 +1,4 @@
-//! A run that is judged.
+//! Runs a scenario and judges it.
 ghost use Rattle.std.specs.Prelude.{◌<◌, IfOk, map};
 ghost use Rattle.gen_log.specs.Fields.{AreBelow};
 ghost use Rattle.gen_convict.specs.Convictions.{AreConvictions, AreEvidence, ConvictsWhereHeld};
@@ -19,20 +19,19 @@ use std::alloc::Global;
 use std::sync::Wait;
 use std::thread::Threads;
 
-/// Runs a scenario, each general in a thread of his own, over edges that hold so many frames each, at least one; and
-/// returns the judgement on the bundle of the run: its header, these generals held for faulty, these walks, and the logs
-/// of all. So many workers, each in a thread of his own, one alone too, report on each log once it is sealed, while
-/// other generals may still run.
+/// Runs a scenario, each general in a thread of its own, over edges that hold this many frames each (at least one).
+/// Returns the judgement on the bundle of the run: its header, these generals held for faulty, these walks, and all
+/// logs. This many workers, each in a thread of its own, report on each log once it is sealed, while other generals may
+/// still run; a single worker has its own thread too.
 ///
-/// The gate is called by each general's thread before each round and with his sealed logs; then
-/// these are filed. The other gate is called for each exhibit, counted from 0 in the order of
-/// generals, by the worker who begins it, for up to four that he claimed in a row before he works
-/// on them. Where a log or a report is missing in the end, the logs are audited once more, and that
-/// gate is called again.
+/// The gate is called by each general's thread before each round, and with its sealed logs, which are filed after that.
+/// The job gate is called for each exhibit, counted from 0 in the order of generals, by the worker that begins it. A
+/// worker claims up to four exhibits, and begins all of them before it works on them. If a log or a report is missing
+/// in the end, all logs are audited once more, and the job gate is called again.
 ///
 /// # Errors
 ///
-/// `Memory` where it was refused to anybody; else `Thread` where a thread could not be started. All threads have ended
+/// `Memory` if memory was refused to any thread; else `Thread` if a thread could not be started. All threads have ended
 /// then.
 pub fn run_and_audit<R: Threads + Wait + Sync, G: Gate + Sync, J: JobGate + Sync>(
     rt: &R,
@@ -51,19 +50,19 @@ pub fn run_and_audit<R: Threads + Wait + Sync, G: Gate + Sync, J: JobGate + Sync
     // The verdict is that on the bundle of the run.
     ensures verdict { IfOk result (λ judgement.
         IsVerdict (run_bundle scenario.now faulty.now walks.now) judgement.verdict) }
-    // It is a yes exactly where the bundle supports it, and with at most m held for faulty it is then the order on which
-    // the rest agree.
+    // It is a yes if and only if the bundle supports it. With at most m generals held for faulty, it is then the order
+    // on which the rest agree.
     ensures headline { IfOk result (λ judgement.
         Headline (run_bundle scenario.now faulty.now walks.now) judgement.verdict) }
-    // Each general against whom a first claim can be made is convicted by it, and nobody else is.
+    // Each general against which a first claim can be made is convicted by it, and no other general is.
     ensures convictions { IfOk result (λ judgement.
         AreConvictions (run_bundle scenario.now faulty.now walks.now).header
         (run_bundle scenario.now faulty.now walks.now).exhibits (map told_of judgement.convictions.items)) }
-    // So a general is convicted exactly where the logs hold a contradiction of his.
+    // So a general is convicted if and only if the logs hold a contradiction of that general.
     ensures held { IfOk result (λ judgement.
         ConvictsWhereHeld (run_bundle scenario.now faulty.now walks.now).header
         (run_bundle scenario.now faulty.now walks.now).exhibits (map told_of judgement.convictions.items)) }
-    // And each conviction can be written.
+    // Each conviction can be written as evidence.
     ensures lawful { IfOk result (λ judgement.
         AreEvidence (run_bundle scenario.now faulty.now walks.now).header (map told_of judgement.convictions.items)) }
 {

@@ -1,9 +1,9 @@
-//! Whether workers are to stop.
+//! Tells workers to stop early.
 use gen_desk::{Desk, DeskFault};
 use std::sync::atomic::{AtomicBool, Ordering};
 
-/// The stop word of workers: whether they are to stop though not all is reported, and whether memory was refused to
-/// anybody who files or reports.
+/// The stop word of workers. It tells whether the workers are to stop before everything is reported, and whether memory
+/// was refused to a thread that files or reports.
 #[derive(Drop)]
 pub(crate) struct StopWord {
     set: AtomicBool,
@@ -19,13 +19,13 @@ impl StopWord {
         }
     }
 
-    /// Sets the word, and wakes all who wait at the desk.
+    /// Sets the word, and wakes all threads that wait at the desk.
     pub(crate) fn set(&self, desk: &Desk) {
         self.set.store(true, Ordering::SeqCst);
         desk.wake_all();
     }
 
-    /// Sets the word for a fault of somebody who files or reports, and wakes all who wait at the desk.
+    /// Sets the word for the fault of a thread that files or reports, and wakes all threads that wait at the desk.
     pub(crate) fn set_for(&self, desk: &Desk, fault: DeskFault) {
         if fault == DeskFault::Memory {
             self.refused.store(true, Ordering::SeqCst);
@@ -38,7 +38,7 @@ impl StopWord {
         self.set.load(Ordering::SeqCst)
     }
 
-    /// Returns whether memory was refused to anybody who files or reports.
+    /// Returns whether memory was refused to a thread that files or reports.
     pub(crate) fn was_refused(&self) -> bool {
         self.refused.load(Ordering::SeqCst)
     }

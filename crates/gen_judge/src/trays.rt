@@ -1,9 +1,9 @@
-//! Slips until they are used, and receipts.
+//! Keeps slips until they are used, and receipts.
 use gen_desk::{Desk, Receipt, Slip};
 use std::alloc::{AllocError, Global};
 use std::sync::{Mutex, Wait};
 
-/// A slip that is given up where it is dropped, so that threads can share it.
+/// A slip that is given up when it is dropped, so that threads can share it.
 struct HeldSlip {
     slip: Slip,
 }
@@ -16,21 +16,21 @@ impl Drop for HeldSlip {
 }
 
 impl HeldSlip {
-    /// Returns the slip.
+    /// Takes the slip out, so that it isn't given up.
     fn into_slip(self) -> Slip {
         let HeldSlip { slip } = self;
         slip
     }
 }
 
-/// The slips that nobody took yet, and the receipts of all who filed, but those that were spent.
+/// The slips that were not taken yet, and the receipts of what was filed, without those that were ended.
 #[derive(Drop)]
 pub(crate) struct Tray {
     slips: Mutex<Vec<Option<HeldSlip>>>,
     receipts: Mutex<Vec<Receipt>>,
 }
 
-/// Returns so many seats for slips, all of them empty.
+/// Returns this many empty seats for slips.
 fn empty_seats(alloc: Global, places: usize) -> Result<Vec<Option<HeldSlip>>, AllocError> {
     let mut seats = Vec::with_capacity(alloc, places)?;
     for _ in 0..places {
@@ -39,7 +39,7 @@ fn empty_seats(alloc: Global, places: usize) -> Result<Vec<Option<HeldSlip>>, Al
     Ok(seats)
 }
 
-/// Puts a slip into the seat of its place. Where there is none it is given up.
+/// Puts a slip into the seat of its place. If there is no such seat, the slip is given up.
 fn put_slip(seats: &mut Vec<Option<HeldSlip>>, slip: Slip) {
     let place = slip.place();
     let held = HeldSlip { slip };
@@ -49,11 +49,11 @@ fn put_slip(seats: &mut Vec<Option<HeldSlip>>, slip: Slip) {
 }
 
 impl Tray {
-    /// Returns the tray of so many places, in which is no slip yet, and room for all receipts.
+    /// Returns a tray of this many places that holds no slip yet, with room for all receipts.
     ///
     /// # Errors
     ///
-    /// `AllocError` where memory is refused.
+    /// `AllocError` if memory is refused.
     pub(crate) fn new(alloc: Global, places: usize) -> Result<Tray, AllocError> {
         let seats = empty_seats(alloc, places)?;
         let receipts = Vec::with_capacity(alloc, places)?;
@@ -73,7 +73,7 @@ impl Tray {
         slips.destroy_empty();
     }
 
-    /// Takes the slip of a place, if it is there still.
+    /// Takes the slip of a place, if it is still there.
     pub(crate) fn take_slip<R: Wait>(&self, rt: &R, place: usize) -> Option<Slip> {
         let mut seats = self.slips.lock(rt);
         match seats.get_mut(place) {
@@ -85,7 +85,7 @@ impl Tray {
         }
     }
 
-    /// Adds a receipt, for which there is room. Without room it is dropped.
+    /// Adds a receipt, for which there is room. Without room the receipt is dropped.
     pub(crate) fn add_receipt<R: Wait>(&self, rt: &R, receipt: Receipt) {
         let _added = self.receipts.lock(rt).push(receipt);
     }
@@ -103,7 +103,7 @@ impl Tray {
         }
     }
 
-    /// Returns the receipts that are left. The slips that are left are given up.
+    /// Returns the receipts that are left, and gives up the slips that are left.
     pub(crate) fn into_receipts(self) -> Vec<Receipt> {
         let Tray { slips: _, receipts } = self;
         receipts.into_inner()

@@ -1,4 +1,4 @@
-//! One worker.
+//! One worker: it claims what is filed, and reports on it.
 ghost use Rattle.gen_chain.specs.Store.{Serves};
 
 use crate::stopping::StopWord;
@@ -11,18 +11,19 @@ use std::alloc::{AllocError, Global};
 use std::sync::Wait;
 use std::thread;
 
-/// How many places a worker claims at a time, as many as there are lanes.
+/// How many places a worker claims at a time: the number of lanes that are hashed side by side.
 const LANES: usize = 4;
 
-/// How often a worker looks at the desk, at most, before he works on fewer.
+/// How often at most a worker looks at the desk before it works on fewer than four places.
 const LOOKS: usize = 200;
 
-/// Claims up to four places that are filed and claimed by nobody. With some, but fewer than four, the worker lets others
-/// run a while and looks again: all logs of a run are filed within a short time, and four take little longer than two.
+/// Claims up to four places that are filed and not yet claimed. A worker that has some, but fewer than four, lets other
+/// threads run a while and looks again. All logs of a run are filed within a short time, and four reports take little
+/// longer than two.
 ///
 /// # Errors
 ///
-/// `AllocError` where memory is refused. What was claimed before is reported on by nobody then.
+/// `AllocError` if memory is refused. What was claimed before is then reported on by no worker.
 fn claim_some<R: Wait>(rt: &R, alloc: Global, desk: &Desk) -> Result<Vec<Claim>, AllocError> {
     let mut claims = Vec::with_capacity(alloc, LANES)?;
     for _ in 0..LOOKS {
@@ -38,7 +39,7 @@ fn claim_some<R: Wait>(rt: &R, alloc: Global, desk: &Desk) -> Result<Vec<Claim>,
     Ok(claims)
 }
 
-/// Begins what was claimed, and returns its exhibits, whose bytes are not copied.
+/// Calls the gate for each claim, and returns the claimed exhibits, whose bytes are shared and not copied.
 fn begin_all<J: JobGate>(
     alloc: Global,
     gate: &J,
@@ -52,7 +53,7 @@ fn begin_all<J: JobGate>(
     Ok(exhibits)
 }
 
-/// Makes the reports of what was claimed, the links of several logs hashed side by side.
+/// Makes the reports on what was claimed. The links of several logs are hashed side by side.
 fn reports_of<J: JobGate>(
     alloc: Global,
     gate: &J,
@@ -67,7 +68,7 @@ fn reports_of<J: JobGate>(
     local_reports(alloc, header, exhibits.as_slice(), store)
 }
 
-/// Hands reports in at the desk, each for the claim that stands at its place.
+/// Hands in the reports at the desk, each with the claim of the same position.
 fn hand_in<R: Wait>(
     rt: &R,
     desk: &Desk,
@@ -82,7 +83,7 @@ fn hand_in<R: Wait>(
     Ok(())
 }
 
-/// Reports on what was claimed.
+/// Reports on what was claimed, and hands the reports in.
 fn serve<R: Wait, J: JobGate>(
     rt: &R,
     alloc: Global,
@@ -101,13 +102,13 @@ fn serve<R: Wait, J: JobGate>(
     }
 }
 
-/// Claims and reports, through a store of the worker's own, until all places are reported or the stop word is set. Of
-/// what is filed he takes up to four logs at a time. Where nothing is to be claimed the worker sleeps until something is
-/// filed or reported, or all are woken.
+/// Claims and reports, through a store of the worker's own, until all places are reported or the stop word is set. The
+/// worker takes up to four filed logs at a time. If there is nothing to claim, it sleeps until something is filed or
+/// reported, or all are woken.
 ///
 /// # Errors
 ///
-/// Memory where it is refused, and what the desk says of a report that it refuses.
+/// Memory if memory is refused, or what the desk says of a report that it refuses.
 fn work<R: Wait, J: JobGate>(
     rt: &R,
     alloc: Global,
@@ -138,7 +139,7 @@ fn work<R: Wait, J: JobGate>(
     unreachable!()
 }
 
-/// One worker, from beginning to end. Where he can't go on he sets the stop word.
+/// Runs one worker from beginning to end. If the worker can't go on, it sets the stop word.
 pub(crate) fn work_to_end<R: Wait, J: JobGate>(
     rt: &R,
     alloc: Global,

@@ -1,4 +1,4 @@
--- What entries say without their signatures, which is all that the algorithm is judged by.
+-- What entries say without their signatures. The algorithm is judged by this alone.
 use Rattle.std.specs.Prelude.{List, map}
 use Rattle.gen_net.specs.Log.{LogEntry}
 use Rattle.gen_log.specs.declared.entries.Entry.{Entry}

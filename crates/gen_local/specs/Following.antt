@@ -6,15 +6,15 @@ use Rattle.gen_net.specs.Network.{Network, rounds, choose, AreNeighbours}
 use Rattle.gen_net.specs.Run.{IsWellFormed}
 use Rattle.gen_net.specs.Log.{LogEntry, Started, Signed, Sent, Received, Decided, place, Precedes}
 
--- The entries give g the order by this path: START gives the commander his own by the empty path, a RECV
--- gives its order by its path.
+-- The entries give g the order by this path: START gives the commander its own order by the empty path, and a
+-- RECV gives its order by its path.
 abbrev pub Learns : ℕ → List LogEntry → ℕ → List ℕ → Type 0
 Learns g before v path =
     (Contains before (Started g (Some v)) × (path ≡ []))
     ⊎ ((from : ℕ) × Contains before (Received from v path))
 
--- g is to sign the order with this path: one of the shortest by which he learnt the order, which is shorter
--- than R, lengthened by himself
+-- g is to sign the order with this path: the path is a shortest one by which g learnt the order, shorter than
+-- R, followed by g
 pub record IsToSign (net : Network) (g : ℕ) (before : List LogEntry) (v : ℕ) (path : List ℕ)
     : Type 0 where
   pub picked : List ℕ
@@ -23,7 +23,7 @@ pub record IsToSign (net : Network) (g : ℕ) (before : List LogEntry) (v : ℕ)
   pub in_time : length picked < rounds net
   pub longer : path ≡ picked ++ g ∷ []
 
--- the commander, and nobody else, has an order of his own
+-- the commander has one of the network's orders of its own, and a lieutenant has none
 abbrev pub IsOwn : Network → ℕ → Option ℕ → Type 0
 IsOwn net g None = g ≢ 0
 IsOwn net g (Some v) = (g ≡ 0) × (v < net.orders)
@@ -39,7 +39,8 @@ IsSound net g before (Received from order path) =
 IsSound net g before (Decided orders order) =
     IsListOf orders (λ v. (path : List ℕ) × Learns g before v path) × (order ≡ choose net orders)
 
--- The entry may follow: it stands behind these entries, they allow it, and nothing is left out before it.
+-- The entry may follow these entries: its place is after theirs, they allow it, and nothing that is due
+-- before it is left out.
 pub record MayFollow (net : Network) (g : ℕ) (before : List LogEntry) (e : LogEntry) : Type 0 where
   pub in_place : (x : LogEntry) → Contains before x → Precedes (place net x) (place net e)
   pub sound : IsSound net g before e

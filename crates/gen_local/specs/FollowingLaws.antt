@@ -5,13 +5,13 @@ use Rattle.gen_net.specs.Log.{LogEntry, Decided}
 use Rattle.gen_net.specs.Departs.{Begins, DepartsAt, IsFollowersLog}
 use Rattle.gen_local.specs.Following.{MayFollow, GoesOn}
 
--- entries begin a log of g exactly where each may follow those before it
+-- entries begin a log of g if and only if each may follow those before it
 abbrev pub BegunByStep : Type 0
 BegunByStep =
     (net : Network) (g : ℕ) → IsNetwork net → g < net.generals → (entries : List LogEntry)
     → Begins net g entries ↔ GoesOn net g entries
 
--- no entries begin a log, and one more entry goes on exactly where it may follow
+-- the empty list begins a log, and one more entry goes on if and only if it may follow
 abbrev pub BegunByNone : Type 0
 BegunByNone = (net : Network) (g : ℕ) → IsNetwork net → g < net.generals → Begins net g []
 
@@ -20,7 +20,7 @@ BegunByOneMore =
     (net : Network) (g : ℕ) → IsNetwork net → g < net.generals → (before : List LogEntry) (e : LogEntry)
     → Begins net g (before ++ e ∷ []) ↔ (Begins net g before × MayFollow net g before e)
 
--- the entries up to this one begin a log, and this one may not follow them
+-- the entries before index p begin a log, and the entry at p may not follow them
 pub record FirstRefused (net : Network) (g : ℕ) (entries : List LogEntry) (p : ℕ) : Type 0 where
   pub before : List LogEntry
   pub entry : LogEntry
@@ -42,7 +42,7 @@ EndsDecided entries =
     (before : List LogEntry) × (orders : List ℕ) × (order : ℕ)
     × (entries ≡ before ++ Decided orders order ∷ [])
 
--- a list is the whole of a log that g could keep exactly where it begins one and ends with DECIDE
+-- a list is a whole log that g could keep if and only if it begins one and ends with DECIDE
 abbrev pub WholeLogs : Type 0
 WholeLogs =
     (net : Network) (g : ℕ) → IsNetwork net → g < net.generals → (entries : List LogEntry)

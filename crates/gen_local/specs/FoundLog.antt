@@ -1,4 +1,4 @@
--- What is found of a log that says it is a general's of a run.
+-- What is found in a log that says it is a general's of a run.
 use Rattle.std.specs.Prelude.{ℕ, ◌≡◌, ◌↔◌, Bool, not, List, Option, Some, None}
 use Rattle.std.specs.List.{list_all, position_from}
 use Rattle.gen_net.specs.Header.{RunHeader}
@@ -23,11 +23,13 @@ pub record FoundLog : Type 0 where
 abbrev pub is_signed : RunHeader → Entry → Bool
 is_signed h e = list_all (text_verifies h) (texts_in e)
 
--- the first of these entries, the first of which has this number, of which not all do
+-- the number of the first of these entries with a signature that doesn't verify; the first entry has the
+-- given number
 abbrev pub first_unsigned : RunHeader → ℕ → List Entry → Option ℕ
 first_unsigned h number entries = position_from (λ e. not (is_signed h e)) number entries
 
--- it is a log, it says that it is the general's of this run, and what is found of it is so
+-- the log is one of this run's network that says it is the general's of this run, and the other fields are
+-- what the definitions give for it
 pub record IsFound (h : RunHeader) (general : ℕ) (found : FoundLog) : Type 0 where
   pub log_of_run : IsLog h found.log
   pub says : SaysItIsOf h general found.log

@@ -5,7 +5,7 @@ use Rattle.gen_net.specs.Log.{LogEntry, Started, Signed, Sent, Received, Decided
 use Rattle.gen_log.specs.Entry.{erase}
 use Rattle.gen_log.specs.declared.entries.Entry.{Entry}
 
--- the numbers of the places of a SIGN, a SEND and a RECV of this round
+-- the numbers of the places of a SIGN, a SEND and a RECV in round l
 abbrev pub sign_key : ℕ → ℕ → ℕ
 sign_key l v = l * 1024 + 256 + v * 16
 
@@ -26,7 +26,7 @@ key net (Decided orders order) = (rounds net + 1) * 1024
 abbrev pub key_of : Network → Entry → ℕ
 key_of net e = key net (erase e)
 
--- an entry whose orders and generals are below 16
+-- the orders and generals of an entry are below 16
 abbrev pub IsSmall : LogEntry → Type 0
 IsSmall (Started general None) = Unit {0}
 IsSmall (Started general (Some v)) = v < 16

@@ -1,4 +1,5 @@
--- What the report of an exhibit is. An exhibit is a general, and bytes that are said to be his log of a run.
+-- What the report of an exhibit is. An exhibit is a general, and bytes that are said to be that general's log
+-- of a run.
 use Rattle.std.specs.Prelude.{ℕ, ◌≡◌, List, map, All, Result, Ok, Err}
 use Rattle.gen_net.specs.Header.{RunHeader}
 use Rattle.gen_log.specs.declared.fault.LogFault.{LogFault}
@@ -10,8 +11,8 @@ use Rattle.gen_local.specs.declared.reading.Reading.TheVariants.{Unreadable, For
 use Rattle.gen_log.specs.Writing.{LogBytes}
 use Rattle.gen_local.specs.FoundLog.{FoundLog, IsFound}
 
--- The bytes don't read, with their fault; or they are a log of another run, or one whose START names another
--- general; or they are a log of this run and general, with what is found of it.
+-- The reading is one of three. The bytes don't read, with their fault. Or they are a log of another run, or
+-- one whose START names another general. Or they are a log of this run and general, with what is found in it.
 abbrev pub IsReading : RunHeader → ℕ → Result RunLog LogFault → Reading → Type 0
 IsReading h general (Err fault) reading = reading ≡ Unreadable fault
 IsReading h general (Ok log) (Unreadable fault) = ⊥
@@ -29,7 +30,7 @@ abbrev pub IsReport : LocalReport → Type 0
 IsReport r =
     IsReading r.header r.exhibit.general (log_of r.header r.exhibit.bytes) r.reading
 
--- each is the report of one of the exhibits, under the header, in their order
+-- the reports are those of the exhibits under the header, in the order of the exhibits
 pub record AreReportsOf (h : RunHeader) (shown : List LogBytes) (reports : List LocalReport) : Type 0 where
   pub exhibits : map (λ r. r.exhibit) reports ≡ shown
   pub header : All (λ r. r.header ≡ h) reports

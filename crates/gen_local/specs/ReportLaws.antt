@@ -10,27 +10,29 @@ use Rattle.gen_local.specs.Erased.{erased}
 use Rattle.gen_local.specs.FoundLog.{FoundLog}
 use Rattle.gen_local.specs.Report.{LocalReport, IsReport}
 
--- an exhibit has one report
+-- an exhibit has one report under a header
 abbrev pub OneReport : Type 0
 OneReport =
     (r s : LocalReport) → IsReport r → IsReport s → r.header ≡ s.header → r.exhibit ≡ s.exhibit → r ≡ s
 
--- nothing is found against the log
+-- nothing is found against the log: all its signatures verify, and it departs nowhere
 pub record IsFaultless (found : FoundLog) : Type 0 where
   pub signed : found.unsigned ≡ None
   pub sealed : found.sealed ≡ true
   pub follows : found.departure ≡ None
 
--- nothing is found against the exhibit
+-- nothing is found against the exhibit: it is a log of its general and run, and nothing is found against the
+-- log
 abbrev pub FindsNothing : LocalReport → Type 0
 FindsNothing r = (found : FoundLog) × (r.reading ≡ Own found) × IsFaultless found
 
--- the bytes are a log that verifies for the general, and it is one that he could keep
+-- the log verifies for the general, and the general could keep it
 pub record IsGood (h : RunHeader) (general : ℕ) (log : RunLog) : Type 0 where
   pub verifies : LogVerifies h general log
   pub follows : IsFollowersLog h.network general (erased log.entries)
 
--- nothing is found against an exhibit exactly where it is such a log
+-- nothing is found against an exhibit if and only if its bytes are a log that verifies for its general and
+-- that the general could keep
 abbrev pub FindsNothingInGoodLogs : Type 0
 FindsNothingInGoodLogs =
     (r : LocalReport) → IsReport r

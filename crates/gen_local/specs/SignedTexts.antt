@@ -14,7 +14,7 @@ use Rattle.gen_local.specs.declared.texts.SignedText.{SignedText}
 use Rattle.gen_local.specs.declared.texts.Text.{Text}
 use Rattle.gen_local.specs.declared.texts.Text.TheVariants.{OfStatement, OfHead}
 
--- the statement of an order and a path, with the signature of one who is said to have signed it
+-- the statement of an order and a path, with a signature and the general that is said to have signed it
 abbrev pub stated : ℕ → List ℕ → ℕ → List ℕ → SignedText
 stated order path signer signature = record {
   signer = signer;
@@ -22,14 +22,15 @@ stated order path signer signature = record {
   signature = signature;
 }
 
--- of a chain, what each of the signers behind a path signed: the order together with the path up to himself
+-- the statements of the signers of a chain after the given path: each is of the order and of the path up to
+-- and with its signer
 unfoldable pub texts_behind : ℕ → List ℕ → List Signer → List SignedText
 texts_behind order path [] = []
 texts_behind order path (s ∷ others) =
     stated order (path ++ s.general ∷ []) s.general s.signature
     ∷ texts_behind order (path ++ s.general ∷ []) others
 
--- of a SIGN, the statement under the last general of its path, whoever that is
+-- the text of a SIGN: the statement under the last general of its path; none if the path is empty
 abbrev pub text_under : ℕ → List ℕ → List ℕ → Option ℕ → List SignedText
 text_under order path signature None = []
 text_under order path signature (Some last) = stated order path last signature ∷ []
@@ -41,7 +42,7 @@ texts_in (Sign order path signature) =
 texts_in (Recv from chain) = texts_behind chain.order [] chain.signers
 texts_in _ = []
 
--- the text of the head, under the general whose log it is
+-- the text of the head, under the general that the log is said to be of
 abbrev pub head_in : RunHeader → ℕ → RunLog → SignedText
 head_in h general log = record {
   signer = general;
@@ -58,7 +59,7 @@ is_right h signer (OfHead head) signature =
 abbrev pub text_verifies : RunHeader → SignedText → Bool
 text_verifies h t = is_right h t.signer t.text t.signature
 
--- those that verify: of the entries in their order, then of the head
+-- the texts that verify; and those of a log: its entries in their order, then its head
 abbrev pub verified : RunHeader → List SignedText → List SignedText
 verified h texts = filter (text_verifies h) texts
 

@@ -1,4 +1,5 @@
--- What the walk through a log keeps on its way: no public contract but the laws of the walk speaks of it.
+-- What the walk through a log keeps on its way. No public contract speaks of it but those of the laws of the
+-- walk.
 pub mod Brought
 pub mod Judged
 pub mod Laws

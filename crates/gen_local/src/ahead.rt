@@ -1,6 +1,6 @@
-//! Verifying statements of a log four at a time, ahead of their checks.
+//! Verifies statements of a log four at a time, ahead of their checks.
 //!
-//! Nothing that is found depends on it: what is verified here is kept in the store, and not verified again.
+//! No result depends on this: the store keeps each answer, and a kept answer is not computed again.
 ghost use Rattle.gen_chain.specs.Store.{Serves, KeepsAll};
 
 use crate::opening::{Opened, Opening};
@@ -9,8 +9,8 @@ use gen_log::Entry;
 use gen_net::Header;
 use std::alloc::AllocError;
 
-/// What the last signer of an entry is to have signed, if it has one. Those before him signed what was received before, in
-/// the logs of generals who follow.
+/// Returns the last signer's statement and signature in a SIGN or RECV entry, if it has a signer. The signatures of the
+/// signers before stand in chains that were received earlier, in the logs of generals that follow.
 fn last_signing(entry: &Entry) -> Option<Signing<'_>> {
     match entry {
         Entry::Sign {
@@ -43,7 +43,7 @@ fn last_signing(entry: &Entry) -> Option<Signing<'_>> {
     }
 }
 
-/// What the general of an opened log signed first, by his log, if it is one and he did.
+/// Returns the statement and the signature of the first SIGN of an opened log, if there is a log and it has a SIGN.
 fn first_sign(opened: &Opened) -> Option<Signing<'_>> {
     match &opened.opening {
         Opening::Own(log) => {
@@ -57,7 +57,7 @@ fn first_sign(opened: &Opened) -> Option<Signing<'_>> {
     }
 }
 
-/// The same of one that may be missing.
+/// Returns the statement and the signature of the first SIGN of an opened log, if there is such a log.
 fn first_sign_if(opened: &Option<Opened>) -> Option<Signing<'_>> {
     match opened {
         Some(opened) => first_sign(opened),
@@ -65,7 +65,7 @@ fn first_sign_if(opened: &Option<Opened>) -> Option<Signing<'_>> {
     }
 }
 
-/// Verifies what the general of an opened log signed first, if he did.
+/// Verifies the signature of the first SIGN of an opened log, if it has one.
 ///
 /// # Errors
 ///
@@ -85,7 +85,8 @@ pub fn verify_sign(
     Ok(())
 }
 
-/// Verifies what the generals of four opened logs signed first, side by side, if each did, and the answer to none is kept.
+/// Verifies the signatures of the first SIGNs of four opened logs side by side. It does nothing if one of the logs has
+/// no SIGN, or if one of the four answers is kept already.
 ///
 /// # Errors
 ///
@@ -114,7 +115,7 @@ pub fn verify_signs(
     store.verify_four(header, &[a, b, c, d])
 }
 
-/// Whether an entry has a last signer, the answer to whose signature is not kept.
+/// Whether an entry has a last signer, and the answer to that signature is not kept.
 fn is_unkept(entry: &Entry, store: &VerifyStore) -> bool {
     match last_signing(entry) {
         Some(signing) => !store.keeps(&signing),
@@ -122,7 +123,7 @@ fn is_unkept(entry: &Entry, store: &VerifyStore) -> bool {
     }
 }
 
-/// The entries behind the first.
+/// Returns the entries after the first one.
 fn behind_first(entries: &[Entry]) -> &[Entry] {
     match entries.split_first() {
         Some((_, others)) => others,
@@ -130,7 +131,7 @@ fn behind_first(entries: &[Entry]) -> &[Entry] {
     }
 }
 
-/// The entries from the first on that has a last signer the answer to whose signature is not kept.
+/// Returns the entries from the first one on that has a last signer whose signature has no kept answer.
 fn from_unkept<'a>(entries: &'a [Entry], store: &VerifyStore) -> &'a [Entry] {
     let mut rest = entries;
     'entries: while let Some((entry, others)) = rest.split_first() {
@@ -142,7 +143,7 @@ fn from_unkept<'a>(entries: &'a [Entry], store: &VerifyStore) -> &'a [Entry] {
     rest
 }
 
-/// What the last signer of the first entry is to have signed, if there is one.
+/// Returns the last signer's statement and signature in the first entry, if there are both.
 fn first_signing(entries: &[Entry]) -> Option<Signing<'_>> {
     match entries.split_first() {
         Some((entry, _)) => last_signing(entry),
@@ -150,8 +151,9 @@ fn first_signing(entries: &[Entry]) -> Option<Signing<'_>> {
     }
 }
 
-/// Verifies four signatures side by side, of the last signers of the first of these entries and of the next ones, where the
-/// answer to the first one is not kept, and four such are left.
+/// Verifies four signatures side by side: those of the last signers of the first entry and of the next three entries
+/// without a kept answer. It does nothing if the first entry has no signer or its answer is kept, or if there are fewer
+/// than four such entries.
 ///
 /// # Errors
 ///

@@ -1,4 +1,4 @@
-//! How far an entry brings its order.
+//! Updates a general's progress with an order by an entry of its log.
 ghost use Rattle.std.specs.Prelude.{IsTrue, ℕ, ◌≡◌, ◌≤◌, ◌<◌, ◌↔◌, Some, length};
 ghost use Rattle.gen_log.specs.Entry.{erase};
 ghost use Rattle.gen_local.specs.Keys.{IsSmall};
@@ -11,7 +11,7 @@ use gen_log::Entry;
 use gen_net::Net;
 use gen_types::{GeneralNo, OrderNo};
 
-/// The order that the entry is of, if any.
+/// Returns the order that the entry is about, if there is one.
 fn order_of(entry: &Entry) -> Option<OrderNo>
     ensures order { (v : ℕ) → (result ≡ Some v) ↔ IsOf v (erase entry.now) }
 {
@@ -24,7 +24,7 @@ fn order_of(entry: &Entry) -> Option<OrderNo>
     }
 }
 
-/// How far the entry brings an order that has come so far.
+/// Returns the progress with the entry's order after the entry, from the progress before it.
 fn brought(net: &Net, general: GeneralNo, old: Progress, entry: &Entry) -> Progress
     requires { SendsInside net.now (erase entry.now) }
     ensures { (v : ℕ) → Brings net.now general v old (erase entry.now) result }
@@ -56,7 +56,7 @@ fn brought(net: &Net, general: GeneralNo, old: Progress, entry: &Entry) -> Progr
     }
 }
 
-/// Brings the order of the entry on.
+/// Updates the progress with the entry's order; the progress with the other orders stays.
 pub fn bring(net: &Net, general: GeneralNo, orders: &mut [Progress; 16], entry: &Entry)
     requires full { length orders.old ≡ 16 }
     requires inside { SendsInside net.now (erase entry.now) }

@@ -1,4 +1,4 @@
-//! What a general can decide.
+//! Tests what a general can decide.
 ghost use Rattle.std.specs.Prelude.{IsTrue, ℕ, List, ◌≡◌, ◌<◌, ◌↔◌, slice_index_or};
 ghost use Rattle.gen_types.specs.Ascending.{IsListOf};
 ghost use Rattle.gen_net.specs.Network.{choose};
@@ -20,7 +20,7 @@ fn is_known(progress: &Progress) -> bool
     }
 }
 
-/// The orders that were learnt.
+/// Returns the set of the orders that were learnt.
 fn known_orders(orders: &[Progress; 16]) -> OrderSet
     ensures { IsListOf result (λ v. (v < 16) × IsKnown (slice_index_or orders.now v Unlearnt)) }
 {
@@ -33,7 +33,8 @@ fn known_orders(orders: &[Progress; 16]) -> OrderSet
     set
 }
 
-/// Whether a general who has come so far with each order can decide this.
+/// Whether a general with this progress can decide: the set is that of the orders that it learnt, and the order is the
+/// choice of the set.
 pub fn can_decide(net: &Net, orders: &[Progress; 16], set: &OrderSet, order: OrderNo) -> bool
     ensures { IsTrue result ↔ (IsListOf set.now (λ v. (v < 16) × IsKnown (slice_index_or orders.now v Unlearnt)) × (order ≡ choose net.now set.now)) }
 {

@@ -1,4 +1,4 @@
-//! Where a log departs.
+//! Finds the entry at which a log departs.
 ghost use Rattle.std.specs.Prelude.{ℕ, ◌≡◌, ◌↔◌, Some, None};
 ghost use Rattle.gen_net.specs.Departs.{DepartsAt, IsFollowersLog};
 ghost use Rattle.gen_log.specs.Log.{IsLog, BeginsWithStartOf};
@@ -9,7 +9,7 @@ use gen_log::{Entry, Log};
 use gen_net::Header;
 use gen_types::GeneralNo;
 
-/// The general whom START names.
+/// Returns the general that START names, if the first entry is a START.
 pub fn starter(entries: &[Entry]) -> Option<GeneralNo>
     ensures { (general : ℕ) → (result ≡ Some general) ↔ BeginsWithStartOf general entries.now }
 {
@@ -19,7 +19,7 @@ pub fn starter(entries: &[Entry]) -> Option<GeneralNo>
     }
 }
 
-/// Where the log of this general departs.
+/// Returns the entry at which the log of this general departs, if it does.
 fn departs_as(header: &Header, general: GeneralNo, log: &Log) -> Option<usize>
     requires log { IsLog header.now log.now }
     requires starts { BeginsWithStartOf general log.now.entries }
@@ -33,14 +33,14 @@ fn departs_as(header: &Header, general: GeneralNo, log: &Log) -> Option<usize>
     departs_from(net, general, log.entries())
 }
 
-/// Returns where a log departs from the algorithm: the first entry, counted from 0, with which its entries
-/// no longer begin a log that the general whom START names could keep of any run in which he follows. None
-/// is returned exactly where the log is one that he could keep.
+/// Returns the entry, counted from 0, at which a log departs from the algorithm. The entries before it begin a log that
+/// the general named by START could keep of some run that it follows in; with it they don't. None is returned if and
+/// only if the general could keep the whole log.
 ///
-/// A follower's RECVs are any that can arrive: from a neighbour who signed last, by a path that doesn't
-/// name the receiver. All else in his log follows from what stands before it, but for which of several
-/// chains of a new order he lengthens (SM(m), steps 2 and 3, section 4 of the paper of 1982). Signatures
-/// play no part. It takes no memory, and its time is linear in the length of the log.
+/// A follower's RECVs are any that can arrive: from a neighbour that signed last, by a path that doesn't name the
+/// receiver. All other entries are determined by those before them, with one exception. If several chains brought a new
+/// order, the follower is free to choose the one that it lengthens (SM(m), steps 2 and 3, section 4 of the paper of
+/// 1982). Signatures play no part. It takes no memory, and its time is linear in the length of the log.
 pub fn departs(header: &Header, log: &Log) -> Option<usize>
     requires { IsLog header.now log.now }
     ensures departs { (general : ℕ) → BeginsWithStartOf general log.now.entries → (p : ℕ)

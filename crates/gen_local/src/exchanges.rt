@@ -1,13 +1,14 @@
-//! Answers that those who make reports side by side give each other.
+//! Exchanges answers among threads that make reports at the same time.
 ghost use Rattle.gen_chain.specs.Store.{Serves, KeepsAll};
 
 use gen_chain::VerifyStore;
 use gen_net::Header;
 use std::alloc::AllocError;
 
-/// Where whoever makes reports gives what he has verified to others who do so at the same time, and takes what they have.
+/// A place where a maker of reports gives its verified answers to others that make reports at the same time, and takes
+/// theirs.
 pub trait Exchange {
-    /// Gives the answers of a store to others, and takes theirs into it, if there are any. It may wait.
+    /// Gives the answers of a store to others, and takes their answers into the store, if there are any. It may wait.
     ///
     /// # Errors
     ///
@@ -18,7 +19,7 @@ pub trait Exchange {
         ensures serves { Serves header.now store.new };
 }
 
-/// There is nobody else.
+/// An exchange with nobody: it does nothing.
 pub(crate) struct Alone;
 
 impl Exchange for Alone {

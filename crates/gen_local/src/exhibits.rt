@@ -1,4 +1,4 @@
-//! Exhibits.
+//! Exhibits: bytes that are shown as a general's log.
 ghost use Rattle.std.specs.Prelude.{◌≡◌, ◌≤◌, IfOk, length, slice_range};
 ghost use Rattle.std.specs.Arc.{arc_slice_items};
 
@@ -8,8 +8,8 @@ use std::alloc::{AllocError, Global};
 use std::marker::Model;
 use std::sync::ArcSlice;
 
-/// A general, and bytes that are said to be his log of a run. They may be anybody's. Those who share an
-/// exhibit share its bytes, and so may several exhibits that were read from one input. A contract sees the
+/// A general, and bytes that are said to be that general's log of a run. The bytes may come from anybody. Shared
+/// exhibits have the same bytes in memory, and so have exhibits that were read from one input. A contract sees the
 /// general and the list of bytes.
 #[derive(Debug, Drop)]
 pub struct Exhibit {
@@ -35,7 +35,7 @@ impl Model for Exhibit {
 }
 
 impl Exhibit {
-    /// Returns the exhibit of a general and the bytes of what is said to be his log, which are not copied.
+    /// Returns the exhibit of a general and of the bytes that are said to be its log. The bytes are not copied.
     ///
     /// # Errors
     ///
@@ -46,7 +46,7 @@ impl Exhibit {
         Ok(Exhibit::whole(general, ArcSlice::from_vec(log)?))
     }
 
-    /// The exhibit of a general and a whole input.
+    /// Returns the exhibit of a general and of all bytes of an input.
     fn whole(general: GeneralNo, input: ArcSlice<u8>) -> Exhibit
         ensures { result ≡ record { general = general; bytes = arc_slice_items input } }
     {
@@ -59,8 +59,8 @@ impl Exhibit {
         }
     }
 
-    /// Returns a sealed log as the exhibit of its general. Its bytes are not copied, and are shared with each log that
-    /// shares them.
+    /// Returns a sealed log as the exhibit of its general. The bytes are not copied; logs that share them go on to
+    /// share them.
     ///
     /// # Errors
     ///
@@ -71,8 +71,8 @@ impl Exhibit {
         Ok(Exhibit::whole(log.general(), log.into_bytes()?))
     }
 
-    /// Returns the exhibit of a general and those bytes of an input, from an index on up to another, which are
-    /// said to be his log. They are shared with the input.
+    /// Returns the exhibit of a general and of the bytes of an input from index `from` up to and without index `to`.
+    /// They are said to be the general's log. They are shared with the input.
     ///
     /// # Errors
     ///
@@ -98,7 +98,7 @@ impl Exhibit {
         })
     }
 
-    /// Returns the same exhibit for one owner more. Its bytes are not copied.
+    /// Returns this exhibit for one more owner. Its bytes are not copied.
     ///
     /// # Errors
     ///
@@ -124,7 +124,7 @@ impl Exhibit {
     }
 }
 
-/// Returns sealed logs as exhibits, each of its general, in their order. Their bytes are not copied.
+/// Returns sealed logs as exhibits, each of its own general, in their order. The bytes are not copied.
 ///
 /// # Errors
 ///

@@ -1,4 +1,4 @@
-//! Gathering the texts of a log whose signatures verify.
+//! Gathers the texts of a log whose signatures verify.
 ghost use Rattle.std.specs.Prelude.{◌≡◌, ◌≢◌, ◌≤◌, ◌++◌, ◌∷◌, [], Some, None, IfOk, OnOk, AllPairs, length, filter, cond};
 ghost use Rattle.std.specs.List.{list_all, flat_map};
 ghost use Rattle.std.specs.Option.{option_or};
@@ -17,7 +17,7 @@ use gen_tree::Signature;
 use gen_types::{GeneralNo, OrderNo, Path};
 use std::alloc::{AllocError, Global};
 
-/// Whether a general signed a statement.
+/// Whether the signature verifies as the signer's signature of the statement.
 fn is_signed_by(
     store: &mut VerifyStore,
     header: &Header,
@@ -34,7 +34,7 @@ fn is_signed_by(
     store.check(header, signer, statement, signature)
 }
 
-/// Puts a text behind the others, where its signature verifies.
+/// Appends a text if its signature verifies.
 pub fn put_if(
     alloc: Global,
     texts: &mut Vec<SignedText>,
@@ -56,7 +56,7 @@ pub fn put_if(
     Ok(())
 }
 
-/// Gathers a statement, where its signature verifies, and returns whether it does.
+/// Appends a statement if its signature verifies, and returns whether it does.
 fn gather_statement(
     alloc: Global,
     header: &Header,
@@ -80,7 +80,7 @@ fn gather_statement(
     Ok(verifies)
 }
 
-/// Gathers what the signers of a chain signed, and returns whether all of their signatures verify.
+/// Appends the statements of a chain's signers whose signatures verify, and returns whether all of them do.
 fn gather_signers(
     alloc: Global,
     header: &Header,
@@ -120,7 +120,7 @@ fn gather_signers(
     Ok(all)
 }
 
-/// Gathers the texts of an entry whose signatures verify, and returns whether all of them do.
+/// Appends the texts of an entry whose signatures verify, and returns whether all of them do.
 fn gather_entry(
     alloc: Global,
     header: &Header,
@@ -151,7 +151,7 @@ fn gather_entry(
             }
         },
         Entry::Recv { from: _, chain } => {
-            // The height makes known what each chain keeps of its signers.
+            // Reading the height makes the chain's invariant known: its signers are few and distinct.
             let _height = chain.height();
             gather_signers(alloc, header, chain.order(), chain.signers(), store, texts)
         }
@@ -159,7 +159,7 @@ fn gather_entry(
     }
 }
 
-/// The first of two numbers, where there is one.
+/// Returns the number if there is one; or else the index, if `fails`.
 fn first_of(number: Option<usize>, fails: bool, index: usize) -> Option<usize>
     ensures { result ≡ option_or number (cond fails (Some index) None) }
 {
@@ -169,7 +169,8 @@ fn first_of(number: Option<usize>, fails: bool, index: usize) -> Option<usize>
     }
 }
 
-/// Gathers the texts of entries whose signatures verify, and returns the first entry of which not all do.
+/// Appends the texts of entries whose signatures verify. Returns the index of the first entry with a signature that
+/// doesn't verify, if there is one.
 pub fn gather_entries(
     alloc: Global,
     header: &Header,

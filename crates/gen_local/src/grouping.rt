@@ -1,4 +1,4 @@
-//! Reports of many exhibits, the links of four of them at a time hashed and their heads verified side by side.
+//! Makes reports of many exhibits: four at a time, their links are hashed and their heads verified side by side.
 ghost use Rattle.std.specs.Prelude.{◌≡◌, ◌++◌, ◌∷◌, [], List, Some, IfOk, OnOk, take, drop};
 ghost use Rattle.gen_chain.specs.Store.{Serves, KeepsAll};
 ghost use Rattle.gen_local.specs.Opened.{AreOpened, AreEndingsOf, AreLinksOf, IsOpened, exhibits_in};
@@ -18,21 +18,21 @@ use gen_net::Header;
 use gen_tree::SignatureClaim;
 use std::alloc::{AllocError, Global};
 
-/// Two exhibits that were opened, each of which may be missing.
+/// Two opened exhibits, each of which may be missing.
 #[derive(Drop)]
 struct Pair {
     first: Option<Opened>,
     second: Option<Opened>,
 }
 
-/// Four exhibits that were opened, each of which may be missing.
+/// Four opened exhibits, each of which may be missing.
 #[derive(Drop)]
 struct Group {
     front: Pair,
     back: Pair,
 }
 
-/// Opens the first two exhibits, or all where they are fewer, and returns those that are left.
+/// Opens the first two exhibits, or all if there are fewer, and returns the exhibits that are left too.
 fn open_two<'a>(
     alloc: Global,
     header: &Header,
@@ -51,7 +51,7 @@ fn open_two<'a>(
     Ok((Pair { first, second }, rest))
 }
 
-/// Opens the first four exhibits, or all where they are fewer, and returns those that are left.
+/// Opens the first four exhibits, or all if there are fewer, and returns the exhibits that are left too.
 fn open_four<'a>(
     alloc: Global,
     header: &Header,
@@ -70,7 +70,7 @@ fn open_four<'a>(
     Ok((Group { front, back }, rest))
 }
 
-/// What the ends of the logs of four opened exhibits come to.
+/// The last links and the seals of four opened exhibits' logs.
 #[derive(Clone, Copy)]
 struct Endings {
     first: Ending,
@@ -79,7 +79,7 @@ struct Endings {
     fourth: Ending,
 }
 
-/// The last links over the logs of opened exhibits, hashed side by side.
+/// Returns the last links over the logs of four opened exhibits, hashed side by side.
 fn links_of(alloc: Global, header: &Header, group: &Group) -> Result<[[u8; 32]; 4], AllocError>
     requires { IsGroup header.now group.now }
     ensures { IfOk result (HasLinks header.now group.now) }
@@ -94,8 +94,8 @@ fn links_of(alloc: Global, header: &Header, group: &Group) -> Result<[[u8; 32]; 
     )
 }
 
-/// The claim that the signature of the head of an opened exhibit's log verifies, over which this is the last link, if it
-/// is a log.
+/// Returns the claim that the head's signature of an opened exhibit's log verifies, over this last link; none if it is
+/// no log.
 fn claim_of<'a>(
     header: &'a Header,
     opened: &'a Option<Opened>,
@@ -117,8 +117,8 @@ fn claim_of<'a>(
     }
 }
 
-/// Whether the signatures of the heads of opened exhibits' logs verify, over which these are the last links. Those of four
-/// logs are verified side by side.
+/// Returns, for each of four opened exhibits, whether the signature of its log's head verifies over this last link. If
+/// all four are logs, the signatures are verified side by side.
 fn seals_of(header: &Header, group: &Group, links: &[[u8; 32]; 4]) -> [bool; 4]
     requires opened { IsGroup header.now group.now }
     requires links { HasLinks header.now group.now links.now }
@@ -132,7 +132,7 @@ fn seals_of(header: &Header, group: &Group, links: &[[u8; 32]; 4]) -> [bool; 4]
     )
 }
 
-/// What the ends of the logs of opened exhibits come to.
+/// Returns the last links of opened exhibits' logs, and whether their heads verify.
 fn endings_of(alloc: Global, header: &Header, group: &Group) -> Result<Endings, AllocError>
     requires { IsGroup header.now group.now }
     ensures { IfOk result (HasEndings header.now group.now) }
@@ -159,7 +159,8 @@ fn endings_of(alloc: Global, header: &Header, group: &Group) -> Result<Endings, 
     })
 }
 
-/// What the ends of the logs of opened exhibits come to. What was verified is exchanged with others before and after.
+/// Returns the last links of opened exhibits' logs, and whether their heads verify. Answers are exchanged with others
+/// before and after.
 fn endings_among<E: Exchange>(
     alloc: Global,
     header: &Header,
@@ -185,7 +186,7 @@ fn endings_among<E: Exchange>(
     Ok(endings)
 }
 
-/// Puts the report of an exhibit behind the others, if it isn't missing.
+/// Appends the report of an opened exhibit, if it isn't missing.
 fn put_report(
     alloc: Global,
     header: &Header,
@@ -209,7 +210,7 @@ fn put_report(
     Ok(())
 }
 
-/// Puts the reports of two opened exhibits, whose logs' ends come to this, behind the others.
+/// Appends the reports of two opened exhibits, from these endings of their logs.
 fn put_pair(
     alloc: Global,
     header: &Header,
@@ -232,7 +233,7 @@ fn put_pair(
     put_report(alloc, header, second, second_ending, store, reports)
 }
 
-/// Puts the reports of opened exhibits, whose logs' ends come to this, behind the others.
+/// Appends the reports of four opened exhibits, from these endings of their logs.
 fn put_group(
     alloc: Global,
     header: &Header,
@@ -260,9 +261,8 @@ fn put_group(
     put_pair(alloc, header, back, third, fourth, store, reports)
 }
 
-/// Puts the reports of the first four exhibits behind the others, or of all where they are fewer, and
-/// returns the exhibits that are left. What was verified is exchanged with others before the links are hashed, which takes
-/// most of the time, and after.
+/// Appends the reports of the first four exhibits, or of all if there are fewer, and returns the exhibits that are
+/// left. Answers are exchanged with others before and after the links are hashed, which takes most of the time.
 fn put_four<'a, E: Exchange>(
     alloc: Global,
     header: &Header,
@@ -282,7 +282,7 @@ fn put_four<'a, E: Exchange>(
     let endings = match endings_among(alloc, header, &group, store, exchange) {
         Ok(endings) => endings,
         Err(error) => {
-            // By a call, which is proved once: under `?` each of the four would be let go in this place.
+            // This is a call, so that it is proved once: under `?` each of the four exhibits would be dropped here.
             drop(group);
             return Err(error);
         }
@@ -291,7 +291,8 @@ fn put_four<'a, E: Exchange>(
     Ok(rest)
 }
 
-/// What the end of the log of an opened exhibit comes to. What was verified is exchanged with others before and after.
+/// Returns the last link of an opened exhibit's log, and whether its head verifies. Answers are exchanged with others
+/// before and after.
 fn ending_among<E: Exchange>(
     header: &Header,
     opened: &Opened,
@@ -311,7 +312,7 @@ fn ending_among<E: Exchange>(
     Ok(ending)
 }
 
-/// Puts the report of an exhibit behind the others, whose links are hashed alone.
+/// Appends the report of one exhibit, whose links are hashed alone.
 fn put_one<E: Exchange>(
     alloc: Global,
     header: &Header,
@@ -337,8 +338,8 @@ fn put_one<E: Exchange>(
     put_report(alloc, header, Some(opened), &ending, store, reports)
 }
 
-/// Puts the reports of the first four exhibits behind the others, or of all where they are fewer, and
-/// returns the exhibits that are left. The links of one alone take less time one after another than in one of four lanes.
+/// Appends the reports of the first four exhibits, or of all if there are fewer, and returns the exhibits that are
+/// left. The links of a single exhibit are hashed one after another, which is faster than one of four lanes.
 fn put_some<'a, E: Exchange>(
     alloc: Global,
     header: &Header,
@@ -363,9 +364,9 @@ fn put_some<'a, E: Exchange>(
     }
 }
 
-/// Returns the reports of exhibits under a header, in their order, each as `local_report_with` gives it, and exchanges what
-/// was verified with others who make reports at the same time. Four logs at a time are held together, their links are
-/// hashed and their heads verified side by side; of one alone they are hashed alone.
+/// Returns the reports of exhibits under a header, in their order, each as `local_report_with` returns it. Answers are
+/// exchanged with others that make reports at the same time. Four logs at a time are held in memory together; their
+/// links are hashed and their heads verified side by side. A single log's links are hashed alone.
 ///
 /// # Errors
 ///
@@ -391,7 +392,8 @@ pub fn local_reports_among<E: Exchange>(
     Ok(reports)
 }
 
-/// Returns the reports of exhibits under a header, in their order, as `local_reports_among` does where there is nobody else.
+/// Returns the reports of exhibits under a header, in their order. They are those of `local_reports_among`; answers are
+/// exchanged with nobody.
 ///
 /// # Errors
 ///

@@ -1,4 +1,4 @@
-//! Whether an entry may follow those before it.
+//! Tests whether an entry may follow those before it.
 ghost use Rattle.std.specs.Prelude.{IsTrue, ◌≡◌, ◌≤◌, ◌<◌, ◌↔◌, ◌⊎◌};
 ghost use Rattle.gen_log.specs.Entry.{erase};
 ghost use Rattle.gen_net.specs.Network.{IsNetwork};
@@ -17,7 +17,7 @@ use gen_log::Entry;
 use gen_net::Net;
 use gen_types::{GeneralNo, OrderNo, Path};
 
-/// Whether an order is due to be signed or sent before this place.
+/// Whether an order is due to be signed or sent at a place before this one.
 fn stops(net: &Net, order: OrderNo, progress: &Progress, at: u32) -> bool
     ensures { IsTrue result ↔ Stops net.now order progress.now at }
 {
@@ -32,7 +32,7 @@ fn stops(net: &Net, order: OrderNo, progress: &Progress, at: u32) -> bool
     }
 }
 
-/// Whether some order is due to be signed or sent before this place.
+/// Whether any order is due to be signed or sent at a place before this one.
 fn any_stops(net: &Net, orders: &[Progress; 16], at: u32) -> bool
     ensures { IsTrue result ↔ AnyStops net.now orders.now at }
 {
@@ -44,7 +44,7 @@ fn any_stops(net: &Net, orders: &[Progress; 16], at: u32) -> bool
     false
 }
 
-/// Whether the path is next due to the general.
+/// Whether a SEND of this path to the general is the next one due.
 fn can_send(net: &Net, progress: &Progress, to: GeneralNo, path: &Path) -> bool
     ensures { IsTrue result ↔ CanSend net.now progress.now to path.now }
 {
@@ -57,7 +57,8 @@ fn can_send(net: &Net, progress: &Progress, to: GeneralNo, path: &Path) -> bool
     }
 }
 
-/// Whether the general may have this order, if any, of his own.
+/// Whether the general may have this order of its own: the commander has one of the network's orders, a lieutenant
+/// none.
 fn is_own(net: &Net, general: GeneralNo, own: Option<OrderNo>) -> bool
     ensures { IsTrue result ↔ IsOwn net.now general own }
 {
@@ -67,7 +68,7 @@ fn is_own(net: &Net, general: GeneralNo, own: Option<OrderNo>) -> bool
     }
 }
 
-/// Whether the general, who has come so far with each order, can write the entry.
+/// Whether the general, with this progress after the entries before, can write the entry.
 fn is_allowed(
     net: &Net,
     general: GeneralNo,
@@ -100,15 +101,15 @@ fn is_allowed(
     }
 }
 
-/// Whether the entry is START, or something stands before it.
+/// Whether the entry is START, or there is an entry before it.
 fn has_started(least: u32, entry: &Entry) -> bool
     ensures { IsTrue result ↔ HasStarted least (erase entry.now) }
 {
     matches!(entry, Entry::Start { .. }) || least > 0
 }
 
-/// Whether the entry may follow, where the places so far are below this number and each order has come so
-/// far.
+/// Whether the entry may follow. The places of the entries before are below `least`, and `orders` is the progress after
+/// them.
 pub fn is_judged(
     net: &Net,
     general: GeneralNo,

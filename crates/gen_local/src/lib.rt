@@ -1,15 +1,16 @@
-//! What one exhibit says, a log and the general whose it is said to be: how it reads, which of its
-//! signatures verify, and where it departs from the algorithm.
+//! What one exhibit says: how its bytes read as a log of a general, which signatures verify, and where the log departs
+//! from the algorithm.
 //!
-//! A follower of the signed message algorithm (section 4 of L. Lamport, R. Shostak and M. Pease, "The
-//! Byzantine Generals Problem", ACM TOPLAS 4, 1982, with messages to neighbours only, as in section 5)
-//! writes a log. Which chains arrive at him is up to others, and which of several new chains of one order
-//! he lengthens is up to him; all else in his log follows from what stands before it.
+//! A follower of the signed message algorithm writes a log. The algorithm is that of section 4 of L. Lamport, R.
+//! Shostak and M. Pease, "The Byzantine Generals Problem", ACM TOPLAS 4, 1982, with messages to neighbours only, as in
+//! section 5. Others determine which chains arrive at the follower. The follower chooses which of several new chains of
+//! one order it lengthens. All other entries are determined by those before them.
 //!
-//! What is promised: `departs` names exactly the first entry at which a list of entries is no longer the
-//! beginning of any log that a follower could keep in any run; the report of an exhibit is exactly the
-//! definition's, so that there is one; and nothing is found against an exhibit exactly where it is a log
-//! that verifies for its general and that he could keep. What is not: that such a log tells the truth.
+//! What is promised: `departs` names exactly the first entry at which a list of entries no longer begins a log that a
+//! follower could keep in some run. The report of an exhibit is the one that the definition gives. Nothing is found
+//! against an exhibit if and only if it is a log that verifies for its general and that the general could keep.
+//!
+//! What is not promised: that such a log tells the truth.
 #![tactic(auto)]
 
 mod ahead;

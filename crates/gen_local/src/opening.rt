@@ -1,4 +1,4 @@
-//! Opening exhibits: what each is, before its signatures and its links are looked at.
+//! Opens exhibits: tells what their bytes are, before signatures and links are looked at.
 ghost use Rattle.std.specs.Prelude.{IsTrue, ◌≡◌, ◌-◌, ◌↔◌, IfOk, length, take, drop};
 ghost use Rattle.gen_log.specs.Log.{BeginsWithStartOf};
 ghost use Rattle.gen_log.specs.Verifying.{SaysItIsOf};
@@ -17,11 +17,11 @@ use std::alloc::{AllocError, Global};
 /// What the bytes of an exhibit are.
 #[derive(Drop)]
 pub enum Opening {
-    /// They are no log of the header's network, by this fault.
+    /// The bytes are no log of the header's network, with this fault.
     Unreadable(LogFault),
-    /// They are a log that says that it is of another run, or whose START names another general.
+    /// The bytes are a log of another run, or a log whose START names another general.
     Foreign,
-    /// They are a log that says that it is the general's of this run.
+    /// The bytes are a log that says it is the general's of this run.
     Own(Log),
 }
 
@@ -42,14 +42,14 @@ fn starts_as(general: GeneralNo, entries: &[Entry]) -> bool
     }
 }
 
-/// Whether a log says that it is the general's of this run.
+/// Whether a log says that it is the general's of this run: by its run id and its START.
 fn says_it_is_of(header: &Header, general: GeneralNo, log: &Log) -> bool
     ensures { IsTrue result ↔ SaysItIsOf header.now general log.now }
 {
     *log.run_id() == *header.run_id() && starts_as(general, log.entries())
 }
 
-/// What bytes are that are said to be a general's log of this run.
+/// Returns what bytes are that are shown as a general's log of this run.
 fn opening_of(
     alloc: Global,
     header: &Header,
@@ -74,7 +74,7 @@ fn opening_of(
     }
 }
 
-/// Opens an exhibit.
+/// Opens an exhibit: reads its bytes as a log.
 pub fn open(
     alloc: Global,
     header: &Header,
@@ -94,7 +94,7 @@ pub fn open(
     })
 }
 
-/// Opens the first exhibit, if there is one, and returns those that are left.
+/// Opens the first exhibit, if there is one, and returns the exhibits that are left too.
 pub fn open_first<'a>(
     alloc: Global,
     header: &Header,
@@ -117,7 +117,7 @@ pub fn open_first<'a>(
     }
 }
 
-/// The log of an opened exhibit with its bytes, if there is one.
+/// Returns the log of an opened exhibit with the log's bytes, if the bytes are a log of its general and this run.
 pub fn text_of(opened: &Option<Opened>) -> Option<LogText<'_>>
     requires { (h : RunHeader) × AreOpened h opened.now }
     ensures { result ≡ log_in opened.now }

@@ -1,4 +1,4 @@
-//! What is found of a log.
+//! What is found in a log.
 ghost use Rattle.std.specs.Prelude.{◌≡◌, ◌++◌, ◌∷◌, [], List};
 ghost use Rattle.gen_log.specs.declared.entries.Entry.{Entry};
 ghost use Rattle.gen_log.specs.declared.entries.Entry.TheVariants.{Decide};
@@ -9,8 +9,8 @@ use gen_log::{Entry, Log};
 use gen_types::{OrderNo, OrderSet};
 use std::marker::Model;
 
-/// A log that says it is its general's of the run of a header, and what is found of it: which of its
-/// signatures verify, and where it departs from the algorithm.
+/// A log that says it is its general's of a header's run, with what is found in it: which of its signatures verify, and
+/// where it departs from the algorithm.
 #[derive(Debug, Drop)]
 pub struct OwnLog {
     pub(crate) log: Log,
@@ -46,7 +46,7 @@ impl OwnLog {
         &self.log
     }
 
-    /// Returns what its general decided: the set and the order of DECIDE, which is the last entry.
+    /// Returns what the log's general decided: the set and the order of DECIDE, which is the last entry.
     pub fn decision(&self) -> (OrderSet, OrderNo)
         ensures { (before : List Entry)
             × (self.now.log.entries ≡ before ++ Decide result.0 result.1 ∷ []) }
@@ -57,8 +57,8 @@ impl OwnLog {
         }
     }
 
-    /// Returns the first entry, counted from 0, with a signature that doesn't verify, and None where the
-    /// signatures of all entries verify.
+    /// Returns the first entry, counted from 0, with a signature that doesn't verify. None means that the signatures of
+    /// all entries verify.
     pub fn unsigned(&self) -> Option<usize>
         ensures { result ≡ self.now.unsigned }
     {
@@ -72,17 +72,16 @@ impl OwnLog {
         self.sealed
     }
 
-    /// Returns the entry, counted from 0, at which the log departs from the algorithm, as `departs` says
-    /// it, and None where it is one that its general could keep.
+    /// Returns the entry, counted from 0, at which the log departs from the algorithm, as `departs` returns it. None
+    /// means that the log's general could keep the whole log.
     pub fn departure(&self) -> Option<usize>
         ensures { result ≡ self.now.departure }
     {
         self.departure
     }
 
-    /// Returns the texts whose signatures verify, in their order: of each entry, from the first to the
-    /// last, that of a SIGN under the last general of its path and those of a RECV from the first signer
-    /// to the last; then the head.
+    /// Returns the texts whose signatures verify, entry by entry, and the head last. A SIGN has one text, under the
+    /// last general of its path; a RECV has one text for each signer, from the first to the last.
     pub fn texts(&self) -> &[SignedText]
         ensures { result.now ≡ self.now.texts }
     {

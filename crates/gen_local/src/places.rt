@@ -1,4 +1,4 @@
-//! Places of entries as numbers, which ascend as the places do.
+//! Gives the places of entries as numbers, which ascend as the places do.
 ghost use Rattle.std.specs.Prelude.{◌≡◌, ◌+◌, ◌*◌, ◌≤◌, length};
 ghost use Rattle.gen_log.specs.Entry.{erase};
 ghost use Rattle.gen_local.specs.Keys.{IsSmall, key_of as key_at, sign_key as key_of_sign, send_key as key_of_send};
@@ -7,7 +7,7 @@ use gen_chain::SignedChain;
 use gen_log::Entry;
 use gen_net::Net;
 
-/// The number of the place of a SIGN.
+/// Returns the number of the place of a SIGN.
 pub fn sign_key(length: usize, order: u8) -> u32
     requires { length ≤ 17 }
     ensures { result ≡ key_of_sign length order }
@@ -15,7 +15,7 @@ pub fn sign_key(length: usize, order: u8) -> u32
     length as u32 * 1024 + 256 + u32::from(order) * 16
 }
 
-/// The number of the place of a SEND.
+/// Returns the number of the place of a SEND.
 pub fn send_key(length: usize, to: u8, order: u8) -> u32
     requires { length ≤ 17 }
     ensures { result ≡ key_of_send length to order }
@@ -23,17 +23,17 @@ pub fn send_key(length: usize, to: u8, order: u8) -> u32
     length as u32 * 1024 + 512 + u32::from(to) * 16 + u32::from(order)
 }
 
-/// The round in which a chain arrives, which is the number of those who signed it.
+/// Returns the round in which a chain arrives: the number of its signers.
 pub fn round_of(chain: &SignedChain) -> u8
     ensures value { result ≡ length chain.now.signers }
     ensures few { result ≤ 16 }
 {
-    // The height makes known what each chain keeps, that it has at most 16 signers.
+    // Reading the height makes the chain's invariant known: it has at most 16 signers.
     let _height = chain.height();
     chain.signers().len() as u8
 }
 
-/// The number of the place of an entry.
+/// Returns the number of the place of an entry, at most 18432.
 pub fn key_of(net: &Net, entry: &Entry) -> u32
     ensures value { result ≡ key_at net.now entry.now }
     ensures few { result ≤ 18432 }
@@ -59,7 +59,7 @@ pub fn key_of(net: &Net, entry: &Entry) -> u32
     }
 }
 
-/// Makes known that the numbers of an entry are small.
+/// Makes known that the orders and generals of an entry are below 16.
 pub fn know_small(entry: &Entry)
     ensures { IsSmall (erase entry.now) }
 {

@@ -1,4 +1,4 @@
-//! Which chains a general can receive.
+//! Tests which chains a general can receive.
 ghost use Rattle.std.specs.Prelude.{IsTrue, ◌≡◌, ◌↔◌, ◌∷◌, [], ◌<◌, All};
 ghost use Rattle.gen_types.specs.Ends.{BeginsWith, EndsWith};
 ghost use Rattle.gen_net.specs.Chain.{IsChain};
@@ -7,7 +7,7 @@ ghost use Rattle.gen_net.specs.Run.{IsWellFormed};
 use gen_net::Net;
 use gen_types::{GeneralNo, OrderNo, Path};
 
-/// Whether the first of the path is the commander.
+/// Whether the first general of the path is the commander.
 fn begins_with_commander(path: &Path) -> bool
     ensures { IsTrue result ↔ BeginsWith path.now (0 ∷ []) }
 {
@@ -17,7 +17,7 @@ fn begins_with_commander(path: &Path) -> bool
     }
 }
 
-/// Whether the general is the last of the path.
+/// Whether the last general of the path is this one.
 fn ends_with(path: &Path, general: GeneralNo) -> bool
     ensures { IsTrue result ↔ EndsWith path.now general }
 {
@@ -27,7 +27,7 @@ fn ends_with(path: &Path, general: GeneralNo) -> bool
     }
 }
 
-/// Whether the generals of the path are of the network.
+/// Whether all generals of the path are of the network.
 fn are_known(net: &Net, path: &Path) -> bool
     ensures { IsTrue result ↔ All (λ g. g < net.now.generals) path.now }
 {
@@ -42,7 +42,7 @@ fn is_chain(net: &Net, order: OrderNo, path: &Path) -> bool
     order.get() < net.orders() && are_known(net, path) && begins_with_commander(path)
 }
 
-/// Whether a general can receive a chain of this order and path from a sender.
+/// Whether a chain of this order and path can arrive at the general from this sender.
 pub fn can_arrive(
     net: &Net,
     general: GeneralNo,

@@ -1,4 +1,4 @@
-//! The reading of an exhibit.
+//! Makes the reading of an exhibit.
 ghost use Rattle.std.specs.Prelude.{◌≡◌, IfOk};
 ghost use Rattle.gen_log.specs.Links.{link_over};
 ghost use Rattle.gen_log.specs.Log.{IsLog};
@@ -24,7 +24,7 @@ use gen_net::Header;
 use gen_types::GeneralNo;
 use std::alloc::{AllocError, Global};
 
-/// What is found of a log that says it is the general's of this run, whose end comes to this.
+/// Returns what is found in a log that says it is the general's of this run, with this last link and seal.
 fn own_log(
     alloc: Global,
     header: &Header,
@@ -64,7 +64,8 @@ fn own_log(
     })
 }
 
-/// The reading of an exhibit whose bytes are this, and whose log's end, if they are one, comes to this.
+/// Returns the reading of an exhibit from what its bytes are and, if they are its log, from the log's last link and
+/// seal.
 pub fn reading_of(
     alloc: Global,
     header: &Header,

@@ -15,8 +15,8 @@ use gen_types::GeneralNo;
 use std::alloc::{AllocError, Global};
 use std::marker::Model;
 
-/// The report of an exhibit under a header. It names both, and it always says exactly what the definition
-/// says of them, so that two reports of one exhibit under one header are equal.
+/// The report of an exhibit under a header. It names both and says exactly what the definition says of them. So two
+/// reports of one exhibit under one header are equal.
 #[derive(Debug, Drop)]
 pub struct LocalReport {
     header: Header,
@@ -59,7 +59,8 @@ impl LocalReport {
     }
 }
 
-/// Returns the report of an exhibit that was opened under the header, whose log's end, if it is one, comes to this.
+/// Returns the report of an exhibit that was opened under the header, from the last link and the seal of its log, if
+/// there is one.
 ///
 /// # Errors
 ///
@@ -90,8 +91,8 @@ pub(crate) fn report_of(
     })
 }
 
-/// Returns the report of an exhibit, a general and bytes that are said to be his log, under a
-/// header. It is made through a store of its own.
+/// Returns the report of an exhibit under a header. The exhibit is a general and the bytes that are said to be its log.
+/// The report uses a store of its own.
 ///
 /// # Errors
 ///
@@ -112,9 +113,9 @@ pub fn local_report(
     local_report_with(alloc, header, &exhibit, &mut store)
 }
 
-/// Returns the report of an exhibit under a header, which shares the bytes of the exhibit. Signatures are
-/// verified through the store, which gives kept answers again, and equal ones share memory; the
-/// store must serve the header, and serves it afterwards too.
+/// Returns the report of an exhibit under a header. It shares the exhibit's bytes. Signatures are verified through the
+/// store, which returns kept answers again, and equal signatures share memory. The store must serve the header, and
+/// serves it afterwards too.
 ///
 /// # Errors
 ///

@@ -1,4 +1,4 @@
-//! Which paths a general can sign an order with.
+//! Tests with which paths a general can sign an order.
 ghost use Rattle.std.specs.Prelude.{IsTrue, ◌≡◌, ◌↔◌};
 ghost use Rattle.std.specs.List.{list_any};
 ghost use Rattle.gen_local.specs.Recvs.{HasRecv, is_recv_of as is_received};
@@ -33,14 +33,14 @@ fn any_is_recv_of(before: &[Entry], order: OrderNo, generals: &[GeneralNo]) -> b
         .any(|entry| is_recv_of(entry, order, generals))
 }
 
-/// Whether a chain of this order and path was received.
+/// Whether one of the entries is a RECV of this order and path.
 fn was_received(before: &[Entry], order: OrderNo, generals: &[GeneralNo]) -> bool
     ensures { IsTrue result ↔ HasRecv (erased before.now) order generals.now }
 {
     any_is_recv_of(before, order, generals)
 }
 
-/// Whether the path is one by which the general learnt the order in this round, lengthened by himself.
+/// Whether the path is one by which the general learnt the order in this round, followed by the general itself.
 fn lengthens(
     general: GeneralNo,
     before: &[Entry],
@@ -60,7 +60,7 @@ fn lengthens(
     }
 }
 
-/// Whether the general, who has come so far with the order, can sign it with this path.
+/// Whether the general, with this progress, can sign the order with this path.
 pub fn can_sign(
     net: &Net,
     general: GeneralNo,

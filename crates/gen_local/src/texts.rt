@@ -8,17 +8,17 @@ use gen_types::GeneralNo;
 pub enum Text {
     /// A statement.
     OfStatement(Statement),
-    /// The head of his log.
+    /// The head of the general's log.
     OfHead(HeadText),
 }
 
 /// A text, and a signature of it.
 #[derive(Debug, Drop)]
 pub struct SignedText {
-    /// Who is said to have signed it.
+    /// The general that is said to have signed the text.
     pub signer: GeneralNo,
-    /// What was signed.
+    /// The text that was signed.
     pub text: Text,
-    /// With what it was signed.
+    /// The signature of the text.
     pub signature: Signature,
 }

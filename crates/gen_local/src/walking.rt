@@ -1,4 +1,4 @@
-//! Where entries depart.
+//! Walks through entries, and finds where they depart.
 ghost use Rattle.std.specs.Prelude.{IsTrue, IsSome, IfSome, ℕ, ◌≡◌, ◌<◌, ◌≤◌, ◌+◌, ◌↔◌, Some, None};
 ghost use Rattle.gen_log.specs.Entry.{erase};
 ghost use Rattle.gen_net.specs.Departs.{Begins, DepartsAt};
@@ -16,7 +16,8 @@ use gen_log::Entry;
 use gen_net::Net;
 use gen_types::GeneralNo;
 
-/// Whether the entry may follow those before it, after which each order has come so far.
+/// Whether the entry may follow those before it. The places of those are below `least`, and `orders` is the progress
+/// after them.
 fn may_follow(
     net: &Net,
     general: GeneralNo,
@@ -33,8 +34,8 @@ fn may_follow(
     is_judged(net, general, before, least, orders, entry)
 }
 
-/// Returns the first entry, counted from 0, with which the entries no longer begin a log that the general
-/// could keep of any run in which he follows, and None exactly where they begin one. The entries may be
+/// Returns the first entry, counted from 0, with which the entries no longer begin a log that the general could keep of
+/// some run that it follows in. None is returned if and only if all the entries begin such a log. The entries may be
 /// any, in any order; the general is below n. It takes no memory.
 pub fn departs_from(net: &Net, general: GeneralNo, entries: &[Entry]) -> Option<usize>
     requires { general < net.now.generals }

@@ -19,7 +19,7 @@ finding_rank (Underivable from to round order) = 9 ∷ from ∷ to ∷ round ∷
 finding_rank (Unjoined first second) = 10 ∷ first ∷ second ∷ []
 finding_rank Nobody = 11 ∷ []
 
--- the findings are exactly those with this property, in their one order, and none stands twice
+-- the findings are exactly those with the property, in their one order, each once
 pub record AreFindings (P : Finding → Type 0) (findings : List Finding) : Type 0 where
   pub in_order : AllPairs (λ x y. Precedes (finding_rank x) (finding_rank y)) findings
   pub members : (finding : Finding) → Contains findings finding ↔ P finding

@@ -1,5 +1,5 @@
 -- The logs of the rest matched with one another: messages that only one of two logs has, and received chains
--- that derive from none.
+-- that derive from nothing.
 use Rattle.std.specs.Prelude.{ℕ, ◌≡◌, ◌<◌, ◌⊎◌, List, [], ◌∷◌, ◌++◌, length, Contains, All, Option, Some}
 use Rattle.gen_net.specs.Network.{Network, IsLoyal}
 use Rattle.gen_types.specs.Ends.{BeginsWith}
@@ -7,7 +7,7 @@ use Rattle.gen_net.specs.Log.{LogEntry, Sent, Received}
 use Rattle.gen_match.specs.declared.finding.Finding.{Finding}
 use Rattle.gen_match.specs.declared.finding.Finding.TheVariants.{Unmatched, Underivable}
 
--- The logs that are matched: for each general the entries of his log, if he has one that counts.
+-- The logs that are matched: for each general the entries of its log, if it has one that counts.
 abbrev pub Logs : Type 0
 Logs = ℕ → Option (List LogEntry)
 
@@ -19,14 +19,14 @@ HasLog logs g = (log : List LogEntry) × (logs g ≡ Some log)
 abbrev pub Logged : Logs → ℕ → LogEntry → Type 0
 Logged logs g e = (log : List LogEntry) × (logs g ≡ Some log) × Contains log e
 
--- A SEND of a to b has no RECV of equal order and path, or a RECV of b from a no such SEND.
+-- Either a SEND of a to b has no RECV of equal order and path, or a RECV of b from a has no such SEND.
 abbrev pub IsOneSided : Logs → ℕ → ℕ → ℕ → List ℕ → Type 0
 IsOneSided logs a b v path =
     (Logged logs a (Sent b v path) × (Logged logs b (Received a v path) → ⊥))
     ⊎ (Logged logs b (Received a v path) × (Logged logs a (Sent b v path) → ⊥))
 
--- a and b are of the rest and have logs that count, and one of these logs has a message from a to b, of order
--- v and round l, that the other hasn't
+-- a and b are of the rest and have logs that count; one of these logs has a message from a to b, of order v
+-- and round l, that the other doesn't have
 pub record IsUnmatched (net : Network) (faulty : List ℕ) (logs : Logs) (a b l v : ℕ) : Type 0 where
   pub from_rest : IsLoyal net faulty a
   pub from_log : HasLog logs a
@@ -36,8 +36,8 @@ pub record IsUnmatched (net : Network) (faulty : List ℕ) (logs : Logs) (a b l 
   pub round : length path ≡ l
   pub one_sided : IsOneSided logs a b v path
 
--- The path, up to its last general of the rest, begins the path of a shorter SEND of this order by anybody of
--- the rest to anybody faulty.
+-- The path, up to its last general of the rest, begins the path of a shorter SEND of this order by a general
+-- of the rest to a faulty general.
 pub record DerivesFromLogs (net : Network) (faulty : List ℕ) (logs : Logs) (v : ℕ) (path : List ℕ) :
     Type 0 where
   pub front : List ℕ
@@ -55,12 +55,12 @@ pub record DerivesFromLogs (net : Network) (faulty : List ℕ) (logs : Logs) (v 
   pub earlier : length source < length path
   pub begun : BeginsWith source (front ++ last ∷ [])
 
--- as far as the logs tell, the path has nobody of the rest, or it derives from what the rest sent
+-- as far as the logs tell, the path has no general of the rest, or it derives from what the rest sent
 abbrev pub IsDerivableFromLogs : Network → List ℕ → Logs → ℕ → List ℕ → Type 0
 IsDerivableFromLogs net faulty logs v path =
     All (λ g. IsLoyal net faulty g → ⊥) path ⊎ DerivesFromLogs net faulty logs v path
 
--- b is of the rest, and his log has a RECV from the faulty a, of order v and round l, that isn't derivable
+-- b is of the rest, and its log has a RECV from the faulty a, of order v and round l, that isn't derivable
 pub record IsUnderivable (net : Network) (faulty : List ℕ) (logs : Logs) (a b l v : ℕ) : Type 0 where
   pub from_faulty : Contains faulty a
   pub to_rest : IsLoyal net faulty b
@@ -69,7 +69,7 @@ pub record IsUnderivable (net : Network) (faulty : List ℕ) (logs : Logs) (a b 
   pub received : Logged logs b (Received a v path)
   pub forged : IsDerivableFromLogs net faulty logs v path → ⊥
 
--- the finding is that a message stands in one log alone
+-- the finding is that only one of two logs has a message
 abbrev pub FindsUnmatched : Network → List ℕ → Logs → Finding → Type 0
 FindsUnmatched net faulty logs (Unmatched a b l v) = IsUnmatched net faulty logs a b l v
 FindsUnmatched net faulty logs _ = ⊥

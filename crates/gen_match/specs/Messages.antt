@@ -15,11 +15,11 @@ use Rattle.gen_match.specs.Rest.{over_rest}
 abbrev pub Counts : List ℕ → Logs → ℕ → Type 0
 Counts faulty logs g = (Contains faulty g → ⊥) × HasLog logs g
 
--- the key of a message: the number of its path, and behind it its rank, which is below 131072
+-- the key of a message: its path's number, followed by its rank, which is below 131072
 abbrev pub key_of : ℕ → ℕ → ℕ → List ℕ → ℕ
 key_of from to order path = path_number path * 131072 + rank_number from to (length path) order
 
--- the key of the message that an entry of g's log tells on a side, where who is at its other end counts
+-- the key of the message that an entry of g's log tells on this side, if the general at its other end counts
 abbrev pub told_keys : Side → List ℕ → ℕ → LogEntry → List ℕ
 told_keys Sender counted g (Sent to order path) =
     cond (is_among counted to) (key_of g to order path ∷ []) []
@@ -27,11 +27,11 @@ told_keys Receiver counted g (Received from order path) =
     cond (is_among counted from) (key_of from g order path ∷ []) []
 told_keys _ _ _ _ = []
 
--- the keys of all that the logs of the rest tell on a side
+-- the keys of all messages that the logs of the rest tell on this side
 abbrev pub rest_told : Side → List ℕ → Network → List ℕ → Logs → List ℕ
 rest_told side counted net faulty logs = over_rest (told_keys side counted) net faulty logs
 
--- the rank of a key, where the others don't have it
+-- the rank of a key, if the others don't have the key
 abbrev pub rank_lacked : List ℕ → ℕ → List ℕ
 rank_lacked others key = cond (is_among others key) [] (key % 131072 ∷ [])
 

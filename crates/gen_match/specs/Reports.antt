@@ -8,13 +8,13 @@ use Rattle.gen_local.specs.Erased.{erased}
 use Rattle.gen_local.specs.Report.{LocalReport}
 use Rattle.gen_match.specs.Matching.{Logs}
 
--- the entries of an exhibit that is a log of its general and this run
+-- the entries of an exhibit's log, if the exhibit is a log of its general and this run
 abbrev pub entries_told : Reading → Option (List LogEntry)
 entries_told (Unreadable fault) = None
 entries_told Foreign = None
 entries_told (Own found) = Some (erased found.log.entries)
 
--- those of a general's one report
+-- the entries of the log of a single report; none if there are several reports or none
 abbrev pub sole_told : List LocalReport → Option (List LogEntry)
 sole_told (r ∷ []) = entries_told r.reading
 sole_told _ = None

@@ -1,12 +1,12 @@
--- What is looked for to derive a received chain, once its last general of the rest is found.
+-- What makes a received chain derivable, once the last general of the rest in its path is found.
 use Rattle.std.specs.Prelude.{ℕ, ◌≡◌, ◌<◌, ◌↔◌, List, [], ◌∷◌, ◌++◌, length, Contains, All}
 use Rattle.gen_net.specs.Network.{Network, IsLoyal}
 use Rattle.gen_types.specs.Ends.{BeginsWith}
 use Rattle.gen_net.specs.Log.{Sent}
 use Rattle.gen_match.specs.Matching.{Logs, Logged, IsDerivableFromLogs}
 
--- Somebody of the rest logged a SEND of this order, shorter than the path, to somebody faulty, whose path
--- begins so.
+-- A general of the rest logged a SEND of this order to a faulty general; its path is shorter than the given
+-- path and starts with begin.
 pub record HasSource (net : Network) (faulty : List ℕ) (logs : Logs) (v : ℕ) (path begin : List ℕ) :
     Type 0 where
   pub from : ℕ
@@ -18,7 +18,7 @@ pub record HasSource (net : Network) (faulty : List ℕ) (logs : Logs) (v : ℕ)
   pub earlier : length source < length path
   pub begun : BeginsWith source begin
 
--- where the path is split behind its last general of the rest, it is derivable exactly where its front has a
+-- if the path is split after its last general of the rest, it is derivable if and only if its front has a
 -- source
 abbrev pub DerivableAtLast : Type 0
 DerivableAtLast =

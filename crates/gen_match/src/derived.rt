@@ -1,4 +1,4 @@
-//! Received chains that derive from nothing that the rest sent.
+//! Finds received chains that derive from nothing that the rest sent.
 ghost use Rattle.std.specs.Prelude.{◌≡◌, ◌<◌, ◌≤◌, ◌+◌, ◌++◌, ◌^◌, cond, Some, None, IfOk, IfSome, OnOk, AllPairs, Contains, length, map};
 ghost use Rattle.std.specs.List.{flat_map, AllByRecursion};
 ghost use Rattle.gen_types.specs.Ascending.{IsListOf};
@@ -22,14 +22,14 @@ use gen_net::Header;
 use gen_types::{GeneralNo, GeneralSet, OrderNo, Path};
 use std::alloc::{AllocError, Global};
 
-/// The number that is found, or else what was found before it.
+/// Returns the number if `is_found`, or else the number that was found before.
 fn last_of(before: Option<u128>, is_found: bool, number: u128) -> Option<u128>
     ensures { result ≡ cond is_found (Some number) before }
 {
     if is_found { Some(number) } else { before }
 }
 
-/// The number of a path up to its last general of the rest, and None where nobody of it is of the rest.
+/// Returns the number of a path up to its last general of the rest, or None if no general of it is of the rest.
 fn rest_begin(header: &Header, faulty: &GeneralSet, path: &Path) -> Option<u128>
     ensures value { result ≡ finding.rest_begin header.now.network faulty.now 1 None path.now }
     ensures small { IfSome result (λ number. number < 2 ^ 65) }
@@ -48,8 +48,8 @@ fn rest_begin(header: &Header, faulty: &GeneralSet, path: &Path) -> Option<u128>
     found
 }
 
-/// Whether a path has nobody of the rest, or begins, up to its last general of the rest, as a shorter path with a
-/// key does.
+/// Whether a path has no general of the rest, or else its beginning up to the last general of the rest begins a shorter
+/// path with a key in `sources`.
 fn derives(
     sources: &[u128],
     header: &Header,
@@ -71,7 +71,7 @@ fn derives(
     }
 }
 
-/// Puts the rank of a general's entry behind others, where it is a chain from somebody faulty that doesn't derive.
+/// Appends the rank of an entry of general `to` if it is a chain from a faulty general that doesn't derive.
 fn find_entry(
     sources: &[u128],
     header: &Header,
@@ -97,8 +97,7 @@ fn find_entry(
     }
 }
 
-/// Puts the ranks of a general's entries behind others, where they are chains from somebody faulty that don't
-/// derive.
+/// Appends the ranks of those entries of general `to` that are chains from faulty generals and don't derive.
 fn find_entries(
     sources: &[u128],
     header: &Header,
@@ -121,7 +120,7 @@ fn find_entries(
     Ok(())
 }
 
-/// The ranks, ascending, of all received chains from somebody faulty that don't derive.
+/// Returns the ranks, ascending, of all received chains from faulty generals that don't derive.
 fn find_ranks(
     alloc: Global,
     sources: &[u128],
@@ -145,9 +144,10 @@ fn find_ranks(
     Ok(ranks)
 }
 
-/// Returns, in their order, the chains that faulty generals sent generals of the rest and that derive from nothing
-/// that the rest sent a faulty one. The rest are the generals who aren't held for faulty, and of them those with
-/// one report alone, of a log that says it is theirs of this run. All reports must be made under this header.
+/// Returns the findings about chains that a faulty general sent a general of the rest and that derive from nothing that
+/// the rest sent a faulty general. There is one finding for each such sender, receiver, round and order, in the order
+/// of findings. The rest are the generals that aren't held for faulty. A general's log is looked at if the general has
+/// a single report, of a log that says it is that general's of this run. All reports are made under this header.
 ///
 /// # Errors
 ///
@@ -162,7 +162,7 @@ pub fn check_derived(
     ensures { IfOk result (λ findings. AreFindings
         (FindsUnderivable header.now.network faulty.now (told_logs reports.now)) findings.items) }
 {
-    // The header makes known that the network has at most 16 generals.
+    // Reading the network makes known that it has at most 16 generals.
     let _known = header.net();
     let sources = find_sources(alloc, header, faulty, reports)?;
     let ranks = find_ranks(alloc, sources.as_slice(), header, faulty, reports)?;

@@ -1,4 +1,4 @@
-//! Messages that only one of two logs has.
+//! Finds messages that only one of two logs has.
 ghost use Rattle.std.specs.Prelude.{IsTrue, ◌<◌, ◌↔◌, IfOk};
 ghost use Rattle.gen_types.specs.Ascending.{IsListOf};
 ghost use Rattle.gen_match.specs.Findings.{AreFindings};
@@ -24,7 +24,7 @@ fn counts(general: GeneralNo, faulty: &GeneralSet, reports: &[LocalReport]) -> b
     !faulty.contains(general) && told(reports, general).is_some()
 }
 
-/// Returns the generals of the rest who have logs that count.
+/// Returns the generals of the rest that have logs that count.
 fn counted(net: &Net, faulty: &GeneralSet, reports: &[LocalReport]) -> GeneralSet
     ensures { IsListOf result (λ g.
         (g < net.now.generals) × Counts faulty.now (told_logs reports.now) g) }
@@ -39,10 +39,10 @@ fn counted(net: &Net, faulty: &GeneralSet, reports: &[LocalReport]) -> GeneralSe
     set
 }
 
-/// Returns, in their order, the messages between two generals of the rest that only one of their logs has, or that
-/// they have with different paths: of each such message one finding. The rest are the generals who aren't held for
-/// faulty, and of them those with one report alone, of a log that says it is theirs of this run. All reports must
-/// be made under this header.
+/// Returns the findings about messages between two generals of the rest that only one of their logs has, or that they
+/// have with different paths. There is one finding for each such sender, receiver, round and order, in the order of
+/// findings. The rest are the generals that aren't held for faulty. A general's log is looked at if the general has a
+/// single report, of a log that says it is that general's of this run. All reports are made under this header.
 ///
 /// # Errors
 ///

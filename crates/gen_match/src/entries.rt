@@ -1,4 +1,4 @@
-//! The entries of the logs of the rest.
+//! Gives the entries of the logs of the rest.
 ghost use Rattle.std.specs.Prelude.{◌≡◌};
 ghost use Rattle.gen_log.specs.Entry.{erase};
 ghost use Rattle.gen_local.specs.Erased.{erased};
@@ -18,8 +18,7 @@ pub(crate) fn is_rest(header: &Header, faulty: &GeneralSet, general: GeneralNo) 
     general.get() < header.net().generals() && !faulty.contains(general)
 }
 
-/// The entries of the log of a general of the rest, and none where he has no log that counts or isn't of the
-/// rest.
+/// Returns the entries of a general's log; none if the general isn't of the rest or has no log that counts.
 pub(crate) fn rest_entries<'a>(
     header: &Header,
     faulty: &GeneralSet,

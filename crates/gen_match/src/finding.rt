@@ -2,26 +2,26 @@
 use gen_log::LogFault;
 use gen_types::{GeneralNo, OrderNo};
 
-/// What can be found against the logs of a run. The rest are the generals who aren't held for faulty.
+/// What can be found against the logs of a run. The rest are the generals that aren't held for faulty.
 ///
 /// Entries are counted from 0, and rounds from 1: the round of a message is the number of its signers.
 #[derive(Clone, Copy, Debug, PartialEq, Eq)]
 pub enum Finding {
-    /// N1: nothing is shown as the log of a general of the rest.
+    /// N1: a general of the rest has no exhibit.
     Missing {
         /// The general.
         general: GeneralNo,
     },
-    /// N2: more than one thing is shown as the log of a general of the rest.
+    /// N2: a general of the rest has more than one exhibit.
     Several {
         /// The general.
         general: GeneralNo,
     },
-    /// N3: what is shown as the log of a general of the rest is no log.
+    /// N3: the exhibit of a general of the rest doesn't read as a log.
     Unreadable {
         /// The general.
         general: GeneralNo,
-        /// Why it is none.
+        /// The rule that its bytes break.
         fault: LogFault,
     },
     /// N4: the log of a general of the rest says that it is of another run, or its START names another general.
@@ -45,37 +45,37 @@ pub enum Finding {
     Departs {
         /// The general.
         general: GeneralNo,
-        /// The first entry with which it begins no log that he could keep.
+        /// The first entry with which the log no longer begins one that the general could keep.
         entry: usize,
     },
-    /// N8: of two generals of the rest one has a message from the first to the second in his log, and the other
-    /// hasn't.
+    /// N8: the log of one of two generals of the rest has a message from the first to the second, and the log of the
+    /// other doesn't have it.
     Unmatched {
-        /// From whom the message is.
+        /// The sender of the message.
         from: GeneralNo,
-        /// To whom it is.
+        /// The receiver of the message.
         to: GeneralNo,
-        /// The round in which it was sent.
+        /// The round in which the message was sent.
         round: u8,
-        /// Its order.
+        /// The order of the message.
         order: OrderNo,
     },
     /// N9: a faulty general sent a general of the rest a chain that derives from nothing that the rest sent.
     Underivable {
-        /// From whom the chain came.
+        /// The sender of the chain.
         from: GeneralNo,
-        /// To whom it came.
+        /// The receiver of the chain.
         to: GeneralNo,
-        /// The round in which it came.
+        /// The round in which the chain arrived.
         round: u8,
-        /// Its order.
+        /// The order of the chain.
         order: OrderNo,
     },
-    /// N10: no walk that is given joins these two generals of the rest inside the rest by few enough edges.
+    /// N10: none of the given walks joins these two generals of the rest inside the rest by at most d edges.
     Unjoined {
-        /// The lesser of the two.
+        /// The lesser of the two generals.
         first: GeneralNo,
-        /// The greater.
+        /// The greater of the two generals.
         second: GeneralNo,
     },
     /// N11: all generals are held for faulty.

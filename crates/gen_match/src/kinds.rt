@@ -1,10 +1,10 @@
 //! Kinds of findings about messages.
 
-/// What a message is found to be.
+/// What is found about a message.
 #[derive(Clone, Copy)]
 pub enum Kind {
-    /// One that only one of two logs has.
+    /// Only one of two logs has the message.
     OneSided,
-    /// A chain that derives from nothing that the rest sent.
+    /// The message is a chain that derives from nothing that the rest sent.
     Stray,
 }

@@ -2,8 +2,9 @@
 //! that calls it knows the law.
 ghost use Rattle.gen_match.specs.Sources.{DerivableAtLast};
 
-/// A received chain is derivable exactly where its path up to its last general of the rest has a source: a
-/// shorter chain of its order that somebody of the rest sent to somebody faulty, whose path begins so.
+/// States that a received chain with a general of the rest in its path is derivable if and only if the path up to its
+/// last such general has a source. A source is a shorter path of that order that begins so, and that a general of the
+/// rest sent to a faulty general.
 pub fn derivable_at_last()
     ensures { DerivableAtLast }
 {}

@@ -1,9 +1,11 @@
-//! Logs of several generals matched with one another.
+//! Matches the logs of several generals with one another.
 //!
-//! Two generals who both follow the signed message algorithm (section 4 of L. Lamport, R. Shostak and M.
-//! Pease, "The Byzantine Generals Problem", ACM TOPLAS 4, 1982) write the same messages of each other: each
-//! SEND of one is a RECV of the other. A general who is held for faulty may send them what he likes, but for
-//! what he can't make: the signature of somebody who follows.
+//! If two generals both follow the signed message algorithm, their logs agree about the messages between them: each
+//! SEND of one is a RECV of the other. A general that is held for faulty may send anything that it can make. It can't
+//! make the signature of a general that follows.
+//!
+//! The algorithm is that of section 4 of L. Lamport, R. Shostak and M. Pease, "The Byzantine Generals Problem", ACM
+//! TOPLAS 4, 1982.
 #![tactic(auto)]
 
 mod derived;

@@ -1,4 +1,4 @@
-//! The messages that logs tell, and those that only one of two logs has.
+//! Gathers the messages that logs tell, and finds those that only one of two logs has.
 ghost use Rattle.std.specs.Prelude.{◌≡◌, ◌<◌, ◌++◌, cond, [], ◌∷◌, IfOk, OnOk, AllPairs, Contains};
 ghost use Rattle.std.specs.List.{flat_map, AllByRecursion};
 ghost use Rattle.gen_types.specs.Ascending.{IsListOf};
@@ -19,17 +19,17 @@ use gen_net::Header;
 use gen_types::{GeneralNo, GeneralSet, OrderNo, Path};
 use std::alloc::{AllocError, Global};
 
-/// Above each number of a rank.
+/// Each rank number of a message is less than this.
 const RANKS: u128 = 131_072;
 
-/// The key of a message.
+/// Returns the key of a message.
 fn key_of(from: GeneralNo, to: GeneralNo, order: OrderNo, path: &Path) -> u128
     ensures { result ≡ message.key_of from to order path.now }
 {
     path_number(path) * RANKS + rank_number(from, to, path.len(), order)
 }
 
-/// Puts a key behind others, where the general at the other end of its message counts.
+/// Appends a key if the general at the other end of its message counts.
 fn put_key(
     counted: &GeneralSet,
     other: GeneralNo,
@@ -45,7 +45,7 @@ fn put_key(
     Ok(())
 }
 
-/// Puts the key of the message that an entry of a general's log tells on this side behind others.
+/// Appends the key of the message that an entry of a general's log tells on this side, if it tells one.
 fn put_entry(
     side: Side,
     counted: &GeneralSet,
@@ -68,7 +68,7 @@ fn put_entry(
     }
 }
 
-/// Puts the keys of the messages that the entries of a general's log tell on this side behind others.
+/// Appends the keys of the messages that the entries of a general's log tell on this side.
 fn put_entries(
     side: Side,
     counted: &GeneralSet,
@@ -89,7 +89,7 @@ fn put_entries(
     Ok(())
 }
 
-/// The ascending keys of all messages between counted generals that the logs of the rest tell on this side.
+/// Returns the keys, ascending, of all messages between counted generals that the logs of the rest tell on this side.
 pub(crate) fn find_keys(
     alloc: Global,
     side: Side,
@@ -113,7 +113,7 @@ pub(crate) fn find_keys(
     Ok(keys)
 }
 
-/// Puts the rank of a key behind others, where the other keys don't have it.
+/// Appends the rank of a key if the other keys don't have it.
 fn put_rank(key: u128, others: &[u128], ranks: &mut Vec<u128>) -> Result<(), AllocError>
     requires { AllPairs (λ a b. a < b) others.now }
     ensures { OnOk result (ranks.new.items
@@ -125,7 +125,7 @@ fn put_rank(key: u128, others: &[u128], ranks: &mut Vec<u128>) -> Result<(), All
     Ok(())
 }
 
-/// Puts the ranks of the keys that the other keys don't have behind others.
+/// Appends the ranks of the keys that the other keys don't have.
 fn put_ranks(keys: &[u128], others: &[u128], ranks: &mut Vec<u128>) -> Result<(), AllocError>
     requires { AllPairs (λ a b. a < b) others.now }
     ensures { OnOk result (ranks.new.items
@@ -139,7 +139,7 @@ fn put_ranks(keys: &[u128], others: &[u128], ranks: &mut Vec<u128>) -> Result<()
     Ok(())
 }
 
-/// The ascending ranks of the messages whose key only one of two lists has.
+/// Returns the ranks, ascending, of the messages whose key only one of two lists has.
 pub(crate) fn one_sided(
     alloc: Global,
     sent: &[u128],

@@ -1,4 +1,4 @@
-//! The beginnings of paths as numbers, and the keys of those that were sent.
+//! Gives beginnings of paths as numbers, and the keys of beginnings that were sent.
 ghost use Rattle.std.specs.Prelude.{ℕ, ◌≡◌, ◌+◌, ◌*◌, ◌^◌, ◌<◌, ◌≤◌, ◌++◌, OnOk, AllPairs, Contains, length};
 ghost use Rattle.gen_types.specs.Ascending.{IsListOf};
 ghost use Rattle.gen_types.specs.Ends.{is_among};
@@ -7,7 +7,7 @@ ghost use Rattle.gen_match.specs.Prefixes as keys;
 use gen_types::{GeneralNo, OrderNo, Path};
 use std::alloc::AllocError;
 
-/// The number of a path with so many generals, and behind them one more.
+/// Returns the number of a path with one more general after the `count` generals of this number.
 pub(crate) fn longer(number: u128, count: usize, general: GeneralNo) -> u128
     requires room { count < 16 }
     requires small { number < 2 * 16 ^ count }
@@ -17,7 +17,8 @@ pub(crate) fn longer(number: u128, count: usize, general: GeneralNo) -> u128
     number * 16 + u128::from(general.get())
 }
 
-/// The key of a beginning with this number, of a path of so many generals, under an order.
+/// Returns the key of a beginning of a path: from the beginning's number, the order and the number of generals of the
+/// whole path.
 pub(crate) fn source_key(number: u128, order: OrderNo, len: usize) -> u128
     requires small { number < 2 ^ 65 }
     requires few { len ≤ 16 }
@@ -26,7 +27,7 @@ pub(crate) fn source_key(number: u128, order: OrderNo, len: usize) -> u128
     (number * 16 + u128::from(order.get())) * 32 + len as u128
 }
 
-/// The number of a path.
+/// Returns the number of a path.
 pub(crate) fn path_number(path: &Path) -> u128
     ensures value { result ≡ keys.path_number path.now }
     ensures small { result < 2 ^ 65 }
@@ -43,7 +44,7 @@ pub(crate) fn path_number(path: &Path) -> u128
     number
 }
 
-/// Puts the keys of all beginnings of a path behind others.
+/// Appends the keys of all beginnings of a path.
 pub(crate) fn put_begins(
     order: OrderNo,
     path: &Path,
@@ -65,7 +66,7 @@ pub(crate) fn put_begins(
     Ok(())
 }
 
-/// Sorts numbers and drops those that stand there twice.
+/// Sorts numbers in ascending order, and keeps each once.
 pub(crate) fn sort_apart(numbers: &mut Vec<u128>) -> Result<(), AllocError>
     ensures { OnOk result (IsListOf numbers.new.items (Contains numbers.old.items)) }
 {
@@ -74,7 +75,7 @@ pub(crate) fn sort_apart(numbers: &mut Vec<u128>) -> Result<(), AllocError>
     Ok(())
 }
 
-/// Whether a number is one of ascending numbers.
+/// Whether a number is one of these ascending numbers.
 pub(crate) fn has(numbers: &[u128], number: u128) -> bool
     requires { AllPairs (λ a b. a < b) numbers.now }
     ensures { result ≡ is_among numbers.now number }
@@ -85,7 +86,7 @@ pub(crate) fn has(numbers: &[u128], number: u128) -> bool
     }
 }
 
-/// Whether one of ascending numbers is at least low and below high, which is above low.
+/// Whether one of these ascending numbers is at least `low` and below `high`.
 pub(crate) fn has_between(numbers: &[u128], low: u128, high: u128) -> bool
     requires ascending { AllPairs (λ a b. a < b) numbers.now }
     requires above { low < high }

@@ -1,4 +1,4 @@
-//! The ranks of messages, as numbers.
+//! Gives the ranks of messages as numbers.
 ghost use Rattle.std.specs.Prelude.{◌≡◌, ◌<◌, ◌≤◌, IfOk, map};
 ghost use Rattle.gen_match.specs.Ranks as ranked;
 
@@ -7,7 +7,7 @@ use crate::kinds::Kind;
 use gen_types::{GeneralNo, OrderNo};
 use std::alloc::{AllocError, Global};
 
-/// The number of a message's rank.
+/// Returns the number of a message's rank, which is below 131072.
 pub(crate) fn rank_number(from: GeneralNo, to: GeneralNo, round: usize, order: OrderNo) -> u128
     requires { round ≤ 16 }
     ensures value { result ≡ ranked.rank_number from to round order }
@@ -17,7 +17,7 @@ pub(crate) fn rank_number(from: GeneralNo, to: GeneralNo, round: usize, order: O
     (generals * 32 + round as u128) * 16 + u128::from(order.get())
 }
 
-/// The finding of this kind at a rank.
+/// Returns the finding of this kind about the message with this rank.
 fn finding_at(kind: Kind, rank: u128) -> Finding
     ensures { result ≡ ranked.finding_at kind rank }
 {
@@ -41,7 +41,7 @@ fn finding_at(kind: Kind, rank: u128) -> Finding
     }
 }
 
-/// The findings of this kind at these ranks.
+/// Returns the findings of this kind about the messages with these ranks.
 pub(crate) fn findings_at(
     alloc: Global,
     kind: Kind,

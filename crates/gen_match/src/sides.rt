@@ -1,10 +1,10 @@
 //! Sides of a message.
 
-/// Whose log tells a message.
+/// The side on which a log tells a message.
 #[derive(Clone, Copy)]
 pub enum Side {
-    /// That of its sender, by a SEND.
+    /// The sender's log, by a SEND.
     Sender,
-    /// That of its receiver, by a RECV.
+    /// The receiver's log, by a RECV.
     Receiver,
 }

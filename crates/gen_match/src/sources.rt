@@ -1,4 +1,4 @@
-//! What the rest sent the faulty, by which received chains can be derived.
+//! Gathers what the rest sent the faulty: received chains can derive from this.
 ghost use Rattle.std.specs.Prelude.{◌≡◌, ◌++◌, OnOk, IfOk, Contains};
 ghost use Rattle.std.specs.List.{flat_map};
 ghost use Rattle.gen_types.specs.Ascending.{IsListOf};
@@ -15,7 +15,7 @@ use gen_net::Header;
 use gen_types::{GeneralNo, GeneralSet};
 use std::alloc::{AllocError, Global};
 
-/// Puts the keys of an entry behind others.
+/// Appends the keys of an entry: of all beginnings of its path, if it is a SEND to a faulty general.
 fn put_entry(faulty: &GeneralSet, entry: &Entry, keys: &mut Vec<u128>) -> Result<(), AllocError>
     ensures { OnOk result (keys.new.items
         ≡ keys.old.items ++ finding.entry_keys faulty.now (erase entry.now)) }
@@ -31,7 +31,7 @@ fn put_entry(faulty: &GeneralSet, entry: &Entry, keys: &mut Vec<u128>) -> Result
     }
 }
 
-/// Puts the keys of entries behind others.
+/// Appends the keys of entries.
 fn put_entries(
     faulty: &GeneralSet,
     entries: &[Entry],
@@ -48,8 +48,8 @@ fn put_entries(
     Ok(())
 }
 
-/// The ascending keys of all beginnings of paths that the rest sent the faulty, each with the number of generals
-/// of the whole path.
+/// Returns the keys, ascending, of all beginnings of paths that the rest sent the faulty. Each key has the number of
+/// generals of its whole path.
 pub(crate) fn find_sources(
     alloc: Global,
     header: &Header,

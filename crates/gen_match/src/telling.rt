@@ -1,4 +1,4 @@
-//! The logs that reports tell.
+//! Finds the logs that reports tell.
 ghost use Rattle.std.specs.Prelude.{◌≡◌, ◌∷◌, [], IfSome, IfNone};
 ghost use Rattle.std.specs.Option.{option_map};
 ghost use Rattle.gen_local.specs.Erased.{erased};
@@ -8,7 +8,7 @@ use gen_local::{LocalReport, Reading};
 use gen_log::Log;
 use gen_types::GeneralNo;
 
-/// Returns the first report of a general, and the reports behind it.
+/// Returns the first report of a general, and the reports after it.
 fn next_of(reports: &[LocalReport], general: GeneralNo) -> Option<(&LocalReport, &[LocalReport])>
     ensures some { IfSome result (λ found.
         reports_of reports.now general ≡ found.0.now ∷ reports_of found.1.now general) }
@@ -24,7 +24,7 @@ fn next_of(reports: &[LocalReport], general: GeneralNo) -> Option<(&LocalReport,
     None
 }
 
-/// Returns the log of a reading that has one.
+/// Returns the log of a reading, if it is a log of its general and this run.
 fn log_of(reading: &Reading) -> Option<&Log>
     ensures { option_map (λ log. erased log.now.entries) result ≡ entries_told reading.now }
 {
@@ -34,8 +34,8 @@ fn log_of(reading: &Reading) -> Option<&Log>
     }
 }
 
-/// Returns the log of a general's one report, where its exhibit is a log of his and its run, and else None, also where
-/// he has no report or several.
+/// Returns the log of a general's one report, if its exhibit is a log of this general and its run. None is returned
+/// otherwise, and if the general has no report or several.
 pub(crate) fn told(reports: &[LocalReport], general: GeneralNo) -> Option<&Log>
     ensures { option_map (λ log. erased log.now.entries) result ≡ told_logs reports.now general }
 {

@@ -1,4 +1,4 @@
--- Chains: an order and the generals who signed it, one after another (v:0:j1:..:jk of section 4 of the paper
+-- Chains: an order and the generals that signed it, one after another (v:0:j1:..:jk of section 4 of the paper
 -- of 1982).
 use Rattle.std.specs.Prelude.{ℕ, ◌≢◌, ◌<◌, List, [], ◌∷◌, All, AllPairs}
 use Rattle.gen_types.specs.Ends.{BeginsWith}

@@ -11,7 +11,7 @@ use Rattle.gen_net.specs.Network.{Network, IsNetwork}
 use Rattle.gen_net.specs.NetworkSpelling.{network_bytes}
 use Rattle.gen_net.specs.Version.{height_in, slot_in, greatest_slot, version_bytes}
 
--- a network, for each general the root of his keys, and the version with the run's slot
+-- a header: the version with the run's slot, a network, and for each general the root of its keys
 pub record RunHeader : Type 0 where
   pub version : Version
   pub network : Network
@@ -21,7 +21,7 @@ pub record RunHeader : Type 0 where
 abbrev pub height_of : RunHeader → TreeHeight
 height_of h = height_in h.version
 
--- which of the runs it is that a tree serves
+-- the slot: which of the runs of one tree of keys this run is
 abbrev pub slot_of : RunHeader → ℕ
 slot_of h = slot_in h.version
 
@@ -29,16 +29,15 @@ slot_of h = slot_in h.version
 abbrev pub root_of : RunHeader → ℕ → List ℕ
 root_of h general = slice_index_or h.roots general []
 
--- the bytes of a root
+-- the number of bytes of a root
 abbrev pub root_length : ℕ
 root_length = 32
 
--- each root has its 32 bytes
+-- each root has 32 bytes
 abbrev pub AreRoots : List (List ℕ) → Type 0
 AreRoots roots = AllByRecursion (λ root. length root ≡ root_length) roots
 
--- what each header keeps: its network does what networks do, its slot is known, and there is a root for each
--- general
+-- what every header keeps: its network is one, its slot is 0 to 3, and there is one root for each general
 pub record IsHeader (h : RunHeader) : Type 0 where
   pub network : IsNetwork h.network
   pub slot : slot_of h ≤ greatest_slot
@@ -57,10 +56,10 @@ abbrev pub header_spelling : RunHeader → List ℕ
 header_spelling h =
     version_bytes h.version ++ (network_bytes h.network ++ flat_map (λ root. root) h.roots)
 
--- the byte before a header, where the run id is hashed: 31 in hexadecimal
+-- the byte that is hashed before a header in its run id: 31 in hexadecimal
 abbrev pub run_id_prefix : ℕ
 run_id_prefix = 49
 
--- the run id, which names the run that a header is about
+-- the run id, which names the run of a header: SHA-256 (FIPS 180-4) of that byte and the header's spelling
 unfoldable pub run_id_of : RunHeader → List ℕ
 run_id_of h = sha256 (run_id_prefix ∷ header_spelling h)

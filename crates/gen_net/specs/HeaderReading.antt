@@ -1,5 +1,5 @@
--- Reading a header: another version first, then too few bytes, then the first rule that its network or its
--- slot breaks.
+-- Reading a header. An unknown version is met first, then too few bytes, then the first rule that its network
+-- or its slot breaks.
 use Rattle.std.specs.Prelude.{ℕ, List, Result, Ok}
 use Rattle.gen_types.specs.Reading.{◌>>=◌}
 use Rattle.gen_types.specs.Bytes.{bytes_at, many_at}
@@ -11,16 +11,17 @@ use Rattle.gen_net.specs.NetworkReading.{numbers_at, edges_at}
 use Rattle.gen_net.specs.Header.{RunHeader, root_length, header_with}
 use Rattle.gen_net.specs.VersionReading.{version_at}
 
--- one root
+-- reads one root: its 32 bytes and the bytes after them, or Truncated
 abbrev pub root_at : List ℕ → Result (List ℕ × List ℕ) HeaderFault
 root_at bytes = bytes_at Truncated root_length bytes
 
--- what stands after the version
+-- the parts of a header after its version
 pub record Parts : Type 0 where
   pub numbers : NetNumbers
   pub edges : List (ℕ × ℕ)
   pub roots : List (List ℕ)
 
+-- reads the numbers, edges and roots after a version: these and the bytes after them, or Truncated
 unfoldable pub parts_at : List ℕ → Result (Parts × List ℕ) HeaderFault
 parts_at bytes = do
   numbers ← numbers_at bytes
@@ -28,7 +29,7 @@ parts_at bytes = do
   roots ← many_at root_at numbers.0.generals edges.1
   Ok (record { numbers = numbers.0; edges = edges.0; roots = roots.0 }, roots.1)
 
--- a header, and the bytes after it
+-- reads a header: the header and the bytes after it, or the first fault
 unfoldable pub header_at : List ℕ → Result (RunHeader × List ℕ) HeaderFault
 header_at bytes = do
   version ← version_at bytes

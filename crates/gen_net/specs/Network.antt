@@ -1,10 +1,11 @@
--- A network of generals, and who is loyal in it: the graph of section 5 of the paper of 1982.
+-- A network of generals, and which of them are loyal: the graph of section 5 of the paper of 1982.
 use Rattle.std.specs.Prelude.{ℕ, ◌≡◌, ◌+◌, ◌<◌, ◌≤◌, ◌⊎◌, List, Contains, AllPairs}
 use Rattle.gen_types.specs.declared.choices.ChoiceKind.{ChoiceKind}
 use Rattle.gen_types.specs.ChoiceOf.{choice_of}
 
--- Generals 0..n-1, of whom 0 is the commander, unordered pairs of them, the numbers m of traitors and d of
--- the diameter that a run is planned for, the number q of orders 0..q-1, and the choice.
+-- A network has generals 0..n-1, with 0 as the commander, and edges, which are unordered pairs of them. It
+-- has the numbers m of traitors and d of the diameter that a run is planned for, the number q of orders
+-- 0..q-1, and the choice.
 pub record Network : Type 0 where
   pub generals : ℕ
   pub edges : List (ℕ × ℕ)
@@ -17,7 +18,7 @@ pub record Network : Type 0 where
 abbrev pub rounds : Network → ℕ
 rounds net = net.traitors + net.diameter
 
--- the order that is chosen from the ascending list of a set
+-- the order that the network's choice makes of the ascending list of a set of orders
 abbrev pub choose : Network → List ℕ → ℕ
 choose net = choice_of net.choice
 
@@ -49,7 +50,7 @@ pub record AreEdges (generals : ℕ) (edges : List (ℕ × ℕ)) : Type 0 where
   pub inside : (a b : ℕ) → Contains edges (a, b) → (a < b) × (b < generals)
   pub ascending : AllPairs IsBefore edges
 
--- what each net keeps
+-- what every network keeps: its numbers are in their ranges, and its edges in their places
 pub record IsNetwork (net : Network) : Type 0 where
   pub ranges : AreInRange net.generals net.traitors net.diameter net.orders
   pub edges : AreEdges net.generals net.edges

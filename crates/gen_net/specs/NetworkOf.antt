@@ -1,4 +1,4 @@
--- Which numbers and edges make a network, and which rule others break first.
+-- Which numbers and edges make a network, and which rule the others break first.
 use Rattle.std.specs.Prelude.{ℕ, ◌+◌, Bool, not, ◌&&◌, List, Option, Some, None, Result, Ok, Err, nat_le}
 use Rattle.gen_types.specs.declared.choices.ChoiceKind.{ChoiceKind}
 use Rattle.gen_types.specs.ChoiceOf.{choice_numbered}
@@ -9,16 +9,16 @@ use Rattle.gen_net.specs.declared.numbers.NetNumbers.{NetNumbers}
 use Rattle.gen_net.specs.Edges.{has_bad_edge, edges_of, in_place}
 use Rattle.gen_net.specs.Network.{Network}
 
--- the number is one of these two, or between them
+-- the number is at least the first of two numbers and at most the second
 abbrev pub is_within : ℕ → ℕ → ℕ → Bool
 is_within least greatest number = nat_le least number && nat_le number greatest
 
--- the choice that a number stands for
+-- the choice that was found for a number, or UnknownChoice
 abbrev pub known_choice : Option ChoiceKind → Result ChoiceKind HeaderFault
 known_choice None = Err UnknownChoice
 known_choice (Some choice) = Ok choice
 
--- the choice, where all numbers are in their ranges and no edge is bad; or the first rule that is broken
+-- the choice, if all numbers are in their ranges and no edge is bad; or the first rule that is broken
 unfoldable pub ranges_of : NetNumbers → Bool → Result ChoiceKind HeaderFault
 ranges_of numbers good_edges = do
   generals ← check (is_within 2 16 numbers.generals) GeneralCount

@@ -1,4 +1,4 @@
--- Reading a network's numbers and edges, in no certain range and order.
+-- Reading a network's numbers and edges, before they are tested.
 use Rattle.std.specs.Prelude.{ℕ, List, Result, Ok}
 use Rattle.gen_types.specs.Reading.{◌>>=◌}
 use Rattle.gen_types.specs.Bytes.{byte_at, many_at}
@@ -6,7 +6,7 @@ use Rattle.gen_net.specs.declared.fault.HeaderFault.{HeaderFault}
 use Rattle.gen_net.specs.declared.fault.HeaderFault.TheVariants.{Truncated}
 use Rattle.gen_net.specs.declared.numbers.NetNumbers.{NetNumbers}
 
--- n, m, d, q and the choice
+-- reads n, m, d, q and the choice, a byte each: the numbers and the bytes after them, or Truncated
 unfoldable pub numbers_at : List ℕ → Result (NetNumbers × List ℕ) HeaderFault
 numbers_at bytes = do
   generals ← byte_at Truncated bytes
@@ -25,14 +25,14 @@ numbers_at bytes = do
     choice.1,
   )
 
--- one edge
+-- reads one edge, two bytes: the edge and the bytes after it, or Truncated
 unfoldable pub edge_at : List ℕ → Result ((ℕ × ℕ) × List ℕ) HeaderFault
 edge_at bytes = do
   low ← byte_at Truncated bytes
   high ← byte_at Truncated low.1
   Ok ((low.0, high.0), high.1)
 
--- the edges behind their number
+-- reads the edges behind their number: the edges and the bytes after them, or Truncated
 unfoldable pub edges_at : List ℕ → Result (List (ℕ × ℕ) × List ℕ) HeaderFault
 edges_at bytes = do
   count ← byte_at Truncated bytes

@@ -14,8 +14,8 @@ Run = List Message
 abbrev pub IsSent : Run → ℕ → Message → Type 0
 IsSent run l message = Contains run message × (length message.path ≡ l)
 
--- the message may stand in a run: on an edge, with a chain of at most R signers of whom its sender is the
--- last, to one who is none of them
+-- the message may stand in a run: it is on an edge, its chain has at most R signers, of which the sender is
+-- the last and the receiver is none
 pub record IsWellFormed (net : Network) (message : Message) : Type 0 where
   pub on_edge : AreNeighbours net message.from message.to
   pub chain : IsChain net message.order message.path

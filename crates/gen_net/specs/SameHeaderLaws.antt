@@ -90,7 +90,7 @@ network_told m =
     (eq-eqb (choice_number m.choice) (choice_number m.choice) refl)
     ((edges_decide m.edges m.edges).1 refl))
 
--- two networks are the same exactly where the test says so
+-- two networks are the same if and only if the test says so
 pub network_decides : (m n : Network) → Decides (same_network m n) (m ≡ n)
 network_decides m n =
     (network_gives m n, λ e. subst (λ (x : Network). same_network m x ≡ true) e (network_told m))
@@ -114,7 +114,7 @@ header_told h =
     (and_so (same_network h.network h.network) (same_roots h.roots h.roots) (network_told h.network)
     ((roots_decide h.roots h.roots).1 refl))
 
--- two headers are the same exactly where the test says so
+-- two headers are the same if and only if the test says so
 pub header_decides : (h k : RunHeader) → Decides (same_header h k) (h ≡ k)
 header_decides h k =
     (header_gives h k, λ e. subst (λ (x : RunHeader). same_header h x ≡ true) e (header_told h))

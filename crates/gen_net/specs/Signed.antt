@@ -1,5 +1,5 @@
--- Runs in which no loyal signature is forged (assumption A4 of section 4 of the paper of 1982, said of
--- messages).
+-- Runs in which no loyal signature is forged (assumption A4 of section 4 of the paper of 1982, as a condition
+-- on messages).
 use Rattle.std.specs.Prelude.{ℕ, ◌≡◌, ◌<◌, ◌⊎◌, List, [], ◌∷◌, ◌++◌, length, Contains, All}
 use Rattle.gen_net.specs.Network.{Network, IsLoyal}
 use Rattle.gen_types.specs.Ends.{BeginsWith}
@@ -7,8 +7,8 @@ use Rattle.gen_net.specs.declared.message.Message.{Message}
 use Rattle.gen_net.specs.Run.{Run, IsRun}
 use Rattle.gen_net.specs.Follows.{Conduct, Follows}
 
--- The path of the message, up to its last general of the rest, begins the path of a message of the same order
--- that somebody of the rest sent to somebody faulty in a round before.
+-- The message derives from a message of the same order that one of the rest sent to a faulty general in an
+-- earlier round. That message's path begins with this one's path up to its last general of the rest.
 pub record Derivation (net : Network) (faulty : List ℕ) (run : Run) (message : Message)
     : Type 0 where
   pub front : List ℕ
@@ -25,14 +25,14 @@ pub record Derivation (net : Network) (faulty : List ℕ) (run : Run) (message :
   pub earlier : length source.path < length message.path
   pub begun : BeginsWith source.path (front ++ last ∷ [])
 
--- The message forges no loyal signature: its path has nobody of the rest, or it derives from a message of the
+-- The message forges no loyal signature: its path has none of the rest, or it derives from a message of the
 -- rest.
 abbrev pub IsDerivable : Network → List ℕ → Run → Message → Type 0
 IsDerivable net faulty run message =
     All (λ g. IsLoyal net faulty g → ⊥) message.path ⊎ Derivation net faulty run message
 
--- A run for a set of faulty generals: everybody of the rest follows, and every message from a faulty general
--- is derivable.
+-- A run for a set of faulty generals: each of the rest follows the algorithm, and every message from a faulty
+-- general is derivable.
 pub record IsSignedRun (net : Network) (faulty : List ℕ) (run : Run) (conducts : ℕ → Conduct)
     : Type 0 where
   pub run_of_net : IsRun net run

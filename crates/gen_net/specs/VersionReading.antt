@@ -1,4 +1,4 @@
--- Reading a version: a number that is no known one first, then too few bytes.
+-- Reading a version. An unknown number is met first, then too few bytes.
 use Rattle.std.specs.Prelude.{ℕ, ◌==◌, List, Result, Ok, Err, if◌then◌else◌}
 use Rattle.gen_types.specs.Reading.{◌>>=◌}
 use Rattle.gen_types.specs.Bytes.{byte_at}
@@ -8,19 +8,19 @@ use Rattle.gen_net.specs.declared.version.Version.{Version}
 use Rattle.gen_net.specs.declared.version.Version.TheVariants.{One, Two}
 use Rattle.gen_net.specs.Version.{version_one, version_two}
 
--- version 2 with the slot that stands in front
+-- reads the slot of version 2: the version with it and the bytes after it, or Truncated
 unfoldable pub slot_at : List ℕ → Result (Version × List ℕ) HeaderFault
 slot_at bytes = do
   slot ← byte_at Truncated bytes
   Ok (Two slot.0, slot.1)
 
--- the version of this number
+-- reads what follows the number of a version: the version and the bytes after it, or the first fault
 abbrev pub version_behind : ℕ → List ℕ → Result (Version × List ℕ) HeaderFault
 version_behind number rest =
     if number == version_one then Ok (One, rest)
     else (if number == version_two then slot_at rest else Err UnknownVersion)
 
--- a version, and the bytes after it
+-- reads a version: the version and the bytes after it, or the first fault
 unfoldable pub version_at : List ℕ → Result (Version × List ℕ) HeaderFault
 version_at bytes = do
   number ← byte_at Truncated bytes

@@ -3,7 +3,7 @@
 use Rattle.std.specs.Prelude.{ℕ, zero, suc, ◌≡◌, ◌≤◌, List}
 use Rattle.gen_net.specs.Network.{Network, AreNeighbours, IsLoyal}
 
--- a walk of this many edges leads from a to b, each general after a being of the rest
+-- a walk of this many edges leads from a to b, and each general after a is of the rest
 abbrev pub IsWalk : Network → List ℕ → ℕ → ℕ → ℕ → Type 0
 IsWalk net faulty zero a b = a ≡ b
 IsWalk net faulty (suc edges) a b =

@@ -1,4 +1,4 @@
-//! Whether networks and headers are the same.
+//! Whether two networks, or two headers, are the same.
 ghost use Rattle.std.specs.Cmp.{partial_equiv_from_equiv};
 ghost use Rattle.std.specs.Cmp.Lexicographic.{pointwise};
 ghost use Rattle.std.specs.Prelude.{◌≡◌, ◌&&◌, ◌==◌};
@@ -61,7 +61,7 @@ fn have_same_edges(one: &Net, other: &Net) -> bool
     one.choice().number() == other.choice().number() && are_same_edges(one.edges(), other.edges())
 }
 
-/// Two networks are equal exactly where they have the same numbers, the same edges and the same choice.
+/// Two networks are equal if and only if they have the same numbers, the same edges and the same choice.
 impl PartialEq for Net {
     ghost eq = { same_network };
 
@@ -77,7 +77,7 @@ impl Eq for Net {
     ghost laws = { same_network_equiv };
 }
 
-/// Two headers are equal exactly where they have the same version, with its slot, the same network and the same roots.
+/// Two headers are equal if and only if they have the same version, with its slot, the same network and the same roots.
 impl PartialEq for Header {
     ghost eq = { same_header };
 

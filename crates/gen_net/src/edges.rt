@@ -6,7 +6,7 @@ ghost use Rattle.gen_net.specs.Edges.{joins, has_bad_edge, row, edges_of, goes_b
 use gen_types::GeneralNo;
 use std::alloc::{AllocError, Global};
 
-/// Whether a given pair joins a and b.
+/// Whether a given pair joins a and b, in either direction.
 fn is_joined(a: u8, b: u8, given: &[(u8, u8)]) -> bool
     ensures { result ≡ list_any (joins a b) given.now }
 {
@@ -15,7 +15,7 @@ fn is_joined(a: u8, b: u8, given: &[(u8, u8)]) -> bool
         .any(|e| (e.0 == a && e.1 == b) || (e.0 == b && e.1 == a))
 }
 
-/// Whether a given pair is no edge between generals below n, or comes twice.
+/// Whether one of the given pairs is not two different generals below n, or comes twice, in either direction.
 pub fn has_fault(n: u8, given: &[(u8, u8)]) -> bool
     ensures { result ≡ has_bad_edge n given.now }
 {
@@ -29,7 +29,7 @@ pub fn has_fault(n: u8, given: &[(u8, u8)]) -> bool
     false
 }
 
-/// The edge from a to b.
+/// Returns the edge from a to b, both below 16.
 fn edge(a: u8, b: u8) -> (GeneralNo, GeneralNo)
     requires first { a < 16 }
     requires second { b < 16 }
@@ -38,7 +38,7 @@ fn edge(a: u8, b: u8) -> (GeneralNo, GeneralNo)
     (GeneralNo::at(a), GeneralNo::at(b))
 }
 
-/// Appends the edges of general a to greater generals.
+/// Appends the edges of general a to greater generals below n, in ascending order: those that a given pair joins.
 fn push_row(
     edges: &mut Vec<(GeneralNo, GeneralNo)>,
     n: u8,
@@ -58,7 +58,7 @@ fn push_row(
     Ok(())
 }
 
-/// The given edges, each once as (a, b) with a < b, ascending.
+/// Returns the edges between generals below n that the given pairs join: each once as (a, b) with a < b, ascending.
 pub fn edge_list(
     alloc: Global,
     n: u8,
@@ -74,14 +74,15 @@ pub fn edge_list(
     Ok(edges)
 }
 
-/// Whether the edge e stands before the edge f.
+/// Whether the edge e stands before the edge f: its first general is lesser, or the first is the same and its second is
+/// lesser.
 fn is_before(e: (u8, u8), f: (u8, u8)) -> bool
     ensures { result ≡ goes_before e f }
 {
     e.0 < f.0 || (e.0 == f.0 && e.1 < f.1)
 }
 
-/// Whether the edge stands before the first of these, if there is one.
+/// Whether the edge stands before the first of these; yes if there is none.
 fn is_before_first(e: (u8, u8), others: &[(u8, u8)]) -> bool
     ensures { result ≡ goes_first e others.now }
 {
@@ -105,7 +106,7 @@ pub fn stand_in_place(n: u8, edges: &[(u8, u8)]) -> bool
     true
 }
 
-/// The same edges, which stand in their places.
+/// Returns a copy of edges that stand in their places: each (a, b) with a < b < n, ascending strictly.
 pub fn placed_edges(
     alloc: Global,
     n: u8,

@@ -1,4 +1,4 @@
-//! A mark and a header, with which the bytes of several formats begin.
+//! Fronts: a mark and a header, with which the bytes of several formats begin.
 ghost use Rattle.std.specs.Prelude.{◌≡◌, IfOk};
 ghost use Rattle.gen_types.specs.Reading.{map_fault};
 ghost use Rattle.gen_types.specs.Spelled.{IsField};
@@ -16,7 +16,7 @@ use crate::writing::header_bytes;
 use gen_types::{ReadError, check, u8_at, u32_at};
 use std::alloc::{AllocError, Global};
 
-/// The number of the version that the mark says, and the bytes after the mark.
+/// Reads a mark of four bytes, and returns the number of the version that it says and the bytes after it.
 #[tactic(auto, unfolding(crate::specs::FrontReading::mark_at))]
 fn read_mark(marks: Marks, bytes: &[u8]) -> Result<(u8, &[u8]), ReadError<FrontFault>>
     ensures { IsField result (front.mark_at marks bytes.now) }
@@ -31,7 +31,7 @@ fn read_mark(marks: Marks, bytes: &[u8]) -> Result<(u8, &[u8]), ReadError<FrontF
     }
 }
 
-/// A header's fault as one of the front.
+/// Returns a header's fault as a fault of the front: Truncated stays it, any other is BadHeader.
 fn header_fault(fault: HeaderFault) -> FrontFault
     ensures { result ≡ front.header_fault fault }
 {
@@ -41,7 +41,7 @@ fn header_fault(fault: HeaderFault) -> FrontFault
     }
 }
 
-/// The header in front of the bytes, and the bytes after it.
+/// Reads the header in front of the bytes, and returns it and the bytes after it.
 fn read_header_field(alloc: Global, bytes: &[u8]) -> Result<(Header, &[u8]), ReadError<FrontFault>>
     ensures { IsField result (map_fault front.header_fault (header_at bytes.now)) }
 {
@@ -52,12 +52,13 @@ fn read_header_field(alloc: Global, bytes: &[u8]) -> Result<(Header, &[u8]), Rea
     }
 }
 
-/// Returns the header in front of the bytes, whose first byte is the number of this version, and the bytes after it.
+/// Returns the header in front of the bytes, whose first byte must be the number of this version, and the bytes after
+/// it.
 ///
 /// # Errors
 ///
-/// Truncated where there is no first byte; BadHeader(UnknownVersion) where it is another; then the first fault of the
-/// header, as in `read_front`; and Memory where memory was refused before.
+/// Truncated if there is no first byte; BadHeader(UnknownVersion) if it is another number; then the first fault of the
+/// header, as in `read_front`. Memory if memory was refused before.
 #[tactic(auto, unfolding(crate::specs::FrontReading::header_behind))]
 pub fn read_header_of(
     alloc: Global,
@@ -74,11 +75,12 @@ pub fn read_header_of(
     read_header_field(alloc, bytes)
 }
 
-/// Returns the header in front of the bytes, which stands behind the mark of its version, and the bytes after it.
+/// Returns the header in front of the bytes, which stands behind the mark of its version, and the bytes after the
+/// header.
 ///
 /// # Errors
 ///
-/// The first fault of `FrontFault` from left to right; and Memory where memory was refused before.
+/// The first fault of `FrontFault` from left to right; Memory if memory was refused before.
 #[tactic(auto, unfolding(crate::specs::FrontReading::front_at))]
 pub fn read_front(
     alloc: Global,
@@ -91,7 +93,7 @@ pub fn read_front(
     read_header_of(alloc, version, rest)
 }
 
-/// The mark before a header of this version.
+/// Returns the mark before a header of this version.
 fn mark_number(marks: Marks, version: Version) -> u32
     ensures { result ≡ mark_of marks version }
 {
@@ -101,7 +103,8 @@ fn mark_number(marks: Marks, version: Version) -> u32
     }
 }
 
-/// Returns the mark of a header's version, in four bytes, and the header. It fails only where memory was refused.
+/// Returns the mark of a header's version, in four bytes, big-endian, and then the header's bytes. It fails only if
+/// memory was refused.
 pub fn front_bytes(alloc: Global, marks: Marks, header: &Header) -> Result<Vec<u8>, AllocError>
     ensures { IfOk result (λ bytes. bytes.items ≡ front_spelling marks header.now) }
 {

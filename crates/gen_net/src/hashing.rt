@@ -1,4 +1,4 @@
-//! The run id, hashed without memory.
+//! The run id, hashed without taking memory.
 ghost use Rattle.std.specs.Prelude.{◌≡◌, ◌++◌, ◌<◌, List, ℕ, length};
 ghost use Rattle.std.specs.List.{flat_map};
 ghost use Rattle.sha2.specs.Hashers.{Holds256};
@@ -12,10 +12,10 @@ use crate::version::Version;
 use gen_types::GeneralNo;
 use sha2::{Digest, Sha256};
 
-/// The byte before a header, where the run id is hashed.
+/// The byte that is hashed before a header in its run id.
 const RUN_ID_PREFIX: u8 = 0x31;
 
-/// Feeds a hasher with the bytes of a version.
+/// Feeds a hasher with the bytes of a version: its number, and in version 2 the slot.
 fn feed_version(hasher: &mut Sha256, version: Version)
     ensures { (m : List ℕ) → Holds256 hasher.old m
         → Holds256 hasher.new (m ++ version_bytes version) }
@@ -26,7 +26,7 @@ fn feed_version(hasher: &mut Sha256, version: Version)
     }
 }
 
-/// Feeds a hasher with the bytes of edges.
+/// Feeds a hasher with the bytes of edges, two for each.
 fn feed_edges(hasher: &mut Sha256, edges: &[(GeneralNo, GeneralNo)])
     ensures { (m : List ℕ) → Holds256 hasher.old m
         → Holds256 hasher.new (m ++ flat_map edge_bytes edges.now) }
@@ -36,7 +36,7 @@ fn feed_edges(hasher: &mut Sha256, edges: &[(GeneralNo, GeneralNo)])
     }
 }
 
-/// Feeds a hasher with roots.
+/// Feeds a hasher with roots, 32 bytes each.
 fn feed_roots(hasher: &mut Sha256, roots: &[[u8; 32]])
     ensures fed { (m : List ℕ) → Holds256 hasher.old m
         → Holds256 hasher.new (m ++ flat_map (λ root. root) roots.now) }
@@ -47,7 +47,7 @@ fn feed_roots(hasher: &mut Sha256, roots: &[[u8; 32]])
     }
 }
 
-/// The run id of a version, a network and roots.
+/// Returns the run id of the header with this version, this network and these roots.
 #[tactic(auto, unfolding(crate::specs::Header::run_id_of))]
 pub fn run_id_over(version: Version, net: &Net, roots: &[[u8; 32]]) -> [u8; 32]
     ensures value { result ≡ run_id_of

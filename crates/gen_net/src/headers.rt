@@ -1,4 +1,4 @@
-//! Headers.
+//! Headers of runs.
 ghost use Rattle.std.specs.Prelude.{◌≡◌, ◌<◌, length};
 ghost use Rattle.gen_net.specs.declared.version.Version.TheVariants.{One, Two};
 ghost use Rattle.gen_net.specs.Header.{header_with, height_of, slot_of, run_id_of, root_of, IsHeader};
@@ -11,11 +11,11 @@ use gen_types::{GeneralNo, TreeHeight};
 use std::alloc::AllocError;
 use std::marker::Model;
 
-/// What a run is about: a network, for each general the root of his keys, and the version, which says
-/// which leaves of those keys are the run's.
+/// What a run is about: a network, the root of each general's keys, and the version. The version says which leaves of
+/// those keys belong to the run.
 ///
-/// Its hash, the run id, names the run: it stands in everything that is signed in the run. A contract sees
-/// the version, the network and the roots as one record.
+/// The header's hash, the run id, names the run: it stands in everything that is signed in the run. A contract sees the
+/// version, the network and the roots as one record.
 #[derive(Debug, Drop)]
 pub struct Header {
     version: Version,
@@ -40,32 +40,32 @@ impl Model for Header {
 }
 
 impl Header {
-    /// Returns the header of version 1 of a network and the roots of its generals' keys, in their order.
+    /// Returns the header of version 1 of a network and the roots of its generals' keys, in the order of the generals.
     /// It takes no memory.
     ///
     /// # Errors
     ///
-    /// RootCount exactly where there is not one root for each general; both are dropped then.
+    /// RootCount if and only if there is not one root for each general; the network and the roots are dropped then.
     pub fn new(net: Net, roots: Vec<[u8; 32]>) -> Result<Header, HeaderFault>
         ensures { result ≡ header_with One net roots.items }
     {
         Header::of_version(Version::One, net, roots)
     }
 
-    /// Returns the header of version 2 of a network and the roots of its generals' keys, in their order,
-    /// for the run of this slot, 0 to 3. It takes no memory.
+    /// Returns the header of version 2, for the run of this slot (0 to 3), of a network and the roots of its generals'
+    /// keys, in the order of the generals. It takes no memory.
     ///
     /// # Errors
     ///
-    /// RootCount where there is not one root for each general, else SlotRange where the slot is above 3;
-    /// the network and the roots are dropped then.
+    /// RootCount if there is not one root for each general, else SlotRange if the slot is above 3. The network and the
+    /// roots are dropped then.
     pub fn new_in_slot(net: Net, slot: u8, roots: Vec<[u8; 32]>) -> Result<Header, HeaderFault>
         ensures { result ≡ header_with (Two slot) net roots.items }
     {
         Header::of_version(Version::Two { slot }, net, roots)
     }
 
-    /// Returns the header of these, or the first rule that they break.
+    /// Returns the header of this version, network and roots, or the first rule that they break.
     pub(crate) fn of_version(
         version: Version,
         net: Net,
@@ -88,22 +88,21 @@ impl Header {
         })
     }
 
-    /// Returns the version, with the slot where it has one.
+    /// Returns the version, with the slot in version 2.
     pub fn version(&self) -> Version
         ensures { result ≡ self.now.version }
     {
         self.version
     }
 
-    /// Returns the height of the generals' trees of keys: four in version 1, and six in version 2.
+    /// Returns the height of the generals' trees of keys: 4 in version 1, and 6 in version 2.
     pub fn height(&self) -> TreeHeight
         ensures { result ≡ height_of self.now }
     {
         self.version.height()
     }
 
-    /// Returns the slot, 0 to 3, which says which of the runs it is that a tree of keys serves; it is 0 in
-    /// version 1.
+    /// Returns the slot, 0 to 3: which of the runs of one tree of keys this run is. It is 0 in version 1.
     pub fn slot(&self) -> u8
         ensures value { result ≡ slot_of self.now }
         ensures header { IsHeader self.now }
@@ -119,7 +118,7 @@ impl Header {
         &self.net
     }
 
-    /// Returns the root of a general's keys, which is his public key. He must be one of the network's.
+    /// Returns the root of a general's keys, which is its public key. The general must be one of the network's.
     pub fn root(&self, general: GeneralNo) -> &[u8; 32]
         requires { general < self.now.network.generals }
         ensures { result.now ≡ root_of self.now general }
@@ -134,8 +133,7 @@ impl Header {
         self.roots.as_slice()
     }
 
-    /// Returns the run id, which is SHA-256 (FIPS 180-4) of the byte 31 in hexadecimal and the header's
-    /// bytes.
+    /// Returns the run id: SHA-256 (FIPS 180-4) of the byte 31 in hexadecimal and the header's bytes.
     pub fn run_id(&self) -> &[u8; 32]
         ensures { result.now ≡ run_id_of self.now }
     {
@@ -143,7 +141,7 @@ impl Header {
     }
 }
 
-/// A copy is equal to its original. It fails only where memory was refused.
+/// A copy is equal to its original. It fails only if memory was refused.
 impl Clone for Header {
     ghost is_clone = { λ header copy. copy ≡ header };
 

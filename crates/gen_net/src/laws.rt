@@ -5,13 +5,14 @@ ghost use Rattle.gen_net.specs.declared.marks.Marks.{Marks};
 ghost use Rattle.gen_net.specs.Front.{AreMarks, front_spelling};
 ghost use Rattle.gen_net.specs.Header.{IsHeader, header_spelling};
 
-/// Each header has one spelling, and no spelling of a header is the beginning of another: where two byte
-/// strings begin with spellings of headers and are equal, the headers are equal, and so is what follows.
+/// Each header has one spelling, and no spelling of a header is the beginning of another. If two equal byte strings
+/// begin with spellings of headers, the headers are equal, and so is what follows.
 pub fn one_header_spelling()
     ensures { HasOneSpelling IsHeader header_spelling }
 {}
 
-/// The same of a mark and a header, where the two marks are not the same.
+/// Each front, which is a mark and a header, has one spelling, if the two marks of the format are not the same. No
+/// spelling of a front is the beginning of another then.
 pub fn one_front_spelling()
     ensures { (marks : Marks) → AreMarks marks → HasOneSpelling IsHeader (front_spelling marks) }
 {}

@@ -1,9 +1,9 @@
-//! This crate has networks of generals and the headers of runs, and it defines what a run of the signed
-//! message algorithm on one is (sections 4 and 5 of L. Lamport, R. Shostak and M. Pease, "The Byzantine
-//! Generals Problem", ACM TOPLAS 4, 1982).
+//! Networks of generals and the headers of runs. This crate also defines what a run of the signed message algorithm on
+//! a network is (sections 4 and 5 of L. Lamport, R. Shostak and M. Pease, "The Byzantine Generals Problem", ACM TOPLAS
+//! 4, 1982).
 //!
-//! The definitions that the later crates use are in `specs/`: networks, chains, runs, who follows the
-//! algorithm, runs in which no loyal signature is forged, and the logs of followers.
+//! The definitions that the later crates use are in `specs/`. They are networks, chains, runs, the generals that follow
+//! the algorithm, runs in which no loyal signature is forged, and the logs of followers.
 #![tactic(auto)]
 
 mod comparing;

@@ -1,8 +1,7 @@
-//! Marks before headers.
+//! The marks before headers.
 use crate::fault::HeaderFault;
 
-/// The marks of a format: the numbers that its first four bytes are, big-endian, before a header of version 1 and
-/// before one of version 2.
+/// The two marks of a format. A mark is the first four bytes, big-endian, before a header of version 1 or of version 2.
 #[derive(Clone, Copy, Debug, PartialEq, Eq)]
 pub struct Marks {
     /// The mark before a header of version 1.
@@ -18,6 +17,6 @@ pub enum FrontFault {
     Truncated,
     /// The first four bytes are neither of the marks.
     UnknownMark,
-    /// The header breaks this rule; it is UnknownVersion too where its version is not that of the mark.
+    /// The header breaks this rule. UnknownVersion also stands for a header whose version is not that of the mark.
     BadHeader(HeaderFault),
 }

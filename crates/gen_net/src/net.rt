@@ -18,9 +18,9 @@ use std::marker::Model;
 
 /// A network of generals together with the numbers of a run on it (section 5 of the paper of 1982).
 ///
-/// There are n generals, 2 to 16, of whom 0 is the commander, and edges between them. A run is planned
-/// for m traitors, 0 to 8, and for the diameter d, 1 to 15, with m + d at most 16. There are q orders,
-/// 2 to 15, and one choice. A contract sees all of these as one record.
+/// There are n generals (2 to 16), with general 0 as the commander, and edges between them. A run is planned for m
+/// traitors (0 to 8) and for the diameter d (1 to 15), with m + d at most 16. There are q orders (2 to 15) and one
+/// choice. A contract sees all of these as one record.
 #[derive(Debug, Drop)]
 pub struct Net {
     generals: u8,
@@ -55,14 +55,15 @@ impl Model for Net {
     }) };
 }
 
-/// Whether the number is one of these two, or between them.
+/// Whether a number is at least the first of two numbers and at most the second.
 fn lies_between(least: u8, greatest: u8, number: u8) -> bool
     ensures { result ≡ is_within least greatest number }
 {
     least <= number && number <= greatest
 }
 
-/// The choice of these numbers, where they are in their ranges and the edges are good.
+/// Returns the choice of these numbers, if they are in their ranges and the edges are good; else the first rule of
+/// `HeaderFault` that they break.
 #[tactic(auto, unfolding(crate::specs::NetworkOf::ranges_of))]
 fn ranges(numbers: NetNumbers, good_edges: bool) -> Result<ChoiceKind, ReadError<HeaderFault>>
     ensures { IsRead result (ranges_of numbers good_edges) }
@@ -96,12 +97,12 @@ fn ranges(numbers: NetNumbers, good_edges: bool) -> Result<ChoiceKind, ReadError
 }
 
 impl Net {
-    /// Returns the network of n generals with these edges, which come in any order and direction, planned
-    /// for m traitors and diameter d, with q orders and the choice of this number.
+    /// Returns the network of n generals with these edges, which come in any order and direction. It is planned for m
+    /// traitors and the diameter d, with q orders and the choice of this number.
     ///
     /// # Errors
     ///
-    /// The first rule of `HeaderFault` that they break, and Memory where memory was refused before.
+    /// The first rule of `HeaderFault` that they break; Memory if memory was refused before.
     #[tactic(auto, unfolding(crate::specs::NetworkOf::network_of))]
     pub fn new(
         alloc: Global,
@@ -132,7 +133,8 @@ impl Net {
         Ok(Net::of_parts(numbers, edge_list(alloc, n, edges)?, choice))
     }
 
-    /// Returns the same of edges that have to stand in their places: each (a, b) with a < b, and ascending.
+    /// Returns the network of these numbers and edges, which have to stand in their places: each (a, b) with a < b,
+    /// ascending. Otherwise it returns the first rule of `HeaderFault` that they break.
     #[tactic(auto, unfolding(crate::specs::NetworkOf::network_in_place))]
     pub(crate) fn in_place(
         alloc: Global,
@@ -146,7 +148,8 @@ impl Net {
         Ok(Net::of_parts(numbers, edges, choice))
     }
 
-    /// Returns the network of these parts, whose numbers are in their ranges and whose edges are in their places.
+    /// Returns the network of these parts, whose numbers must be in their ranges and whose edges must stand in their
+    /// places.
     fn of_parts(numbers: NetNumbers, edges: Vec<(GeneralNo, GeneralNo)>, choice: ChoiceKind) -> Net
         requires { IsNetwork (network_with numbers edges.items choice) }
         ensures { result ≡ network_with numbers edges.items choice }
@@ -221,8 +224,8 @@ impl Net {
         self.edges.contains(&(a, b)) || self.edges.contains(&(b, a))
     }
 
-    /// Returns the set of the generals whom an edge joins to this one; it is empty for a general of
-    /// another network.
+    /// Returns the set of the generals that an edge joins to this one; it is empty for a general that is not the
+    /// network's.
     pub fn neighbours(&self, general: GeneralNo) -> GeneralSet
         ensures { IsListOf result (AreNeighbours self.now general) }
     {
@@ -236,7 +239,7 @@ impl Net {
         set
     }
 
-    /// Returns the generals of the network who aren't among the faulty.
+    /// Returns the set of the network's generals that aren't among the faulty.
     pub fn rest(&self, faulty: &GeneralSet) -> GeneralSet
         ensures { IsListOf result (IsLoyal self.now faulty.now) }
     {
@@ -251,7 +254,7 @@ impl Net {
     }
 }
 
-/// A copy is equal to its original. It fails only where memory was refused.
+/// A copy is equal to its original. It fails only if memory was refused.
 impl Clone for Net {
     ghost is_clone = { λ net copy. copy ≡ net };
 

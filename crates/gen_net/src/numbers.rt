@@ -1,8 +1,8 @@
-//! The numbers of a network, as they are given.
+//! The numbers of a network, as they are given by a caller or by bytes.
 
 /// The numbers that a network is made of besides its edges, in the order of a header's bytes.
 ///
-/// They are as they were given, in no certain range: `Net::new` says which of them make a network.
+/// They may be out of range: `Net::new` says which of them make a network.
 #[derive(Clone, Copy, Debug, PartialEq, Eq)]
 pub struct NetNumbers {
     /// The number of generals, n.

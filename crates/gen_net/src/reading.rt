@@ -1,4 +1,4 @@
-//! Reading headers.
+//! Reads headers from bytes.
 ghost use Rattle.std.specs.Prelude.{List, ℕ, length, IfOk, Ok};
 ghost use Rattle.gen_types.specs.Reading.{Gives};
 ghost use Rattle.gen_types.specs.Spelled.{StandsInFront, IsReadFrom, counted, IsRead, IsField};
@@ -17,7 +17,7 @@ use crate::version::Version;
 use gen_types::{ReadError, bytes_at, u8_at};
 use std::alloc::Global;
 
-/// What stands after the version.
+/// The parts of a header after its version.
 #[derive(Drop)]
 struct Parts {
     numbers: NetNumbers,
@@ -25,7 +25,7 @@ struct Parts {
     roots: Vec<[u8; 32]>,
 }
 
-/// The version behind its number, and the bytes after it.
+/// Reads the slot of version 2, and returns the version with it and the bytes after it.
 #[tactic(auto, unfolding(crate::specs::VersionReading::slot_at))]
 fn read_slot(bytes: &[u8]) -> Result<(Version, &[u8]), ReadError<HeaderFault>>
     ensures { IsField result (slot_at bytes.now) }
@@ -34,7 +34,7 @@ fn read_slot(bytes: &[u8]) -> Result<(Version, &[u8]), ReadError<HeaderFault>>
     Ok((Version::Two { slot }, rest))
 }
 
-/// The version, with the slot where it has one, and the bytes after it.
+/// Reads the version, with the slot in version 2, and returns it and the bytes after it.
 #[tactic(auto, unfolding(crate::specs::VersionReading::version_at))]
 fn read_version(bytes: &[u8]) -> Result<(Version, &[u8]), ReadError<HeaderFault>>
     ensures { IsField result (version_at bytes.now) }
@@ -47,7 +47,7 @@ fn read_version(bytes: &[u8]) -> Result<(Version, &[u8]), ReadError<HeaderFault>
     }
 }
 
-/// The numbers of a network, a byte each.
+/// Reads the numbers of a network, a byte each, and returns them and the bytes after them.
 #[tactic(auto, unfolding(crate::specs::NetworkReading::numbers_at))]
 fn read_numbers(bytes: &[u8]) -> Result<(NetNumbers, &[u8]), ReadError<HeaderFault>>
     ensures { IsField result (numbers_at bytes.now) }
@@ -67,7 +67,7 @@ fn read_numbers(bytes: &[u8]) -> Result<(NetNumbers, &[u8]), ReadError<HeaderFau
     Ok((numbers, rest))
 }
 
-/// One edge, as it stands.
+/// Reads one edge, two bytes as they stand, and returns it and the bytes after it.
 #[tactic(auto, unfolding(crate::specs::NetworkReading::edge_at))]
 fn read_edge(bytes: &[u8]) -> Result<((u8, u8), &[u8]), ReadError<HeaderFault>>
     ensures { IsField result (edge_at bytes.now) }
@@ -77,7 +77,7 @@ fn read_edge(bytes: &[u8]) -> Result<((u8, u8), &[u8]), ReadError<HeaderFault>>
     Ok(((low, high), rest))
 }
 
-/// One root.
+/// Reads one root, 32 bytes, and returns it and the bytes after it.
 fn read_root(bytes: &[u8]) -> Result<([u8; 32], &[u8]), ReadError<HeaderFault>>
     ensures { IsField result (root_at bytes.now) }
 {
@@ -87,7 +87,7 @@ fn read_root(bytes: &[u8]) -> Result<([u8; 32], &[u8]), ReadError<HeaderFault>>
     Ok((root, rest))
 }
 
-/// This many edges.
+/// Reads this many edges, and returns them and the bytes after them.
 fn read_many_edges(
     alloc: Global,
     count: u8,
@@ -105,7 +105,7 @@ fn read_many_edges(
     Ok((edges, rest))
 }
 
-/// The edges behind their number.
+/// Reads the edges behind their number, and returns them and the bytes after them.
 #[tactic(auto, unfolding(crate::specs::NetworkReading::edges_at))]
 fn read_edges(alloc: Global, bytes: &[u8]) -> Result<(Vec<(u8, u8)>, &[u8]), ReadError<HeaderFault>>
     ensures { Gives (λ x. (x.0.items, x.1.now)) result (edges_at bytes.now) }
@@ -114,7 +114,7 @@ fn read_edges(alloc: Global, bytes: &[u8]) -> Result<(Vec<(u8, u8)>, &[u8]), Rea
     read_many_edges(alloc, count, rest)
 }
 
-/// This many roots.
+/// Reads this many roots, and returns them and the bytes after them.
 fn read_roots(
     alloc: Global,
     count: u8,
@@ -132,7 +132,7 @@ fn read_roots(
     Ok((roots, rest))
 }
 
-/// What stands after the version.
+/// Reads the numbers, edges and roots after a version, and returns them and the bytes after them.
 #[tactic(auto, unfolding(crate::specs::HeaderReading::parts_at))]
 fn read_parts(alloc: Global, bytes: &[u8]) -> Result<(Parts, &[u8]), ReadError<HeaderFault>>
     ensures { Gives (λ x. (
@@ -155,7 +155,7 @@ fn read_parts(alloc: Global, bytes: &[u8]) -> Result<(Parts, &[u8]), ReadError<H
     Ok((parts, rest))
 }
 
-/// The header in front of the bytes, and the bytes after it.
+/// Reads the header in front of the bytes, and returns it and the bytes after it.
 #[tactic(auto, unfolding(crate::specs::HeaderReading::header_at))]
 fn header_in_front(alloc: Global, bytes: &[u8]) -> Result<(Header, &[u8]), ReadError<HeaderFault>>
     ensures { IsField result (header_at bytes.now) }
@@ -174,7 +174,7 @@ fn header_in_front(alloc: Global, bytes: &[u8]) -> Result<(Header, &[u8]), ReadE
     }
 }
 
-/// The header in front of the bytes, and how many bytes it has.
+/// Reads the header in front of the bytes, and returns it and its number of bytes.
 fn counted_header(alloc: Global, bytes: &[u8]) -> Result<(Header, usize), ReadError<HeaderFault>>
     ensures { IsRead result (counted header_at bytes.now) }
 {
@@ -182,20 +182,20 @@ fn counted_header(alloc: Global, bytes: &[u8]) -> Result<(Header, usize), ReadEr
     Ok((header, bytes.len() - rest.len()))
 }
 
-/// Returns the header in front of the bytes, and how many bytes it has; more may follow it.
+/// Returns the header in front of the bytes, and its number of bytes; more bytes may follow it.
 ///
 /// # Errors
 ///
-/// UnknownVersion where there is a first byte and it is neither 1 nor 2; then Truncated where the bytes
-/// end before the header does; then the first rule of `HeaderFault` that its network breaks; then
-/// SlotRange where it is of version 2 with a slot above 3. Memory where memory was refused before.
+/// UnknownVersion if there is a first byte and it is neither 1 nor 2; then Truncated if the bytes end before the header
+/// does. Then comes the first rule of `HeaderFault` that its network breaks, and then SlotRange if it is of version 2
+/// with a slot above 3. Memory if memory was refused before.
 pub fn read_header(alloc: Global, bytes: &[u8]) -> Result<(Header, usize), ReadError<HeaderFault>>
-    // What is read stands there.
+    // If a header is read, its spelling begins the bytes.
     ensures found { IfOk result (IsReadFrom IsHeader header_spelling bytes.now) }
-    // What stands there is read, unless memory runs out.
+    // If the spelling of a header begins the bytes, that header is read, unless memory runs out.
     ensures only { (h : RunHeader) → StandsInFront IsHeader header_spelling bytes.now h
         → IsRead result (Ok (h, length (header_spelling h))) }
-    // Which fault it is.
+    // The answer, and so the fault, is that of `header_at`.
     ensures exact { IsRead result (counted header_at bytes.now) }
 {
     counted_header(alloc, bytes)

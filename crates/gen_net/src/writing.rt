@@ -1,4 +1,4 @@
-//! Writing headers.
+//! Writes headers as bytes.
 ghost use Rattle.std.specs.Prelude.{◌≡◌, ◌++◌, IfOk, OnOk};
 ghost use Rattle.std.specs.List.{flat_map};
 ghost use Rattle.gen_net.specs.Header.{header_spelling, IsHeader};
@@ -14,7 +14,7 @@ use crate::version::Version;
 use gen_types::GeneralNo;
 use std::alloc::{AllocError, Global};
 
-/// Appends the bytes of a version.
+/// Appends the bytes of a version: its number, and in version 2 the slot.
 fn put_version(out: &mut Vec<u8>, version: Version) -> Result<(), AllocError>
     ensures { OnOk result (out.new.items ≡ out.old.items ++ version_bytes version) }
 {
@@ -24,7 +24,7 @@ fn put_version(out: &mut Vec<u8>, version: Version) -> Result<(), AllocError>
     }
 }
 
-/// Appends the bytes of edges.
+/// Appends the bytes of edges, two for each.
 fn put_edges(out: &mut Vec<u8>, edges: &[(GeneralNo, GeneralNo)]) -> Result<(), AllocError>
     ensures { OnOk result (out.new.items ≡ out.old.items ++ flat_map edge_bytes edges.now) }
 {
@@ -34,7 +34,7 @@ fn put_edges(out: &mut Vec<u8>, edges: &[(GeneralNo, GeneralNo)]) -> Result<(), 
     Ok(())
 }
 
-/// Appends roots.
+/// Appends roots, 32 bytes each.
 fn put_roots(out: &mut Vec<u8>, roots: &[[u8; 32]]) -> Result<(), AllocError>
     ensures { OnOk result (out.new.items ≡ out.old.items ++ flat_map (λ root. root) roots.now) }
 {
@@ -44,9 +44,9 @@ fn put_roots(out: &mut Vec<u8>, roots: &[[u8; 32]]) -> Result<(), AllocError>
     Ok(())
 }
 
-/// Returns the one spelling of a header: 1 in version 1, or 2 and the slot in version 2; n, m, d, q, the
-/// choice and the number of edges, a byte each; two bytes for each edge; 32 for each root. It fails only
-/// where memory was refused.
+/// Returns the one spelling of a header. It begins with 1 in version 1, or with 2 and the slot in version 2. Then come
+/// n, m, d, q, the choice and the number of edges, a byte each, two bytes for each edge, and 32 bytes for each root. It
+/// fails only if memory was refused.
 pub fn header_bytes(alloc: Global, header: &Header) -> Result<Vec<u8>, AllocError>
     ensures spelled { IfOk result (λ bytes. bytes.items ≡ header_spelling header.now) }
     ensures header { IsHeader header.now }

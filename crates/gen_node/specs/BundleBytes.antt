@@ -7,6 +7,6 @@ use Rattle.gen_audit.specs.declared.bundle_fault.BundleFault.{BundleFault}
 use Rattle.gen_audit.specs.BundleMaking.{bundle_with}
 use Rattle.gen_audit.specs.BundleSpelling.{bundle_spelling}
 
--- or the first rule of a bundle that the parts break
+-- the bytes of the bundle of these parts, or the first rule of a bundle that the parts break
 abbrev pub bundle_bytes : RunHeader → List ℕ → List (List ℕ) → List LogBytes → Result (List ℕ) BundleFault
 bundle_bytes h faulty walks logs = bundle_with h faulty walks logs >>= (λ b. Ok (bundle_spelling b))

@@ -3,7 +3,7 @@ use Rattle.std.specs.Prelude.{ℕ}
 use Rattle.gen_node.specs.declared.frame_fault.FrameFault.{FrameFault}
 use Rattle.gen_node.specs.declared.frame_fault.FrameFault.TheVariants as faults
 
--- as its text has it
+-- the number of a fault, as its text `F1` to `F8` has it
 abbrev pub fault_number : FrameFault → ℕ
 fault_number faults.NotAwaited = 1
 fault_number faults.Twice = 2

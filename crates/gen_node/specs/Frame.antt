@@ -1,48 +1,48 @@
--- Frames: what each keeps, and its one spelling in bytes.
+-- Frames: what a frame keeps, and its one spelling in bytes.
 use Rattle.std.specs.Prelude.{ℕ, ◌≡◌, ◌<◌, ◌^◌, List, [], ◌∷◌, ◌++◌, length}
 use Rattle.std.specs.List.{flat_map, AllByRecursion}
 use Rattle.std.specs.Int.{w16, w32, to_be_bytes}
 use Rattle.gen_node.specs.declared.frames.FrameFront.{FrameFront}
 
--- which frame it is, and its parcels
+-- a frame: its front, and its parcels
 pub record Frame : Type 0 where
   pub front : FrameFront
   pub parcels : List (List ℕ)
 
--- the mark: the bytes of SMF1 as a number
+-- the mark: the four bytes of SMF1 as a big-endian number
 abbrev pub frame_mark : ℕ
 frame_mark = 1397573169
 
--- the bytes of a run id
+-- the number of bytes of a run id
 abbrev pub run_id_length : ℕ
 run_id_length = 32
 
--- each of its numbers is a byte, and its run id has 32
+-- the run id has 32 numbers, and the round, the sender and the receiver are bytes
 pub record IsFront (f : FrameFront) : Type 0 where
   pub run_id : length f.run_id ≡ run_id_length
   pub round : f.round < 256
   pub from : f.from < 256
   pub to : f.to < 256
 
--- a parcel's length fits into its four bytes
+-- the parcel's length fits into four bytes
 abbrev pub IsParcel : List ℕ → Type 0
 IsParcel parcel = length parcel < 2 ^ 32
 
--- the number of parcels fits into its two bytes
+-- the front fits, the number of parcels fits into two bytes, and each parcel's length into four
 pub record IsFrame (f : Frame) : Type 0 where
   pub front : IsFront f.front
   pub few : length f.parcels < 2 ^ 16
   pub short : AllByRecursion IsParcel f.parcels
 
--- the mark, the run id, the round, the sender and the receiver
+-- the spelling of a front: the mark, the run id, the round, the sender and the receiver
 abbrev pub front_spelling : FrameFront → List ℕ
 front_spelling f = to_be_bytes w32 frame_mark ++ (f.run_id ++ f.round ∷ f.from ∷ f.to ∷ [])
 
--- a parcel behind its length
+-- the spelling of a parcel: its length in four bytes, and the parcel
 abbrev pub parcel_spelling : List ℕ → List ℕ
 parcel_spelling parcel = to_be_bytes w32 (length parcel) ++ parcel
 
--- the front, the number of parcels, and these
+-- the spelling of a frame: its front, the number of parcels in two bytes, and the parcels
 abbrev pub frame_spelling : Frame → List ℕ
 frame_spelling f =
     front_spelling f.front ++ (to_be_bytes w16 (length f.parcels) ++ flat_map parcel_spelling f.parcels)

@@ -8,14 +8,14 @@ use Rattle.gen_node.specs.declared.frame_fault.FrameFault.{FrameFault}
 use Rattle.gen_node.specs.declared.frame_fault.FrameFault.TheVariants as faults
 use Rattle.gen_node.specs.Frame.{Frame, frame_mark, run_id_length}
 
--- the mark, and the run id behind it
+-- reads the mark and the run id: the run id and the bytes after it, or the first fault
 unfoldable pub run_at : List ℕ → Result (List ℕ × List ℕ) FrameFault
 run_at bytes = do
   mark ← number_at faults.Truncated w32 bytes
   known ← check (mark.0 == frame_mark) faults.UnknownMark
   bytes_at faults.Truncated run_id_length mark.1
 
--- which frame it is
+-- reads the front of a frame: the front and the bytes after it, or the first fault
 unfoldable pub front_at : List ℕ → Result (FrameFront × List ℕ) FrameFault
 front_at bytes = do
   run ← run_at bytes
@@ -24,13 +24,13 @@ front_at bytes = do
   to ← byte_at faults.Truncated from.1
   Ok (record { run_id = run.0; round = round.0; from = from.0; to = to.0 }, to.1)
 
--- a parcel behind its length
+-- reads a parcel behind its length: the parcel and the bytes after it, or the first fault
 unfoldable pub parcel_at : List ℕ → Result (List ℕ × List ℕ) FrameFault
 parcel_at bytes = do
   size ← number_at faults.Truncated w32 bytes
   bytes_at faults.Truncated size.0 size.1
 
--- a frame, and the bytes after it
+-- reads a frame: the frame and the bytes after it, or the first fault
 unfoldable pub frame_at : List ℕ → Result (Frame × List ℕ) FrameFault
 frame_at bytes = do
   front ← front_at bytes
@@ -38,7 +38,7 @@ frame_at bytes = do
   parcels ← many_at parcel_at count.0 count.1
   Ok (record { front = front.0; parcels = parcels.0 }, parcels.1)
 
--- the frame that the whole of the bytes is
+-- reads all the bytes as one frame: the frame, or the first fault
 unfoldable pub whole_frame : List ℕ → Result Frame FrameFault
 whole_frame bytes = do
   frame ← frame_at bytes

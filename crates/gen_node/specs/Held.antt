@@ -1,16 +1,16 @@
--- Parcels that a node holds for or of its neighbours.
+-- Parcels that a node holds for a neighbour or has from it.
 use Rattle.std.specs.Prelude.{ℕ, ◌==◌, if◌then◌else◌, List, [], ◌∷◌, Option, Some, None, unwrap_or}
 
--- a neighbour, and the parcels of the frame to him or from him
+-- a neighbour, and the parcels of the frame to it or from it
 pub record Held : Type 0 where
   pub general : ℕ
   pub parcels : List (List ℕ)
 
--- the parcels that are held of a general, if any are
+-- the parcels of the first entry for a general, if there is one
 unfoldable pub held_of : ℕ → List Held → Option (List (List ℕ))
 held_of g [] = None
 held_of g (h ∷ others) = if h.general == g then Some h.parcels else held_of g others
 
--- his frame: one of whom nothing is held sent nothing
+-- the parcels of a general's frame: none if there is no entry for it, as if it sent nothing
 abbrev pub frame_in : ℕ → List Held → List (List ℕ)
 frame_in g rows = unwrap_or (held_of g rows) []

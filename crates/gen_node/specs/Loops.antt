@@ -1,2 +1,2 @@
--- Definitions that only the functions inside speak of.
+-- Definitions that only the inner functions of the crate use.
 pub mod Kept

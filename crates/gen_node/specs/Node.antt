@@ -1,4 +1,4 @@
--- One general who is driven from outside, as he stands between calls, and what each call makes of him.
+-- A node as it stands between calls, and what each call makes of it.
 use Rattle.std.specs.Prelude.{ℕ, ◌≡◌, ◌-◌, ◌==◌, ◌&&◌, not, Bool, true, false, List, [], ◌∷◌, ◌++◌}
 use Rattle.std.specs.Prelude.{Option, Some, Result, Ok, is_some, nat_lt}
 use Rattle.std.specs.List.{range_with_len}
@@ -25,13 +25,13 @@ use Rattle.gen_node.specs.Frame.{Frame}
 use Rattle.gen_node.specs.FrameReading.{whole_frame}
 use Rattle.gen_node.specs.Held.{Held, held_of, frame_in}
 
--- how he stands with his log, where in a round he is, and the frames of this round that were handed in
+-- a node: its recorder, its stage in the round, and the frames of this round that were handed in
 pub record Node : Type 0 where
   pub recorder : Recorder
   pub stage : Stage
   pub inbox : List Held
 
--- before the first round
+-- the node of general g before the first round, with an order of its own (for the commander) and a ring
 abbrev pub node_at_start : RunHeader → ℕ → Option ℕ → Ring → Node
 node_at_start h g own ring = record {
   recorder = recorder_at_start (followers_part h g own) (Some ring);
@@ -39,14 +39,14 @@ node_at_start h g own ring = record {
   inbox = [];
 }
 
--- ---- of what there is a node
+-- ---- when there is a node
 
 -- the ring of a seed for a run, from which no leaf was taken
 abbrev pub fresh_ring : RunHeader → List ℕ → Ring
 fresh_ring h seed = record { seed = seed; height = height_of h; taken = [] }
 
--- the ring has the height of the header's version, he is one of its generals, with an order exactly where he
--- commands, and the header has the root of his keys
+-- The ring has the height of the header's version. g is one of the header's generals, with an order if and
+-- only if it is the commander. The header has the root of its keys.
 pub record MayBeNode (h : RunHeader) (g : ℕ) (own : Option ℕ) (ring : Ring) : Type 0 where
   pub height : ring.height ≡ height_of h
   pub general : CanFollow h g own
@@ -60,16 +60,16 @@ IsRefused h g own ring NoGeneral = (ring.height ≡ height_of h) × (CanFollow h
 IsRefused h g own ring OtherRoot =
     (ring.height ≡ height_of h) × CanFollow h g own × (ring_root ring.seed ring.height ≡ root_of h g → ⊥)
 
--- ---- whom and what he knows
+-- ---- what a node knows of the run
 
 abbrev pub header_at : Recorder → RunHeader
 header_at r = r.standing.known.header
 
--- those of these generals who are his neighbours
+-- the node's neighbours among these generals
 abbrev pub near_at : Recorder → List ℕ → List ℕ
 near_at r gs = near_of (header_at r).network r.standing.known.me gs
 
--- the generals from a number on, and all
+-- all generals from a number on
 abbrev pub from_on : Recorder → ℕ → List ℕ
 from_on r next = range_with_len next ((header_at r).network.generals - next)
 
@@ -78,12 +78,12 @@ neighbours_at r = neighbours_of (header_at r).network r.standing.known.me
 
 -- ---- a round begins
 
--- he sends to these one after another
+-- the recorder after it has sent to these generals one after another
 unfoldable pub sends_all : List ℕ → Recorder → Recorder
 sends_all [] r = r
 sends_all (to ∷ tos) r = sends_all tos (with_sends r to)
 
--- he has sent to all from a number on
+-- the node after it has sent to all its neighbours from a number on: the round is open
 abbrev pub sent_from : ℕ → Node → Node
 sent_from next n = record {
   recorder = sends_all (near_at n.recorder (from_on n.recorder next)) n.recorder;
@@ -91,7 +91,7 @@ sent_from next n = record {
   inbox = n.inbox;
 }
 
--- what may begin, or go on with it: there is another round, or one is half begun
+-- a round may begin, or a half begun one may go on: there is another round, or one is half begun
 abbrev pub begins_in : Stage → ℕ → ℕ → Bool
 begins_in Between round all = nat_lt round all
 begins_in (Sending next) round all = true
@@ -101,14 +101,14 @@ begins_in (Hearing next) round all = false
 abbrev pub may_begin : Node → Bool
 may_begin n = begins_in n.stage n.recorder.standing.round (rounds (header_at n.recorder).network)
 
--- he has signed what he signs in the next round, and nothing was handed in
+-- the node has signed what it signs in the next round, and nothing was handed in yet
 pub record HasSigned (old new : Node) : Type 0 where
   pub signs : RecordsRound old.recorder new.recorder
   pub stage : new.stage ≡ Sending 0
   pub inbox : new.inbox ≡ []
 
--- The round has begun: he has signed, and made the frames to all his neighbours; where it was half begun,
--- those that were left.
+-- The round has begun: the node has signed, and made the frames to all its neighbours. If the round was half
+-- begun, it has made the frames that were left.
 abbrev pub IsBegunFrom : Stage → Node → Node → Type 0
 IsBegunFrom Between old new = (signed : Node) × HasSigned old signed × (new ≡ sent_from 0 signed)
 IsBegunFrom (Sending next) old new = new ≡ sent_from next old
@@ -124,15 +124,15 @@ abbrev pub is_open : Stage → Bool
 is_open Open = true
 is_open _ = false
 
--- a frame goes out to a general and is awaited of him: a round is open, and he is a neighbour
+-- a frame goes out to a general and one from it is awaited: a round is open, and the general is a neighbour
 abbrev pub awaits : Node → ℕ → Bool
 awaits n g = is_open n.stage && is_among (neighbours_at n.recorder) g
 
--- his frame is awaited still: none of him was handed in
+-- a frame from this general is still awaited: none was handed in for it
 abbrev pub is_awaited : Node → ℕ → Bool
 is_awaited n from = awaits n from && not (is_some (held_of from n.inbox))
 
--- the frame of this round to a neighbour
+-- the node's frame of this round to a neighbour
 abbrev pub frame_to : Recorder → ℕ → Frame
 frame_to r to = record {
   front = record {
@@ -144,14 +144,14 @@ frame_to r to = record {
   parcels = sends r.standing to;
 }
 
--- it is the frame of this run and round from this general to him
+-- checks that the front is of this run and round, from this general to the node: the first fault if not
 unfoldable pub front_check : Recorder → ℕ → FrameFront → Result (Unit {0}) FrameFault
 front_check r from f = do
   run ← check (bytes_eq f.run_id (run_id_of (header_at r))) faults.OtherRun
   round ← check (f.round == r.standing.round) faults.OtherRound
   check (f.from == from && f.to == r.standing.known.me) faults.OtherEnds
 
--- the frame that bytes are which are handed in for a general, or why it isn't taken
+-- the frame that is handed in as bytes for a general, or why it isn't taken
 unfoldable pub awaited : Node → ℕ → List ℕ → Result Frame FrameFault
 awaited n from bytes = do
   known ← check (awaits n from) faults.NotAwaited
@@ -160,7 +160,7 @@ awaited n from bytes = do
   his ← front_check n.recorder from frame.front
   Ok frame
 
--- when it is taken
+-- the node after a frame with these parcels was taken from a general
 abbrev pub with_arrival : Node → ℕ → List (List ℕ) → Node
 with_arrival n from parcels = record {
   recorder = n.recorder;
@@ -168,18 +168,19 @@ with_arrival n from parcels = record {
   inbox = n.inbox ++ record { general = from; parcels = parcels } ∷ [];
 }
 
--- what he is when bytes were handed in for a general, or why they aren't taken
+-- the node after bytes were handed in for a general, or why they aren't taken
 abbrev pub handed : Node → ℕ → List ℕ → Result Node FrameFault
 handed n from bytes = awaited n from bytes >>= (λ frame. Ok (with_arrival n from frame.parcels))
 
 -- ---- a round ends
 
--- he hears these one after another
+-- the recorder after it has heard these generals one after another
 unfoldable pub hears_all : (ℕ → List (List ℕ)) → List ℕ → Recorder → Recorder
 hears_all frames [] r = r
 hears_all frames (from ∷ froms) r = hears_all frames froms (with_recvs r from (frames from))
 
--- he has heard all from a number on, and of whom nothing was handed in as of one who sent nothing
+-- the node after it has heard all its neighbours from a number on, the round being ended; a neighbour for
+-- which nothing was handed in counts as one that sent nothing
 abbrev pub heard_from : ℕ → Node → Node
 heard_from next n = record {
   recorder = hears_all (λ from. frame_in from n.inbox)
@@ -188,7 +189,7 @@ heard_from next n = record {
   inbox = [];
 }
 
--- the first whom he has still to hear
+-- the first general that is still to be heard
 abbrev pub next_heard : Stage → ℕ
 next_heard (Hearing next) = next
 next_heard _ = 0
@@ -196,7 +197,7 @@ next_heard _ = 0
 abbrev pub ended : Node → Node
 ended n = heard_from (next_heard n.stage) n
 
--- a round is open, or one is half ended
+-- a round may end: one is open, or one is half ended
 abbrev pub ends_in : Stage → Bool
 ends_in Between = false
 ends_in (Sending next) = false
@@ -215,7 +216,7 @@ over_in _ round all = false
 abbrev pub is_over : Node → Bool
 is_over n = over_in n.stage n.recorder.standing.round (rounds (header_at n.recorder).network)
 
--- what he decides
+-- what the node decides
 abbrev pub decision_of_node : Recorder → Decision
 decision_of_node r =
     decided_by (header_at r).network r.standing.known.me r.standing.known.own r.standing.heard

@@ -1,5 +1,5 @@
--- Laws of nodes: one who is driven as a scenario says is its general, and nodes that hand their frames to
--- each other make its run.
+-- Laws of nodes. A node that is driven as a scenario says is the scenario's general. Nodes that hand their
+-- frames to each other make the scenario's run.
 use Rattle.std.specs.Prelude.{ℕ, ◌≡◌, ◌<◌, ◌+◌, List, [], ◌∷◌, map, Contains, None, Ok}
 use Rattle.std.specs.List.{range_with_len}
 use Rattle.gen_types.specs.Spelled.{Spells}
@@ -32,55 +32,56 @@ use Rattle.gen_node.specs.Node.{node_at_start, with_arrival}
 
 -- ---- one node
 
--- he is this general of the scenario after the first k rounds
+-- the node is general g of the scenario after the first k rounds
 pub record IsAfter (s : Scenario) (k g : ℕ) (n : Node) : Type 0 where
   pub records : RecordsAfter s k g n.recorder
   pub unscripted : n.recorder.standing.known.script ≡ None
   pub stage : n.stage ≡ Between
 
--- he is that general within the round after the first k, which is open
+-- the node is general g of the scenario within the round after the first k, which is open
 pub record IsWithin (s : Scenario) (k g : ℕ) (n : Node) : Type 0 where
   pub records : HasHeard s k g [] n.recorder
   pub unscripted : n.recorder.standing.known.script ≡ None
   pub stage : n.stage ≡ Open
 
--- the frame of a round between two generals
+-- the scenario's frame of a round between two generals
 abbrev pub frame_between : Scenario → ℕ → ℕ → ℕ → Frame
 frame_between s round from to = record {
   front = record { run_id = run_id_of (header_of s); round = round; from = from; to = to };
   parcels = frame_at s round from to;
 }
 
--- his neighbours' frames of the round after the first k were handed in; of whom none was handed in sent
--- nothing
+-- the neighbours' frames of the round after the first k were handed in to the node; a neighbour for which
+-- none was handed in sent no parcel
 abbrev pub HoldsRound : Scenario → ℕ → ℕ → Node → Type 0
 HoldsRound s k g n =
     (from : ℕ) → Contains (neighbours_of s.net g) from → frame_in from n.inbox ≡ frame_at s (k + 1) from g
 
--- with the scenario's header, his order and the ring of his seed he is its general
+-- a node that starts with the scenario's header, the general's own order and the ring of its seed is that
+-- general before the first round
 abbrev pub NodesStart : Type 0
 NodesStart =
     (s : Scenario) (g : ℕ) (ring : Ring) → IsScenario s → script_of s.scripts g ≡ None
     → ring.seed ≡ seed_of s.master g → IsAfter s 0 g (node_at_start (header_of s) g (own_order s g) ring)
 
--- and stays it: when a round begins,
+-- a node that is the scenario's general stays it when a round begins
 abbrev pub NodesBegin : Type 0
 NodesBegin = (s : Scenario) (k g : ℕ) (n m : Node) → IsAfter s k g n → IsBegun n m → IsWithin s k g m
 
--- whose frames are then the scenario's,
+-- the frames that such a node sends are the scenario's
 abbrev pub NodesSend : Type 0
 NodesSend =
     (s : Scenario) (k g to : ℕ) (n : Node) → IsWithin s k g n
     → frame_to n.recorder to ≡ frame_between s (k + 1) g to
 
--- when bytes are handed in,
+-- a node that is the scenario's general stays it when bytes that are handed in are taken
 abbrev pub NodesHear : Type 0
 NodesHear =
     (s : Scenario) (k g from : ℕ) (n m : Node) (bytes : List ℕ) → IsWithin s k g n
     → handed n from bytes ≡ Ok m
     → IsWithin s k g m
 
--- of which the scenario's frame is taken,
+-- such a node takes the bytes of the scenario's frame from a neighbour for which nothing was handed in yet
 abbrev pub NodesTake : Type 0
 NodesTake =
     (s : Scenario) (k g from : ℕ) (n : Node) (bytes : List ℕ) → IsWithin s k g n
@@ -88,13 +89,14 @@ NodesTake =
     → Spells IsFrame frame_spelling bytes (frame_between s (k + 1) from g)
     → handed n from bytes ≡ Ok (with_arrival n from (frame_at s (k + 1) from g))
 
--- and when the round ends
+-- a node that is the scenario's general stays it when a round ends in which its neighbours' frames were
+-- handed in
 abbrev pub NodesEnd : Type 0
 NodesEnd =
     (s : Scenario) (k g : ℕ) (n : Node) → IsWithin s k g n → HoldsRound s k g n
     → IsAfter s (k + 1) g (ended n)
 
--- after the last round his log is the scenario's, and so is what he decides
+-- after the last round the node's log is the scenario's, and so is its decision
 abbrev pub NodesLog : Type 0
 NodesLog =
     (s : Scenario) (g : ℕ) (n : Node) → IsAfter s (rounds s.net) g n
@@ -107,21 +109,21 @@ NodesDecide =
 
 -- ---- a run of nodes
 
--- the generals without a script as nodes: how each stands after so many rounds, when the next has begun, and
--- when his frames of it were handed in
+-- the nodes of the generals without a script: how each stands after a number of rounds, when the next round
+-- has begun, and when its neighbours' frames of that round were handed in
 pub record Nodes : Type 0 where
   pub after : ℕ → ℕ → Node
   pub begun : ℕ → ℕ → Node
   pub full : ℕ → ℕ → Node
 
--- he is a general of the scenario without a script
+-- g is a general of the scenario without a script
 pub record IsHonest (s : Scenario) (g : ℕ) : Type 0 where
   pub known : g < s.net.generals
   pub unscripted : script_of s.scripts g ≡ None
 
--- Each starts with the scenario's header, his order and his seed; each round begins and ends at all; what is
--- handed in leaves the rest of him as he was; and each neighbour's frame is handed on: that of an honest one
--- as he sends it, that of another as the scenario has it.
+-- Each node starts with the scenario's header, its own order and its seed, and begins and ends each round.
+-- Handing in changes nothing else of a node. Each neighbour's frame is handed on: that of an honest one as it
+-- sends it, that of another as the scenario has it.
 pub record HandOn (s : Scenario) (x : Nodes) : Type 0 where
   pub starts : (g : ℕ) → IsHonest s g
       → (ring : Ring) × (ring.seed ≡ seed_of s.master g)
@@ -135,18 +137,18 @@ pub record HandOn (s : Scenario) (x : Nodes) : Type 0 where
       → (script_of s.scripts from ≡ None → ⊥) → frame_in from (x.full k g).inbox ≡ frame_at s (k + 1) from g
   pub ends : (k g : ℕ) → k < rounds s.net → IsHonest s g → x.after (k + 1) g ≡ ended (x.full k g)
 
--- then each stands after the last round as the scenario's general
+-- each such node stands after the last round as the scenario's general
 abbrev pub NodesRun : Type 0
 NodesRun =
     (s : Scenario) (x : Nodes) → IsScenario s → HandOn s x → (g : ℕ) → IsHonest s g
     → IsAfter s (rounds s.net) g (x.after (rounds s.net) g)
 
--- the logs of all after the last round, in the order of generals
+-- the logs of all nodes after the last round, in the order of generals
 abbrev pub logs_of_nodes : Scenario → Nodes → List LogBytes
 logs_of_nodes s x =
     map (λ g. log_written (x.after (rounds s.net) g).recorder) (range_with_len 0 s.net.generals)
 
--- and where nobody has a script all logs and decisions are the scenario's
+-- if no general has a script, all logs are the scenario's, and all decisions are too
 abbrev pub NodesLogs : Type 0
 NodesLogs =
     (s : Scenario) (x : Nodes) → IsScenario s → s.scripts ≡ [] → HandOn s x
@@ -160,13 +162,14 @@ NodesDecisions =
 
 -- ---- their bundle
 
--- the text is read as the bundle, and each verdict on that is this order, on which all of the rest agree
+-- the text is read as the bundle, and each verdict on the bundle is this order, on which all of the rest
+-- agree
 pub record IsAccepted (b : Bundle) (text : List ℕ) (order : ℕ) : Type 0 where
   pub read : whole_bundle text ≡ Ok b
   pub agreed : (verdict : Verdict) → IsVerdict b verdict → (verdict ≡ Agreed order) × AgreeOn b order
 
--- Where nobody has a script, nobody is held for faulty, and the walks are those that are made between all,
--- the nodes' logs break no rule of bundles, and the text of the bundle, if it is bytes, is accepted with the
+-- No general has a script or is held for faulty, and the walks are those that are made between all generals.
+-- Then the nodes' logs break no rule of bundles. The text of the bundle, if it is bytes, is accepted with the
 -- commander's order.
 abbrev pub NodesAreAccepted : Type 0
 NodesAreAccepted =

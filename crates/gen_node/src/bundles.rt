@@ -1,4 +1,4 @@
-//! Bundles of logs that were collected.
+//! Makes a bundle of logs that were collected.
 ghost use Rattle.gen_types.specs.Reading.{Gives};
 ghost use Rattle.gen_node.specs.BundleBytes.{bundle_bytes};
 
@@ -9,13 +9,13 @@ use gen_types::{GeneralSet, ReadError};
 use gen_walks::Walks;
 use std::alloc::Global;
 
-/// Returns the bytes of the bundle of a run: its header, the generals who are held for faulty, walks between the others, as
-/// `make_walks` makes them, and the logs that were collected, in ascending order of their generals. The logs are anybody's
-/// bytes: they aren't read here, and the audit says what they are.
+/// Returns the bytes of the bundle of a run. Its parts are the header, the generals that are held for faulty, walks
+/// between the others, as `make_walks` makes them, and the collected logs in ascending order of their generals. The
+/// logs may be any bytes: they aren't read here, and the audit says what they are.
 ///
 /// # Errors
 ///
-/// The first rule of a bundle that is broken, as `Bundle::new` tells it; and Memory where memory was refused.
+/// The first rule of a bundle that the parts break, as `Bundle::new` tells it; Memory if memory was refused.
 pub fn make_bundle(
     alloc: Global,
     header: Header,

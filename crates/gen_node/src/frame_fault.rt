@@ -1,37 +1,38 @@
-//! Why bytes are not the frame that is awaited.
+//! Why bytes are not the awaited frame.
 ghost use Rattle.std.specs.Prelude.{◌≡◌};
 ghost use Rattle.gen_node.specs.FaultNumber.{fault_number};
 
 use thiserror::Error;
 
-/// Why bytes that were handed in for a neighbour aren't taken as his frame of this round. The texts are `F1` to `F8`.
+/// Why bytes that were handed in for a neighbour aren't taken as the neighbour's frame of this round. The texts are
+/// `F1` to `F8`.
 ///
-/// Whether a frame is awaited of him is tested first, then the bytes from left to right, and then what frame it is; the
-/// first fault is answered.
+/// Whether a frame of the neighbour is awaited is tested first, then the bytes from left to right, and then which frame
+/// it is. The first fault is answered.
 #[derive(Clone, Copy, Debug, PartialEq, Eq, Error)]
 pub enum FrameFault {
-    /// No frame is awaited of him: no round is open, or he is no neighbour.
+    /// No frame of this general is awaited: no round is open, or the general is no neighbour.
     #[error("F1")]
     NotAwaited,
-    /// His frame of this round was taken before.
+    /// The neighbour's frame of this round was taken before.
     #[error("F2")]
     Twice,
     /// The bytes end before the frame does.
     #[error("F3")]
     Truncated,
-    /// The first four bytes are not `SMF1`.
+    /// The first four bytes are not the mark `SMF1`.
     #[error("F4")]
     UnknownMark,
-    /// Bytes are left over behind the frame.
+    /// Bytes are left over after the frame.
     #[error("F5")]
     LeftOver,
-    /// It is a frame of another run.
+    /// The frame is of another run: its run id is another.
     #[error("F6")]
     OtherRun,
-    /// It is a frame of another round.
+    /// The frame is of another round.
     #[error("F7")]
     OtherRound,
-    /// It is not from him, or not to this general.
+    /// The frame's sender is not this neighbour, or its receiver is not this node.
     #[error("F8")]
     OtherEnds,
 }

@@ -1,4 +1,4 @@
-//! Reading frames.
+//! Reads frames from bytes.
 ghost use Rattle.std.specs.Prelude.{◌≡◌, IfOk, Ok};
 ghost use Rattle.gen_types.specs.Bytes.{many_at};
 ghost use Rattle.gen_types.specs.Reading.{Gives};
@@ -12,13 +12,13 @@ use gen_script::Parcel;
 use gen_types::{ReadError, bytes_at, check, u8_at, u16_at, u32_at};
 use std::alloc::Global;
 
-/// The first four bytes of a frame, `SMF1`.
+/// The first four bytes of a frame: `SMF1` as a big-endian number.
 pub const FRAME_MARK: u32 = 0x534d_4631;
 
-/// The bytes of a run id.
+/// The number of bytes of a run id.
 const RUN_ID_BYTES: usize = 32;
 
-/// The mark, and the run id behind it.
+/// Reads the mark and the run id behind it, and returns the run id and the bytes after it.
 #[tactic(auto, unfolding(crate::specs::FrameReading::run_at))]
 fn read_run(bytes: &[u8]) -> Result<([u8; RUN_ID_BYTES], &[u8]), ReadError<FrameFault>>
     ensures { IsField result (run_at bytes.now) }
@@ -31,7 +31,7 @@ fn read_run(bytes: &[u8]) -> Result<([u8; RUN_ID_BYTES], &[u8]), ReadError<Frame
     Ok((run_id, rest))
 }
 
-/// Which frame it is.
+/// Reads the front of a frame (mark, run id, round, sender and receiver), and returns it and the bytes after it.
 #[tactic(auto, unfolding(crate::specs::FrameReading::front_at))]
 fn read_front(bytes: &[u8]) -> Result<(FrameFront, &[u8]), ReadError<FrameFault>>
     ensures { IsField result (front_at bytes.now) }
@@ -49,7 +49,7 @@ fn read_front(bytes: &[u8]) -> Result<(FrameFront, &[u8]), ReadError<FrameFault>
     Ok((front, rest))
 }
 
-/// A parcel behind its length.
+/// Reads a parcel behind its length in four bytes, and returns it and the bytes after it.
 #[tactic(auto, unfolding(crate::specs::FrameReading::parcel_at))]
 fn read_parcel(alloc: Global, bytes: &[u8]) -> Result<(Parcel, &[u8]), ReadError<FrameFault>>
     ensures { IsField result (parcel_at bytes.now) }
@@ -59,7 +59,8 @@ fn read_parcel(alloc: Global, bytes: &[u8]) -> Result<(Parcel, &[u8]), ReadError
     Ok((Parcel::new(Vec::from_slice(alloc, parcel)?), rest))
 }
 
-/// This many parcels. The count is anybody's number, so no room is made for it.
+/// Reads this many parcels, and returns them and the bytes after them. The count comes from the input, so no room is
+/// made for it beforehand.
 fn read_parcels(
     alloc: Global,
     count: u16,
@@ -77,7 +78,7 @@ fn read_parcels(
     Ok((parcels, rest))
 }
 
-/// The frame in front of the bytes, and the bytes after it.
+/// Reads the frame in front of the bytes, and returns it and the bytes after it.
 #[tactic(auto, unfolding(crate::specs::FrameReading::frame_at))]
 fn frame_in_front(alloc: Global, bytes: &[u8]) -> Result<(Frame, &[u8]), ReadError<FrameFault>>
     ensures { IsField result (frame_at bytes.now) }
@@ -88,7 +89,7 @@ fn frame_in_front(alloc: Global, bytes: &[u8]) -> Result<(Frame, &[u8]), ReadErr
     Ok((Frame::new(front, parcels), rest))
 }
 
-/// The frame that all the bytes are.
+/// Returns the frame that all the bytes are: nothing may be left over.
 #[tactic(auto, unfolding(crate::specs::FrameReading::whole_frame))]
 fn frame_alone(alloc: Global, bytes: &[u8]) -> Result<Frame, ReadError<FrameFault>>
     ensures { IsRead result (whole_frame bytes.now) }
@@ -98,19 +99,19 @@ fn frame_alone(alloc: Global, bytes: &[u8]) -> Result<Frame, ReadError<FrameFaul
     Ok(frame)
 }
 
-/// Returns the frame that all the bytes are: the four bytes `SMF1`, the run id, the round, the sender and the receiver, a
-/// byte each, the number of parcels in two bytes, big-endian, and for each parcel its length in four bytes, big-endian, and
-/// its bytes. What the parcels are isn't looked at.
+/// Returns the frame that all the bytes are. The bytes are the mark `SMF1`, the run id (32 bytes), the round, the
+/// sender and the receiver (a byte each) and the number of parcels (two bytes, big-endian). Then come, for each parcel,
+/// its length (four bytes, big-endian) and its bytes. The parcels' content isn't looked at.
 ///
 /// # Errors
 ///
-/// Truncated, UnknownMark or LeftOver, the first from left to right; and Memory where memory was refused before.
+/// Truncated, UnknownMark or LeftOver, the first from left to right; Memory if memory was refused before.
 pub fn read_frame(alloc: Global, bytes: &[u8]) -> Result<Frame, ReadError<FrameFault>>
-    // What is read is a frame, and the bytes are its spelling.
+    // If a frame is read, it has a spelling, and the bytes are its spelling.
     ensures found { IfOk result (Spells IsFrame frame_spelling bytes.now) }
-    // What the bytes spell is read, unless memory runs out.
+    // If the bytes are the spelling of a frame, that frame is read, unless memory runs out.
     ensures only { (f : Sent) → Spells IsFrame frame_spelling bytes.now f → IsRead result (Ok f) }
-    // Which fault it is.
+    // The answer, and so the fault, is that of `whole_frame`.
     ensures exact { IsRead result (whole_frame bytes.now) }
 {
     frame_alone(alloc, bytes)

@@ -1,4 +1,4 @@
-//! Writing frames.
+//! Writes frames as bytes.
 ghost use Rattle.std.specs.Prelude.{◌≡◌, ◌<◌, ◌^◌, ◌++◌, ◌↔◌, All, Err, IfOk, IsTrue, OnOk, length};
 ghost use Rattle.std.specs.List.{flat_map};
 ghost use Rattle.gen_types.specs.Spelled.{Spells};
@@ -11,12 +11,12 @@ use crate::spelling_fault::SpellingFault;
 use gen_script::Parcel;
 use std::alloc::{AllocError, Global};
 
-/// What the types of a front's parts say of it.
+/// The parts of a front fit, by their types alone: 32 bytes of a run id, and three bytes.
 fn parts_fit(run_id: [u8; 32], round: u8, from: u8, to: u8)
     ensures { IsFront (record { run_id = run_id; round = round; from = from; to = to }) }
 {}
 
-/// Appends which frame it is.
+/// Appends the front of a frame: the mark `SMF1`, the run id, the round, the sender and the receiver.
 fn put_front(out: &mut Vec<u8>, front: &FrameFront) -> Result<(), AllocError>
     ensures ok { OnOk result (out.new.items ≡ out.old.items ++ front_spelling front.now) }
     ensures known { IsFront front.now }
@@ -41,7 +41,7 @@ fn are_short(parcels: &[Parcel]) -> bool
     parcels.iter().all(|parcel| is_short(parcel))
 }
 
-/// Appends a parcel behind its length.
+/// Appends a parcel's length in four bytes, big-endian, and the parcel.
 fn put_parcel(out: &mut Vec<u8>, parcel: &Parcel) -> Result<(), AllocError>
     requires { IsParcel parcel.now }
     ensures { OnOk result (out.new.items ≡ out.old.items ++ parcel_spelling parcel.now) }
@@ -51,7 +51,7 @@ fn put_parcel(out: &mut Vec<u8>, parcel: &Parcel) -> Result<(), AllocError>
     out.extend_from_slice(parcel.bytes())
 }
 
-/// Appends parcels, each behind its length.
+/// Appends parcels, each behind its length in four bytes.
 fn put_parcels(out: &mut Vec<u8>, parcels: &[Parcel]) -> Result<(), AllocError>
     requires { All IsParcel parcels.now }
     ensures { OnOk result (out.new.items ≡ out.old.items ++ flat_map parcel_spelling parcels.now) }
@@ -62,7 +62,7 @@ fn put_parcels(out: &mut Vec<u8>, parcels: &[Parcel]) -> Result<(), AllocError>
     Ok(())
 }
 
-/// A frame of few short parcels has a spelling.
+/// A frame of fewer than 2^16 parcels, each shorter than 2^32 bytes, has a spelling.
 fn few_fit(front: &FrameFront, parcels: &[Parcel])
     requires few { length parcels.now < 2 ^ 16 }
     requires short { All IsParcel parcels.now }
@@ -71,7 +71,7 @@ fn few_fit(front: &FrameFront, parcels: &[Parcel])
     parts_fit(front.run_id, front.round, front.from, front.to);
 }
 
-/// Returns the one spelling of a frame that has one.
+/// Returns the one spelling of a frame of fewer than 2^16 parcels, each shorter than 2^32 bytes.
 pub(crate) fn spelled(
     alloc: Global,
     front: &FrameFront,
@@ -94,8 +94,8 @@ pub(crate) fn spelled(
 ///
 /// # Errors
 ///
-/// TooLong exactly where there are 2^16 parcels or more, or one has 2^32 bytes or more: such a frame has no spelling; and
-/// Memory where it is refused.
+/// TooLong if and only if there are 2^16 parcels or more, or one has 2^32 bytes or more, for such a frame has no
+/// spelling. Memory if memory is refused.
 pub fn frame_bytes(
     alloc: Global,
     front: &FrameFront,

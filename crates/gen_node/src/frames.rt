@@ -1,24 +1,24 @@
-//! Frames.
+//! Frames, and what tells one from another.
 ghost use Rattle.std.specs.Prelude.{◌≡◌};
 
 use gen_script::Parcel;
 use std::marker::Model;
 
-/// Which frame it is.
+/// What tells a frame from others: its run, its round, its sender and its receiver.
 #[derive(Clone, Copy, Debug, PartialEq, Eq)]
 pub struct FrameFront {
     /// The run id, the hash of the run's header.
     pub run_id: [u8; 32],
     /// The round, from 1 on.
     pub round: u8,
-    /// The general who sends it.
+    /// The general that sends the frame.
     pub from: u8,
-    /// The neighbour who gets it.
+    /// The neighbour that receives it.
     pub to: u8,
 }
 
-/// What one general sends a neighbour in one round: parcels of bytes, perhaps none. A contract sees which frame it is and
-/// the list of parcels.
+/// What one general sends a neighbour in one round: parcels of bytes, perhaps none. A contract sees the front of the
+/// frame and the list of parcels.
 #[derive(Debug, Drop)]
 pub struct Frame {
     front: FrameFront,
@@ -34,14 +34,14 @@ impl Model for Frame {
 }
 
 impl Frame {
-    /// Returns the frame with these parcels.
+    /// Returns the frame with this front and these parcels.
     pub(crate) fn new(front: FrameFront, parcels: Vec<Parcel>) -> Frame
         ensures { result ≡ record { front = front; parcels = parcels.items } }
     {
         Frame { front, parcels }
     }
 
-    /// Returns which frame it is.
+    /// Returns the front of the frame: its run, its round, its sender and its receiver.
     pub fn front(&self) -> FrameFront
         ensures { result ≡ self.now.front }
     {
@@ -55,7 +55,7 @@ impl Frame {
         self.parcels.as_slice()
     }
 
-    /// Gives the parcels away.
+    /// Returns the parcels, in their order, and ends the frame.
     pub fn into_parcels(self) -> Vec<Parcel>
         ensures { result.items ≡ self.parcels }
     {

@@ -1,4 +1,4 @@
-//! Parcels that a node holds for or of a neighbour.
+//! Parcels that a node holds for a neighbour or has from it.
 ghost use Rattle.std.specs.Prelude.{◌≡◌, option_map, is_some};
 ghost use Rattle.gen_node.specs.Held as helds;
 
@@ -6,7 +6,7 @@ use gen_script::Parcel;
 use gen_types::GeneralNo;
 use std::marker::Model;
 
-/// A neighbour, and the parcels of the frame to him or from him. A contract sees both as one record.
+/// A neighbour, and the parcels of the frame to it or from it. A contract sees both as one record.
 #[derive(Debug, Drop)]
 pub struct Held {
     general: GeneralNo,
@@ -22,7 +22,7 @@ impl Model for Held {
 }
 
 impl Held {
-    /// Returns a neighbour's parcels.
+    /// Returns a neighbour and its parcels as one value.
     pub(crate) fn new(general: GeneralNo, parcels: Vec<Parcel>) -> Held
         ensures { result ≡ record { general = general; parcels = parcels.items } }
     {
@@ -44,7 +44,7 @@ impl Held {
     }
 }
 
-/// Finds what is held of a general.
+/// Returns the first entry for a general in a list of held parcels, if there is one.
 pub(crate) fn find_held(rows: &[Held], general: GeneralNo) -> Option<&Held>
     ensures { option_map (λ h. h.now.parcels) result ≡ helds.held_of general rows.now }
 {
@@ -58,14 +58,14 @@ pub(crate) fn find_held(rows: &[Held], general: GeneralNo) -> Option<&Held>
     None
 }
 
-/// Whether something is held of a general.
+/// Whether there is an entry for a general in a list of held parcels.
 pub(crate) fn is_held(rows: &[Held], general: GeneralNo) -> bool
     ensures { result ≡ is_some (helds.held_of general rows.now) }
 {
     find_held(rows, general).is_some()
 }
 
-/// The parcels that are held of a general, none where nothing is.
+/// Returns the parcels that are held for or from a general; none if there is no entry for it.
 pub(crate) fn parcels_of(rows: &[Held], general: GeneralNo) -> &[Parcel]
     ensures { result.now ≡ helds.frame_in general rows.now }
 {

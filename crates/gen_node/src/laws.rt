@@ -1,4 +1,5 @@
-//! Laws of nodes. Each is a function with an empty body whose contract is the law: a caller that calls it knows the law.
+//! Laws of nodes. Each is a function with an empty body whose contract is the law: a caller that calls it knows the
+//! law.
 ghost use Rattle.gen_types.specs.Spelled.{HasOneSpelling};
 ghost use Rattle.gen_node.specs.Frame.{IsFrame, frame_spelling};
 ghost use Rattle.gen_node.specs.NodeLaws.{NodesAreAccepted, NodesBegin, NodesDecide, NodesDecisions, NodesEnd};
@@ -9,11 +10,12 @@ pub fn one_frame_spelling()
     ensures { HasOneSpelling IsFrame frame_spelling }
 {}
 
-/// For every scenario, and every general of it who has no script: a node with its header, his order and his seed is he
-/// (`start`), and stays it when a round begins (`begin`), when bytes are handed in (`hear`) and when a round ends in which
-/// his neighbours' frames were handed in (`end`). Then what he sends are the frames of the scenario (`send`), of which each
-/// is taken where it is handed in (`take`), and after the last round his log and his decision are the scenario's (`log`,
-/// `decide`).
+/// A node acts as its general of the scenario, for every scenario and every general of it without a script. A node that
+/// starts with the scenario's header, the general's order and its seed is that general (`start`). It stays that general
+/// when a round begins (`begin`), when bytes are handed in (`hear`), and when a round ends in which its neighbours'
+/// frames were handed in (`end`). The frames that the node sends are those of the scenario (`send`), and a frame of the
+/// scenario is taken when it is handed in (`take`). After the last round the node's log and decision are the scenario's
+/// (`log`, `decide`).
 pub fn nodes_are_generals()
     ensures start { NodesStart }
     ensures begin { NodesBegin }
@@ -25,18 +27,18 @@ pub fn nodes_are_generals()
     ensures decide { NodesDecide }
 {}
 
-/// Where all generals without a script are such nodes, and each frame of each round is handed on to whom it is for, each of
-/// them stands after the last round as the scenario's general (`run`); and where nobody has a script, their logs and
-/// decisions are all those of the scenario's run (`logs`, `decisions`).
+/// A run of nodes is the run of the scenario, if all generals without a script are such nodes and each frame of each
+/// round is handed to its receiver. Then each node stands after the last round as the scenario's general (`run`). If no
+/// general has a script, their logs and decisions are all those of the scenario's run (`logs`, `decisions`).
 pub fn nodes_make_the_run()
     ensures run { NodesRun }
     ensures logs { NodesLogs }
     ensures decisions { NodesDecisions }
 {}
 
-/// Where nobody has a script, and all generals are such nodes whose frames are handed on, the bundle of their logs can be
-/// made, with nobody held for faulty and the walks that `make_walks` gives between all: its bytes are read as that bundle, and
-/// its verdict is the commander's order, on which all agree.
+/// The bundle of a run of nodes is accepted, if no general has a script, and all generals are such nodes whose frames
+/// are handed on. The bundle of their logs can be made, with no general held for faulty and the walks that `make_walks`
+/// gives between all. Its bytes are read as that bundle, and its verdict is the commander's order, on which all agree.
 pub fn nodes_are_accepted()
     ensures { NodesAreAccepted }
 {}

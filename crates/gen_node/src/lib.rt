@@ -1,14 +1,14 @@
-//! One general of a run, driven from outside over a transport of one's own.
+//! One general of a run as a node, which the caller drives over a transport of its own.
 //!
-//! A node has its own key alone. Whoever drives it says when a round begins and ends, hands each neighbour the bytes of
-//! his frame, and hands in the bytes that came of each neighbour. It signs, relays, keeps its log and decides as the
-//! algorithm of signed messages says (L. Lamport, R. Shostak and M. Pease, "The Byzantine Generals Problem", ACM TOPLAS
-//! 4, 1982, section 4), and what comes of a run of such nodes is that of the scenario whose master seed gives their seeds,
-//! if there is one (`laws`).
+//! A node has its own key alone. The caller says when a round begins and ends, sends each neighbour the bytes of the
+//! frame to it, and hands in the bytes that came from each neighbour. The node signs, relays, keeps its log and decides
+//! as the algorithm of signed messages says (L. Lamport, R. Shostak and M. Pease, "The Byzantine Generals Problem", ACM
+//! TOPLAS 4, 1982, section 4). If there is a scenario whose master seed gives the nodes' seeds, their run is the run of
+//! that scenario (`laws`).
 //!
-//! What is promised: bytes that are not the frame which is awaited of a neighbour are refused and change nothing; a
-//! neighbour of whom nothing came in a round counts as one who sent nothing; no leaf of the ring is taken twice. What is
-//! not: that frames come in time, or from whom the transport says.
+//! What is promised: bytes that are not the awaited frame of a neighbour are refused and change nothing. A neighbour
+//! from which nothing came in a round counts as one that sent nothing. No leaf of the ring is taken twice. What is not
+//! promised: that frames come in time, or that they come from the neighbour that the transport names.
 #![tactic(auto)]
 
 mod bundles;

@@ -3,13 +3,13 @@ use gen_log::SealedLog;
 use gen_scenario::Decision;
 use gen_tree::KeyRing;
 
-/// What is left of a node after the last round: its log, sealed, what it decided, and its ring, which has to be closed or
-/// used for a run of another slot.
+/// What is left of a node after the last round: its sealed log, its decision and its ring. The ring has to be closed,
+/// or used for a run of another slot.
 pub struct NodeEnd {
-    /// The log.
+    /// The sealed log.
     pub log: SealedLog,
-    /// What was decided.
+    /// What the node decided.
     pub decision: Decision,
-    /// The ring.
+    /// The ring of the node's one-time keys.
     pub ring: KeyRing,
 }

@@ -5,20 +5,20 @@ ghost use Rattle.gen_node.specs.declared.node_fault.NodeFault.TheVariants.{Memor
 use std::alloc::AllocError;
 use thiserror::Error;
 
-/// Why there is no node of a header, a general, his order and his keys.
+/// Why there is no node of a header, a general, its order and its keys.
 #[derive(Clone, Copy, Debug, PartialEq, Eq, Error)]
 pub enum NodeFault {
     /// Memory was refused.
     #[error("memory was refused")]
     Memory,
-    /// He is none of the header's generals, a commander without an order or with one that is none of the network's, or a
-    /// lieutenant with an order.
+    /// The number is none of the header's generals, or it is a commander without an order or with one that is none of
+    /// the network's, or a lieutenant with an order.
     #[error("not a general of this header")]
     NoGeneral,
-    /// The ring has not the height of the header's version.
+    /// The ring does not have the height of the header's version.
     #[error("a ring of another height")]
     OtherHeight,
-    /// The root of his keys is not the one that the header has for him.
+    /// The root of the general's keys is not the root that the header has for it.
     #[error("another root")]
     OtherRoot,
 }

@@ -31,12 +31,12 @@ use gen_types::{GeneralNo, OrderNo, ReadError, TreeHeight, check};
 use std::alloc::{AllocError, Global};
 use std::marker::Model;
 
-/// One general of a run who has his own keys alone, between the calls of whoever drives him. He holds his ring, so he has
-/// to be ended by `finish` or `close`.
+/// One general of a run that has its own keys alone, between the calls of the caller that drives it. A node holds its
+/// ring, so it has to be ended by `finish` or `close`.
 ///
-/// In each round `begin_round` is called first; then `to_send` gives the frame for each neighbour, and `heard` takes what
-/// came of each, in any order; then `end_round` closes the round. A contract sees how he stands with his log, where in a
-/// round he is, and the frames of the round that were handed in.
+/// In each round `begin_round` is called first. Then `to_send` gives the frame to each neighbour, and `heard` takes
+/// what came from each, in any order. Then `end_round` closes the round. A contract sees the node's recorder (with its
+/// log), its stage in the round, and the frames of the round that were handed in.
 pub struct Node {
     header: Header,
     recorder: Recorder,
@@ -56,7 +56,7 @@ impl Model for Node {
     ghost invariant = { λ n. IsNode n.header n.recorder n.stage n.outbox.items };
 }
 
-/// Whether two strings of bytes are the same.
+/// Whether two byte strings are the same.
 fn same_bytes(left: &[u8], right: &[u8]) -> bool
     ensures value { result ≡ bytes_eq left.now right.now }
     ensures same { IsTrue result ↔ (left.now ≡ right.now) }
@@ -72,14 +72,15 @@ fn same_height(one: TreeHeight, other: TreeHeight) -> bool
 }
 
 impl Node {
-    /// Returns a general of the header's run before the first round, with the keys of this seed and, if he is the commander,
-    /// his order. Nobody else must know the seed, no other ring of it and of this height may be open, and none may have
-    /// been used in this run or slot.
+    /// Returns the node of a general of the header's run before the first round, with the keys of this seed and, for
+    /// the commander, its order. Nobody else must know the seed. No other ring of this seed and height may be open, and
+    /// none may have been used in this run or slot.
     ///
     /// # Errors
     ///
-    /// The first that holds: NoGeneral where he is none of the header's generals or where the order doesn't fit him;
-    /// OtherRoot where the root of the seed's keys is not the one that the header has for him. Memory where it is refused.
+    /// The first that holds. NoGeneral: the number is none of the header's generals, or the order doesn't fit it.
+    /// OtherRoot: the root of the seed's keys is not the one that the header has for the general. Memory: memory is
+    /// refused.
     pub fn new(
         alloc: Global,
         header: Header,
@@ -102,13 +103,13 @@ impl Node {
         }
     }
 
-    /// Returns the same with a ring that is there already, as one whose other leaves served runs of other slots: no leaf of
-    /// this run may have been taken from it.
+    /// Returns the node of a general before the first round with a ring that is open already, for example one whose
+    /// other leaves served runs of other slots. No leaf of this run may have been taken from the ring.
     ///
     /// # Errors
     ///
-    /// The ring, and the first fault that holds: OtherHeight where it has not the height of the header's version, and then
-    /// those of `new`.
+    /// The ring, and the first fault that holds: OtherHeight if the ring does not have the height of the header's
+    /// version, and then those of `new`.
     pub fn with_ring(
         alloc: Global,
         header: Header,
@@ -172,21 +173,21 @@ impl Node {
         &self.header
     }
 
-    /// Returns his number.
+    /// Returns the node's number as a general.
     pub fn me(&self) -> GeneralNo
         ensures { result ≡ self.now.recorder.standing.known.me }
     {
         self.recorder.me()
     }
 
-    /// Returns the round that he is in or was in last, 0 before the first.
+    /// Returns the round in which the node is or was last; 0 before the first.
     pub fn round(&self) -> u8
         ensures { result ≡ self.now.recorder.standing.round }
     {
         self.recorder.round()
     }
 
-    /// Returns whether a round may begin: the last one has ended and there is another, or one is half begun.
+    /// Whether a round may begin: the last one has ended and there is another, or one is half begun.
     pub fn may_begin(&self) -> bool
         ensures { result ≡ nodes.may_begin self.now }
     {
@@ -198,7 +199,7 @@ impl Node {
         }
     }
 
-    /// Returns whether a round may end: one is open, or one is half ended.
+    /// Whether a round may end: one is open, or one is half ended.
     pub fn may_end(&self) -> bool
         ensures { result ≡ nodes.may_end self.now }
     {
@@ -210,7 +211,7 @@ impl Node {
         }
     }
 
-    /// Returns whether the last round has ended.
+    /// Whether the last round has ended.
     pub fn is_over(&self) -> bool
         ensures { result ≡ nodes.is_over self.now }
     {
@@ -222,7 +223,8 @@ impl Node {
         }
     }
 
-    /// Returns whether a frame goes out to a general and is awaited of him: a round is open, and he is a neighbour.
+    /// Whether a frame goes out to a general and one from it is awaited: a round is open, and the general is a
+    /// neighbour.
     pub fn awaits(&self, general: GeneralNo) -> bool
         ensures { result ≡ nodes.awaits self.now general }
     {
@@ -234,16 +236,17 @@ impl Node {
         }
     }
 
-    /// Begins the next round, of which there must be one: he signs what he has to sign in it, and makes the frames for his
-    /// neighbours.
+    /// Begins the next round, of which there must be one: the node signs what it has to sign in it, and makes the
+    /// frames for its neighbours.
     ///
     /// # Errors
     ///
-    /// `AllocError` where memory is refused: then the round hasn't begun, or is half begun, and this call goes on with it.
+    /// `AllocError` if memory is refused. Then the round hasn't begun, or is half begun, and a further call goes on
+    /// with it.
     pub fn begin_round(&mut self, alloc: Global) -> Result<(), AllocError>
         requires { nodes.may_begin self.old ≡ true }
         ensures ok { OnOk result (IsBegun self.old self.new) }
-        // What a later call makes of what is left is what this call would have made.
+        // A later call makes of what is left what this call would have made.
         ensures err { OnErr result ((later : Told) → IsBegun self.new later → IsBegun self.old later) }
         ensures again { OnErr result (nodes.may_begin self.new ≡ true) }
     {
@@ -251,7 +254,8 @@ impl Node {
         self.send_all(alloc)
     }
 
-    /// Signs what is to be signed in the next round, unless one is half begun.
+    /// Signs what is to be signed in the next round. If a round is half begun, this was done before, and nothing
+    /// changes.
     fn sign(&mut self, alloc: Global) -> Result<(), AllocError>
         requires { nodes.may_begin self.old ≡ true }
         ensures ok { OnOk result (IsSignedFrom self.old.stage self.old self.new) }
@@ -285,7 +289,7 @@ impl Node {
         Ok(())
     }
 
-    /// The first general whose frame is still to be made.
+    /// Returns the first general to which a frame is still to be made.
     fn next_sent(&self) -> u8
         ensures { result ≡ next_sent self.now.stage }
     {
@@ -295,7 +299,7 @@ impl Node {
         }
     }
 
-    /// Makes the frame to the next general, if he is a neighbour.
+    /// Makes the frame to the next general, if it is a neighbour.
     fn send_next(&mut self, alloc: Global, next: u8) -> Result<(), AllocError>
         requires at { self.old.stage ≡ Sending next }
         requires below { next < (header_at self.old.recorder).network.generals }
@@ -314,12 +318,13 @@ impl Node {
         Ok(())
     }
 
-    /// Returns the bytes of the frame of this round to a neighbour. He must be one, and a round must be open: `awaits` tells.
+    /// Returns the bytes of the frame of this round to a neighbour. The general must be a neighbour, and a round must
+    /// be open: `awaits` tells both.
     ///
     /// # Errors
     ///
-    /// `AllocError` where memory is refused. A frame is never too long: it has a parcel for each order at most, and each is
-    /// a chain.
+    /// `AllocError` if memory is refused. A frame is never too long: it has at most one parcel for each order, and each
+    /// parcel is a chain.
     pub fn to_send(&self, alloc: Global, to: GeneralNo) -> Result<Vec<u8>, AllocError>
         requires { nodes.awaits self.now to ≡ true }
         ensures { IfOk result (λ bytes. Spells IsFrame frame_spelling bytes.items (frame_to self.now.recorder to)) }
@@ -334,12 +339,13 @@ impl Node {
         spelled(alloc, &front, parcels)
     }
 
-    /// Takes the bytes that came of a neighbour in this round. They have to be his frame of it: which parcels of it count is
-    /// another question, and those that don't do no harm. What is refused changes nothing, so a frame may come behind it.
+    /// Takes the bytes that came from a neighbour in this round, which have to be that neighbour's frame of it. Which
+    /// of its parcels count is decided later; those that don't count do no harm. Bytes that are refused change nothing,
+    /// so the frame may still come after them.
     ///
     /// # Errors
     ///
-    /// The fault that `FrameFault` tells; and Memory where it is refused.
+    /// The fault that `FrameFault` tells; Memory if memory is refused.
     pub fn heard(
         &mut self,
         alloc: Global,
@@ -355,7 +361,7 @@ impl Node {
         Ok(())
     }
 
-    /// The frame that is awaited of a neighbour.
+    /// Returns the awaited frame of a neighbour that the bytes are, or why they aren't taken.
     #[tactic(auto, unfolding(crate::specs::Node::awaited))]
     fn awaited_frame(
         &self,
@@ -374,7 +380,7 @@ impl Node {
         Ok(frame)
     }
 
-    /// Checks that it is the frame of this run and round from this general to him.
+    /// Checks that a frame is of this run and round, from this general to this node.
     #[tactic(auto, unfolding(crate::specs::Node::front_check))]
     fn check_front(&self, from: GeneralNo, front: FrameFront) -> Result<(), ReadError<FrameFault>>
         ensures { IsRead result (front_check self.now.recorder from front) }
@@ -391,12 +397,13 @@ impl Node {
         )
     }
 
-    /// Ends the round: he hears his neighbours' frames. A neighbour of whom nothing was handed in counts as one who sent
-    /// nothing.
+    /// Ends the round: the node hears its neighbours' frames. A neighbour for which nothing was handed in counts as one
+    /// that sent nothing.
     ///
     /// # Errors
     ///
-    /// `AllocError` where memory is refused: then the round hasn't ended, or is half ended, and this call goes on with it.
+    /// `AllocError` if memory is refused. Then the round hasn't ended, or is half ended, and a further call goes on
+    /// with it.
     pub fn end_round(&mut self, alloc: Global) -> Result<(), AllocError>
         requires { nodes.may_end self.old ≡ true }
         ensures ok { OnOk result (self.new ≡ ended self.old) }
@@ -413,7 +420,7 @@ impl Node {
         Ok(())
     }
 
-    /// The first general who is still to be heard.
+    /// Returns the first general that is still to be heard.
     fn next_heard(&self) -> u8
         ensures { result ≡ nodes.next_heard self.now.stage }
     {
@@ -423,7 +430,7 @@ impl Node {
         }
     }
 
-    /// Hears the next general, if he is a neighbour.
+    /// Hears the next general, if it is a neighbour.
     fn hear_next(&mut self, alloc: Global, next: u8) -> Result<(), AllocError>
         requires at { self.old.stage ≡ Hearing next }
         requires below { next < (header_at self.old.recorder).network.generals }
@@ -441,11 +448,12 @@ impl Node {
         Ok(())
     }
 
-    /// Ends him after the last round: he seals his log. His ring comes back, with the log and his decision.
+    /// Ends the node after the last round, and seals its log. The node's ring comes back, with the log and the
+    /// decision.
     ///
     /// # Errors
     ///
-    /// He himself, as he stood, where memory is refused: so this may be tried again.
+    /// The node itself, unchanged, if memory is refused: the call may be tried again.
     pub fn finish(self, alloc: Global) -> Result<NodeEnd, Node>
         requires { nodes.is_over self ≡ true }
         ensures log { IfOk result (λ end. end.log ≡ log_written self.recorder) }
@@ -478,7 +486,7 @@ impl Node {
         }
     }
 
-    /// Ends him without a log, at any time, and returns his ring.
+    /// Ends the node without a log, at any time, and returns its ring.
     pub fn close(self) -> KeyRing
         ensures { self.recorder.standing.ring ≡ Some result }
     {

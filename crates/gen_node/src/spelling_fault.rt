@@ -1,11 +1,11 @@
-//! Why a frame isn't spelled.
+//! Why a frame has no bytes.
 ghost use Rattle.std.specs.Prelude.{◌≡◌};
 ghost use Rattle.gen_node.specs.declared.spelling_fault.SpellingFault.TheVariants.{Memory};
 
 use std::alloc::AllocError;
 use thiserror::Error;
 
-/// Why there are no bytes of a frame.
+/// Why no bytes of a frame are returned.
 #[derive(Clone, Copy, Debug, PartialEq, Eq, Error)]
 pub enum SpellingFault {
     /// Memory was refused.

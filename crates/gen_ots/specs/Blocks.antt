@@ -4,12 +4,12 @@ use Rattle.rand_chacha.specs.Block.{add32, block_word, xor_rotate}
 use Rattle.sha_lanes.specs.Lanes.{lane_at}
 use Rattle.gen_ots.specs.Secrets.{double_rounds}
 
--- lane j of sixteen vectors has the words of the block of this key and stream with this counter
+-- lane j of sixteen vectors has the sixteen words of the block of this key and stream with this counter
 abbrev pub HasBlock : ℕ → List (List ℕ) → List ℕ → ℕ → ℕ → Type 0
 HasBlock j x key stream counter =
     (k : ℕ) → k < 16 → lane_at x k j ≡ block_word double_rounds key counter stream k
 
--- half of the quarter round, with rotations by m and n
+-- one half of the quarter round, with rotations by m and n
 unfoldable pub half_round : ℕ → ℕ → ℕ → ℕ → ℕ → ℕ → ℕ × ℕ × ℕ × ℕ
 half_round m n a b c d =
     let a1 = add32 a b in
@@ -18,12 +18,12 @@ half_round m n a b c d =
     let b1 = xor_rotate b c1 n in
     (a1, b1, c1, d1)
 
--- half of the quarter round on four words of a state
+-- one half of the quarter round on four words of a state, which are named by their places
 abbrev pub half_round_at : ℕ → ℕ → List ℕ → ℕ → ℕ → ℕ → ℕ → ℕ × ℕ × ℕ × ℕ
 half_round_at m n x a b c d =
     half_round m n (slice_index x a) (slice_index x b) (slice_index x c) (slice_index x d)
 
--- half of the quarter round on each column of the state, read as four rows of four words
+-- one half of the quarter round on each column of a state, which is read as four rows of four words
 unfoldable pub half_rounds : ℕ → ℕ → List ℕ → List ℕ
 half_rounds m n x =
     let h0 = half_round_at m n x 0 4 8 12 in

@@ -1,4 +1,4 @@
--- Signatures of digests, several side by side.
+-- Signatures of digests, when several are hashed side by side.
 use Rattle.std.specs.Prelude.{ℕ, List}
 use Rattle.gen_ots.specs.Signatures.{given_images, signed_leaf_value}
 use Rattle.gen_ots.specs.declared.four.SignedDigest.{SignedDigest}

@@ -4,14 +4,14 @@ use Rattle.gen_ots.specs.Secrets.{KeyName, secret_of}
 use Rattle.gen_ots.specs.OneTime.{image, leaf_over, bit_of, on_side}
 use Rattle.gen_ots.specs.Sizes.{digest_bits, hash_length, pair_length}
 
--- what a signature shows for a bit: the secret on the side that the bit names, and the image of the
--- other
+-- what a signature shows for a bit: the secret on the side that the bit names, and the image of the other
+-- secret
 abbrev pub signed_pair : KeyName → ℕ → Bool → List ℕ
 signed_pair k n one =
     on_side one (secret_of k n 0) (secret_of k n 1)
     ++ image (on_side one (secret_of k n 1) (secret_of k n 0))
 
--- the pairs that a key shows for the first n bits of a digest
+-- the pairs that a key shows for the first n bits of a digest, one after another
 unfoldable pub first_pairs : KeyName → List ℕ → ℕ → List ℕ
 first_pairs k digest zero = []
 first_pairs k digest (suc n) = first_pairs k digest n ++ signed_pair k n (bit_of digest n)
@@ -20,7 +20,8 @@ first_pairs k digest (suc n) = first_pairs k digest n ++ signed_pair k n (bit_of
 unfoldable pub signature_of : KeyName → List ℕ → List ℕ
 signature_of k digest = first_pairs k digest digest_bits
 
--- the images of both sides of a bit, from the secret that is shown and the image of the other side
+-- the images of both sides of a bit, side 0 first, made of the secret that is shown and the image of the
+-- other side
 abbrev pub both_images : List ℕ → List ℕ → Bool → List ℕ
 both_images shown other one = on_side one (image shown) other ++ on_side one other (image shown)
 
@@ -32,7 +33,7 @@ shown_at pairs bit = take hash_length (drop (pair_length * bit) pairs)
 abbrev pub other_at : List ℕ → ℕ → List ℕ
 other_at pairs bit = take hash_length (drop (pair_length * bit + hash_length) pairs)
 
--- the images that the first n pairs of a signature stand for
+-- the images that the first n pairs of a signature stand for, one after another
 unfoldable pub given_images : List ℕ → List ℕ → ℕ → List ℕ
 given_images pairs digest zero = []
 given_images pairs digest (suc n) =

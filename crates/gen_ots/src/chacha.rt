@@ -1,7 +1,7 @@
-//! The block function of ChaCha20 (RFC 8439, section 2.3), of four blocks side by side.
+//! The block function of ChaCha20 (RFC 8439, section 2.3), for four blocks side by side.
 //!
-//! Each word of a state is a vector, with one lane for each block. Blocks have one key and one stream, and
-//! each has a counter of its own.
+//! Each word of a state is a vector, with one lane for each block. The blocks have one key and one stream,
+//! and each has a counter of its own. Counter and stream have 64 bits each.
 ghost use Rattle.std.specs.Prelude.{◌≡◌, ℕ, ◌<◌, ◌/◌, ◌%◌, ◌^◌, slice_index};
 ghost use Rattle.rand_chacha.specs.Block.{add32, column_round, diagonal_round, initial_state, xor_rotate};
 ghost use Rattle.rand_chacha.specs.Lanes.{lane, lane_at};
@@ -10,10 +10,10 @@ ghost use Rattle.gen_ots.specs.Blocks.{HasBlock, half_rounds};
 use crate::lanes::{add, rotate_left, xor};
 use std::simd::u32x4;
 
-/// The pairs of rounds of ChaCha20, each of a round on columns and one on diagonals.
+/// The number of double rounds of ChaCha20, each of which is a round on columns and a round on diagonals.
 const DOUBLE_ROUNDS: usize = 10;
 
-// The bits in which the words differ, rotated.
+// Returns for each lane the bits in which its two words differ, rotated to the left by `count` bits.
 #[inline(always)]
 fn xor_rotate(x: u32x4, y: u32x4, count: u32) -> u32x4
     requires some { 0 < count }
@@ -24,8 +24,9 @@ fn xor_rotate(x: u32x4, y: u32x4, count: u32) -> u32x4
     rotate_left(xor(x, y), count)
 }
 
-// Half of the quarter round (section 2.1) on each column of a state of four rows, the columns side by side: with
-// rotations by 16 and 12 its first half, by 8 and 7 its second.
+// Returns the states after one half of the quarter round (RFC 8439, section 2.1) on each column, where a
+// state is read as four rows. Rotations by 16 and 12 make the first half, and rotations by 8 and 7 the
+// second.
 #[rattlefmt::skip]
 #[inline(always)]
 fn half_rounds(state: [u32x4; 16], first: u32, second: u32) -> [u32x4; 16]
@@ -58,7 +59,7 @@ fn half_rounds(state: [u32x4; 16], first: u32, second: u32) -> [u32x4; 16]
     ]
 }
 
-// The quarter round on each column (section 2.3).
+// Returns the states after the quarter round on each column (RFC 8439, section 2.3).
 #[inline(always)]
 fn column_round(state: [u32x4; 16]) -> [u32x4; 16]
     ensures { (j : ℕ) → j < 4 → lane j result ≡ column_round (lane j state) }
@@ -67,8 +68,8 @@ fn column_round(state: [u32x4; 16]) -> [u32x4; 16]
     half_rounds(half, 8, 7)
 }
 
-// The quarter round on each diagonal (section 2.3): the rows are turned, so that the diagonals are columns, and
-// turned back.
+// Returns the states after the quarter round on each diagonal (RFC 8439, section 2.3). The rows are
+// turned, so that the diagonals become columns, and are turned back afterwards.
 #[rattlefmt::skip]
 #[inline(always)]
 fn diagonal_round(state: [u32x4; 16]) -> [u32x4; 16]
@@ -113,7 +114,7 @@ fn high(x: u64) -> u32
     (x >> 32) as u32
 }
 
-// The states before the rounds: the constants, the key, the counter of each lane and the stream.
+// Returns the states before the rounds: the constants, the key, the counter of each lane, and the stream.
 #[inline(always)]
 fn initial_states(key: &[u32; 8], stream: u64, counters: &[u64; 4]) -> [u32x4; 16]
     ensures { (j : ℕ) → j < 4
@@ -140,7 +141,7 @@ fn initial_states(key: &[u32; 8], stream: u64, counters: &[u64; 4]) -> [u32x4; 1
     ]
 }
 
-// The sums of two states, word by word.
+// Returns the sums of two states, word by word, modulo 2^32.
 #[rattlefmt::skip]
 #[inline(always)]
 fn sums(x: &[u32x4; 16], y: &[u32x4; 16]) -> [u32x4; 16]
@@ -155,7 +156,8 @@ fn sums(x: &[u32x4; 16], y: &[u32x4; 16]) -> [u32x4; 16]
     ]
 }
 
-/// Returns the sixteen words of the blocks with these counters, each block in the lane of its counter.
+/// Returns the sixteen words of each of the four blocks with these counters. Lane j has the block of
+/// counter j.
 #[inline(never)]
 pub fn four_blocks(key: &[u32; 8], stream: u64, counters: &[u64; 4]) -> [u32x4; 16]
     ensures { (j : ℕ) → j < 4

@@ -1,4 +1,4 @@
-//! Four signatures of four digests side by side.
+//! Four signatures of four digests, hashed side by side.
 ghost use Rattle.std.specs.Prelude.{◌≡◌, ℕ, ◌<◌, ◌+◌, [], ◌∷◌, map, slice_index_or};
 ghost use Rattle.sha_lanes.specs.Lanes.{lane_bytes};
 ghost use Rattle.sha_lanes.specs.Hashers.{HoldsLane};
@@ -14,14 +14,14 @@ use sha_lanes::{FourHashers, Schedules, to_words};
 /// A digest, and a signature of it.
 #[derive(Clone, Copy)]
 pub struct SignedDigest<'a> {
-    /// The signature. It may be anybody's bytes.
+    /// The signature. It may be any bytes of a signature's length.
     pub signature: &'a OtsSig,
     /// The digest.
     pub digest: [u8; 32],
 }
 
-/// Returns the leaf values that four signatures stand for, each of a digest of its own, as `image_of` does.
-/// They are hashed side by side.
+/// Returns the leaf values that four signatures stand for, each of its own digest, as `image_of` does for
+/// one. They are hashed side by side.
 pub fn images_of_four(signed: &[SignedDigest<'_>; 4]) -> [[u8; 32]; 4]
     ensures { (j : ℕ) → j < 4
         → slice_index_or result j [] ≡ slice_index_or (map signed_value signed.now) j [] }
@@ -34,7 +34,7 @@ pub fn images_of_four(signed: &[SignedDigest<'_>; 4]) -> [[u8; 32]; 4]
     hashers.finalize(&mut schedules)
 }
 
-// Feeds the hashers of four leaf values with the images of a bit of each signature.
+// Feeds the hashers of four leaf values with both images of one bit of each signature.
 fn absorb(
     schedules: &mut Schedules,
     hashers: &mut FourHashers,

@@ -1,4 +1,4 @@
-//! What is hashed, and what the bits of a digest choose.
+//! What is hashed, and what the bits of a digest select.
 ghost use Rattle.std.specs.Prelude.{◌≡◌, ℕ, ◌<◌, ◌+◌, List, [], ◌∷◌, ◌++◌, length, map, false, slice_index_or};
 ghost use Rattle.sha_lanes.specs.Lanes.{lane_bytes};
 ghost use Rattle.gen_ots.specs.OneTime.{image, leaf_prefix, bit_of, on_side};
@@ -8,13 +8,13 @@ use crate::sizes::{DIGEST_BITS, HASH_BYTES};
 use sha_lanes::{Schedules, images};
 use std::simd::u32x4;
 
-/// The byte before a secret, where its image is hashed.
+/// The first byte of the text whose hash is the image of a secret; the secret follows it.
 const IMAGE_PREFIX: u8 = 0x00;
 
-/// The byte before the images of a key, where its leaf value is hashed.
+/// The first byte of the text whose hash is the leaf value of a key; all images of the key follow it.
 pub const LEAF_PREFIX: u8 = 0x01;
 
-/// Returns the images of four secrets, which are hashed side by side.
+/// Returns the images of four secrets, one in each lane, which are hashed side by side.
 #[inline(always)]
 pub fn images_in_lanes(schedules: &mut Schedules, secrets: &[u32x4; 8]) -> [u32x4; 8]
     ensures { (j : ℕ) → j < 4 → lane_bytes j result ≡ image (lane_bytes j secrets.now) }
@@ -30,7 +30,7 @@ pub fn is_one(digest: &[u8; 32], bit: usize) -> bool
     (digest[bit / 8] >> (7 - bit % 8)) % 2 == 1
 }
 
-/// Returns whether four bits of a digest are 1, from bit `first` on.
+/// Returns for each of four bits of a digest whether it is 1: for bit `first` and the three after it.
 #[inline(always)]
 pub fn are_ones(digest: &[u8; 32], first: usize) -> [bool; 4]
     requires { first + 3 < DIGEST_BITS }
@@ -45,7 +45,8 @@ pub fn are_ones(digest: &[u8; 32], first: usize) -> [bool; 4]
     ]
 }
 
-/// Returns what stands in each lane on the side that its bit names, of what stands on sides 0 and 1.
+/// Returns for each lane the 32 bytes on the side that the lane's bit names: those of `zeroth` if it is 0,
+/// and those of `first` if it is 1.
 #[inline(always)]
 pub fn chosen_in_lanes(ones: &[bool; 4], zeroth: &[u32x4; 8], first: &[u32x4; 8]) -> [u32x4; 8]
     ensures { (j : ℕ) → j < 4 → lane_bytes j result ≡ on_side (slice_index_or ones.now j false)

@@ -14,10 +14,11 @@ use gen_types::TreeHeight;
 use sha_lanes::{FourHashers, OneHasher, Schedules, to_bytes};
 use std::marker::Model;
 
-/// A one-time key, which signs one digest or is retired.
+/// A one-time key, which signs one digest or is retired. A contract sees its name, which is its seed,
+/// height and leaf, and whether it is still to be spent.
 ///
-/// It has no `Clone`, so it can't be copied, and it has to be spent by `sign` or `retire`: code that lets
-/// go a key that may be unspent can't be proved. Spending it can't fail. Its seed isn't wiped from memory.
+/// It has no `Clone`, so it can't be copied. It has to be spent by `sign` or `retire`: code that drops a
+/// key that may be unspent can't be proved. Spending it can't fail. Its seed isn't wiped from memory.
 pub struct OneTimeKey {
     seed: [u8; 32],
     height: TreeHeight,
@@ -37,7 +38,7 @@ impl Model for OneTimeKey {
 }
 
 impl Drop for OneTimeKey {
-    // A key is let go only once it was spent.
+    // A key may be dropped only after it was spent.
     fn drop(self)
         requires { self.live ≡ false }
     {
@@ -51,7 +52,7 @@ impl Drop for OneTimeKey {
 }
 
 impl OneTimeKey {
-    /// Returns the key of a seed for a leaf of a tree of this height. The number of the leaf is below
+    /// Returns the key of a seed for a leaf of a tree of this height. The number of the leaf must be below
     /// `height.leaves()`.
     pub fn new(seed: &[u8; 32], height: TreeHeight, leaf: u8) -> OneTimeKey
         requires { leaf < leaves_of height }
@@ -88,7 +89,7 @@ impl OneTimeKey {
         let stream = stream_of(self.height);
         let mut schedules = Schedules::new();
         let mut hasher = OneHasher::new(LEAF_PREFIX);
-        // Four bits a turn, so that four secrets are hashed side by side.
+        // Each turn takes four bits, so that four secrets are hashed side by side.
         'turns: for turn in 0..DIGEST_BITS / 4 {
             let blocks = blocks_of_bits(&key, stream, self.leaf, 4 * turn);
             let low = images_in_lanes(&mut schedules, &low_secrets(&blocks));
@@ -98,8 +99,8 @@ impl OneTimeKey {
         hasher.finalize()
     }
 
-    /// Ends the key, and returns its signature of a digest. It takes no memory beyond the room, which is
-    /// for the key's height, and can't fail.
+    /// Ends the key, and returns its signature of a digest. The room must be for the key's height. The
+    /// call takes no memory beyond the room and can't fail.
     pub fn sign(self, room: SigRoom, digest: &[u8; 32]) -> OtsSig
         requires { room ≡ self.name.height }
         ensures bytes { result ≡ signature_of self.name digest.now }
@@ -112,7 +113,7 @@ impl OneTimeKey {
         let stream = stream_of(this.height);
         let mut schedules = Schedules::new();
         let mut bytes = room.bytes;
-        // Four bits a turn, so that four secrets are hashed side by side.
+        // Each turn takes four bits, so that four secrets are hashed side by side.
         'turns: for turn in 0..DIGEST_BITS / 4 {
             let ones = are_ones(digest, 4 * turn);
             let blocks = blocks_of_bits(&key, stream, this.leaf, 4 * turn);
@@ -139,8 +140,8 @@ impl OneTimeKey {
     }
 }
 
-/// Returns the leaf values of four keys of a seed, those of leaf `first` and of the three after it, which
-/// are hashed side by side. All four are leaves of a tree of this height.
+/// Returns the leaf values of four keys of a seed, which are hashed side by side: those of leaf `first`
+/// and of the three after it. All four must be leaves of a tree of this height.
 pub fn leaf_values(seed: &[u8; 32], height: TreeHeight, first: u8) -> [[u8; 32]; 4]
     requires { first + 4 ≤ leaves_of height }
     ensures { (j : ℕ) → j < 4 → slice_index_or result j [] ≡ key_leaf_value

@@ -5,7 +5,7 @@ ghost use Rattle.rand_chacha.specs.Block.{add32};
 
 use std::simd::u32x4;
 
-/// Returns the sums, each with the carry out of its word dropped.
+/// Returns the sums of the words in each lane, modulo 2^32.
 #[inline(always)]
 pub fn add(x: u32x4, y: u32x4) -> u32x4
     ensures { (j : ℕ) → j < 4 → slice_index result j ≡ add32 (slice_index x j) (slice_index y j) }
@@ -13,7 +13,7 @@ pub fn add(x: u32x4, y: u32x4) -> u32x4
     x + y
 }
 
-/// Returns the bits in which the words differ.
+/// Returns for each lane the bits in which its two words differ.
 #[inline(always)]
 pub fn xor(x: u32x4, y: u32x4) -> u32x4
     ensures { (j : ℕ) → j < 4 → slice_index result j ≡ bit_xor (slice_index x j) (slice_index y j) }
@@ -21,7 +21,8 @@ pub fn xor(x: u32x4, y: u32x4) -> u32x4
     x ^ y
 }
 
-// The words shifted towards their high end by `count` bits, of which the highest are dropped.
+// Returns the words shifted towards their high end by `count` bits. The bits that leave a word are
+// dropped.
 #[inline(always)]
 fn shift_left(x: u32x4, count: u32) -> u32x4
     requires { count < 32 }
@@ -30,7 +31,7 @@ fn shift_left(x: u32x4, count: u32) -> u32x4
     x << u32x4::splat(count)
 }
 
-// The words shifted towards their low end by `count` bits.
+// Returns the words shifted towards their low end by `count` bits. The bits that leave a word are dropped.
 #[inline(always)]
 fn shift_right(x: u32x4, count: u32) -> u32x4
     requires { count < 32 }
@@ -39,7 +40,8 @@ fn shift_right(x: u32x4, count: u32) -> u32x4
     x >> u32x4::splat(count)
 }
 
-/// Returns the words, each with the `count` bits that leave it at the high end put in at the low end.
+/// Returns the words, each rotated to the left: the `count` bits that leave it at the high end come in at
+/// the low end.
 #[inline(always)]
 pub fn rotate_left(x: u32x4, count: u32) -> u32x4
     requires some { 0 < count }
@@ -49,7 +51,7 @@ pub fn rotate_left(x: u32x4, count: u32) -> u32x4
     (x << u32x4::splat(count)) | (x >> u32x4::splat(32 - count))
 }
 
-/// Returns the words with the bytes of each in the other order.
+/// Returns the words with the four bytes of each in reverse order.
 #[inline(always)]
 pub fn swap_bytes(x: u32x4) -> u32x4
     ensures { (j : ℕ) → j < 4 → slice_index result j ≡ swap_bytes w32 (slice_index x j) }

@@ -1,18 +1,20 @@
 //! Lamport's one-time signatures over SHA-256.
 //!
-//! A one-time key has a secret for each bit of a digest and each value of that bit. Its public part is
-//! the hash of all the secrets' images, the leaf value. A signature shows, for each bit, the secret that
-//! the bit names and the image of the other one, so that anyone can compute the leaf value from it
-//! (L. Lamport, "Constructing Digital Signatures from a One Way Function", SRI International, CSL-98,
-//! 1979). The secrets come from ChaCha20, so that a key is named by a seed of 32 bytes, the height of a
-//! tree and the number of a leaf in it. Trees of two heights take their secrets from two streams: one
-//! seed gives them no secret in common.
+//! A one-time key has a secret for each bit of a digest and each value of that bit. Its public part is the
+//! leaf value: the hash of the images of all its secrets. For each bit of a digest a signature shows the
+//! secret that the bit names, and the image of the other secret. So anyone can compute the leaf value from
+//! it (L. Lamport, "Constructing Digital Signatures from a One Way Function", SRI International, CSL-98,
+//! 1979). The secrets come from ChaCha20. A key is named by a seed of 32 bytes, the height of a tree, and
+//! the number of a leaf in it. Trees of the two heights take their secrets from two streams, also if they
+//! come from one seed.
 //!
-//! What is promised: each call gives exactly the bytes that its contract names, a key signs at most one
-//! digest, and code that lets an unspent key go is not accepted. What is not: that nobody else can make
-//! a signature that stands for a leaf value, that seeds and secrets stay secret (calls take time that may
-//! depend on them), that memory is wiped, or that one seed, height and leaf make only one key: whoever
-//! has the seed can make the key again.
+//! What is promised: each call gives the bytes that its contract names, a key signs at most one digest,
+//! and code that drops an unspent key is not accepted.
+//!
+//! What is not promised: that nobody else can make a signature that stands for a leaf value, or that seeds
+//! and secrets stay secret (calls take time that may depend on them). Nor is it promised that memory is
+//! wiped, or that one seed, height and leaf make only one key: whoever has the seed can make the key
+//! again.
 #![tactic(auto)]
 
 mod chacha;

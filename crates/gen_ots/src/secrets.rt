@@ -1,6 +1,7 @@
-//! The secrets of keys, read from the blocks of their streams of ChaCha20.
+//! The secrets of keys, which are read from blocks of streams of ChaCha20.
 //!
-//! A block of sixteen words is both secrets of one bit of one leaf, that of side 0 first.
+//! A block of sixteen words has the two secrets of one bit of one leaf: first that of side 0, then that of
+//! side 1.
 ghost use Rattle.std.specs.Prelude.{◌≡◌, ℕ, ◌<◌, ◌+◌, ◌*◌, List};
 ghost use Rattle.rand_chacha.specs.ChaCha.{key_of};
 ghost use Rattle.sha_lanes.specs.Lanes.{lane_bytes};
@@ -14,13 +15,13 @@ use gen_types::TreeHeight;
 use rand_core::utils::read_u32;
 use std::simd::u32x4;
 
-/// The stream of ChaCha20 that the secrets of trees of four levels come from.
+/// The number of the stream of ChaCha20 that has the secrets of trees of four levels.
 const STREAM_OF_FOUR: u64 = 0;
 
-/// The stream that the secrets of trees of six levels come from.
+/// The number of the stream of ChaCha20 that has the secrets of trees of six levels.
 const STREAM_OF_SIX: u64 = 1;
 
-/// Returns the stream of secrets for trees of a height.
+/// Returns the number of the stream that has the secrets of trees of this height.
 pub fn stream_of(height: TreeHeight) -> u64
     ensures { result ≡ secret_stream height }
 {
@@ -30,7 +31,8 @@ pub fn stream_of(height: TreeHeight) -> u64
     }
 }
 
-/// Returns the words of a seed, which are the key of its streams: each with its low byte first.
+/// Returns the eight words of a seed, which are the key of its streams. The low byte of each word comes
+/// first.
 pub fn key_of(seed: &[u8; 32]) -> [u32; 8]
     ensures { result ≡ key_of seed.now }
 {
@@ -46,7 +48,8 @@ pub fn key_of(seed: &[u8; 32]) -> [u32; 8]
     ]
 }
 
-/// Returns the number of the block that has the secrets of a bit of a leaf.
+/// Returns the number of the block that has the secrets of a bit of a leaf: 256 times the leaf, plus the
+/// bit.
 fn block_of(leaf: u8, bit: usize) -> u64
     requires { bit < DIGEST_BITS }
     ensures { result ≡ secret_block leaf bit }
@@ -54,7 +57,8 @@ fn block_of(leaf: u8, bit: usize) -> u64
     u64::from(leaf) * DIGEST_BITS as u64 + bit as u64
 }
 
-/// Returns the blocks with the secrets of a bit of four leaves, of leaf `first` and of the three after it.
+/// Returns the blocks with the secrets of one bit of four leaves: leaf `first` and the three after it,
+/// each in a lane of its own.
 #[inline(always)]
 pub fn blocks_of_leaves(key: &[u32; 8], stream: u64, first: u8, bit: usize) -> [u32x4; 16]
     requires leaves { first + 3 < 256 }
@@ -71,7 +75,8 @@ pub fn blocks_of_leaves(key: &[u32; 8], stream: u64, first: u8, bit: usize) -> [
     four_blocks(key, stream, &counters)
 }
 
-/// Returns the blocks with the secrets of four bits of a leaf, of bit `first` and of the three after it.
+/// Returns the blocks with the secrets of four bits of one leaf: bit `first` and the three after it, each
+/// in a lane of its own.
 #[inline(always)]
 pub fn blocks_of_bits(key: &[u32; 8], stream: u64, leaf: u8, first: usize) -> [u32x4; 16]
     requires { first + 3 < DIGEST_BITS }
@@ -87,7 +92,7 @@ pub fn blocks_of_bits(key: &[u32; 8], stream: u64, leaf: u8, first: usize) -> [u
     four_blocks(key, stream, &counters)
 }
 
-/// Returns the secrets of side 0 that are in blocks.
+/// Returns the secrets of side 0 in these blocks, one in each lane, as words whose high byte comes first.
 #[inline(always)]
 pub fn low_secrets(blocks: &[u32x4; 16]) -> [u32x4; 8]
     ensures { (j : ℕ) → j < 4 → (key : List ℕ) → (stream counter : ℕ)
@@ -106,7 +111,7 @@ pub fn low_secrets(blocks: &[u32x4; 16]) -> [u32x4; 8]
     ]
 }
 
-/// Returns the secrets of side 1 that are in blocks.
+/// Returns the secrets of side 1 in these blocks, one in each lane, as words whose high byte comes first.
 #[inline(always)]
 pub fn high_secrets(blocks: &[u32x4; 16]) -> [u32x4; 8]
     ensures { (j : ℕ) → j < 4 → (key : List ℕ) → (stream counter : ℕ)

@@ -6,12 +6,12 @@ ghost use Rattle.gen_ots.specs.Sharing.{bytes_of};
 use std::alloc::{AllocError, Global};
 use std::sync::ArcSlice;
 
-/// Bytes of one owner, or bytes that several share, as those of a signature or of a log.
+/// Bytes of one owner, or bytes that several owners share, as those of a signature or of a log.
 #[derive(Debug, Drop)]
 pub enum HeldBytes {
-    /// Of one owner.
+    /// Bytes of one owner.
     Owned(Vec<u8>),
-    /// Of all who share them.
+    /// Bytes of all owners that share them.
     Shared(ArcSlice<u8>),
 }
 
@@ -26,22 +26,23 @@ impl HeldBytes {
         }
     }
 
-    /// Returns a copy of these bytes that several can share.
+    /// Returns a copy of these bytes that several owners can share.
     ///
     /// # Errors
     ///
-    /// `AllocError` where memory is refused.
+    /// `AllocError` if memory is refused.
     pub(crate) fn shared(alloc: Global, bytes: &[u8]) -> Result<HeldBytes, AllocError>
         ensures { IfOk result (λ shared. bytes_of shared ≡ bytes.now) }
     {
         Ok(HeldBytes::Shared(ArcSlice::from_slice(alloc, bytes)?))
     }
 
-    /// Returns the same bytes for one owner more. Those that were shared already are not copied.
+    /// Returns the bytes for one owner more. Bytes that are shared already are not copied; bytes of one
+    /// owner are.
     ///
     /// # Errors
     ///
-    /// `AllocError` where memory is refused, or there are too many owners, 2^63 or more.
+    /// `AllocError` if memory is refused, or if there are too many owners, 2^63 or more.
     pub fn share(&self, alloc: Global) -> Result<HeldBytes, AllocError>
         ensures { IfOk result (λ shared. bytes_of shared ≡ bytes_of self.now) }
     {
@@ -51,11 +52,11 @@ impl HeldBytes {
         }
     }
 
-    /// Returns the same bytes, which several can share from now on. They are not copied.
+    /// Returns the bytes as bytes that several owners can share from now on. They are not copied.
     ///
     /// # Errors
     ///
-    /// `AllocError` where memory is refused. The bytes are lost then.
+    /// `AllocError` if memory is refused. The bytes are lost then.
     pub fn into_shared(self) -> Result<ArcSlice<u8>, AllocError>
         ensures { IfOk result (λ shared. arc_slice_items shared ≡ bytes_of self) }
     {

@@ -1,4 +1,4 @@
-//! One-time signatures, and the room that they are written into.
+//! One-time signatures, and the room into which they are written.
 ghost use Rattle.std.specs.Prelude.{◌≡◌, ◌<◌, ◌≤◌, ◌+◌, ◌∷◌, ◌++◌, length, vec_len, vec_capacity, IfOk};
 ghost use Rattle.std.specs.Cmp.{partial_equiv_from_equiv};
 ghost use Rattle.std.specs.Cmp.Lexicographic.{pointwise};
@@ -16,8 +16,8 @@ use sha_lanes::{OneHasher, Schedules, to_words};
 use std::alloc::{AllocError, Global};
 use std::marker::Model;
 
-/// Room for one signature by a key of a tree of some height: all the memory that making or reading one
-/// takes. A contract sees the height.
+/// Room for one signature by a key of a tree of some height. It is all the memory that is needed to make
+/// or read one. A contract sees the height.
 #[derive(Debug, Drop)]
 pub struct SigRoom {
     pub(crate) bytes: Vec<u8>,
@@ -41,7 +41,7 @@ impl SigRoom {
     ///
     /// # Errors
     ///
-    /// `AllocError` where memory is refused.
+    /// `AllocError` if memory is refused.
     pub fn new(alloc: Global, height: TreeHeight) -> Result<SigRoom, AllocError>
         ensures { IfOk result (λ room. room ≡ height) }
     {
@@ -49,7 +49,7 @@ impl SigRoom {
         Ok(SigRoom { bytes, height })
     }
 
-    /// Returns the height of the tree whose keys' signatures the room is for.
+    /// Returns the height of the trees for whose keys the room is.
     pub fn height(&self) -> TreeHeight
         ensures { result ≡ self.now }
     {
@@ -57,10 +57,11 @@ impl SigRoom {
     }
 }
 
-/// A one-time signature: for each bit of a digest, from the most significant bit of byte 0 on, the secret
-/// that the bit names and the image of the other side.
+/// A one-time signature. For each bit of a digest, from the most significant bit of byte 0 on, it has the
+/// secret that the bit names and the image of the other secret.
 ///
-/// It may be anybody's bytes: whom it speaks for is what `image_of` says.
+/// It may be any 16,384 bytes: `image_of` says which leaf value they stand for. A contract sees the list
+/// of the bytes.
 #[derive(Debug, Drop)]
 pub struct OtsSig {
     bytes: HeldBytes,
@@ -79,7 +80,7 @@ impl Model for OtsSig {
 }
 
 impl OtsSig {
-    /// The signature that owns these bytes.
+    /// Returns the signature that owns these bytes, of which there must be `OTS_BYTES`.
     pub(crate) fn owning(bytes: Vec<u8>) -> OtsSig
         requires { length bytes.items ≡ OTS_BYTES }
         ensures { result ≡ bytes.items }
@@ -89,7 +90,7 @@ impl OtsSig {
         }
     }
 
-    /// Returns the signature with these bytes, of which there are `OTS_BYTES`.
+    /// Returns the signature with these bytes, of which there must be `OTS_BYTES`, written into the room.
     pub fn read(room: SigRoom, pairs: &[u8]) -> OtsSig
         requires { length pairs.now ≡ OTS_BYTES }
         ensures { result ≡ pairs.now }
@@ -99,11 +100,12 @@ impl OtsSig {
         OtsSig::owning(bytes)
     }
 
-    /// Returns the signature with these bytes, of which there are `OTS_BYTES`, which others can share.
+    /// Returns the signature with these bytes, of which there must be `OTS_BYTES`, in memory that several
+    /// owners can share.
     ///
     /// # Errors
     ///
-    /// `AllocError` where memory is refused.
+    /// `AllocError` if memory is refused.
     pub fn shared(alloc: Global, pairs: &[u8]) -> Result<OtsSig, AllocError>
         requires { length pairs.now ≡ OTS_BYTES }
         ensures { IfOk result (λ signature. signature ≡ pairs.now) }
@@ -112,11 +114,11 @@ impl OtsSig {
         Ok(OtsSig { bytes })
     }
 
-    /// Returns the same signature for one owner more. Bytes that can be shared are not copied.
+    /// Returns the signature for one owner more. Bytes that can be shared are not copied.
     ///
     /// # Errors
     ///
-    /// `AllocError` where memory is refused.
+    /// `AllocError` if memory is refused.
     pub fn share(&self, alloc: Global) -> Result<OtsSig, AllocError>
         ensures { IfOk result (λ signature. signature ≡ self.now) }
     {
@@ -124,7 +126,7 @@ impl OtsSig {
         Ok(OtsSig { bytes })
     }
 
-    /// Returns the same signature again, in other room.
+    /// Returns a copy of the signature, written into the room.
     pub fn copy(&self, room: SigRoom) -> OtsSig
         ensures { result ≡ self.now }
     {
@@ -154,22 +156,22 @@ impl Eq for OtsSig {
     ghost laws = { nat_list_eq_equiv };
 }
 
-/// Returns the leaf value that a signature of a digest stands for: the hash of the images of the
-/// secrets that it shows and the images that it gives, each on its side.
+/// Returns the leaf value that a signature of a digest stands for. It is the hash of both images of each
+/// bit, side 0 before side 1: that of the secret that the signature shows, and the image that it gives.
 pub fn image_of(signature: &OtsSig, digest: &[u8; 32]) -> [u8; 32]
     ensures { result ≡ signed_leaf_value signature.now digest.now }
 {
     let pairs = signature.as_bytes();
     let mut schedules = Schedules::new();
     let mut hasher = OneHasher::new(LEAF_PREFIX);
-    // Four bits a turn, so that four secrets are hashed side by side.
+    // Each turn takes four bits, so that four secrets are hashed side by side.
     'turns: for turn in 0..DIGEST_BITS / 4 {
         absorb(&mut schedules, &mut hasher, pairs, digest, 4 * turn);
     }
     hasher.finalize()
 }
 
-// Feeds the hasher of a leaf value with the images of four bits, from `bit` on.
+// Feeds the hasher of a leaf value with both images of four bits: of bit `bit` and the three after it.
 fn absorb(
     schedules: &mut Schedules,
     hasher: &mut OneHasher,
@@ -201,7 +203,7 @@ fn absorb(
     hasher.update(&zeroth, &first);
 }
 
-// The secret that the pairs show for a bit.
+// Returns the secret that the pairs show for a bit.
 pub(crate) fn shown_at(pairs: &[u8], bit: usize) -> [u8; 32]
     requires length { length pairs.now ≡ OTS_BYTES }
     requires bit { bit < DIGEST_BITS }
@@ -213,7 +215,7 @@ pub(crate) fn shown_at(pairs: &[u8], bit: usize) -> [u8; 32]
     secret
 }
 
-// The image that the pairs give for a bit.
+// Returns the image that the pairs give for a bit.
 pub(crate) fn other_at(pairs: &[u8], bit: usize) -> [u8; 32]
     requires length { length pairs.now ≡ OTS_BYTES }
     requires bit { bit < DIGEST_BITS }
@@ -225,7 +227,7 @@ pub(crate) fn other_at(pairs: &[u8], bit: usize) -> [u8; 32]
     image
 }
 
-// Appends a secret that is shown, and an image.
+// Appends a secret that is shown, and the image of the other secret. The vector must have room for both.
 pub(crate) fn push_pair(bytes: &mut Vec<u8>, shown: &[u8; 32], image: &[u8; 32])
     requires { vec_len bytes.old + PAIR_BYTES ≤ vec_capacity bytes.old }
     ensures items { bytes.new.items ≡ bytes.old.items ++ (shown.now ++ image.now) }

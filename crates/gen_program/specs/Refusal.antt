@@ -1,4 +1,4 @@
--- What becomes of words that ask for no job.
+-- How the program answers words that ask for no job.
 use Rattle.std.specs.Prelude.{◌≡◌, ℕ, ◌⊎◌, List, ◌++◌, codes}
 use Rattle.clap.specs.declared.error.Error.{Error}
 use Rattle.clap.specs.declared.error.kind.ErrorKind.TheVariants.{DisplayHelp, DisplayVersion}
@@ -11,11 +11,11 @@ use Rattle.gen_program.specs.declared.words.WordsFault.TheVariants.{Memory, NotT
 use Rattle.gen_program.specs.declared.words.WordsFault.TheVariants.{BadCapacity, BadWorkers, BadGeneral}
 use Rattle.gen_jobs.specs.Ends.{status_of}
 
--- the exit status where words ask for no job
+-- the exit status for words that ask for no job
 abbrev pub words_status : ℕ
 words_status = 2
 
--- an exit status of the program: that of words which ask for no job, or of a job's end
+-- the status is one of the program: that for words that ask for no job, or that of a job's end
 abbrev pub IsStatus : ℕ → Type 0
 IsStatus status = (status ≡ words_status) ⊎ ((end : JobEnd) × (status ≡ status_of end))
 
@@ -23,15 +23,15 @@ IsStatus status = (status ≡ words_status) ⊎ ((end : JobEnd) × (status ≡ s
 abbrev pub AsksToShow : Error → Type 0
 AsksToShow e = (kind_of e ≡ DisplayHelp) ⊎ (kind_of e ≡ DisplayVersion)
 
--- what they ask for is shown, or its write failed
+-- the status after showing help or the version: done, or the write failed
 abbrev pub IsShown : ℕ → Type 0
 IsShown status = (status ≡ status_of Done) ⊎ (status ≡ status_of (Failed faults.Write))
 
--- the words are blamed, or memory for the line that does was refused
+-- the status after blaming the words: that for words that ask for no job, or memory for the line was refused
 abbrev pub IsBlamed : ℕ → Type 0
 IsBlamed status = (status ≡ words_status) ⊎ (status ≡ status_of (Failed faults.Memory))
 
--- the exit status for this fault of the words
+-- the status is one for this fault of the words
 abbrev pub Refuses : WordsFault → ℕ → Type 0
 Refuses Memory status = status ≡ status_of (Failed faults.Memory)
 Refuses NotText status = IsBlamed status

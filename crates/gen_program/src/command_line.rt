@@ -7,7 +7,7 @@ ghost use Rattle.gen_program.specs.CommandLine as lines;
 use clap::{Arg, ArgAction, Command};
 use std::alloc::{AllocError, Global};
 
-/// What stands at the end of the help: four examples, the exit statuses, and where more is said.
+/// The end of the help: four examples, the exit statuses, the faults, and where more is explained.
 const MORE: &str = "\
 Examples:
   sm_tool run < split.scenario > split.bundle
@@ -29,7 +29,7 @@ Exit status:
 Faults, as 'fault P6 line 8', findings, as 'N8 from 0 to 1', and convictions, as 'K2', are explained in
 docs/FORMATS.md of the sources. 'sm_tool help run' tells of one command.";
 
-/// Returns the option that says how many frames an edge holds.
+/// Returns the option `--capacity`: how many frames an edge holds.
 fn capacity_option<'a>(alloc: Global) -> Arg<'a>
     ensures rule { rule_of result ≡ lines.capacity }
     ensures local { result.global ≡ false }
@@ -42,7 +42,7 @@ fn capacity_option<'a>(alloc: Global) -> Arg<'a>
         .default_value("1")
 }
 
-/// Returns the option that says how many workers an audit has.
+/// Returns the option `--workers`: how many workers an audit has.
 fn workers_option<'a>(alloc: Global) -> Arg<'a>
     ensures rule { rule_of result ≡ lines.workers }
     ensures local { result.global ≡ false }
@@ -55,7 +55,7 @@ fn workers_option<'a>(alloc: Global) -> Arg<'a>
         .default_value("1")
 }
 
-/// Returns the option that says who is accused.
+/// Returns the option `--general`: which general is accused.
 fn general_option<'a>(alloc: Global) -> Arg<'a>
     ensures rule { rule_of result ≡ lines.general }
     ensures local { result.global ≡ false }
@@ -68,7 +68,7 @@ fn general_option<'a>(alloc: Global) -> Arg<'a>
         .required(true)
 }
 
-/// Returns a command of this name that takes nothing.
+/// Returns a command of this name that takes no option.
 fn plain_command<'a>(alloc: Global, name: &'a str, about: &'a str) -> Command<'a>
     ensures app { app_of result ≡ new_app name.entry.now }
     ensures local { (fields_of result).has_globals ≡ false }
@@ -76,7 +76,7 @@ fn plain_command<'a>(alloc: Global, name: &'a str, about: &'a str) -> Command<'a
     Command::new(alloc, name).about(about)
 }
 
-/// Returns the command that runs a scenario.
+/// Returns the command `run`, which runs a scenario.
 fn run_command<'a>(alloc: Global) -> Result<Command<'a>, AllocError>
     ensures app { IfOk result (λ c. app_of c ≡ lines.run) }
     ensures local { IfOk result (λ c. (fields_of c).has_globals ≡ false) }
@@ -85,7 +85,7 @@ fn run_command<'a>(alloc: Global) -> Result<Command<'a>, AllocError>
     plain_command(alloc, "run", about).arg(capacity_option(alloc))
 }
 
-/// Returns the command that runs a scenario and audits it.
+/// Returns the command `judge`, which runs a scenario and audits it.
 fn judge_command<'a>(alloc: Global) -> Result<Command<'a>, AllocError>
     ensures app { IfOk result (λ c. app_of c ≡ lines.judge) }
     ensures local { IfOk result (λ c. (fields_of c).has_globals ≡ false) }
@@ -97,7 +97,7 @@ fn judge_command<'a>(alloc: Global) -> Result<Command<'a>, AllocError>
         .arg(workers_option(alloc))
 }
 
-/// Returns the command that runs a campaign.
+/// Returns the command `campaign`, which runs a campaign.
 fn campaign_command<'a>(alloc: Global) -> Result<Command<'a>, AllocError>
     ensures app { IfOk result (λ c. app_of c ≡ lines.campaign) }
     ensures local { IfOk result (λ c. (fields_of c).has_globals ≡ false) }
@@ -107,7 +107,7 @@ fn campaign_command<'a>(alloc: Global) -> Result<Command<'a>, AllocError>
     plain_command(alloc, "campaign", about).arg(capacity_option(alloc))
 }
 
-/// Returns the command that audits a bundle or a campaign.
+/// Returns the command `audit`, which audits a bundle or a campaign.
 fn audit_command<'a>(alloc: Global) -> Result<Command<'a>, AllocError>
     ensures app { IfOk result (λ c. app_of c ≡ lines.audit) }
     ensures local { IfOk result (λ c. (fields_of c).has_globals ≡ false) }
@@ -117,7 +117,7 @@ fn audit_command<'a>(alloc: Global) -> Result<Command<'a>, AllocError>
     plain_command(alloc, "audit", about).arg(workers_option(alloc))
 }
 
-/// Returns the command that draws a bundle or a campaign.
+/// Returns the command `draw`, which draws a bundle or a campaign.
 fn draw_command<'a>(alloc: Global) -> Result<Command<'a>, AllocError>
     ensures app { IfOk result (λ c. app_of c ≡ lines.draw) }
     ensures local { IfOk result (λ c. (fields_of c).has_globals ≡ false) }
@@ -127,7 +127,7 @@ fn draw_command<'a>(alloc: Global) -> Result<Command<'a>, AllocError>
     plain_command(alloc, "draw", about).arg(workers_option(alloc))
 }
 
-/// Returns the command that accuses a general.
+/// Returns the command `accuse`, which accuses a general.
 fn accuse_command<'a>(alloc: Global) -> Result<Command<'a>, AllocError>
     ensures app { IfOk result (λ c. app_of c ≡ lines.accuse) }
     ensures local { IfOk result (λ c. (fields_of c).has_globals ≡ false) }
@@ -137,7 +137,7 @@ fn accuse_command<'a>(alloc: Global) -> Result<Command<'a>, AllocError>
     plain_command(alloc, "accuse", about).arg(general_option(alloc))
 }
 
-/// Returns the command line without its subcommands, one of which it requires.
+/// Returns the command line without its subcommands. One of them is required.
 fn bare_command<'a>(alloc: Global) -> Command<'a>
     ensures { app_of result ≡ lines.bare }
 {
@@ -148,7 +148,7 @@ fn bare_command<'a>(alloc: Global) -> Command<'a>
         .subcommand_required(true)
 }
 
-/// Returns the command line with the command that decides.
+/// Returns the command line with the command `decide`.
 fn with_decide<'a>(alloc: Global) -> Result<Command<'a>, AllocError>
     ensures { IfOk result (λ c. app_of c ≡ lines.with_decide) }
 {
@@ -156,7 +156,7 @@ fn with_decide<'a>(alloc: Global) -> Result<Command<'a>, AllocError>
     bare_command(alloc).subcommand(plain_command(alloc, "decide", about))
 }
 
-/// Returns the command line with the commands that decide and run.
+/// Returns the command line with the commands up to `run`.
 fn with_runs<'a>(alloc: Global) -> Result<Command<'a>, AllocError>
     ensures { IfOk result (λ c. app_of c ≡ lines.with_runs) }
 {
@@ -164,7 +164,7 @@ fn with_runs<'a>(alloc: Global) -> Result<Command<'a>, AllocError>
     with_decide(alloc)?.subcommand(run)
 }
 
-/// Returns the command line with the command that runs and audits, too.
+/// Returns the command line with the commands up to `judge`.
 fn with_judge<'a>(alloc: Global) -> Result<Command<'a>, AllocError>
     ensures { IfOk result (λ c. app_of c ≡ lines.with_judge) }
 {
@@ -172,7 +172,7 @@ fn with_judge<'a>(alloc: Global) -> Result<Command<'a>, AllocError>
     with_runs(alloc)?.subcommand(judge)
 }
 
-/// Returns the command line with the command that runs a campaign, too.
+/// Returns the command line with the commands up to `campaign`.
 fn with_campaign<'a>(alloc: Global) -> Result<Command<'a>, AllocError>
     ensures { IfOk result (λ c. app_of c ≡ lines.with_campaign) }
 {
@@ -180,7 +180,7 @@ fn with_campaign<'a>(alloc: Global) -> Result<Command<'a>, AllocError>
     with_judge(alloc)?.subcommand(campaign)
 }
 
-/// Returns the command line with the command that audits, too.
+/// Returns the command line with the commands up to `audit`.
 fn with_audit<'a>(alloc: Global) -> Result<Command<'a>, AllocError>
     ensures { IfOk result (λ c. app_of c ≡ lines.with_audit) }
 {
@@ -188,7 +188,7 @@ fn with_audit<'a>(alloc: Global) -> Result<Command<'a>, AllocError>
     with_campaign(alloc)?.subcommand(audit)
 }
 
-/// Returns the command line with the command that draws, too.
+/// Returns the command line with the commands up to `draw`.
 fn with_draw<'a>(alloc: Global) -> Result<Command<'a>, AllocError>
     ensures { IfOk result (λ c. app_of c ≡ lines.with_draw) }
 {
@@ -196,7 +196,7 @@ fn with_draw<'a>(alloc: Global) -> Result<Command<'a>, AllocError>
     with_audit(alloc)?.subcommand(draw)
 }
 
-/// Returns the command line with the commands that read a bundle, too.
+/// Returns the command line with the commands up to `accuse`, without `evidence`.
 fn with_bundles<'a>(alloc: Global) -> Result<Command<'a>, AllocError>
     ensures { IfOk result (λ c. app_of c ≡ lines.with_bundles) }
 {
@@ -204,7 +204,7 @@ fn with_bundles<'a>(alloc: Global) -> Result<Command<'a>, AllocError>
     with_draw(alloc)?.subcommand(accuse)
 }
 
-/// Returns the command line of the program. It fails only where memory is refused.
+/// Returns the command line of the program, with all its commands. It fails only if memory is refused.
 pub fn tool_command<'a>(alloc: Global) -> Result<Command<'a>, AllocError>
     ensures { IfOk result (λ c. app_of c ≡ lines.tool) }
 {

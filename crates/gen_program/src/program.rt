@@ -16,7 +16,7 @@ use std::sync::Wait;
 use std::thread::Threads;
 use std::{env, io};
 
-/// The exit status for a fault of the words.
+/// The exit status for words that ask for no job.
 const WORDS_STATUS: u8 = 2;
 
 /// Does what the words ask for, and returns the exit status.
@@ -29,7 +29,7 @@ pub fn run<R: Env + AllocGlobal + Input + Print + Eprint + Threads + Wait + Sync
     }
 }
 
-/// Does the job from standard input to standard output, and returns the exit status of its end.
+/// Does a job from standard input to standard output, and returns the exit status of its end.
 fn finish<R: AllocGlobal + Input + Print + Eprint + Threads + Wait + Sync>(rt: &R, job: Job) -> u8
     requires { IsInRange job }
     ensures { (end : JobEnd) × (result ≡ status_of end) }
@@ -40,7 +40,7 @@ fn finish<R: AllocGlobal + Input + Print + Eprint + Threads + Wait + Sync>(rt: &
     end_with(rt, end)
 }
 
-/// Returns the job that the words of this process ask for.
+/// Returns the job that the words of this process ask for, or why they ask for none.
 fn given_job<R: Env + AllocGlobal>(rt: &R) -> Result<Job, WordsFault>
     // There are words that ask for it.
     ensures asked { IfOk result (λ job. (words : List Text) × (asked words ≡ Some job)) }
@@ -63,7 +63,7 @@ fn job_in(alloc: Global, given: &[String]) -> Result<Job, WordsFault>
     ensures ok { IfOk result (λ job. asked (map (λ w. string_bytes w) given.now) ≡ Some job) }
     // Its numbers are in their ranges.
     ensures range { IfOk result IsInRange }
-    // Words that ask for a job fail only for want of memory.
+    // If the words ask for a job, the only fault is that memory was refused.
     ensures only { IfErr result (λ fault.
         IsSome (asked (map (λ w. string_bytes w) given.now)) → fault ≡ Memory) }
     // A fault is one that the command line has at these words.
@@ -73,7 +73,7 @@ fn job_in(alloc: Global, given: &[String]) -> Result<Job, WordsFault>
     read_words(alloc, &words)
 }
 
-/// Returns the texts of strings.
+/// Returns the texts of strings, in their order.
 fn texts_of<'a>(alloc: Global, given: &'a [String]) -> Result<Vec<&'a str>, AllocError>
     ensures { IfOk result (λ words. map (λ w. w.now) words.items
         ≡ map (λ w. string_bytes w) given.now) }
@@ -85,7 +85,7 @@ fn texts_of<'a>(alloc: Global, given: &'a [String]) -> Result<Vec<&'a str>, Allo
     Ok(words)
 }
 
-/// Writes the line of a job that failed to standard error, and returns its exit status.
+/// Writes the line of a job's fault to standard error, if the job failed, and returns the exit status of its end.
 fn end_with<R: Eprint>(rt: &R, end: JobEnd) -> u8
     ensures { result ≡ status_of end }
 {
@@ -95,7 +95,8 @@ fn end_with<R: Eprint>(rt: &R, end: JobEnd) -> u8
     end.status()
 }
 
-/// Says why the words ask for no job, and returns the exit status.
+/// Answers words that ask for no job, and returns the exit status. Help and the version go to standard output, any
+/// other text to standard error.
 fn refuse<R: AllocGlobal + Print + Eprint>(rt: &R, fault: &WordsFault) -> u8
     ensures by_fault { Refuses fault.now result }
     ensures status { IsStatus result }
@@ -107,7 +108,7 @@ fn refuse<R: AllocGlobal + Print + Eprint>(rt: &R, fault: &WordsFault) -> u8
     }
 }
 
-/// Writes help or the version, which the words asked for, to standard output, and returns the exit status.
+/// Writes help or the version to standard output, as the words asked for, and returns the exit status.
 fn show<R: Print + Eprint>(rt: &R, text: &clap::Error) -> u8
     ensures shown { IsShown result }
     ensures status { IsStatus result }
@@ -118,7 +119,7 @@ fn show<R: Print + Eprint>(rt: &R, text: &clap::Error) -> u8
     }
 }
 
-/// Writes to standard error in one line what is wrong with the words, and returns the exit status.
+/// Writes a line to standard error that says what is wrong with the words, and returns the exit status.
 fn blame<R: AllocGlobal + Eprint>(rt: &R, fault: &WordsFault) -> u8
     ensures blamed { IsBlamed result }
     ensures status { IsStatus result }
@@ -132,7 +133,7 @@ fn blame<R: AllocGlobal + Eprint>(rt: &R, fault: &WordsFault) -> u8
     }
 }
 
-/// Returns in one line what is wrong with the words, and at its end how to ask for help.
+/// Returns one line that says what is wrong with the words, and at its end how to ask for help.
 pub fn fault_line(alloc: Global, fault: &WordsFault) -> Result<String, AllocError>
     ensures { IfOk result (λ line. PointsAtHelp (string_bytes line)) }
 {

@@ -1,4 +1,4 @@
-//! The words of the command line.
+//! Reads the words of the command line.
 ghost use Rattle.std.specs.Prelude.{◌≡◌, ◌&&◌, [], IfOk, IfErr, IfSome, Some, IsSome, map, option_map};
 ghost use Rattle.clap.specs.Simple.{subcommand_rows_of};
 ghost use Rattle.clap.specs.Words.{fault_of};
@@ -30,13 +30,13 @@ pub enum WordsFault {
     /// The words name no command.
     #[error("error: no command")]
     NoCommand,
-    /// What stands behind `--capacity` is no decimal number from 1 to 16, without leading zeros or a sign.
+    /// The text behind `--capacity` is no decimal number from 1 to 16, without leading zeros or a sign.
     #[error("error: --capacity takes a number from 1 to 16")]
     BadCapacity,
-    /// What stands behind `--workers` is no decimal number from 1 to 16, without leading zeros or a sign.
+    /// The text behind `--workers` is no decimal number from 1 to 16, without leading zeros or a sign.
     #[error("error: --workers takes a number from 1 to 16")]
     BadWorkers,
-    /// What stands behind `--general` is no decimal number from 0 to 15, without leading zeros or a sign.
+    /// The text behind `--general` is no decimal number from 0 to 15, without leading zeros or a sign.
     #[error("error: --general takes a number from 0 to 15")]
     BadGeneral,
     /// A mistake in the words, or a request for help or for the version.
@@ -69,17 +69,17 @@ impl From<clap::Error> for WordsFault {
 /// A command, with the texts of its options.
 #[derive(Clone, Copy)]
 pub(crate) struct GivenCommand<'a> {
-    /// Its name.
+    /// The name of the command.
     pub(crate) name: &'a str,
-    /// The text of `--capacity`, where it takes that.
+    /// The text of `--capacity`, if the command takes it.
     pub(crate) capacity: Option<&'a str>,
-    /// The text of `--workers`, where it takes that.
+    /// The text of `--workers`, if the command takes it.
     pub(crate) workers: Option<&'a str>,
-    /// The text of `--general`, where it takes that.
+    /// The text of `--general`, if the command takes it.
     pub(crate) general: Option<&'a str>,
 }
 
-/// Returns the number that a text spells, where it is in the range.
+/// Returns the number that a text spells, if there is a text and the number is in the range.
 fn number_between(text: Option<&str>, least: u8, most: u8) -> Option<u8>
     ensures { result ≡ number_between least most (option_map (λ t. t.now) text.entry) }
 {
@@ -89,21 +89,21 @@ fn number_between(text: Option<&str>, least: u8, most: u8) -> Option<u8>
     }
 }
 
-/// Returns the general whom a text names.
+/// Returns the general whose number a text spells, 0 to 15.
 fn general_of(text: Option<&str>) -> Option<GeneralNo>
     ensures { result ≡ number_between 0 15 (option_map (λ t. t.now) text.entry) }
 {
     GeneralNo::new(number_between(text, 0, 15)?)
 }
 
-/// Returns how many workers a text asks for.
+/// Returns the number of workers that a text spells, 1 to 16.
 fn workers_of(text: Option<&str>) -> Option<WorkerCount>
     ensures { result ≡ number_between 1 16 (option_map (λ t. t.now) text.entry) }
 {
     WorkerCount::new(usize::from(number_between(text, 1, 16)?))
 }
 
-/// Returns the job of a command against a general, or on evidence, by the text of its option.
+/// Returns the job `accuse`, by the text of its option, or the job `evidence`; none for any other name.
 fn job_against(name: &str, general: Option<&str>) -> Option<Job>
     ensures said { result ≡ job_against name.now (option_map (λ t. t.now) general.entry) }
     ensures range { IfSome result IsInRange }
@@ -117,7 +117,7 @@ fn job_against(name: &str, general: Option<&str>) -> Option<Job>
     }
 }
 
-/// Returns the job that runs and audits, by the texts of its options.
+/// Returns the job `judge`, by the texts of its options.
 fn job_judging(capacity: Option<&str>, workers: Option<&str>) -> Option<Job>
     ensures said { result ≡ job_judging (number_between 1 16 (option_map (λ t. t.now) capacity.entry))
         (number_between 1 16 (option_map (λ t. t.now) workers.entry)) }
@@ -129,7 +129,7 @@ fn job_judging(capacity: Option<&str>, workers: Option<&str>) -> Option<Job>
     })
 }
 
-/// Returns the job that reads what is shown, by the text of its option.
+/// Returns the job `draw`, if it is named, or else the job `audit`, by the text of their option.
 fn job_reading(name: &str, workers: Option<&str>) -> Option<Job>
     ensures said { result ≡ job_reading name.now (number_between 1 16 (option_map (λ t. t.now) workers.entry)) }
     ensures range { IfSome result IsInRange }
@@ -167,7 +167,7 @@ fn job_of(
     }
 }
 
-/// Whether a command takes a capacity, and its text is none.
+/// Whether a command takes a capacity, and the text is no number from 1 to 16.
 fn lacks_capacity(name: &str, capacity: Option<&str>) -> bool
     ensures { result ≡ (takes_capacity name.now
         && is_missing (number_between 1 16 (option_map (λ t. t.now) capacity.entry))) }
@@ -175,7 +175,7 @@ fn lacks_capacity(name: &str, capacity: Option<&str>) -> bool
     matches!(name, "run" | "judge" | "campaign") && number_between(capacity, 1, 16).is_none()
 }
 
-/// Whether a command takes a number of workers, and its text is none.
+/// Whether a command takes a number of workers, and the text is no number from 1 to 16.
 fn lacks_workers(name: &str, workers: Option<&str>) -> bool
     ensures { result ≡ (takes_workers name.now
         && is_missing (number_between 1 16 (option_map (λ t. t.now) workers.entry))) }
@@ -183,7 +183,7 @@ fn lacks_workers(name: &str, workers: Option<&str>) -> bool
     matches!(name, "audit" | "draw" | "judge") && number_between(workers, 1, 16).is_none()
 }
 
-/// Whether a command takes a general, and his text is none.
+/// Whether a command takes a general, and the text is no number from 0 to 15.
 fn lacks_general(name: &str, general: Option<&str>) -> bool
     ensures { result ≡ (takes_general name.now
         && is_missing (number_between 0 15 (option_map (λ t. t.now) general.entry))) }
@@ -191,7 +191,8 @@ fn lacks_general(name: &str, general: Option<&str>) -> bool
     name == "accuse" && number_between(general, 0, 15).is_none()
 }
 
-/// Returns why a command has no job: the first of its numbers that is none in its range, or it is no command.
+/// Returns why a command has no job: the first of its numbers that is missing or out of its range, or else that there
+/// is no such command.
 fn refusal_of(
     name: &str,
     capacity: Option<&str>,
@@ -224,7 +225,7 @@ fn matches_of<'a>(alloc: Global, words: &'a [&'a str]) -> Result<ArgMatches<'a>,
     Ok(command.try_get_matches_from(words)?)
 }
 
-/// Returns the command that was found, with the texts of its options, and None where there is none.
+/// Returns the command that was found, with the texts of its options; None if no command was found.
 fn given_by<'a>(matches: &ArgMatches<'a>) -> Option<GivenCommand<'a>>
     ensures { IsGivenBy (subcommand_rows_of matches.now) result }
 {
@@ -237,7 +238,7 @@ fn given_by<'a>(matches: &ArgMatches<'a>) -> Option<GivenCommand<'a>>
     })
 }
 
-/// Returns the command that the words give.
+/// Returns the command that the words name, with the texts of its options.
 fn given_in<'a>(alloc: Global, words: &'a [&'a str]) -> Result<GivenCommand<'a>, WordsFault>
     ensures ok { IfOk result (Gives (map (λ w. w.now) words.now)) }
     ensures only { IfErr result (λ fault.
@@ -255,16 +256,15 @@ fn given_in<'a>(alloc: Global, words: &'a [&'a str]) -> Result<GivenCommand<'a>,
 ///
 /// # Errors
 ///
-/// `Words` where the command line has a fault at the words, or they ask for help or the version; `NoCommand`
-/// where they name no command; `BadCapacity`, else `BadWorkers`, else `BadGeneral` where the command takes the option and
-/// the text behind it isn't a decimal number in its range, without leading zeros or a sign; and `Memory` where memory was
-/// refused.
+/// `Words` if the command line has a fault at the words, or they ask for help or the version; `NoCommand` if they name
+/// no command. `BadCapacity`, else `BadWorkers`, else `BadGeneral` if the command takes the option and the text behind
+/// it isn't a decimal number in its range, without leading zeros or a sign. `Memory` if memory was refused.
 pub fn read_words<'a>(alloc: Global, words: &'a [&'a str]) -> Result<Job, WordsFault>
     // The words ask for the job.
     ensures ok { IfOk result (λ job. asked (map (λ w. w.now) words.now) ≡ Some job) }
     // Its numbers are in their ranges.
     ensures range { IfOk result IsInRange }
-    // Words that ask for a job fail only for want of memory.
+    // If the words ask for a job, the only fault is that memory was refused.
     ensures only { IfErr result (λ fault.
         IsSome (asked (map (λ w. w.now) words.now)) → fault ≡ Memory) }
     // A fault is one that the command line has at these words.

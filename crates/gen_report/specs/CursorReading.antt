@@ -8,13 +8,13 @@ use Rattle.gen_report.specs.declared.cursor.Numbered.{Numbered}
 use Rattle.gen_report.specs.Cursor.{Cursor, Line}
 use Rattle.gen_report.specs.LineReading.{line_at, number_behind}
 
--- the line at a cursor, and the cursor behind it
+-- the line at a cursor, and the cursor after it
 unfoldable pub next_line : Cursor → Result (Line × Cursor) ScenarioFault
 next_line c = do
   l ← line_at c.line c.parts
   Ok (record { number = c.line; bytes = l.0; fields = fields l.0 }, record { line = c.line + 1; parts = l.1 })
 
--- the number behind a word in the line at a cursor, with the line's number, and the cursor behind it
+-- the number behind a word in the line at a cursor, with the line's number, and the cursor after it
 unfoldable pub numbered : List ℕ → Cursor → Result (Numbered × Cursor) ScenarioFault
 numbered word c = do
   l ← next_line c

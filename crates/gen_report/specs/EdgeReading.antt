@@ -1,4 +1,4 @@
--- The lines of edges, up to the first line that is none.
+-- The lines of edges, up to the first line that is no line of an edge.
 use Rattle.std.specs.Prelude.{ℕ, ◌+◌, List, [], ◌∷◌, codes, Option, Some, None, Result, Ok, Err, if◌then◌else◌}
 use Rattle.std.specs.Str.{bytes_eq}
 use Rattle.gen_types.specs.Reading.{◌>>=◌}
@@ -8,7 +8,7 @@ use Rattle.gen_report.specs.Cursor.{Cursor, Line}
 use Rattle.gen_report.specs.LineReading.{fault_at, number_in}
 use Rattle.gen_report.specs.CursorReading.{next_line}
 
--- the edge of the line k, where it is a line of an edge
+-- the edge of the line k; None if it is no line of an edge
 unfoldable pub edge_in : ℕ → List (List ℕ) → Result (Option (ℕ × ℕ)) ScenarioFault
 edge_in k (w ∷ x ∷ y ∷ []) = if bytes_eq w (codes "edge") then (do
   a ← number_in k x
@@ -16,25 +16,25 @@ edge_in k (w ∷ x ∷ y ∷ []) = if bytes_eq w (codes "edge") then (do
   Ok (Some (a, b))) else Ok None
 edge_in k _ = Ok None
 
--- the edges of some lines, the first line that has none, and the cursor behind it
+-- the edges of some lines, the first line after them, and the cursor behind that line
 pub record EdgeLines : Type 0 where
   pub found : List (ℕ × ℕ)
   pub next : Line
   pub after : Cursor
 
--- one edge more, in front of others
+-- one more edge, in front of others
 abbrev pub with_edge : Result EdgeLines ScenarioFault → ℕ × ℕ → Result EdgeLines ScenarioFault
 with_edge others e = do
   o ← others
   Ok (record o { found = e ∷ o.found })
 
--- what this line and what the lines after it give make
+-- what this line and the lines after it give
 abbrev pub after_edge : Option (ℕ × ℕ) → Line × Cursor → Result EdgeLines ScenarioFault
     → Result EdgeLines ScenarioFault
 after_edge None l others = Ok (record { found = []; next = l.0; after = l.1 })
 after_edge (Some e) l others = with_edge others e
 
--- the edges of the lines from k on
+-- the edges of the lines from k on, with the line after them; or the first fault
 unfoldable pub edge_lines_at : ℕ → List (List ℕ) → Result EdgeLines ScenarioFault
 edge_lines_at k [] = Err (fault_at Unfinished k)
 edge_lines_at k (line ∷ more) = do

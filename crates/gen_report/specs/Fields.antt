@@ -3,7 +3,7 @@ use Rattle.std.specs.Prelude.{ℕ, List, [], ◌∷◌, ◌++◌, codes}
 use Rattle.std.specs.List.{flat_map, join_with_byte}
 use Rattle.std.specs.Fmt.{decimal}
 
--- Fields are parted by one space.
+-- The bytes of a line: its fields, separated by one space.
 abbrev pub line_of : List (List ℕ) → List ℕ
 line_of fs = join_with_byte 32 fs
 
@@ -15,6 +15,6 @@ said word n = word ∷ decimal n ∷ []
 abbrev pub edge_line : ℕ × ℕ → List (List ℕ)
 edge_line e = codes "edge" ∷ decimal e.0 ∷ decimal e.1 ∷ []
 
--- Each line ends with a line feed.
+-- The bytes of a text: its lines, each with a line feed at its end.
 abbrev pub text_of : List (List ℕ) → List ℕ
 text_of lines = flat_map (λ line. line ++ 10 ∷ []) lines

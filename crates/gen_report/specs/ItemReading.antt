@@ -1,4 +1,4 @@
--- A line behind those of the keys: what it is, or its first fault.
+-- A line after those of the keys: what it is, or its first fault.
 use Rattle.std.specs.Prelude.{ℕ, Bool, true, false, ◌&&◌, List, [], ◌∷◌, length, codes, Option, Some, None, Result, Ok, Err, nat_lt, ◌==◌, if◌then◌else◌}
 use Rattle.std.specs.Str.{bytes_eq}
 use Rattle.gen_types.specs.Reading.{◌>>=◌, check, map_fault}
@@ -17,24 +17,24 @@ abbrev pub begins_with : List ℕ → List (List ℕ) → Bool
 begins_with word [] = false
 begins_with word (w ∷ more) = bytes_eq w word
 
--- g comes after the general of the block before
+-- the number g is greater than that of the general of the block before, if there is one
 abbrev pub ascends : Option ℕ → ℕ → Bool
 ascends None g = true
 ascends (Some last) g = nat_lt last g
 
--- the general of whose script the line k is the first, behind the block of `last`
+-- the general with whose script the line k begins, after the block of `last`
 unfoldable pub general_in : Network → Option ℕ → ℕ → List (List ℕ) → Result ℕ ScenarioFault
 general_in net last k fs = do
   g ← number_behind k (codes "script") fs
   fits ← check (nat_lt g net.generals && ascends last g) (fault_at faults.BadTraitor k)
   Ok g
 
--- the script line that the line k of these bytes is, in the block of a general
+-- the script line that these bytes of the line k are, in the block of a general
 abbrev pub said_in : Network → Option ℕ → ℕ → List ℕ → Result ScriptLine ScenarioFault
 said_in net None k line = Err (fault_at faults.Shape k)
 said_in net (Some g) k line = map_fault (λ f. fault_at (faults.Script f) k) (script_line_of net g line)
 
--- what the line is, in the block of `block` or before the first one
+-- what the line is, in the block of the general `block`, or before the first block
 unfoldable pub item_in : Network → Option ℕ → Line → Result Item ScenarioFault
 item_in net block l =
     if begins_with (codes "end") l.fields then (do

@@ -1,5 +1,4 @@
--- The lines behind that of the order that may be absent: the master seed of all keys, and the slot of the
--- run.
+-- The lines after that of the order that may be absent: the master seed of all keys, and the slot of the run.
 use Rattle.std.specs.Prelude.{ℕ, List, [], ◌∷◌, codes, Option, Some, None, Result, Ok, Err, nat_le, if◌then◌else◌}
 use Rattle.std.specs.Str.{bytes_eq}
 use Rattle.hex.specs.Hex.{decode_sized}
@@ -14,19 +13,19 @@ use Rattle.gen_report.specs.Cursor.{Cursor}
 use Rattle.gen_report.specs.LineReading.{fault_at, number_in}
 use Rattle.gen_report.specs.CursorReading.{next_line}
 
--- the 32 bytes of a seed in the line k
+-- the 32 bytes of a seed in the line k, or BadSeed
 abbrev pub known_seed : ℕ → Result (List ℕ) FromHexError → Result (List ℕ) ScenarioFault
 known_seed k (Err e) = Err (fault_at BadSeed k)
 known_seed k (Ok seed) = Ok seed
 
--- the seed of the line k, where it is a line of a seed
+-- the seed of the line k; None if it is no line of a seed
 unfoldable pub seed_in : ℕ → List (List ℕ) → Result (Option (List ℕ)) ScenarioFault
 seed_in k (w ∷ digits ∷ []) = if bytes_eq w (codes "seed") then (do
   seed ← known_seed k (decode_sized digits 32)
   Ok (Some seed)) else Ok None
 seed_in k _ = Ok None
 
--- the slot of the line k, where it is a line of a slot
+-- the slot of the line k; None if it is no line of a slot
 unfoldable pub slot_in : ℕ → List (List ℕ) → Result (Option ℕ) ScenarioFault
 slot_in k (w ∷ digits ∷ []) = if bytes_eq w (codes "slot") then (do
   slot ← number_in k digits
@@ -34,26 +33,26 @@ slot_in k (w ∷ digits ∷ []) = if bytes_eq w (codes "slot") then (do
   Ok (Some slot)) else Ok None
 slot_in k _ = Ok None
 
--- the cursor behind a line that may be absent: before, where it is
+-- the cursor after a line that may be absent: if it is absent, the cursor before
 abbrev pub behind : {A : Type 0} → Option A → Cursor → Cursor → Option A × Cursor
 behind None before after = (None, before)
 behind (Some x) before after = (Some x, after)
 
--- the seed, if it stands at this cursor, and the cursor behind it
+-- the seed and the cursor after it, if its line stands at this cursor; else None and this cursor
 unfoldable pub seed_at : Cursor → Result (Option (List ℕ) × Cursor) ScenarioFault
 seed_at c = do
   l ← next_line c
   seed ← seed_in l.0.number l.0.fields
   Ok (behind seed c l.1)
 
--- the same of the slot
+-- the slot and the cursor after it, if its line stands at this cursor; else None and this cursor
 unfoldable pub slot_at : Cursor → Result (Option ℕ × Cursor) ScenarioFault
 slot_at c = do
   l ← next_line c
   slot ← slot_in l.0.number l.0.fields
   Ok (behind slot c l.1)
 
--- the version of a text with this slot or none
+-- the version of a text with or without a slot: 2 with a slot, 1 without
 abbrev pub version_with : Option ℕ → Version
 version_with None = One
 version_with (Some slot) = Two slot

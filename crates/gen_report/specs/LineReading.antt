@@ -1,5 +1,5 @@
--- One line of a text and what it says, with the line's first fault: its bytes, its length, its line feed, its
--- shape, its numbers.
+-- One line of a text and what it says, with the line's first fault. The order is: its bytes, its length, its
+-- line feed, its shape, its numbers.
 use Rattle.std.specs.Prelude.{ℕ, List, [], ◌∷◌, length, Some, None, Result, Ok, Err, nat_lt, ◌==◌, if◌then◌else◌}
 use Rattle.std.specs.List.{list_any}
 use Rattle.std.specs.Str.{bytes_eq}
@@ -13,7 +13,7 @@ use Rattle.gen_report.specs.Text.{is_foreign, longest_line}
 abbrev pub fault_at : LineFault → ℕ → ScenarioFault
 fault_at kind k = record { kind = kind; line = k }
 
--- the bytes of the line k, and the parts after it
+-- the bytes of the line k, and the parts after it; or the first fault
 abbrev pub line_at : ℕ → List (List ℕ) → Result (List ℕ × List (List ℕ)) ScenarioFault
 line_at k [] = Err (fault_at Unfinished k)
 line_at k (line ∷ more) =
@@ -22,11 +22,11 @@ line_at k (line ∷ more) =
     else (if length more == 0 then Err (fault_at Unfinished k)
     else Ok (line, more)))
 
--- a number in the line k
+-- the number that digits in the line k spell, or Number
 abbrev pub number_in : ℕ → List ℕ → Result ℕ ScenarioFault
 number_in k digits = elim (number_of digits) [ None ↦ Err (fault_at Number k) | Some n ↦ Ok n ]
 
--- the number behind a word, where the line k has these two fields
+-- the number behind a word, if the line k has exactly these two fields; else Shape
 unfoldable pub number_behind : ℕ → List ℕ → List (List ℕ) → Result ℕ ScenarioFault
 number_behind k word [] = Err (fault_at Shape k)
 number_behind k word (w ∷ []) = Err (fault_at Shape k)

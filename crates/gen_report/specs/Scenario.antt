@@ -20,7 +20,7 @@ pub record Given : Type 0 where
   pub edges : List (ℕ × ℕ)
   pub order : ℕ
 
--- the lines of these, each by its fields
+-- the lines of what a text gives first, each as its fields
 abbrev pub given_lines : Given → List (List (List ℕ))
 given_lines g =
     said (codes "generals") g.numbers.generals ∷ (map edge_line g.edges
@@ -38,12 +38,12 @@ pub record AreBytes (g : Given) : Type 0 where
   pub choice : g.numbers.choice < 256
   pub order : g.order < 256
 
--- a slot has a line
+-- the line of the slot, in version 2
 abbrev pub slot_lines : Version → List (List ℕ)
 slot_lines One = []
 slot_lines (Two slot) = line_of (said (codes "slot") slot) ∷ []
 
--- The lines spell the seed, of 64 digits, the slot and the scripts of a lawful scenario.
+-- The lines spell the seed in 64 hexadecimal digits, the slot and the scripts of a lawful scenario.
 pub record SpellsSigned (lines : List (List ℕ)) (s : Scenario) : Type 0 where
   pub digits : List ℕ
   pub blocks : List (List ℕ)
@@ -53,13 +53,14 @@ pub record SpellsSigned (lines : List (List ℕ)) (s : Scenario) : Type 0 where
   pub scripts : SpellsScripts s.net blocks s.scripts
   pub lawful : IsScenario s
 
--- A plain scenario has no lines behind that of the order.
+-- A plain scenario has no lines after that of the order; a scenario with signatures has those of its seed,
+-- slot and scripts.
 abbrev pub SpellsKeys : List (List ℕ) → ScenarioText → Type 0
 SpellsKeys lines (texts.Plain plain) = lines ≡ []
 SpellsKeys lines (texts.Signed s) = SpellsSigned lines s
 
--- The text spells this: it gives numbers that make its network, its order is one of the network's, and `end`
--- is its last line.
+-- The text spells this scenario: it gives numbers and edges that make its network, its order is one of the
+-- network's, and `end` is its last line.
 pub record SpellsScenario (text : List ℕ) (told : ScenarioText) : Type 0 where
   pub given : Given
   pub keys : List (List ℕ)

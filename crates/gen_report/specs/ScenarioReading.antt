@@ -1,4 +1,4 @@
--- Which scenario a text is, line by line, or which fault is its first and in which line.
+-- Which scenario a text is, line by line, or which fault comes first and in which line.
 use Rattle.std.specs.Prelude.{ℕ, List, [], ◌∷◌, codes, Option, Some, None, Result, Ok, Err, if◌then◌else◌}
 use Rattle.std.specs.Str.{bytes_eq}
 use Rattle.gen_types.specs.Reading.{◌>>=◌, check}
@@ -14,21 +14,22 @@ use Rattle.gen_report.specs.NumbersReading.{plain_at}
 use Rattle.gen_report.specs.KeysReading.{seed_at, slot_at, version_with}
 use Rattle.gen_report.specs.BlocksReading.{blocks_at, all_scripted}
 
--- Without a seed the line k must be `end`, and is no block of a script.
+-- Without a seed the line k must be `end`; a script may not begin there.
 unfoldable pub end_in : ℕ → List (List ℕ) → Result (Unit {0}) ScenarioFault
 end_in k (w ∷ []) = check (bytes_eq w (codes "end")) (fault_at Shape k)
 end_in k (w ∷ x ∷ []) =
     if bytes_eq w (codes "script") then Err (fault_at Unseeded k) else Err (fault_at Shape k)
 end_in k _ = Err (fault_at Shape k)
 
--- the cursor behind `end`
+-- the cursor after the line `end`
 unfoldable pub end_at : Cursor → Result Cursor ScenarioFault
 end_at c = do
   l ← next_line c
   ended ← end_in l.0.number l.0.fields
   Ok l.1
 
--- the scenario with this seed, and the cursor behind its scripts
+-- the scenario with this network, order and seed whose other lines begin at a cursor, and the cursor after
+-- its last line
 unfoldable pub signed_at : Plain → List ℕ → Cursor → Result (Scenario × Cursor) ScenarioFault
 signed_at plain master c = do
   slot ← slot_at c
@@ -45,7 +46,7 @@ signed_at plain master c = do
     b.after,
   )
 
--- what the text says, whose seed is this or none, and the cursor behind it
+-- what a text with or without this seed says from a cursor on, and the cursor after its last line
 unfoldable pub told_at : Plain → Option (List ℕ) → Cursor → Result (ScenarioText × Cursor) ScenarioFault
 told_at plain None c = do
   after ← end_at c

@@ -7,15 +7,15 @@ use Rattle.gen_script.specs.Script.{Script}
 use Rattle.gen_report.specs.Text.{longest_line}
 use Rattle.gen_report.specs.Fields.{line_of, said}
 
--- The lines say this in a script of g, one after another, and none is too long.
+-- The lines spell these lines of a script of g, one after another, and none is too long.
 abbrev pub SpellsLines : Network → ℕ → List (List ℕ) → List ScriptLine → Type 0
 SpellsLines net g [] [] = Unit {0}
 SpellsLines net g (line ∷ lines) (it ∷ more) =
     SpellsLine net g line it × (length line ≤ longest_line) × SpellsLines net g lines more
 SpellsLines net g _ _ = ⊥
 
--- The lines are the blocks of these scripts: each a line that names the general, and then the lines of his
--- script.
+-- The lines are the blocks of these scripts. Each block is a line that names the general, and then the lines
+-- of its script.
 abbrev pub SpellsScripts : Network → List (List ℕ) → List Script → Type 0
 SpellsScripts net lines [] = lines ≡ []
 SpellsScripts net lines (script ∷ others) =

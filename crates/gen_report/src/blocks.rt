@@ -1,4 +1,4 @@
-//! The scripts of a text.
+//! Reads the scripts of a text.
 ghost use Rattle.std.specs.Prelude.{◌≡◌, ◌==◌, ◌++◌, [], None, OnOk, IfErr};
 ghost use Rattle.std.specs.List.{list_all, list_any};
 ghost use Rattle.gen_types.specs.Ends.{is_among};
@@ -18,18 +18,18 @@ use gen_types::{GeneralNo, ReadError};
 use std::alloc::Global;
 use std::mem;
 
-/// The scripts of a text, the paths that their lines name, and the cursor behind the last line.
+/// The scripts of a text, the paths that their lines name, and the cursor after the last line.
 #[derive(Drop)]
 pub struct Blocks<'a> {
-    /// The scripts, ascending.
+    /// The scripts, in ascending order of their generals.
     pub scripts: Vec<Script>,
-    /// The paths, in the order of the lines.
+    /// The paths that lines name, in the order of the lines.
     pub paths: Vec<PathLine>,
-    /// The cursor behind the last line.
+    /// The cursor after the last line of the text.
     pub after: Cursor<'a>,
 }
 
-/// Adds the script of a block that ends, if one was open, and takes its lines.
+/// Appends the script of the block that ends, if one was open, and empties the list of its lines.
 fn close(
     alloc: Global,
     scripts: &mut Vec<Script>,
@@ -48,7 +48,7 @@ fn close(
     Ok(())
 }
 
-/// Adds the path that the line names, if it names one.
+/// Appends the path that the line names, if it names one.
 fn note_path(
     paths: &mut Vec<PathLine>,
     line: usize,
@@ -63,7 +63,7 @@ fn note_path(
     Ok(())
 }
 
-/// Reads the scripts whose lines begin here, and the last line of the text.
+/// Reads the scripts whose lines begin here, up to the line `end`, which is read too.
 pub fn read_blocks<'a>(
     alloc: Global,
     net: &Net,
@@ -113,7 +113,7 @@ fn has_script(scripts: &[Script], general: GeneralNo) -> bool
     scripts.iter().any(|script| script.general() == general)
 }
 
-/// Returns whether the general is one of those who have scripts.
+/// Returns whether the general is among those that have scripts.
 #[tactic(auto, using(crate::proofs::Traitors::any_map))]
 fn is_scripted(scripts: &[Script], general: GeneralNo) -> bool
     ensures { result ≡ is_among (scripted scripts.now) general }
@@ -130,7 +130,7 @@ fn are_scripted(scripts: &[Script], generals: &[GeneralNo]) -> bool
         .all(|general| is_scripted(scripts, *general))
 }
 
-/// Refuses the first line that names a path with a general who has no script.
+/// Refuses the first line that names a path with a general that has no script.
 #[tactic(auto, unfolding(crate::specs::BlocksReading::all_scripted))]
 pub fn check_paths(scripts: &[Script], paths: &[PathLine]) -> Result<(), ReadError<ScenarioFault>>
     ensures { IsRead result (all_scripted (scripted scripts.now) paths.now) }

@@ -14,7 +14,7 @@ use std::marker::Model;
 /// A line of a text.
 #[derive(Drop)]
 pub struct Line<'a> {
-    /// Its number, from 1.
+    /// Its number, counted from 1.
     pub number: usize,
     /// Its bytes, without the line feed.
     pub bytes: &'a [u8],
@@ -22,7 +22,7 @@ pub struct Line<'a> {
     pub fields: Vec<&'a [u8]>,
 }
 
-/// A number in a line, and the line's number, from 1.
+/// A number in a line, and the line's number, counted from 1.
 #[derive(Clone, Copy)]
 pub struct Numbered {
     /// The line's number.
@@ -31,9 +31,9 @@ pub struct Numbered {
     pub value: u8,
 }
 
-/// A cursor, behind the first line of a text. A contract sees the number of the line that begins there, and
-/// what stands between the line feeds from there on. That number always fits, since each line before has a
-/// line feed and the first line has more.
+/// A cursor, behind the first line of a text. A contract sees the number of the line that begins there, and the parts
+/// between the line feeds from there on. The number always fits in 64 bits: each line before has a line feed, and the
+/// first line has more.
 #[derive(Drop)]
 pub struct Cursor<'a> {
     rest: &'a [u8],
@@ -53,7 +53,7 @@ impl<'a> Model for Cursor<'a> {
 }
 
 impl<'a> Cursor<'a> {
-    /// Returns the number behind a word in the first line of a text, and the cursor behind it.
+    /// Returns the number behind a word in the first line of a text, and the cursor after that line.
     #[tactic(auto, unfolding(crate::specs::CursorReading::numbered, crate::specs::CursorReading::next_line))]
     pub fn behind_first(
         alloc: Global,
@@ -68,7 +68,7 @@ impl<'a> Cursor<'a> {
         Ok((Numbered { line: 1, value }, Cursor { rest, line: 2 }))
     }
 
-    /// Returns the same cursor once more.
+    /// Returns a copy of the cursor.
     pub fn copy(&self) -> Cursor<'a>
         ensures { result ≡ self.now }
     {
@@ -78,7 +78,7 @@ impl<'a> Cursor<'a> {
         }
     }
 
-    /// Returns the line that begins here, and the cursor behind it.
+    /// Returns the line that begins here, and the cursor after it.
     #[tactic(auto, unfolding(crate::specs::CursorReading::next_line))]
     pub fn next_line(
         &self,
@@ -108,7 +108,7 @@ impl<'a> Cursor<'a> {
         Ok((line, after))
     }
 
-    /// Returns the number behind a word in the line that begins here, and the cursor behind it.
+    /// Returns the number behind a word in the line that begins here, with the line's number, and the cursor after it.
     #[tactic(auto, unfolding(crate::specs::CursorReading::numbered))]
     pub fn numbered(
         &self,

@@ -1,4 +1,4 @@
-//! Decisions as text.
+//! Prints decisions as text.
 ghost use Rattle.std.specs.Prelude.{◌≡◌, ◌++◌, OnOk, IfOk, string_bytes};
 ghost use Rattle.gen_report.specs.Decisions.{listed, decision_line, decisions_text};
 
@@ -6,7 +6,7 @@ use gen_scenario::Decision;
 use gen_types::OrderSet;
 use std::alloc::{AllocError, Global};
 
-/// Appends the orders of a set, parted by commas, or a minus for the empty set.
+/// Appends the orders of a set, separated by commas, or a minus for the empty set.
 fn push_orders(out: &mut String, orders: OrderSet) -> Result<(), AllocError>
     ensures { OnOk result (string_bytes out.new ≡ string_bytes out.old ++ listed orders) }
 {
@@ -35,7 +35,7 @@ fn push_decision(out: &mut String, decision: &Decision) -> Result<(), AllocError
     write!(out, " decides {order}\n")
 }
 
-/// Returns the text of decisions: for each a line `general G set 0,1 decides V`, the empty set as `-`.
+/// Returns the text of decisions: for each a line `general G set 0,1 decides V`, with `-` for the empty set.
 pub fn print_decisions(alloc: Global, decisions: &[Decision]) -> Result<Vec<u8>, AllocError>
     ensures { IfOk result (λ v. v.items ≡ decisions_text decisions.now) }
 {

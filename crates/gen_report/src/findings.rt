@@ -1,4 +1,4 @@
-//! Findings as text.
+//! Prints findings as text.
 ghost use Rattle.std.specs.Prelude.{◌≡◌, ◌++◌, OnOk, codes, string_bytes};
 ghost use Rattle.std.specs.Fmt.{decimal};
 ghost use Rattle.gen_report.specs.Findings.{log_fault_name, message_named, finding_named, finding_line};
@@ -8,7 +8,7 @@ use gen_match::Finding;
 use gen_types::{GeneralNo, OrderNo};
 use std::alloc::AllocError;
 
-/// Appends the name of a log's fault, and behind it that of the chain's which it is.
+/// Appends the name of a log's fault, and, if that is a chain's fault, the name of the chain's fault behind it.
 fn push_log_fault(out: &mut String, fault: LogFault) -> Result<(), AllocError>
     ensures { OnOk result (string_bytes out.new ≡ string_bytes out.old ++ log_fault_name fault) }
 {
@@ -19,7 +19,7 @@ fn push_log_fault(out: &mut String, fault: LogFault) -> Result<(), AllocError>
     }
 }
 
-/// Appends the name of a finding's kind, and the general whom it is against.
+/// Appends the name of a finding's kind, and the general that the finding is against.
 fn push_against(out: &mut String, kind: &str, general: GeneralNo) -> Result<(), AllocError>
     ensures { OnOk result (string_bytes out.new
         ≡ string_bytes out.old ++ kind.now ++ codes " general " ++ decimal general) }
@@ -36,7 +36,7 @@ fn push_entry(out: &mut String, entry: usize) -> Result<(), AllocError>
     write!(out, " entry {entry}")
 }
 
-/// Appends the name of a finding's kind, and the message that it is about: from whom to whom, its round, and its order.
+/// Appends the name of a finding's kind, and the message that it is about: sender, receiver, round and order.
 fn push_message(
     out: &mut String,
     kind: &str,
@@ -57,7 +57,7 @@ fn push_message(
     )
 }
 
-/// Appends a pair of generals whom the walks don't join.
+/// Appends a pair of generals that the walks don't join.
 fn push_pair(out: &mut String, first: GeneralNo, second: GeneralNo) -> Result<(), AllocError>
     ensures { OnOk result (string_bytes out.new
         ≡ string_bytes out.old ++ codes "N10 pair " ++ decimal first ++ codes " " ++ decimal second) }
@@ -67,11 +67,11 @@ fn push_pair(out: &mut String, first: GeneralNo, second: GeneralNo) -> Result<()
     write!(out, "N10 pair {first} {second}")
 }
 
-/// Appends what a finding is: its number, as `N8`, and what it is about, on one line without an end.
+/// Appends a finding: its number, such as `N8`, and what it is about, on one line without its line feed.
 ///
 /// # Errors
 ///
-/// `AllocError` where memory is refused; then what stands in `out` isn't said.
+/// `AllocError` if memory is refused; what `out` then holds is not specified.
 pub fn push_finding_name(out: &mut String, finding: &Finding) -> Result<(), AllocError>
     ensures { OnOk result (string_bytes out.new ≡ string_bytes out.old ++ finding_named finding.now) }
 {
@@ -110,7 +110,7 @@ pub fn push_finding_name(out: &mut String, finding: &Finding) -> Result<(), Allo
     }
 }
 
-/// Appends the line of a finding.
+/// Appends the line of a finding, with its line feed.
 pub fn push_finding(out: &mut String, finding: &Finding) -> Result<(), AllocError>
     ensures { OnOk result
         (string_bytes out.new ≡ string_bytes out.old ++ finding_line finding.now) }

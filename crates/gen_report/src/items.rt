@@ -1,4 +1,4 @@
-//! What a line behind those of the keys is.
+//! What a line after those of the keys is.
 ghost use Rattle.std.specs.Prelude.{◌≡◌, ◌<◌, map, IfOk, IfSome};
 ghost use Rattle.gen_types.specs.Spelled.{IsRead};
 ghost use Rattle.gen_report.specs.ItemReading.{begins_with, ascends, general_in, said_in, item_in};
@@ -12,7 +12,7 @@ use gen_script::{ScriptLine, read_script_bytes};
 use gen_types::{GeneralNo, Path, ReadError};
 use std::alloc::Global;
 
-/// What a line behind those of the keys is.
+/// What a line after those of the keys is.
 #[derive(Drop)]
 pub enum Item {
     /// The first line of the script of this general.
@@ -23,7 +23,7 @@ pub enum Item {
     End,
 }
 
-/// A path that a line names, and the line's number, from 1.
+/// A path that a line names, and the line's number, counted from 1.
 #[derive(Clone, Copy)]
 pub struct PathLine {
     /// The line's number.
@@ -32,7 +32,7 @@ pub struct PathLine {
     pub path: Path,
 }
 
-/// Returns whether the first field is this word.
+/// Returns whether the first field of a line is this word.
 fn begins_with(word: &[u8], fields: &[&[u8]]) -> bool
     ensures { result ≡ begins_with word.now (map (λ f. f.now) fields.now) }
 {
@@ -42,7 +42,7 @@ fn begins_with(word: &[u8], fields: &[&[u8]]) -> bool
     }
 }
 
-/// Returns whether the general of this number comes after the one of the block before.
+/// Returns whether a general's number is greater than that of the block before, if there is one.
 fn ascends(last: Option<GeneralNo>, number: u8) -> bool
     ensures { result ≡ ascends last number }
 {
@@ -52,7 +52,7 @@ fn ascends(last: Option<GeneralNo>, number: u8) -> bool
     }
 }
 
-/// Returns the general of whose script the line is the first, behind the block of `last`.
+/// Returns the general with whose script the line begins, after the block of `last`.
 #[tactic(auto, unfolding(crate::specs::ItemReading::general_in))]
 fn general_in(
     net: &Net,
@@ -73,7 +73,7 @@ fn general_in(
     Ok(GeneralNo::at(number))
 }
 
-/// Returns the script line that the line of these bytes is, in the block of this general.
+/// Returns the script line that these bytes are, in the block of this general.
 fn said_in(
     alloc: Global,
     net: &Net,
@@ -94,7 +94,7 @@ fn said_in(
     }
 }
 
-/// Returns what the line is, in the block of `block` or before the first one.
+/// Returns what the line is, in the block of the general `block`, or before the first block.
 #[tactic(auto, unfolding(crate::specs::ItemReading::item_in))]
 pub fn item_in(
     alloc: Global,

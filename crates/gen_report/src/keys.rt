@@ -1,4 +1,4 @@
-//! The lines behind that of the order that may be absent: the seed of all keys, and the slot of the run.
+//! The lines after that of the order that may be absent: the seed of all keys, and the slot of the run.
 ghost use Rattle.std.specs.Prelude.{◌≡◌, map, IfOk};
 ghost use Rattle.gen_types.specs.Reading.{Gives};
 ghost use Rattle.gen_types.specs.Spelled.{IsRead};
@@ -12,7 +12,7 @@ use gen_types::ReadError;
 use hex::FromHex;
 use std::alloc::Global;
 
-/// Returns the seed of the line, where it is a line of a seed.
+/// Returns the seed of a line; None if it is no line of a seed.
 #[tactic(auto, unfolding(crate::specs::KeysReading::seed_in))]
 fn seed_in(fields: &[&[u8]], line: usize) -> Result<Option<[u8; 32]>, ReadError<ScenarioFault>>
     ensures { IsRead result (seed_in line (map (λ f. f.now) fields.now)) }
@@ -28,7 +28,7 @@ fn seed_in(fields: &[&[u8]], line: usize) -> Result<Option<[u8; 32]>, ReadError<
     }
 }
 
-/// Returns the slot of the line, where it is a line of a slot.
+/// Returns the slot of a line, 0 to 3; None if it is no line of a slot.
 #[tactic(auto, unfolding(crate::specs::KeysReading::slot_in))]
 fn slot_in(fields: &[&[u8]], line: usize) -> Result<Option<u8>, ReadError<ScenarioFault>>
     ensures { IsRead result (slot_in line (map (λ f. f.now) fields.now)) }
@@ -45,11 +45,11 @@ fn slot_in(fields: &[&[u8]], line: usize) -> Result<Option<u8>, ReadError<Scenar
     }
 }
 
-/// Returns the seed, if its line begins here, and the cursor behind it.
+/// Returns the seed and the cursor behind it, if its line begins here; else None and the cursor as it was.
 ///
 /// # Errors
 ///
-/// The first fault of this line; Memory where memory was refused before.
+/// The first fault of this line; Memory if memory was refused before.
 #[tactic(auto, unfolding(crate::specs::KeysReading::seed_at))]
 pub fn read_seed<'a>(
     alloc: Global,
@@ -64,11 +64,11 @@ pub fn read_seed<'a>(
     }
 }
 
-/// Returns the slot, if its line begins here, and the cursor behind it.
+/// Returns the slot and the cursor behind it, if its line begins here; else None and the cursor as it was.
 ///
 /// # Errors
 ///
-/// The first fault of this line; Memory where memory was refused before.
+/// The first fault of this line; Memory if memory was refused before.
 #[tactic(auto, unfolding(crate::specs::KeysReading::slot_at))]
 pub fn read_slot<'a>(
     alloc: Global,
@@ -83,7 +83,7 @@ pub fn read_slot<'a>(
     }
 }
 
-/// Returns the version of a text with this slot or none.
+/// Returns the version of a text with or without a slot: 2 with a slot, 1 without.
 pub fn version_with(slot: Option<u8>) -> Version
     ensures { result ≡ version_with slot }
 {

@@ -1,10 +1,10 @@
-//! Scenarios as texts that are read, and decisions and verdicts as texts that are printed.
+//! Reads scenarios from text, and prints decisions and verdicts as text.
 //!
-//! A scenario text has one line for each number of a network and for each of its edges, and a line for
-//! the commander's order. Where generals sign, it has the seed of their keys too, perhaps the slot of the
-//! run, and the scripts of the traitors. `read_scenario` says exactly which texts are scenarios, and of each
-//! other text which fault comes first and in which line. What it is made of is public too, for texts in which
-//! several scenarios stand one after another: a `Cursor`, and readers that begin at one.
+//! A scenario text has one line for each number of a network and for each of its edges, and a line for the commander's
+//! order. If generals sign, it also has the seed of their keys, perhaps the slot of the run, and the scripts of the
+//! traitors. `read_scenario` says exactly which texts are scenarios, and for any other text which fault comes first and
+//! in which line. Its parts are public too, for texts in which several scenarios stand one after another: a `Cursor`,
+//! and readers that begin at one.
 #![tactic(auto)]
 
 mod blocks;

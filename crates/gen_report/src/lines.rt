@@ -1,4 +1,4 @@
-//! Lines of a text, and what one line says.
+//! Lines of a text, and what a single line says.
 ghost use Rattle.std.specs.Prelude.{◌≡◌, ◌==◌, ◌+◌, [], ◌∷◌, length, map, IfOk, MatchOption};
 ghost use Rattle.std.specs.List.{list_any, position};
 ghost use Rattle.gen_types.specs.Reading.{Gives};
@@ -10,7 +10,7 @@ ghost use Rattle.gen_report.specs.EdgeReading.{edge_in};
 use crate::fault::{LineFault, ScenarioFault};
 use gen_types::{ReadError, decimal_number};
 
-/// The most bytes of a line, its line feed not counted.
+/// The greatest number of bytes of a line, without its line feed.
 const LONGEST_LINE: usize = 600_000;
 
 /// Returns the index of the first line feed.
@@ -20,7 +20,7 @@ fn line_feed(text: &[u8]) -> Option<usize>
     text.iter().position(|b| *b == b'\n')
 }
 
-/// Returns the bytes before the first line feed, and what follows it, where there is one.
+/// Returns the bytes before the first line feed and what follows it; if there is none, the whole text and None.
 fn cut_line(text: &[u8]) -> (&[u8], Option<&[u8]>)
     ensures { MatchOption result.1 (parts text.now ≡ result.0.now ∷ [])
         (λ rest. (parts text.now ≡ result.0.now ∷ parts rest.now)
@@ -35,14 +35,15 @@ fn cut_line(text: &[u8]) -> (&[u8], Option<&[u8]>)
     }
 }
 
-/// Returns whether a byte of the line may not stand in a text.
+/// Returns whether the line has a byte that may not stand in a text: one below 32 or above 126.
 fn has_foreign(line: &[u8]) -> bool
     ensures { result ≡ list_any is_foreign line.now }
 {
     line.iter().any(|b| *b < 32 || *b > 126)
 }
 
-/// Returns the line at the front, and the text after it. A long line is refused before it is cut into fields.
+/// Returns the line at the front of the text, which has this number, and the text after it. A line that is too long is
+/// refused before it is cut into fields.
 pub fn line_at(text: &[u8], line: usize) -> Result<(&[u8], &[u8]), ReadError<ScenarioFault>>
     ensures exact { Gives (λ x. (x.0.now, parts x.1.now)) result (line_at line (parts text.now)) }
     ensures shorter { IfOk result (λ x. length text.now ≡ length x.0.now + (length x.1.now + 1)) }
@@ -60,7 +61,7 @@ pub fn line_at(text: &[u8], line: usize) -> Result<(&[u8], &[u8]), ReadError<Sce
     }
 }
 
-/// Returns the number that the digits in the line spell.
+/// Returns the number that the digits spell in this line: decimal, at most 255, without leading zeros.
 pub fn number_in(digits: &[u8], line: usize) -> Result<u8, ReadError<ScenarioFault>>
     ensures { IsRead result (number_in line digits.now) }
 {
@@ -70,7 +71,7 @@ pub fn number_in(digits: &[u8], line: usize) -> Result<u8, ReadError<ScenarioFau
     }
 }
 
-/// Returns the number behind a word, where the line has these two fields.
+/// Returns the number behind a word, if the line has exactly these two fields.
 #[tactic(auto, unfolding(crate::specs::LineReading::number_behind))]
 pub fn number_behind(
     fields: &[&[u8]],
@@ -91,7 +92,7 @@ pub fn number_behind(
     }
 }
 
-/// Returns the edge that a line has, where it is a line of an edge.
+/// Returns the edge that a line has; None if it is no line of an edge.
 #[tactic(auto, unfolding(crate::specs::EdgeReading::edge_in))]
 pub fn edge_in(fields: &[&[u8]], line: usize) -> Result<Option<(u8, u8)>, ReadError<ScenarioFault>>
     ensures { IsRead result (edge_in line (map (λ f. f.now) fields.now)) }

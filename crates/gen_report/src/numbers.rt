@@ -23,7 +23,7 @@ use gen_scenario::PlainScenario;
 use gen_types::{OrderNo, ReadError};
 use std::alloc::Global;
 
-/// The edges of some lines, the first line that has none, and the cursor behind it.
+/// The edges of some lines, the first line after them, and the cursor behind that line.
 #[derive(Drop)]
 struct EdgeLines<'a> {
     found: Vec<(u8, u8)>,
@@ -31,7 +31,8 @@ struct EdgeLines<'a> {
     after: Cursor<'a>,
 }
 
-/// Returns the edges of the lines from here on, up to the first line that is none of an edge, and that line.
+/// Reads the lines of edges from here on, and returns their edges, the first line that is no line of an edge, and the
+/// cursor behind that line.
 fn edge_lines<'a>(
     alloc: Global,
     start: Cursor<'a>,
@@ -64,7 +65,7 @@ fn edge_lines<'a>(
     }
 }
 
-/// What the lines up to that of the traitors say, and the cursor behind them.
+/// What the lines up to that of the traitors say, and the cursor after them.
 #[derive(Drop)]
 struct Opening<'a> {
     generals: u8,
@@ -73,7 +74,7 @@ struct Opening<'a> {
     after: Cursor<'a>,
 }
 
-/// Reads the lines behind that of the generals, up to that of the traitors.
+/// Reads the lines after that of the generals, up to that of the traitors.
 fn opening_behind<'a>(
     alloc: Global,
     generals: u8,
@@ -97,7 +98,7 @@ fn opening_behind<'a>(
     })
 }
 
-/// Reads the first lines of a text, up to that of the traitors.
+/// Reads the first lines of a text, from that of the generals up to that of the traitors.
 #[tactic(auto, unfolding(crate::specs::NumbersReading::opening_at))]
 fn first_opening(alloc: Global, text: &[u8]) -> Result<Opening<'_>, ReadError<ScenarioFault>>
     ensures { Gives (λ o. record {
@@ -111,7 +112,7 @@ fn first_opening(alloc: Global, text: &[u8]) -> Result<Opening<'_>, ReadError<Sc
     opening_behind(alloc, generals.value, rest)
 }
 
-/// Reads the lines up to that of the traitors.
+/// Reads the lines from that of the generals up to that of the traitors.
 #[tactic(auto, unfolding(crate::specs::NumbersReading::opening_at))]
 fn read_opening<'a>(
     alloc: Global,
@@ -128,8 +129,7 @@ fn read_opening<'a>(
     opening_behind(alloc, generals.value, rest)
 }
 
-/// What the three lines after that of the traitors say, the number of the last of them, and the cursor
-/// behind them.
+/// What the three lines after that of the traitors say, the number of the last of them, and the cursor after them.
 #[derive(Drop)]
 struct Settings<'a> {
     diameter: u8,
@@ -139,7 +139,7 @@ struct Settings<'a> {
     after: Cursor<'a>,
 }
 
-/// Reads the three lines after that of the traitors.
+/// Reads the three lines after that of the traitors: the diameter, the orders and the choice.
 #[tactic(auto, unfolding(crate::specs::NumbersReading::settings_at))]
 fn read_settings<'a>(
     alloc: Global,
@@ -165,7 +165,7 @@ fn read_settings<'a>(
     })
 }
 
-/// Returns the network of these numbers and edges; a fault of theirs is one of this line.
+/// Returns the network of these numbers and edges; if they break a rule, that is the fault of this line.
 fn make_network(
     alloc: Global,
     numbers: NetNumbers,
@@ -190,7 +190,7 @@ fn make_network(
     }
 }
 
-/// Returns the scenario on this network with the order of the line that begins here, and the cursor behind it.
+/// Returns the scenario on this network with the order of the line that begins here, and the cursor after that line.
 #[tactic(auto, unfolding(crate::specs::NumbersReading::order_at))]
 fn read_order<'a>(
     alloc: Global,
@@ -206,8 +206,7 @@ fn read_order<'a>(
     Ok((PlainScenario::new(net, OrderNo::at(order.value)), after))
 }
 
-/// Returns the network and the order behind the lines up to that of the traitors, and the cursor behind
-/// their lines.
+/// Returns the network and the order that begin with these opening lines, and the cursor after their lines.
 fn plain_behind<'a>(
     alloc: Global,
     opening: Opening<'a>,
@@ -231,7 +230,7 @@ fn plain_behind<'a>(
     read_order(alloc, net, &settings.after)
 }
 
-/// Returns the network and the order of a text, and the cursor behind their lines.
+/// Returns the network and the order of a text, and the cursor after their lines.
 #[tactic(auto, unfolding(crate::specs::NumbersReading::plain_at))]
 pub fn first_plain(
     alloc: Global,
@@ -243,12 +242,11 @@ pub fn first_plain(
     plain_behind(alloc, opening)
 }
 
-/// Returns the network and the order whose lines begin here, and the cursor behind them.
+/// Returns the network and the order whose lines begin here, and the cursor after them.
 ///
 /// # Errors
 ///
-/// The first fault of these lines, with its line, as `read_scenario` has it; Memory where memory was
-/// refused before.
+/// The first fault of these lines, with its line, as `read_scenario` has it; Memory if memory was refused before.
 #[tactic(auto, unfolding(crate::specs::NumbersReading::plain_at))]
 pub fn read_plain<'a>(
     alloc: Global,

@@ -1,4 +1,4 @@
-//! Scenarios as texts.
+//! Reads scenarios from text.
 ghost use Rattle.std.specs.Prelude.{◌≡◌, ◌<◌, map, IfOk, Ok};
 ghost use Rattle.gen_types.specs.Spelled.{IsRead};
 ghost use Rattle.gen_net.specs.Network.{IsNetwork};
@@ -17,7 +17,7 @@ use gen_scenario::{PlainScenario, SignedPlan};
 use gen_types::ReadError;
 use std::alloc::Global;
 
-/// Passes where the line is the last of a text without a seed.
+/// Checks that the line is the last one of a text without a seed.
 #[tactic(auto, unfolding(crate::specs::ScenarioReading::end_in))]
 fn end_in(fields: &[&[u8]], line: usize) -> Result<(), ReadError<ScenarioFault>>
     ensures { IsRead result (end_in line (map (λ f. f.now) fields.now)) }
@@ -29,7 +29,7 @@ fn end_in(fields: &[&[u8]], line: usize) -> Result<(), ReadError<ScenarioFault>>
     }
 }
 
-/// Returns the cursor behind the last line of a text without a seed, which begins here.
+/// Returns the cursor after the last line of a text without a seed, which begins here.
 #[tactic(auto, unfolding(crate::specs::ScenarioReading::end_at))]
 fn read_end<'a>(alloc: Global, start: &Cursor<'a>) -> Result<Cursor<'a>, ReadError<ScenarioFault>>
     ensures { IsRead result (end_at start.now) }
@@ -39,13 +39,12 @@ fn read_end<'a>(alloc: Global, start: &Cursor<'a>) -> Result<Cursor<'a>, ReadErr
     Ok(after)
 }
 
-/// Returns the scenario with this network, this order and this seed whose other lines begin here, from that of
-/// its slot on, and the cursor behind its last line.
+/// Returns the scenario with this network, this order and this seed whose other lines begin here, from that of its slot
+/// on, and the cursor after its last line.
 ///
 /// # Errors
 ///
-/// The first fault of these lines, with its line, as `read_scenario` has it; Memory where memory was refused
-/// before.
+/// The first fault of these lines, with its line, as `read_scenario` has it; Memory if memory was refused before.
 #[tactic(auto, unfolding(crate::specs::ScenarioReading::signed_at))]
 pub fn read_signed<'a>(
     alloc: Global,
@@ -58,14 +57,14 @@ pub fn read_signed<'a>(
     let (slot, rest) = read_slot(alloc, start)?;
     let blocks = read_blocks(alloc, plain.net(), rest)?;
     check_paths(&blocks.scripts, &blocks.paths)?;
-    // That the scenario is lawful needs what each network keeps, which a read of it tells.
+    // That the scenario is lawful needs what every network keeps, which this read tells.
     let _generals = plain.net().generals();
     let (net, order) = plain.into_parts();
     let signed = SignedPlan::new(version_with(slot), net, order, &master, blocks.scripts);
     Ok((signed, blocks.after))
 }
 
-/// Returns what the text says, whose seed is this or none, and the cursor behind it.
+/// Returns what a text with or without this seed says from here on, and the cursor after its last line.
 #[tactic(auto, unfolding(crate::specs::ScenarioReading::told_at))]
 fn read_told<'a>(
     alloc: Global,
@@ -87,7 +86,7 @@ fn read_told<'a>(
     }
 }
 
-/// Reads the text line by line.
+/// Reads a whole text line by line, and returns what it says.
 #[tactic(auto, unfolding(crate::specs::ScenarioReading::scenario_of))]
 fn whole(alloc: Global, text: &[u8]) -> Result<ScenarioText, ReadError<ScenarioFault>>
     ensures exact { IsRead result (scenario_of text.now) }
@@ -99,7 +98,7 @@ fn whole(alloc: Global, text: &[u8]) -> Result<ScenarioText, ReadError<ScenarioF
     if !rest.is_over() {
         return Err(LineFault::Extra.refused(rest.line()));
     }
-    // The laws of spellings need what each network keeps, which a read of it tells.
+    // The laws of spellings need what every network keeps, which this read tells.
     let _generals = told.net().generals();
     Ok(told)
 }
@@ -108,16 +107,16 @@ fn whole(alloc: Global, text: &[u8]) -> Result<ScenarioText, ReadError<ScenarioF
 ///
 /// # Errors
 ///
-/// The text's first fault and its line. Of one line the fault is the first of: a foreign byte, more than
-/// 600,000 bytes, no line feed before the text ends, another shape, a script without a seed, then the others
-/// from left to right. That a path names a general without a script is told after the line `end` was read,
-/// of the first such line. Memory where memory was refused before a fault was met.
+/// The text's first fault, with its line. In one line a foreign byte comes first, then more than 600,000 bytes, then no
+/// line feed before the text ends, then another shape. After these come a script without a seed, and then the others
+/// from left to right. That a path names a general without a script is told after the line `end` was read, for the
+/// first such line. Memory if memory was refused before a fault was met.
 pub fn read_scenario(alloc: Global, text: &[u8]) -> Result<ScenarioText, ReadError<ScenarioFault>>
-    // What is read is spelled so.
+    // If a scenario is read, the text spells it.
     ensures found { IfOk result (SpellsScenario text.now) }
-    // What is spelled so is read, unless memory runs out.
+    // If the text spells a scenario, that scenario is read, unless memory runs out.
     ensures only { (told : Told) → SpellsScenario text.now told → IsRead result (Ok told) }
-    // Which fault is the first, and of which line.
+    // The answer, and so the first fault and its line, is that of `scenario_of`.
     ensures exact { IsRead result (scenario_of text.now) }
 {
     whole(alloc, text)
@@ -125,7 +124,7 @@ pub fn read_scenario(alloc: Global, text: &[u8]) -> Result<ScenarioText, ReadErr
 
 /// A text spells at most one scenario.
 ///
-/// A law: a function with an empty body, whose caller knows what it ensures.
+/// This is a law: a function with an empty body, whose caller knows what it ensures.
 pub fn one_scenario()
     ensures { OneScenario }
 {}

@@ -9,7 +9,7 @@ use gen_types::OrderNo;
 /// What a scenario text says.
 #[derive(Debug, Drop)]
 pub enum ScenarioText {
-    /// A scenario without signatures, in which everybody follows the algorithm: the text has no seed.
+    /// A scenario without signatures, in which every general follows the algorithm: the text has no seed.
     Plain(PlainScenario),
     /// A scenario in which generals sign: the text has a seed.
     Signed(SignedPlan),

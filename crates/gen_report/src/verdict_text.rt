@@ -1,4 +1,4 @@
-//! Judgements as text.
+//! Prints judgements as text.
 ghost use Rattle.std.specs.Prelude.{◌≡◌, ◌++◌, OnOk, IfOk, map, string_bytes};
 ghost use Rattle.std.specs.List.{flat_map};
 ghost use Rattle.gen_convict.specs.Evidence.{told_of};
@@ -13,7 +13,7 @@ use gen_net::Header;
 use gen_scenario::Decision;
 use std::alloc::{AllocError, Global};
 
-/// Appends the line that says which run it is.
+/// Appends the line with the run id.
 fn push_run(alloc: Global, out: &mut String, header: &Header) -> Result<(), AllocError>
     ensures { OnOk result (string_bytes out.new ≡ string_bytes out.old ++ run_line header.now) }
 {
@@ -21,7 +21,7 @@ fn push_run(alloc: Global, out: &mut String, header: &Header) -> Result<(), Allo
     write!(out, "run {digits}\n")
 }
 
-/// Appends the line of what a general decided.
+/// Appends the line that says what a general decided.
 fn push_decided(out: &mut String, decision: &Decision) -> Result<(), AllocError>
     ensures { OnOk result
         (string_bytes out.new ≡ string_bytes out.old ++ decided_line decision.now) }
@@ -31,7 +31,7 @@ fn push_decided(out: &mut String, decision: &Decision) -> Result<(), AllocError>
     write!(out, "general {general} decides {order}\n")
 }
 
-/// Appends the lines of what generals decided.
+/// Appends the lines that say what generals decided.
 fn push_all_decided(out: &mut String, decisions: &[Decision]) -> Result<(), AllocError>
     ensures { OnOk result (string_bytes out.new
         ≡ string_bytes out.old ++ flat_map decided_line decisions.now) }
@@ -95,14 +95,14 @@ fn push_all_convicted(out: &mut String, convictions: &[Evidence]) -> Result<(), 
     Ok(())
 }
 
-/// Returns the text of a judgement on a run: a line `run` with the 64 digits of the run's id, a line
-/// `verdict agreed V`, `verdict explained` or `verdict no`, a line `general G decides V` for each decision that
-/// explains or a line for each finding, a line `convicted G by K2` for each conviction, by the kind of its evidence, and
-/// a line `end`.
+/// Returns the text of a judgement on a run. It has a line `run` with the run id in 64 hexadecimal digits, and a line
+/// `verdict agreed V`, `verdict explained` or `verdict no`. Then come a line `general G decides V` for each decision
+/// that explains, or a line for each finding. Then comes a line `convicted G by K2` for each conviction, by the kind of
+/// its evidence. The last line is `end`.
 ///
 /// # Errors
 ///
-/// `AllocError` where memory is refused.
+/// `AllocError` if memory is refused.
 pub fn print_verdict(
     alloc: Global,
     header: &Header,

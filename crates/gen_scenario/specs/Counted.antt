@@ -10,39 +10,39 @@ use Rattle.gen_scenario.specs.declared.delivery.Delivery.{Delivery}
 use Rattle.gen_scenario.specs.Counting.{AreCounted}
 use Rattle.gen_chain.specs.Verified.{is_verified}
 
--- the general is the last of the path
+-- whether the general is the last of the path
 abbrev pub is_last : List ℕ → ℕ → Bool
 is_last [] g = false
 is_last (a ∷ []) g = a == g
 is_last (a ∷ b ∷ path) g = is_last (b ∷ path) g
 
--- the chain may count: as many signers as rounds, its sender last, its receiver not among them, and it
--- verifies
+-- whether a chain of a frame may count: it has as many signers as the round's number, the sender is the last
+-- of them, the receiver is none of them, and the signatures verify
 unfoldable pub may_count : RunHeader → Delivery → Chain → Bool
 may_count h d c =
     (length (signed_path c.signers) == d.round && is_last (signed_path c.signers) d.from)
     && (not (is_among (signed_path c.signers) d.to) && is_verified h c)
 
--- what was read of a parcel and the bytes after it: the chain, where nothing is left and it may count
+-- the chain that was read of a parcel, if no bytes are left behind it and it may count
 abbrev pub if_whole : RunHeader → Delivery → Result (Chain × List ℕ) ChainFault → List Chain
 if_whole h d (Err fault) = []
 if_whole h d (Ok read) = if length read.1 == 0 && may_count h d read.0 then read.0 ∷ [] else []
 
--- the chain that a parcel carries: one or none
+-- the chain that a parcel carries: a list of one chain, or of none
 unfoldable pub carried_by : RunHeader → Delivery → List ℕ → List Chain
 carried_by h d parcel = if_whole h d (chain_at (height_of h) parcel)
 
--- of the chains of one order the first alone
+-- the first chain of each order, in the order of the list
 unfoldable pub firsts : List Chain → List Chain
 firsts [] = []
 firsts (c ∷ others) = c ∷ filter (λ k. not (k.order == c.order)) (firsts others)
 
--- the chains of the frame that count; none where the frame has more parcels than there are orders
+-- the chains of a frame that count, or none if the frame has more parcels than there are orders
 unfoldable pub counted_of : RunHeader → Delivery → List (List ℕ) → List Chain
 counted_of h d frame =
     if nat_le (length frame) h.network.orders then firsts (flat_map (carried_by h d) frame) else []
 
--- the list is that of the chains that count
+-- the list of a frame has exactly the chains that count, one for each order
 abbrev pub CountsThese : Type 0
 CountsThese =
     (h : RunHeader) (d : Delivery) (frame : List (List ℕ)) → AreCounted h d frame (counted_of h d frame)

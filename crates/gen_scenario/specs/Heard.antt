@@ -1,21 +1,21 @@
--- What a general has heard: the chains that counted at him, each with its sender, in the order of rounds, of
--- senders and of parcels.
+-- What a general has heard: the chains that counted at that general, each with its sender, in the order of
+-- rounds, then senders, then parcels.
 use Rattle.std.specs.Prelude.{ℕ, ◌==◌, ◌&&◌, if◌then◌else◌, List, [], ◌∷◌, length, filter, Option, Some, None}
 use Rattle.std.specs.List.{range_with_len, list_any}
 use Rattle.gen_chain.specs.Chain.{signed_path}
 use Rattle.gen_scenario.specs.declared.heard.Heard.{Heard}
 
--- the round in which it was heard, which is the number of signers
+-- the round in which a chain was heard, which is the number of its signers
 abbrev pub round_of : Heard → ℕ
 round_of x = length (signed_path x.chain.signers)
 
--- Of what a general heard, the first chain of an order: the least sender's in the round in which he adds the
--- order.
+-- The first chain of an order that a general heard: it came in the round in which the general adds the order,
+-- from the least sender.
 unfoldable pub first_of : ℕ → List Heard → Option Heard
 first_of order [] = None
 first_of order (x ∷ others) = if x.chain.order == order then Some x else first_of order others
 
--- the chain of an order that came from a sender in a round
+-- the first chain of an order that came from a sender in a round
 unfoldable pub heard_from : ℕ → ℕ → ℕ → List Heard → Option Heard
 heard_from round from order [] = None
 heard_from round from order (x ∷ others) =

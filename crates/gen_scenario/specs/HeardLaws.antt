@@ -1,4 +1,4 @@
--- What is known of whatever counts, and so of what a general heard.
+-- What is known of the chains that count, and so of what a general heard.
 use Rattle.std.specs.Prelude.{ℕ, ◌≡◌, ◌≤◌, ◌<◌, ◌+◌, List, Contains}
 use Rattle.gen_types.specs.Ends.{EndsWith}
 use Rattle.gen_net.specs.Header.{RunHeader, height_of}
@@ -13,14 +13,14 @@ use Rattle.gen_scenario.specs.Heard.{round_of}
 use Rattle.gen_scenario.specs.Scenario.{Scenario, header_of}
 use Rattle.gen_scenario.specs.SignedWorld.{heard_in, heard_by}
 
--- what counts is a chain by trees of the run's height, and may count
+-- a chain that counts is signed with trees of the run's height, and may count
 abbrev pub CountedAreChains : Type 0
 CountedAreChains =
     (h : RunHeader) (d : Delivery) (frame : List (List ℕ)) (c : Chain) → Contains (counted_of h d frame) c
     → IsSignedChain (height_of h) c × MayCount h d c
 
--- what was heard in the first k rounds came from a neighbour who signed it last, and the hearer didn't sign
--- it
+-- a chain that a general heard in the first k rounds came from a neighbour that is its last signer; it
+-- verifies, and the general that heard it is not among its signers
 pub record IsHeardBy (s : Scenario) (k g : ℕ) (x : Heard) : Type 0 where
   pub near : AreNeighbours s.net g x.from
   pub is_chain : IsSignedChain (height_of (header_of s)) x.chain
@@ -33,7 +33,7 @@ pub record IsHeardBy (s : Scenario) (k g : ℕ) (x : Heard) : Type 0 where
 abbrev pub HeardIsKnown : Type 0
 HeardIsKnown = (s : Scenario) (k g : ℕ) (x : Heard) → Contains (heard_by s k g) x → IsHeardBy s k g x
 
--- all of this was heard in this round
+-- all of these chains were heard in this round
 abbrev pub AreOfRound : ℕ → List Heard → Type 0
 AreOfRound round heard = (x : Heard) → Contains heard x → round_of x ≡ round
 

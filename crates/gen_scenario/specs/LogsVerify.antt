@@ -1,5 +1,5 @@
--- Every log of a scenario verifies, those of traitors too, and their second ones; and none is too long for a
--- bundle.
+-- Every log of a scenario verifies, including the logs of traitors and their second logs, and none is too
+-- long for a bundle.
 use Rattle.std.specs.Prelude.{ℕ, ◌<◌, ◌^◌, Contains, length}
 use Rattle.gen_log.specs.Log.{RunLog, log_spelling}
 use Rattle.gen_log.specs.Verifying.{LogVerifies}
@@ -12,7 +12,7 @@ AllVerify =
     (s : Scenario) → IsScenario s → (g : ℕ) → g < s.net.generals
     → (log : RunLog) → Contains (logs_of s g) log → LogVerifies (header_of s) g log
 
--- each log that a general has is so short that its length is a number of four bytes
+-- each of a general's logs has fewer than 2 to the power of 32 bytes
 abbrev pub AllShort : Type 0
 AllShort =
     (s : Scenario) → IsScenario s → (g : ℕ) → g < s.net.generals

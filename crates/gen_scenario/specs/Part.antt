@@ -10,8 +10,8 @@ use Rattle.gen_scenario.specs.SignedWorld.{own_order}
 use Rattle.gen_scenario.specs.SignerTrees.{ArePlayable}
 use Rattle.gen_scenario.specs.Trees.{general_tree}
 
--- the header, his number, his order if he is the commander, and if he has a script its lines and the trees of
--- all who have one
+-- the header, the general's number, its order if it is the commander, and, if it has a script, the script's
+-- lines and the trees of all generals with scripts
 pub record Part : Type 0 where
   pub header : RunHeader
   pub me : ℕ
@@ -23,7 +23,7 @@ pub record Part : Type 0 where
 abbrev pub signer_tree : Scenario → ℕ → SignerTree
 signer_tree s g = record { general = g; tree = general_tree s.master (height_in s.version) g }
 
--- the trees that he knows, by whether he has a script
+-- the trees that a general knows: those of all generals with scripts if it has a script, otherwise none
 abbrev pub trees_known : Scenario → Option (List ScriptLine) → List SignerTree
 trees_known s None = []
 trees_known s (Some lines) = map (signer_tree s) (scripted s.scripts)
@@ -38,19 +38,20 @@ part_of s g = record {
   trees = trees_known s (script_of s.scripts g);
 }
 
--- what a general without a script knows, who was told the header, his number and, if he commands, his order
+-- what a general without a script knows: the header, its number and, if it is the commander, its order
 abbrev pub followers_part : RunHeader → ℕ → Option ℕ → Part
 followers_part h g order = record { header = h; me = g; own = order; script = None; trees = [] }
 
--- he is a general of the header's network, and he has an order, one of the network's, exactly where he
--- commands
+-- the general is one of the header's network, and it has an order, which is one of the network's, if and only
+-- if it is the commander
 pub record CanFollow (h : RunHeader) (g : ℕ) (order : Option ℕ) : Type 0 where
   pub me : g < h.network.generals
   pub own : IfSome order (λ v. v < h.network.orders)
   pub commander : IsSome order ↔ (g ≡ 0)
 
--- What holds of it: the header is one, he is a general of its network, the commander alone has an order,
--- which is one of the network's, and what the lines of his script ask for can be made.
+-- What holds of a general's own knowledge. The header is lawful, and the general is one of its network. Only
+-- the commander has an order, which is one of the network's. What the lines of the general's script ask for
+-- can be made.
 pub record IsPart (k : Part) : Type 0 where
   pub header : IsHeader k.header
   pub me : k.me < k.header.network.generals
@@ -58,6 +59,6 @@ pub record IsPart (k : Part) : Type 0 where
   pub commander : IsSome k.own ↔ (k.me ≡ 0)
   pub script : IfSome k.script (ArePlayable k.header k.trees k.me)
 
--- with what a general signs who has his own seed alone
+-- the keys of a general that has only its own seed
 abbrev pub own_keys : RunHeader → List ℕ → Keys
 own_keys h seed = record { header = h; seeds = λ g. seed }

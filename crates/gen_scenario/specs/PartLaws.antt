@@ -1,4 +1,4 @@
--- What a general knows of his own is enough for him to act as the scenario says.
+-- What a general knows of its own is enough to act as the scenario says.
 use Rattle.std.specs.Prelude.{ℕ, ◌≡◌, List, Contains, Some, None}
 use Rattle.gen_tree.specs.Rings.{seed_of}
 use Rattle.gen_chain.specs.Chain.{Chain}
@@ -14,7 +14,7 @@ use Rattle.gen_scenario.specs.WorldLogs.{logs_over}
 use Rattle.gen_scenario.specs.SignerTrees.{keys_with}
 use Rattle.gen_scenario.specs.Part.{part_of, own_keys}
 
--- these keys give his signatures, and if he has a script those of all who have one
+-- these keys give the general's own signatures and, if it has a script, those of all generals with scripts
 pub record AreHisKeys (s : Scenario) (g : ℕ) (k : Keys) : Type 0 where
   pub header : k.header ≡ header_of s
   pub own : k.seeds g ≡ seed_of s.master g
@@ -25,7 +25,8 @@ pub record AreHisKeys (s : Scenario) (g : ℕ) (k : Keys) : Type 0 where
 abbrev pub part_by : Scenario → ℕ → Keys → Sender
 part_by s g k = record { keys = k; me = g; own = own_order s g; script = script_of s.scripts g }
 
--- whatever the two heard, they sign, send and write the same, and of the same entries they make the same logs
+-- whatever they heard, the two senders sign, send and write the same, and they make the same logs from the
+-- same entries
 pub record ActAlike (p q : Sender) : Type 0 where
   pub frames : (heard : List Heard) (round to : ℕ) → frame_of p heard round to ≡ frame_of q heard round to
   pub signed : (heard : List Heard) (round : ℕ)
@@ -37,13 +38,14 @@ pub record ActAlike (p q : Sender) : Type 0 where
       → recv_entries p round from counted ≡ recv_entries q round from counted
   pub logs : (entries : List Entry) → logs_over p entries ≡ logs_over q entries
 
--- such keys are enough
+-- a general with such keys acts as the scenario says
 abbrev pub KeysAreEnough : Type 0
 KeysAreEnough =
     (s : Scenario) → IsScenario s → (g : ℕ) (k : Keys) → AreHisKeys s g k
     → ActAlike (part_by s g k) (sender_of s g)
 
--- who has no script has them by his own seed, and who has one by the trees that he knows
+-- a general without a script has such keys by its own seed, and a general with a script by the trees that it
+-- knows
 abbrev pub OwnSeedIsEnough : Type 0
 OwnSeedIsEnough =
     (s : Scenario) (g : ℕ) → script_of s.scripts g ≡ None

@@ -1,4 +1,5 @@
--- What came in a round changes nothing of what is signed, sent and written in it.
+-- What arrives in a round has no effect on what is signed and sent in the same round, and on the SIGNs and
+-- SENDs of it.
 use Rattle.std.specs.Prelude.{ℕ, ◌≡◌, List, ◌++◌, Contains, Option}
 use Rattle.gen_script.specs.declared.lines.ScriptLine.{ScriptLine}
 use Rattle.gen_script.specs.Line.{IsScriptLine}
@@ -13,7 +14,7 @@ SignsKept =
     (k : Keys) (me : ℕ) (own : Option ℕ) (heard more : List Heard) (round : ℕ) → AreOfRound round more
     → signed_in k me own (heard ++ more) round ≡ signed_in k me own heard round
 
--- the lines of his script are lawful, if he has one
+-- the lines of the script are lawful, if there is one
 abbrev pub HasLawfulLines : Sender → Type 0
 HasLawfulLines p =
     (line : ScriptLine) → Contains (lines_in p.script) line → IsScriptLine p.keys.header.network p.me line

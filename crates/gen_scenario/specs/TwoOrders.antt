@@ -1,6 +1,6 @@
--- A run with a traitor. Of three generals, all neighbours, the commander is faulty: he gives order 0 to one
--- lieutenant and order 1 to the other. Both follow: each tells the other in round 2, so that each accepts
--- both orders.
+-- A run with a traitor. There are three generals, all neighbours, and the commander is faulty: it gives order
+-- 0 to one lieutenant and order 1 to the other. Both lieutenants follow: each relays its order to the other
+-- in round 2, so each accepts both orders.
 use Rattle.std.specs.Prelude.{ℕ, ◌==◌, if◌then◌else◌, ◌<◌, ◌↔◌, List, [], ◌∷◌}
 use Rattle.gen_types.specs.declared.choices.ChoiceKind.TheVariants.{Only}
 use Rattle.gen_net.specs.Network.{Network}
@@ -37,7 +37,8 @@ one_from_2 = record { from = 2; to = 1; order = 1; path = 0 ∷ 2 ∷ [] }
 abbrev pub two_orders : Run
 two_orders = zero_to_1 ∷ one_to_2 ∷ zero_from_1 ∷ one_from_2 ∷ []
 
--- the path of each order that reaches general 1, and those of the orders that reach general 2
+-- the path that a lieutenant picks for an order: general 1 gets order 0 from the commander and order 1 from
+-- general 2, general 2 the other way round
 abbrev pub taken : ℕ → ℕ → List ℕ
 taken g v = if g == 1
     then (if v == 0 then 0 ∷ [] else 0 ∷ 2 ∷ [])

@@ -1,14 +1,14 @@
-//! Which frame it is.
+//! The place of a frame in a run.
 
 use gen_types::GeneralNo;
 
-/// Which frame it is: who sends it to whom, in which round, 1 to R.
+/// The place of a frame in a run: its sender, its receiver, and its round, 1 to R.
 #[derive(Clone, Copy, Debug, PartialEq, Eq)]
 pub struct Delivery {
-    /// The general who sends it.
+    /// The general that sends the frame.
     pub from: GeneralNo,
-    /// The general who gets it.
+    /// The general that receives the frame.
     pub to: GeneralNo,
-    /// The round.
+    /// The round of the frame.
     pub round: u8,
 }

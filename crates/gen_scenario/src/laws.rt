@@ -18,32 +18,33 @@ ghost use Rattle.gen_scenario.specs.WorldFollows.{LieutenantsFollow, WorldIsSign
 ghost use Rattle.gen_scenario.specs.WorldLogs.{FollowersKeep};
 ghost use Rattle.gen_scenario.specs.WorldLaws.{CommanderObeys, EachFollows, LieutenantsRelay, MessagesAreRun, PlainWorld};
 
-/// A plain scenario has one run: two runs of it have the same messages.
+/// States that a plain scenario has one run: two runs of it have the same messages.
 pub fn one_world()
     ensures { OneWorld }
 {}
 
-/// In the run of a plain scenario every general follows the algorithm SM of the paper of 1982, so it is a run
-/// for no faulty general: `lieutenants`, each with some pick; `signed`, all together, the commander with the
-/// scenario's order; `premises`, it meets what Theorem 4 asks for wherever no two generals are more than d
-/// edges apart.
+/// States that in the run of a plain scenario every general follows the algorithm SM of the paper of 1982.
+/// Each lieutenant follows it with some pick (`lieutenants`). The run is one in which no general is faulty
+/// and the commander has the scenario's order (`signed`). It meets what Theorem 4 asks for if no two generals
+/// are more than d edges apart (`premises`).
 pub fn world_follows()
     ensures lieutenants { LieutenantsFollow }
     ensures signed { WorldIsSigned }
     ensures premises { WorldMeetsPremises }
 {}
 
-/// Theorem 4 of the paper of 1982 (section 5). In a run for a set of at most m faulty generals, where any two
-/// of the rest are joined inside the rest by at most d edges:
+/// States Theorem 4 of the paper of 1982 (section 5). In a run for a set of at most m faulty generals, where
+/// any two generals of the rest are joined inside the rest by at most d edges:
 ///
 /// - `agreement`: any two lieutenants of the rest accept the same orders;
-/// - `validity`: where the commander is of the rest, they accept exactly his order;
-/// - `each_decides`: every lieutenant has a decision, in every run;
+/// - `validity`: if the commander is of the rest, they accept the commander's order and no other;
 /// - `decide_alike`: any two lieutenants of the rest decide the same order (IC1);
-/// - `obey_commander`: where the commander is of the rest, they decide his order (IC2);
-/// - `any_choice`: the same of whatever choice they make of their sets, if it takes the order of a set of one and RETREAT of
-///   the empty set;
-/// - `each_is_choice`: every choice that a network can name is such a choice.
+/// - `obey_commander`: if the commander is of the rest, they decide the commander's order (IC2);
+/// - `any_choice`: they also choose alike, and obey a commander of the rest, by any choice from their sets that
+///   takes the order from a set of one order, and RETREAT from the empty set.
+///
+/// Besides, every lieutenant has a decision in every run (`each_decides`), and every choice that a network
+/// can name is such a choice (`each_is_choice`).
 pub fn theorem_four()
     ensures agreement { (here : Case) → Premises here → Agreement here }
     ensures validity { (here : Case) → Premises here → Validity here }
@@ -54,33 +55,35 @@ pub fn theorem_four()
     ensures each_is_choice { EachIsChoice }
 {}
 
-/// What faulty generals can send without forging a signature of the rest: `signed_by_faulty`, what they alone
-/// have signed; `prolonged_by_faulty`, a front of what somebody of the rest sent to one of them in an earlier
-/// round, lengthened by them alone.
+/// States what faulty generals can send without forging a signature of the rest. They can send messages that
+/// only they have signed (`signed_by_faulty`). They can also prolong a message that the rest sent to a faulty
+/// general in an earlier round (`prolonged_by_faulty`): they keep a beginning of its path, and only faulty
+/// generals sign behind that.
 pub fn derivables()
     ensures signed_by_faulty { SignedByFaulty }
     ensures prolonged_by_faulty { ProlongedByFaulty }
 {}
 
-/// Theorem 4 speaks of runs with a traitor too. Here is one: of three generals, all neighbours (`network`),
-/// the faulty commander gives order 0 to one lieutenant and order 1 to the other; the run meets what the
-/// theorem asks for (`premises`), and each lieutenant accepts both orders (`both_accepted`).
+/// States that there is a run with a traitor of which Theorem 4 speaks. There are three generals, all
+/// neighbours (`network`), and the faulty commander gives order 0 to one lieutenant and order 1 to the other.
+/// The run meets what the theorem asks for (`premises`), and each lieutenant accepts both orders
+/// (`both_accepted`).
 pub fn two_orders()
     ensures network { IsNetwork three }
     ensures premises { Premises two_orders_case }
     ensures both_accepted { BothAccepted }
 {}
 
-/// Counting as a function: the list of the chains of a frame that count has exactly those that count, of each
-/// order one.
+/// States that the list that counting gives for a frame has exactly the chains that count, at most one for
+/// each order.
 pub fn counting()
     ensures { CountsThese }
 {}
 
-/// The messages of a scenario with signatures are a run of its network (`run`); a commander without a script
-/// follows, with the scenario's order (`commander`); each lieutenant without a script relays what he adds
-/// with the least sender's path (`lieutenants`), so each general without a script follows (`follows`);
-/// without scripts it is the run of the plain scenario (`plain`).
+/// States that the messages of a scenario with signatures are a run of its network (`run`). A commander
+/// without a script follows the algorithm with the scenario's order (`commander`). Each lieutenant without a
+/// script relays what it adds, with the least sender's path (`lieutenants`). So each general without a script
+/// follows the algorithm (`follows`). If nobody has a script, it is the run of the plain scenario (`plain`).
 pub fn world_is_run()
     ensures run { MessagesAreRun }
     ensures commander { CommanderObeys }
@@ -89,17 +92,18 @@ pub fn world_is_run()
     ensures plain { PlainWorld }
 {}
 
-/// What the generals without scripts decide is a decision in the run of the scenario (`hold`); without
-/// scripts they are the decisions of the plain scenario (`plain`), which has one list of them (`one`).
+/// States that what each general without a script decides is its decision in the run of the scenario
+/// (`hold`). If nobody has a script, these are the decisions of the plain scenario (`plain`), which has one
+/// list of decisions (`one`).
 pub fn decisions_are_known()
     ensures hold { DecisionsHold }
     ensures plain { PlainDecisions }
     ensures one { OneOutcome }
 {}
 
-/// How loops go along the definitions: the messages of the run are those that count in the frames of their
-/// rounds (`count`); one round more of what is heard (`round`), and its frames (`frame`); one signer more
-/// (`signer`), and how chains begin (`begin`).
+/// States how loops follow the definitions. The messages of the run are those that count in the frames of
+/// their rounds (`count`). One more round adds to what is heard (`round`) and has its frames (`frame`). A
+/// path of signers grows by one signer (`signer`), and a chain begins with the commander (`begin`).
 pub fn steps_are_known()
     ensures count { MessagesCount }
     ensures round { OneRoundMore }
@@ -108,31 +112,32 @@ pub fn steps_are_known()
     ensures begin { BegunByCommander }
 {}
 
-/// Where no script has a raw line, the messages of a scenario are a run for the generals who have scripts: no
-/// signature of the rest is forged, whatever is known of SHA-256.
+/// States that if no script has a raw line, the messages of a scenario are a run for the generals that have
+/// scripts: no signature of the rest is forged, whatever is known of SHA-256.
 pub fn no_signature_is_forged()
     ensures { NoRawIsSigned }
 {}
 
-/// Theorem 4 of the paper of 1982 (section 5) of scenarios: with at most m scripts, none of which has a raw
-/// line, and any two of the rest joined inside the rest by at most d edges, the rest decide one order, the
-/// scenario's where its commander has no script.
+/// States Theorem 4 of the paper of 1982 (section 5) for scenarios. If there are at most m scripts, none has
+/// a raw line, and any two generals of the rest are joined inside the rest by at most d edges, then the rest
+/// decide one order. It is the scenario's order if the commander has no script.
 pub fn theorem_holds_of_scenarios()
     ensures { TheoremHoldsOfScenarios }
 {}
 
-/// What is known of what counts, and so of what a general heard: it is a chain by trees of the run's height,
-/// which may count (`counted`); in a scenario it came from a neighbour who signed it last, and the hearer
-/// didn't sign it (`known`); and what was heard in a round has as many signers as its number (`rounds`).
+/// States what is known of chains that count, and so of what a general heard. Such a chain is signed with
+/// trees of the run's height, and may count (`counted`). In a scenario it came from a neighbour that is its
+/// last signer, and the general that heard it has not signed it (`known`). What was heard in a round has as
+/// many signers as the round's number (`rounds`).
 pub fn heard_is_known()
     ensures counted { CountedAreChains }
     ensures known { HeardIsKnown }
     ensures rounds { HeardInRound }
 {}
 
-/// What comes in a round changes nothing of what is signed in it (`signs`), of its frames (`frame`), and of
-/// the SIGNs and SENDs that are written of it (`written`, `sent`): so a general may hear and send in whatever
-/// order within a round.
+/// States that what arrives in a round has no effect on what is signed in it (`signs`), on its frames
+/// (`frame`), and on its SIGNs and SENDs (`written`, `sent`). So these do not depend on the order in which a
+/// general hears and sends within a round. All but `signs` need the lines of the script to be lawful.
 pub fn rounds_are_kept()
     ensures signs { SignsKept }
     ensures frame { FrameKept }
@@ -140,25 +145,28 @@ pub fn rounds_are_kept()
     ensures sent { SendEntriesKept }
 {}
 
-/// Whoever has no script has one log, whose entries are exactly those that a follower keeps of the run.
+/// States that a general without a script has one log, whose entries are exactly those that a follower keeps
+/// of the run.
 pub fn followers_logs()
     ensures { FollowersKeep }
 {}
 
-/// Each log of each general, a traitor's and his second one too, is a log of this run whose signatures and
-/// head verify.
+/// States that each log of each general, including the logs of traitors and their second logs, is a log of
+/// this run whose signatures and head verify.
 pub fn logs_verify()
     ensures { AllVerify }
 {}
 
-/// Each log of each general, a traitor's and his second one too, has fewer than 2 to the power of 32 bytes.
+/// States that each log of each general, including the logs of traitors and their second logs, has fewer than
+/// 2 to the power of 32 bytes.
 pub fn logs_are_short()
     ensures { AllShort }
 {}
 
-/// What a general knows of his own is enough: with keys that give his own signatures, and if he has a script
-/// those of all who have one, he acts as the scenario says, whatever he heard (`enough`); who has no script
-/// has such keys by his own seed (`follower`), and who has one by the trees that he knows (`traitor`).
+/// States that what a general knows of its own is enough to act as the scenario says. It needs keys that give
+/// its own signatures and, if it has a script, those of all generals with scripts; then it acts so whatever
+/// it heard (`enough`). A general without a script has such keys by its own seed (`follower`), a general with
+/// a script by the trees that it knows (`traitor`).
 pub fn known_is_enough()
     ensures enough { KeysAreEnough }
     ensures follower { OwnSeedIsEnough }

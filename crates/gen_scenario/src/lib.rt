@@ -1,10 +1,10 @@
-//! What a scenario and its run are.
+//! Scenarios and their runs.
 //!
-//! A scenario is a network, the commander's order, and where generals sign the seed of all keys and the
-//! scripts of the traitors. Its run is made of functions: what counts of a frame, what a general heard after
-//! so many rounds, the frame that he sends, the messages, the decisions and the logs. That these are a run of
-//! the algorithm, in which whoever has no script follows, are laws. What a general does, step by step, stands
-//! in `gen_general`.
+//! A scenario is a network and the commander's order; a scenario with signatures also has the seed of all
+//! keys and the scripts of the traitors. Its run is made of functions: the chains of a frame that count, what
+//! a general heard after a number of rounds, the frame that it sends, the messages, the decisions and the
+//! logs. Laws state that these are a run of the algorithm in which every general without a script follows.
+//! What a general does, step by step, stands in `gen_general`.
 #![tactic(auto)]
 
 mod delivery;

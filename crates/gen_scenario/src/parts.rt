@@ -13,11 +13,12 @@ use gen_types::{GeneralNo, OrderNo};
 use std::alloc::{AllocError, Global};
 use std::marker::Model;
 
-/// What one general alone knows of a run before it begins: the header, his number, his order if he is the
-/// commander, and if he has a script its lines and the trees of the keys of all who have one.
+/// What one general alone knows of a run before it begins: the header, its number, and its order if it is the
+/// commander. If it has a script, it also knows the script's lines and the trees of the keys of all generals
+/// with scripts.
 ///
-/// Without a script he knows nobody's keys but those of his own ring, which isn't kept here. A contract sees
-/// all of these as one record.
+/// A general without a script knows nobody's keys but those of its own ring, which isn't kept here. A
+/// contract sees all of these as one record.
 #[derive(Drop)]
 pub struct Part {
     header: Header,
@@ -51,9 +52,10 @@ impl Model for Part {
 }
 
 impl Part {
-    /// Returns what a general without a script knows, who was told the header, his number and, if he commands, his
-    /// order; and None exactly where he isn't one of the header's generals, where the commander has no order or one that isn't
-    /// the network's, or where a lieutenant has one.
+    /// Returns what a general without a script knows: the header, its number and, if it is the commander, its
+    /// order. The result is None if and only if these can't belong together. So it is None if the number is
+    /// none of the header's generals, or if a lieutenant has an order. It is also None if the commander has
+    /// no order, or one that is none of the network's.
     pub fn follower(
         alloc: Global,
         header: Header,
@@ -89,21 +91,21 @@ impl Part {
         &self.header
     }
 
-    /// Returns his number.
+    /// Returns the number of the general.
     pub fn me(&self) -> GeneralNo
         ensures { result ≡ self.now.me }
     {
         self.me
     }
 
-    /// Returns his own order, which the commander alone has.
+    /// Returns the general's own order, which only the commander has.
     pub fn own(&self) -> Option<OrderNo>
         ensures { result ≡ self.now.own }
     {
         self.own
     }
 
-    /// Returns the lines of his script, if he has one.
+    /// Returns the lines of the general's script, if it has one.
     pub fn lines(&self) -> Option<&[ScriptLine]>
         ensures { option_map (λ lines. lines.now) result ≡ self.now.script }
     {
@@ -113,7 +115,7 @@ impl Part {
         }
     }
 
-    /// Returns the trees of the keys that he knows, each with its general.
+    /// Returns the trees of the keys that the general knows, each with the general that signs by it.
     pub fn trees(&self) -> &[SignerTree]
         ensures { result.now ≡ self.now.trees }
     {
@@ -121,7 +123,7 @@ impl Part {
     }
 }
 
-/// A copy is equal to its original. It fails only where memory was refused.
+/// A copy is equal to its original. Copying fails only if memory is refused.
 impl Clone for Part {
     ghost is_clone = { λ part copy. copy ≡ part };
 
@@ -136,7 +138,7 @@ impl Clone for Part {
     }
 }
 
-/// The script of a general, if one of these is his.
+/// Returns the script of a general, if it is in the list.
 fn find_script(scripts: &[Script], general: GeneralNo) -> Option<&Script>
     ensures { option_map (λ script. script.now.lines) result ≡ script_of scripts.now general }
 {
@@ -151,11 +153,11 @@ fn find_script(scripts: &[Script], general: GeneralNo) -> Option<&Script>
 }
 
 impl Scenario {
-    /// Returns what a general alone knows of the run. He must be one of the network's.
+    /// Returns what a general alone knows of the run. The number must be that of a general of the network.
     ///
     /// # Errors
     ///
-    /// `AllocError` where memory is refused.
+    /// `AllocError` if memory is refused.
     pub fn part(&self, alloc: Global, general: GeneralNo) -> Result<Part, AllocError>
         requires { general < self.now.net.generals }
         ensures { IfOk result (λ part. part ≡ part_of self.now general) }
@@ -185,7 +187,7 @@ impl Scenario {
         }
     }
 
-    /// The order that a general has of his own: the commander's, and nobody else's.
+    /// Returns the own order of a general, which only the commander has.
     fn own_order(&self, general: GeneralNo) -> Option<OrderNo>
         ensures { result ≡ worlds.own_order self.now general }
     {
@@ -196,7 +198,7 @@ impl Scenario {
         }
     }
 
-    /// A general with his tree.
+    /// Returns a general together with a copy of its tree.
     fn signer_tree(&self, general: GeneralNo) -> Result<SignerTree, AllocError>
         requires { general < self.now.net.generals }
         ensures { IfOk result (λ signer. signer ≡ parts.signer_tree self.now general) }
@@ -205,7 +207,7 @@ impl Scenario {
         Ok(SignerTree { general, tree })
     }
 
-    /// The trees of all generals who have scripts.
+    /// Returns the trees of all generals that have scripts, each with its general.
     fn scripted_trees(&self, alloc: Global) -> Result<Vec<SignerTree>, AllocError>
         ensures { IfOk result (λ trees.
             trees.items ≡ map (parts.signer_tree self.now) (scripted self.now.scripts)) }

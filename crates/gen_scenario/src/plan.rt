@@ -7,10 +7,11 @@ use gen_script::Script;
 use gen_types::{GeneralSet, OrderNo};
 use std::marker::Model;
 
-/// A scenario in which generals sign, of which no keys are made yet: a network, the commander's order, the version
-/// with the slot of the run, the master seed from which all keys come, and the scripts of the traitors.
+/// A scenario with signatures whose keys are not made yet: a network, the commander's order, and the version
+/// with the slot of the run. It also has the master seed from which all keys come, and the scripts of the
+/// traitors.
 ///
-/// It is lawful: the scenario can be made of it without a fault. A contract sees that scenario.
+/// It is lawful: a scenario can be made of it without a fault. A contract sees that scenario.
 #[derive(Debug, Drop)]
 pub struct SignedPlan {
     version: Version,
@@ -31,9 +32,10 @@ impl Model for SignedPlan {
 }
 
 impl SignedPlan {
-    /// Returns the plan of these parts, which must be lawful: the slot is 0 to 3, the order is one of the network's,
-    /// and the scripts are those of generals of the network, one each, in ascending order, with lines that
-    /// `read_script_line` reads in them, whose paths name generals who have scripts.
+    /// Returns the plan of these parts, which must be lawful. The slot must be 0 to 3, and the order one of
+    /// the network's. The scripts must belong to generals of the network, at most one to each, in ascending
+    /// order. Their lines must be lawful, and the paths of the lines may name only generals that have
+    /// scripts.
     pub fn new(
         version: Version,
         net: Net,
@@ -53,7 +55,7 @@ impl SignedPlan {
         }
     }
 
-    /// Returns the version, with the slot of the run where it has one.
+    /// Returns the version, with the slot of the run if the version has slots.
     pub fn version(&self) -> Version
         ensures { result ≡ self.now.version }
     {

@@ -59,14 +59,14 @@ impl PlainScenario {
     }
 }
 
-/// What a general decides.
+/// The decision of a general.
 #[derive(Clone, Copy, Debug, PartialEq, Eq)]
 pub struct Decision {
     /// The general.
     pub general: GeneralNo,
-    /// The orders that he accepted; of the commander his own order alone.
+    /// The orders that the general accepted; for the commander, its own order alone.
     pub orders: OrderSet,
-    /// The order that he chose from them.
+    /// The order that the general chose from them.
     pub order: OrderNo,
 }
 

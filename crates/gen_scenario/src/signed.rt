@@ -20,12 +20,12 @@ use gen_types::{GeneralNo, GeneralSet, OrderNo, ReadError, TreeHeight};
 use std::alloc::{AllocError, Global};
 use std::marker::Model;
 
-/// A network whose generals sign: the commander's order, the master seed from which the keys of all
-/// generals come, and the scripts of the traitors.
+/// A network whose generals sign, the commander's order, the master seed from which the keys of all generals
+/// come, and the scripts of the traitors.
 ///
-/// Whoever has no script follows the algorithm. The trees of keys are made once, with the scenario. They
-/// and the master seed aren't wiped from memory. A contract sees the version, the network, the master seed,
-/// the order and the scripts as one record.
+/// Every general without a script follows the algorithm. The trees of keys are made once, with the scenario.
+/// The trees and the master seed aren't wiped from memory. A contract sees the version, the network, the
+/// master seed, the order and the scripts as one record.
 #[derive(Drop)]
 pub struct Scenario {
     plan: SignedPlan,
@@ -48,7 +48,7 @@ impl Model for Scenario {
     } };
 }
 
-/// The trees of the first generals under a master seed, in their order.
+/// Makes the trees of the first `count` generals under a master seed, in ascending order of generals.
 fn general_trees(
     alloc: Global,
     master: &[u8; 32],
@@ -68,7 +68,7 @@ fn general_trees(
     Ok(trees)
 }
 
-/// The roots of trees, in their order.
+/// Returns the roots of trees, in the same order.
 fn roots_of(alloc: Global, trees: &[KeyTree]) -> Result<Vec<[u8; 32]>, AllocError>
     ensures { IfOk result (λ roots. roots.items ≡ map root_over trees.now) }
 {
@@ -79,7 +79,8 @@ fn roots_of(alloc: Global, trees: &[KeyTree]) -> Result<Vec<[u8; 32]>, AllocErro
     Ok(roots)
 }
 
-/// The header of a version whose slot is known, and of one root for each general.
+/// Returns the header of this version, network and roots. The slot must be 0 to 3, and there must be one root
+/// for each general.
 fn header_over(version: Version, net: Net, roots: Vec<[u8; 32]>) -> Header
     requires slot { slot_in version ≤ greatest_slot }
     requires one_each { length roots.items ≡ net.generals }
@@ -92,7 +93,7 @@ fn header_over(version: Version, net: Net, roots: Vec<[u8; 32]>) -> Header
     header.unwrap()
 }
 
-/// Whether one of the scripts is the general's.
+/// Whether one of the scripts belongs to the general.
 fn is_scripted(scripts: &[Script], general: GeneralNo) -> bool
     ensures { result ≡ list_any (λ script. script.general == general) scripts.now }
 {
@@ -100,16 +101,16 @@ fn is_scripted(scripts: &[Script], general: GeneralNo) -> bool
 }
 
 impl Scenario {
-    /// Returns the scenario of version 1 on this network: the commander's order, the master seed of all
+    /// Returns the scenario of version 1 on this network, with the commander's order, the master seed of all
     /// keys, and the scripts of the traitors.
     ///
-    /// The order must be one of the network's. The scripts must be those of generals of the network, one
-    /// each, in ascending order, with lines that `read_script_line` reads in them, whose paths name generals
-    /// who have scripts.
+    /// The order must be one of the network's. The scripts must belong to generals of the network, at most
+    /// one to each, in ascending order. Their lines must be lawful, and the paths of the lines may name only
+    /// generals that have scripts.
     ///
     /// # Errors
     ///
-    /// `AllocError` where memory is refused.
+    /// `AllocError` if memory is refused.
     pub fn new(
         alloc: Global,
         net: Net,
@@ -126,13 +127,13 @@ impl Scenario {
         )
     }
 
-    /// Returns the same in version 2, for the run of this slot, 0 to 3, of the four that a tree of keys
-    /// serves.
+    /// Returns the scenario of these parts in version 2, for the run of this slot, 0 to 3, of the four runs
+    /// that a tree of keys serves. The parts must be lawful, as for `new`.
     ///
     /// # Errors
     ///
-    /// Fault(SlotRange) exactly where the slot is above 3, which is tested before memory is taken; else
-    /// Memory where it is refused.
+    /// `Fault(SlotRange)` if and only if the slot is above 3, which is tested before memory is taken;
+    /// otherwise `Memory` if memory is refused.
     pub fn new_in_slot(
         alloc: Global,
         net: Net,
@@ -154,11 +155,11 @@ impl Scenario {
         Ok(Scenario::of_plan(alloc, plan)?)
     }
 
-    /// Returns the scenario of a plan: the trees of all keys are made.
+    /// Returns the scenario of a plan, and makes the trees of all its keys.
     ///
     /// # Errors
     ///
-    /// `AllocError` where memory is refused.
+    /// `AllocError` if memory is refused.
     pub fn of_plan(alloc: Global, plan: SignedPlan) -> Result<Scenario, AllocError>
         ensures { IfOk result (λ scenario. scenario ≡ plan) }
     {
@@ -168,12 +169,13 @@ impl Scenario {
         Scenario::of_trees(alloc, plan, trees)
     }
 
-    /// Returns the same scenario as `of_plan`, over trees that were made before: those of all generals under the
-    /// master seed, of the version's height, in their order. So whoever makes the trees can do so by threads.
+    /// Returns the scenario of a plan, as `of_plan` does, but with trees that were made before, so that
+    /// threads can make them. They must be the trees of all generals under the master seed, of the version's
+    /// height, in ascending order of generals.
     ///
     /// # Errors
     ///
-    /// `AllocError` where memory is refused.
+    /// `AllocError` if memory is refused.
     pub fn of_trees(
         alloc: Global,
         plan: SignedPlan,
@@ -194,14 +196,15 @@ impl Scenario {
         })
     }
 
-    /// Returns the plan of which it was made.
+    /// Returns the plan of the scenario.
     pub fn plan(&self) -> &SignedPlan
         ensures { result.now ≡ self.now }
     {
         &self.plan
     }
 
-    /// Returns the header of the scenario's run: the root of each general is that of the ring of his seed.
+    /// Returns the header of the scenario's run. The root of each general in it is the root of the ring of
+    /// that general's seed.
     pub fn header(&self) -> &Header
         ensures value { result.now ≡ header_of self.now }
         ensures scenario { IsScenario self.now }
@@ -226,7 +229,7 @@ impl Scenario {
         self.plan.scripts()
     }
 
-    /// Returns the set of the generals who have scripts.
+    /// Returns the set of the generals that have scripts.
     pub fn scripted(&self) -> GeneralSet
         ensures { result ≡ scenarios.scripted self.now.scripts }
     {
@@ -238,14 +241,14 @@ impl Scenario {
         set
     }
 
-    /// Returns whether a general has a script.
+    /// Whether a general has a script.
     pub fn has_script(&self, general: GeneralNo) -> bool
         ensures { result ≡ scenarios.has_script self.now general }
     {
         is_scripted(self.scripts(), general)
     }
 
-    /// Returns the tree of a general's keys. He must be one of the network's.
+    /// Returns the tree of a general's keys. The number must be that of a general of the network.
     pub(crate) fn tree(&self, general: GeneralNo) -> &KeyTree
         requires { general < self.now.net.generals }
         ensures { result.now ≡ general_tree self.now.master (height_in self.now.version) general }
@@ -253,13 +256,14 @@ impl Scenario {
         &self.trees[usize::from(general.get())]
     }
 
-    /// Returns the ring of a general's keys, with no leaf taken. He must be one of the network's.
+    /// Returns the ring of a general's keys, with no leaf taken. The number must be that of a general of the
+    /// network.
     ///
     /// A second ring of the same general gives each leaf again.
     ///
     /// # Errors
     ///
-    /// `AllocError` where memory is refused.
+    /// `AllocError` if memory is refused.
     pub fn ring(&self, general: GeneralNo) -> Result<KeyRing, AllocError>
         requires { general < self.now.net.generals }
         ensures { IfOk result (λ ring. ring ≡ record {
@@ -271,11 +275,12 @@ impl Scenario {
         KeyRing::open(self.tree(general))
     }
 
-    /// Returns the ring of a general's keys, with no leaf taken, if he has no script. He must be one of the network's.
+    /// Returns the ring of a general's keys, with no leaf taken, if the general has no script. The number
+    /// must be that of a general of the network.
     ///
     /// # Errors
     ///
-    /// `AllocError` where memory is refused.
+    /// `AllocError` if memory is refused.
     pub fn ring_if_loyal(&self, general: GeneralNo) -> Result<Option<KeyRing>, AllocError>
         requires { general < self.now.net.generals }
         ensures { IfOk result (λ ring. ring ≡ ring_at self.now general) }

@@ -5,16 +5,16 @@ use gen_tree::KeyTree;
 use gen_types::GeneralNo;
 use std::alloc::AllocError;
 
-/// A general, and the tree of his keys.
+/// A general, and the tree of its keys.
 #[derive(Drop)]
 pub struct SignerTree {
     /// The general.
     pub general: GeneralNo,
-    /// The tree of his keys.
+    /// The tree of the general's keys.
     pub tree: KeyTree,
 }
 
-/// A copy is equal to its original. It fails only where memory was refused.
+/// A copy is equal to its original. Copying fails only if memory is refused.
 impl Clone for SignerTree {
     ghost is_clone = { λ signer copy. copy ≡ signer };
 

@@ -1,4 +1,4 @@
--- Which lines spell which script line, apart from how they are read.
+-- Which lines spell which script line. How a line is read is told elsewhere, in LineReading.
 use Rattle.std.specs.Prelude.{ℕ, ◌≡◌, ◌≢◌, ◌<◌, ◌≤◌, List, [], ◌∷◌, length, map, codes, All, AllPairs, Contains}
 use Rattle.std.specs.List.{join_with_byte}
 use Rattle.std.specs.Fmt.{decimal}
@@ -12,7 +12,7 @@ use Rattle.gen_script.specs.Digits.{SpellsBytes}
 abbrev pub path_text : List ℕ → List ℕ
 path_text path = join_with_byte 44 (map decimal path)
 
--- The fields of a line say this.
+-- The fields of a line are those of this script line: its word, and then its parts.
 abbrev pub HasFields : List (List ℕ) → ScriptLine → Type 0
 HasFields fs (Make round to order path) =
     fs ≡ codes "make" ∷ decimal round ∷ decimal to ∷ decimal order ∷ path_text path ∷ []
@@ -26,17 +26,18 @@ HasFields fs (Raw round to parcel) =
 HasFields fs (Hide round from order) = fs ≡ codes "hide" ∷ decimal round ∷ decimal from ∷ decimal order ∷ []
 HasFields fs TwoHeads = fs ≡ codes "twohead" ∷ []
 
--- a round of a run, from the first that is allowed on
+-- a round of a run, which is at least the first that is allowed
 abbrev pub IsRound : Network → ℕ → ℕ → Type 0
 IsRound net first round = (first ≤ round) × (round ≤ rounds net)
 
--- distinct generals of the network, of whom me is the last
+-- distinct generals of the network, the last of which is me
 pub record IsPathTo (net : Network) (me : ℕ) (path : List ℕ) : Type 0 where
   pub known : All (λ g. g < net.generals) path
   pub distinct : AllPairs (λ g h. g ≢ h) path
   pub last : EndsWith path me
 
--- what is asked of a line of the general me, but that the generals of its path have scripts
+-- The rules for a line in the script of the general me, but for one: that the generals of its path have
+-- scripts.
 abbrev pub IsScriptLine : Network → ℕ → ScriptLine → Type 0
 IsScriptLine net me (Make round to order path) =
     IsRound net 1 round × AreNeighbours net me to × (order < net.orders) × IsPathTo net me path
@@ -52,7 +53,8 @@ IsScriptLine net me (Hide round from order) =
     IsRound net 1 round × AreNeighbours net me from × (order < net.orders)
 IsScriptLine net me TwoHeads = Unit {0}
 
--- The line, its fields joined by single spaces, says this in a script of the general me.
+-- The line spells this script line in the script of the general me: its fields are joined by single spaces,
+-- and the rules hold.
 pub record SpellsLine (net : Network) (me : ℕ) (line : List ℕ) (said : ScriptLine) : Type 0 where
   pub parts : List (List ℕ)
   pub line_is : line ≡ join_with_byte 32 parts

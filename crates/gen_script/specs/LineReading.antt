@@ -1,4 +1,4 @@
--- Which script line of the general me a line is, or which fault is its first.
+-- The script line that a line spells in the script of the general me, or the line's first fault.
 use Rattle.std.specs.Prelude.{ℕ, List, [], ◌∷◌, codes, Result, Ok, Err, if◌then◌else◌}
 use Rattle.std.specs.Str.{bytes_eq}
 use Rattle.gen_types.specs.Reading.{◌>>=◌}
@@ -52,7 +52,7 @@ hide_in net me round from order = do
   v ← order_in net order
   Ok (Hide r k v)
 
--- the script line of these fields
+-- the script line of these fields, the first of which is its word
 unfoldable pub line_in : Network → ℕ → List (List ℕ) → Result ScriptLine ScriptFault
 line_in net me (w ∷ []) = if bytes_eq w (codes "twohead") then Ok TwoHeads else Err Shape
 line_in net me (w ∷ a ∷ b ∷ c ∷ []) =
@@ -65,6 +65,6 @@ line_in net me (w ∷ a ∷ b ∷ c ∷ d ∷ e ∷ []) =
     if bytes_eq w (codes "pass") then pass_in net me a b c d e else Err Shape
 line_in net me _ = Err Shape
 
--- the script line of a line's bytes
+-- the script line that the bytes of a line spell
 abbrev pub script_line_of : Network → ℕ → List ℕ → Result ScriptLine ScriptFault
 script_line_of net me line = line_in net me (fields line)

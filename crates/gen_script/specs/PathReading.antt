@@ -1,4 +1,5 @@
--- The path of a script line, number by number from left to right, and at its end what is asked of the whole.
+-- The path of a script line, read number by number from left to right. The rules for the whole path come
+-- after its last number.
 use Rattle.std.specs.Prelude.{ℕ, ◌-◌, ◌++◌, Bool, true, false, not, ◌&&◌, List, [], ◌∷◌, length, Option, Some, None, Result, Ok, nat_lt, ◌==◌, slice_get}
 use Rattle.std.specs.List.{slice_split}
 use Rattle.gen_types.specs.Ends.{is_among}
@@ -16,26 +17,26 @@ fits_place Whole [] g = g == 0
 fits_place Whole (h ∷ front) g = true
 fits_place Added front g = not (g == 0)
 
--- the number may stand behind those of front
+-- the number may stand behind front: it is a general's, it keeps the rule for 0, and front does not have it
 abbrev pub may_follow : Network → PathKind → List ℕ → ℕ → Bool
 may_follow net kind front g =
     nat_lt g net.generals && fits_place kind front g && not (is_among front g)
 
--- the path with the number of this part at its end
+-- front with the number that these digits spell at its end
 unfoldable pub longer_by : Network → PathKind → List ℕ → List ℕ → Result (List ℕ) ScriptFault
 longer_by net kind front digits = do
   g ← number_in digits
   fits ← check (may_follow net kind front g) BadPath
   Ok (front ++ g ∷ [])
 
--- the path of front and of these parts
+-- front with the numbers that these parts spell at its end
 unfoldable pub numbers_in : Network → PathKind → List ℕ → List (List ℕ) → Result (List ℕ) ScriptFault
 numbers_in net kind front [] = Ok front
 numbers_in net kind front (digits ∷ more) = do
   longer ← longer_by net kind front digits
   numbers_in net kind longer more
 
--- the numbers of a path, parted by commas
+-- the parts of a path's text, split at its commas
 abbrev pub path_parts : List ℕ → List (List ℕ)
 path_parts digits = slice_split (λ b. b == 44) digits
 
@@ -47,12 +48,12 @@ is_last (Some last) g = last == g
 abbrev pub ends_with : List ℕ → ℕ → Bool
 ends_with path g = is_last (slice_get path (length path - 1)) g
 
--- A whole path is as long as the round's number, and an added one is shorter.
+-- A whole path has as many generals as the round's number, and an added one has fewer.
 abbrev pub has_length : PathKind → ℕ → ℕ → Bool
 has_length Whole round n = n == round
 has_length Added round n = nat_lt n round
 
--- a path that ends with me
+-- the path of a line of this round, which ends with me
 unfoldable pub path_in : Network → ℕ → PathKind → ℕ → List ℕ → Result (List ℕ) ScriptFault
 path_in net me kind round digits = do
   path ← numbers_in net kind [] (path_parts digits)

@@ -1,9 +1,9 @@
-//! The lines of a script: what one traitor does, finitely many things of his choice.
+//! The lines of a script, which say what one traitor does: finitely many things.
 //!
 //! A traitor of the paper of 1982 (L. Lamport, R. Shostak and M. Pease, "The Byzantine Generals Problem",
-//! ACM TOPLAS 4) may do anything but sign for a loyal general. Here he does what the lines of his script
-//! say. `read_script_line` says exactly which lines are ones of a general's script, what each says, and of
-//! each other line which fault comes first.
+//! ACM TOPLAS 4) may do anything but sign for a loyal general. Here a traitor does what the lines of its
+//! script say. The contract of `read_script_line` says which lines may stand in a general's script, what
+//! each of them says, and which fault of any other line comes first.
 #![tactic(auto)]
 
 mod fault;

@@ -10,19 +10,19 @@ use gen_types::{GeneralNo, OrderNo, ReadError, check, decimal_number};
 use hex::FromHexError;
 use std::alloc::Global;
 
-/// Reads the lines of the script of the general `me` of this network. What is kept of a line takes its
-/// memory from `alloc`.
+/// What is needed to read a line of the script of the general `me` of this network. What is kept of the
+/// line takes its memory from `alloc`.
 #[derive(Drop)]
 pub struct Reader<'a> {
-    /// Gives memory.
+    /// Where memory comes from.
     pub alloc: Global,
     /// The network of the runs.
     pub net: &'a Net,
-    /// The general whose script it is.
+    /// The general whose script is read.
     pub me: GeneralNo,
 }
 
-/// Returns the number that the digits spell.
+/// Returns the number, 0 to 255, that these decimal digits spell, and else the fault `Number`.
 pub fn number_in(digits: &[u8]) -> Result<u8, ReadError<ScriptFault>>
     ensures { IsRead result (number_in digits.now) }
 {
@@ -32,7 +32,9 @@ pub fn number_in(digits: &[u8]) -> Result<u8, ReadError<ScriptFault>>
     }
 }
 
-/// Returns a round of the network's runs, not before the first.
+/// Returns the round that these digits spell, which is at least `first` and at most the network's number
+/// of rounds. The fault is `Number` if they spell no number, and `BadRound` if the number is out of this
+/// range.
 #[tactic(auto, unfolding(crate::specs::FieldReading::round_in))]
 pub fn round_in(reader: &Reader<'_>, first: u8, digits: &[u8]) -> Result<u8, ReadError<ScriptFault>>
     ensures { IsRead result (round_in reader.now.net.now first digits.now) }
@@ -45,7 +47,8 @@ pub fn round_in(reader: &Reader<'_>, first: u8, digits: &[u8]) -> Result<u8, Rea
     Ok(round)
 }
 
-/// Returns a neighbour of the general whose script it is.
+/// Returns the neighbour whose number these digits spell, an end of an edge to the general whose script is
+/// read. The fault is `Number` if they spell no number, and `NoNeighbour` if the number is no neighbour's.
 #[tactic(auto, unfolding(crate::specs::FieldReading::neighbour_in))]
 pub fn neighbour_in(reader: &Reader<'_>, digits: &[u8]) -> Result<GeneralNo, ReadError<ScriptFault>>
     ensures { IsRead result (neighbour_in reader.now.net.now reader.now.me digits.now) }
@@ -62,7 +65,8 @@ pub fn neighbour_in(reader: &Reader<'_>, digits: &[u8]) -> Result<GeneralNo, Rea
     Ok(general)
 }
 
-/// Returns an order of the network.
+/// Returns the order that these digits spell, which is below the network's number of orders. The fault is
+/// `Number` if they spell no number, and `BadOrder` if the number is too great.
 #[tactic(auto, unfolding(crate::specs::FieldReading::order_in))]
 pub fn order_in(reader: &Reader<'_>, digits: &[u8]) -> Result<OrderNo, ReadError<ScriptFault>>
     ensures { IsRead result (order_in reader.now.net.now digits.now) }
@@ -72,7 +76,8 @@ pub fn order_in(reader: &Reader<'_>, digits: &[u8]) -> Result<OrderNo, ReadError
     Ok(OrderNo::at(order))
 }
 
-/// Returns the parcel of at least one byte that hexadecimal digits spell.
+/// Returns the parcel whose bytes, at least one, these hexadecimal digits spell, and else the fault
+/// `Number`.
 pub fn parcel_in(reader: &Reader<'_>, digits: &[u8]) -> Result<Parcel, ReadError<ScriptFault>>
     ensures { IsRead result (parcel_in digits.now) }
 {

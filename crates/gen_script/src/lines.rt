@@ -36,7 +36,7 @@ impl Parcel {
     }
 }
 
-/// A copy is equal to its original. It fails only where memory was refused.
+/// A copy is equal to its original. Copying fails only if memory was refused.
 impl Clone for Parcel {
     ghost is_clone = { λ parcel copy. copy ≡ parcel };
 
@@ -47,72 +47,74 @@ impl Clone for Parcel {
     }
 }
 
-/// One thing that a traitor does. Rounds count from 1; receivers and senders are his neighbours.
+/// One thing that a traitor does. Rounds count from 1. Receivers and senders are neighbours of the
+/// traitor.
 #[derive(Debug, Drop)]
 pub enum ScriptLine {
-    /// In the round he sends `to` the chain of the order with this path, which all of the path have
-    /// signed, himself last. The path begins with 0 and has as many generals as there are rounds up to
-    /// this one.
+    /// In the round the traitor sends `to` the chain of the order with this path, which all generals of
+    /// the path have signed, the traitor last. The path begins with 0, and its length is the round.
     Make {
-        /// The round in which he sends it.
+        /// The round in which the traitor sends.
         round: u8,
-        /// The neighbour who gets it.
+        /// The neighbour that receives.
         to: GeneralNo,
         /// The chain's order.
         order: OrderNo,
         /// The chain's path.
         path: Path,
     },
-    /// In the round he sends `to` the chain of the order that he got from `from` in as many rounds before
-    /// as the path is long, lengthened by this path, which ends with himself. He sends nothing where no
-    /// such chain counted, or where its path would repeat a general.
+    /// In the round the traitor sends `to` the chain of the order that counted when it came from `from`,
+    /// as many rounds earlier as this path is long. The chain is lengthened by the signatures of this
+    /// path, which ends with the traitor. Nothing is sent if no such chain counted, or if the longer path
+    /// would repeat a general.
     Pass {
-        /// The round in which he sends it.
+        /// The round in which the traitor sends.
         round: u8,
-        /// The neighbour who gets it.
+        /// The neighbour that receives.
         to: GeneralNo,
-        /// The neighbour from whom the chain came.
+        /// The neighbour from which the chain came.
         from: GeneralNo,
         /// The chain's order.
         order: OrderNo,
-        /// The generals who sign the chain then: some but 0, fewer than the round's number.
+        /// The generals that sign the chain then: at least one, never general 0, and fewer than the
+        /// round's number.
         path: Path,
     },
-    /// The same as `Pass` with himself alone as the path, but that the most significant bit of the last
-    /// signature's first byte is flipped. The round is at least 2.
+    /// Like `Pass` with the traitor alone as the path, but the most significant bit of the first byte of
+    /// the last signature is flipped. The round is at least 2.
     Bend {
-        /// The round in which he sends it.
+        /// The round in which the traitor sends.
         round: u8,
-        /// The neighbour who gets it.
+        /// The neighbour that receives.
         to: GeneralNo,
-        /// The neighbour from whom the chain came.
+        /// The neighbour from which the chain came.
         from: GeneralNo,
         /// The chain's order.
         order: OrderNo,
     },
-    /// In the round he sends `to` these bytes as a parcel.
+    /// In the round the traitor sends `to` these bytes as a parcel.
     Raw {
-        /// The round in which he sends it.
+        /// The round in which the traitor sends.
         round: u8,
-        /// The neighbour who gets it.
+        /// The neighbour that receives.
         to: GeneralNo,
         /// The parcel, at least one byte.
         parcel: Parcel,
     },
-    /// He leaves out of his log that he received the order from `from` in the round.
+    /// The traitor leaves out of its log that it received the order from `from` in the round.
     Hide {
         /// The round of the entry that is left out.
         round: u8,
-        /// The neighbour from whom the order came.
+        /// The neighbour from which the order came.
         from: GeneralNo,
         /// The order.
         order: OrderNo,
     },
-    /// He keeps a second sealed log, without the last order that the first says he received.
+    /// The traitor keeps a second sealed log, without the last order that the first log says it received.
     TwoHeads,
 }
 
-/// A copy is equal to its original. It fails only where memory was refused.
+/// A copy is equal to its original. Copying fails only if memory was refused.
 impl Clone for ScriptLine {
     ghost is_clone = { λ line copy. copy ≡ line };
 
@@ -169,7 +171,7 @@ impl Clone for ScriptLine {
 }
 
 impl ScriptLine {
-    /// Returns the path that the line names, which a `make` line and a `pass` line do.
+    /// Returns the path of a `make` line or a `pass` line, and None of any other line.
     pub fn path(&self) -> Option<&Path>
         ensures { option_map (λ p. p.now) result ≡ named_path self.now }
     {

@@ -15,11 +15,12 @@ use std::alloc::{AllocError, Global};
 pub enum PathKind {
     /// The whole path of a chain that is sent in the line's round.
     Whole,
-    /// What is put at the end of the path of a chain that came in an earlier round.
+    /// The generals that are put at the end of the path of a chain that came in an earlier round.
     Added,
 }
 
-/// Returns whether the number may stand behind the path, as far as 0 is concerned.
+/// Returns whether the number keeps the rule for 0 behind `front`: a whole path begins with 0, and an
+/// added path has no 0.
 fn fits_place(kind: PathKind, front: &Path, number: u8) -> bool
     ensures { result ≡ fits_place kind front.now number }
 {
@@ -36,7 +37,8 @@ fn is_among(path: &Path, general: GeneralNo) -> bool
     path.contains(general)
 }
 
-/// Returns whether the number may stand behind the path: a general's, who does not stand in it.
+/// Returns whether the number may stand behind `front`: it is a general's, it keeps the rule for 0, and
+/// `front` does not have it.
 fn may_follow(net: &Net, kind: PathKind, front: &Path, number: u8) -> bool
     ensures { result ≡ may_follow net.now kind front.now number }
 {
@@ -45,7 +47,8 @@ fn may_follow(net: &Net, kind: PathKind, front: &Path, number: u8) -> bool
         && !is_among(front, GeneralNo::at(number))
 }
 
-/// Returns the path with the number of these digits at its end.
+/// Returns the path with the number that these digits spell at its end. The fault is `Number` if they
+/// spell no number, and `BadPath` if the number may not stand there.
 #[tactic(auto, unfolding(crate::specs::PathReading::longer_by))]
 fn longer_by(
     net: &Net,
@@ -57,15 +60,15 @@ fn longer_by(
 {
     let number = number_in(digits)?;
     check(may_follow(net, kind, &front, number), ScriptFault::BadPath)?;
-    // There are at most 16 generals and the path has distinct ones, so one who is not in it has room:
-    // reads of the network and of the path tell.
+    // There are at most 16 generals, and those of the path are distinct, so a general that is not in it
+    // has room. These reads of the network and of the path make that known to the proof.
     let (_generals, _distinct) = (net.generals(), front.len());
     let mut path = front;
     path.push_new(GeneralNo::at(number));
     Ok(path)
 }
 
-/// Returns the path of these numbers.
+/// Returns the path of the numbers that these parts spell, or the first fault from left to right.
 #[tactic(auto, unfolding(crate::specs::PathReading::numbers_in))]
 fn numbers_in(net: &Net, kind: PathKind, parts: &[&[u8]]) -> Result<Path, ReadError<ScriptFault>>
     ensures { IsRead result (numbers_in net.now kind [] (map (λ x. x.now) parts.now)) }
@@ -79,7 +82,7 @@ fn numbers_in(net: &Net, kind: PathKind, parts: &[&[u8]]) -> Result<Path, ReadEr
     Ok(path)
 }
 
-/// Returns the numbers of a path, parted by commas.
+/// Returns the parts of a path's text, split at its commas.
 fn path_parts<'a>(alloc: Global, digits: &'a [u8]) -> Result<Vec<&'a [u8]>, AllocError>
     ensures { IfOk result (λ v. map (λ x. x.now) v.items ≡ path_parts digits.now) }
 {
@@ -93,7 +96,8 @@ fn ends_with(path: &Path, me: GeneralNo) -> bool
     path.ends_with(me)
 }
 
-/// Returns whether a path of this many generals may stand in a line of this round.
+/// Returns whether a path of this many generals may stand in a line of this round: a whole path has as
+/// many generals as the round's number, and an added path has fewer.
 fn has_length(kind: PathKind, round: u8, length: usize) -> bool
     ensures { result ≡ has_length kind round length }
 {
@@ -103,7 +107,9 @@ fn has_length(kind: PathKind, round: u8, length: usize) -> bool
     }
 }
 
-/// Returns the path of a line of this round.
+/// Returns the path of a line of this round, which ends with the general whose script is read. The first
+/// fault is that of a number, from left to right, and then `BadPath` if the path's last general or its
+/// length is wrong.
 #[tactic(auto, unfolding(crate::specs::PathReading::path_in))]
 pub fn path_in(
     reader: &Reader<'_>,

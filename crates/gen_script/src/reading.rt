@@ -120,7 +120,8 @@ fn hide_in(
     Ok(ScriptLine::Hide { round, from, order })
 }
 
-/// Returns the script line of these fields.
+/// Returns the script line of these fields, the first of which is its word. The fault is `Shape` if no
+/// script line has this word and this number of fields, and else the first fault of a field.
 #[tactic(auto, unfolding(crate::specs::LineReading::line_in))]
 fn line_in(reader: &Reader<'_>, fields: &[&[u8]]) -> Result<ScriptLine, ReadError<ScriptFault>>
     ensures { IsRead result (line_in reader.now.net.now reader.now.me (map (λ x. x.now) fields.now)) }
@@ -146,7 +147,7 @@ fn line_in(reader: &Reader<'_>, fields: &[&[u8]]) -> Result<ScriptLine, ReadErro
     }
 }
 
-/// Returns the script line of a line's bytes.
+/// Returns the script line that the bytes of a line spell, or the line's first fault.
 fn line_of(reader: &Reader<'_>, line: &[u8]) -> Result<ScriptLine, ReadError<ScriptFault>>
     ensures { IsRead result (script_line_of reader.now.net.now reader.now.me line.now) }
 {
@@ -154,16 +155,17 @@ fn line_of(reader: &Reader<'_>, line: &[u8]) -> Result<ScriptLine, ReadError<Scr
     line_in(reader, &fields)
 }
 
-/// Returns what a line of the script of the general `me` says, who must be one of the network's. The line
-/// is without its line feed.
+/// Returns what a line says in the script of the general `me`, which must be a general of the network. The
+/// line is given without its line feed.
 ///
-/// That each general of a path has a script is not tested: the line alone does not tell.
+/// Whether each general of a path has a script is not tested: the line alone does not tell.
 ///
 /// # Errors
 ///
-/// The line's first fault from left to right: the word and the number of fields, then each field, first
-/// that it does not read, then its own rule; a path is one number after another, and what is asked of the
-/// whole path comes at its end. Memory where memory was refused before a fault was met.
+/// The line's first fault from left to right. The word and the number of fields come first, and then each
+/// field. Of a field it comes first that the field does not read, and then its own rule. A path is read
+/// number by number, and the rules for the whole path come after its last number. Memory if memory was
+/// refused before a fault was met.
 pub fn read_script_line(
     alloc: Global,
     net: &Net,
@@ -171,22 +173,23 @@ pub fn read_script_line(
     line: &str,
 ) -> Result<ScriptLine, ReadError<ScriptFault>>
     requires { me < net.now.generals }
-    // What is read is spelled so.
+    // What is returned is what the line spells.
     ensures found { IfOk result (SpellsLine net.now me line.now) }
-    // What is spelled so is read, unless memory runs out.
+    // If the line spells a script line, this script line is returned, unless memory runs out.
     ensures only { (said : Said) → SpellsLine net.now me line.now said → IsRead result (Ok said) }
-    // Which fault it is.
+    // The script line or the fault is that of the definition, unless memory runs out.
     ensures exact { IsRead result (script_line_of net.now me line.now) }
 {
     read_script_bytes(alloc, net, me, line.as_bytes())
 }
 
-/// Returns what the line of these bytes says, as `read_script_line` does of a text: bytes that are no text
-/// are refused like any others that are none of the format.
+/// Returns what a line of bytes says in the script of the general `me`, as `read_script_line` does for a
+/// string. Bytes that are no script line are refused with their first fault, whether they are UTF-8 or
+/// not.
 ///
 /// # Errors
 ///
-/// As `read_script_line`.
+/// Those of `read_script_line`.
 pub fn read_script_bytes(
     alloc: Global,
     net: &Net,
@@ -198,12 +201,12 @@ pub fn read_script_bytes(
     ensures only { (said : Said) → SpellsLine net.now me line.now said → IsRead result (Ok said) }
     ensures exact { IsRead result (script_line_of net.now me line.now) }
 {
-    // The laws need what each network keeps, which a read of it tells.
+    // The laws need what holds of each network. This read of the network makes it known to the proof.
     let _generals = net.generals();
     line_of(&Reader { alloc, net, me }, line)
 }
 
-/// A line says at most one thing in the script of a general.
+/// States that a line says at most one thing in the script of a general.
 ///
 /// A law: a function with an empty body, whose caller knows what it ensures.
 pub fn one_script_line()

@@ -6,8 +6,8 @@ use gen_types::GeneralNo;
 use std::alloc::AllocError;
 use std::marker::Model;
 
-/// The finite conduct of one traitor: the lines of his script, in their order. A contract sees who he is
-/// and the list of lines.
+/// A traitor, and the lines of its script in their order, which say what the traitor does. A contract sees
+/// the traitor's number and the list of lines.
 #[derive(Debug, Drop)]
 pub struct Script {
     general: GeneralNo,
@@ -23,7 +23,7 @@ impl Model for Script {
 }
 
 impl Script {
-    /// Returns the script of this traitor with these lines.
+    /// Returns the script of this traitor, with these lines.
     pub fn new(general: GeneralNo, lines: Vec<ScriptLine>) -> Script
         ensures general { result.general ≡ general }
         ensures lines { result.lines ≡ lines.items }
@@ -46,7 +46,7 @@ impl Script {
     }
 }
 
-/// A copy is equal to its original. It fails only where memory was refused.
+/// A copy is equal to its original. Copying fails only if memory was refused.
 impl Clone for Script {
     ghost is_clone = { λ script copy. copy ≡ script };
 

@@ -1,4 +1,4 @@
--- Campaigns: runs that one tree of keys for each general serves, each in a slot of its own.
+-- Campaigns: runs that are served by one tree of keys for each general, each in a slot of its own.
 use Rattle.std.specs.Prelude.{ℕ, Bool, true, false, ◌&&◌, ◌==◌, ◌+◌, List, [], ◌∷◌, length, Result, Ok, if◌then◌else◌, nat_lt}
 use Rattle.std.specs.Bool.{nat_eq}
 use Rattle.std.specs.Cmp.Lexicographic.{pointwise}
@@ -11,7 +11,7 @@ use Rattle.gen_scenario.specs.Scenario.{Scenario}
 use Rattle.gen_series.specs.declared.fault.CampaignFault.{CampaignFault}
 use Rattle.gen_series.specs.declared.fault.CampaignFault.TheVariants.{RunCount, Unlike, SlotOrder}
 
--- the most runs
+-- the greatest number of runs of a campaign
 abbrev pub most_runs : ℕ
 most_runs = 4
 
@@ -22,17 +22,17 @@ abbrev pub is_two : Version → Bool
 is_two One = false
 is_two (Two slot) = true
 
--- the scenario is of version 2, and has as many generals and the same master seed
+-- the scenario is of version 2, and has the same number of generals and the same master seed as the first
 abbrev pub is_like : Scenario → Scenario → Bool
 is_like first s =
     is_two s.version && (s.net.generals == first.net.generals && pointwise nat_eq s.master first.master)
 
--- each is like the first
+-- each scenario is like the first
 abbrev pub are_alike : List Scenario → Bool
 are_alike [] = true
 are_alike (first ∷ others) = list_all (is_like first) (first ∷ others)
 
--- the slots ascend strictly, from this one on
+-- the slots ascend strictly, and the first is at least this one
 unfoldable pub ascend_from : ℕ → List Scenario → Bool
 ascend_from least [] = true
 ascend_from least (s ∷ others) =

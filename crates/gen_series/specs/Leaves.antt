@@ -7,11 +7,12 @@ use Rattle.gen_scenario.specs.AllAre.{AllAre}
 use Rattle.gen_scenario.specs.Scenario.{Scenario}
 use Rattle.gen_threads.specs.HeldRings.{HasSignedUnder}
 
--- in one of the runs the general has no script, and signed a text under this leaf in his log
+-- in one of the runs the general has no script, and signed a text under this leaf in its log
 abbrev pub HasSignedIn : List Scenario → ℕ → ℕ → Type 0
 HasSignedIn runs g leaf = (s : Scenario) × Contains runs s × HasSignedUnder s g leaf
 
--- the sets of all generals: in each are exactly the leaves under which he signed a text
+-- the sets of all generals: a general's set has exactly the leaves under which it signed a text in one of the
+-- runs
 abbrev pub AreSpentIn : List Scenario → List (List ℕ) → Type 0
 AreSpentIn runs sets =
     (s : Scenario) → Contains runs s
@@ -19,8 +20,9 @@ AreSpentIn runs sets =
 
 -- ---- while the campaign goes from run to run
 
--- A general's ring before the rest of the runs, whose slots are this one or greater: no leaf of these was
--- taken, and what was taken, with what he signs in the rest, is what he signs in all.
+-- A general's ring before the remaining runs, whose slots are at least `least`. No leaf of those slots was
+-- taken, and the leaves that were taken, together with those that the general signs under in the remaining
+-- runs, are those that it signs under in all runs.
 pub record IsKept (first : Scenario) (runs rest : List Scenario) (least g : ℕ) (ring : Ring) : Type 0 where
   pub seed : ring.seed ≡ seed_of first.master g
   pub height : ring.height ≡ Six

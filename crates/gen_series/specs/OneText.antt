@@ -1,4 +1,4 @@
--- Under each leaf of a general's ring one text is signed in a whole campaign.
+-- In a whole campaign a general signs at most one text under each leaf of its ring.
 use Rattle.std.specs.Prelude.{ℕ, ◌≡◌, ◌<◌, List, Contains, Option, Some, None}
 use Rattle.gen_net.specs.Header.{RunHeader}
 use Rattle.gen_chain.specs.declared.statements.Statement.{Statement}
@@ -8,19 +8,20 @@ use Rattle.gen_log.specs.Signing.{HasSign}
 use Rattle.gen_scenario.specs.Scenario.{Scenario, header_of, script_of}
 use Rattle.gen_scenario.specs.WorldLogs.{logs_of}
 
--- a text of a log that is signed under the leaf: the statement of a SIGN, or, where none is said, the head
+-- the text of a log that is signed under the leaf: the given statement, which a SIGN has, or the head if no
+-- statement is given
 abbrev pub IsTextOf : RunHeader → RunLog → ℕ → Option Statement → Type 0
 IsTextOf h log leaf (Some x) = HasSign log x × (leaf ≡ leaf_of_order h x.order)
 IsTextOf h log leaf None = leaf ≡ leaf_of_head h
 
--- in the run of the scenario the general has no script, and his log has the text under the leaf
+-- in the run of the scenario the general has no script, and its log has the text under the leaf
 pub record SignsUnder (s : Scenario) (g leaf : ℕ) (text : Option Statement) : Type 0 where
   pub loyal : script_of s.scripts g ≡ None
   pub log : RunLog
   pub his : Contains (logs_of s g) log
   pub stands : IsTextOf (header_of s) log leaf text
 
--- of all that a general signs in these runs, what stands under one leaf is one text of one run
+-- if a general signs two texts under one leaf in these runs, they are the same text of the same run
 abbrev pub EachLeafHasOneText : List Scenario → Type 0
 EachLeafHasOneText runs =
     (s t : Scenario) (g leaf : ℕ) (x y : Option Statement) → Contains runs s → Contains runs t

@@ -11,8 +11,9 @@ use std::marker::Model;
 /// The most runs of a campaign: a tree of 64 leaves serves four.
 const MOST_RUNS: usize = 4;
 
-/// One to four scenarios of version 2, with as many generals and the same master seed, in slots that ascend strictly: so
-/// that each general signs with one ring in all runs. A contract sees the list of the scenarios.
+/// One to four scenarios of version 2, with the same number of generals and the same master seed, in slots
+/// that ascend strictly. So each general signs with one ring in all runs. A contract sees the list of the
+/// scenarios.
 #[derive(Drop)]
 pub struct Campaign {
     pub(crate) scenarios: Vec<Scenario>,
@@ -40,7 +41,8 @@ fn is_second(version: Version) -> bool
     }
 }
 
-/// Whether a scenario is of version 2 and has as many generals and the same master seed as another.
+/// Whether a scenario is of version 2 and has the same number of generals and the same master seed as the
+/// first.
 fn is_like_first(first: &Scenario, scenario: &Scenario) -> bool
     ensures { result ≡ is_like first.now scenario.now }
 {
@@ -50,7 +52,7 @@ fn is_like_first(first: &Scenario, scenario: &Scenario) -> bool
         && one.master() == other.master()
 }
 
-/// Whether all scenarios are like this one.
+/// Whether all scenarios are like the first, which is given.
 fn are_all_like(first: &Scenario, scenarios: &[Scenario]) -> bool
     ensures { result ≡ list_all (is_like first.now) scenarios.now }
 {
@@ -59,7 +61,7 @@ fn are_all_like(first: &Scenario, scenarios: &[Scenario]) -> bool
         .all(|scenario| is_like_first(first, scenario))
 }
 
-/// Whether all scenarios are like the first.
+/// Whether all scenarios are like the first of them.
 fn are_like_first(scenarios: &[Scenario]) -> bool
     ensures { result ≡ are_alike scenarios.now }
 {
@@ -91,9 +93,9 @@ impl Campaign {
     ///
     /// # Errors
     ///
-    /// RunCount where there are not 1 to 4; else Unlike where one is of version 1, or has another number of generals or
-    /// another master seed than the first; else SlotOrder where the slots don't ascend strictly. The scenarios are
-    /// dropped then.
+    /// The first rule that is broken, in the order in which they stand here. RunCount if there are not 1 to 4
+    /// scenarios. Unlike if one is of version 1, or has another number of generals or another master seed
+    /// than the first. SlotOrder if the slots don't ascend strictly. The scenarios are dropped then.
     pub fn new(scenarios: Vec<Scenario>) -> Result<Campaign, CampaignFault>
         ensures { result ≡ campaign_of scenarios.items }
     {

@@ -14,7 +14,7 @@ use gen_types::TreeHeight;
 use std::alloc::{AllocError, Global};
 use std::thread::Threads;
 
-/// Appends the scenario of a plan, over a copy of the trees.
+/// Appends the scenario of a plan, with a copy of the trees.
 fn keep_scenario(
     alloc: Global,
     scenarios: &mut Vec<Scenario>,
@@ -30,7 +30,7 @@ fn keep_scenario(
     Ok(())
 }
 
-/// Makes the scenarios of plans that are like the first, over the trees of its keys.
+/// Makes the scenarios of these plans, all with these trees of the generals' keys.
 fn make_scenarios(
     alloc: Global,
     plans: Vec<SignedPlan>,
@@ -47,12 +47,12 @@ fn make_scenarios(
     Ok(scenarios)
 }
 
-/// Makes the campaign of plans that break none of its rules. The trees of the generals' keys are made once, by threads, and
-/// serve all runs.
+/// Makes the campaign of these plans, which must break none of its rules. The trees of the generals' keys are
+/// made once, by threads, and serve all runs.
 ///
 /// # Errors
 ///
-/// `AllocError` where memory is refused.
+/// `AllocError` if memory is refused.
 pub fn make_campaign<R: Threads + Sync>(
     rt: &R,
     alloc: Global,

@@ -36,7 +36,7 @@ fn close_rings(alloc: Global, rings: Vec<HeldRing>) -> Result<Vec<LeafSet>, Allo
     Ok(sets)
 }
 
-/// Runs scenarios one after another with these rings, and returns the logs of each run and the rings.
+/// Runs these scenarios one after another with these rings, and returns the logs of each run, and the rings.
 fn run_all<R: Threads + Wait + Sync, G: Gate + Sync>(
     rt: &R,
     alloc: Global,
@@ -66,14 +66,14 @@ fn run_all<R: Threads + Wait + Sync, G: Gate + Sync>(
     Ok((all, rings))
 }
 
-/// Makes known what a scenario keeps.
+/// Makes known to the proof what holds of a scenario.
 fn read_one(scenario: &Scenario)
     ensures { IsScenario scenario.now }
 {
     let _header = scenario.header();
 }
 
-/// Makes known what scenarios keep.
+/// Makes known to the proof what holds of each scenario.
 fn read_all(scenarios: &[Scenario])
     ensures { (s : Plan) → Contains scenarios.now s → IsScenario s }
 {
@@ -82,22 +82,23 @@ fn read_all(scenarios: &[Scenario])
     }
 }
 
-/// Makes known that under each leaf one text is signed in a campaign.
+/// Makes known to the proof that a general signs at most one text under each leaf in a campaign.
 fn know_texts(campaign: &Campaign)
     ensures { EachLeafHasOneText campaign.now }
 {
     read_all(campaign.scenarios());
 }
 
-/// Runs the scenarios of a campaign one after another, each as `run_threads` does, and returns the logs of each run, and
-/// for each general, in their order, the leaves under which he signed in his logs of the runs in which he has no script.
+/// Runs the scenarios of a campaign one after another, each as `run_threads` does, and returns the logs of
+/// each run. It also returns for each general, in ascending order, the set of the leaves under which the
+/// general signed in its logs of the runs in which it has no script.
 ///
-/// For each general one ring is opened, which goes through all these runs and is then closed; a run in which he has a
-/// script it sits out. Where the runs fail all rings are closed too.
+/// For each general one ring is opened, which goes through all runs and is then closed. In a run in which the
+/// general has a script, the ring is not used. If a run fails, all rings are closed too.
 ///
 /// # Errors
 ///
-/// As `run_threads`, of the first run that fails; Memory too where it is refused for rings, logs or sets.
+/// Those of `run_threads`, of the first run that fails; also Memory if it is refused for rings, logs or sets.
 pub fn run_campaign<R: Threads + Wait + Sync, G: Gate + Sync>(
     rt: &R,
     alloc: Global,
@@ -108,7 +109,7 @@ pub fn run_campaign<R: Threads + Wait + Sync, G: Gate + Sync>(
     requires { 0 < capacity }
     ensures logs { IfOk result (λ r. map (λ logs. logs.items) r.0.items ≡ map logs_of_all campaign.now) }
     ensures leaves { IfOk result (λ r. AreSpentIn campaign.now r.1.items) }
-    // Of all that a general signs in these runs, what stands under one leaf is one text of one run.
+    // If a general signs two texts under one leaf in these runs, they are the same text of the same run.
     ensures once { EachLeafHasOneText campaign.now }
     ensures fault { IfErr result IsAnsweredFault }
 {

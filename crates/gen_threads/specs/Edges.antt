@@ -14,14 +14,14 @@ use Rattle.gen_scenario.specs.AllAre.{AllAre}
 use Rattle.gen_threads.specs.declared.edges.Edges.{Edges}
 use Rattle.gen_threads.specs.declared.edges.Passes.{Passes}
 
--- the edge from a to b, if there is one: the table has a row for each general
+-- the edge from a to b, if there is one: the table has a row for each sender, with a cell for each receiver
 abbrev pub edge_at : Edges → ℕ → ℕ → Option Edge
 edge_at edges a b =
     if nat_lt b edges.generals
     then slice_index_or edges.table.items (a * edges.generals + b) None
     else None
 
--- the pass is one to put on the edge from a to b, or to take from it
+-- the pass is one to put on the edge from a to b, or one to take from it
 pub record IsPutOn (edges : Edges) (a b : ℕ) (pass : PutPass) : Type 0 where
   pub edge : Edge
   pub there : edge_at edges a b ≡ Some edge
@@ -32,7 +32,7 @@ pub record IsTakeFrom (edges : Edges) (a b : ℕ) (pass : TakePass) : Type 0 whe
   pub there : edge_at edges a b ≡ Some edge
   pub of_edge : IsTakePassOf edge pass
 
--- and the first n frames of the run were put by it, or taken, and no last word
+-- besides, the first n frames of the run were put by this pass, or taken by it, and no last word
 pub record HasPut (edges : Edges) (s : Scenario) (n a b : ℕ) (pass : PutPass) : Type 0 where
   pub on : IsPutOn edges a b pass
   pub view : put_view pass ≡ put_side (edge_frames s a b) n false
@@ -41,7 +41,7 @@ pub record HasTaken (edges : Edges) (s : Scenario) (n a b : ℕ) (pass : TakePas
   pub on : IsTakeFrom edges a b pass
   pub view : take_view pass ≡ take_side (edge_frames s a b) n false
 
--- general g takes from h
+-- general g takes by this pass from general h
 abbrev pub IsTakeBy : Edges → ℕ → ℕ → TakePass → Type 0
 IsTakeBy edges g h pass = IsTakeFrom edges h g pass
 
@@ -57,7 +57,7 @@ pub record ArePassesIn (edges : Edges) (net : Network) (g : ℕ) (puts : List Pu
 abbrev pub ArePassesOf : Edges → Scenario → ℕ → List PutPass → List TakePass → Type 0
 ArePassesOf edges s g puts takes = ArePassesIn edges s.net g puts takes
 
--- and n frames went each way
+-- besides, each of these passes has carried n frames
 pub record HaveCarried (edges : Edges) (s : Scenario) (n g : ℕ) (puts : List PutPass)
     (takes : List TakePass) : Type 0 where
   pub putting : AllZip (HasPut edges s n g) (neighbours_of s.net g) puts

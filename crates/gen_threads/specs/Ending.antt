@@ -17,11 +17,12 @@ use Rattle.gen_threads.specs.Edges.{ArePassesOf, HaveCarried}
 use Rattle.gen_threads.specs.Faults.{IsOwnFault}
 use Rattle.gen_threads.specs.Rings.{RingSpentOn}
 
--- the ring is that of his seed, from which no leaf of the run was taken, or none where he has a script
+-- the ring is that of the general's seed, and no leaf of the run was taken from it; or there is none, because
+-- the general has a script
 abbrev pub MayRunWith : Scenario → ℕ → Option Ring → Type 0
 MayRunWith s g ring = MayStart (part_of s g) ring × IsOwnRing s g (script_of s.scripts g) ring
 
--- the ring is the same, but that leaves of the run may have been taken from it
+-- the ring is the same, except that leaves of the run may have been taken from it
 pub record IsSameRing (h : RunHeader) (old new : Ring) : Type 0 where
   pub seed : new.seed ≡ old.seed
   pub height : new.height ≡ old.height
@@ -38,9 +39,9 @@ RingComesBack h _ _ = ⊥
 abbrev pub logs_by : Scenario → ℕ → List LogBytes
 logs_by s g = map (log_bytes g) (logs_of s g)
 
--- His ring and his passes come back, in their order. Where there is no fault the logs are his of the
--- scenario's run, from the ring exactly the leaves of their texts were taken, and each pass has carried the
--- frames of all rounds; and a fault is one of his own.
+-- The general's ring and its passes come back, the passes in their order. If there is no fault, the logs are
+-- the general's logs of the scenario's run. Exactly the leaves of their texts were then taken from the ring,
+-- and each pass has carried the frames of all rounds. A fault is one of the general's own.
 pub record IsEndOf (edges : Edges) (s : Scenario) (g : ℕ) (ring : Option Ring) (end : GeneralEnd) :
     Type 0 where
   pub comes_back : RingComesBack (header_of s) ring end.ring

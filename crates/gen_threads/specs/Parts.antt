@@ -1,14 +1,14 @@
--- What the thread of a general is given.
+-- What the thread of a general is started with.
 use Rattle.std.specs.Prelude.{ℕ, ◌≡◌, ◌<◌}
 use Rattle.gen_scenario.specs.Scenario.{Scenario, IsScenario}
 use Rattle.gen_scenario.specs.Part.{Part, part_of}
 
--- whose part it is, of which scenario
+-- the scenario, and the number of the general
 pub record RunPart : Type 0 where
   pub scenario : Scenario
   pub me : ℕ
 
--- what he knows is his part of the scenario, and he is a general of its network
+-- the knowledge is that of a general of the scenario's network
 pub record IsRunPart (s : Scenario) (known : Part) : Type 0 where
   pub lawful : IsScenario s
   pub general : known.me < s.net.generals

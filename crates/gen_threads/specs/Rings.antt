@@ -1,4 +1,4 @@
--- What a general takes from his ring.
+-- Which leaves a general takes from its ring.
 use Rattle.std.specs.Prelude.{ℕ, ◌≡◌, ◌↔◌, ◌⊎◌, List, Contains, Option, Some, None}
 use Rattle.gen_tree.specs.Rings.{Ring}
 use Rattle.gen_net.specs.Header.{RunHeader}
@@ -7,21 +7,21 @@ use Rattle.gen_log.specs.Log.{RunLog}
 use Rattle.gen_scenario.specs.Scenario.{Scenario, header_of, script_of}
 use Rattle.gen_general.specs.Spending.{IsLeafOfSign, IsSpentOnLogs}
 
--- the leaves that were taken are those of the texts of these logs, if he has a ring
+-- if the general has a ring, the leaves that were taken from it are those of the texts of these logs
 abbrev pub RingSpentOn : RunHeader → List RunLog → Option Ring → Option Ring → Type 0
 RingSpentOn h logs (Some old) (Some new) = IsSpentOnLogs h logs old new
 RingSpentOn h logs None None = Unit {0}
 RingSpentOn h logs _ _ = ⊥
 
--- ---- while he goes from round to round
+-- ---- while the general goes from round to round
 
--- those that were taken are the leaves of the SIGNs among these entries
+-- if the general has a ring, the leaves that were taken from it are those of the SIGNs among these entries
 abbrev pub RingSpentOnSigns : RunHeader → List Entry → Option Ring → Option Ring → Type 0
 RingSpentOnSigns h entries (Some old) (Some new) =
     (leaf : ℕ) → Contains new.taken leaf ↔ (Contains old.taken leaf ⊎ IsLeafOfSign h entries leaf)
 RingSpentOnSigns h entries None None = Unit {0}
 RingSpentOnSigns h entries _ _ = ⊥
 
--- where he has no script, he has written these of what he signed
+-- if the general has no script, the leaves that were taken are those of the SIGNs that it has written
 abbrev pub HasSigned : Scenario → ℕ → List Entry → Option Ring → Option Ring → Type 0
 HasSigned s g entries old new = script_of s.scripts g ≡ None → RingSpentOnSigns (header_of s) entries old new

@@ -1,4 +1,4 @@
--- How far a general is with his edges, in a round and when he ends.
+-- How far a general has got on its edges, in a round and when it ends.
 use Rattle.std.specs.Prelude.{ℕ, ◌≡◌, ◌⊎◌, ◌+◌, ◌<◌, ◌≤◌, true, List, length, if◌then◌else◌, nat_lt, slice_index_or}
 use Rattle.std.specs.List.{range_with_len, AllZip, All}
 use Rattle.gen_edge.specs.declared.passes.PutPass.{PutPass}
@@ -13,9 +13,9 @@ use Rattle.gen_scenario.specs.SignedWorld.{near_of}
 use Rattle.gen_threads.specs.declared.edges.Edges.{Edges}
 use Rattle.gen_threads.specs.Edges.{HasPut, HasTakenBy}
 
--- ---- in the round after the first ones
+-- ---- in the round after the first `gone` rounds
 
--- one frame more went over the edges with the neighbours below the next one than over those with the others
+-- one more frame went over the edges with the neighbours below `next` than over the edges with the others
 abbrev pub carried_until : ℕ → ℕ → ℕ → ℕ
 carried_until gone next h = if nat_lt h next then gone + 1 else gone
 
@@ -25,34 +25,34 @@ HasPutUntil edges s gone next g h pass = HasPut edges s (carried_until gone next
 abbrev pub HasTakenUntil : Edges → Scenario → ℕ → ℕ → ℕ → ℕ → TakePass → Type 0
 HasTakenUntil edges s gone next g h pass = HasTakenBy edges s (carried_until gone next h) g h pass
 
--- how many neighbours stand below the next one
+-- the number of neighbours below `next`
 abbrev pub index_of_next : Network → ℕ → ℕ → ℕ
 index_of_next net g next = length (near_of net g (range_with_len 0 next))
 
--- he has begun the round, and has put to the neighbours below the next one
+-- the general has begun the round, and has put a frame to each neighbour below `next`
 pub record IsPutting (edges : Edges) (s : Scenario) (gone g next index : ℕ) (r : Recorder)
     (puts : List PutPass) : Type 0 where
   pub sent : HasSent s gone g (near_of s.net g (range_with_len 0 next)) r
   pub here : index ≡ index_of_next s.net g next
   pub passes : AllZip (HasPutUntil edges s gone next g) (neighbours_of s.net g) puts
 
--- he has put to all, and has taken from the neighbours below the next one
+-- the general has put a frame to all neighbours, and has taken one from each neighbour below `next`
 pub record IsTaking (edges : Edges) (s : Scenario) (gone g next index : ℕ) (r : Recorder)
     (takes : List TakePass) : Type 0 where
   pub heard : HasHeard s gone g (near_of s.net g (range_with_len 0 next)) r
   pub here : index ≡ index_of_next s.net g next
   pub passes : AllZip (HasTakenUntil edges s gone next g) (neighbours_of s.net g) takes
 
--- ---- when he ends
+-- ---- when the general ends
 
--- the frames of all rounds went over the edge, or the last word
+-- the frames of all rounds went over the edge by this pass, or the last word did
 abbrev pub IsPutOver : ℕ → PutPass → Type 0
 IsPutOver rounds pass = (rounds ≤ (put_view pass).put) ⊎ ((put_view pass).gone_put ≡ true)
 
 abbrev pub IsTakeOver : ℕ → TakePass → Type 0
 IsTakeOver rounds pass = (rounds ≤ (take_view pass).taken) ⊎ ((take_view pass).gone_taken ≡ true)
 
--- this holds of the passes at the first indices
+-- this holds of the passes at the indices below a bound
 abbrev pub IsOverUntil : {P : Type 0} → (P → Type 0) → ℕ → List P → Type 0
 IsOverUntil {P} IsOver index passes = (k : ℕ) (d : P) → k < index → IsOver (slice_index_or passes k d)
 
@@ -60,7 +60,7 @@ pub record AreOverUntil (rounds index : ℕ) (puts : List PutPass) (takes : List
   pub putting : IsOverUntil (IsPutOver rounds) index puts
   pub taking : IsOverUntil (IsTakeOver rounds) index takes
 
--- and of all: nothing is left for him to do on his edges
+-- this holds of all passes: nothing is left for the general to do on its edges
 pub record AreOver (rounds : ℕ) (puts : List PutPass) (takes : List TakePass) : Type 0 where
   pub putting : All (IsPutOver rounds) puts
   pub taking : All (IsTakeOver rounds) takes

@@ -1,4 +1,4 @@
--- What generals' threads are started with, what they promise, and what comes of them.
+-- What the generals' threads are started with, what they promise, and what comes of them.
 use Rattle.std.specs.Prelude.{ℕ, ◌≡◌, ◌+◌, ◌<◌, List, [], ◌∷◌, ◌++◌, length, Some, IfOk, OnOk, slice_index_or}
 use Rattle.std.specs.declared.thread.PromisedHandle.{PromisedHandle}
 use Rattle.gen_tree.specs.Rings.{Ring}
@@ -20,7 +20,7 @@ use Rattle.gen_threads.specs.Parts.{RunPart}
 abbrev pub AreParts : Scenario → List RunPart → Type 0
 AreParts s = AllAre (λ g part. part ≡ record { scenario = s; me = g }) s.net.generals
 
--- general g may begin with this ring, which is his of those that were handed in, and with these passes
+-- general g may begin with this ring, which was handed in for it, and with these passes
 pub record IsWork (edges : Edges) (s : Scenario) (rings : List Ring) (g : ℕ) (work : Work) : Type 0 where
   pub ring : work.ring ≡ ring_in rings g
   pub serves : MayServe s g work.ring
@@ -29,24 +29,24 @@ pub record IsWork (edges : Edges) (s : Scenario) (rings : List Ring) (g : ℕ) (
 abbrev pub AreWorks : Edges → Scenario → List Ring → List Work → Type 0
 AreWorks edges s rings = AllAre (IsWork edges s rings) s.net.generals
 
--- what a general leaves who had this ring: where there is no fault his logs of the run, and the ring as the
--- run leaves it
+-- what a general that was started with this ring leaves: if there is no fault, its logs of the run, and the
+-- ring as the run leaves it
 pub record HasRun (s : Scenario) (g : ℕ) (old : Ring) (end : GeneralEnd) : Type 0 where
   pub logs : IfOk end.logs (λ logs. logs.items ≡ logs_by s g)
   pub ring : OnOk end.logs ((new : Ring) × (end.ring ≡ Some new) × IsAfterRun s g old new)
 
--- one ring is added: this one, as the run leaves it
+-- one ring is appended: the general's, as the run leaves it
 pub record HasMoreRing (s : Scenario) (g : ℕ) (held : Ring) (old new : List Ring) : Type 0 where
   pub ring : Ring
   pub after : IsAfterRun s g held ring
   pub added : new ≡ old ++ ring ∷ []
 
--- he has ended, or his work came back with his passes
+-- the general has ended, or its work came back with its passes
 abbrev pub IsTurn : Edges → Scenario → List Ring → ℕ → Turn → Type 0
 IsTurn edges s rings g (Ended end) = HasRun s g (ring_in rings g) end
 IsTurn edges s rings g (Back work) = ArePassesOf edges s g work.passes.puts.items work.passes.takes.items
 
--- those of the generals from one on
+-- this holds of the generals from one on: the first element of the list belongs to general `from`
 abbrev pub PassesFrom : Edges → Scenario → ℕ → List Passes → Type 0
 PassesFrom edges s from all =
     (k : ℕ) (d : Passes) → k < length all → HasNewPasses edges s (from + k) (slice_index_or all k d)

@@ -8,23 +8,23 @@ use gen_scenario::Scenario;
 use gen_types::GeneralNo;
 use std::alloc::{AllocError, Global};
 
-/// All directed edges of a network, found by their ends.
+/// All directed edges of a network, which are found by their ends.
 #[derive(Drop)]
 pub struct Edges {
     pub(crate) generals: u8,
     pub(crate) table: Vec<Option<Edge>>,
 }
 
-/// The passes of one general, in ascending order of his neighbours.
+/// The passes of one general, in ascending order of its neighbours.
 #[derive(Drop)]
 pub struct Passes {
-    /// Those by which he puts.
+    /// The passes by which the general puts.
     pub puts: Vec<PutPass>,
-    /// Those by which he takes.
+    /// The passes by which the general takes.
     pub takes: Vec<TakePass>,
 }
 
-/// Returns for each of so many generals that he has no passes.
+/// Returns a list with no passes for each of this many generals.
 fn no_passes(alloc: Global, generals: u8) -> Result<Vec<Passes>, AllocError>
     ensures { IfOk result (λ all. AreEmpty generals all.items) }
 {
@@ -56,7 +56,7 @@ fn add_take(all: &mut Vec<Passes>, general: GeneralNo, take: TakePass) -> Result
     Ok(())
 }
 
-/// Makes the edge from one general to another, if they are neighbours, and gives them its passes.
+/// Makes the edge from one general to another, if they are neighbours, and gives both their passes.
 fn add_edge(
     alloc: Global,
     scenario: &Scenario,
@@ -83,7 +83,7 @@ fn add_edge(
     Ok(())
 }
 
-/// Makes all edges from a general to his neighbours, and gives them and him their passes.
+/// Makes all edges from a general to its neighbours, and gives each general its passes.
 fn add_edges_from(
     alloc: Global,
     scenario: &Scenario,
@@ -105,12 +105,12 @@ fn add_edges_from(
 }
 
 impl Edges {
-    /// Returns all edges of a scenario's network, each of which holds so many frames, at least one, and nothing was
-    /// put yet; and of each general, in ascending order, the passes.
+    /// Makes all edges of a scenario's network, each with room for this many frames, which must be at least
+    /// one. Nothing is put yet. The passes of each general are returned too, in ascending order of generals.
     ///
     /// # Errors
     ///
-    /// `AllocError` where memory is refused.
+    /// `AllocError` if memory is refused.
     pub fn new(
         alloc: Global,
         scenario: &Scenario,

@@ -17,7 +17,7 @@ pub enum RunFault {
     /// A thread could not be started.
     #[error("a thread could not be started")]
     Thread,
-    /// A neighbour ended before his last round.
+    /// A neighbour ended before its last round.
     #[error("a neighbour ended early")]
     Gone,
 }
@@ -33,21 +33,21 @@ impl From<AllocError> for RunFault {
     }
 }
 
-/// What a general gives back when he ends: his logs or why he has none, his ring if he has one, and his passes in
-/// the order of his neighbours.
+/// What a general gives back when it ends: its logs or why it has none, its ring if it has one, and its
+/// passes in the order of its neighbours.
 pub struct GeneralEnd {
-    /// His log, and a second one behind it where his script says so.
+    /// The general's log, and a second one behind it if its script says so.
     pub logs: Result<Vec<SealedLog>, RunFault>,
-    /// His ring. Where it isn't taken out it is closed.
+    /// The general's ring. If it isn't taken out, it is closed.
     pub ring: Option<KeyRing>,
-    /// The passes by which he put.
+    /// The passes by which the general put.
     pub puts: Vec<PutPass>,
-    /// The passes by which he took.
+    /// The passes by which the general took.
     pub takes: Vec<TakePass>,
 }
 
 impl GeneralEnd {
-    /// Returns his logs, or why he has none, and his ring if he has one.
+    /// Returns the general's logs, or why it has none, and its ring if it has one.
     pub(crate) fn into_logs(self) -> (Result<Vec<SealedLog>, RunFault>, Option<HeldRing>)
         ensures logs { result.0 ≡ self.logs }
         ensures ring { result.1 ≡ self.ring }
@@ -64,7 +64,7 @@ impl GeneralEnd {
         }
     }
 
-    /// Returns the same end with this ring. One that he had is closed.
+    /// Returns the end with this ring in it. A ring that it had before is closed.
     pub(crate) fn with_ring(self, ring: KeyRing) -> GeneralEnd
         ensures { result ≡ record {
           logs = self.logs;

@@ -9,8 +9,8 @@ use gen_types::GeneralNo;
 use std::alloc::{AllocError, Global};
 use std::marker::Model;
 
-/// A ring of keys that is closed where it is dropped, so that none is lost whatever is refused. A contract sees the
-/// ring.
+/// A ring of keys that is closed when it is dropped, so that no ring is lost, whatever is refused. A contract
+/// sees the ring.
 pub struct HeldRing {
     ring: KeyRing,
 }
@@ -47,13 +47,14 @@ impl HeldRing {
     }
 }
 
-/// Opens the rings of all generals of a scenario, in their order, with no leaf taken. Nothing is hashed.
+/// Opens the rings of all generals of a scenario, in ascending order of generals, with no leaf taken. Nothing
+/// is hashed.
 ///
 /// A second ring of the same general gives each leaf again.
 ///
 /// # Errors
 ///
-/// `AllocError` where memory is refused. The rings that were opened are closed then.
+/// `AllocError` if memory is refused. The rings that were opened are closed then.
 pub fn open_rings(alloc: Global, scenario: &Scenario) -> Result<Vec<HeldRing>, AllocError>
     ensures { IfOk result (λ rings. AllAre (IsUntaken scenario.now) scenario.now.net.generals rings.items) }
 {

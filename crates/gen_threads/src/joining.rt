@@ -25,7 +25,8 @@ use std::sync::Wait;
 use std::thread;
 use std::thread::Threads;
 
-/// Does one turn for a general whose thread was not started, and returns whether nothing is left to do.
+/// Does one turn for a general whose thread was not started, and returns whether nothing is left to do for
+/// it.
 pub(crate) fn stop_turn<R: Wait>(
     rt: &R,
     edges: &Edges,
@@ -53,7 +54,8 @@ pub(crate) fn stop_turn<R: Wait>(
     }
 }
 
-/// Does one turn for each general whose thread was not started, and returns whether nothing is left to do.
+/// Does one turn for each general whose thread was not started, and returns whether nothing is left to do for
+/// any.
 fn stop_each<R: Wait>(rt: &R, field: Field, first: usize, back: &mut Vec<Turn>) -> bool
     requires parts { AreParts field.scenario.now field.parts.now }
     requires count { first + length back.old.items ≡ field.scenario.now.net.generals }
@@ -76,7 +78,8 @@ fn stop_each<R: Wait>(rt: &R, field: Field, first: usize, back: &mut Vec<Turn>) 
     over
 }
 
-/// Ends the edges of all generals from one on, whose threads were not started, turn about.
+/// Ends the edges of all generals whose threads were not started, which are the generals from `first` on. It
+/// does their turns one after another, again and again, until nothing is left to do.
 fn stop_all<R: Wait>(rt: &R, field: Field, first: usize, back: &mut Vec<Turn>)
     requires parts { AreParts field.scenario.now field.parts.now }
     requires count { first + length back.old.items ≡ field.scenario.now.net.generals }
@@ -94,7 +97,8 @@ fn stop_all<R: Wait>(rt: &R, field: Field, first: usize, back: &mut Vec<Turn>)
     unreachable!()
 }
 
-/// Joins the threads in ascending order, and adds what came back of those that were not started.
+/// Joins the threads in ascending order of generals, and appends what came back of the generals whose threads
+/// were not started.
 fn join_all<'s, R: Threads>(
     rt: &R,
     field: Field<'s>,
@@ -120,8 +124,8 @@ fn join_all<'s, R: Threads>(
     turns
 }
 
-/// Ends a run: first the edges of all whose threads were not started, so that nobody waits for them, and then the
-/// threads. Returns what came of each general, in ascending order.
+/// Ends a run: first the edges of all generals whose threads were not started, so that nobody waits for them,
+/// and then the threads. Returns what came of each general, in ascending order.
 pub(crate) fn end_all<'s, R: Threads + Wait>(
     rt: &R,
     field: Field<'s>,
@@ -144,7 +148,8 @@ pub(crate) fn end_all<'s, R: Threads + Wait>(
     join_all(rt, field, handles, back, turns)
 }
 
-/// Returns of two outcomes the fault that a run answers: Memory before Thread, and that before Gone.
+/// Returns the worse of two outcomes: Memory is worse than Thread, Thread is worse than Gone, and any fault
+/// is worse than none.
 fn worse(first: Result<(), RunFault>, second: Result<(), RunFault>) -> Result<(), RunFault>
     ensures { result ≡ worse_of first second }
 {
@@ -157,7 +162,8 @@ fn worse(first: Result<(), RunFault>, second: Result<(), RunFault>) -> Result<()
     }
 }
 
-/// Returns what a run answers whose worst fault this is: a neighbour's early end as a thread that was not started.
+/// Returns the fault that a run answers if this is the worst fault of its generals: the early end of a
+/// neighbour is answered as a thread that was not started.
 fn answered(fault: RunFault) -> RunFault
     ensures { result ≡ answered_fault fault }
 {
@@ -175,7 +181,7 @@ fn keep_ring(rings: &mut Vec<HeldRing>, ring: HeldRing) -> Result<(), AllocError
     Ok(())
 }
 
-/// Appends a general's logs and his ring, or returns why he has no logs.
+/// Appends a general's logs and its ring, or returns why it has no logs.
 fn gather_one(
     turn: Turn,
     logs: &mut Vec<SealedLog>,
@@ -201,8 +207,8 @@ fn gather_one(
     }
 }
 
-/// Returns the logs of all and their rings, in the order of generals, or the fault of the run: that of the worst of its
-/// generals' faults, or want of memory.
+/// Returns the logs and the rings of all generals, in ascending order of generals. If a general has a fault,
+/// the result is the fault that the run answers, that of the worst of them, or Memory if memory is refused.
 pub(crate) fn gather(
     scenario: &Scenario,
     edges: &Edges,

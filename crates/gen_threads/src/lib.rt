@@ -1,6 +1,6 @@
-//! Generals in threads: each runs by what he alone knows, over the edges to his neighbours, and their logs
-//! are those of the scenario's run (section 4 of L. Lamport, R. Shostak and M. Pease, "The Byzantine Generals
-//! Problem", ACM TOPLAS 4, 1982).
+//! Generals in threads. Each thread has only what its general knows, and the edges to the neighbours. The
+//! logs are those of the scenario's run, by the signed message algorithm (section 4 of L. Lamport, R. Shostak
+//! and M. Pease, "The Byzantine Generals Problem", ACM TOPLAS 4, 1982).
 #![tactic(auto)]
 
 mod edges;

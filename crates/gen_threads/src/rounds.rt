@@ -23,7 +23,8 @@ use gen_types::GeneralNo;
 use std::alloc::{AllocError, Global};
 use std::sync::Wait;
 
-/// Puts a neighbour's frame of the round after the first ones. His pass is the one at the index.
+/// Puts the frame of the round after the first `gone` rounds to a neighbour. The pass is the one at the
+/// index.
 fn put_next<R: Wait>(
     rt: &R,
     part: &RunPart,
@@ -47,7 +48,8 @@ fn put_next<R: Wait>(
     put_frame(rt, edge, &mut puts[index], frame);
 }
 
-/// Takes a neighbour's frame of the round after the first ones, or the last word. His pass is the one at the index.
+/// Takes the frame of the round after the first `gone` rounds from a neighbour, or its last word. The pass is
+/// the one at the index.
 fn take_next<R: Wait>(
     rt: &R,
     part: &RunPart,
@@ -74,8 +76,8 @@ fn take_next<R: Wait>(
     take_frame(rt, edge, &mut takes[index])
 }
 
-/// In the round after the first ones, puts the frame to this general, if he is a neighbour. His pass is the one at the
-/// index, which moves on.
+/// Puts the frame of the round after the first `gone` rounds to this general, if it is a neighbour. The pass
+/// is the one at the index, which then moves on by one.
 fn put_to<R: Wait>(
     rt: &R,
     alloc: Global,
@@ -110,7 +112,7 @@ fn put_to<R: Wait>(
     Ok(())
 }
 
-/// In the round after the first ones, puts a frame to each neighbour, in ascending order.
+/// Puts the frame of the round after the first `gone` rounds to each neighbour, in ascending order.
 fn put_all<R: Wait>(
     rt: &R,
     alloc: Global,
@@ -139,8 +141,8 @@ fn put_all<R: Wait>(
     Ok(())
 }
 
-/// In the round after the first ones, takes the frame from this general, if he is a neighbour. His pass is the one at
-/// the index, which moves on.
+/// Takes the frame of the round after the first `gone` rounds from this general, if it is a neighbour. The
+/// pass is the one at the index, which then moves on by one.
 fn take_from<R: Wait>(
     rt: &R,
     alloc: Global,
@@ -175,7 +177,7 @@ fn take_from<R: Wait>(
     Ok(())
 }
 
-/// In the round after the first ones, takes a frame from each neighbour, in ascending order.
+/// Takes the frame of the round after the first `gone` rounds from each neighbour, in ascending order.
 fn take_all<R: Wait>(
     rt: &R,
     alloc: Global,
@@ -207,7 +209,8 @@ fn take_all<R: Wait>(
     Ok(())
 }
 
-/// Runs the round after the first ones: he signs, puts a frame to each neighbour, and takes one from each.
+/// Runs the round after the first `gone` rounds: the general signs, puts a frame to each neighbour, and takes
+/// one from each.
 pub(crate) fn run_round<R: Wait>(
     rt: &R,
     alloc: Global,

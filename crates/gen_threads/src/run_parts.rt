@@ -9,8 +9,8 @@ use std::alloc::{AllocError, Global};
 use std::marker::Model;
 use std::snapshot::Snapshot;
 
-/// What a general alone knows of a run. In contracts, and there alone, it names its scenario: nothing of another
-/// general's order or of anybody's seed is in it, but that those who have scripts know each other's keys.
+/// What a general alone knows of a run. In contracts, and only there, it names its scenario. It holds nothing
+/// of another general's order or of anybody's seed, except that generals with scripts know each other's keys.
 #[derive(Drop)]
 pub struct RunPart {
     part: Part,
@@ -32,7 +32,7 @@ impl RunPart {
     ///
     /// # Errors
     ///
-    /// `AllocError` where memory is refused.
+    /// `AllocError` if memory is refused.
     pub fn of(alloc: Global, scenario: &Scenario, general: GeneralNo) -> Result<RunPart, AllocError>
         requires { general < scenario.now.net.generals }
         ensures { IfOk result (λ part. part ≡ record { scenario = scenario.now; me = general }) }
@@ -45,7 +45,7 @@ impl RunPart {
         })
     }
 
-    /// Returns what he knows.
+    /// Returns what the general knows.
     pub fn part(&self) -> &Part
         ensures value { result.now ≡ part_of self.now.scenario self.now.me }
         ensures lawful { IsRunPart self.now.scenario result.now }

@@ -24,11 +24,11 @@ use gen_tree::KeyRing;
 use std::alloc::Global;
 use std::sync::Wait;
 
-/// Makes the general as he is before the first round.
+/// Makes the general in its state before the first round.
 ///
 /// # Errors
 ///
-/// The ring, where memory is refused.
+/// The ring, if memory is refused.
 fn begin(alloc: Global, part: &RunPart, ring: Option<KeyRing>) -> Result<Recorder, Option<KeyRing>>
     requires { MayRunWith part.now.scenario part.now.me ring }
     ensures { MatchResult result
@@ -72,7 +72,7 @@ fn run_rounds<R: Wait, G: Gate>(
     Ok(())
 }
 
-/// Runs all rounds, and ends the general by his logs.
+/// Runs all rounds, and ends the general with its logs.
 ///
 /// # Errors
 ///
@@ -113,7 +113,8 @@ fn run_to_end<R: Wait, G: Gate>(
     }
 }
 
-/// Returns the logs of a general, whose bytes several can share from now on, or that memory was refused.
+/// Returns the logs of a general with bytes that several owners can share from now on, or the fault Memory if
+/// memory is refused.
 fn shared_logs(alloc: Global, logs: Vec<SealedLog>) -> Result<Vec<SealedLog>, RunFault>
     ensures logs { IfOk result (λ shared. shared.items ≡ logs.items) }
     ensures fault { IfErr result (λ fault. fault ≡ Memory) }
@@ -125,16 +126,19 @@ fn shared_logs(alloc: Global, logs: Vec<SealedLog>) -> Result<Vec<SealedLog>, Ru
     Ok(shared)
 }
 
-/// Runs a general from his first round to his last: in each round the gate is called, he signs, puts a frame to
-/// each neighbour in ascending order, and takes one from each in ascending order. He knows his part alone, and
-/// tries again where an edge is full or empty. He needs a ring exactly where he has no script: one of his seed, from
-/// which no leaf of the run was taken. The passes are his, by which nothing was put or taken yet.
+/// Runs a general from its first round to its last. In each round the gate is called, the general signs, puts
+/// a frame to each neighbour in ascending order, and takes one from each in ascending order. It knows only
+/// its own part, and tries again when an edge is full or empty. It needs a ring if and only if it has no
+/// script: the ring of its seed, from which no leaf of the run was taken. The passes must be the general's,
+/// and nothing may have been put or taken by them.
 ///
-/// A general who can't go on tells his neighbours: he tries in turns to put the last word on each edge from him that
-/// hasn't had all frames, and takes what comes, until each edge to him has given its last. Whatever comes, the ring and
-/// the passes come back; where he has logs, the leaves that were taken from the ring are exactly those of what he signed
-/// in them; the bytes of logs can be shared. His fault is Memory, or Gone, and that only where one of his passes has taken a neighbour's
-/// last word; it is never Thread.
+/// A general that can't go on tells its neighbours. It tries in turns to put the last word on each edge from
+/// it that hasn't had all frames, and takes what comes, until each edge to it has given its last frame or
+/// word.
+///
+/// The ring and the passes come back in every case. If the general has logs, the leaves that were taken from
+/// the ring are exactly those of what it signed in them, and the bytes of the logs can be shared. Its fault
+/// is Memory, or Gone if one of its passes has taken the last word of a neighbour; it is never Thread.
 pub fn run_general<R: Wait, G: Gate>(
     rt: &R,
     alloc: Global,

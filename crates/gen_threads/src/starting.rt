@@ -22,14 +22,14 @@ use std::thread::{PromisedHandle, Scope, Threads};
 /// The handles of started threads.
 pub(crate) type Handles<'s> = Vec<PromisedHandle<Turn, EndsAs<'s>>>;
 
-/// Shows the gate a general's logs, if he has any.
+/// Shows a general's logs to the gate, if it has any.
 fn show_logs<G: Gate>(gate: &G, general: GeneralNo, end: &GeneralEnd) {
     if let Ok(logs) = &end.logs {
         gate.sealed(general, logs.as_slice());
     }
 }
 
-/// Runs a general, whose ring sits out where he has a script.
+/// Runs a general with its held ring. If it has a script, the ring is not used.
 fn run_held<R: Wait, G: Gate>(
     rt: &R,
     alloc: Global,
@@ -51,7 +51,7 @@ fn run_held<R: Wait, G: Gate>(
     }
 }
 
-/// Runs a general and shows the gate his logs, or hands his work back where his flag is set.
+/// Runs a general and shows its logs to the gate, or hands its work back if its flag is set.
 pub(crate) fn run_work<R: Wait, G: Gate>(
     rt: &R,
     alloc: Global,
@@ -83,7 +83,7 @@ pub(crate) fn run_work<R: Wait, G: Gate>(
 ///
 /// # Errors
 ///
-/// His work, where none can be started. His flag is set then.
+/// The general's work, if the thread can't be started. The general's flag is set then.
 fn start_one<'s, E, R: Threads + Wait + Sync, G: Gate + Sync>(
     rt: &'s R,
     alloc: Global,
@@ -140,7 +140,7 @@ fn start_one<'s, E, R: Threads + Wait + Sync, G: Gate + Sync>(
 ///
 /// # Errors
 ///
-/// His work, where none was started.
+/// The general's work, if its thread was not started.
 fn start_next<'s, E, R: Threads + Wait + Sync, G: Gate + Sync>(
     rt: &'s R,
     alloc: Global,
@@ -167,8 +167,8 @@ fn start_next<'s, E, R: Threads + Wait + Sync, G: Gate + Sync>(
     start_one(rt, alloc, gate, scope, field, me, work)
 }
 
-/// Starts the threads in ascending order; after one that can't be started no other is. Returns the handles of those
-/// that were started, and the works of the others.
+/// Starts the threads in ascending order of generals. After one that can't be started, no other is started.
+/// Returns the handles of the threads that were started, and the works of the other generals.
 pub(crate) fn start_all<'s, E, R: Threads + Wait + Sync, G: Gate + Sync>(
     rt: &'s R,
     alloc: Global,

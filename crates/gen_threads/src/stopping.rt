@@ -1,4 +1,4 @@
-//! How a general who can't go on ends his edges.
+//! How a general that can't go on ends its edges.
 ghost use Rattle.std.specs.Prelude.{◌≡◌, ◌<◌, ◌+◌, Any, true};
 ghost use Rattle.std.specs.List.{AllZip};
 ghost use Rattle.gen_edge.specs.Ends.{IsPutPassOf, IsTakePassOf};
@@ -15,8 +15,8 @@ use gen_net::Net;
 use gen_types::GeneralNo;
 use std::sync::Wait;
 
-/// Tries once to put the last word on an edge, unless all frames or the last word were put; and returns whether
-/// nothing is left to put.
+/// Tries once to put the last word on an edge, unless all frames or the last word were put already. Returns
+/// whether nothing is left to put.
 fn end_put<R: Wait>(rt: &R, edge: &Edge, rounds: u8, pass: &mut PutPass) -> bool
     requires { IsPutPassOf edge.now pass.old }
     ensures pass { IsPutPassOf edge.now pass.new }
@@ -28,8 +28,8 @@ fn end_put<R: Wait>(rt: &R, edge: &Edge, rounds: u8, pass: &mut PutPass) -> bool
     edge.try_put(rt, pass, Frame::Gone).is_ok()
 }
 
-/// Tries once to take from an edge, unless all frames or the last word were taken; and returns whether nothing is
-/// left to take.
+/// Tries once to take from an edge, unless all frames or the last word were taken already. Returns whether
+/// nothing is left to take.
 fn end_take<R: Wait>(rt: &R, edge: &Edge, rounds: u8, pass: &mut TakePass) -> bool
     requires { IsTakePassOf edge.now pass.old }
     ensures pass { IsTakePassOf edge.now pass.new }
@@ -43,7 +43,7 @@ fn end_take<R: Wait>(rt: &R, edge: &Edge, rounds: u8, pass: &mut TakePass) -> bo
     pass.taken() >= rounds || pass.has_ended()
 }
 
-/// Tries once to put the last word to a neighbour. His pass is the one at the index.
+/// Tries once to put the last word to a neighbour, by the pass at the index.
 fn end_put_to<R: Wait>(
     rt: &R,
     edges: &Edges,
@@ -64,7 +64,7 @@ fn end_put_to<R: Wait>(
     end_put(rt, edge, net.rounds(), &mut puts[index])
 }
 
-/// Tries once to take from a neighbour. His pass is the one at the index.
+/// Tries once to take from a neighbour, by the pass at the index.
 fn end_take_from<R: Wait>(
     rt: &R,
     edges: &Edges,
@@ -86,8 +86,8 @@ fn end_take_from<R: Wait>(
     end_take(rt, edge, net.rounds(), &mut takes[index])
 }
 
-/// Tries once to end the edges between this general and another one, if they are neighbours: the passes are those at
-/// the index, which moves on. Returns whether nothing is left to do on them.
+/// Tries once to end the edges between this general and another one, if they are neighbours. The passes are
+/// those at the index, which then moves on by one. Returns whether nothing is left to do on them.
 fn end_both<R: Wait>(
     rt: &R,
     edges: &Edges,
@@ -116,9 +116,9 @@ fn end_both<R: Wait>(
     put & taken
 }
 
-/// Does one turn for a general who can't go on: for each edge from him that hasn't had all frames or the last word, he
-/// tries once to put that word, and from each edge to him that hasn't given them he tries once to take. It takes no
-/// memory. Returns whether nothing is left to do.
+/// Does one turn for a general that can't go on. It tries once to put the last word on each edge from the
+/// general that hasn't had all frames or that word. It tries once to take from each edge to the general that
+/// hasn't given all frames or the last word. It takes no memory. Returns whether nothing is left to do.
 pub(crate) fn stop_once<R: Wait>(
     rt: &R,
     edges: &Edges,
@@ -142,7 +142,7 @@ pub(crate) fn stop_once<R: Wait>(
     over
 }
 
-/// Stops a general who can't go on: he does his turns until nothing is left to do.
+/// Stops a general that can't go on: does its turns until nothing is left to do.
 pub(crate) fn stop<R: Wait>(
     rt: &R,
     edges: &Edges,

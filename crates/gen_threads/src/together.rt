@@ -23,7 +23,7 @@ use std::sync::atomic::AtomicBool;
 use std::thread;
 use std::thread::{Scope, Threads};
 
-/// Makes a flag for each of so many generals, none of them set.
+/// Makes this many flags, none of them set.
 pub(crate) fn make_flags(alloc: Global, count: usize) -> Result<Vec<AtomicBool>, AllocError>
     ensures { IfOk result (λ flags. vec_len flags ≡ count) }
 {
@@ -34,7 +34,7 @@ pub(crate) fn make_flags(alloc: Global, count: usize) -> Result<Vec<AtomicBool>,
     Ok(flags)
 }
 
-/// Starts all threads and ends them, in a scope of theirs.
+/// Starts all threads and ends them, in a scope of their own.
 fn run_within<'s, E, R: Threads + Wait + Sync, G: Gate + Sync>(
     rt: &'s R,
     alloc: Global,
@@ -59,7 +59,7 @@ fn run_within<'s, E, R: Threads + Wait + Sync, G: Gate + Sync>(
     Ok(end_all(rt, field, handles, back, turns))
 }
 
-/// Runs each general in a thread of his own, and returns what came of each, in their order.
+/// Runs each general in a thread of its own, and returns what came of each, in ascending order.
 fn run_works<R: Threads + Wait + Sync, G: Gate + Sync>(
     rt: &R,
     alloc: Global,
@@ -102,16 +102,17 @@ fn run_works<R: Threads + Wait + Sync, G: Gate + Sync>(
     )
 }
 
-/// Runs a scenario as `run_threads` does, with rings that are handed in, one for each general in their order: each is
-/// that of his seed, of the run's height, and no leaf of the run was taken from it. Returns the logs of all, and the
-/// rings in the same order: from each exactly the leaves of what he signed in his log were taken. The ring of one who has
-/// a script sits out the run.
+/// Runs a scenario as `run_threads` does, with rings that are handed in, one for each general in ascending
+/// order. Each ring must be that of the general's seed, of the run's height, and no leaf of the run may have
+/// been taken from it. Returns the logs of all generals, and the rings in the same order. From each ring
+/// exactly the leaves of what the general signed in its log were taken; the ring of a general with a script
+/// is not used.
 ///
 /// So a ring that comes back may be handed in again to a run of another slot.
 ///
 /// # Errors
 ///
-/// As `run_threads`. All rings are closed then.
+/// Those of `run_threads`. All rings are closed then.
 pub fn run_with_rings<R: Threads + Wait + Sync, G: Gate + Sync>(
     rt: &R,
     alloc: Global,
@@ -144,17 +145,19 @@ pub fn run_with_rings<R: Threads + Wait + Sync, G: Gate + Sync>(
     gather(scenario, &edges, &held, turns, logs, back)
 }
 
-/// Runs a scenario, each general in a thread of his own, over edges that hold so many frames each, at least one; and
-/// returns the logs of all, in the order of generals, a second log behind the first. The gate is called by each
-/// general's thread before each round, and with his logs once they are sealed.
+/// Runs a scenario, each general in a thread of its own, over edges with room for this many frames each,
+/// which must be at least one. Returns the logs of all generals in ascending order of generals, a second log
+/// behind the first. The gate is called by each general's thread before each round, and with the general's
+/// logs once they are sealed.
 ///
-/// Threads are started in ascending order. After one that could not be started no other is, and this thread tells
-/// the neighbours of all who weren't. All rings are closed, whatever comes.
+/// Threads are started in ascending order of generals. After one that could not be started, no other is
+/// started, and this thread tells the neighbours of the generals that have no thread. All rings are closed,
+/// whether there are logs or a fault.
 ///
 /// # Errors
 ///
-/// Memory where it was refused to this thread or to a general; else Thread where a thread could not be started, or
-/// where a neighbour ended early, which no run has by itself. Never Gone.
+/// Memory if it was refused to this thread or to a general. Otherwise Thread if a thread could not be
+/// started, or if a neighbour ended early, which never happens in a run without another fault. Never Gone.
 pub fn run_threads<R: Threads + Wait + Sync, G: Gate + Sync>(
     rt: &R,
     alloc: Global,

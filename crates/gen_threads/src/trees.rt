@@ -23,13 +23,13 @@ fn make_tree(
     KeyTree::from_seed(alloc, &seed, height)
 }
 
-/// Makes the trees of the first so many generals under a master seed, at most 16, in their order: those of a scenario
-/// that has so many generals. The work is shared among as many threads as there are processors. Where no more threads
-/// can be started, those that there are do it all, and at least this one.
+/// Makes the trees of the first `count` generals under a master seed, at most 16, in ascending order: the
+/// trees of a scenario with that many generals. The work is shared among as many threads as there are
+/// processors. If no more threads can be started, those that were do all of it, and at least this one.
 ///
 /// # Errors
 ///
-/// `AllocError` where memory is refused to any of the threads.
+/// `AllocError` if memory is refused to any of the threads.
 pub fn make_trees<R: Threads + Sync>(
     rt: &R,
     alloc: Global,

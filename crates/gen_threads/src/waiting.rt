@@ -1,6 +1,6 @@
-//! Calls of an edge that are tried until they do something. Between tries a general sleeps until something is put on
-//! the edge or taken from it: with more generals than cores one who looks again and again takes time from those who
-//! work, and nobody acts on an edge without waking who waits for it.
+//! Calls of an edge that are tried until they do something. Between tries a general sleeps until something is
+//! put on the edge or taken from it. With more generals than cores, a general that looks again and again
+//! would take time from those that work. Every act on an edge wakes the general that waits for it.
 ghost use Rattle.std.specs.Prelude.{◌≡◌};
 ghost use Rattle.gen_edge.specs.Ends.{IsPutPassOf, IsTakePassOf, put_view, take_view};
 ghost use Rattle.gen_edge.specs.Frames.{carried};
@@ -9,8 +9,8 @@ ghost use Rattle.gen_edge.specs.Tied.{ComesNext, TakesNext, after_put};
 use gen_edge::{Edge, Frame, PutPass, TakePass};
 use std::sync::Wait;
 
-/// Puts a frame, the next of the run, or the word that no more comes. It tries, and sleeps, until the
-/// edge has room.
+/// Puts a frame, which must be the next of the run or the last word. It tries, and sleeps, until the edge has
+/// room.
 pub(crate) fn put_frame<R: Wait>(rt: &R, edge: &Edge, pass: &mut PutPass, frame: Frame)
     requires pass { IsPutPassOf edge.now pass.old }
     requires next { let v = put_view pass.old in ComesNext v.frames v.put v.gone_put (carried frame) }
@@ -29,7 +29,7 @@ pub(crate) fn put_frame<R: Wait>(rt: &R, edge: &Edge, pass: &mut PutPass, frame:
     unreachable!()
 }
 
-/// Takes what stands first on the edge. It tries, and sleeps, until something does.
+/// Takes the first frame or word of the edge. It tries, and sleeps, until there is one.
 pub(crate) fn take_frame<R: Wait>(rt: &R, edge: &Edge, pass: &mut TakePass) -> Frame
     requires { IsTakePassOf edge.now pass.old }
     ensures pass { IsTakePassOf edge.now pass.new }

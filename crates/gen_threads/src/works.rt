@@ -15,22 +15,22 @@ use std::snapshot::Snapshot;
 use std::sync::atomic::AtomicBool;
 use std::thread::Promise;
 
-/// A general's ring and passes, before his thread is started.
+/// A general's ring and passes, before its thread is started.
 #[derive(Drop)]
 pub(crate) struct Work {
     pub(crate) ring: HeldRing,
     pub(crate) passes: Passes,
 }
 
-/// What comes of a general: how he ended, or the work of one whose thread could not be started.
+/// What comes of a general: its end, or its work if its thread could not be started.
 #[derive(Drop)]
 pub(crate) enum Turn {
     Ended(GeneralEnd),
     Back(Work),
 }
 
-/// What all threads share. A set flag says that the general's thread was not started. In contracts, and there alone, it
-/// has the rings that were handed in.
+/// What all threads share. A set flag says that the general's thread was not started. The rings that were
+/// handed in are there in contracts only.
 #[derive(Clone, Copy)]
 pub(crate) struct Field<'a> {
     pub(crate) edges: &'a Edges,
@@ -40,7 +40,7 @@ pub(crate) struct Field<'a> {
     pub(crate) rings: &'a Snapshot<Vec<HeldRing>>,
 }
 
-/// That this general ends as in the scenario's run, with his ring of those that were handed in.
+/// The promise that this general ends as in the scenario's run, with the ring that was handed in for it.
 #[derive(Clone, Copy)]
 pub(crate) struct EndsAs<'a> {
     pub(crate) edges: &'a Edges,
@@ -55,7 +55,7 @@ impl<'a> Promise<Turn> for EndsAs<'a> {
     ghost kept_by = { λ p t. IsTurn p.edges.now p.scenario.now p.rings.now.value.items p.me t };
 }
 
-/// Returns what each general knows, in their order.
+/// Returns what each general knows, in ascending order of generals.
 pub(crate) fn make_parts(alloc: Global, scenario: &Scenario) -> Result<Vec<RunPart>, AllocError>
     ensures { IfOk result (λ parts. AreParts scenario.now parts.items) }
 {
@@ -67,7 +67,7 @@ pub(crate) fn make_parts(alloc: Global, scenario: &Scenario) -> Result<Vec<RunPa
     Ok(parts)
 }
 
-/// Makes the edges, each of which holds so many frames, and gives each general his ring and his passes.
+/// Makes the edges, each with room for this many frames, and gives each general its ring and its passes.
 pub(crate) fn make_works(
     alloc: Global,
     scenario: &Scenario,

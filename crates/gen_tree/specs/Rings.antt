@@ -1,4 +1,4 @@
--- Rings of one-time keys, each key the leaf of one tree.
+-- Rings of one-time keys, each of which is a leaf of one tree.
 use Rattle.std.specs.Prelude.{ℕ, zero, suc, List, [], ◌∷◌, ◌++◌}
 use Rattle.sha2.specs.Sha256.{sha256}
 use Rattle.gen_types.specs.declared.heights.TreeHeight.{TreeHeight}
@@ -7,23 +7,23 @@ use Rattle.gen_ots.specs.Secrets.{KeyName}
 use Rattle.gen_ots.specs.OneTime.{key_leaf_value}
 use Rattle.gen_tree.specs.Tree.{node_over, first_siblings}
 
--- what the tree of a seed is: the seed and its height
+-- what a contract sees of a tree of keys: its seed and its height
 pub record KeyTree : Type 0 where
   pub seed : List ℕ
   pub height : TreeHeight
 
--- what a ring is: its seed, the height of its tree, and the ascending list of the leaves that were
--- taken
+-- what a contract sees of a ring: its seed, the height of its tree, and the ascending list of the leaves
+-- that were taken
 pub record Ring : Type 0 where
   pub seed : List ℕ
   pub height : TreeHeight
   pub taken : List ℕ
 
--- the byte before a master seed and a general, where the general's seed is hashed: hexadecimal 30
+-- the first byte of the text whose hash is a general's seed: hexadecimal 30
 abbrev pub seed_prefix : ℕ
 seed_prefix = 48
 
--- the seed of a general
+-- the seed of a general: the hash of the prefix, the master seed and the general's number
 abbrev pub seed_of : List ℕ → ℕ → List ℕ
 seed_of master general = sha256 (seed_prefix ∷ (master ++ general ∷ []))
 
@@ -42,6 +42,6 @@ ring_leaves seed height = leaf_values seed height (leaves_of height)
 unfoldable pub ring_root : List ℕ → TreeHeight → List ℕ
 ring_root seed height = node_over (ring_leaves seed height) (levels_of height) 0
 
--- all siblings of a leaf of a ring
+-- all siblings of a key's leaf, from the bottom up
 abbrev pub ring_siblings : KeyName → List ℕ
 ring_siblings k = first_siblings (ring_leaves k.seed k.height) k.leaf (levels_of k.height)

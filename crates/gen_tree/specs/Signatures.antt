@@ -9,7 +9,7 @@ use Rattle.gen_tree.specs.Rings.{ring_siblings}
 use Rattle.gen_tree.specs.Sizes.{signature_length}
 use Rattle.gen_tree.specs.Tree.{folded}
 
--- the signature of a digest by a key of a ring: the one-time signature, then the siblings
+-- the signature of a digest by a key of a ring: the one-time signature, and then the siblings
 unfoldable pub tree_signature : KeyName → List ℕ → List ℕ
 tree_signature k digest = signature_of k digest ++ ring_siblings k
 
@@ -24,8 +24,8 @@ implied_root height leaf digest signature =
     root_over (signed_leaf_value (take ots_length signature) digest) height leaf
     (drop ots_length signature)
 
--- a signature of a digest by a leaf stands under the root of a tree of this height: it has a sibling
--- for each level, the tree has the leaf, and the siblings lead to the root
+-- A signature of a digest by a leaf stands under the root of a tree of this height. It has one sibling for
+-- each level, the tree has the leaf, and the siblings lead to the root.
 pub record Verifies (root : List ℕ) (height : TreeHeight) (leaf : ℕ)
     (digest signature : List ℕ) : Type 0 where
   pub siblings : length signature ≡ signature_length height

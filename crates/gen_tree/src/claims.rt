@@ -10,7 +10,8 @@ use crate::signatures::{Signature, root_above, same_bytes};
 use gen_ots::{SignedDigest, images_of_four};
 use gen_types::TreeHeight;
 
-/// The claim that a signature of a digest by a leaf stands under a root: what `verify` is asked.
+/// The claim that a signature of a digest by a leaf stands under a root: the question that `verify`
+/// answers.
 #[derive(Clone, Copy)]
 pub struct SignatureClaim<'a> {
     /// The root.
@@ -21,12 +22,12 @@ pub struct SignatureClaim<'a> {
     pub leaf: u8,
     /// The digest.
     pub digest: [u8; 32],
-    /// The signature. It may be anybody's bytes.
+    /// The signature. It may be any bytes of a signature's length.
     pub signature: &'a Signature,
 }
 
 impl<'a> SignatureClaim<'a> {
-    /// The digest and its one-time signature.
+    /// Returns the digest and its one-time signature.
     fn signed(&self) -> SignedDigest<'a>
         ensures { signed_value result ≡ claimed_value self.now }
     {
@@ -37,7 +38,7 @@ impl<'a> SignatureClaim<'a> {
         }
     }
 
-    /// Whether the claim is true, where its signature stands for this leaf value.
+    /// Returns whether the claim is true, given the leaf value that its signature stands for.
     fn stands(&self, value: &[u8; 32]) -> bool
         requires { value.now ≡ claimed_value self.now }
         ensures { IsTrue result ↔ Stands self.now }
@@ -49,8 +50,8 @@ impl<'a> SignatureClaim<'a> {
     }
 }
 
-/// Returns of each of four claims whether it is true, as `verify` does of one. Their one-time signatures are
-/// hashed side by side, which takes about as long as hashing those of two and a half.
+/// Returns for each of four claims whether it is true, as `verify` does for one. Their one-time signatures
+/// are hashed side by side, which takes about as long as hashing two and a half of them one after another.
 pub fn verify_four(claims: &[SignatureClaim<'_>; 4]) -> [bool; 4]
     ensures { (j : ℕ) → j < 4 → (other : SignatureClaim)
         → IsTrue (slice_index_or result j false) ↔ Stands (slice_index_or claims.now j other) }

@@ -10,13 +10,13 @@ use gen_types::TreeHeight;
 use std::alloc::{AllocError, Global};
 use std::marker::Model;
 
-/// The leaves whose values are hashed side by side.
+/// The number of leaves whose values are hashed side by side.
 const LEAVES_A_TURN: u8 = 4;
 
-/// The tree of a seed: the values of all its leaves.
+/// The tree of keys of a seed: the values of all its leaves. A contract sees the seed and the height.
 ///
-/// To make it takes nearly all the time of making a ring, so that whoever needs a ring again keeps the
-/// tree. It has the seed, which isn't wiped from memory.
+/// Making the tree takes nearly all the time of making a ring, so it pays to keep the tree if a ring will
+/// be needed again. The tree has the seed, which isn't wiped from memory.
 #[derive(Drop)]
 pub struct KeyTree {
     seed: [u8; 32],
@@ -40,7 +40,7 @@ impl KeyTree {
     ///
     /// # Errors
     ///
-    /// `AllocError` where memory is refused.
+    /// `AllocError` if memory is refused.
     pub fn from_seed(
         alloc: Global,
         seed: &[u8; 32],
@@ -77,7 +77,8 @@ impl KeyTree {
         node_at(self.leaves.as_slice(), self.height.levels(), 0)
     }
 
-    // The key of a leaf, with its siblings: that no leaf's key is made twice is the ring's concern.
+    // Returns the key of a leaf, with its siblings. This call may make the key of one leaf twice: the ring
+    // sees to it that none is given twice.
     pub(crate) fn leaf_key(&self, leaf: u8) -> LeafKey
         requires { leaf < leaves_of self.now.height }
         ensures { result ≡ record {
@@ -93,7 +94,7 @@ impl KeyTree {
     }
 }
 
-/// A copy is equal to its original. It fails only where memory was refused.
+/// A copy is equal to its original. Copying fails only if memory was refused.
 impl Clone for KeyTree {
     ghost is_clone = { λ tree copy. copy ≡ tree };
 

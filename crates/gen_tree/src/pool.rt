@@ -9,12 +9,12 @@ use std::alloc::{AllocError, Global};
 use std::collections::BTreeMap;
 use std::marker::Model;
 
-/// How many of its first bytes a signature is found by.
+/// The number of a signature's first bytes by which it is found.
 const NAME_BYTES: usize = 8;
 
-/// Signatures that were read, so that equal ones need not stand in memory twice. Signatures with the same
-/// first eight bytes displace each other: of those it keeps the last one. A contract sees nothing of it,
-/// since it changes nothing of what is read.
+/// Signatures that were read, kept so that equal ones need not stand in memory twice. Of the signatures
+/// with the same first eight bytes the pool keeps the last one. A contract sees nothing of the pool, since
+/// it changes nothing of what is read.
 #[derive(Debug, Drop)]
 pub struct SignaturePool {
     alloc: Global,
@@ -29,7 +29,7 @@ impl Model for SignaturePool {
     ghost view = { λ _. tt };
 }
 
-/// The first eight of these bytes as a number.
+/// Returns the first eight of these bytes as a number.
 fn name_of(bytes: &[u8]) -> u64
     requires { OTS_BYTES ≤ length bytes.now }
 {
@@ -39,7 +39,7 @@ fn name_of(bytes: &[u8]) -> u64
 }
 
 impl SignaturePool {
-    /// Returns a pool without signatures. It takes no memory before the first is read.
+    /// Returns a pool without signatures. The pool takes no memory before the first signature is read.
     pub fn new(alloc: Global) -> SignaturePool {
         SignaturePool {
             alloc,
@@ -47,12 +47,12 @@ impl SignaturePool {
         }
     }
 
-    /// Returns the signature with these bytes, of which there are as many as signatures for this height have.
-    /// It shares its memory with an equal one of the pool, if there is one.
+    /// Returns the signature with these bytes, which must be as many as a signature of this height has. It
+    /// shares its memory with an equal signature of the pool, if there is one.
     ///
     /// # Errors
     ///
-    /// `AllocError` where memory is refused.
+    /// `AllocError` if memory is refused.
     pub fn read(&mut self, height: TreeHeight, bytes: &[u8]) -> Result<Signature, AllocError>
         requires { length bytes.now ≡ signature_length height }
         ensures { IfOk result (λ signature. signature ≡ bytes.now) }

@@ -12,7 +12,8 @@ use gen_types::TreeHeight;
 use std::alloc::{AllocError, Global};
 use std::marker::Model;
 
-/// The one-time keys of a seed, one for each leaf of a tree, under one root.
+/// The one-time keys of a seed, one for each leaf of a tree, under one root. A contract sees the seed, the
+/// height, and the ascending list of the leaves that were taken.
 ///
 /// It has no `Clone` and no `Drop`, so it can't be copied and has to be ended by `close`. Its seed isn't
 /// wiped from memory.
@@ -40,12 +41,12 @@ impl Model for KeyRing {
 impl KeyRing {
     /// Returns the ring of a seed with a tree of this height, with no leaf taken.
     ///
-    /// The ring of a general is that of `general_seed`. A second ring of the same seed and height gives
-    /// each leaf again: whoever makes one has to see to it that no leaf signs two digests.
+    /// The ring of a general is that of its seed, `general_seed`. A second ring of the same seed and
+    /// height gives each leaf again: whoever makes one has to see to it that no leaf signs two digests.
     ///
     /// # Errors
     ///
-    /// `AllocError` where memory is refused.
+    /// `AllocError` if memory is refused.
     pub fn from_seed(
         alloc: Global,
         seed: &[u8; 32],
@@ -60,13 +61,14 @@ impl KeyRing {
         })
     }
 
-    /// Returns the ring of a tree, with no leaf taken: that of `from_seed`, but nothing is hashed.
+    /// Returns the ring of a tree, with no leaf taken. It is equal to that of `from_seed` with the same
+    /// seed and height, but nothing is hashed.
     ///
     /// A second ring of the same tree gives each leaf again.
     ///
     /// # Errors
     ///
-    /// `AllocError` where memory is refused.
+    /// `AllocError` if memory is refused.
     pub fn open(tree: &KeyTree) -> Result<KeyRing, AllocError>
         ensures { IfOk result (λ ring. ring
             ≡ record { seed = tree.now.seed; height = tree.now.height; taken = [] }) }
@@ -90,8 +92,8 @@ impl KeyRing {
         self.tree.root()
     }
 
-    /// Takes a leaf, and returns its key; None exactly where the leaf was taken before, or the number is
-    /// no leaf's.
+    /// Takes a leaf, and returns its key. Returns None if and only if the leaf was taken before, or the
+    /// tree has no leaf of this number; then the ring is unchanged.
     pub fn take(&mut self, leaf: u8) -> Option<LeafKey>
         ensures none { IsNone result
             ↔ ((leaves_of self.old.height ≤ leaf) ⊎ Contains self.old.taken leaf) }
@@ -113,7 +115,7 @@ impl KeyRing {
         Some(self.tree.leaf_key(leaf))
     }
 
-    /// Ends the ring, and returns the leaves that were taken.
+    /// Ends the ring, and returns the set of the leaves that were taken.
     pub fn close(self) -> LeafSet
         ensures taken { result ≡ self.taken }
         ensures below { (v : ℕ) → Contains result v → v < leaves_of self.height }
@@ -123,7 +125,7 @@ impl KeyRing {
     }
 }
 
-/// Closes a ring, if there is one. The leaves that were taken from it aren't told.
+/// Closes a ring, if there is one, without telling the leaves that were taken from it.
 pub fn close_ring(ring: Option<KeyRing>) {
     if let Some(ring) = ring {
         ring.close();

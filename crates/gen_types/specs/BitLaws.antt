@@ -22,7 +22,7 @@ pub members_ascending : (n : ℕ) → AllPairs (λ v w. v < w) (members_of n)
 unfolding members_of
 members_ascending n = filter_range_ascending (has_bit n) 0 16
 
--- the bits of the number of a list
+-- the bits that are set in the number of a list are those of the list's members
 pub bits_in : (xs : List ℕ) (i : ℕ) → Contains xs i → bit_at (bits_of xs) i ≡ 1
 unfolding bits_of
 bits_in [] i h = absurd (Contains_nil i h)

@@ -1,5 +1,5 @@
--- Fields of bytes, read from left to right. A field is a value and the bytes after it; short is the fault
--- where it does not stand whole in front of the bytes.
+-- Fields of bytes, read from left to right. A field is a value and the bytes after it. The fault short says
+-- that the field does not stand whole in front of the bytes.
 use Rattle.std.specs.Prelude.{ℕ, zero, suc, List, [], ◌∷◌, length, take, drop, Result, Ok, Err, nat_lt, if◌then◌else◌}
 use Rattle.std.specs.Int.{Width, byte_len, from_be_bytes}
 use Rattle.gen_types.specs.Reading.{◌>>=◌}

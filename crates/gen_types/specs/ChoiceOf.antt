@@ -25,7 +25,7 @@ pub choice_of-one : (c : ChoiceKind) (v : ℕ) → choice_of c (v ∷ []) ≡ v
 choice_of-one Only v = refl
 choice_of-one Median v = refl
 
--- and of the empty set RETREAT
+-- of the empty set each kind chooses RETREAT
 pub choice_of-none : (c : ChoiceKind) → choice_of c [] ≡ 0
 choice_of-none Only = refl
 choice_of-none Median = refl

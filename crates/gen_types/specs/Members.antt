@@ -24,7 +24,7 @@ pub bool_cases : (b : Bool) → (b ≡ true) ⊎ (b ≡ false)
 bool_cases true = inl refl
 bool_cases false = inr refl
 
--- what a filter of a range has
+-- each member of a filtered range is in the range and passes the test
 pub filter_range_has : (P : ℕ → Bool) (a n v : ℕ) → Contains (filter P (range_with_len a n)) v
     → (a ≤ v) × (v < a + n) × (P v ≡ true)
 filter_range_has P a zero v h = absurd (Contains_nil v h)
@@ -75,7 +75,8 @@ range_more a (suc k) =
     ap (range_with_len a) longer ∙ ap (λ r. a ∷ r) (range_more (a + 1) k)
     ∙ ap (λ x. a ∷ (range_with_len (a + 1) k ++ x ∷ [])) last
 
--- one more number of a range from 0, filtered
+-- a range from 0 with one number more, filtered: the filtered range, and then this number if it passes the
+-- test
 pub filter_more : (P : ℕ → Bool) (k : ℕ) → filter P (range_with_len 0 (k + 1)) ≡ filter P (range_with_len 0 k)
     ++ cond (P k) (k ∷ []) []
 filter_more P k = rw (range_more 0 k, zero-add) (filter-append P (range_with_len 0 k) (k ∷ []))

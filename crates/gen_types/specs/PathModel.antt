@@ -1,4 +1,4 @@
--- What a path keeps.
+-- What holds of the array and the length of a path.
 use Rattle.std.specs.Prelude.{ℕ, ◌≡◌, ◌≢◌, ◌-◌, ◌<◌, ◌≤◌, List, length, take, drop, replicate, All, AllPairs}
 
 -- the first places hold distinct generals below 16, and the others hold 0

@@ -3,7 +3,7 @@ use Rattle.std.specs.Prelude.{◌≡◌, Bool, true, false, Result, Ok, Err}
 use Rattle.gen_types.specs.declared.reading.ReadError.{ReadError}
 use Rattle.gen_types.specs.declared.reading.ReadError.TheVariants as errors
 
--- one step of reading, and what follows it where it doesn't fail
+-- one step of reading, and what follows it unless the step fails
 infixl 10 ◌>>=◌
 abbrev pub ◌>>=◌ : {A B F : Type 0} → Result A F → (A → Result B F) → Result B F
 (Ok x) >>= f = f x
@@ -19,11 +19,12 @@ abbrev pub map_fault : {A F G : Type 0} → (F → G) → Result A F → Result 
 map_fault wrap (Ok x) = Ok x
 map_fault wrap (Err f) = Err (wrap f)
 
--- What a function returned, seen by view, is what reading gives, unless memory ran out.
+-- The error of a call is the fault that reading gives, unless memory ran out.
 abbrev pub Fails : {Y F : Type 0} → ReadError F → Result Y F → Type 0
 Fails errors.Memory read = Unit {0}
 Fails (errors.Fault f) read = read ≡ Err f
 
+-- What a call returned, seen by view, is what reading gives, unless memory ran out.
 abbrev pub Gives : {X Y F : Type 0} → (X → Y) → Result X (ReadError F) → Result Y F → Type 0
 Gives view (Ok x) read = read ≡ Ok (view x)
 Gives view (Err e) read = Fails e read

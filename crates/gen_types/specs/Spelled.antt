@@ -24,8 +24,8 @@ pub record IsReadFrom {A : Type 0} (Fits : A → Type 0) (spell : A → List ℕ
   pub stands : StandsInFront Fits spell bytes x.0
   pub counted : x.1 ≡ length (spell x.0)
 
--- Each value has one spelling, and no spelling begins another: where two lists begin with spellings and are
--- equal, the values are equal, and so is what follows.
+-- Each value has one spelling, and no spelling begins another. If two equal lists begin with the spellings
+-- of two values, the values are equal, and so is what follows the spellings.
 abbrev pub HasOneSpelling : {A : Type 0} → (A → Type 0) → (A → List ℕ) → Type 0
 HasOneSpelling {A} Fits spell =
     (x y : A) (rest more : List ℕ) → Fits x → Fits y → spell x ++ rest ≡ spell y ++ more
@@ -42,6 +42,6 @@ counted read bytes = do
 abbrev pub IsRead : {A F : Type 0} → Result A (ReadError F) → Result A F → Type 0
 IsRead result read = Gives (λ x. x) result read
 
--- the same of a call that answers a value and the bytes after it
+-- a call answers the value and the bytes after it that reading gives, unless memory ran out
 abbrev pub IsField : {A F : Type 0} → Result (A × Bor (List ℕ)) (ReadError F) → Result (A × List ℕ) F → Type 0
 IsField result read = Gives (λ x. (x.0, x.1.now)) result read

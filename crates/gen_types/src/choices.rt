@@ -76,7 +76,7 @@ pub enum ChoiceKind {
 impl ChoiceKind {
     ghost use Rattle.gen_types.specs.ChoiceOf.{choice_numbered, choice_number};
 
-    /// Returns the choice of this number, and None exactly where the number is above 1.
+    /// Returns the choice of this number, and None if and only if the number is above 1.
     pub fn new(number: u8) -> Option<ChoiceKind>
         ensures { result ≡ choice_numbered number }
     {

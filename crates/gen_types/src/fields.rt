@@ -1,4 +1,4 @@
-//! Fields of bytes: each a value, and the bytes after it.
+//! Fields of bytes. A field is a value and the bytes after it.
 //!
 //! A reader of bytes takes one field after another. A field that does not stand whole in front of the
 //! bytes is refused with the fault that the caller names.
@@ -14,7 +14,7 @@ use crate::reading::ReadError;
 ///
 /// # Errors
 ///
-/// The fault `short` where there is none; no call of this module asks for memory.
+/// The fault `short` if there is no byte. No call of this module asks for memory.
 pub fn u8_at<F: Copy>(bytes: &[u8], short: F) -> Result<(u8, &[u8]), ReadError<F>>
     ensures exact { IsField result (front.byte_at short bytes.now) }
     ensures short { IfErr result (λ e. e ≡ ReadError.Fault short) }
@@ -29,7 +29,7 @@ pub fn u8_at<F: Copy>(bytes: &[u8], short: F) -> Result<(u8, &[u8]), ReadError<F
 ///
 /// # Errors
 ///
-/// The fault `short` where there are fewer.
+/// The fault `short` if there are fewer bytes.
 pub fn bytes_at<F: Copy>(
     bytes: &[u8],
     count: usize,
@@ -50,7 +50,7 @@ pub fn bytes_at<F: Copy>(
 ///
 /// # Errors
 ///
-/// The fault `short` where there are fewer.
+/// The fault `short` if there are fewer bytes.
 pub fn u16_at<F: Copy>(bytes: &[u8], short: F) -> Result<(u16, &[u8]), ReadError<F>>
     ensures exact { IsField result (front.number_at short w16 bytes.now) }
     ensures short { IfErr result (λ e. e ≡ ReadError.Fault short) }
@@ -66,7 +66,7 @@ pub fn u16_at<F: Copy>(bytes: &[u8], short: F) -> Result<(u16, &[u8]), ReadError
 ///
 /// # Errors
 ///
-/// The fault `short` where there are fewer.
+/// The fault `short` if there are fewer bytes.
 pub fn u32_at<F: Copy>(bytes: &[u8], short: F) -> Result<(u32, &[u8]), ReadError<F>>
     ensures exact { IsField result (front.number_at short w32 bytes.now) }
     ensures short { IfErr result (λ e. e ≡ ReadError.Fault short) }
@@ -83,7 +83,7 @@ pub fn u32_at<F: Copy>(bytes: &[u8], short: F) -> Result<(u32, &[u8]), ReadError
 ///
 /// # Errors
 ///
-/// The fault `short` where there are fewer.
+/// The fault `short` if there are fewer bytes.
 pub fn u64_at<F: Copy>(bytes: &[u8], short: F) -> Result<(u64, &[u8]), ReadError<F>>
     ensures exact { IsField result (front.number_at short w64 bytes.now) }
     ensures short { IfErr result (λ e. e ≡ ReadError.Fault short) }

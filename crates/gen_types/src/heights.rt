@@ -12,7 +12,8 @@ pub enum TreeHeight {
 }
 
 impl TreeHeight {
-    /// Returns the number of levels between a leaf and the root, 4 or 6. A signature has so many siblings.
+    /// Returns the number of levels between a leaf and the root, 4 or 6, which is also the number of a
+    /// signature's siblings.
     pub fn levels(self) -> u8
         ensures { result ≡ levels_of self }
     {

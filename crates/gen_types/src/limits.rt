@@ -24,6 +24,6 @@ pub const MOST_ROUNDS: u8 = 16;
 /// The fewest orders, q, that generals may choose from.
 pub const FEWEST_ORDERS: u8 = 2;
 
-/// The most orders, q, that generals may choose from. Each order has a leaf of a general's tree of keys,
-/// which has 16 leaves, and the last leaf is for his log.
+/// The most orders, q, that generals may choose from. A run has 16 leaves of a general's tree of keys: one
+/// for each order, and the last for the general's log.
 pub const MOST_ORDERS: u8 = 15;

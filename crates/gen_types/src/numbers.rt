@@ -8,7 +8,7 @@ use std::fmt;
 use std::marker::{Model, PhantomData};
 use thiserror::Error;
 
-/// Why a number is no general's and no order's.
+/// Why a number is neither a general's nor an order's.
 #[derive(Clone, Copy, PartialEq, Eq, Debug, Error)]
 pub enum NumberFault {
     /// The number is above 15.
@@ -33,8 +33,8 @@ pub struct Number<K> {
 /// The number of a general, 0 to 15. General 0 is the commander.
 pub type GeneralNo = Number<Generals>;
 
-/// The number of an order, 0 to 15. Order 0 is RETREAT, the order of section 4 of the paper of 1982 for
-/// a lieutenant whom no order reaches.
+/// The number of an order, 0 to 15. Order 0 is RETREAT, which section 4 of the paper of 1982 names as the
+/// order of a lieutenant that no order reaches.
 pub type OrderNo = Number<Orders>;
 
 impl<K> Model for Number<K> {
@@ -48,7 +48,7 @@ impl<K> Model for Number<K> {
 }
 
 impl<K> Number<K> {
-    /// Returns the general or order of this number, and None exactly where the number is above 15.
+    /// Returns the general or order of this number, and None if and only if the number is above 15.
     pub fn new(number: u8) -> Option<Number<K>>
         ensures { SomeIff result (number < 16) number }
     {
@@ -107,7 +107,7 @@ impl<K> TryFrom<u8> for Number<K> {
 
     /// # Errors
     ///
-    /// `AboveFifteen` exactly where the number is above 15.
+    /// `AboveFifteen` if and only if the number is above 15.
     fn try_from(number: u8) -> Result<Number<K>, NumberFault> {
         Number::new(number).ok_or(NumberFault::AboveFifteen)
     }

@@ -1,4 +1,4 @@
-//! Paths: who signed an order, one after another.
+//! Paths: the generals that signed an order, one after another.
 ghost use Rattle.std.specs.Prelude.{IsTrue, ◌≡◌, ◌≢◌, ◌<◌, ◌≤◌, ◌-◌, ◌↔◌, ◌++◌, [], ◌∷◌, Contains, AllPairs, All, length, slice_get, OnOk, OnErr};
 ghost use Rattle.std.specs.Cmp.{partial_equiv_from_equiv};
 ghost use Rattle.std.specs.Cmp.Lexicographic.{pointwise};
@@ -24,8 +24,8 @@ pub enum PathFault {
 /// A list of at most 16 distinct generals, kept in a fixed array. A contract sees the list of their
 /// numbers.
 ///
-/// The path of the message `v:0:j1:..:jk` of section 4 of the paper of 1982 is `0, j1, .., jk`: each of
-/// its generals signed the order together with the path up to himself.
+/// The message `v:0:j1:..:jk` of section 4 of the paper of 1982 has the path `0, j1, .., jk`. Each general
+/// of the path signed the order together with the path up to and with itself.
 #[derive(Clone, Copy, Hash, Debug)]
 pub struct Path {
     generals: [GeneralNo; 16],
@@ -59,7 +59,7 @@ impl Path {
         }
     }
 
-    /// Returns the path of the commander alone, with which every message of a run begins.
+    /// Returns the path of the commander alone, with which the path of every message of a run begins.
     pub fn commander() -> Path
         ensures { result ≡ 0 ∷ [] }
     {
@@ -99,14 +99,14 @@ impl Path {
         self.generals().contains(&general)
     }
 
-    /// Returns the last general, and None where the path is empty.
+    /// Returns the last general, and None if the path is empty.
     pub fn last(&self) -> Option<GeneralNo>
         ensures { result ≡ slice_get self.now (length self.now - 1) }
     {
         self.generals().last().copied()
     }
 
-    /// Returns whether the first generals of this path are exactly those of the other.
+    /// Returns whether the path begins with all generals of `front`, in their order.
     pub fn starts_with(&self, front: &Path) -> bool
         ensures { IsTrue result ↔ BeginsWith self.now front.now }
     {
@@ -120,7 +120,8 @@ impl Path {
         self.generals().ends_with(&[general])
     }
 
-    /// Puts the general at the end of the path, which must have fewer than 16 generals and not him.
+    /// Puts the general at the end of the path, which must have fewer than 16 generals and must not have
+    /// this general.
     pub fn push_new(&mut self, general: GeneralNo)
         requires room { length self.old < 16 }
         requires new { ¬ Contains self.old general }
@@ -135,8 +136,8 @@ impl Path {
     ///
     /// # Errors
     ///
-    /// Full where the path has 16 generals, and else Repeated where the general stands in it. The path is
-    /// unchanged in both cases.
+    /// Full if the path has 16 generals, else Repeated if the general stands in it. The path is unchanged
+    /// in both cases.
     pub fn push(&mut self, general: GeneralNo) -> Result<(), PathFault>
         ensures ok { OnOk result (self.new ≡ self.old ++ general ∷ []) }
         ensures err { OnErr result (self.new ≡ self.old) }

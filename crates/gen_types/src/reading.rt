@@ -49,7 +49,7 @@ impl<T: Drop, F> From<AllocFailed<T>> for ReadError<F> {
 ///
 /// # Errors
 ///
-/// The fault exactly where the test does not hold.
+/// The fault if and only if the test does not hold.
 pub fn check<F: Copy>(test: bool, fault: F) -> Result<(), ReadError<F>>
     ensures exact { IsRead result (steps.check test fault) }
     ensures broken { IfErr result (λ e. e ≡ ReadError.Fault fault) }

@@ -71,7 +71,8 @@ impl<K> NumberSet<K> {
         }
     }
 
-    /// Returns the number of which exactly the bits of the members are set: bit k is that of number k.
+    /// Returns the number whose set bits are those of the members: bit k is set if and only if number k is
+    /// a member.
     pub fn bits(&self) -> u16
         ensures { result ≡ bits_of self.now }
     {
@@ -93,7 +94,7 @@ impl<K> NumberSet<K> {
         (self.bits >> number) & 1 == 1
     }
 
-    /// Makes the number a member, and returns true exactly where it was none before.
+    /// Makes the number a member, and returns true if and only if it was no member before.
     pub fn insert(&mut self, number: Number<K>) -> bool
         ensures members { IsListOf self.new (λ v. Contains self.old v ⊎ (v ≡ number)) }
         ensures new { IsTrue result ↔ ¬ Contains self.old number }

@@ -4,8 +4,8 @@ ghost use Rattle.gen_types.specs.Texts.{fields, number_of};
 
 use std::alloc::{AllocError, Global};
 
-/// Returns the number that these bytes spell in decimal digits, without leading zeros, and None exactly
-/// where they spell none of 0 to 255.
+/// Returns the number that these bytes spell in decimal digits, without leading zeros, and None if and
+/// only if they spell no number from 0 to 255.
 pub fn decimal_number(digits: &[u8]) -> Option<u8>
     ensures { result ≡ number_of digits.now }
 {
@@ -26,12 +26,13 @@ pub fn decimal_number(digits: &[u8]) -> Option<u8>
     }
 }
 
-/// Returns the fields of a line: what stands before, between and after its spaces. A line without a
-/// space is one field, and beside a space that has no byte on one side an empty field stands.
+/// Returns the fields of a line: what stands before, between and after its spaces. A line without a space
+/// is one field. A field is empty between two spaces side by side, before a space that begins the line,
+/// and after a space that ends it.
 ///
 /// # Errors
 ///
-/// `AllocError` where memory is refused.
+/// `AllocError` if memory is refused.
 pub fn split_fields<'a>(alloc: Global, line: &'a [u8]) -> Result<Vec<&'a [u8]>, AllocError>
     ensures { IfOk result (λ v. map (λ x. x.now) v.items ≡ fields line.now) }
 {

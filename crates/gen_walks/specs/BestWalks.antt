@@ -16,7 +16,7 @@ pub record IsBestWalk (net : Network) (rest : List ℕ) (a b : ℕ) (walk : List
 abbrev pub IsBestFor : Network → List ℕ → ℕ × ℕ → List ℕ → Type 0
 IsBestFor net rest pair walk = IsBestWalk net rest pair.0 pair.1 walk × (length walk ≤ net.diameter + 1)
 
--- for each pair of which this holds its best walk, in the order of the pairs
+-- the best walk of each pair that is asked for, in the order of the pairs
 pub record AreBestFor (net : Network) (rest : List ℕ) (Asked : ℕ → ℕ → Type 0) (walks : List (List ℕ)) :
     Type 0 where
   pub pairs : List (ℕ × ℕ)
@@ -24,6 +24,6 @@ pub record AreBestFor (net : Network) (rest : List ℕ) (Asked : ℕ → ℕ →
   pub members : (a b : ℕ) → Contains pairs (a, b) ↔ Asked a b
   pub best : AllZip (IsBestFor net rest) pairs walks
 
--- for each pair of the set its best walk, in the order of the pairs
+-- the best walk of each pair of the set, in the order of the pairs
 abbrev pub AreBestWalks : Network → List ℕ → List (List ℕ) → Type 0
 AreBestWalks net rest walks = AreBestFor net rest (IsPair net rest) walks

@@ -1,4 +1,4 @@
--- What a fault says of the least pair that has no short walk.
+-- What a fault says about the least pair that has no short walk.
 use Rattle.std.specs.Prelude.{ℕ, ◌≡◌, ◌<◌, List}
 use Rattle.gen_net.specs.Network.{Network}
 use Rattle.gen_walks.specs.Walks.{IsLeastBadPair, HasShortWalk}
@@ -6,8 +6,8 @@ use Rattle.gen_walks.specs.Levels.{level, IsDistance, IsDistanceRow, HasNoWalk}
 use Rattle.gen_walks.specs.declared.fault.WalkFault.{WalkFault}
 use Rattle.gen_walks.specs.declared.fault.WalkFault.TheVariants.{Memory, NoWalk, TooLong}
 
--- The pair is (a, b), and the levels are the distances from a: no walk leads to b, or the shortest has this
--- many edges, more than d.
+-- The fault tells the pair (a, b) and the distances from a. No walk leads to b, or the shortest walk to b
+-- has this many edges, more than d. Memory tells nothing.
 abbrev pub Explains : Network → List ℕ → ℕ → ℕ → WalkFault → Type 0
 Explains net rest a b Memory = Unit {0}
 Explains net rest a b (NoWalk pair row) =

@@ -1,3 +1,3 @@
--- What loops and private functions keep on their way: no public contract speaks of it.
+-- What holds during loops and of private functions. No public contract names these definitions.
 pub mod Checking
 pub mod Search

@@ -10,7 +10,7 @@ IsInside net rest g = (g < net.generals) × Contains rest g
 abbrev pub AreJoined : Network → List ℕ → ℕ → ℕ → Type 0
 AreJoined net rest a b = AreNeighbours net a b × IsInside net rest a × IsInside net rest b
 
--- these generals lead on from a to b, each near the one before
+-- these generals lead on from a to b: each is near the one before it, and the last is b
 abbrev pub Leads : (ℕ → ℕ → Type 0) → ℕ → List ℕ → ℕ → Type 0
 Leads near a [] b = a ≡ b
 Leads near a (c ∷ more) b = near a c × Leads near c more b
@@ -41,25 +41,25 @@ Bridges net rest walks a b = (walk : List ℕ) × Contains walks walk × IsShort
 abbrev pub BoundsDiameter : Network → List ℕ → List (List ℕ) → Type 0
 BoundsDiameter net rest walks = (a b : ℕ) → IsPair net rest a b → Bridges net rest walks a b
 
--- at most d edges inside the set lead from a to b
+-- a walk of at most d edges inside the set leads from a to b
 abbrev pub HasShortWalk : Network → List ℕ → ℕ → ℕ → Type 0
 HasShortWalk net rest a b = (walk : List ℕ) × IsShortWalk net rest a b walk
 
--- any two of the set are joined inside the set by at most d edges
+-- each two generals of the set are joined inside the set by a walk of at most d edges
 abbrev pub IsWithinDiameter : Network → List ℕ → Type 0
 IsWithinDiameter net rest = (a b : ℕ) → IsPair net rest a b → HasShortWalk net rest a b
 
--- the set is the rest: its generals are those who are not faulty
+-- the set is the rest: a general of the network is inside it if and only if it is not faulty
 abbrev pub IsRestOf : Network → List ℕ → List ℕ → Type 0
 IsRestOf net faulty rest = (g : ℕ) → IsInside net rest g ↔ IsLoyal net faulty g
 
--- (a, b) is the least pair for which this does not hold
+-- (a, b) is the least pair of the set for which Good does not hold
 pub record IsLeastBadPair (net : Network) (rest : List ℕ) (Good : ℕ → ℕ → Type 0) (a b : ℕ) : Type 0 where
   pub pair : IsPair net rest a b
   pub bad : Good a b → ⊥
   pub least : (x y : ℕ) → IsPairBefore net rest a b x y → Good x y
 
--- the network and the set of which a proof speaks
+-- the network and the set that a proof is about
 pub record DiameterProof : Type 0 where
   pub network : Network
   pub rest : List ℕ

@@ -39,21 +39,21 @@ impl Model for DiameterProof {
 }
 
 impl DiameterProof {
-    /// States what the proof shows: each pair of the set has a walk of at most d edges inside the set.
-    /// So where the set is the rest of some faulty generals, the graph of the rest has a diameter of at
-    /// most d. It does nothing.
+    /// States what the proof shows: each pair of the set has a walk of at most d edges inside the set. So
+    /// if the set is the rest of some faulty generals, the graph of the rest has a diameter of at most d.
+    /// The call does nothing.
     pub fn bounds(&self)
         ensures walks { IsWithinDiameter self.now.network self.now.rest }
         ensures diameter { (faulty : List ℕ) →
             IsRestOf self.now.network faulty self.now.rest →
             HasDiameter self.now.network faulty }
     {
-        // The fact is the type's invariant, which a read of a field makes known.
+        // The fact is the type's invariant. This read of a field makes it known to the proof.
         let _ = &self.net;
     }
 }
 
-/// Returns whether these generals lead on from a to b, along edges inside the set.
+/// Returns whether `generals` lead from `from` to `to` along edges inside the set.
 fn leads(
     net: &Net,
     rest: &GeneralSet,
@@ -87,7 +87,7 @@ fn is_walk(net: &Net, rest: &GeneralSet, a: GeneralNo, b: GeneralNo, walk: &[Gen
     }
 }
 
-/// Returns whether the walk is one from a to b inside the set, of at most d edges.
+/// Returns whether the list is a walk from a to b inside the set, of at most d edges.
 fn is_short_walk(net: &Net, rest: &GeneralSet, a: GeneralNo, b: GeneralNo, walk: &Walk) -> bool
     ensures { IsTrue result ↔ IsShortWalk net.now rest.now a b walk.now }
 {
@@ -95,7 +95,7 @@ fn is_short_walk(net: &Net, rest: &GeneralSet, a: GeneralNo, b: GeneralNo, walk:
     is_walk(net, rest, a, b, generals) && generals.len() <= usize::from(net.diameter()) + 1
 }
 
-/// Returns whether one of the walks leads from a to b inside the set by at most d edges.
+/// Returns whether one of the walks leads from a to b inside the set, by at most d edges.
 fn is_bridged(net: &Net, rest: &GeneralSet, walks: &Walks, a: GeneralNo, b: GeneralNo) -> bool
     ensures { IsTrue result ↔ Bridges net.now rest.now walks.now a b }
 {
@@ -105,14 +105,15 @@ fn is_bridged(net: &Net, rest: &GeneralSet, walks: &Walks, a: GeneralNo, b: Gene
         .any(|walk| is_short_walk(net, rest, a, b, walk))
 }
 
-/// Returns whether a and b are a pair of the set.
+/// Returns whether a and b are a pair of the set: both are inside it, and a < b.
 pub(crate) fn is_pair(net: &Net, rest: &GeneralSet, a: GeneralNo, b: GeneralNo) -> bool
     ensures { IsTrue result ↔ IsPair net.now rest.now a b }
 {
     a < b && is_inside(net, rest, a) && is_inside(net, rest, b)
 }
 
-/// Returns whether a and b are a pair of the set for whom no walk is given.
+/// Returns whether a and b are a pair of the set for which none of the walks leads from a to b by at most
+/// d edges.
 fn is_bad(net: &Net, rest: &GeneralSet, walks: &Walks, a: GeneralNo, b: GeneralNo) -> bool
     ensures yes { OnTrue result (IsBad net.now rest.now walks.now a b) }
     ensures no { OnFalse result (IsGood net.now rest.now walks.now a b) }
@@ -120,7 +121,8 @@ fn is_bad(net: &Net, rest: &GeneralSet, walks: &Walks, a: GeneralNo, b: GeneralN
     is_pair(net, rest, a, b) && !is_bridged(net, rest, walks, a, b)
 }
 
-/// Returns the least general for whom no walk from a is given, if there is one.
+/// Returns the least general b for which (a, b) is a pair of the set without a given walk of at most d
+/// edges, or None if there is no such general.
 fn first_bad(net: &Net, rest: &GeneralSet, walks: &Walks, a: GeneralNo) -> Option<GeneralNo>
     ensures none { IfNone result ((b : ℕ) → IsGood net.now rest.now walks.now a b) }
     ensures some { IfSome result (IsBad net.now rest.now walks.now a) }
@@ -135,16 +137,16 @@ fn first_bad(net: &Net, rest: &GeneralSet, walks: &Walks, a: GeneralNo) -> Optio
     None
 }
 
-/// Returns a proof where the walks bound the diameter of a set, the rest, by d: for each pair a < b of
-/// the set one of them begins with a, ends with b, stays inside the set, steps along edges and has at
-/// most d of them.
+/// Returns a proof if the walks bound the diameter of a set, the rest, by d. For each pair of the set one
+/// walk must begin with the lesser general and end with the greater, stay inside the set, and step along
+/// at most d edges.
 ///
-/// Other walks may stand among them in any order. Members of the set that are no generals of the
-/// network count as absent. It takes no memory.
+/// Other walks may stand among them, in any order. Members of the set that are not generals of the network
+/// count as absent. The call takes no memory.
 ///
 /// # Errors
 ///
-/// The least pair for which none of the walks does.
+/// The least pair for which none of the walks does so.
 pub fn check_walks(net: &Net, rest: &GeneralSet, walks: &Walks) -> Result<DiameterProof, BadPair>
     ensures ok { OnOk result (BoundsDiameter net.now rest.now walks.now) }
     ensures proof { IfOk result (λ proof. (proof.network ≡ net.now) × (proof.rest ≡ rest.now)) }

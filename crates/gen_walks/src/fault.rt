@@ -4,7 +4,7 @@ use gen_types::GeneralNo;
 use std::alloc::{AllocError, AllocFailed};
 use thiserror::Error;
 
-/// Two generals a < b of a set for whom a walk is missing.
+/// Two generals a < b of a set for which a walk is missing.
 #[derive(Clone, Copy, Debug, PartialEq, Eq, Error)]
 #[error("generals {a} and {b} have no short walk")]
 pub struct BadPair {
@@ -14,9 +14,10 @@ pub struct BadPair {
     pub b: GeneralNo,
 }
 
-/// Why no walks were made: of the least pair that has no walk of at most d edges inside the set, with
-/// the distances from its lesser general, 255 where no walk leads and for the numbers of no general.
-/// `check_levels` holds for these.
+/// Why no walks were made. `NoWalk` and `TooLong` tell the least pair that has no walk of at most d edges
+/// inside the set, and the distances from the lesser general of this pair. A distance is 255 if no walk
+/// leads there, and for each number from n on, which is no general's. `check_levels` is true for these
+/// distances.
 #[derive(Debug, Drop, Error)]
 pub enum WalkFault {
     /// Memory was refused.
@@ -27,15 +28,15 @@ pub enum WalkFault {
     NoWalk {
         /// The least pair without a short walk.
         pair: BadPair,
-        /// The distances from its lesser general.
+        /// The distances from the lesser general of the pair.
         levels: LevelRow,
     },
-    /// The shortest walk has more than d edges.
+    /// The shortest walk inside the set that joins the pair has more than d edges.
     #[error("U2")]
     TooLong {
         /// The least pair without a short walk.
         pair: BadPair,
-        /// The distances from its lesser general.
+        /// The distances from the lesser general of the pair.
         levels: LevelRow,
         /// How many edges the shortest walk has.
         edges: u8,

@@ -1,11 +1,11 @@
-//! Who is inside a set of generals, and which edges are.
+//! Which generals and which edges are inside a set of generals.
 ghost use Rattle.std.specs.Prelude.{IsTrue, ◌≡◌, ◌<◌, ◌↔◌};
 ghost use Rattle.gen_walks.specs.Walks.{IsInside, AreJoined};
 
 use gen_net::Net;
 use gen_types::{GeneralNo, GeneralSet};
 
-/// Returns the general of a number below n.
+/// Returns the general with this number, which must be below n.
 pub(crate) fn general(net: &Net, number: u8) -> GeneralNo
     requires { number < net.now.generals }
     ensures { result ≡ number }

@@ -1,4 +1,5 @@
-//! Levels of generals, which show that no walk is shorter.
+//! Levels of generals, which show that no walk from a source to a general is shorter than the general's
+//! level.
 ghost use Rattle.std.specs.Prelude.{ℕ, IsTrue, ◌≡◌, ◌<◌, ◌↔◌};
 ghost use Rattle.std.specs.Bool.{OnTrue, OnFalse};
 ghost use Rattle.gen_walks.specs.Levels.{level, IsLevelRow, NoWalkIsShorter};
@@ -9,11 +10,11 @@ use gen_net::Net;
 use gen_types::{GeneralNo, GeneralSet};
 use std::marker::Model;
 
-/// The level of a general to whom no walk leads.
+/// The level of a general that no walk reaches.
 pub const UNREACHED: u8 = 255;
 
-/// A number for each general, 0 to 254 edges from a source, or `UNREACHED`. A contract sees the list of
-/// 16 numbers, general 0 first.
+/// A level for each general: a number of edges from a source, 0 to 254, or `UNREACHED`. A contract sees
+/// the list of 16 levels, general 0 first.
 #[derive(Clone, Copy, Debug, PartialEq, Eq)]
 pub struct LevelRow {
     levels: [u8; 16],
@@ -30,8 +31,8 @@ impl Model for LevelRow {
 }
 
 impl LevelRow {
-    /// Returns the row of these levels, general 0 first. Those of numbers that are no generals of a
-    /// network don't count where the row is checked.
+    /// Returns the row of these levels, general 0 first. The levels of numbers that are not generals of a
+    /// network don't count when the row is checked.
     pub fn new(levels: [u8; 16]) -> LevelRow
         ensures { result ≡ levels }
     {
@@ -46,7 +47,8 @@ impl LevelRow {
     }
 }
 
-/// Returns whether the edge from a to b is inside the set and raises the level by more than 1.
+/// Returns whether an edge inside the set joins a and b, and the level of b is greater than that of a by
+/// more than 1. Such an edge is called steep.
 fn is_steep(net: &Net, rest: &GeneralSet, row: &LevelRow, a: GeneralNo, b: GeneralNo) -> bool
     ensures { IsTrue result ↔ IsSteep net.now rest.now row.now a b }
 {
@@ -80,18 +82,18 @@ fn is_even(net: &Net, rest: &GeneralSet, row: &LevelRow) -> bool
     true
 }
 
-/// Returns whether the source is inside the set with level 0 and no edge inside the set is steep.
+/// Returns whether the source is inside the set and has level 0, and no edge inside the set is steep.
 fn is_level_row(net: &Net, rest: &GeneralSet, source: GeneralNo, row: &LevelRow) -> bool
     ensures { IsTrue result ↔ IsLevelRow net.now rest.now source row.now }
 {
     is_inside(net, rest, source) && row.level(source) == 0 && is_even(net, rest, row)
 }
 
-/// Returns whether the levels are a certificate of distances from the source: he is one of the set and
-/// has level 0, and no edge inside the set raises the level by more than 1.
+/// Returns whether the levels are a certificate of distances from the source: the source is inside the set
+/// and has level 0, and no edge inside the set raises the level by more than 1.
 ///
-/// A yes shows that no walk inside the set from the source to a general has fewer edges than his level.
-/// Members of the set that are no generals of the network count as absent.
+/// If so, no walk inside the set from the source to a general has fewer edges than the level of this
+/// general. Members of the set that are not generals of the network count as absent.
 pub fn check_levels(net: &Net, rest: &GeneralSet, source: GeneralNo, row: &LevelRow) -> bool
     ensures exact { IsTrue result ↔ IsLevelRow net.now rest.now source row.now }
     ensures law { IsTrue result → NoWalkIsShorter net.now rest.now source row.now }

@@ -1,10 +1,10 @@
-//! Walks inside a set of generals: given ones are checked against the diameter that a run is planned
-//! for, and the best ones are made.
+//! Walks inside a set of generals. Walks that are given are checked against the diameter that a run is
+//! planned for, and the best walks are made.
 //!
-//! L. Lamport, R. Shostak and M. Pease, "The Byzantine Generals Problem", ACM TOPLAS 4 (1982), show in
-//! section 5 that the signed message algorithm reaches agreement in m + d rounds where the graph of the
-//! loyal generals has a diameter of at most d. A walk for each pair of them shows this, and levels show
-//! that a pair has no short walk.
+//! The signed message algorithm reaches agreement in m + d rounds if the graph of the loyal generals has a
+//! diameter of at most d. Section 5 of L. Lamport, R. Shostak and M. Pease, "The Byzantine Generals
+//! Problem", ACM TOPLAS 4 (1982), shows this. A walk for each pair of the loyal generals shows that the
+//! graph has such a diameter. Levels show that a pair has no short walk.
 #![tactic(auto)]
 
 mod diameter;

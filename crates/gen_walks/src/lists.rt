@@ -5,7 +5,8 @@ use gen_types::GeneralNo;
 use std::alloc::{AllocError, Global};
 use std::marker::Model;
 
-/// A list of generals, each of whom is meant to be joined to the one before by an edge.
+/// A list of generals, each of which is meant to be joined to the general before it by an edge. A contract
+/// sees the list of their numbers.
 #[derive(Debug, Drop)]
 pub struct Walk {
     generals: Vec<GeneralNo>,
@@ -20,7 +21,7 @@ impl Model for Walk {
 }
 
 impl Walk {
-    /// Returns the walk along these generals, of whom nothing is asked: `check_walks` judges it.
+    /// Returns the walk along these generals. Any list is taken; `check_walks` judges it.
     pub fn new(generals: Vec<GeneralNo>) -> Walk
         ensures { result ≡ generals.items }
     {
@@ -38,7 +39,7 @@ impl Walk {
 impl Clone for Walk {
     ghost is_clone = { λ walk copy. copy ≡ walk };
 
-    /// Returns a walk along the same generals. It fails only where memory was refused.
+    /// Returns a walk along the same generals. It fails only if memory was refused.
     fn clone(&self) -> Result<Walk, AllocError> {
         Ok(Walk {
             generals: self.generals.clone()?,
@@ -46,7 +47,7 @@ impl Clone for Walk {
     }
 }
 
-/// A list of walks.
+/// A list of walks. A contract sees the list of their lists.
 #[derive(Debug, Drop)]
 pub struct Walks {
     walks: Vec<Walk>,
@@ -70,7 +71,7 @@ impl Walks {
         }
     }
 
-    /// Appends a walk. It fails only where memory was refused, and the list is unchanged then.
+    /// Appends a walk. It fails only if memory was refused, and then the list is unchanged.
     pub fn push(&mut self, walk: Walk) -> Result<(), AllocError>
         ensures ok { OnOk result (self.new ≡ self.old ++ walk ∷ []) }
         ensures err { OnErr result (self.new ≡ self.old) }
@@ -90,7 +91,7 @@ impl Walks {
 impl Clone for Walks {
     ghost is_clone = { λ walks copy. copy ≡ walks };
 
-    /// Returns a list of the same walks. It fails only where memory was refused.
+    /// Returns a list of the same walks. It fails only if memory was refused.
     fn clone(&self) -> Result<Walks, AllocError> {
         Ok(Walks {
             walks: self.walks.clone()?,

@@ -16,7 +16,7 @@ use gen_net::Net;
 use gen_types::{GeneralNo, GeneralSet};
 use std::alloc::Global;
 
-/// Returns the best walk of a pair, or why it has none of at most d edges.
+/// Returns the best walk of a pair, or the fault that says why the pair has no walk of at most d edges.
 fn walk_for(
     alloc: Global,
     net: &Net,
@@ -48,7 +48,9 @@ fn walk_for(
     Ok(best_walk(alloc, net, rest, &back, a, b)?)
 }
 
-/// Appends the best walks from a to all greater generals of the set.
+/// Appends the best walks from a to all greater generals of the set. The list must have the best walks of
+/// all pairs before. The fault is that of the least pair of the set without a walk of at most d edges, or
+/// Memory.
 fn push_walks(
     walks: &mut Walks,
     alloc: Global,
@@ -73,15 +75,15 @@ fn push_walks(
     Ok(())
 }
 
-/// Returns for each pair a < b of a set of generals, the rest, the lexicographically least among its
-/// shortest walks inside the set, in the order of the pairs. So they bound the set's diameter by d.
-/// Members of the set that are no generals of the network count as absent.
+/// Returns the best walk of each pair a < b of a set of generals, the rest, in the order of the pairs. The
+/// best walk is the lexicographically least among the pair's shortest walks inside the set. So the walks
+/// bound the set's diameter by d. Members of the set that are not generals of the network count as absent.
 ///
 /// # Errors
 ///
-/// The fault of the least pair that has no walk of at most d edges: NoWalk where none leads from a to b,
-/// TooLong where the shortest is longer, each with the distances from a. Memory where memory was refused
-/// before such a pair was reached.
+/// The fault of the least pair that has no walk of at most d edges, with the distances from a. It is
+/// NoWalk if no walk leads from a to b, and TooLong if the shortest walk has more than d edges. Memory if
+/// memory was refused before such a pair was reached.
 pub fn make_walks(alloc: Global, net: &Net, rest: &GeneralSet) -> Result<Walks, WalkFault>
     ensures best { IfOk result (AreBestWalks net.now rest.now) }
     ensures bound { IfOk result (BoundsDiameter net.now rest.now) }

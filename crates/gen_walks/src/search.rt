@@ -1,4 +1,4 @@
-//! The search by levels, and the best walk that it leads to.
+//! The search by levels, and the best walk, which follows the levels.
 ghost use Rattle.std.specs.Prelude.{ℕ, List, ◌≡◌, ◌≢◌, ◌+◌, ◌<◌, IfOk};
 ghost use Rattle.std.specs.Bool.{OnTrue, OnFalse};
 ghost use Rattle.gen_walks.specs.Walks.{IsInside, AreJoined, IsWalkInside};
@@ -14,7 +14,7 @@ use gen_net::Net;
 use gen_types::{GeneralNo, GeneralSet};
 use std::alloc::{AllocError, Global};
 
-/// Returns whether an edge inside the set joins v to somebody of level k.
+/// Returns whether an edge inside the set joins v to a general of level k.
 fn is_near_level(net: &Net, rest: &GeneralSet, row: &LevelRow, k: u8, v: GeneralNo) -> bool
     ensures yes { OnTrue result ((u : ℕ) × AreJoined net.now rest.now u v × (level row.now u ≡ k)) }
     ensures no { OnFalse result (
@@ -29,7 +29,8 @@ fn is_near_level(net: &Net, rest: &GeneralSet, row: &LevelRow, k: u8, v: General
     false
 }
 
-/// Returns the level of v after the round that reaches level k + 1.
+/// Returns the level of v after the round that reaches level k + 1. It is k + 1 if v had none and an edge
+/// inside the set joins v to a general of level k; else it is the level that v had.
 fn next_level(net: &Net, rest: &GeneralSet, row: &LevelRow, k: u8, v: GeneralNo) -> u8
     requires { k < 254 }
     ensures { IsNext (AreJoined net.now rest.now) (level row.now) k v result }
@@ -42,8 +43,8 @@ fn next_level(net: &Net, rest: &GeneralSet, row: &LevelRow, k: u8, v: GeneralNo)
     }
 }
 
-/// Makes one round of the search, from the levels in `row` to those in `next`, and returns whether it
-/// reached anybody.
+/// Makes one round of the search, which turns the levels in `row` into those in `next`. Returns whether
+/// the round reached a general that had no level.
 fn spread(net: &Net, rest: &GeneralSet, row: &LevelRow, k: u8, next: &mut [u8; 16]) -> bool
     requires k { k < 254 }
     requires same { next.old ≡ row.now }
@@ -65,8 +66,8 @@ fn spread(net: &Net, rest: &GeneralSet, row: &LevelRow, k: u8, next: &mut [u8; 1
     changed
 }
 
-/// Returns the levels by steps from the source inside the set: rounds of the search until one reaches
-/// nobody.
+/// Returns the levels by steps from the source inside the set. Rounds of the search are made until one
+/// reaches no further general.
 fn levels_from(net: &Net, rest: &GeneralSet, source: GeneralNo) -> LevelRow
     requires { IsNetwork net.now }
     ensures { AreLevels (AreJoined net.now rest.now) source (level result) }
@@ -82,7 +83,8 @@ fn levels_from(net: &Net, rest: &GeneralSet, source: GeneralNo) -> LevelRow
     LevelRow::new(levels)
 }
 
-/// Returns the levels from each general inside the set, general 0 first.
+/// Returns one row for each general of the network, general 0 first: the levels from this general inside
+/// the set.
 pub(crate) fn level_rows(
     alloc: Global,
     net: &Net,
@@ -97,7 +99,7 @@ pub(crate) fn level_rows(
     Ok(rows)
 }
 
-/// Returns the levels from one general of the set, which are his distances.
+/// Returns the levels from one general of the set, which are the distances from it.
 pub(crate) fn row_from(
     net: &Net,
     rest: &GeneralSet,
@@ -113,7 +115,7 @@ pub(crate) fn row_from(
     rows[usize::from(source.get())]
 }
 
-/// Returns the least general joined to `at` inside the set who is one level nearer.
+/// Returns the least general that is joined to `at` inside the set and whose level is one less.
 fn nearest(net: &Net, rest: &GeneralSet, row: &LevelRow, at: GeneralNo) -> GeneralNo
     requires { (u : ℕ) ×
         AreJoined net.now rest.now at u × (level row.now at ≡ level row.now u + 1) }
@@ -130,8 +132,9 @@ fn nearest(net: &Net, rest: &GeneralSet, row: &LevelRow, at: GeneralNo) -> Gener
     at
 }
 
-/// Returns the least of the shortest walks from a to b inside the set, where one leads there: by the
-/// levels from b it goes each time to the nearest general, until the level is 0.
+/// Returns the lexicographically least of the shortest walks from a to b inside the set, of which there
+/// must be one. `row` has the levels from b. Each step of the walk goes to the least neighbour inside the
+/// set whose level is one less, until the level is 0.
 pub(crate) fn best_walk(
     alloc: Global,
     net: &Net,

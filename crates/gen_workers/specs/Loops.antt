@@ -1,4 +1,4 @@
--- Definitions that only loops and private functions speak of.
+-- Definitions of which only loops and private functions speak.
 pub mod Dealing
 pub mod Hands
 pub mod Started

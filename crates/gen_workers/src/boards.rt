@@ -1,4 +1,4 @@
-//! What workers share: a gate, and a board for the answers to what they verified.
+//! What workers share: a gate, and a board for their answers to verifications.
 ghost use Rattle.std.specs.Prelude.{IsTrue, ◌≡◌, ◌↔◌};
 ghost use Rattle.gen_chain.specs.Store.{Serves, KeepsAll};
 
@@ -10,10 +10,10 @@ use std::alloc::{AllocError, Global};
 use std::marker::Model;
 use std::sync::{Mutex, Wait};
 
-/// The most answers that a store is looked through for: a run has fewer, and who shows more gains nothing by it.
+/// The most answers of a store that are taken from it. A run has fewer, and nobody gains anything by showing more.
 const MOST_ANSWERS: u64 = 1024;
 
-/// Takes the answers of another store, unless they are too many.
+/// Takes the answers of another store, unless there are more than 1024.
 fn take_few(store: &mut VerifyStore, header: &Header, other: &VerifyStore) -> Result<(), AllocError>
     requires serves { Serves header.now store.old }
     requires other { Serves header.now other.now }
@@ -26,7 +26,7 @@ fn take_few(store: &mut VerifyStore, header: &Header, other: &VerifyStore) -> Re
     Ok(())
 }
 
-/// Returns whether two headers are the same.
+/// Returns whether two headers are equal.
 fn is_same_header(one: &Header, other: &Header) -> bool
     ensures { IsTrue result ↔ (one.now ≡ other.now) }
 {
@@ -52,8 +52,8 @@ impl Model for Answers {
 }
 
 impl Answers {
-    /// Takes the answers of a worker's store, and gives him those of the others, if his header is this one and they are not
-    /// too many.
+    /// Takes the answers of a worker's store and gives it those of the others, if the worker's header is this one. No
+    /// answers are taken from a store that has more than 1024.
     fn exchange(&mut self, header: &Header, store: &mut VerifyStore) -> Result<(), AllocError>
         requires { Serves header.now store.old }
         ensures grows { KeepsAll store.old store.new }
@@ -67,7 +67,7 @@ impl Answers {
     }
 }
 
-/// A board at which workers leave the answers to what they verified.
+/// A board at which workers leave their answers to verifications.
 #[derive(Drop)]
 pub(crate) struct Board {
     answers: Mutex<Answers>,
@@ -86,8 +86,8 @@ impl Board {
     }
 }
 
-/// What workers share: the gate that is called as they begin pieces, and their board, at which one who is alone leaves
-/// nothing.
+/// What workers share: the gate, which is called before they begin pieces, and the board. A worker that is alone leaves
+/// nothing at the board.
 #[derive(Drop)]
 pub(crate) struct Workshop<'a, R, G> {
     pub(crate) rt: &'a R,

@@ -4,7 +4,7 @@ ghost use Rattle.gen_workers.specs.Counts.{count_of, IsCount};
 
 use std::marker::Model;
 
-/// The most workers.
+/// The greatest number of workers.
 const MOST_WORKERS: usize = 16;
 
 /// A number of workers, 1 to 16. A contract sees the number.
@@ -27,14 +27,14 @@ impl Model for WorkerCount {
 }
 
 impl WorkerCount {
-    /// One worker, who needs no thread.
+    /// Returns the count of one worker, which needs no thread.
     pub fn one() -> WorkerCount
         ensures { result ≡ 1 }
     {
         WorkerCount { count: 1 }
     }
 
-    /// Returns so many workers, or None outside 1 to 16.
+    /// Returns this number of workers, or None if it isn't 1 to 16.
     pub fn new(count: usize) -> Option<WorkerCount>
         ensures { result ≡ count_of count }
     {

@@ -1,12 +1,12 @@
-//! Which pieces a worker takes.
+//! Deals pieces to workers.
 ghost use Rattle.std.specs.Prelude.{◌≡◌, ◌++◌, IfOk, OnOk};
 ghost use Rattle.gen_workers.specs.Loops.Dealing.{dealt, gets, turn_after};
 
 use gen_local::Exhibit;
 use std::alloc::{AllocError, Global};
 
-/// Puts an exhibit behind a worker's others if it is his turn, and returns how many have their turn before him then.
-/// There is one worker more than the number that is called the last.
+/// Appends an exhibit to a worker's pieces if `turn` is 0. `turn` is the number of workers whose turn comes first, and
+/// the result is that number after this exhibit. There are `last` + 1 workers.
 fn deal(
     exhibit: &Exhibit,
     last: usize,

@@ -1,7 +1,7 @@
-//! What is called at the beginning of pieces.
+//! The gate that is called at the beginning of pieces.
 
-/// Is called by each worker before each of his pieces. It may wait.
+/// A gate that each worker calls before each of its pieces. It may wait.
 pub trait JobGate {
-    /// The worker is about to begin this piece, counted from 0.
+    /// Tells the gate that the worker is about to begin this piece, counted from 0.
     fn begin(&self, piece: usize);
 }

@@ -1,12 +1,11 @@
-//! Reports of exhibits, made by several workers, each in a thread of his own.
+//! Makes reports of exhibits by several workers, each in a thread of its own.
 //!
-//! The exhibits are pieces of work, numbered from 0. Of W workers, worker w takes the pieces w, w + W, w + 2W
-//! and so on, four of them at a time, whose logs' links he hashes side by side; and he keeps a store of
-//! verifications of his own, whose answers he exchanges with the others. A gate is called as each piece is
-//! begun.
+//! The exhibits are pieces of work, numbered from 0. Of W workers, worker w takes the pieces w, w + W, w + 2W and so
+//! on, four at a time, and hashes the links of these four logs side by side. Each worker has a store of verifications
+//! of its own, and exchanges answers with the others. A gate is called before each piece.
 //!
-//! What is promised: however many workers there are, the reports are those of the exhibits, each under the
-//! header, in their order. What is not: that the workers run at once, or at all.
+//! What is promised: for any number of workers, the reports are those of the exhibits, each under the header, in their
+//! order. What is not promised: that the workers run at once, or at all.
 #![tactic(auto)]
 
 mod boards;

@@ -1,4 +1,4 @@
-//! Reports of all workers, put together again.
+//! Merges the reports of all workers.
 ghost use Rattle.std.specs.Prelude.{◌≡◌, ◌<◌, ◌++◌, List, IfOk, OnOk, length, take, drop};
 ghost use Rattle.gen_local.specs.Report.{AreReportsOf};
 ghost use Rattle.gen_log.specs.Writing.{LogBytes};
@@ -9,7 +9,7 @@ use gen_local::{Exhibit, LocalReport};
 use gen_net::Header;
 use std::alloc::{AllocError, Global};
 
-/// Takes the first report of the first hand, which is put behind the others then.
+/// Moves the first report of the first hand to the end of the reports, and this hand behind the other hands.
 fn next_report(
     header: &Header,
     rest: &[Exhibit],
@@ -30,7 +30,7 @@ fn next_report(
     Ok(())
 }
 
-/// All exhibits but the first.
+/// Returns all exhibits but the first.
 fn others_of(rest: &[Exhibit]) -> &[Exhibit]
     ensures { result.now ≡ drop 1 rest.now }
 {
@@ -40,7 +40,7 @@ fn others_of(rest: &[Exhibit]) -> &[Exhibit]
     }
 }
 
-/// Puts the reports of all hands together, in the order of the exhibits.
+/// Returns the reports of all hands, in the order of the exhibits.
 pub(crate) fn merged(
     alloc: Global,
     header: &Header,

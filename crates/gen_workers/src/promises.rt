@@ -1,10 +1,10 @@
-//! What workers promise.
+//! What the workers' threads promise.
 use crate::hands::Hand;
 use gen_local::Exhibit;
 use gen_net::Header;
 use std::thread::Promise;
 
-/// That these are the reports of the pieces that a worker takes, if he has any.
+/// The promise that a hand, if there is one, has the reports of the pieces that a worker takes.
 #[derive(Clone, Copy)]
 pub(crate) struct ReportsAs<'a> {
     pub(crate) header: &'a Header,

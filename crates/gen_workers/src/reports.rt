@@ -1,4 +1,4 @@
-//! Reports by workers.
+//! Makes reports by workers.
 ghost use Rattle.std.specs.Prelude.{◌≡◌, ◌<◌, [], IfOk, vec_capacity};
 ghost use Rattle.gen_local.specs.Report.{AreReportsOf};
 ghost use Rattle.gen_workers.specs.Loops.Hands.{AreHands};
@@ -17,7 +17,7 @@ use std::sync::Wait;
 use std::thread;
 use std::thread::Threads;
 
-/// Runs one worker more than the number that is called the last, in a scope of theirs.
+/// Runs `last` + 1 workers in a scope of threads, and returns their hands.
 fn run_workers<R: Threads + Wait + Sync, S: JobGate + Exchange + Sync>(
     rt: &R,
     alloc: Global,
@@ -40,14 +40,15 @@ fn run_workers<R: Threads + Wait + Sync, S: JobGate + Exchange + Sync>(
     )
 }
 
-/// Returns the reports of exhibits under a header, in their order, made by so many workers. The first one works in the
-/// thread that calls, each other in a thread of his own; one alone starts no thread. The gate is called for each piece
-/// by the worker who begins it, for four of his pieces in a row before he works on them.
+/// Returns the reports of exhibits under a header, in their order, made by this number of workers. The first worker
+/// runs in the calling thread, each other worker in a thread of its own; one worker alone starts no thread. The gate is
+/// called for each piece by the worker that takes it. A worker calls the gate for four of its pieces in a row before it
+/// works on them.
 ///
 /// # Errors
 ///
-/// `Memory` where it was refused to anybody; else `Thread` where a thread could not be started, for want of memory too.
-/// All threads have ended then.
+/// `Memory` if memory was refused to any worker; otherwise `Thread` if a thread could not be started, for whatever
+/// reason. All threads have ended then.
 pub fn reports_by_workers<R: Threads + Wait + Sync, G: JobGate + Sync>(
     rt: &R,
     alloc: Global,

@@ -1,4 +1,4 @@
-//! The workers' threads.
+//! Starts and joins the workers' threads.
 ghost use Rattle.std.specs.Prelude.{◌≡◌, ◌<◌, ◌≤◌, ◌+◌, [], IfOk, IfSome, vec_len, vec_capacity, true};
 ghost use Rattle.gen_local.specs.Report.{AreReportsOf};
 ghost use Rattle.gen_workers.specs.Loops.Hands.{AreOfWorker, AreHands};
@@ -16,10 +16,10 @@ use std::sync::Wait;
 use std::thread;
 use std::thread::{PromisedHandle, Scope, Threads};
 
-/// The handles of workers.
+/// The handles of workers' threads.
 pub(crate) type Handles<'s> = Vec<PromisedHandle<Option<Hand>, ReportsAs<'s>>>;
 
-/// The hand of one worker.
+/// Returns the hand of one worker, or None if memory is refused.
 fn hand_of<S: JobGate + Exchange>(
     alloc: Global,
     shop: &S,
@@ -36,7 +36,7 @@ fn hand_of<S: JobGate + Exchange>(
     }
 }
 
-/// Starts the thread of a worker. Whether it could be started.
+/// Starts the thread of a worker. Returns its handle, or None if it could not be started.
 fn start_one<'s, E, R: Threads + Wait + Sync, S: JobGate + Exchange + Sync>(
     rt: &'s R,
     alloc: Global,
@@ -68,7 +68,7 @@ fn start_one<'s, E, R: Threads + Wait + Sync, S: JobGate + Exchange + Sync>(
 }
 
 /// Starts the threads of all workers but the first, and returns whether all could be started. After one that can't be
-/// no other is.
+/// started, no other is started.
 fn start_all<'s, E, R: Threads + Wait + Sync, S: JobGate + Exchange + Sync>(
     rt: &'s R,
     alloc: Global,
@@ -94,7 +94,7 @@ fn start_all<'s, E, R: Threads + Wait + Sync, S: JobGate + Exchange + Sync>(
     true
 }
 
-/// Joins the workers' threads, and adds their hands. Whether all have one.
+/// Joins the workers' threads, and appends their hands. Returns whether all of them have one.
 fn join_all<'s, R: Threads>(
     rt: &R,
     header: &Header,
@@ -119,7 +119,7 @@ fn join_all<'s, R: Threads>(
     all
 }
 
-/// Runs all workers, the first in this thread.
+/// Runs all workers, the first in this thread, and returns their hands.
 pub(crate) fn run_within<'s, E, R: Threads + Wait + Sync, S: JobGate + Exchange + Sync>(
     rt: &'s R,
     alloc: Global,
@@ -151,7 +151,7 @@ pub(crate) fn run_within<'s, E, R: Threads + Wait + Sync, S: JobGate + Exchange 
     Ok(hands)
 }
 
-/// Joins the workers' threads, whose hands are dropped.
+/// Joins the workers' threads, and drops their hands.
 fn drop_all<'s, R: Threads>(rt: &R, handles: Handles<'s>) {
     for handle in handles {
         let _hand = handle.join(rt);

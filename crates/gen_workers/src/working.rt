@@ -1,4 +1,4 @@
-//! One worker.
+//! The work of one worker.
 ghost use Rattle.std.specs.Prelude.{◌++◌, List, IfOk, OnOk};
 ghost use Rattle.gen_chain.specs.Store.{Serves};
 ghost use Rattle.gen_local.specs.Report.{AreReportsOf};
@@ -12,10 +12,10 @@ use gen_local::{Exchange, Exhibit, LocalReport, local_reports_among};
 use gen_net::Header;
 use std::alloc::{AllocError, Global};
 
-/// How many pieces a worker takes at a time, as many as there are lanes.
+/// The number of pieces that a worker takes at a time, which is the number of lanes.
 const LANES: usize = 4;
 
-/// Begins so many pieces from this one on, one of each turn, and returns the one after them.
+/// Calls the gate for `count` of a worker's pieces, from this one on, and returns the index of its next piece.
 fn begin_each<G: JobGate>(gate: &G, piece: usize, last: usize, count: usize) -> usize {
     let mut next = piece;
     for _ in 0..count {
@@ -25,7 +25,7 @@ fn begin_each<G: JobGate>(gate: &G, piece: usize, last: usize, count: usize) -> 
     next
 }
 
-/// Puts the reports of exhibits behind the others.
+/// Appends the reports of exhibits.
 fn add_reports<S: Exchange>(
     alloc: Global,
     shop: &S,
@@ -43,8 +43,8 @@ fn add_reports<S: Exchange>(
     reports.append(&mut more)
 }
 
-/// Makes the reports of a worker's pieces, of which this is the first, through a store of his own, whose answers he
-/// exchanges with the others.
+/// Returns the reports of a worker's pieces, of which `first` is the first. The worker has a store of its own, and
+/// exchanges answers with the others.
 fn work_on<S: JobGate + Exchange>(
     alloc: Global,
     shop: &S,
@@ -68,7 +68,7 @@ fn work_on<S: JobGate + Exchange>(
     Ok(reports)
 }
 
-/// Makes the reports of all pieces that a worker takes, in their order, through a store of his own.
+/// Returns the reports of all pieces that a worker takes, in their order, with a store of its own.
 ///
 /// # Errors
 ///

@@ -1,2 +1,2 @@
--- Definitions that only loops and the functions inside them speak of.
+-- Definitions that only loops and the functions inside them use.
 pub mod Rounds

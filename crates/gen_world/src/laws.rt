@@ -1,4 +1,4 @@
-//! Laws of runs, found here too.
+//! The laws of runs of `gen_scenario` and `gen_general`, which are also found here.
 
 pub use gen_general::laws::{participants_are_generals, plans_are_frames, texts_take_leaves};
 pub use gen_scenario::laws::{

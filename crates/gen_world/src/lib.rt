@@ -1,8 +1,9 @@
 //! The runs of scenarios, driven round by round.
 //!
-//! `run_plain` runs a scenario without signatures, `decide_world` one with signatures for what all decide,
-//! and `run_world` for its frames, decisions and logs. What a scenario and its run are stands in
-//! `gen_scenario`, what one general does in `gen_general`; their public names are also found here.
+//! `run_plain` runs a scenario without signatures. `decide_world` runs one with signatures and returns the
+//! decisions of the generals without scripts; `run_world` returns its frames, decisions and logs. What a
+//! scenario and its run are stands in `gen_scenario`, and what one general does in `gen_general`; their
+//! public names are also found here.
 #![tactic(auto)]
 
 pub mod laws;

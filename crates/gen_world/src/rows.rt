@@ -7,7 +7,7 @@ use gen_script::Parcel;
 use gen_types::GeneralNo;
 use std::marker::Model;
 
-/// A frame, and which it is.
+/// A frame, with its round, its sender and its receiver.
 #[derive(Debug, Drop)]
 pub struct FrameRow {
     round: u8,
@@ -30,7 +30,7 @@ impl Model for FrameRow {
 }
 
 impl FrameRow {
-    /// Returns the frame of this round, from this general to this one, with these parcels.
+    /// Returns the frame with these parcels that one general sends another in this round.
     pub(crate) fn new(round: u8, from: GeneralNo, to: GeneralNo, parcels: Vec<Parcel>) -> FrameRow
         ensures { result ≡ record {
           round = round;
@@ -47,21 +47,21 @@ impl FrameRow {
         }
     }
 
-    /// Returns the round, from 1 on, in which it is sent.
+    /// Returns the round in which the frame is sent, from 1 on.
     pub fn round(&self) -> u8
         ensures { result ≡ self.now.round }
     {
         self.round
     }
 
-    /// Returns the general who sends it.
+    /// Returns the general that sends the frame.
     pub fn from(&self) -> GeneralNo
         ensures { result ≡ self.now.from }
     {
         self.from
     }
 
-    /// Returns the general who gets it.
+    /// Returns the general that receives the frame.
     pub fn to(&self) -> GeneralNo
         ensures { result ≡ self.now.to }
     {
@@ -116,30 +116,29 @@ impl WorldRun {
         }
     }
 
-    /// Returns the frames: round by round, those of a round by ascending senders, and those of one sender
-    /// by ascending receivers.
+    /// Returns the frames, ordered by round, then by sender, then by receiver.
     pub fn frames(&self) -> &[FrameRow]
         ensures { result.now ≡ self.now.frames }
     {
         self.frames.as_slice()
     }
 
-    /// Returns the decisions of the generals who have no scripts, in ascending order of generals.
+    /// Returns the decisions of the generals that have no scripts, in ascending order of generals.
     pub fn decisions(&self) -> &[Decision]
         ensures { result.now ≡ self.now.decisions }
     {
         self.decisions.as_slice()
     }
 
-    /// Returns the logs of all generals, in ascending order of generals; the second log of one who has two
-    /// stands behind his first.
+    /// Returns the logs of all generals, in ascending order of generals. If a general has a second log, it
+    /// stands behind its first.
     pub fn logs(&self) -> &[SealedLog]
         ensures { result.now ≡ self.now.logs }
     {
         self.logs.as_slice()
     }
 
-    /// Gives the logs away.
+    /// Returns the logs, and drops the frames and the decisions.
     pub fn into_logs(self) -> Vec<SealedLog>
         ensures { result.items ≡ self.logs }
     {

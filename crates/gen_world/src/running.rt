@@ -18,7 +18,7 @@ use gen_scenario::{Decision, PlainRun, PlainScenario};
 use gen_types::GeneralNo;
 use std::alloc::{AllocError, Global};
 
-/// What arrives at a general in a round.
+/// Returns the chains of these messages that arrive at a general in a round.
 fn arrivals(
     alloc: Global,
     messages: &[Message],
@@ -59,8 +59,8 @@ fn push_sends(
     Ok(())
 }
 
-/// One round of one lieutenant: he takes what arrives in it, and what he sends in the next one is
-/// appended to `next`.
+/// Runs one round of one lieutenant: it takes what arrives in the round, and what it sends in the next round
+/// is appended to `next`.
 fn step(
     alloc: Global,
     net: &Net,
@@ -86,7 +86,7 @@ fn step(
     Ok(())
 }
 
-/// One round of all lieutenants: what they send in the next one.
+/// Runs one round of all lieutenants, and returns what they send in the next round.
 fn one_round(
     alloc: Global,
     net: &Net,
@@ -109,7 +109,7 @@ fn one_round(
     Ok(next)
 }
 
-/// The messages of round 1: what the commander sends.
+/// Returns the messages of round 1, which are those that the commander sends.
 fn first_round(alloc: Global, net: &Net, commander: &Commander) -> Result<Vec<Message>, AllocError>
     ensures { IfOk result (λ first. (message : Sent) → Contains first.items message
         ↔ ((message.from ≡ 0) × AreNeighbours net.now 0 message.to
@@ -121,7 +121,7 @@ fn first_round(alloc: Global, net: &Net, commander: &Commander) -> Result<Vec<Me
     Ok(first)
 }
 
-/// The lieutenants before round 1, in ascending order.
+/// Makes the lieutenants as they are before round 1, in ascending order.
 fn all_lieutenants(alloc: Global, net: &Net) -> Result<Vec<Lieutenant>, AllocError>
     ensures numbers { IfOk result (λ all.
         0 ∷ numbers_of all.items ≡ range_with_len 0 net.now.generals) }
@@ -135,7 +135,8 @@ fn all_lieutenants(alloc: Global, net: &Net) -> Result<Vec<Lieutenant>, AllocErr
     Ok(all)
 }
 
-/// The decisions of all, after the last round.
+/// Returns the decisions of all generals after the last round: the commander's first, then those of these
+/// lieutenants in their order.
 fn decisions(
     alloc: Global,
     commander: &Commander,
@@ -168,19 +169,20 @@ fn decisions(
     Ok(out)
 }
 
-/// Returns the decisions of all generals in the run of the scenario, in which everybody follows the
-/// algorithm SM of the paper of 1982 and picks the least sender's of several messages of a new order. Where
-/// no two generals are more than d edges apart, each decides the commander's order.
+/// Returns the decisions of all generals in the run of the plain scenario. In it every general follows the
+/// algorithm SM of the paper of 1982, and if several messages of a new order arrive in one round, the one
+/// from the least sender is picked. If no two generals are more than d edges apart, each decides the
+/// commander's order.
 ///
 /// # Errors
 ///
-/// Only where memory was refused.
+/// `AllocError` if memory is refused.
 pub fn run_plain(alloc: Global, scenario: &PlainScenario) -> Result<PlainRun, AllocError>
     ensures outcome { IfOk result (λ run. IsOutcome scenario.now.net scenario.now.order run) }
-    // Where no two generals are more than d edges apart, all decide the commander's order.
+    // If no two generals are more than d edges apart, all decide the commander's order.
     ensures obeyed { HasDiameter scenario.now.net []
         → IfOk result (λ run. AllDecide scenario.now.order run) }
-    // They are those of the run with signatures, in which nobody has a script.
+    // The decisions are those of the run with signatures in which nobody has a script.
     ensures same { IfOk result (λ run. AreSignedDecisions scenario.now run) }
 {
     let net = scenario.net();

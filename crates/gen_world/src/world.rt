@@ -20,7 +20,7 @@ use gen_tree::close_ring;
 use gen_types::GeneralNo;
 use std::alloc::{AllocError, Global};
 
-/// Closes the rings of all.
+/// Closes the rings of all generals.
 fn close_all(mut parts: Vec<Recorder>) {
     while let Some(part) = parts.pop() {
         close_ring(part.close());
@@ -28,7 +28,7 @@ fn close_all(mut parts: Vec<Recorder>) {
     parts.destroy_empty();
 }
 
-/// Makes all generals as they are before the first round.
+/// Makes all generals in their state before the first round.
 fn make_all(alloc: Global, scenario: &Scenario, parts: &mut Vec<Recorder>) -> Result<(), AllocError>
     requires { parts.old.items ≡ [] }
     ensures { OnOk result (AllRecord scenario.now 0 parts.new.items) }
@@ -42,7 +42,7 @@ fn make_all(alloc: Global, scenario: &Scenario, parts: &mut Vec<Recorder>) -> Re
     Ok(())
 }
 
-/// A general sends another one his frame, where they are neighbours.
+/// Has one general send another its frame, if they are neighbours, and appends the frame.
 fn send_one(
     alloc: Global,
     scenario: &Scenario,
@@ -71,7 +71,8 @@ fn send_one(
     Ok(())
 }
 
-/// A general begins the round after the first ones, and sends his neighbours their frames.
+/// Has a general begin the round after the first `gone` rounds and send its neighbours their frames, which
+/// are appended.
 fn send_all_of(
     alloc: Global,
     scenario: &Scenario,
@@ -94,7 +95,8 @@ fn send_all_of(
     Ok(())
 }
 
-/// Each general begins the round after the first ones, and sends his neighbours their frames.
+/// Has each general begin the round after the first `gone` rounds and send its neighbours their frames, which
+/// are appended.
 fn send_all(
     alloc: Global,
     scenario: &Scenario,
@@ -114,7 +116,7 @@ fn send_all(
     Ok(())
 }
 
-/// The frames of a round are heard, each by its receiver.
+/// Has the receiver of each frame of the round hear it.
 fn hear_all(
     alloc: Global,
     scenario: &Scenario,
@@ -135,7 +137,7 @@ fn hear_all(
     Ok(())
 }
 
-/// Runs the round after the first ones: all frames are made, and then each is heard.
+/// Runs the round after the first `gone` rounds: all frames are made, and then each is heard.
 fn run_round(
     alloc: Global,
     scenario: &Scenario,
@@ -153,7 +155,7 @@ fn run_round(
     hear_all(alloc, scenario, gone, parts, &frames[first..])
 }
 
-/// Appends what a general decides, after the last round, where he has no script.
+/// Appends the decision of a general after the last round, if it has no script.
 fn add_decision(
     scenario: &Scenario,
     part: &Recorder,
@@ -169,7 +171,7 @@ fn add_decision(
     Ok(())
 }
 
-/// What all decide after the last round who have no scripts.
+/// Returns the decisions of all generals without scripts after the last round.
 fn decide_all(
     alloc: Global,
     scenario: &Scenario,
@@ -185,7 +187,7 @@ fn decide_all(
     Ok(decisions)
 }
 
-/// A general ends, and his logs are appended.
+/// Ends a general, and appends its logs. Its ring is closed.
 fn finish_one(alloc: Global, part: Recorder, logs: &mut Vec<SealedLog>) -> Result<(), AllocError>
     ensures { OnOk result (logs.new.items ≡ logs.old.items ++ logs_written part) }
 {
@@ -202,8 +204,8 @@ fn finish_one(alloc: Global, part: Recorder, logs: &mut Vec<SealedLog>) -> Resul
     }
 }
 
-/// The generals end one after another, and these are their logs. Where memory is refused the others are
-/// left.
+/// Ends the generals one after another, and returns their logs. If memory is refused, the generals that have
+/// not ended stay in the list.
 fn finish_all(alloc: Global, parts: &mut Vec<Recorder>) -> Result<Vec<SealedLog>, AllocError>
     ensures { IfOk result (λ logs. logs.items ≡ flat_map logs_written parts.old.items) }
 {
@@ -215,7 +217,8 @@ fn finish_all(alloc: Global, parts: &mut Vec<Recorder>) -> Result<Vec<SealedLog>
     Ok(logs)
 }
 
-/// Runs all rounds with generals who have to be closed, whatever comes.
+/// Makes the generals in this list and runs all rounds. The caller has to close those that are left in the
+/// list, also if memory is refused.
 fn run_rounds(
     alloc: Global,
     scenario: &Scenario,
@@ -236,19 +239,20 @@ fn run_rounds(
     Ok(WorldRun::new(frames, decisions, logs))
 }
 
-/// Runs a scenario: every frame of every round, the decisions of all who have no scripts, and the logs of
-/// all, two of a general whose script says so. All rings are closed, also where memory is refused.
+/// Runs a scenario, and returns every frame of every round, the decisions of all generals without scripts,
+/// and the logs of all generals. A general whose script asks for it has two logs. All rings are closed, also
+/// if memory is refused.
 ///
 /// # Errors
 ///
-/// `AllocError` where memory is refused.
+/// `AllocError` if memory is refused.
 pub fn run_world(alloc: Global, scenario: &Scenario) -> Result<WorldRun, AllocError>
     ensures frames { IfOk result (λ run. run.frames ≡ rows_of scenario.now) }
     ensures decisions { IfOk result (λ run. run.decisions ≡ decisions_of scenario.now) }
-    // Each of them verifies: the law `logs_verify`.
+    // Each of these logs verifies: the law `logs_verify`.
     ensures logs { IfOk result (λ run. run.logs ≡ logs_of_all scenario.now) }
-    // Theorem 4 of the paper of 1982: with at most m traitors, none of whom sends bytes of his own, and
-    // any two of the rest joined inside the rest by at most d edges, the rest decide alike.
+    // Theorem 4 of the paper of 1982: the rest decide alike. This needs at most m traitors, no raw line in a
+    // script, and any two generals of the rest joined inside the rest by at most d edges.
     ensures alike { IsBounded scenario.now
         → IfOk result (λ run. AreAlike scenario.now run.decisions) }
 {

@@ -1,4 +1,4 @@
-//! The decisions in the run of a scenario, of which nothing else is kept.
+//! The decisions in the run of a scenario, without its frames and logs.
 ghost use Rattle.std.specs.Prelude.{◌≡◌, ◌≢◌, ◌<◌, ◌+◌, ◌++◌, [], ◌∷◌, ℕ, length, slice_index_or, IfOk, OnOk};
 ghost use Rattle.std.specs.List.{range_with_len};
 ghost use Rattle.gen_chain.specs.Store.{Serves};
@@ -21,7 +21,7 @@ use gen_tree::close_ring;
 use gen_types::GeneralNo;
 use std::alloc::{AllocError, Global};
 
-/// Closes the rings of all.
+/// Closes the rings of all generals.
 fn close_all(mut parts: Vec<Participant>) {
     while let Some(part) = parts.pop() {
         close_ring(part.close());
@@ -29,7 +29,7 @@ fn close_all(mut parts: Vec<Participant>) {
     parts.destroy_empty();
 }
 
-/// Makes all generals as they are before the first round.
+/// Makes all generals in their state before the first round.
 fn make_all(
     alloc: Global,
     scenario: &Scenario,
@@ -47,7 +47,7 @@ fn make_all(
     Ok(())
 }
 
-/// Begins the round after the first ones, for each.
+/// Begins the round after the first `gone` rounds for each general.
 fn begin_all(
     alloc: Global,
     scenario: &Scenario,
@@ -64,8 +64,8 @@ fn begin_all(
     Ok(())
 }
 
-/// The frame from one general to another is made and heard, where they are neighbours. What one of them verified
-/// no other verifies again.
+/// Makes the frame from one general to another, and has the receiver hear it, if they are neighbours. A
+/// signature that was verified for one general is not verified again for another.
 fn hear_one(
     alloc: Global,
     scenario: &Scenario,
@@ -97,7 +97,7 @@ fn hear_one(
     Ok(())
 }
 
-/// All frames of a round to one general are made and heard.
+/// Makes all frames of a round to one general, and has it hear them.
 fn hear_all_of(
     alloc: Global,
     scenario: &Scenario,
@@ -125,7 +125,7 @@ fn hear_all_of(
     Ok(())
 }
 
-/// All frames of a round are made and heard.
+/// Makes all frames of a round, and has their receivers hear them.
 fn hear_all(
     alloc: Global,
     scenario: &Scenario,
@@ -146,7 +146,7 @@ fn hear_all(
     Ok(())
 }
 
-/// Appends what a general decides, after the last round, where he has no script.
+/// Appends the decision of a general after the last round, if it has no script.
 fn add_decision(
     scenario: &Scenario,
     part: &Participant,
@@ -162,7 +162,7 @@ fn add_decision(
     Ok(())
 }
 
-/// What all decide after the last round who have no scripts.
+/// Returns the decisions of all generals without scripts after the last round.
 fn decide_all(
     alloc: Global,
     scenario: &Scenario,
@@ -178,7 +178,8 @@ fn decide_all(
     Ok(decisions)
 }
 
-/// Runs all rounds with generals who have to be closed, whatever comes.
+/// Makes the generals in this list and runs all rounds. The caller has to close those that are left in the
+/// list, also if memory is refused.
 fn decide_rounds(
     alloc: Global,
     scenario: &Scenario,
@@ -196,17 +197,18 @@ fn decide_rounds(
     decide_all(alloc, scenario, parts.as_slice())
 }
 
-/// Returns what all decide in the run of a scenario who have no scripts, in ascending order of generals. No log
-/// is kept, and each frame is let go once it was heard. One store keeps the verifications of all, so each signature
-/// of a statement is verified once. All rings are closed, also where memory is refused.
+/// Returns the decisions of the generals without scripts in the run of a scenario, in ascending order of
+/// generals. No log is kept, and each frame is dropped once it was heard. One store keeps the verifications
+/// of all generals, so each signature of a statement is verified once. All rings are closed, also if memory
+/// is refused.
 ///
 /// # Errors
 ///
-/// `AllocError` where memory is refused.
+/// `AllocError` if memory is refused.
 pub fn decide_world(alloc: Global, scenario: &Scenario) -> Result<Vec<Decision>, AllocError>
     ensures decisions { IfOk result (λ decisions. decisions.items ≡ decisions_of scenario.now) }
-    // Theorem 4 of the paper of 1982: with at most m traitors, none of whom sends bytes of his own, and
-    // any two of the rest joined inside the rest by at most d edges, the rest decide alike.
+    // Theorem 4 of the paper of 1982: the rest decide alike. This needs at most m traitors, no raw line in a
+    // script, and any two generals of the rest joined inside the rest by at most d edges.
     ensures alike { IsBounded scenario.now
         → IfOk result (λ decisions. AreAlike scenario.now decisions.items) }
 {

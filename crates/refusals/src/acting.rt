@@ -7,10 +7,10 @@ use gen_scenario::Scenario;
 use gen_types::GeneralNo;
 use std::alloc::{AllocError, Global};
 
-/// More acts than any run has that is tried.
+/// A number of acts that no run that is tried reaches.
 const MOST_ACTS: u32 = 100_000;
 
-/// Returns a checksum of these acts and of one more: whose it is, and what became of it.
+/// Returns a checksum of these acts and of one more: the general that acted, and what became of the act.
 fn noted(acts: u64, me: GeneralNo, moved: Moved) -> u64 {
     let number = match moved {
         Moved::Put => 0,
@@ -23,7 +23,8 @@ fn noted(acts: u64, me: GeneralNo, moved: Moved) -> u64 {
         .wrapping_add(u64::from(me.get()))
 }
 
-/// Lets whoever can act until nobody can, or an act is refused.
+/// Makes act after act, each of the general that the machine names as its mover, until no general can act
+/// or an act is refused.
 fn act_on(alloc: Global, machine: &mut Machine, acts: &mut u64) -> Result<(), AllocError> {
     for _ in 0..MOST_ACTS {
         match machine.mover() {
@@ -36,7 +37,7 @@ fn act_on(alloc: Global, machine: &mut Machine, acts: &mut u64) -> Result<(), Al
     Ok(())
 }
 
-/// Returns the logs of a machine that has ended, none where somebody can still act.
+/// Returns the logs of a machine that has ended, and no logs if a general can still act.
 fn logs_of(alloc: Global, machine: Machine) -> Result<Vec<SealedLog>, AllocError> {
     if machine.capacity() == 0 || machine.mover().is_some() {
         machine.close();
@@ -45,8 +46,9 @@ fn logs_of(alloc: Global, machine: Machine) -> Result<Vec<SealedLog>, AllocError
     machine.finish(alloc)
 }
 
-/// `Machine::new`, each `Machine::act` of a run and `Machine::finish`: the acts and the logs. Where an act is refused the same
-/// act is made again on the same machine, and then the others.
+/// Calls `Machine::new`, `Machine::act` for each act of a run, and `Machine::finish`. Returns a checksum
+/// of the acts, and the logs. If an act is refused, the same act is made again on the same machine, and
+/// then the others.
 pub(crate) fn call(alloc: Global, scenario: &Scenario) -> Answer {
     let mut machine = Machine::new(alloc, scenario, 1)?;
     let mut acts = 1;

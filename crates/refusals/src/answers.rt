@@ -1,4 +1,4 @@
-//! What calls answer, and how it is said.
+//! What calls answer, and how it is written.
 use gen_audit::AuditFault;
 use gen_types::ReadError;
 use std::alloc::AllocError;
@@ -9,13 +9,13 @@ use std::io::{self, Write};
 pub(crate) enum Failure {
     /// Memory was refused.
     Memory,
-    /// A thread was.
+    /// A thread was refused.
     Thread,
-    /// Some other fault, which no refusal makes.
+    /// Another fault, which no refusal makes.
     Fault,
 }
 
-/// What a call gave, as bytes that tell it, or why it gave nothing.
+/// What a call gave, as bytes, or why it gave nothing.
 pub(crate) type Answer = Result<Vec<u8>, Failure>;
 
 impl From<AllocError> for Failure {
@@ -47,7 +47,7 @@ pub(crate) fn say<R: Print>(rt: &R, line: &str) -> io::Result<()> {
     io::writer(rt).write_all(line.as_bytes())
 }
 
-/// Returns the checksum of bytes: FNV-1a of 64 bits.
+/// Returns a checksum of these bytes: FNV-1a of 64 bits.
 fn checksum(bytes: &[u8]) -> u64 {
     let mut sum: u64 = 0xCBF2_9CE4_8422_2325;
     for byte in bytes {
@@ -56,13 +56,13 @@ fn checksum(bytes: &[u8]) -> u64 {
     sum
 }
 
-/// Says that a call gave these bytes, and tells their checksum.
+/// Writes that a call gave these bytes, and their checksum.
 fn say_given<R: Print>(rt: &R, given: &[u8]) -> io::Result<()> {
     say(rt, "gave\n")?;
     println!(rt; "{}", checksum(given))
 }
 
-/// Says what a call answered, and tells what it gave. Returns whether it was refused.
+/// Writes what a call answered, with the checksum of what it gave. Returns whether the call gave nothing.
 pub(crate) fn say_answer<R: Print>(rt: &R, answer: &Answer) -> io::Result<bool> {
     let line = match answer {
         Ok(given) => {

@@ -1,4 +1,4 @@
-//! Calls that are made of a bundle.
+//! Calls that are made with a bundle.
 use crate::answers::{Answer, Failure};
 use crate::scenarios::Open;
 use crate::{campaigns, chains, logs, refuting, stores};
@@ -25,7 +25,7 @@ pub(crate) fn call<R: Threads + Wait + Sync>(
     }
 }
 
-/// Makes the call of this name, which starts no thread.
+/// Makes the call of this name, one of those that start no thread.
 fn call_alone(alloc: Global, name: &str, bundle: &Bundle) -> Answer {
     match name {
         "read_chain" => chains::call(alloc, bundle),
@@ -35,13 +35,13 @@ fn call_alone(alloc: Global, name: &str, bundle: &Bundle) -> Answer {
     }
 }
 
-/// `read_bundle`, and `write_bundle` of what was read.
+/// Calls `read_bundle`, and `write_bundle` with what was read. Returns the bytes.
 fn read_again(alloc: Global, input: &[u8]) -> Answer {
     let bundle = read_bundle(alloc, input)?;
     Ok(write_bundle(alloc, &bundle)?)
 }
 
-/// `audit`, by two workers: the text of the verdict.
+/// Calls `audit` with two workers. Returns the text of the verdict.
 fn verdict<R: Threads + Wait + Sync>(rt: &R, alloc: Global, bundle: &Bundle) -> Answer {
     let two = WorkerCount::new(2).unwrap_or(WorkerCount::one());
     let judgement = audit(rt, alloc, bundle, two, &Open)?;

@@ -1,4 +1,4 @@
-//! Entries and chains of a log that are written and read once more.
+//! Entries and chains of a log that are written and read again.
 use crate::answers::{Answer, Failure};
 use crate::logs::last_log;
 use gen_audit::Bundle;
@@ -10,14 +10,14 @@ use gen_net::Header;
 use gen_types::GeneralNo;
 use std::alloc::{AllocError, Global};
 
-/// Appends the bytes of a chain that was written and read.
+/// Writes a chain, reads it again, and appends the bytes of what was read.
 fn put_chain(alloc: Global, given: &mut Vec<u8>, chain: &SignedChain) -> Result<(), Failure> {
     let bytes = write_chain(alloc, chain)?;
     let (read, _length) = read_chain(alloc, chain.height(), bytes.as_slice())?;
     Ok(read.append_to(given)?)
 }
 
-/// Appends what the last signer of a chain has signed.
+/// Appends the text that the last signer of a chain has signed.
 fn put_statement(
     alloc: Global,
     given: &mut Vec<u8>,
@@ -32,7 +32,8 @@ fn put_statement(
     given.extend_from_slice(text.as_slice())
 }
 
-/// Appends of a RECV its chain and what its last signer has signed, and then the bytes of the entry.
+/// Appends the bytes of an entry. Before them, if it is a RECV, it appends its chain and the text that the
+/// chain's last signer has signed.
 fn put_entry(
     alloc: Global,
     given: &mut Vec<u8>,
@@ -47,7 +48,8 @@ fn put_entry(
     Ok(given.extend_from_slice(bytes.as_slice())?)
 }
 
-/// Returns the text of a head of so many entries as a log has.
+/// Returns the text of a head with as many entries as a log has. Its general and its link are not those of
+/// the log.
 fn head_of(alloc: Global, header: &Header, log: &Log) -> Result<Vec<u8>, AllocError> {
     let head = HeadText {
         general: GeneralNo::commander(),
@@ -57,7 +59,7 @@ fn head_of(alloc: Global, header: &Header, log: &Log) -> Result<Vec<u8>, AllocEr
     head_text(alloc, header, &head)
 }
 
-/// Returns the text of a log's head, and what is put of its entries.
+/// Returns the text of a head, and behind it what `put_entry` appends for each entry of the log.
 fn texts_of(alloc: Global, header: &Header, log: &Log) -> Answer {
     let mut given = head_of(alloc, header, log)?;
     for entry in log.entries() {
@@ -66,8 +68,8 @@ fn texts_of(alloc: Global, header: &Header, log: &Log) -> Answer {
     Ok(given)
 }
 
-/// `read_log`, `head_text`, `entry_bytes` of each entry of the last exhibit, and of each RECV `write_chain`, `read_chain`,
-/// `SignedChain::append_to` and `statement_text`: the bytes.
+/// Calls `read_log` for the last exhibit, `head_text`, `entry_bytes` for each entry, and for each RECV
+/// `write_chain`, `read_chain`, `SignedChain::append_to` and `statement_text`. Returns the bytes.
 pub(crate) fn call(alloc: Global, bundle: &Bundle) -> Answer {
     let log = last_log(alloc, bundle)?;
     texts_of(alloc, bundle.header(), &log)

@@ -9,7 +9,7 @@ use gen_world::run_world;
 use std::alloc::{AllocError, Global};
 use std::sync::Wait;
 
-/// Files a log. Returns the slip where memory was refused; after another fault the slip is given up.
+/// Files a log. Returns the slip if memory was refused. After another fault the slip is given up.
 fn file_once<R: Wait>(rt: &R, desk: &Desk, slip: Slip, log: &SealedLog) -> Option<Slip> {
     match desk.file_shared(rt, slip, log) {
         Ok(_receipt) => None,
@@ -21,8 +21,8 @@ fn file_once<R: Wait>(rt: &R, desk: &Desk, slip: Slip, log: &SealedLog) -> Optio
     }
 }
 
-/// Files the log that stands at the place of a slip, and by the same slip again where it was refused. Where it is refused
-/// again, or there is none, the slip is given up.
+/// Files the log at the place of a slip. If that is refused, it is filed again by the same slip. If it is
+/// refused again, or there is no such log, the slip is given up.
 fn file<R: Wait>(rt: &R, desk: &Desk, slip: Slip, logs: &[SealedLog]) {
     let Some(log) = logs.get(slip.place()) else {
         let _place = slip.give_up();
@@ -35,7 +35,7 @@ fn file<R: Wait>(rt: &R, desk: &Desk, slip: Slip, logs: &[SealedLog]) {
     }
 }
 
-/// Files a log by each slip.
+/// Files one log for each slip: the one at the place of the slip.
 fn file_all<R: Wait>(rt: &R, desk: &Desk, slips: Vec<Slip>, logs: &[SealedLog]) {
     let mut slips = slips;
     while let Some(slip) = slips.pop() {
@@ -44,7 +44,7 @@ fn file_all<R: Wait>(rt: &R, desk: &Desk, slips: Vec<Slip>, logs: &[SealedLog]) 
     slips.destroy_empty();
 }
 
-/// Returns a desk of two places, at which the first two logs of a run are filed.
+/// Returns a desk of two places, at which the first two logs of a scenario's run are filed.
 fn filled<R: Wait>(rt: &R, alloc: Global, scenario: &Scenario) -> Result<Desk, AllocError> {
     let run = run_world(alloc, scenario)?;
     let (desk, slips) = Desk::new(alloc, 2)?;
@@ -52,7 +52,7 @@ fn filled<R: Wait>(rt: &R, alloc: Global, scenario: &Scenario) -> Result<Desk, A
     Ok(desk)
 }
 
-/// Claims what is filed, again where that was refused.
+/// Claims what is filed. If that is refused, it is claimed again.
 fn claimed<R: Wait>(rt: &R, desk: &Desk) -> Result<Option<Claim>, AllocError> {
     match desk.claim(rt) {
         Ok(claim) => Ok(claim),
@@ -60,14 +60,14 @@ fn claimed<R: Wait>(rt: &R, desk: &Desk) -> Result<Option<Claim>, AllocError> {
     }
 }
 
-/// Reports on what is claimed, by the same claim and report again where that was refused.
+/// Reports on what is claimed. If memory is refused, the same report is handed in again by the same claim.
 fn report<R: Wait>(rt: &R, desk: &Desk, claim: Claim, made: LocalReport) {
     if let Err((claim, made, DeskFault::Memory)) = desk.report(rt, claim, made) {
         let _back = desk.report(rt, claim, made);
     }
 }
 
-/// Claims what is filed, and reports on it.
+/// Claims what is filed, if there is anything, and reports on it.
 fn work<R: Wait>(rt: &R, alloc: Global, header: &Header, desk: &Desk) -> Result<(), AllocError> {
     if let Some(claim) = claimed(rt, desk)? {
         let exhibit = claim.exhibit();
@@ -97,8 +97,8 @@ fn rows_of(alloc: Global, desk: Desk) -> Answer {
     Ok(given)
 }
 
-/// `Desk::new`, `Desk::file_shared`, `Desk::claim`, `local_report` and `Desk::report`: what stands at the desk's places. What
-/// the desk refuses is asked of the same desk again.
+/// Calls `Desk::new`, `Desk::file_shared`, `Desk::claim`, `local_report` and `Desk::report`. Returns what
+/// stands at the desk's places. What the desk refuses is asked of the same desk again.
 pub(crate) fn call<R: Wait>(rt: &R, alloc: Global, scenario: &Scenario) -> Answer {
     let desk = filled(rt, alloc, scenario)?;
     work(rt, alloc, scenario.header(), &desk)?;

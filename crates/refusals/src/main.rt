@@ -1,12 +1,14 @@
-//! One call of the libraries, or a row of them, made where memory or threads may be refused.
+//! One call of the libraries, or a sequence of calls, made while memory or threads may be refused.
 //!
-//! Its word is the name of the call, and standard input has what the call is made of: the text of a scenario with a seed, the
-//! bytes of a bundle, or those of a campaign. It writes a line in front of the call and one with what the call answered, so
-//! that whoever refuses can tell what is asked for in between. Where the call was refused it is made again, and the answer to
-//! that is the next line. The last line is a checksum of what was given, which is the same whatever was refused before.
+//! The last argument is the name of the call. Standard input has what the call is made with: the text of a
+//! scenario with a seed, the bytes of a bundle, or those of a campaign. The program writes a line before
+//! the call, and after it a line with what the call answered. So whatever refuses memory or threads can
+//! tell what is asked for in between. If the call was refused, it is made again, and the answer to that is
+//! the next line. The last line is a checksum of what was given, which is the same whatever was refused
+//! before.
 //!
-//! A call that changes what it is called on is a step of a row. Where it is refused it is made again within the row, on the
-//! same value. Where another step is refused the row is.
+//! A call that changes its receiver is a step of a sequence. If it is refused, it is made again within the
+//! sequence, on the same value. If another step is refused, the whole sequence is refused.
 #![tactic(auto)]
 
 mod acting;
@@ -31,18 +33,18 @@ use std::rt::Env;
 use std::sync::Wait;
 use std::thread::Threads;
 
-/// What calls are made of.
+/// What calls are made with.
 #[derive(Drop)]
 enum Subject {
     /// A scenario with signatures.
     Scene(Scenario),
     /// A bundle.
     Shown(Bundle),
-    /// Bytes that are neither's.
+    /// Bytes of neither kind, as those of a campaign.
     Other,
 }
 
-/// Returns what standard input is.
+/// Returns what the bytes of standard input are.
 fn subject_of(alloc: Global, input: &[u8]) -> Subject {
     if let Ok(bundle) = read_bundle(alloc, input) {
         return Subject::Shown(bundle);
@@ -71,7 +73,7 @@ fn make<R: Threads + Wait + Sync>(
     }
 }
 
-/// Makes a call, and says what it answered. Returns whether it was refused.
+/// Makes a call, and writes what it answered. Returns whether it gave nothing.
 fn try_once<R: Print + Threads + Wait + Sync>(
     rt: &R,
     alloc: Global,
@@ -83,7 +85,7 @@ fn try_once<R: Print + Threads + Wait + Sync>(
     say_answer(rt, &answer)
 }
 
-/// Makes a call, and makes it again where it was refused.
+/// Makes a call, and makes it again if it gave nothing.
 fn try_call<R: Print + Threads + Wait + Sync>(
     rt: &R,
     alloc: Global,
@@ -98,7 +100,7 @@ fn try_call<R: Print + Threads + Wait + Sync>(
     Ok(())
 }
 
-/// Returns the last word that the process was given, or none.
+/// Returns the last argument that the process was given, and the empty string if there is none.
 fn last_word<R: Env + AllocGlobal>(rt: &R) -> io::Result<String> {
     let mut last = String::new(rt.alloc());
     for word in env::args(rt)? {

@@ -13,7 +13,7 @@ use std::alloc::Global;
 use std::sync::Wait;
 use std::thread::Threads;
 
-/// Returns the first log that a bundle shows of a general.
+/// Returns the first log that a bundle shows for a general.
 fn log_of(alloc: Global, bundle: &Bundle, general: GeneralNo) -> Result<Log, Failure>
     ensures { IfOk result (λ log. IsLog bundle.now.header log) }
 {
@@ -25,7 +25,8 @@ fn log_of(alloc: Global, bundle: &Bundle, general: GeneralNo) -> Result<Log, Fai
     Err(Failure::Fault)
 }
 
-/// Refutes evidence by the log of the accused.
+/// Refutes evidence by the log of the accused. It is a fault if the evidence does not hold, or if the log
+/// is not the accused general's own log.
 fn answer_to(
     alloc: Global,
     header: &Header,
@@ -43,7 +44,7 @@ fn answer_to(
     Ok(refute(alloc, header, evidence, own)?)
 }
 
-/// Returns the signature of the text that is said to be forged.
+/// Returns the signature of the text that the refutation says is forged.
 fn signature_in(alloc: Global, refutation: &Refutation) -> Answer {
     let Refutation::Forged(text) = refutation else {
         return Err(Failure::Fault);
@@ -53,15 +54,16 @@ fn signature_in(alloc: Global, refutation: &Refutation) -> Answer {
     Ok(given)
 }
 
-/// Refutes evidence by the log that the bundle shows of the accused.
+/// Refutes evidence by the log that the bundle shows for the accused. Returns the signature of the text
+/// that is said to be forged.
 fn refuted(alloc: Global, bundle: &Bundle, evidence: &Evidence) -> Answer {
     let own = log_of(alloc, bundle, evidence.accused)?;
     let refutation = answer_to(alloc, bundle.header(), evidence, &own)?;
     signature_in(alloc, &refutation)
 }
 
-/// `audit` by one worker, and `check_evidence` and `refute` of the evidence against the first general whom it convicts: the
-/// signature of the text that is said to be forged.
+/// Calls `audit` with one worker, and then `check_evidence` and `refute` for the evidence against the
+/// first general that it convicts. Returns the signature of the text that is said to be forged.
 pub(crate) fn call<R: Threads + Wait + Sync>(rt: &R, alloc: Global, bundle: &Bundle) -> Answer {
     let judgement = audit(rt, alloc, bundle, WorkerCount::one(), &Open)?;
     match judgement.convictions.first() {

@@ -1,4 +1,4 @@
-//! Calls that are made of a scenario.
+//! Calls that are made with a scenario.
 ghost use Rattle.std.specs.Prelude.{IfOk};
 ghost use Rattle.gen_audit.specs.BundleParts.{AreListedWalks};
 
@@ -44,7 +44,7 @@ pub(crate) fn call<R: Threads + Wait + Sync>(
     }
 }
 
-/// Returns bytes, and behind them those of logs.
+/// Returns these bytes, and behind them the bytes of the logs.
 pub(crate) fn with_logs(alloc: Global, front: &[u8], logs: &[SealedLog]) -> Answer {
     let mut given = Vec::from_slice(alloc, front)?;
     for log in logs {
@@ -53,14 +53,14 @@ pub(crate) fn with_logs(alloc: Global, front: &[u8], logs: &[SealedLog]) -> Answ
     Ok(given)
 }
 
-/// `run_world` and `print_decisions`: the decisions and the logs.
+/// Calls `run_world` and `print_decisions`. Returns the decisions and the logs.
 fn world(alloc: Global, scenario: &Scenario) -> Answer {
     let run = run_world(alloc, scenario)?;
     let decisions = print_decisions(alloc, run.decisions())?;
     with_logs(alloc, decisions.as_slice(), run.logs())
 }
 
-/// Returns the walks between those without scripts.
+/// Returns the walks between the generals without scripts.
 fn walks_of(alloc: Global, scenario: &Scenario) -> Result<Walks, WalkFault>
     ensures { IfOk result (λ walks. AreListedWalks scenario.now.net.generals walks) }
 {
@@ -71,7 +71,7 @@ fn walks_of(alloc: Global, scenario: &Scenario) -> Result<Walks, WalkFault>
     }
 }
 
-/// Runs a scenario while two workers audit its logs; those who have scripts are held for faulty.
+/// Runs a scenario while two workers audit its logs. The generals with scripts are held for faulty.
 fn audited_run<R: Threads + Wait + Sync>(
     rt: &R,
     alloc: Global,
@@ -86,7 +86,7 @@ fn audited_run<R: Threads + Wait + Sync>(
     run_and_audit(rt, alloc, scenario, 1, &faulty, walks, two, &Open, &Open)
 }
 
-/// `run_and_audit`: the text of the verdict.
+/// Calls `run_and_audit`. Returns the text of the verdict.
 fn judgement<R: Threads + Wait + Sync>(rt: &R, alloc: Global, scenario: &Scenario) -> Answer {
     let Ok(walks) = walks_of(alloc, scenario) else {
         return Err(Failure::Memory);

@@ -1,4 +1,4 @@
-//! A store that keeps what was verified, over a call that was refused.
+//! A store that keeps what was verified, and is used again after a call that was refused.
 ghost use Rattle.std.specs.Prelude.{IfOk};
 ghost use Rattle.gen_chain.specs.Store.{Serves};
 ghost use Rattle.gen_audit.specs.Telling.{AreReports};
@@ -10,7 +10,7 @@ use gen_local::{LocalReport, local_reports};
 use gen_report::print_verdict;
 use std::alloc::{AllocError, Global};
 
-/// Returns the reports of the exhibits by a store.
+/// Returns the reports on the exhibits, which are made with this store.
 fn reports_by(
     alloc: Global,
     bundle: &Bundle,
@@ -23,7 +23,7 @@ fn reports_by(
     local_reports(alloc, bundle.header(), bundle.exhibits(), store)
 }
 
-/// Returns the reports of the exhibits, which are made again by the same store where they were refused.
+/// Returns the reports on the exhibits. If memory is refused, they are made again with the same store.
 fn reports_again(alloc: Global, bundle: &Bundle) -> Result<Vec<LocalReport>, AllocError>
     ensures { IfOk result (λ reports. AreReports bundle.now reports.items) }
 {
@@ -34,8 +34,8 @@ fn reports_again(alloc: Global, bundle: &Bundle) -> Result<Vec<LocalReport>, All
     }
 }
 
-/// `local_reports`, `judge_reports` and `print_verdict`: the text of the verdict. Where the reports are refused they are made
-/// again by the same store.
+/// Calls `local_reports`, `judge_reports` and `print_verdict`. Returns the text of the verdict. If the
+/// reports are refused, they are made again with the same store.
 pub(crate) fn call(alloc: Global, bundle: &Bundle) -> Answer {
     let reports = reports_again(alloc, bundle)?;
     let judgement = judge_reports(alloc, bundle, reports.as_slice())?;

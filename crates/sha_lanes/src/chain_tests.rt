@@ -1,4 +1,5 @@
-//! Chains beside those of `sha2`, one message after another, and a last link that Python's hashlib computed.
+//! Chains that are compared with those of `sha2`, hashed one message after another, and with a last link
+//! that Python's hashlib computed.
 ghost use Rattle.std.specs.Prelude.{◌≤◌, length};
 
 use super::*;
@@ -6,13 +7,13 @@ use sha2::{Digest, Sha256};
 
 const LINK: [u8; 32] = [9; 32];
 
-// Behind pieces of 22, 0, 100 and then 78 bytes, with the prefix 2.
+// The last link behind pieces of 22, 0, 100 and then 78 bytes, with the prefix 2.
 const LAST: [u8; 32] = [
     0xd7, 0x30, 0xb1, 0x8e, 0x98, 0x90, 0x2b, 0xcf, 0xdb, 0xae, 0xa6, 0xdf, 0x58, 0xd3, 0xb8, 0x98,
     0xb9, 0xb0, 0x31, 0x36, 0xa3, 0xfa, 0xf9, 0x43, 0x7e, 0xc5, 0xbc, 0x33, 0xec, 0x30, 0x4c, 0xd2,
 ];
 
-// Bytes of which no 32 in a row come again within 256.
+// Returns bytes of which no 32 in a row come again within 256.
 fn some_bytes() -> [u8; 200] {
     let mut bytes = [0; 200];
     let mut next = 3u8;
@@ -23,7 +24,7 @@ fn some_bytes() -> [u8; 200] {
     bytes
 }
 
-// The last link of a chain, by one message after another.
+// Returns the last link of a chain, which is hashed one message after another by `sha2`.
 fn one_after_another(prefix: u8, chain: &Chain) -> [u8; 32] {
     let mut link = chain.link;
     let mut rest = chain.bytes;

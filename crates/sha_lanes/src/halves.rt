@@ -1,4 +1,4 @@
-//! Words of four lanes, and the bytes that they stand for.
+//! Words in four lanes, and the bytes that they stand for.
 ghost use Rattle.std.specs.Prelude.{◌≡◌, ℕ, ◌<◌, ◌*◌, [], length, take, drop, slice_index, slice_index_or};
 ghost use Rattle.std.specs.Int.{w32, to_be_bytes};
 ghost use Rattle.sha2.specs.Sha256.{digest_bytes};
@@ -6,7 +6,7 @@ ghost use Rattle.sha_lanes.specs.Lanes.{lane_bytes};
 
 use std::simd::u32x4;
 
-// Word `i` of 32 bytes.
+// Returns word `i` of 32 bytes, high byte first.
 #[inline(always)]
 fn word(half: &[u8; 32], i: usize) -> u32
     requires { i < 8 }
@@ -17,7 +17,7 @@ fn word(half: &[u8; 32], i: usize) -> u32
     u32::from_be_bytes([half[at], half[at + 1], half[at + 2], half[at + 3]])
 }
 
-// Word `i` of 32 bytes in each lane.
+// Returns word `i` of the 32 bytes of each lane.
 #[inline(always)]
 fn words(halves: &[[u8; 32]; 4], i: usize) -> u32x4
     requires { i < 8 }
@@ -33,7 +33,7 @@ fn words(halves: &[[u8; 32]; 4], i: usize) -> u32x4
     ])
 }
 
-/// Returns 32 bytes in each lane, as words of four bytes each, high byte first.
+/// Returns the 32 bytes of each lane as eight words of four bytes, high byte first.
 pub fn to_words(halves: &[[u8; 32]; 4]) -> [u32x4; 8]
     ensures { (j : ℕ) → j < 4 → lane_bytes j result ≡ slice_index_or halves.now j [] }
 {
@@ -70,7 +70,8 @@ pub fn to_bytes(words: &[u32x4; 8]) -> [[u8; 32]; 4]
     ]
 }
 
-// The bytes of eight words. As a call of its own it is compiled to vectors, and inline it isn't.
+// Returns the bytes of eight words, high byte first. As a call of its own it is compiled to vector
+// instructions, and inlined it isn't.
 #[inline(never)]
 fn bytes(words: &[u32; 8]) -> [u8; 32]
     ensures { result ≡ digest_bytes words.now 8 }

@@ -1,4 +1,4 @@
-//! Four messages that are hashed side by side, 64 bytes a turn.
+//! Four messages that are hashed side by side, 64 bytes of each at a time.
 ghost use Rattle.std.specs.Prelude.{◌≡◌, ℕ, ◌<◌, ◌%◌, ◌^◌, List, [], ◌∷◌, ◌++◌, replicate, slice_index, slice_index_or};
 ghost use Rattle.std.specs.Int.{w64, to_be_bytes};
 ghost use Rattle.sha2.specs.Sha256.{compress, sha256};
@@ -11,10 +11,10 @@ use crate::rounds::{compress, initial_states};
 use crate::scheduling::Schedules;
 use std::simd::u32x4;
 
-/// The bytes of two halves of a block.
+/// The number of bytes of the two halves of a block.
 const BLOCK_BYTES: u64 = 64;
 
-/// What pads a message that ends one byte into a block, as far as the half that has its length.
+/// The first half of what pads a message that ends one byte into a block. The second half has the length.
 #[rattlefmt::skip]
 const PADDING_START: [u8; 32] = [
     0x80, 0, 0, 0, 0, 0, 0, 0, 0, 0, 0, 0, 0, 0, 0, 0,
@@ -24,7 +24,7 @@ const PADDING_START: [u8; 32] = [
 /// Hashers of four messages, each one byte longer than whole blocks of 64 bytes.
 #[derive(Drop)]
 pub struct FourHashers {
-    // The hash values.
+    // The hash values after all whole blocks, one word in each vector.
     a: u32x4,
     b: u32x4,
     c: u32x4,
@@ -40,7 +40,7 @@ pub struct FourHashers {
 }
 
 impl FourHashers {
-    /// Returns the hashers of four messages of the one byte `byte`.
+    /// Returns the hashers of four messages, each of which is the one byte `byte`.
     pub fn new(byte: u8) -> FourHashers
         ensures { (j : ℕ) → j < 4 → HoldsLane j result (byte ∷ []) }
     {
@@ -59,8 +59,8 @@ impl FourHashers {
         }
     }
 
-    /// Returns the hashers of four messages that have this hash value, the low byte of this word after it, and
-    /// this length.
+    /// Returns the hashers of four messages that all have this hash value, this word whose low byte is
+    /// carried, and this length.
     pub(crate) fn alike(hash: &[u32; 8], carry: u32, total: u64) -> FourHashers
         ensures state { (j : ℕ) → j < 4 → state_of j result ≡ hash.now }
         ensures carry { (j : ℕ) → j < 4 → slice_index result.carry j ≡ carry }
@@ -81,7 +81,7 @@ impl FourHashers {
         }
     }
 
-    // The hash values, once 64 bytes more are taken in.
+    // Returns the hash values after 64 bytes more of each message.
     #[inline(always)]
     fn hashed(
         &self,
@@ -100,7 +100,7 @@ impl FourHashers {
         compress(start, schedules)
     }
 
-    /// Adds 64 bytes to each message, in two halves of eight words each.
+    /// Appends 64 bytes to each message, given as two halves of eight words each.
     pub fn update(&mut self, schedules: &mut Schedules, first: &[u32x4; 8], second: &[u32x4; 8])
         ensures { (j : ℕ) → j < 4 → (m : List ℕ) → HoldsLane j self.old m → HoldsLane j self.new
             (m ++ (lane_bytes j first.now ++ lane_bytes j second.now)) }
@@ -130,8 +130,8 @@ impl FourHashers {
     }
 }
 
-// The half of a block that ends, but for a byte that is carried on, with the length of the message in
-// bits.
+// Returns the half of a block whose last bytes are the message's length in bits and one byte more, which
+// is carried on and is in no block.
 fn length_half(bits: u64) -> [u8; 32]
     ensures { result ≡ replicate 23 0 ++ to_be_bytes w64 bits ++ 0 ∷ [] }
 {

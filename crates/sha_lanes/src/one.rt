@@ -1,6 +1,6 @@
-//! One message that is hashed 256 bytes a turn.
+//! One message that is hashed 256 bytes at a time.
 //!
-//! What the rounds over a block add, its schedule, depends on the block alone. So the schedules of four
+//! The rounds over a block add its schedule, which depends on the block alone. So the schedules of four
 //! blocks of a message are made side by side, and only the rounds go over one block after another.
 ghost use Rattle.std.specs.Prelude.{◌≡◌, ℕ, ◌%◌, ◌^◌, List, [], ◌∷◌, ◌++◌, slice_index, slice_index_or};
 ghost use Rattle.sha2.specs.Sha256.{sha256};
@@ -14,13 +14,13 @@ use crate::rounds::INITIAL_HASH;
 use crate::scheduling::Schedules;
 use std::simd::u32x4;
 
-/// The bytes of two halves of four blocks.
+/// The number of bytes of the two halves of four blocks.
 const TURN_BYTES: u64 = 256;
 
-/// A hasher of one message, one byte longer than whole blocks of 64 bytes.
+/// A hasher of one message, which is one byte longer than whole blocks of 64 bytes.
 #[derive(Drop)]
 pub struct OneHasher {
-    // The hash value.
+    // The hash value after all whole blocks.
     hash: [u32; 8],
     // A word whose low byte is the last byte of the message, which is in no whole block yet.
     carry: u32,
@@ -29,7 +29,7 @@ pub struct OneHasher {
 }
 
 impl OneHasher {
-    /// Returns the hasher of a message of the one byte `byte`.
+    /// Returns the hasher of a message that is the one byte `byte`.
     pub fn new(byte: u8) -> OneHasher
         ensures { HoldsOne result (byte ∷ []) }
     {
@@ -40,7 +40,8 @@ impl OneHasher {
         }
     }
 
-    /// Adds 256 bytes to the message: the two halves of 64 bytes in lane 0, then those in lanes 1, 2 and 3.
+    /// Appends 256 bytes to the message: the two halves of 64 bytes in lane 0, and then those in lanes 1,
+    /// 2 and 3.
     pub fn update(&mut self, first: &[u32x4; 8], second: &[u32x4; 8])
         ensures { (m : List ℕ) → HoldsOne self.old m
             → HoldsOne self.new (m ++ four_blocks first.now second.now) }

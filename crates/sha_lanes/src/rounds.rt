@@ -7,21 +7,22 @@ use crate::scheduling::Schedules;
 use crate::words::{add, big_sigma0, big_sigma1, ch, maj};
 use std::simd::u32x4;
 
-/// The words of a block.
+/// The number of words of a block.
 pub const BLOCK_WORDS: usize = 16;
 
-/// The rounds over a block, each of which has a word of its own.
+/// The number of rounds over a block, each of which has a word of its own.
 pub const ROUNDS: usize = 64;
 
-// A row of constants for each round.
+// A row of four equal constants for each round.
 struct RoundConstants {
-    // It says nothing: with it the rows are aligned to 16 bytes, so that none lies on two lines of a cache.
+    // The value means nothing. The field aligns the rows to 16 bytes, so that no row lies on two lines of
+    // a cache.
     alignment: u128,
     rows: [[u32; 4]; ROUNDS],
 }
 
-// K: the first 32 bits of the fractional parts of the cube roots of the first 64 primes (4.2.2), each once
-// for each lane, so that a round adds it as it is read.
+// K: the first 32 bits of the fractional parts of the cube roots of the first 64 primes (FIPS 180-4,
+// section 4.2.2). Each stands once for each lane, so that a round adds the row as it is read.
 #[rattlefmt::skip]
 static ROUND_CONSTANTS: RoundConstants = RoundConstants { alignment: 0, rows: [
     [0x428a_2f98; 4], [0x7137_4491; 4], [0xb5c0_fbcf; 4], [0xe9b5_dba5; 4],
@@ -42,7 +43,8 @@ static ROUND_CONSTANTS: RoundConstants = RoundConstants { alignment: 0, rows: [
     [0x90be_fffa; 4], [0xa450_6ceb; 4], [0xbef9_a3f7; 4], [0xc671_78f2; 4],
 ]};
 
-/// H: the first 32 bits of the fractional parts of the square roots of the first eight primes (5.3.3).
+/// H: the first 32 bits of the fractional parts of the square roots of the first eight primes (FIPS 180-4,
+/// section 5.3.3).
 pub const INITIAL_HASH: [u32; 8] = [
     0x6a09_e667,
     0xbb67_ae85,
@@ -54,7 +56,7 @@ pub const INITIAL_HASH: [u32; 8] = [
     0x5be0_cd19,
 ];
 
-/// Returns the hash value before the first block, in each lane.
+/// Returns the initial hash value, in each lane.
 #[inline(always)]
 pub fn initial_states() -> [u32x4; 8]
     ensures { (j : ℕ) → j < 4 → state j result ≡ initial_hash_256 }
@@ -81,7 +83,7 @@ pub fn constant_at(t: usize) -> u32x4
     u32x4::from_array(ROUND_CONSTANTS.rows[t])
 }
 
-// One round on the working variables.
+// Returns the working variables of each lane after one round (FIPS 180-4, section 6.2.2, step 3).
 #[inline(always)]
 fn round(v: [u32x4; 8], constant: u32x4, word: u32x4) -> [u32x4; 8]
     ensures { (j : ℕ) → j < 4 → state j result
@@ -94,7 +96,7 @@ fn round(v: [u32x4; 8], constant: u32x4, word: u32x4) -> [u32x4; 8]
     [add(temp1, temp2), a, b, c, add(d, temp1), e, f, g]
 }
 
-// Round `t`, with its constant and its word.
+// Returns the working variables after round `t`, with its constant and its word.
 #[inline(always)]
 fn round_at(schedules: &Schedules, v: [u32x4; 8], t: usize) -> [u32x4; 8]
     requires { t < ROUNDS }
@@ -104,7 +106,8 @@ fn round_at(schedules: &Schedules, v: [u32x4; 8], t: usize) -> [u32x4; 8]
     round(v, constant_at(t), schedules.word(t))
 }
 
-// Eight rounds from `t` on, after which each working variable is in its place again.
+// Returns the working variables after the eight rounds from `t` on, after which each variable is in its
+// place again.
 #[inline(always)]
 fn eight_rounds(schedules: &Schedules, v: [u32x4; 8], t: usize) -> [u32x4; 8]
     requires { t + 8 ≤ ROUNDS }
@@ -121,9 +124,10 @@ fn eight_rounds(schedules: &Schedules, v: [u32x4; 8], t: usize) -> [u32x4; 8]
     round_at(schedules, v, t + 7)
 }
 
-/// Returns the hash values after one block more of each message, with whose words the schedules are begun.
+/// Returns the hash values after one block more of each message. The schedules must have been begun with
+/// the words of these blocks.
 ///
-/// It is one copy for all its callers, so that it stays in the processor's caches.
+/// It is not inlined: one copy serves all callers, so that it stays in the processor's caches.
 #[inline(never)]
 pub fn compress(start: [u32x4; 8], schedules: &mut Schedules) -> [u32x4; 8]
     ensures { (j : ℕ) → j < 4 → (b : List ℕ) → HasWords j (take 16 schedules.old) b

@@ -8,19 +8,21 @@ use crate::words::{add, small_sigma0, small_sigma1};
 use std::marker::Model;
 use std::simd::u32x4;
 
-// The words of one round.
+// The words of one round, one in each lane.
 #[derive(Clone, Copy)]
 struct Row {
     lanes: u32x4,
 }
 
-/// Room for the message schedules of four blocks side by side: a word of each for each round.
+/// Room for the message schedules of four blocks side by side: for each round one word of each block.
 ///
-/// What stands in it between two calls has no meaning, since each call writes a word before it reads it. It is
-/// zeroed as it is made: whoever hashes many messages makes it once and lends it to each call.
+/// What the room has between two calls has no meaning, since each call writes a word before it reads the
+/// word. The room is filled with zeros when it is made. So a caller that hashes many messages makes it
+/// once and lends it to each call.
 #[derive(Drop)]
 pub struct Schedules {
-    // It says nothing: with it the rows are aligned to 16 bytes, so that none lies on two lines of a cache.
+    // The value means nothing. The field aligns the rows to 16 bytes, so that no row lies on two lines of
+    // a cache.
     alignment: u128,
     rows: [Row; ROUNDS],
 }
@@ -37,7 +39,7 @@ impl Model for Schedules {
 }
 
 impl Schedules {
-    /// Returns room, zeroed.
+    /// Returns room that is filled with zeros.
     pub fn new() -> Schedules {
         Schedules {
             alignment: 0,
@@ -47,7 +49,7 @@ impl Schedules {
         }
     }
 
-    /// Returns the words of round `t`.
+    /// Returns the words of round `t`, one in each lane.
     #[inline(always)]
     pub(crate) fn word(&self, t: usize) -> u32x4
         requires { t < ROUNDS }
@@ -57,7 +59,7 @@ impl Schedules {
         self.rows[t].lanes
     }
 
-    /// Makes these words those of round `t`.
+    /// Sets the words of round `t`.
     #[inline(always)]
     pub(crate) fn set_word(&mut self, t: usize, word: u32x4)
         requires { t < ROUNDS }
@@ -66,7 +68,7 @@ impl Schedules {
         self.rows[t].lanes = word;
     }
 
-    /// Makes the words of a block those of the first rounds.
+    /// Sets the words of the first 16 rounds to those of a block in each lane.
     #[inline(always)]
     pub(crate) fn begin(&mut self, block: &[u32x4; BLOCK_WORDS])
         ensures { take 16 self.new ≡ block.now }
@@ -77,7 +79,7 @@ impl Schedules {
         }
     }
 
-    // Word `t` of the schedule, from the words before it, of which word `t - 2` is given.
+    // Returns word `t` of the schedules, made of the words before it. Word `t - 2` is given.
     #[inline(always)]
     fn next_word(&self, t: usize, second_last: u32x4) -> u32x4
         requires block { BLOCK_WORDS ≤ t }
@@ -92,8 +94,8 @@ impl Schedules {
         )
     }
 
-    /// Makes the words of all rounds from those of the block, with which it was begun. Two words a turn: the last
-    /// two are at hand for the next two.
+    /// Sets the words of all rounds after the first 16, made of the words of the blocks with which the
+    /// schedules were begun. Each turn makes two words, which are at hand for the next turn.
     #[inline(always)]
     pub(crate) fn extend(&mut self)
         ensures { (j : ℕ) → j < 4 → (b : List ℕ) → HasWords j (take 16 self.old) b

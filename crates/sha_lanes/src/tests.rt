@@ -1,8 +1,8 @@
-//! Digests that Python's hashlib computed, and those of `sha2`.
+//! Digests that are compared with those that Python's hashlib computed, and with those of `sha2`.
 use super::*;
 use sha2::{Digest, Sha256};
 
-// Of the byte 0 and 32 bytes of value n, where n is the number of the lane.
+// The digests of the byte 0 and 32 bytes of value n, where n is the number of the lane.
 const IMAGES: [[u8; 32]; 4] = [
     [
         0x7f, 0x9c, 0x9e, 0x31, 0xac, 0x82, 0x56, 0xca, 0x2f, 0x25, 0x85, 0x83, 0xdf, 0x26, 0x2d,
@@ -26,7 +26,8 @@ const IMAGES: [[u8; 32]; 4] = [
     ],
 ];
 
-// Of the byte 1 and then 32 bytes each of the values n, n + 10, n + 20 and n + 30.
+// The digests of the byte 1 and then 32 bytes each of the values n, n + 10, n + 20 and n + 30, where n is
+// the number of the lane.
 const LONGER: [[u8; 32]; 4] = [
     [
         0x54, 0xc1, 0x76, 0x06, 0x9e, 0xf4, 0x40, 0xc0, 0xe0, 0x51, 0x6c, 0xd3, 0x52, 0x03, 0xfc,
@@ -58,15 +59,15 @@ const THIRD: [[u8; 32]; 4] = [[20; 32], [21; 32], [22; 32], [23; 32]];
 
 const FOURTH: [[u8; 32]; 4] = [[30; 32], [31; 32], [32; 32], [33; 32]];
 
-// Of one message: the byte 1 and then, lane after lane, 32 bytes each of the values n and n + 10, and so again of the
-// values n + 20 and n + 30.
+// The digest of one message, which is the byte 1, and then 512 bytes. Lane after lane, these are first 32
+// bytes of the value n and 32 of n + 10, and then 32 of n + 20 and 32 of n + 30.
 const IN_ONE: [u8; 32] = [
     0x2b, 0x62, 0xb0, 0xf4, 0x80, 0x26, 0xe9, 0xa8, 0x03, 0x08, 0x90, 0x71, 0xdc, 0x62, 0x51, 0x78,
     0x62, 0x1b, 0x25, 0xde, 0x04, 0x6f, 0xca, 0xb7, 0x0b, 0xf5, 0x6a, 0xbc, 0x20, 0x2d, 0xce, 0xf1,
 ];
 
-// A message of 33 bytes but for its first, which is 5, and its digest: the vector of 264 bits among the short
-// messages of NIST's Cryptographic Algorithm Validation Program for FIPS 180-4.
+// A message of 33 bytes without its first byte, which is 5; its digest follows. The two are the vector of
+// 264 bits among the short messages of NIST's Cryptographic Algorithm Validation Program for FIPS 180-4.
 const VALIDATED: [u8; 32] = [
     0x46, 0xf7, 0xb8, 0x68, 0x2b, 0x5b, 0x95, 0xfd, 0x32, 0x38, 0x5f, 0xaf, 0x25, 0x85, 0x4c, 0xb3,
     0xf7, 0xb4, 0x0c, 0xc8, 0xfa, 0x22, 0x9f, 0xbd, 0x52, 0xb1, 0x69, 0x34, 0xaa, 0xb3, 0x88, 0xa7,

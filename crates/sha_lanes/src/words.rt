@@ -5,7 +5,7 @@ ghost use Rattle.sha2.specs.Sha256.{add32, big_sigma0, big_sigma1, ch, maj, smal
 
 use std::simd::u32x4;
 
-/// Returns the sums, each with the carry out of its word dropped.
+/// Returns the sums of the words in each lane, modulo 2^32.
 #[inline(always)]
 pub fn add(x: u32x4, y: u32x4) -> u32x4
     ensures { (j : ℕ) → j < 4 → slice_index result j ≡ add32 (slice_index x j) (slice_index y j) }
@@ -27,7 +27,7 @@ fn and(x: u32x4, y: u32x4) -> u32x4
     x & y
 }
 
-/// Returns the bits that either word has.
+/// Returns for each lane the bits that at least one of its two words has.
 #[inline(always)]
 pub fn or(x: u32x4, y: u32x4) -> u32x4
     ensures { (j : ℕ) → j < 4 → slice_index result j ≡ bit_or (slice_index x j) (slice_index y j) }
@@ -35,7 +35,8 @@ pub fn or(x: u32x4, y: u32x4) -> u32x4
     x | y
 }
 
-/// Returns the words shifted towards their low end by `count` bits.
+/// Returns the words shifted towards their low end by `count` bits. The bits that leave a word are
+/// dropped.
 #[inline(always)]
 pub fn shift_right(x: u32x4, count: u32) -> u32x4
     requires { count < 32 }
@@ -44,7 +45,8 @@ pub fn shift_right(x: u32x4, count: u32) -> u32x4
     x >> u32x4::splat(count)
 }
 
-/// Returns the words shifted towards their high end by `count` bits, of which the highest are dropped.
+/// Returns the words shifted towards their high end by `count` bits. The bits that leave a word are
+/// dropped.
 #[inline(always)]
 pub fn shift_left(x: u32x4, count: u32) -> u32x4
     requires { count < 32 }
@@ -53,7 +55,8 @@ pub fn shift_left(x: u32x4, count: u32) -> u32x4
     x << u32x4::splat(count)
 }
 
-// Each word, with the `count` bits that leave it at the low end put in at the high end.
+// Returns the words, each rotated to the right: the `count` bits that leave it at the low end come in at
+// the high end.
 #[inline(always)]
 fn rotate_right(x: u32x4, count: u32) -> u32x4
     requires some { 0 < count }
@@ -63,8 +66,8 @@ fn rotate_right(x: u32x4, count: u32) -> u32x4
     (x >> u32x4::splat(count)) | (x << u32x4::splat(32 - count))
 }
 
-/// Returns Ch: of each bit of `x`, the bit of `y` where it is 1, and of `z` where it is 0. This form takes
-/// one operation less than the standard's.
+/// Returns Ch: at each place the bit of `y` if that of `x` is 1, and the bit of `z` if it is 0. This form
+/// takes one operation less than the standard's.
 #[inline(always)]
 pub fn ch(x: u32x4, y: u32x4, z: u32x4) -> u32x4
     ensures { (j : ℕ) → j < 4
@@ -73,8 +76,8 @@ pub fn ch(x: u32x4, y: u32x4, z: u32x4) -> u32x4
     xor(z, and(x, xor(y, z)))
 }
 
-/// Returns Maj: the bits that two of the three words have. The `x ^ y` of one round is the `y ^ z` of the
-/// next, so it is computed once.
+/// Returns Maj: the bits that at least two of the three words have. What is `x ^ y` in one round is
+/// `y ^ z` in the next, so it is computed once.
 #[inline(always)]
 pub fn maj(x: u32x4, y: u32x4, z: u32x4) -> u32x4
     ensures { (j : ℕ) → j < 4

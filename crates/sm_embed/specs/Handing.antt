@@ -7,7 +7,7 @@ use Rattle.sm_embed.specs.Statuses.{status_of_handed}
 use Rattle.sm_embed.specs.declared.handed.Handed.{Handed}
 use Rattle.sm_embed.specs.declared.handed.Handed.TheVariants.{Yes, No, Line, Nothing, Length}
 
--- the room begins with the text, behind which it is as it was, and the count is the text's length
+-- the room begins with the text and is otherwise as it was, and the count is the text's length
 abbrev pub Fits : List ℕ → List ℕ → List ℕ → ℕ → Type 0
 Fits text old new count = (count ≡ length text) × (new ≡ text ++ drop (length text) old)
 
@@ -19,7 +19,7 @@ IsTooLong text old new count = (count ≡ length text) × (length old < count) �
 abbrev pub IsUntouched : List ℕ → List ℕ → ℕ → Type 0
 IsUntouched old new count = (count ≡ 0) × (new ≡ old)
 
--- a text was handed, or its length where it is longer than the room
+-- the text was handed; or it is longer than the room, and its length alone was handed
 abbrev pub HandsAnswer : List ℕ → Bool → List ℕ → List ℕ → ℕ → Handed → Type 0
 HandsAnswer text negative old new count Yes = (negative ≡ false) × Fits text old new count
 HandsAnswer text negative old new count No = (negative ≡ true) × Fits text old new count
@@ -27,11 +27,12 @@ HandsAnswer text negative old new count (Line f) = ⊥
 HandsAnswer text negative old new count Nothing = ⊥
 HandsAnswer text negative old new count Length = IsTooLong text old new count
 
--- a fault that the input has, and not want of memory
+-- a fault of the input, and not of memory, a thread, a read or a write
 abbrev pub IsOfInput : JobFault → Type 0
 IsOfInput f = fault_status f ≡ 3
 
--- the line of a fault of the input was handed, or its length where it is longer than the room; or nothing was
+-- the line of a fault of the input was handed, or its length alone if it is longer than the room; or nothing
+-- was
 abbrev pub HandsFault : JobFault → List ℕ → List ℕ → ℕ → Handed → Type 0
 HandsFault fault old new count Yes = ⊥
 HandsFault fault old new count No = ⊥
@@ -40,14 +41,15 @@ HandsFault fault old new count (Line f) =
 HandsFault fault old new count Nothing = IsUntouched old new count
 HandsFault fault old new count Length = IsOfInput fault × ((line : List ℕ) × IsTooLong line old new count)
 
--- an answer was handed, or the fault in its place
+-- the answer was handed over, or the fault in its place
 abbrev pub HandsOver : Result Output JobFault → List ℕ → List ℕ → ℕ → Handed → Type 0
 HandsOver (Ok output) old new count handed =
     HandsAnswer output.text.items output.negative old new count handed
 HandsOver (Err fault) old new count handed = HandsFault fault old new count handed
 
--- An input has answers, each a text that says no or doesn't, and it has faults. What is handed is an answer,
--- or the line of a fault that the input has, or the length of one of these where it is longer than the room.
+-- A job has answers to its input, each a text that says no or doesn't, and it has faults. What is handed is
+-- an answer, or the line of a fault of the input, or the length alone of one of these if it is longer than
+-- the room.
 abbrev pub Hands : (List ℕ → Bool → Type 0) → (JobFault → Type 0) → List ℕ → List ℕ → ℕ → Handed → Type 0
 Hands IsAnswer IsFault old new count Yes = (text : List ℕ) × IsAnswer text false × Fits text old new count
 Hands IsAnswer IsFault old new count No = (text : List ℕ) × IsAnswer text true × Fits text old new count
@@ -58,7 +60,7 @@ Hands IsAnswer IsFault old new count Length =
     ((text : List ℕ) × (negative : Bool) × IsAnswer text negative × IsTooLong text old new count)
     ⊎ ((f : JobFault) × IsFault f × IsOfInput f × ((line : List ℕ) × IsTooLong line old new count))
 
--- the number that is returned says what was handed
+-- the returned number is the one for what was handed
 abbrev pub IsHanded : (List ℕ → Bool → Type 0) → (JobFault → Type 0) → List ℕ → List ℕ → ℕ → ℕ → Type 0
 IsHanded IsAnswer IsFault old new count status =
     (handed : Handed) × (status ≡ status_of_handed handed) × Hands IsAnswer IsFault old new count handed

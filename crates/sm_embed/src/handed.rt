@@ -4,26 +4,27 @@ ghost use Rattle.sm_embed.specs.Statuses.{status_of_handed};
 
 use gen_jobs::{JobEnd, JobFault};
 
-/// What a caller was handed, whose number the call returns.
+/// What a caller was handed. The call returns its number.
 #[derive(Clone, Copy, Debug, PartialEq, Eq)]
 pub enum Handed {
     /// A text that doesn't say no.
     Yes,
     /// A text that says no.
     No,
-    /// The line of the input's fault.
+    /// The line that names the input's fault.
     Line(JobFault),
-    /// Nothing, since memory was refused.
+    /// Nothing, because memory was refused.
     Nothing,
-    /// The length alone of a text or a line that is longer than the room.
+    /// Only the length of a text or a line that is longer than the room.
     Length,
 }
 
-/// The number of a length that was handed.
+/// The number that says that only a length was handed.
 const LENGTH: u8 = 5;
 
 impl Handed {
-    /// Returns the number: the program's exit status where the job ends so, and 5 for a length.
+    /// Returns the number that the call returns: the exit status of the program for this end of the job, and 5 for a
+    /// length.
     pub fn status(self) -> u32
         ensures { result ≡ status_of_handed self }
     {

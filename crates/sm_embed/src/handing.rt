@@ -1,4 +1,4 @@
-//! How an answer reaches a caller in another language.
+//! Hands an answer to a caller in another language.
 ghost use Rattle.std.specs.Prelude.{◌≡◌, true, false};
 ghost use Rattle.sm_embed.specs.Handing.{Fits, HandsAnswer, HandsFault, HandsOver, IsOfInput, IsTooLong};
 
@@ -6,7 +6,8 @@ use crate::handed::Handed;
 use gen_jobs::{JobFault, Output};
 use std::alloc::Global;
 
-/// Copies a text to the begin of the room if it fits there, and returns whether it does. The count is its length.
+/// Copies a text to the beginning of the room if it fits there, and returns whether it does. The count is the text's
+/// length in both cases.
 fn put(text: &[u8], room: &mut [u8], count: &mut usize) -> bool
     ensures fits { result ≡ true → Fits text.now room.old room.new count.new }
     ensures long { result ≡ false → IsTooLong text.now room.old room.new count.new }
@@ -20,7 +21,7 @@ fn put(text: &[u8], room: &mut [u8], count: &mut usize) -> bool
     true
 }
 
-/// Hands over an answer's text.
+/// Hands over the text of an answer.
 fn hand_answer(output: &Output, room: &mut [u8], count: &mut usize) -> Handed
     ensures { HandsAnswer output.now.text.items output.now.negative room.old room.new count.new result }
 {
@@ -34,7 +35,7 @@ fn hand_answer(output: &Output, room: &mut [u8], count: &mut usize) -> Handed
     }
 }
 
-/// Hands over the line of an input's fault.
+/// Hands over the line that names an input's fault.
 fn hand_line(alloc: Global, fault: JobFault, room: &mut [u8], count: &mut usize) -> Handed
     requires { IsOfInput fault }
     ensures { HandsFault fault room.old room.new count.new result }
@@ -54,7 +55,7 @@ fn hand_line(alloc: Global, fault: JobFault, room: &mut [u8], count: &mut usize)
     }
 }
 
-/// Hands over the line of an input's fault, or nothing where something else is at fault.
+/// Hands over the line that names an input's fault; nothing for any other fault.
 fn hand_fault(alloc: Global, fault: JobFault, room: &mut [u8], count: &mut usize) -> Handed
     ensures { HandsFault fault room.old room.new count.new result }
 {
@@ -69,7 +70,7 @@ fn hand_fault(alloc: Global, fault: JobFault, room: &mut [u8], count: &mut usize
     }
 }
 
-/// Hands over what answers an input: the text, or the fault in its place.
+/// Hands over the answer to an input: the text, or the line of the fault in its place.
 pub(crate) fn hand(
     alloc: Global,
     answer: Result<Output, JobFault>,

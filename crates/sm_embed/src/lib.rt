@@ -1,19 +1,19 @@
 //! The library for C: what the program does over bytes, for callers in other languages.
 //!
-//! Each function takes the bytes of an input and room for a text, and returns one of six numbers. They are the exit
-//! statuses of the program, but that 5 is said of the room.
+//! Each function takes the bytes of an input and room for a text, and returns one of six numbers. These are the exit
+//! statuses of the program, except that 5 is about the room.
 //!
-//! | number | what the room holds from its begin on | the count |
+//! | number | what the room holds from its beginning on | the count |
 //! |---|---|---|
 //! | 0 | the text that the program writes, which doesn't say no | its length |
 //! | 1 | the text that the program writes, which says no | its length |
 //! | 2 | nothing: the number of a general is above 15 | 0 |
-//! | 3 | the line that the program says of the input's fault, without its LF | its length |
+//! | 3 | the line that names the input's fault, as the program writes it, without its LF | its length |
 //! | 4 | nothing: memory was refused | 0 |
 //! | 5 | nothing: it is shorter than the text or line | the length of that |
 //!
-//! No function keeps anything between its calls, starts a thread, waits for one, prints or ends the process. A contract
-//! says of each what `Handed` and its `IsHanded` say.
+//! No function keeps anything between its calls, starts a thread, waits for one, prints, or ends the process. The
+//! contract of each function says what `Handed` and its `IsHanded` mean for it.
 #![tactic(auto)]
 
 ghost use Rattle.std.specs.Prelude.{ℕ, ◌≡◌, ◌<◌, ◌≤◌};
@@ -32,7 +32,7 @@ use gen_jobs::{accuse_in_place, audit_in_place, decide, draw_in_place, evidence}
 use gen_types::GeneralNo;
 use std::alloc::Global;
 
-/// Hands over the verdict on the bundle or the campaign that the input spells, which the command `audit` writes.
+/// Hands over the verdict on the bundle or the campaign that the input spells, as the command `audit` writes it.
 #[unsafe(no_mangle)]
 pub extern "C" fn sm_audit(alloc: Global, input: &[u8], room: &mut [u8], count: &mut usize) -> u32
     ensures { IsHanded (IsAudited input.now) (IsAuditFault input.now) room.old room.new count.new result }
@@ -49,8 +49,8 @@ pub extern "C" fn sm_draw(alloc: Global, input: &[u8], room: &mut [u8], count: &
     hand(alloc, draw_in_place(alloc, input), room, count).status()
 }
 
-/// Hands over the evidence against a general that the bundle or the campaign holds which the input spells: the bytes that
-/// the command `accuse` writes. Where there is none they are no bytes, and say no.
+/// Hands over the evidence that the bundle or the campaign in the input holds against a general: the bytes that the
+/// command `accuse` writes. If there is none, there are no bytes, and the answer says no.
 #[unsafe(no_mangle)]
 pub extern "C" fn sm_accuse(
     alloc: Global,
@@ -61,7 +61,7 @@ pub extern "C" fn sm_accuse(
 ) -> u32
     ensures general { general < 16 →
         IsHanded (IsAccused general input.now) (IsAuditFault input.now) room.old room.new count.new result }
-    // The number is no general's.
+    // The number is 16 or more, so it is no general's.
     ensures nobody { 16 ≤ general → (result ≡ 2) × IsUntouched room.old room.new count.new }
 {
     if general >= 16 {
@@ -72,7 +72,7 @@ pub extern "C" fn sm_accuse(
     hand(alloc, accuse_in_place(alloc, accused, input), room, count).status()
 }
 
-/// Hands over whether the evidence holds that the input spells, which the command `evidence` writes.
+/// Hands over whether the evidence that the input spells holds, as the command `evidence` writes it.
 #[unsafe(no_mangle)]
 pub extern "C" fn sm_evidence(
     alloc: Global,
@@ -85,8 +85,8 @@ pub extern "C" fn sm_evidence(
     hand(alloc, evidence(alloc, input), room, count).status()
 }
 
-/// Hands over what each general without a script decides in the run of the scenario that the input spells, which the
-/// command `decide` writes.
+/// Hands over what each general without a script decides in the run of the scenario that the input spells, as the
+/// command `decide` writes it.
 #[unsafe(no_mangle)]
 pub extern "C" fn sm_decide(alloc: Global, input: &[u8], room: &mut [u8], count: &mut usize) -> u32
     ensures { IsHanded (IsDecided input.now) (IsDecideFault input.now) room.old room.new count.new result }

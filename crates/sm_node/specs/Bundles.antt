@@ -1,4 +1,4 @@
--- Bundles of logs that were collected.
+-- Making a bundle of logs that were collected.
 use Rattle.std.specs.Prelude.{ℕ, ◌≡◌, ◌⊎◌, ◌<◌, ◌≤◌, ◌^◌, ◌==◌, ◌&&◌, if◌then◌else◌, Bool, List, [], ◌∷◌}
 use Rattle.std.specs.Prelude.{Option, Some, None, Result, Ok, Err, length, take, drop, nat_lt, nat_le}
 use Rattle.std.specs.Option.{option_map}
@@ -26,7 +26,7 @@ use Rattle.sm_node.specs.Faults.{gather_number}
 use Rattle.sm_node.specs.Handing.{IsUntouched, PutsText}
 use Rattle.sm_node.specs.Headers.{header_in}
 
--- a log lies in front of the bytes, and it is a general's
+-- the bytes begin with a log of this length, and its general's number is below 16
 abbrev pub is_in_front : SmLog → List ℕ → Bool
 is_in_front log bytes = nat_lt log.general 16 && nat_le log.bytes (length bytes)
 
@@ -34,7 +34,7 @@ is_in_front log bytes = nat_lt log.general 16 && nat_le log.bytes (length bytes)
 abbrev pub log_in_front : SmLog → List ℕ → LogBytes
 log_in_front log bytes = record { general = log.general; bytes = take log.bytes bytes }
 
--- the logs that stand one after another in the bytes, where exactly these do
+-- the logs that stand one after another in the bytes; None if the bytes are not exactly these logs
 abbrev pub logs_in : List SmLog → List ℕ → Option (List LogBytes)
 logs_in [] bytes = if length bytes == 0 then Some [] else None
 logs_in (log ∷ logs) bytes =
@@ -42,32 +42,32 @@ logs_in (log ∷ logs) bytes =
     then option_map (λ others. log_in_front log bytes ∷ others) (logs_in logs (drop log.bytes bytes))
     else None
 
--- the header of the bytes, the generals who aren't held for faulty, and best walks between them
+-- the header that the bytes are, the generals that aren't held for faulty, and best walks between them
 pub record Gathers (bytes : List ℕ) (faulty : List ℕ) (h : RunHeader) (rest : List ℕ)
     (walks : List (List ℕ)) : Type 0 where
   pub header : header_in bytes ≡ Ok h
   pub others : IsListOf rest (IsLoyal h.network faulty)
   pub best : AreBestWalks h.network rest walks
 
--- the bytes are the bundle of a header's bytes, those who are held for faulty, and logs
+-- the text is the bundle of a header's bytes, the generals that are held for faulty, and logs
 abbrev pub IsGathered : List ℕ → List ℕ → List LogBytes → List ℕ → Type 0
 IsGathered bytes faulty logs text =
     (h : RunHeader) × (rest : List ℕ) × (walks : List (List ℕ)) × Gathers bytes faulty h rest walks
     × (bundle_bytes h faulty walks logs ≡ Ok text)
 
--- as a fault of a bundle
+-- the fault of gathering for a fault of walks; None for refused memory
 abbrev pub fault_of : WalkFault → Option GatherFault
 fault_of walks.Memory = None
 fault_of (walks.NoWalk pair row) = Some NoWalk
 fault_of (walks.TooLong pair row edges) = Some LongWalk
 
--- two of the others have no short walk, which is this fault
+-- two of the generals that aren't held for faulty have no short walk, which is this fault
 abbrev pub HasNoWalks : List ℕ → List ℕ → GatherFault → Type 0
 HasNoWalks bytes faulty f =
     (h : RunHeader) × (rest : List ℕ) × (why : WalkFault) × (header_in bytes ≡ Ok h)
     × IsListOf rest (IsLoyal h.network faulty) × IsWalkFault h.network rest why × (fault_of why ≡ Some f)
 
--- why there is none
+-- this fault is why there is no bundle of a header's bytes, the generals that are held for faulty, and logs
 abbrev pub IsGatherFault : List ℕ → List ℕ → List LogBytes → GatherFault → Type 0
 IsGatherFault bytes faulty logs (Header f) = header_in bytes ≡ Err f
 IsGatherFault bytes faulty logs NoWalk = HasNoWalks bytes faulty NoWalk
@@ -76,28 +76,30 @@ IsGatherFault bytes faulty logs (Bundle f) =
     (h : RunHeader) × (rest : List ℕ) × (walks : List (List ℕ)) × Gathers bytes faulty h rest walks
     × (bundle_bytes h faulty walks logs ≡ Err f)
 
--- one or the other, unless memory is refused
+-- the text is that bundle, or the fault is why there is none, unless memory was refused
 abbrev pub GathersText : List ℕ → List ℕ → List LogBytes → Result (List ℕ) (ReadError GatherFault) → Type 0
 GathersText bytes faulty logs (Ok text) = IsGathered bytes faulty logs text
 GathersText bytes faulty logs (Err errors.Memory) = Unit {0}
 GathersText bytes faulty logs (Err (errors.Fault f)) = IsGatherFault bytes faulty logs f
 
--- as a list of bytes, and of logs
+-- an answer with its text as a list of bytes
 abbrev pub as_text : Result (Vec ℕ Global) (ReadError GatherFault) → Result (List ℕ) (ReadError GatherFault)
 as_text (Ok text) = Ok text.items
 as_text (Err e) = Err e
 
+-- the logs as a list
 abbrev pub listed : Option (Vec LogBytes Global) → Option (List LogBytes)
 listed None = None
 listed (Some logs) = Some logs.items
 
--- the header of the bytes, unless they have a fault or memory is refused
+-- the header that the bytes are, or their fault, unless memory was refused
 abbrev pub FindsHeader : List ℕ → Result RunHeader (ReadError GatherFault) → Type 0
 FindsHeader bytes (Ok h) = header_in bytes ≡ Ok h
 FindsHeader bytes (Err errors.Memory) = Unit {0}
 FindsHeader bytes (Err (errors.Fault f)) = (s : BytesFault) × (f ≡ Header s) × (header_in bytes ≡ Err s)
 
--- best walks between the others, unless two of them have no short walk or memory is refused
+-- best walks between the generals that aren't held for faulty, or why there are none, unless memory was
+-- refused
 abbrev pub FindsWalks : RunHeader → List ℕ → Result (List (List ℕ)) (ReadError GatherFault) → Type 0
 FindsWalks h faulty (Ok walks) =
     (rest : List ℕ) × IsListOf rest (IsLoyal h.network faulty) × AreBestWalks h.network rest walks
@@ -106,7 +108,7 @@ FindsWalks h faulty (Err (errors.Fault f)) =
     (rest : List ℕ) × (why : WalkFault) × IsListOf rest (IsLoyal h.network faulty)
     × IsWalkFault h.network rest why × (fault_of why ≡ Some f)
 
--- the bundle's bytes are handed out, or the number of a fault is told
+-- the bundle's bytes are handed out, or their length alone, or the number of a fault is told
 abbrev pub HandsBundle : List ℕ → ℕ → Option (List LogBytes) → List ℕ → List ℕ → ℕ → ℕ → Told → Type 0
 HandsBundle bytes faulty logs old new count fault Done =
     (fault ≡ 0) × (faulty < 2 ^ 16) × ((xs : List LogBytes) × (text : List ℕ) × (logs ≡ Some xs)

@@ -1,4 +1,4 @@
--- What the calls make of a node that is there: it is driven through its rounds, and ended.
+-- What the calls make of a node that is held: it is driven through its rounds, and ended.
 use Rattle.std.specs.Prelude.{ℕ, ◌≡◌, Bool, true, false, List, Option, Some, Ok, Err}
 use Rattle.gen_types.specs.Spelled.{Spells}
 use Rattle.gen_general.specs.Recording.{log_written}
@@ -15,11 +15,11 @@ use Rattle.sm_node.specs.Faults.{frame_number}
 use Rattle.sm_node.specs.Handing.{IsUntouched, PutsText}
 use Rattle.sm_node.specs.Held.{allows, has_ended, Becomes, IsRunning}
 
--- the call may not be made: no node is there that passes the test, and nothing has changed
+-- the call may not be made: no node that has not ended passes the test, and nothing has changed
 abbrev pub IsRefused : (Node → Bool) → Option Held → Option Held → Type 0
 IsRefused may old new = (new ≡ old) × (allows may old ≡ false)
 
--- a round begins, or memory was refused, and the same call goes on with it
+-- a round begins; or memory was refused, and a further call goes on with it
 abbrev pub Begins : Option Held → Option Held → Told → Type 0
 Begins old new Done = (allows may_begin old ≡ true) × Becomes IsBegun old new
 Begins old new Misuse = IsRefused may_begin old new
@@ -29,7 +29,7 @@ Begins old new Memory =
 Begins old new Fault = ⊥
 Begins old new Length = ⊥
 
--- a round ends, or memory was refused, and the same call goes on with it
+-- a round ends; or memory was refused, and a further call goes on with it
 abbrev pub Ends : Option Held → Option Held → Told → Type 0
 Ends old new Done = (allows may_end old ≡ true) × Becomes (λ n m. m ≡ ended n) old new
 Ends old new Misuse = IsRefused may_end old new
@@ -44,7 +44,7 @@ IsFrameTo to held bytes =
     (n : Node) × IsRunning held n × (awaits n to ≡ true)
     × Spells IsFrame frame_spelling bytes (frame_to n.recorder to)
 
--- that frame is handed out
+-- the frame of this round to a neighbour is handed out, or its length alone
 abbrev pub Sends : ℕ → Option Held → List ℕ → List ℕ → ℕ → Told → Type 0
 Sends to held old new count Done =
     (bytes : List ℕ) × IsFrameTo to held bytes × PutsText bytes old new count Done
@@ -54,7 +54,7 @@ Sends to held old new count Misuse = IsUntouched old new count × (allows (λ n.
 Sends to held old new count Memory = IsUntouched old new count × (allows (λ n. awaits n to) held ≡ true)
 Sends to held old new count Fault = ⊥
 
--- bytes are taken as the frame of this round from a neighbour, or have a fault
+-- bytes are taken as the frame of this round from a neighbour, or the number of their fault is told
 abbrev pub Hears : ℕ → List ℕ → Option Held → Option Held → ℕ → Told → Type 0
 Hears from bytes old new fault Done = (fault ≡ 0) × Becomes (λ n m. handed n from bytes ≡ Ok m) old new
 Hears from bytes old new fault Fault =
@@ -65,7 +65,7 @@ Hears from bytes old new fault Memory =
     (fault ≡ 0) × (new ≡ old) × (allows (λ n. is_awaited n from) old ≡ true)
 Hears from bytes old new fault Length = ⊥
 
--- the node ends after the last round: of it are left its log, sealed, and its decision
+-- the node ends after the last round, and its sealed log and its decision are left
 abbrev pub Finishes : Option Held → Option Held → Told → Type 0
 Finishes old new Done =
     (n : Node) × IsRunning old n × (is_over n ≡ true)
@@ -75,11 +75,11 @@ Finishes old new Memory = (new ≡ old) × (allows is_over old ≡ true)
 Finishes old new Fault = ⊥
 Finishes old new Length = ⊥
 
--- this is left of a node
+-- this ending is what is held
 abbrev pub IsEnded : Option Held → Ending → Type 0
 IsEnded held e = held ≡ Some (Ended e)
 
--- the log of a node that has ended is handed out
+-- the log of a node that has ended is handed out, or its length alone
 abbrev pub HandsLog : Option Held → List ℕ → List ℕ → ℕ → Told → Type 0
 HandsLog held old new count Done = (e : Ending) × IsEnded held e × PutsText e.log.bytes old new count Done
 HandsLog held old new count Length = (e : Ending) × IsEnded held e × PutsText e.log.bytes old new count Length
@@ -87,7 +87,7 @@ HandsLog held old new count Misuse = IsUntouched old new count × (has_ended hel
 HandsLog held old new count Memory = ⊥
 HandsLog held old new count Fault = ⊥
 
--- the order that it decided for is told
+-- the order that a node that has ended decided is told
 abbrev pub TellsOrder : Option Held → ℕ → Told → Type 0
 TellsOrder held order Done = (e : Ending) × IsEnded held e × (order ≡ e.decision.order)
 TellsOrder held order Misuse = (order ≡ 0) × (has_ended held ≡ false)

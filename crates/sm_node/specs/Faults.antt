@@ -13,7 +13,7 @@ use Rattle.sm_node.specs.declared.faults.StartFault.TheVariants.{Header, NoGener
 use Rattle.sm_node.specs.declared.faults.GatherFault.{GatherFault}
 use Rattle.sm_node.specs.declared.faults.GatherFault.TheVariants as gathering
 
--- 1 to 11, as its text has it
+-- the number of a header's fault: 1 to 11, as its text has it
 abbrev pub header_number : HeaderFault → ℕ
 header_number headers.GeneralCount = 1
 header_number headers.BadEdge = 2
@@ -27,22 +27,23 @@ header_number headers.Truncated = 9
 header_number headers.UnknownVersion = 10
 header_number headers.SlotRange = 11
 
--- and 12 for bytes that are left over
+-- the number of a fault of a header's bytes: that of the header's fault, or 12 for bytes that are left over
 abbrev pub bytes_number : BytesFault → ℕ
 bytes_number (BadHeader f) = header_number f
 bytes_number LeftOver = 12
 
--- 13 and 14 besides those of a header's bytes
+-- the number of a fault of a start: that of the header's bytes, 13 or 14
 abbrev pub start_number : StartFault → ℕ
 start_number (Header f) = bytes_number f
 start_number NoGeneral = 13
 start_number OtherRoot = 14
 
--- 21 to 28: 20 and the number that its text has
+-- the number of a frame's fault: 21 to 28, which is 20 more than its text has
 abbrev pub frame_number : FrameFault → ℕ
 frame_number f = 20 + fault_number f
 
--- 41 to 49: 40 and the number that its text has; 50 for a log that no bundle can hold; and a header's own
+-- the number of a bundle's fault: 41 to 49, which is 40 more than its text has; 50 for a log that no bundle
+-- can hold; or the number of its header's fault
 abbrev pub bundle_number : BundleFault → ℕ
 bundle_number bundles.Truncated = 41
 bundle_number bundles.UnknownMark = 42
@@ -55,7 +56,8 @@ bundle_number bundles.LeftOver = 48
 bundle_number bundles.OutOfOrder = 49
 bundle_number bundles.LongLog = 50
 
--- 31 and 32 for generals whom no walk joins, or none that is short enough
+-- the number of a fault of gathering: 31 if no walk joins two generals, 32 if none is short enough; or the
+-- number of the fault of the header's bytes or of the bundle
 abbrev pub gather_number : GatherFault → ℕ
 gather_number (gathering.Header f) = bytes_number f
 gather_number gathering.NoWalk = 31

@@ -3,7 +3,7 @@ use Rattle.std.specs.Prelude.{ℕ, ◌≡◌, ◌<◌, ◌++◌, List, length, d
 use Rattle.sm_node.specs.declared.told.Told.{Told}
 use Rattle.sm_node.specs.declared.told.Told.TheVariants.{Done, Misuse, Fault, Memory, Length}
 
--- the room begins with the text, behind which it is as it was, and the count is the text's length
+-- the room begins with the text and is otherwise as it was, and the count is the text's length
 abbrev pub Fits : List ℕ → List ℕ → List ℕ → ℕ → Type 0
 Fits text old new count = (count ≡ length text) × (new ≡ text ++ drop (length text) old)
 
@@ -15,7 +15,7 @@ IsTooLong text old new count = (count ≡ length text) × (length old < count) �
 abbrev pub IsUntouched : List ℕ → List ℕ → ℕ → Type 0
 IsUntouched old new count = (count ≡ 0) × (new ≡ old)
 
--- this text was put into the room, or its length alone was told
+-- this text was put into the room; or it is longer than the room, and its length alone was told
 abbrev pub PutsText : List ℕ → List ℕ → List ℕ → ℕ → Told → Type 0
 PutsText text old new count Done = Fits text old new count
 PutsText text old new count Length = IsTooLong text old new count

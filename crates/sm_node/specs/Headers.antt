@@ -1,4 +1,4 @@
--- Headers as they are handed in, and as they are made of numbers, edges and roots.
+-- Headers as bytes that are handed in, and as they are made from numbers, edges and roots.
 use Rattle.std.specs.Prelude.{ℕ, ◌≡◌, ◌==◌, if◌then◌else◌, List, length, map, Result, Ok, Err}
 use Rattle.std.specs.Prelude.{slice_index_or}
 use Rattle.gen_types.specs.Reading.{◌>>=◌, check, map_fault}
@@ -19,11 +19,11 @@ use Rattle.sm_node.specs.declared.told.Told.TheVariants.{Done, Misuse, Fault, Me
 use Rattle.sm_node.specs.Faults.{header_number}
 use Rattle.sm_node.specs.Handing.{IsUntouched, PutsText}
 
--- the header in front of the bytes, with the number of its bytes
+-- the header in front of the bytes, and its number of bytes; or the first fault
 abbrev pub front_in : List ℕ → Result (RunHeader × ℕ) BytesFault
 front_in bytes = map_fault BadHeader (counted header_at bytes)
 
--- the header that the bytes are, or their first fault
+-- the header that all the bytes are, or their first fault
 unfoldable pub header_in : List ℕ → Result RunHeader BytesFault
 header_in bytes = do
   found ← front_in bytes
@@ -34,7 +34,7 @@ header_in bytes = do
 abbrev pub ends_of : List ℕ → ℕ × ℕ
 ends_of edge = (slice_index_or edge 0 0, slice_index_or edge 1 0)
 
--- the numbers of a network
+-- the numbers of a network among the numbers of a header
 abbrev pub net_numbers : SmNumbers → NetNumbers
 net_numbers n = record {
   generals = n.generals;
@@ -44,24 +44,25 @@ net_numbers n = record {
   choice = n.choice;
 }
 
--- the network of these, or the first rule that they break
+-- the network of these numbers and edges, or the first rule that they break
 abbrev pub net_made : SmNumbers → List (List ℕ) → Result Network HeaderFault
 net_made numbers edges = network_of (net_numbers numbers) (map ends_of edges)
 
--- the header in the version of this number, 1 or 2
+-- the header of this network and these roots in the version of the numbers, 1 or 2; or the first rule that
+-- they break
 abbrev pub header_over : SmNumbers → Network → List (List ℕ) → Result RunHeader HeaderFault
 header_over numbers net roots =
     if numbers.version == 1 then header_with One net roots
     else if numbers.version == 2 then header_with (Two numbers.slot) net roots
     else Err UnknownVersion
 
--- the header of these, or the first rule that they break
+-- the header of these numbers, edges and roots, or the first rule that they break
 unfoldable pub header_made : SmNumbers → List (List ℕ) → List (List ℕ) → Result RunHeader HeaderFault
 header_made numbers edges roots = do
   net ← net_made numbers edges
   header_over numbers net roots
 
--- the bytes of that header are handed out, or the number of its fault is told
+-- the header's bytes are handed out, or their length alone, or the number of a fault is told
 abbrev pub MakesHeader : Result RunHeader HeaderFault → List ℕ → List ℕ → ℕ → ℕ → Told → Type 0
 MakesHeader made old new count fault Done =
     (fault ≡ 0) × ((h : RunHeader) × (made ≡ Ok h) × PutsText (header_spelling h) old new count Done)

@@ -1,10 +1,10 @@
--- What a node's memory holds.
+-- What the memory of a node for C holds.
 use Rattle.std.specs.Prelude.{◌≡◌, Bool, true, false, Option, Some, None}
 use Rattle.gen_node.specs.Node.{Node}
 use Rattle.sm_node.specs.declared.held.Held.{Held}
 use Rattle.sm_node.specs.declared.held.Held.TheVariants.{Empty, Running, Ended}
 
--- the node that has not ended, if one is there
+-- the node that has not ended, if there is one
 abbrev pub running : Held → Option Node
 running Empty = None
 running (Running n) = Some n
@@ -24,10 +24,10 @@ has_ended (Some Empty) = false
 has_ended (Some (Running n)) = false
 has_ended (Some (Ended e)) = true
 
--- the node that has not ended is this one
+-- there is a node that has not ended, and it is this one
 abbrev pub IsRunning : Option Held → Node → Type 0
 IsRunning held n = held ≡ Some (Running n)
 
--- of the node that has not ended comes one that stands to it as stated
+-- a node that has not ended was there before, and one is there after, and this relation holds between the two
 abbrev pub Becomes : (Node → Node → Type 0) → Option Held → Option Held → Type 0
 Becomes Follows old new = (n : Node) × (m : Node) × IsRunning old n × IsRunning new m × Follows n m

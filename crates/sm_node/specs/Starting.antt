@@ -1,4 +1,4 @@
--- How a node begins, and why it doesn't.
+-- How a node for C is made, and why it isn't.
 use Rattle.std.specs.Prelude.{ℕ, ◌≡◌, ◌⊎◌, ◌==◌, ◌&&◌, ◌||◌, if◌then◌else◌, Bool, true, false, List}
 use Rattle.std.specs.Prelude.{Option, Some, None, IsSome, Result, Ok, Err, nat_lt}
 use Rattle.gen_types.specs.declared.heights.TreeHeight.{TreeHeight}
@@ -18,26 +18,26 @@ use Rattle.sm_node.specs.Faults.{start_number}
 use Rattle.sm_node.specs.Headers.{header_in}
 use Rattle.sm_node.specs.Held.{IsRunning}
 
--- the number that says that there is no order
+-- the number for a general that has no order
 abbrev pub no_order : ℕ
 no_order = 255
 
--- they are a general's number, and an order's or that
+-- these are a general's number (below 16), and an order's (below 16) or the number for no order
 abbrev pub are_numbers : ℕ → ℕ → Bool
 are_numbers general order = nat_lt general 16 && (nat_lt order 16 || order == no_order)
 
--- the order of this number, if it is one
+-- the order of this number; None for the number for no order
 abbrev pub own_order : ℕ → Option ℕ
 own_order order = if order == no_order then None else Some order
 
--- the node of a header's bytes, a general, his seed and his order
+-- this is the node of a header's bytes, a general, its seed and its order
 pub record IsStarted (bytes : List ℕ) (general : ℕ) (seed : List ℕ) (own : Option ℕ) (h : RunHeader)
     (n : Node) : Type 0 where
   pub header : header_in bytes ≡ Ok h
   pub fits : MayBeNode h general own (fresh_ring h seed)
   pub node : n ≡ node_at_start h general own (fresh_ring h seed)
 
--- why there is none: the first that doesn't hold
+-- this fault is why there is no node: it is the first fault that holds
 abbrev pub IsStartFault : List ℕ → ℕ → List ℕ → Option ℕ → StartFault → Type 0
 IsStartFault bytes general seed own (Header f) = header_in bytes ≡ Err f
 IsStartFault bytes general seed own NoGeneral =
@@ -45,17 +45,18 @@ IsStartFault bytes general seed own NoGeneral =
 IsStartFault bytes general seed own OtherRoot =
     (h : RunHeader) × (header_in bytes ≡ Ok h) × IsRefused h general own (fresh_ring h seed) faults.OtherRoot
 
--- one or the other, unless memory is refused
+-- the answer is the node, or why there is none, unless memory was refused
 abbrev pub StartsNode : List ℕ → ℕ → List ℕ → Option ℕ → Result Node (ReadError StartFault) → Type 0
 StartsNode bytes general seed own (Ok n) = (h : RunHeader) × IsStarted bytes general seed own h n
 StartsNode bytes general seed own (Err errors.Memory) = Unit {0}
 StartsNode bytes general seed own (Err (errors.Fault f)) = IsStartFault bytes general seed own f
 
--- the call may be made: nothing is there, and the numbers are a general's and an order's
+-- the call may be made: nothing is held, and the numbers are a general's and an order's or the number for no
+-- order
 abbrev pub MayStart : ℕ → ℕ → Option Held → Type 0
 MayStart general order old = (old ≡ None) × (are_numbers general order ≡ true)
 
--- a node stands where none stood, or the number of a fault is told
+-- a node is held and nothing was before, or the number of a fault is told
 abbrev pub Starts : List ℕ → ℕ → List ℕ → ℕ → Option Held → Option Held → ℕ → Told → Type 0
 Starts bytes general seed order old new fault Done =
     (fault ≡ 0) × MayStart general order old × ((h : RunHeader) × (n : Node) × IsRunning new n
@@ -68,11 +69,11 @@ Starts bytes general seed order old new fault Fault =
 Starts bytes general seed order old new fault Memory = (fault ≡ 0) × (new ≡ old) × MayStart general order old
 Starts bytes general seed order old new fault Length = ⊥
 
--- the height of a version's trees, 4 in version 1 and 6 in version 2
+-- the height of the trees of keys of a version: 4 in version 1, 6 in version 2; None for any other
 abbrev pub height_numbered : ℕ → Option TreeHeight
 height_numbered version = if version == 1 then Some Four else if version == 2 then Some Six else None
 
--- the root of a seed's keys is written
+-- the root of a seed's keys is written, for headers of this version
 abbrev pub WritesRoot : List ℕ → ℕ → List ℕ → List ℕ → Told → Type 0
 WritesRoot seed version old new Done =
     (height : TreeHeight) × (height_numbered version ≡ Some height) × (new ≡ ring_root seed height)

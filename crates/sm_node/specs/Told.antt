@@ -3,6 +3,7 @@ use Rattle.std.specs.Prelude.{ℕ, ◌≡◌}
 use Rattle.sm_node.specs.declared.told.Told.{Told}
 use Rattle.sm_node.specs.declared.told.Told.TheVariants.{Done, Misuse, Fault, Memory, Length}
 
+-- the number of an answer
 abbrev pub status_of : Told → ℕ
 status_of Done = 0
 status_of Misuse = 2
@@ -10,6 +11,6 @@ status_of Fault = 3
 status_of Memory = 4
 status_of Length = 5
 
--- the number that is returned says what is told, and what goes with that holds
+-- the returned number is that of an answer, and what goes with the answer holds
 abbrev pub IsTold : (Told → Type 0) → ℕ → Type 0
 IsTold Holds status = (told : Told) × (status ≡ status_of told) × Holds told

@@ -1,4 +1,4 @@
-//! Bundles of logs that were collected.
+//! Makes a bundle of logs that were collected.
 ghost use Rattle.std.specs.Prelude.{◌≡◌, true, IfOk};
 ghost use Rattle.gen_types.specs.Bits.{members_of};
 ghost use Rattle.sm_node.specs.Bundles as gathering;
@@ -14,7 +14,7 @@ use gen_types::{GeneralNo, GeneralSet, ReadError};
 use gen_walks::{WalkFault, Walks, make_walks};
 use std::alloc::{AllocError, Global};
 
-/// Whose log it is, and how many bytes it has.
+/// The general of a log, and the log's number of bytes.
 #[repr(C)]
 #[derive(Clone, Copy)]
 pub struct SmLog {
@@ -24,7 +24,7 @@ pub struct SmLog {
     pub bytes: usize,
 }
 
-/// The log in front of the bytes.
+/// Returns the log in front of the bytes.
 fn log_in_front(alloc: Global, log: SmLog, bytes: &[u8]) -> Result<Exhibit, AllocError>
     requires { gathering.is_in_front log bytes.now ≡ true }
     ensures { IfOk result (λ x. x ≡ gathering.log_in_front log bytes.now) }
@@ -33,14 +33,14 @@ fn log_in_front(alloc: Global, log: SmLog, bytes: &[u8]) -> Result<Exhibit, Allo
     Exhibit::new(GeneralNo::at(log.general as u8), own)
 }
 
-/// Whether a log lies in front of the bytes, and it is a general's.
+/// Whether the bytes begin with a log of this length, and its general's number is below 16.
 fn is_in_front(log: SmLog, bytes: &[u8]) -> bool
     ensures { result ≡ gathering.is_in_front log bytes.now }
 {
     log.general < 16 && log.bytes <= bytes.len()
 }
 
-/// The logs that stand one after another in the bytes, and None where not exactly these do.
+/// Returns the logs that stand one after another in the bytes; None if the bytes are not exactly these logs.
 #[tactic(auto, using(crate::proofs::Gathering::taken_off, crate::proofs::Gathering::none_had, crate::proofs::Gathering::all_had))]
 fn logs_in(alloc: Global, logs: &[SmLog], bytes: &[u8]) -> Result<Option<Vec<Exhibit>>, AllocError>
     ensures { IfOk result (λ found. gathering.listed found ≡ gathering.logs_in logs.now bytes.now) }
@@ -63,7 +63,7 @@ fn logs_in(alloc: Global, logs: &[SmLog], bytes: &[u8]) -> Result<Option<Vec<Exh
     }
 }
 
-/// Best walks between the generals who aren't held for faulty.
+/// Returns best walks between the generals that aren't held for faulty.
 fn walks_of(
     alloc: Global,
     header: &Header,
@@ -86,7 +86,7 @@ fn walks_of(
     }
 }
 
-/// The header of a bundle.
+/// Returns the header of a bundle, which the bytes must be.
 fn header_of(alloc: Global, bytes: &[u8]) -> Result<Header, ReadError<GatherFault>>
     ensures { gathering.FindsHeader bytes.now result }
 {
@@ -97,7 +97,7 @@ fn header_of(alloc: Global, bytes: &[u8]) -> Result<Header, ReadError<GatherFaul
     }
 }
 
-/// The bytes of the bundle of a header's bytes, those who are held for faulty, and logs.
+/// Returns the bytes of the bundle of a header's bytes, the generals that are held for faulty, and logs.
 fn gather(
     alloc: Global,
     bytes: &[u8],
@@ -115,7 +115,8 @@ fn gather(
     }
 }
 
-/// Hands out the bytes of that bundle.
+/// Hands out the bytes of the bundle of a header's bytes, a set of generals that are held for faulty, and the logs in
+/// the bytes.
 pub(crate) fn hand_bundle(
     alloc: Global,
     header: &[u8],

@@ -1,4 +1,4 @@
-//! A node is driven through its rounds, and ended.
+//! Drives a node through its rounds, and ends it.
 ghost use Rattle.std.specs.Prelude.{◌≡◌, None};
 ghost use Rattle.sm_node.specs.Driving.{Begins, Ends, Finishes, HandsLog, Hears, Sends, TellsOrder};
 
@@ -7,7 +7,7 @@ use crate::told::Told;
 use gen_types::GeneralNo;
 use std::alloc::Global;
 
-/// Begins the next round.
+/// Begins the next round of a node.
 pub(crate) fn begin_round(alloc: Global, node: &mut SmNode) -> Told
     ensures { Begins node.old.held node.new.held result }
 {
@@ -19,7 +19,7 @@ pub(crate) fn begin_round(alloc: Global, node: &mut SmNode) -> Told
     told
 }
 
-/// Ends the round.
+/// Ends the round of a node.
 pub(crate) fn end_round(alloc: Global, node: &mut SmNode) -> Told
     ensures { Ends node.old.held node.new.held result }
 {
@@ -51,7 +51,7 @@ pub(crate) fn send(
     told
 }
 
-/// Takes what came of a neighbour in this round.
+/// Takes the bytes that came from a neighbour in this round.
 pub(crate) fn hear(
     alloc: Global,
     node: &mut SmNode,
@@ -96,7 +96,7 @@ pub(crate) fn log(alloc: Global, node: &mut SmNode, room: &mut [u8], count: &mut
     told
 }
 
-/// Tells the order that a node that has ended decided for.
+/// Tells the order that a node that has ended decided.
 pub(crate) fn order(alloc: Global, node: &mut SmNode, order: &mut u32) -> Told
     ensures same { node.new.held ≡ node.old.held }
     ensures tells { TellsOrder node.old.held order.new result }
@@ -110,7 +110,7 @@ pub(crate) fn order(alloc: Global, node: &mut SmNode, order: &mut u32) -> Told
     told
 }
 
-/// Drops what is held. A ring is closed.
+/// Drops what is held. An open ring is closed.
 pub(crate) fn free(alloc: Global, node: &mut SmNode)
     ensures { node.new.held ≡ None }
 {

@@ -1,4 +1,4 @@
-//! Faults of what is handed in, and their numbers.
+//! Faults of what a caller hands in, and their numbers.
 ghost use Rattle.std.specs.Prelude.{◌≡◌};
 ghost use Rattle.sm_node.specs.Faults as numbers;
 
@@ -6,34 +6,34 @@ use gen_audit::BundleFault;
 use gen_net::HeaderFault;
 use gen_node::FrameFault;
 
-/// Why bytes are not those of a header and no others.
+/// Why bytes are not exactly those of a header.
 #[derive(Clone, Copy, Debug, PartialEq, Eq)]
 pub enum BytesFault {
-    /// The bytes have this fault of a header.
+    /// The bytes don't begin with a header, by this fault.
     BadHeader(HeaderFault),
-    /// Bytes are left over behind the header.
+    /// Bytes are left over after the header.
     LeftOver,
 }
 
-/// Why there is no node of a header's bytes, a general, his order and his seed.
+/// Why there is no node of a header's bytes, a general, its order and its seed.
 #[derive(Clone, Copy, Debug, PartialEq, Eq)]
 pub enum StartFault {
-    /// The bytes have this fault.
+    /// The bytes of the header have this fault.
     Header(BytesFault),
-    /// He is none of the header's generals, or the order doesn't fit him.
+    /// The number is none of the header's generals, or the order doesn't fit the general.
     NoGeneral,
-    /// The root of his keys is not the one that the header has for him.
+    /// The root of the general's keys is not the root that the header has for it.
     OtherRoot,
 }
 
-/// Why there is no bundle of a header's bytes, those who are held for faulty, and logs.
+/// Why there is no bundle of a header's bytes, the generals that are held for faulty, and logs.
 #[derive(Clone, Copy, Debug, PartialEq, Eq)]
 pub enum GatherFault {
     /// The bytes of the header have this fault.
     Header(BytesFault),
-    /// No walk joins two of the others.
+    /// No walk joins two of the generals that aren't held for faulty.
     NoWalk,
-    /// The shortest walk between two of the others is too long.
+    /// The shortest walk between two of the generals that aren't held for faulty is too long.
     LongWalk,
     /// The bundle breaks this rule.
     Bundle(BundleFault),
@@ -74,7 +74,7 @@ pub(crate) fn frame_number(fault: FrameFault) -> u32
     }
 }
 
-/// Returns the number of a bundle's fault, 41 to 50, or that of its header.
+/// Returns the number of a bundle's fault: 41 to 50, or the number of its header's fault, 1 to 11.
 fn bundle_number(fault: BundleFault) -> u32
     ensures { result ≡ numbers.bundle_number fault }
 {
@@ -103,7 +103,7 @@ fn bytes_number(fault: BytesFault) -> u32
 }
 
 impl StartFault {
-    /// Returns the number, 1 to 14.
+    /// Returns the number of the fault, 1 to 14.
     pub(crate) fn number(self) -> u32
         ensures { result ≡ numbers.start_number self }
     {
@@ -116,7 +116,7 @@ impl StartFault {
 }
 
 impl GatherFault {
-    /// Returns the number: 1 to 12, 31, 32, or 41 to 50.
+    /// Returns the number of the fault: 1 to 12, 31, 32, or 41 to 50.
     pub(crate) fn number(self) -> u32
         ensures { result ≡ numbers.gather_number self }
     {

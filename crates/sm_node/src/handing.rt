@@ -1,9 +1,10 @@
-//! How a text reaches a caller in another language.
+//! Hands a text to a caller in another language.
 ghost use Rattle.sm_node.specs.Handing.{PutsText};
 
 use crate::told::Told;
 
-/// Copies a text to the begin of the room if it fits there. The count is its length.
+/// Copies a text to the beginning of the room if it fits there: Done, or else Length. The count is the text's length in
+/// both cases.
 pub(crate) fn put(text: &[u8], room: &mut [u8], count: &mut usize) -> Told
     ensures { PutsText text.now room.old room.new count.new result }
 {

@@ -1,4 +1,4 @@
-//! Headers as they are handed in, and as they are made of numbers, edges and roots.
+//! Headers as bytes that are handed in, and as they are made from numbers, edges and roots.
 ghost use Rattle.std.specs.Prelude.{◌≡◌, IfOk, map};
 ghost use Rattle.gen_types.specs.Spelled.{IsRead};
 ghost use Rattle.sm_node.specs.Headers as headers;
@@ -10,13 +10,13 @@ use gen_net::{Header, HeaderFault, Net, header_bytes, read_header};
 use gen_types::{ReadError, check};
 use std::alloc::{AllocError, Global};
 
-/// The numbers that a header is made of besides its edges and roots: any values, which are checked.
+/// The numbers that a header is made from besides its edges and roots. They may have any values, which are checked.
 #[repr(C)]
 #[derive(Clone, Copy)]
 pub struct SmNumbers {
     /// The number of the version, 1 or 2.
     pub version: u8,
-    /// The slot; it counts in version 2 alone.
+    /// The slot, 0 to 3; it counts in version 2 alone.
     pub slot: u8,
     /// The number of generals.
     pub generals: u8,
@@ -30,7 +30,7 @@ pub struct SmNumbers {
     pub choice: u8,
 }
 
-/// The header in front of the bytes, and how many bytes it has.
+/// Returns the header in front of the bytes, and its number of bytes.
 fn front_in(alloc: Global, bytes: &[u8]) -> Result<(Header, usize), ReadError<BytesFault>>
     ensures { IsRead result (headers.front_in bytes.now) }
 {
@@ -41,7 +41,7 @@ fn front_in(alloc: Global, bytes: &[u8]) -> Result<(Header, usize), ReadError<By
     }
 }
 
-/// The header that the bytes are.
+/// Returns the header that all the bytes are.
 #[tactic(auto, unfolding(crate::specs::Headers::header_in))]
 pub(crate) fn header_in(alloc: Global, bytes: &[u8]) -> Result<Header, ReadError<BytesFault>>
     ensures { IsRead result (headers.header_in bytes.now) }
@@ -51,7 +51,7 @@ pub(crate) fn header_in(alloc: Global, bytes: &[u8]) -> Result<Header, ReadError
     Ok(header)
 }
 
-/// The two ends of each edge.
+/// Returns the two ends of each edge as a pair.
 fn pairs_of(alloc: Global, edges: &[[u8; 2]]) -> Result<Vec<(u8, u8)>, AllocError>
     ensures { IfOk result (λ pairs. pairs.items ≡ map headers.ends_of edges.now) }
 {
@@ -62,7 +62,7 @@ fn pairs_of(alloc: Global, edges: &[[u8; 2]]) -> Result<Vec<(u8, u8)>, AllocErro
     Ok(pairs)
 }
 
-/// The network of these numbers and edges.
+/// Returns the network of these numbers and edges, or the first rule that they break.
 fn net_of(
     alloc: Global,
     numbers: &SmNumbers,
@@ -82,7 +82,7 @@ fn net_of(
     )
 }
 
-/// The header of these in the version that their number says.
+/// Returns the header of this network and these roots in the version that the numbers say.
 fn header_over(
     numbers: &SmNumbers,
     net: Net,
@@ -101,7 +101,7 @@ fn header_over(
     }
 }
 
-/// The header of these.
+/// Returns the header of these numbers, edges and roots, or the first rule that they break.
 #[tactic(auto, unfolding(crate::specs::Headers::header_made))]
 fn header_of(
     alloc: Global,
@@ -116,7 +116,7 @@ fn header_of(
     header_over(numbers, net, roots)
 }
 
-/// Hands out the bytes of the header of these.
+/// Hands out the bytes of the header of these numbers, edges and roots.
 pub(crate) fn make_header(
     alloc: Global,
     numbers: &SmNumbers,

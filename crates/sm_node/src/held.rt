@@ -1,4 +1,4 @@
-//! What a node's memory holds.
+//! What the memory of a node for C holds.
 ghost use Rattle.std.specs.Prelude.{◌≡◌, Some};
 ghost use Rattle.gen_node.specs.Node as nodes;
 ghost use Rattle.sm_node.specs.Driving.{Begins, Ends, Finishes, HandsLog, Hears, Sends, TellsOrder};
@@ -23,13 +23,13 @@ pub struct Ending {
     pub decision: Decision,
 }
 
-/// What a node's memory holds.
+/// What the memory of a node for C holds.
 pub enum Held {
     /// Nothing yet.
     Empty,
     /// A node that has not ended.
     Running(Node),
-    /// What is left of one that has.
+    /// What is left of a node that has ended.
     Ended(Ending),
 }
 
@@ -106,7 +106,7 @@ impl Held {
         }
     }
 
-    /// Takes what came of a neighbour in this round.
+    /// Takes the bytes that came from a neighbour in this round.
     pub(crate) fn hear(
         &mut self,
         alloc: Global,
@@ -130,7 +130,7 @@ impl Held {
         }
     }
 
-    /// Whether a node is there whose last round has ended.
+    /// Whether there is a node whose last round has ended.
     fn is_over(&self) -> bool
         ensures { result ≡ allows nodes.is_over (Some self.now) }
     {
@@ -140,7 +140,7 @@ impl Held {
         }
     }
 
-    /// The node, if one is there that has not ended.
+    /// Returns the node, if there is one that has not ended.
     fn into_node(self) -> Option<Node>
         ensures { result ≡ running self }
     {
@@ -150,7 +150,7 @@ impl Held {
         }
     }
 
-    /// Ends the node after the last round. Its ring is closed.
+    /// Ends the node after the last round. The node's ring is closed.
     pub(crate) fn finish(&mut self, alloc: Global) -> Told
         ensures { Finishes (Some self.old) (Some self.new) result }
     {
@@ -190,7 +190,7 @@ impl Held {
         }
     }
 
-    /// Tells the order that a node that has ended decided for.
+    /// Tells the order that a node that has ended decided.
     pub(crate) fn order(&self, order: &mut u32) -> Told
         ensures { TellsOrder (Some self.now) order.new result }
     {

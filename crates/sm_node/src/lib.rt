@@ -1,17 +1,18 @@
 //! The library of nodes for C: one general of a run, driven by a program in another language.
 //!
-//! A node is opaque to the caller: one pointer, which is null where no node is. Each function returns one of these numbers.
+//! A node is opaque to the caller: one pointer, which is null if there is no node. Each function returns one of these
+//! numbers.
 //!
 //! | number | what it says |
 //! |---|---|
 //! | 0 | it was done |
-//! | 2 | it may not be called so, and nothing was changed |
+//! | 2 | the call may not be made in this way, and nothing was changed |
 //! | 3 | what was handed in has a fault, whose number is told, and nothing was changed |
 //! | 4 | memory was refused: the same call may be made again |
-//! | 5 | the room is too short, and the length that is wanted is told; nothing was changed |
+//! | 5 | the room is too short, and the length that is needed is told; nothing was changed |
 //!
-//! No function keeps anything but in the node that it was handed, starts a thread, waits for one, prints or ends the process.
-//! A contract says of each what a `Told` and what goes with it say, as `Begins`.
+//! No function keeps anything outside the node that it was handed, starts a thread, waits for one, prints, or ends the
+//! process. The contract of each function says what each `Told` means for it, and what goes with it, as `Begins` does.
 #![tactic(auto)]
 
 ghost use Rattle.std.specs.Prelude.{◌≡◌, ◌<◌, ◌≤◌, None};
@@ -41,7 +42,7 @@ use crate::starting::{start, write_root};
 use gen_types::GeneralNo;
 use std::alloc::Global;
 
-/// Writes the root of the tree of keys that a seed makes, for headers of the version 1 or 2. Another is misuse.
+/// Writes the root of the tree of keys that a seed makes, for headers of version 1 or 2. Any other version is misuse.
 #[unsafe(no_mangle)]
 pub extern "C" fn sm_root(alloc: Global, seed: &[u8; 32], version: u32, root: &mut [u8; 32]) -> u32
     ensures { IsTold (WritesRoot seed.now version root.old root.new) result }
@@ -49,8 +50,8 @@ pub extern "C" fn sm_root(alloc: Global, seed: &[u8; 32], version: u32, root: &m
     write_root(alloc, seed, version, root).status()
 }
 
-/// Hands out the bytes of the header of these numbers, edges and roots. The edges come in any order and direction, the roots
-/// in the order of their generals.
+/// Hands out the bytes of the header of these numbers, edges and roots. The edges come in any order and direction, the
+/// roots in the order of their generals.
 #[unsafe(no_mangle)]
 pub extern "C" fn sm_header(
     alloc: Global,
@@ -67,8 +68,8 @@ pub extern "C" fn sm_header(
     make_header(alloc, numbers, edges, roots, room, count, fault).status()
 }
 
-/// Makes a node of a header's bytes, a general, his seed and his order, where no node is: 255 says that he has no order. It is
-/// misuse where a node is, or a number is none.
+/// Makes a node of a header's bytes, a general, its seed and its order, in a place that holds no node; 255 says that
+/// the general has no order. It is misuse if the place holds a node, or if a number is no general's or no order's.
 #[unsafe(no_mangle)]
 pub extern "C" fn sm_node_new(
     alloc: Global,
@@ -84,7 +85,7 @@ pub extern "C" fn sm_node_new(
     start(alloc, node, header, general, seed, own, fault).status()
 }
 
-/// Begins the next round. Where memory is refused, the same call goes on with it.
+/// Begins the next round. If memory is refused, a further call goes on with it.
 #[unsafe(no_mangle)]
 pub extern "C" fn sm_node_begin_round(alloc: Global, node: &mut SmNode) -> u32
     ensures { IsTold (Begins node.old.held node.new.held) result }
@@ -103,7 +104,7 @@ pub extern "C" fn sm_node_send(
 ) -> u32
     ensures same { node.new.held ≡ node.old.held }
     ensures general { to < 16 → IsTold (Sends to node.old.held room.old room.new count.new) result }
-    // The number is no general's.
+    // The number is 16 or more, so it is no general's.
     ensures nobody { 16 ≤ to → (result ≡ 2) × IsUntouched room.old room.new count.new }
 {
     if to >= 16 {
@@ -113,7 +114,7 @@ pub extern "C" fn sm_node_send(
     send(alloc, node, GeneralNo::at(to as u8), room, count).status()
 }
 
-/// Takes the bytes that came of a neighbour in this round.
+/// Takes the bytes that came from a neighbour in this round.
 #[unsafe(no_mangle)]
 pub extern "C" fn sm_node_hear(
     alloc: Global,
@@ -124,7 +125,7 @@ pub extern "C" fn sm_node_hear(
 ) -> u32
     ensures general { from < 16 →
         IsTold (Hears from bytes.now node.old.held node.new.held fault.new) result }
-    // The number is no general's.
+    // The number is 16 or more, so it is no general's.
     ensures nobody { 16 ≤ from → (result ≡ 2) × (node.new.held ≡ node.old.held) × (fault.new ≡ 0) }
 {
     if from >= 16 {
@@ -134,8 +135,8 @@ pub extern "C" fn sm_node_hear(
     hear(alloc, node, GeneralNo::at(from as u8), bytes, fault).status()
 }
 
-/// Ends the round. A neighbour of whom nothing was taken counts as one who sent nothing. Where memory is refused, the same
-/// call goes on with it.
+/// Ends the round. A neighbour from which nothing was taken counts as one that sent nothing. If memory is refused, a
+/// further call goes on with it.
 #[unsafe(no_mangle)]
 pub extern "C" fn sm_node_end_round(alloc: Global, node: &mut SmNode) -> u32
     ensures { IsTold (Ends node.old.held node.new.held) result }
@@ -143,7 +144,7 @@ pub extern "C" fn sm_node_end_round(alloc: Global, node: &mut SmNode) -> u32
     end_round(alloc, node).status()
 }
 
-/// Ends the node after the last round: of it are left its sealed log and its decision, and its ring of keys is closed.
+/// Ends the node after the last round. Its sealed log and its decision are left, and its ring of keys is closed.
 #[unsafe(no_mangle)]
 pub extern "C" fn sm_node_finish(alloc: Global, node: &mut SmNode) -> u32
     ensures { IsTold (Finishes node.old.held node.new.held) result }
@@ -165,7 +166,7 @@ pub extern "C" fn sm_node_log(
     log(alloc, node, room, count).status()
 }
 
-/// Tells the order that a node that has ended decided for.
+/// Tells the order that a node that has ended decided.
 #[unsafe(no_mangle)]
 pub extern "C" fn sm_node_order(alloc: Global, node: &mut SmNode, decided: &mut u32) -> u32
     ensures same { node.new.held ≡ node.old.held }
@@ -174,7 +175,7 @@ pub extern "C" fn sm_node_order(alloc: Global, node: &mut SmNode, decided: &mut 
     order(alloc, node, decided).status()
 }
 
-/// Frees what a node holds, at any time, so that no node is there. A ring of keys that is open is closed.
+/// Frees what a node holds, at any time, so that there is no node. An open ring of keys is closed.
 #[unsafe(no_mangle)]
 pub extern "C" fn sm_node_free(alloc: Global, node: &mut SmNode)
     ensures { node.new.held ≡ None }
@@ -182,9 +183,10 @@ pub extern "C" fn sm_node_free(alloc: Global, node: &mut SmNode)
     free(alloc, node)
 }
 
-/// Hands out the bytes of the bundle of a run: of its header's bytes, the set of those who are held for faulty, bit g for
-/// general g, walks between the others, and logs that were collected, which stand one after another in `bytes`, in ascending
-/// order of their generals. It is misuse where the set has a general above 15, or not exactly these logs stand there.
+/// Hands out the bytes of the bundle of a run. Its parts are the header's bytes, the set of the generals that are held
+/// for faulty (bit g for general g), walks between the others, and the collected logs. The logs stand one after another
+/// in `bytes`, in ascending order of their generals. It is misuse if the set has a general above 15, or if `bytes` are
+/// not exactly these logs.
 #[unsafe(no_mangle)]
 pub extern "C" fn sm_bundle(
     alloc: Global,

@@ -11,7 +11,8 @@ use std::marker::Model;
 use std::mem::replace;
 use std::ptr::null_mut;
 
-/// A node as a caller in C holds it: one pointer, which is null where nothing is held, and else owns the box of what is.
+/// A node as a caller in C holds it. It is one pointer, which is null if nothing is held, and otherwise owns the box of
+/// what is held.
 #[repr(C)]
 pub struct SmNode {
     at: *mut u8,
@@ -23,14 +24,14 @@ impl Model for SmNode {
 }
 
 impl SmNode {
-    /// Nothing is held.
+    /// Returns a node that holds nothing.
     fn empty() -> SmNode
         ensures { result.held ≡ None }
     {
         SmNode { at: null_mut() }
     }
 
-    /// What the box has is held.
+    /// Returns a node that holds what the box has.
     fn of(loose: Loose<Held, Global>) -> SmNode
         ensures { result.held ≡ Some loose.value }
     {
@@ -38,7 +39,7 @@ impl SmNode {
         SmNode { at: at as *mut u8 }
     }
 
-    /// The box of what is held.
+    /// Returns the box of what is held; None if nothing is.
     fn into_loose(self, alloc: Global) -> Option<Loose<Held, Global>>
         ensures { MatchOption result (self.held ≡ None) (λ l. self.held ≡ Some l.value) }
     {
@@ -53,7 +54,7 @@ impl SmNode {
         }
     }
 
-    /// Takes out what is held.
+    /// Takes out what is held, so that nothing is; None if nothing was.
     pub(crate) fn take(&mut self, alloc: Global) -> Option<Box<Held>>
         ensures held { MatchOption result (self.old.held ≡ None) (λ b. self.old.held ≡ Some b.value) }
         ensures empty { self.new.held ≡ None }

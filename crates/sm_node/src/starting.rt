@@ -1,4 +1,4 @@
-//! How a node begins.
+//! Makes a node for C, and the root of a seed's keys.
 ghost use Rattle.std.specs.Prelude.{◌≡◌, true};
 ghost use Rattle.sm_node.specs.Starting as starting;
 
@@ -11,17 +11,17 @@ use gen_node::{Node, NodeFault, root_of};
 use gen_types::{GeneralNo, OrderNo, ReadError, TreeHeight};
 use std::alloc::Global;
 
-/// The number that says that there is no order.
+/// The number for a general that has no order.
 const NO_ORDER: u32 = 255;
 
-/// Whether they are a general's number, and an order's or the one that says that there is none.
+/// Whether these are a general's number (below 16), and an order's (below 16) or the number for no order.
 fn are_numbers(general: u32, order: u32) -> bool
     ensures { result ≡ starting.are_numbers general order }
 {
     general < 16 && (order < 16 || order == NO_ORDER)
 }
 
-/// The order of this number, if it is one.
+/// Returns the order of this number; None for the number for no order.
 fn own_order(order: u32) -> Option<OrderNo>
     requires { starting.are_numbers 0 order ≡ true }
     ensures { result ≡ starting.own_order order }
@@ -33,7 +33,7 @@ fn own_order(order: u32) -> Option<OrderNo>
     }
 }
 
-/// The node of a header's bytes, a general, his seed and his order.
+/// Returns the node of a header's bytes, a general, its seed and its order.
 fn node_of(
     alloc: Global,
     bytes: &[u8],
@@ -57,7 +57,7 @@ fn node_of(
     }
 }
 
-/// A node of a header's bytes, a general, his seed and his order stands where nothing stood.
+/// Makes a node of a header's bytes, a general, its seed and its order, in a place that holds nothing.
 pub(crate) fn start(
     alloc: Global,
     node: &mut SmNode,
@@ -95,7 +95,7 @@ pub(crate) fn start(
     }
 }
 
-/// The height of the trees of a version.
+/// Returns the height of the trees of keys of a version: 4 in version 1, 6 in version 2; None for any other.
 fn height_numbered(version: u32) -> Option<TreeHeight>
     ensures { result ≡ starting.height_numbered version }
 {
@@ -106,7 +106,7 @@ fn height_numbered(version: u32) -> Option<TreeHeight>
     }
 }
 
-/// Writes the root of a seed's keys.
+/// Writes the root of the tree of keys that a seed makes, for headers of this version.
 pub(crate) fn write_root(alloc: Global, seed: &[u8; 32], version: u32, root: &mut [u8; 32]) -> Told
     ensures { starting.WritesRoot seed.now version root.old root.new result }
 {

@@ -2,23 +2,23 @@
 ghost use Rattle.std.specs.Prelude.{◌≡◌};
 ghost use Rattle.sm_node.specs.Told.{status_of};
 
-/// What a call answers, whose number it returns.
+/// What a call answers. The call returns its number.
 #[derive(Clone, Copy, Debug, PartialEq, Eq)]
 pub enum Told {
     /// It was done.
     Done,
-    /// It may not be called so: nothing was changed.
+    /// The call may not be made in this way: nothing was changed.
     Misuse,
     /// What was handed in has a fault, whose number is told: nothing was changed.
     Fault,
     /// Memory was refused: the same call may be made again.
     Memory,
-    /// The room is too short, and the length that is wanted is told.
+    /// The room is too short, and the length that is needed is told.
     Length,
 }
 
 impl Told {
-    /// Returns the number.
+    /// Returns the number that the call returns.
     pub fn status(self) -> u32
         ensures { result ≡ status_of self }
     {

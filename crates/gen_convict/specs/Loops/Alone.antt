@@ -1,4 +1,4 @@
--- Texts that are known to have no rival behind them.
+-- Texts that are known to have no rival after them.
 use Rattle.std.specs.Prelude.{◌≡◌, false, List, Contains}
 use Rattle.std.specs.List.{list_any}
 use Rattle.gen_convict.specs.declared.run_texts.RunText.{RunText}

@@ -1,22 +1,22 @@
--- What a lieutenant is to send, looked for one receiver and one order after another.
+-- What a lieutenant has to send, found for one receiver and one order after another.
 use Rattle.std.specs.Prelude.{ℕ, ◌≡◌, ◌<◌, ◌⊎◌, List, [], ◌∷◌, ◌++◌, length, Contains, All, AllPairs, Option}
 use Rattle.gen_net.specs.Network.{Network, rounds}
 use Rattle.gen_core.specs.declared.sending.Outgoing.{Outgoing}
 use Rattle.gen_core.specs.Sending.{GoesBefore, IsDue}
 
--- the picked path of fewer than R signers, without g, lengthened by himself, is this path, and `to` is
--- outside it
+-- the picked path has fewer than R signers and is without g, `path` is that path lengthened by g, and `to` is
+-- not in it
 pub record GoesOn (net : Network) (g to : ℕ) (picked path : List ℕ) : Type 0 where
   pub in_time : length picked < rounds net
   pub new : Contains picked g → ⊥
   pub longer : path ≡ picked ++ g ∷ []
   pub outside : Contains path to → ⊥
 
--- due to this receiver, of the orders below n
+-- the chain goes to this receiver, has an order below n, and g has to send it
 abbrev pub IsDueBelow : Network → ℕ → List (Option (List ℕ)) → ℕ → ℕ → Outgoing → Type 0
 IsDueBelow net g adds to n x = (x.to ≡ to) × (x.order < n) × IsDue net g adds x
 
--- the list is in order, and each of its chains goes before one of this order to this receiver
+-- the list is in order, and each of its chains goes before a chain of this order to this receiver
 pub record GoesUpTo (out : List Outgoing) (to order : ℕ) : Type 0 where
   pub in_order : AllPairs GoesBefore out
   pub before : All (λ x. (x.to < to) ⊎ ((x.to ≡ to) × (x.order < order))) out

@@ -1,4 +1,4 @@
--- What a general keeps while he goes from round to round.
+-- What a general keeps from round to round.
 use Rattle.std.specs.Prelude.{ℕ, ◌≡◌, ◌≤◌, ◌<◌, List, Option, Some, None, Contains}
 use Rattle.gen_tree.specs.Rings.{Ring}
 use Rattle.gen_net.specs.Header.{height_of}
@@ -14,19 +14,19 @@ use Rattle.gen_general.specs.Following.{round_signed, IsSignedWith}
 use Rattle.gen_scenario.specs.Part.{Part, own_keys}
 use Rattle.gen_general.specs.Participant.{IsSpentOn}
 
--- the ring of one without a script, and what he signed in this round
+-- the ring of a general without a script, and the chains that it signed in this round
 pub record Follower : Type 0 where
   pub ring : Ring
   pub signed : List Chain
 
--- he signed an order in a round up to this one
+-- the general signed this order in this round or an earlier one
 pub record IsSpent (own : Option ℕ) (heard : List Heard) (round order : ℕ) : Type 0 where
   pub at : ℕ
   pub signed : round_signed own heard order ≡ Some at
   pub past : at ≤ round
 
--- What he keeps: he signed what he had to, and each leaf of the run that was taken is that of an order which
--- he signed.
+-- What a general without a script keeps. The chains of this round are those that it had to sign. Each leaf of
+-- the run that was taken belongs to an order that it signed by now.
 pub record IsHand (k : Part) (heard before : List Heard) (round : ℕ) (hand : Follower) : Type 0 where
   pub unscripted : k.script ≡ None
   pub height : hand.ring.height ≡ height_of k.header
@@ -34,21 +34,21 @@ pub record IsHand (k : Part) (heard before : List Heard) (round : ℕ) (hand : F
   pub spent : (n : ℕ) → n < leaves_per_run → Contains hand.ring.taken (leaf_of_order k.header n)
       → IsSpent k.own heard round n
 
--- the leaves of what he has to sign in this round are free
+-- the leaves of the orders that the general has to sign in this round are not taken
 pub record IsFree (k : Part) (heard : List Heard) (round : ℕ) (hand : Follower) : Type 0 where
   pub height : hand.ring.height ≡ height_of k.header
   pub leaf : (leaf : ℕ) → IsSignedWith k.header k.own heard round leaf → Contains hand.ring.taken leaf → ⊥
 
--- he signed what he had to in this round
+-- the general signed what it had to sign in this round
 pub record HasSignedIt (k : Part) (heard : List Heard) (round : ℕ) (old new : Follower) : Type 0 where
   pub signed : new.signed ≡ signed_in (own_keys k.header old.ring.seed) k.me k.own heard round
   pub ring : IsSpentOn k.header k.own heard round old.ring new.ring
 
--- he has a script
+-- the general has a script
 abbrev pub HasScript : Part → Type 0
 HasScript k = (lines : List ScriptLine) × (k.script ≡ Some lines)
 
--- this is what it has him send in a round
+-- this is what the script has its general send in a round
 abbrev pub HasPlanned : Part → List Heard → ℕ → List Planned → Type 0
 HasPlanned k heard round planned =
     (lines : List ScriptLine) → k.script ≡ Some lines

@@ -11,17 +11,17 @@ use Rattle.gen_chain.specs.Leaves.{leaf_of_order}
 use Rattle.gen_scenario.specs.Frames.{relayed}
 use Rattle.gen_general.specs.Following.{round_signed}
 
--- room for signing a chain: for how many signers it is, and the height of the trees by which they sign
+-- room for signing a chain: the greatest number of signers, and the height of the trees by which they sign
 pub record SignRoom : Type 0 where
   pub signers : ℕ
   pub height : TreeHeight
 
--- a chain that is signed in this round has room there
+-- the room is large enough for a chain that is signed in this round
 pub record IsRoom (h : RunHeader) (round : ℕ) (room : SignRoom) : Type 0 where
   pub signers : round ≤ room.signers
   pub height : room.height ≡ height_of h
 
--- what was first heard of an order, where that was in the round before
+-- the first chain that was heard of an order, if it was heard in the round before this one
 abbrev pub due_of : ℕ → Option Heard → Option Heard
 due_of round None = None
 due_of round (Some x) = if round_of x + 1 == round then Some x else None
@@ -30,17 +30,17 @@ abbrev pub one_or_none : Option Heard → ℕ
 one_or_none None = 0
 one_or_none (Some x) = 1
 
--- of how many of the first orders something is to be signed
+-- the number of orders below a bound that have to be signed in this round
 unfoldable pub due_count : ℕ → List Heard → ℕ → ℕ
 due_count round heard zero = 0
 due_count round heard (suc n) = due_count round heard n + one_or_none (due_of round (first_of n heard))
 
--- what is signed of the first orders
+-- the chains that are signed in this round for the orders below n
 unfoldable pub relayed_to : Keys → ℕ → List Heard → ℕ → ℕ → List Chain
 relayed_to k me heard round n =
     flat_map (λ order. relayed k me round (first_of order heard)) (range_with_len 0 n)
 
--- the leaf is that of one of the first orders, which is signed in this round
+-- the leaf belongs to an order below n that is signed in this round
 pub record IsTakenTo (h : RunHeader) (heard : List Heard) (round n leaf : ℕ) : Type 0 where
   pub order : ℕ
   pub below : order < n

@@ -1,4 +1,4 @@
--- What the state after some entries says of the next one.
+-- What the state after some entries says about the next entry.
 use Rattle.std.specs.Prelude.{ℕ, ◌≡◌, ◌+◌, ◌<◌, ◌≤◌, ◌⊎◌, List, [], ◌∷◌, ◌++◌, length, slice_index_or}
 use Rattle.gen_types.specs.Ascending.{IsListOf}
 use Rattle.gen_net.specs.Network.{Network, rounds, choose}
@@ -10,7 +10,7 @@ use Rattle.gen_local.specs.Following.{IsOwn}
 use Rattle.gen_local.specs.Keys.{key, sign_key, send_key}
 use Rattle.gen_local.specs.Recvs.{HasRecv}
 
--- the order stands in the way of an entry at this place: it is due to be signed, or to be sent, before
+-- the order v stands in the way of an entry at this place: it is due to be signed or sent at a place before
 abbrev pub Stops : Network → ℕ → Progress → ℕ → Type 0
 Stops net v Unlearnt at = ⊥
 Stops net v (Learnt round) at = (round < rounds net) × (sign_key (round + 1) v < at)
@@ -20,19 +20,19 @@ abbrev pub AnyStops : Network → List Progress → ℕ → Type 0
 AnyStops net orders at =
     (v : ℕ) × (v < 16) × Stops net v (slice_index_or orders v Unlearnt) at
 
--- the path is one by which he learnt the order in this round, lengthened by himself
+-- the path is one by which g learnt the order in this round, followed by g
 abbrev pub Lengthens : ℕ → List LogEntry → ℕ → ℕ → List ℕ → Type 0
 Lengthens g before v round path =
     (picked : List ℕ) × (path ≡ picked ++ g ∷ []) × (length picked ≡ round)
     × ((picked ≡ []) ⊎ HasRecv before v picked)
 
--- he can sign the order with the path
+-- g can sign the order with the path
 abbrev pub CanSign : Network → ℕ → List LogEntry → ℕ → Progress → List ℕ → Type 0
 CanSign net g before v Unlearnt path = ⊥
 CanSign net g before v (Learnt round) path = (round < rounds net) × Lengthens g before v round path
 CanSign net g before v (Relayed other next) path = ⊥
 
--- the path is next due to the general
+-- a SEND of the path to this general is the next one due
 abbrev pub CanSend : Network → Progress → ℕ → List ℕ → Type 0
 CanSend net Unlearnt to path = ⊥
 CanSend net (Learnt round) to path = ⊥
@@ -55,7 +55,7 @@ IsAllowed net g before orders (Received from v path) =
 IsAllowed net g before orders (Decided set order) =
     IsListOf set (λ v. (v < 16) × IsKnown (slice_index_or orders v Unlearnt)) × (order ≡ choose net set)
 
--- the entry is START, or something stands before it
+-- the entry is START, or there is an entry before it
 abbrev pub HasStarted : ℕ → LogEntry → Type 0
 HasStarted least (Started general own) = Unit {0}
 HasStarted least (Signed v path) = 0 < least
@@ -63,7 +63,7 @@ HasStarted least (Sent to v path) = 0 < least
 HasStarted least (Received from v path) = 0 < least
 HasStarted least (Decided set order) = 0 < least
 
--- it stands in its place, with nothing left out before it, and the state allows it
+-- the entry stands in its place, nothing due before it is left out, and the state allows it
 pub record IsJudged (net : Network) (g : ℕ) (before : List LogEntry) (least : ℕ) (orders : List Progress)
     (e : LogEntry) : Type 0 where
   pub in_place : least ≤ key net e

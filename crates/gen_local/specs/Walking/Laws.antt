@@ -1,4 +1,4 @@
--- Laws of the state: it says exactly which entry may follow.
+-- Laws of the state: it determines exactly which entry may follow.
 use Rattle.std.specs.Prelude.{ℕ, ◌+◌, ◌↔◌, List, [], ◌∷◌, ◌++◌}
 use Rattle.gen_net.specs.Network.{Network, IsNetwork}
 use Rattle.gen_net.specs.Log.{LogEntry}
@@ -9,14 +9,14 @@ use Rattle.gen_local.specs.Walking.State.{IsAfter}
 use Rattle.gen_local.specs.Walking.Judged.{IsJudged}
 use Rattle.gen_local.specs.Walking.Brought.{AreBrought}
 
--- an entry may follow exactly where the state allows it
+-- an entry may follow if and only if the state allows it
 abbrev pub JudgedExactly : Type 0
 JudgedExactly =
     (net : Network) (g : ℕ) (before : List LogEntry) (least : ℕ) (orders : List Progress) (e : LogEntry)
     → IsNetwork net → IsAfter net g before least orders → IsSmall e
     → IsJudged net g before least orders e ↔ MayFollow net g before e
 
--- and the state after it is the one to which it brings its order
+-- after an entry that may follow, the state is the one with its order's progress updated
 abbrev pub BroughtOn : Type 0
 BroughtOn =
     (net : Network) (g : ℕ) (before : List LogEntry) (least : ℕ) (orders new : List Progress) (e : LogEntry)

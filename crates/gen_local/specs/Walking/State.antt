@@ -1,4 +1,4 @@
--- How far a general has come after some entries of his log.
+-- A general's progress with each order after some entries of its log.
 use Rattle.std.specs.Prelude.{ℕ, ◌≡◌, ◌+◌, ◌<◌, ◌≤◌, suc, List, length, Contains, Option, slice_index_or}
 use Rattle.gen_net.specs.Network.{Network, AreNeighbours}
 use Rattle.gen_net.specs.Log.{LogEntry, Started, Signed, Sent}
@@ -11,17 +11,17 @@ use Rattle.gen_local.specs.Keys.{key, IsSmall}
 abbrev pub IsDueTo : Network → ℕ → List ℕ → ℕ → Type 0
 IsDueTo net g path to = AreNeighbours net g to × (Contains path to → ⊥)
 
--- he hasn't signed or sent the order
+-- the general hasn't signed or sent the order
 pub record IsUnsigned (before : List LogEntry) (v : ℕ) : Type 0 where
   pub unsigned : (path : List ℕ) → Contains before (Signed v path) → ⊥
   pub unsent : (to : ℕ) (path : List ℕ) → Contains before (Sent to v path) → ⊥
 
--- he hasn't learnt it, nor signed it
+-- the general hasn't learnt the order, nor signed it
 pub record IsUnlearnt (net : Network) (g : ℕ) (before : List LogEntry) (v : ℕ) : Type 0 where
   pub unknown : (path : List ℕ) → Learns g before v path → ⊥
   pub not_yet : IsUnsigned before v
 
--- he learnt it first in this round, and hasn't signed it
+-- the general learnt the order first in this round, and hasn't signed it
 pub record IsLearnt (net : Network) (g : ℕ) (before : List LogEntry) (v round : ℕ) : Type 0 where
   pub path : List ℕ
   pub learns : Learns g before v path
@@ -29,7 +29,8 @@ pub record IsLearnt (net : Network) (g : ℕ) (before : List LogEntry) (v round 
   pub first : (other : List ℕ) → Learns g before v other → round ≤ length other
   pub not_yet : IsUnsigned before v
 
--- he signed it with this path, and it went to all below next to whom it is due
+-- the general signed the order with this path alone, and sent it to all generals below next to which it is
+-- due, and to none from next on
 pub record IsRelayed (net : Network) (g : ℕ) (before : List LogEntry) (v : ℕ) (path : List ℕ) (next : ℕ)
     : Type 0 where
   pub known : List ℕ
@@ -42,13 +43,14 @@ pub record IsRelayed (net : Network) (g : ℕ) (before : List LogEntry) (v : ℕ
   pub unsent : (to : ℕ) (other : List ℕ) → Contains before (Sent to v other) → to < next
   pub due : next < net.generals → IsDueTo net g path next
 
--- so far he has come with the order
+-- this is the progress with the order after the entries
 abbrev pub HasCome : Network → ℕ → List LogEntry → ℕ → Progress → Type 0
 HasCome net g before v Unlearnt = IsUnlearnt net g before v
 HasCome net g before v (Learnt round) = IsLearnt net g before v round
 HasCome net g before v (Relayed path next) = IsRelayed net g before v path next
 
--- After these entries each order has come so far, and what comes next has at least this number as its place.
+-- orders is the progress with each order after these entries, and the next place has at least the number
+-- least
 pub record IsAfter (net : Network) (g : ℕ) (before : List LogEntry) (least : ℕ) (orders : List Progress)
     : Type 0 where
   pub all : length orders ≡ 16

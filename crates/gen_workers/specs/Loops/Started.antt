@@ -15,10 +15,10 @@ module _ (h : RunHeader) (exhibits : List LogBytes) (last : ℕ) where
     pub its_last : p.last ≡ last
     pub its_worker : p.worker ≡ worker
 
-  -- those of all workers but the first
+  -- the handles promise the hands of all workers but the first
   abbrev pub ArePromised : List (PromisedHandle (Option Hand) ReportsAs) → Type 0
   ArePromised handles = Each (λ k handle. IsPromise k handle.promise) 1 handles
 
-  -- the hands of the first workers
+  -- these are the hands of the first workers
   abbrev pub HandsFrom : List Hand → Type 0
   HandsFrom hands = Each (λ k hand. AreOfWorker h exhibits last k hand.reports.items) 0 hands

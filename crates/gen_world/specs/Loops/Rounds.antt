@@ -1,4 +1,4 @@
--- The rounds of a run, as the program makes them one after another.
+-- The rounds of a plain run, as the program makes them one after another.
 use Rattle.std.specs.Prelude.{ℕ, ◌≡◌, ◌≢◌, ◌<◌, ◌↔◌, List, map, Contains}
 use Rattle.gen_net.specs.Network.{Network, rounds}
 use Rattle.gen_net.specs.declared.message.Message.{Message}
@@ -8,17 +8,17 @@ use Rattle.gen_core.specs.declared.sending.Outgoing.{Outgoing}
 use Rattle.gen_core.specs.Sending.{outgoing}
 use Rattle.gen_scenario.specs.World.{IsRelay}
 
--- the message is one of these sends of this general
+-- the message is from this general, and is one of the chains that the list has it send
 abbrev pub IsAmong : ℕ → List Outgoing → Message → Type 0
 IsAmong from out message =
     (message.from ≡ from) × Contains out (outgoing message.to message.order message.path)
 
--- the message is one that g relays after round l, where there is another round
+-- the message is one that g relays after round l, and round l is not the last
 abbrev pub RelayedBy : Network → Run → ℕ → ℕ → Message → Type 0
 RelayedBy net run g l message =
     (message.from ≡ g) × (l < rounds net) × IsRelay net run g l message
 
--- he is a lieutenant who has seen the first k rounds of the run
+-- the state is that of a lieutenant that has seen the first k rounds of the run
 pub record IsReady (net : Network) (run : Run) (k : ℕ) (state : Lieutenant) : Type 0 where
   pub lieutenant : state.me ≢ 0
   pub general : state.me < net.generals
@@ -29,7 +29,7 @@ pub record IsReady (net : Network) (run : Run) (k : ℕ) (state : Lieutenant) : 
 abbrev pub numbers_of : List Lieutenant → List ℕ
 numbers_of states = map (λ state. state.me) states
 
--- exactly what one of these lieutenants relays after round l is in the list
+-- the list has exactly the messages that these generals relay after round l
 abbrev pub AreRelays : Network → Run → ℕ → List ℕ → List Message → Type 0
 AreRelays net run l generals messages =
     (message : Message)
