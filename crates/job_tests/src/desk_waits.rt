@@ -4,10 +4,11 @@ use crate::texts::PAIR;
 use gen_desk::{Claim, Desk, Slip};
 use gen_local::LocalReport;
 use gen_log::SealedLog;
-use std::sync::Wait;
+use std::alloc::Global;
 use std::sync::atomic::{AtomicBool, Ordering};
+use std::sync::{Mutex, Wait};
 use std::test::*;
-use std::thread;
+use std::{mem, thread};
 
 /// Waits until all is reported on.
 fn wait_for_reports<R: Wait>(rt: &R, desk: &Desk) {
@@ -101,8 +102,9 @@ fn wait_for_claim<R: Wait>(rt: &R, desk: &Desk, waits: &AtomicBool, over: &Atomi
 /// all are woken.
 fn file_for_waiter<R: Wait>(
     rt: &R,
+    alloc: Global,
     desk: &Desk,
-    slips: Vec<Slip>,
+    slips: &Mutex<Vec<Slip>>,
     logs: &[SealedLog],
     waits: &AtomicBool,
     over: &AtomicBool,
@@ -110,7 +112,8 @@ fn file_for_waiter<R: Wait>(
     let waited = is_set_within(waits, 1_000_000_000);
     let never = AtomicBool::new(false);
     let _asleep = is_set_within(&never, 10_000_000);
-    let filed = file_last(rt, desk, slips, logs).is_some();
+    let held = mem::replace(&mut *slips.lock(rt), Vec::new(alloc));
+    let filed = file_last(rt, desk, held, logs).is_some();
     let woken = is_set_within(over, 1_000_000_000);
     set_word(desk, over);
     waited && filed && woken
@@ -121,12 +124,15 @@ fn a_filing_wakes_who_waits(rt: HostRuntime) -> Result<(), Fail> {
     let logs = logs_of(rt.alloc(), PAIR)?;
     let (desk, slips) = Desk::new(rt.alloc(), 1)?;
     let (waits, over) = (AtomicBool::new(false), AtomicBool::new(false));
-    let (at, with, shown, word, end) = (&rt, &desk, logs.as_slice(), &waits, &over);
+    let slips = Mutex::new(slips);
+    let (at, alloc, with, held) = (&rt, rt.alloc(), &desk, &slips);
+    let (shown, word, end) = (logs.as_slice(), &waits, &over);
     let (claimed, woken) = thread::join(
         &rt,
         move || wait_for_claim(at, with, word, end),
-        move || file_for_waiter(at, with, slips, shown, word, end),
+        move || file_for_waiter(at, alloc, with, held, shown, word, end),
     );
+    give_up_all(slips.into_inner());
     assert!(rt; claimed && woken);
     Ok(())
 }

@@ -109,16 +109,19 @@ const CASES: [Case; 9] = [
     (JobFault::Write, 5, "write failed"),
 ];
 
+/// Whether a fault ends a job with its status, is the end's, and is shown in its line.
+fn is_shown(alloc: Global, case: &Case) -> Result<bool, Fail> {
+    let (fault, status, line) = *case;
+    let end = JobEnd::Failed(fault);
+    let shown = fault.to_string(alloc)?;
+    Ok(end.status() == status && end.fault() == Some(fault) && shown.as_str() == line)
+}
+
 #[test]
 fn shows_ends(rt: HostRuntime) -> Result<(), Fail> {
-    for (fault, status, line) in CASES {
-        let end = JobEnd::Failed(fault);
-        assert!(rt;
-            end.status() == status && end.fault() == Some(fault),
-            "{line}"
-        );
-        let shown = fault.to_string(rt.alloc())?;
-        assert!(rt; shown.as_str() == line, "{line}");
+    for case in &CASES {
+        let line = case.2;
+        assert!(rt; is_shown(rt.alloc(), case)?, "{line}");
     }
     assert!(rt; JobEnd::Done.status() == 0 && JobEnd::Done.fault().is_none());
     assert!(rt; JobEnd::Negative.status() == 1 && JobEnd::Negative.fault().is_none());

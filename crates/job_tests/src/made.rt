@@ -14,20 +14,20 @@ use std::test::Fail;
 use std::thread::Threads;
 
 /// The job that words ask for.
-pub(crate) fn job_of(alloc: Global, words: &[&str]) -> Result<Job, Fail>
+fn job_of<'a>(alloc: Global, words: &'a [&'a str]) -> Result<Job, Fail>
     ensures { IfOk result IsInRange }
 {
-    match read_words(alloc, words) {
-        Ok(job) => Ok(job),
-        Err(_) => Err("no job".into()),
-    }
+    let Ok(job) = read_words(alloc, words) else {
+        return Err("no job".into());
+    };
+    Ok(job)
 }
 
 /// What the job of these words writes of an input.
-pub(crate) fn written<R: Threads + Wait + Sync>(
+pub(crate) fn written<'a, R: Threads + Wait + Sync>(
     rt: &R,
     alloc: Global,
-    words: &[&str],
+    words: &'a [&'a str],
     input: &[u8],
 ) -> Result<Vec<u8>, Fail> {
     let job = job_of(alloc, words)?;

@@ -6,9 +6,7 @@ use gen_net::{Header, Net};
 use gen_types::{GeneralNo, GeneralSet};
 use gen_walks::{Walk, Walks, make_walks};
 use std::alloc::Global;
-use std::sync::Wait;
 use std::test::Fail;
-use std::thread::Threads;
 
 /// Returns a header of two generals.
 fn header_of_two(alloc: Global) -> Result<Header, Fail> {
@@ -116,23 +114,19 @@ fn bundle_of(alloc: Global, text: &[u8]) -> Result<Bundle, Fail> {
     Bundle::new(header, faulty, walks, exhibits).map_err(|_| "no bundle".into())
 }
 
-/// Whether two workers judge that all agreed on order 1, and convict nobody.
-fn is_agreed<R: Threads + Wait + Sync>(
-    rt: &R,
-    alloc: Global,
-    bundle: &Bundle,
-) -> Result<bool, Fail> {
-    let workers = WorkerCount::new(2).ok_or("no count")?;
-    let judgement = audit(rt, alloc, bundle, workers, &Open)?;
+/// Whether all agreed on order 1, and nobody is convicted.
+fn is_agreed(judgement: &Judgement) -> bool {
     match judgement.verdict {
-        Verdict::Agreed(order) => Ok(order.get() == 1 && judgement.convictions.is_empty()),
-        _ => Ok(false),
+        Verdict::Agreed(order) => order.get() == 1 && judgement.convictions.is_empty(),
+        _ => false,
     }
 }
 
 #[test]
 fn audited_by_two(rt: HostRuntime) -> Result<(), Fail> {
     let bundle = bundle_of(rt.alloc(), FIRST)?;
-    assert!(rt; is_agreed(&rt, rt.alloc(), &bundle)?);
+    let workers = WorkerCount::new(2).ok_or("no count")?;
+    let judgement = audit(&rt, rt.alloc(), &bundle, workers, &Open)?;
+    assert!(rt; is_agreed(&judgement));
     Ok(())
 }

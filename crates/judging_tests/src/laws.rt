@@ -6,7 +6,7 @@ use gen_campaign_text::{
 };
 use gen_convict::laws as evidence;
 use gen_local::laws as reports;
-use gen_match::laws as matches;
+use gen_match::laws as matching;
 use gen_report::one_scenario;
 
 #[test]
@@ -17,7 +17,7 @@ fn laws_of_reports_and_evidence() {
     reports::judged_by_state();
     reports::one_report();
     reports::nothing_found();
-    matches::derivable_at_last();
+    matching::derivable_at_last();
     evidence::one_evidence_spelling();
     evidence::followers_logs();
     evidence::links_tell();

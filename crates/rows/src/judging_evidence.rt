@@ -5,7 +5,8 @@ use crate::rows::Row;
 use crate::texts::{fault_text, hex_text, text};
 use gen_chain::Statement;
 use gen_convict::{
-    Claim, Evidence, Refutation, check_evidence, is_own_log, read_evidence, refute, write_evidence,
+    Claim, Evidence, Refutation, RunText, check_evidence, is_own_log, read_evidence, refute,
+    write_evidence,
 };
 use gen_log::read_log;
 use gen_net::Header;
@@ -58,41 +59,34 @@ pub(crate) fn push_accusation(
 ) -> io::Result<()> {
     let (accused, kind) = (evidence.accused, evidence.claim.kind());
     push_line(all, format!(in alloc; "accused {accused} kind {kind}")?)?;
-    let (one, other) = parts(alloc, &evidence.claim)?;
-    push_line(all, one)?;
-    push_line(all, other)
+    push_line(all, first_part(alloc, &evidence.claim)?)?;
+    push_line(all, second_part(alloc, &evidence.claim)?)
 }
 
-/// Returns the two parts of a claim: its texts, or its log and what is missing from it or where it departs.
-fn parts(alloc: Global, claim: &Claim) -> io::Result<(String, String)> {
+/// Returns the first part of a claim: a text, or how many bytes its log has.
+fn first_part(alloc: Global, claim: &Claim) -> io::Result<String> {
     match claim {
-        Claim::Texts { first, second } => {
-            let one = text_said(alloc, &first.text)?;
-            Ok((one, text_said(alloc, &second.text)?))
-        }
-        Claim::Orders { first, second, .. } => {
-            let one = command(alloc, *first)?;
-            Ok((one, command(alloc, *second)?))
-        }
-        Claim::Missing { log, statement, .. } => {
-            let one = length(alloc, log)?;
-            Ok((one, statement_said(alloc, statement)?))
-        }
-        Claim::Departing { log, entry } => {
-            let one = length(alloc, log)?;
-            Ok((one, format!(in alloc; "entry {entry}")?))
-        }
-        Claim::Across { first, second } => {
-            let one = text_said(alloc, &first.text.text)?;
-            let other = text_said(alloc, &second.text.text)?;
-            let run = hex_text(alloc, second.header.run_id())?;
-            Ok((one, format!(in alloc; "{other} in run {run}")?))
-        }
+        Claim::Texts { first, second: _ } => text_said(alloc, &first.text),
+        Claim::Orders { first, .. } => command_said(alloc, *first),
+        Claim::Missing { log, .. } => length(alloc, log),
+        Claim::Departing { log, entry: _ } => length(alloc, log),
+        Claim::Across { first, second: _ } => text_said(alloc, &first.text.text),
+    }
+}
+
+/// Returns the second part of a claim: a text, or at which entry its log departs.
+fn second_part(alloc: Global, claim: &Claim) -> io::Result<String> {
+    match claim {
+        Claim::Texts { first: _, second } => text_said(alloc, &second.text),
+        Claim::Orders { second, .. } => command_said(alloc, *second),
+        Claim::Missing { statement, .. } => statement_said(alloc, statement),
+        Claim::Departing { log: _, entry } => Ok(format!(in alloc; "entry {entry}")?),
+        Claim::Across { first: _, second } => said_in(alloc, second),
     }
 }
 
 /// Returns an order of the commander's.
-fn command(alloc: Global, order: OrderNo) -> io::Result<String> {
+fn command_said(alloc: Global, order: OrderNo) -> io::Result<String> {
     let path = Path::commander();
     statement_said(alloc, &Statement { order, path })
 }
@@ -101,6 +95,13 @@ fn command(alloc: Global, order: OrderNo) -> io::Result<String> {
 fn length(alloc: Global, log: &[u8]) -> io::Result<String> {
     let len = log.len();
     Ok(format!(in alloc; "log {len}")?)
+}
+
+/// Returns a text with the run id of its run.
+fn said_in(alloc: Global, text: &RunText) -> io::Result<String> {
+    let said = text_said(alloc, &text.text.text)?;
+    let run = hex_text(alloc, text.header.run_id())?;
+    Ok(format!(in alloc; "{said} in run {run}")?)
 }
 
 /// Returns what a log answers to evidence, where the log is the accused's own of the run of the evidence or of the other one.

@@ -8,8 +8,8 @@
 
 mod commands;
 mod files;
-mod frames;
 mod forms;
+mod frames;
 mod judging;
 mod judging_bundles;
 mod judging_evidence;

@@ -7,9 +7,7 @@ use crate::texts::{
 };
 use gen_chain::read_chain;
 use gen_log::{Entry, Log, entry_bytes, entry_lengths, last_link, link_at, read_log};
-use gen_types::ReadError;
 use std::alloc::Global;
-use std::fmt::Display;
 use std::io;
 
 /// Returns the run id and the entries of a log, or its fault.
@@ -143,17 +141,6 @@ pub(crate) fn has_sign(alloc: Global, mut row: Row<'_>) -> io::Result<String> {
     }
 }
 
-/// Returns `read`, or the fault of what was read.
-fn read_text<T: Drop, F: Display + Copy>(
-    alloc: Global,
-    found: Result<T, ReadError<F>>,
-) -> io::Result<String> {
-    match found {
-        Ok(_) => text(alloc, "read"),
-        Err(error) => fault_text(alloc, error),
-    }
-}
-
 /// Returns faults in their order, each with how many of them stand side by side.
 fn runs_text(alloc: Global, faults: &[String]) -> io::Result<String> {
     let mut shown = String::new(alloc);
@@ -183,7 +170,11 @@ pub(crate) fn cuts_of_chain(alloc: Global, mut row: Row<'_>) -> io::Result<Strin
     let mut faults = Vec::new(alloc);
     for end in 0..count {
         let cut = bytes.as_slice().get(..end).ok_or_else(unreadable)?;
-        faults.push(read_text(alloc, read_chain(alloc, height, cut))?)?;
+        let fault = match read_chain(alloc, height, cut) {
+            Ok(_) => text(alloc, "read")?,
+            Err(error) => fault_text(alloc, error)?,
+        };
+        faults.push(fault)?;
     }
     runs_text(alloc, faults.as_slice())
 }
@@ -196,7 +187,11 @@ pub(crate) fn cuts_of_log(alloc: Global, mut row: Row<'_>) -> io::Result<String>
     let mut faults = Vec::new(alloc);
     for end in 0..count {
         let cut = bytes.as_slice().get(..end).ok_or_else(unreadable)?;
-        faults.push(read_text(alloc, read_log(alloc, &header, cut))?)?;
+        let fault = match read_log(alloc, &header, cut) {
+            Ok(_) => text(alloc, "read")?,
+            Err(error) => fault_text(alloc, error)?,
+        };
+        faults.push(fault)?;
     }
     runs_text(alloc, faults.as_slice())
 }

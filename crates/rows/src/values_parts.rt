@@ -6,6 +6,14 @@ use gen_types::{GeneralNo, Number, NumberSet};
 use std::alloc::Global;
 use std::io;
 
+/// Returns the number below 256 that digits spell.
+pub(crate) fn byte_in(digits: &str) -> io::Result<u8> {
+    match digits.parse::<u8>() {
+        Ok(number) => Ok(number),
+        Err(_) => Err(unreadable()),
+    }
+}
+
 /// Returns the numbers below 256 with commas between them; `-` stands for none.
 pub(crate) fn numbers_in(alloc: Global, said: &str) -> io::Result<Vec<u8>> {
     let mut numbers = Vec::new(alloc);
@@ -13,7 +21,7 @@ pub(crate) fn numbers_in(alloc: Global, said: &str) -> io::Result<Vec<u8>> {
         return Ok(numbers);
     }
     for digits in said.split(',') {
-        numbers.push(digits.parse::<u8>().map_err(|_| unreadable())?)?;
+        numbers.push(byte_in(digits)?)?;
     }
     Ok(numbers)
 }
@@ -44,9 +52,7 @@ pub(crate) fn edges_in(alloc: Global, said: &str) -> io::Result<Vec<(u8, u8)>> {
     }
     for edge in said.split(',') {
         let (a, b) = edge.split_once('-').ok_or_else(unreadable)?;
-        let a = a.parse::<u8>().map_err(|_| unreadable())?;
-        let b = b.parse::<u8>().map_err(|_| unreadable())?;
-        edges.push((a, b))?;
+        edges.push((byte_in(a)?, byte_in(b)?))?;
     }
     Ok(edges)
 }

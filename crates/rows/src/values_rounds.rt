@@ -5,7 +5,7 @@ ghost use Rattle.gen_net.specs.Network.{rounds};
 use crate::names::unreadable;
 use crate::rows::Row;
 use crate::texts::{or_none, order_set_text, path_text};
-use crate::values_parts::generals_in;
+use crate::values_parts::{byte_in, generals_in};
 use gen_core::{Adds, Commander, Lieutenant, Outgoing, Seen, sends};
 use gen_net::Net;
 use gen_types::{GeneralNo, OrderNo, OrderSet, Path};
@@ -102,11 +102,12 @@ fn arrivals_in(alloc: Global, said: &str) -> io::Result<Vec<Seen>> {
 /// Returns a chain that comes from the last general of its path.
 fn chain_in(alloc: Global, said: &str) -> io::Result<Seen> {
     let (digits, generals) = said.split_once(':').ok_or_else(unreadable)?;
-    let number = digits.parse::<u8>().map_err(|_| unreadable())?;
-    let order = OrderNo::new(number).ok_or_else(unreadable)?;
+    let order = OrderNo::new(byte_in(digits)?).ok_or_else(unreadable)?;
     let mut path = Path::new();
     for general in &generals_in(alloc, generals)? {
-        path.push(*general).map_err(|_| unreadable())?;
+        if path.push(*general).is_err() {
+            return Err(unreadable());
+        }
     }
     let from = path.last().ok_or_else(unreadable)?;
     Ok(Seen { from, order, path })

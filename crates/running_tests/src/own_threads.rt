@@ -4,7 +4,7 @@ ghost use Rattle.gen_threads.specs.Edges.{HaveCarried};
 ghost use Rattle.gen_threads.specs.Ending.{MayRunWith};
 
 use crate::gates::{FEW, Meeting, Open, Watch};
-use crate::scenarios::{is_same, line, pair, pair_in_slot, without_scripts};
+use crate::scenarios::{is_same, pair, pair_in_slot, without_scripts};
 use gen_log::SealedLog;
 use gen_threads::{Edges, Gate, GeneralEnd, Passes, RunPart, run_general};
 use gen_tree::KeyRing;
@@ -227,101 +227,5 @@ fn leaves_of_a_pair_in_slot_1(rt: HostRuntime) -> Result<(), Fail> {
     let scenario = pair_in_slot(alloc, 1)?;
     let mut ends = ends_of_pair(&rt, alloc, &scenario, &Open)?;
     assert!(rt; has_taken(&mut ends[0], &[17, 31]) && has_taken(&mut ends[1], &[31]));
-    Ok(())
-}
-
-/// Runs two generals and two others at once. How they end, or None where a thread could not be started.
-fn run_four<R: Threads + Wait + Sync, G: Gate + Sync>(
-    rt: &R,
-    alloc: Global,
-    gate: &G,
-    edges: &Edges,
-    lower: (&RunPart, &RunPart),
-    upper: (&RunPart, &RunPart),
-    first: Ready,
-    second: Ready,
-    third: Ready,
-    fourth: Ready,
-) -> Option<([GeneralEnd; 2], [GeneralEnd; 2])>
-    requires first { MayRunWith lower.0.now.scenario lower.0.now.me first.ring
-        × HaveCarried edges.now lower.0.now.scenario 0 lower.0.now.me
-        first.passes.puts.items first.passes.takes.items }
-    requires second { MayRunWith lower.1.now.scenario lower.1.now.me second.ring
-        × HaveCarried edges.now lower.1.now.scenario 0 lower.1.now.me
-        second.passes.puts.items second.passes.takes.items }
-    requires third { MayRunWith upper.0.now.scenario upper.0.now.me third.ring
-        × HaveCarried edges.now upper.0.now.scenario 0 upper.0.now.me
-        third.passes.puts.items third.passes.takes.items }
-    requires fourth { MayRunWith upper.1.now.scenario upper.1.now.me fourth.ring
-        × HaveCarried edges.now upper.1.now.scenario 0 upper.1.now.me
-        fourth.passes.puts.items fourth.passes.takes.items }
-{
-    let ends = thread::join(
-        rt,
-        || run_two(rt, alloc, gate, edges, lower, first, second),
-        || run_two(rt, alloc, gate, edges, upper, third, fourth),
-    );
-    match ends {
-        (Some(lower), Some(upper)) => Some((lower, upper)),
-        _ => None,
-    }
-}
-
-/// How the lower two and the upper two of four generals end who run over edges that hold one frame.
-fn ends_of_four<R: Threads + Wait + Sync, G: Gate + Sync>(
-    rt: &R,
-    alloc: Global,
-    scenario: &Scenario,
-    gate: &G,
-) -> Result<([GeneralEnd; 2], [GeneralEnd; 2]), Fail> {
-    if scenario.header().net().generals() < 4 {
-        return Err("too few".into());
-    }
-    let (zero, one) = (GeneralNo::at(0), GeneralNo::at(1));
-    let (two, three) = (GeneralNo::at(2), GeneralNo::at(3));
-    let part_zero = RunPart::of(alloc, scenario, zero)?;
-    let part_one = RunPart::of(alloc, scenario, one)?;
-    let part_two = RunPart::of(alloc, scenario, two)?;
-    let part_three = RunPart::of(alloc, scenario, three)?;
-    let (edges, all) = Edges::new(alloc, scenario, 1)?;
-    let mut rest = all.into_iter();
-    let Some(lowest) = rest.next() else {
-        return Err("nobody".into());
-    };
-    let Some(low) = rest.next() else {
-        return Err("one alone".into());
-    };
-    let Some(high) = rest.next() else {
-        return Err("two alone".into());
-    };
-    let Some(highest) = rest.next() else {
-        return Err("three alone".into());
-    };
-    let first = make_ready(scenario, zero, &edges, lowest)?;
-    let second = make_ready(scenario, one, &edges, low)?;
-    let third = make_ready(scenario, two, &edges, high)?;
-    let fourth = make_ready(scenario, three, &edges, highest)?;
-    let (lower, upper) = ((&part_zero, &part_one), (&part_two, &part_three));
-    match run_four(
-        rt, alloc, gate, &edges, lower, upper, first, second, third, fourth,
-    ) {
-        Some(ends) => Ok(ends),
-        None => Err("no thread".into()),
-    }
-}
-
-#[test]
-fn a_line_waits_in_threads_of_its_own(rt: HostRuntime) -> Result<(), Fail> {
-    let alloc = rt.alloc();
-    let scenario = line(alloc)?;
-    let gate = Watch::new((0, 2), (1, 3), FEW);
-    let (lower, upper) = ends_of_four(&rt, alloc, &scenario, &gate)?;
-    assert!(rt; gate.has_waited());
-    let run = run_world(alloc, &scenario)?;
-    let [zero, one, two, three] = run.logs() else {
-        return Err("not four logs".into());
-    };
-    assert!(rt; has_log(&lower[0], zero) && has_log(&lower[1], one));
-    assert!(rt; has_log(&upper[0], two) && has_log(&upper[1], three));
     Ok(())
 }

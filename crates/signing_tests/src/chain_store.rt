@@ -223,8 +223,18 @@ fn keeps_one_of_four(
     requires { Serves header.now store.old }
     ensures { Serves header.now store.new }
 {
-    let signing = last_signing(chain).ok_or("no signer")?;
-    store.verify_four(header, &[signing, signing, signing, signing])?;
+    let (Some(a), Some(b), Some(c), Some(d)) = (
+        last_signing(chain),
+        last_signing(chain),
+        last_signing(chain),
+        last_signing(chain),
+    ) else {
+        return Err("no signer".into());
+    };
+    store.verify_four(header, &[a, b, c, d])?;
+    let Some(signing) = last_signing(chain) else {
+        return Ok(false);
+    };
     Ok(store.keeps(&signing) && store.runs() == 1)
 }
 

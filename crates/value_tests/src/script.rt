@@ -28,8 +28,10 @@ fn lines_name_paths(rt: HostRuntime) -> Result<(), Fail> {
 
 #[test]
 fn lines_name_no_paths(rt: HostRuntime) -> Result<(), Fail> {
-    let bend = line_of(rt.alloc(), "bend 2 2 4 0")?;
-    assert!(rt; bend.path().is_none());
+    for text in ["bend 2 2 4 0", "raw 1 0 00", "hide 1 2 0", "twohead"] {
+        let line = line_of(rt.alloc(), text)?;
+        assert!(rt; line.path().is_none(), "{text}");
+    }
     let hide = ScriptLine::Hide {
         round: 1,
         from: GeneralNo::at(2),
