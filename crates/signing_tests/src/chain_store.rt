@@ -97,8 +97,8 @@ fn signatures_of_one_statement(rt: HostRuntime) -> Result<(), Fail> {
     Ok(())
 }
 
-/// Returns whether a check of what is not kept answers true and keeps one answer more, also where its first try
-/// was refused memory, which changes nothing.
+/// Returns whether a check of what is not kept answers true and keeps one answer more, also where its first
+/// try was refused memory, which changes nothing.
 fn is_made_again(
     store: &mut VerifyStore,
     header: &Header,
@@ -131,7 +131,8 @@ fn a_refused_check_is_made_again(rt: HostRuntime) -> Result<(), Fail> {
     Ok(())
 }
 
-/// Returns whether a chain that is read twice by a store's pool is the same both times and has all these bytes.
+/// Returns whether a chain that is read twice by a store's pool is the same both times and has all these
+/// bytes.
 fn reads_alike(alloc: Global, store: &mut VerifyStore, bytes: &[u8]) -> Result<bool, Fail> {
     let first = read_chain_with(alloc, TreeHeight::Four, bytes, store.pool());
     let again = read_chain_with(alloc, TreeHeight::Four, bytes, store.pool());

@@ -1,4 +1,5 @@
-//! Rings and the leaves that are taken from them, signatures that are shared and copied, and four claims side by side.
+//! Rings and the leaves that are taken from them, signatures that are shared and copied, and four claims side
+//! by side.
 use crate::made::{ring_of, root_of, signed};
 use gen_ots::SigRoom;
 use gen_ots::sizes::OTS_BYTES;
@@ -27,7 +28,8 @@ fn retired(ring: &mut KeyRing, leaf: u8) -> Option<u8> {
     ring.take(leaf).map(|key| key.retire())
 }
 
-/// Returns the root of a ring that is opened from a copy of a tree, and leaf 5 where it could be taken, twice.
+/// Returns the root of a ring that is opened from a copy of a tree, and leaf 5 where it could be taken,
+/// twice.
 fn opened(tree: &KeyTree) -> Result<([u8; 32], Option<u8>, Option<u8>), Fail> {
     let copy = tree.clone()?;
     let mut ring = KeyRing::open(&copy)?;
@@ -88,8 +90,8 @@ fn sets_of_leaves_compare(rt: HostRuntime) -> Result<(), Fail> {
     Ok(())
 }
 
-/// Returns whether a signature of the digest of "abc" by this leaf has the lengths of its height, and is equal to itself
-/// where it is shared, and where it is copied.
+/// Returns whether a signature of the digest of "abc" by this leaf has the lengths of its height, and is
+/// equal to itself where it is shared, and where it is copied.
 fn is_copied(alloc: Global, height: TreeHeight, leaf: u8) -> Result<bool, Fail> {
     let signature = signed(alloc, height, leaf, &Sha256::digest("abc"))?;
     let copy = signature.copy(SigRoom::new(alloc, height)?);
@@ -139,8 +141,8 @@ fn claim_of<'x>(
     }
 }
 
-/// Returns the answers to claims of a signature by leaf 3 of a tree of four levels and of one by leaf 40 of a tree of six,
-/// each twice, once something of the claim at this place is changed.
+/// Returns the answers to claims of a signature by leaf 3 of a tree of four levels and of one by leaf 40 of a
+/// tree of six, each twice, once something of the claim at this place is changed.
 fn four_answers<'x>(
     roots: &'x [[u8; 32]; 2],
     four: &'x Signature,
