@@ -24,20 +24,28 @@ enum Form {
 }
 
 /// Returns the answer to a call of this module.
-pub(crate) fn answer(alloc: Global, call: &str, mut row: Row<'_>) -> io::Result<Option<String>> {
-    if let Some(form) = form_of(call) {
-        let bytes = row.bytes(alloc)?;
-        return Ok(Some(told(alloc, form, &bytes)?));
-    }
-    if let Some(form) = call.strip_prefix("cuts_of_").and_then(form_of) {
-        return Ok(Some(cuts(alloc, form, row)?));
-    }
+pub(crate) fn answer(alloc: Global, call: &str, row: Row<'_>) -> io::Result<Option<String>> {
     match call {
         "report" => Ok(Some(judging_reports::report(alloc, row)?)),
         "departs" => Ok(Some(judging_reports::departs_at(alloc, row)?)),
         "refute" => Ok(Some(judging_evidence::refuted(alloc, row)?)),
-        _ => Ok(None),
+        _ => on_bytes(alloc, call, row),
     }
+}
+
+/// Returns the answer to a call on bytes alone, or on the beginnings of bytes.
+fn on_bytes(alloc: Global, call: &str, mut row: Row<'_>) -> io::Result<Option<String>> {
+    if let Some(name) = call.strip_prefix("cuts_of_") {
+        return match form_of(name) {
+            Some(form) => Ok(Some(cuts(alloc, form, row)?)),
+            None => Ok(None),
+        };
+    }
+    let Some(form) = form_of(call) else {
+        return Ok(None);
+    };
+    let bytes = row.bytes(alloc)?;
+    Ok(Some(told(alloc, form, &bytes)?))
 }
 
 /// Returns the form that a call names.
@@ -68,17 +76,39 @@ fn told(alloc: Global, form: Form, bytes: &[u8]) -> io::Result<String> {
 /// Returns what the beginnings of bytes are, from one length on and before another: each answer once, behind the least length
 /// that has it.
 fn cuts(alloc: Global, form: Form, mut row: Row<'_>) -> io::Result<String> {
-    let (from, to) = (row.number()?, row.number()?);
+    let from = row.number()?;
+    let to = row.number()?;
     let bytes = row.bytes(alloc)?;
+    cuts_between(alloc, form, &bytes, from, to)
+}
+
+/// Returns the same of these bytes.
+fn cuts_between(
+    alloc: Global,
+    form: Form,
+    bytes: &[u8],
+    from: usize,
+    to: usize,
+) -> io::Result<String> {
     let mut all = String::new(alloc);
     let mut before = String::new(alloc);
     for len in from..to {
         let beginning = bytes.get(..len).ok_or_else(unreadable)?;
-        let answer = told(alloc, form, beginning)?;
-        if answer.as_str() != before.as_str() {
-            push_line(&mut all, format!(in alloc; "{len} {answer}")?)?;
-        }
-        before = answer;
+        before = push_other(alloc, &mut all, &before, len, told(alloc, form, beginning)?)?;
     }
     Ok(all)
+}
+
+/// Appends a length with an answer where that is another one than the answer before, and returns it.
+fn push_other(
+    alloc: Global,
+    all: &mut String,
+    before: &String,
+    len: usize,
+    answer: String,
+) -> io::Result<String> {
+    if answer.as_str() != before.as_str() {
+        push_line(all, format!(in alloc; "{len} {answer}")?)?;
+    }
+    Ok(answer)
 }

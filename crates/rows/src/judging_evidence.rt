@@ -108,16 +108,26 @@ fn said_in(alloc: Global, text: &RunText) -> io::Result<String> {
 pub(crate) fn refuted(alloc: Global, mut row: Row<'_>) -> io::Result<String> {
     let bytes = row.piece(alloc)?;
     let log = row.bytes(alloc)?;
-    let Ok((header, evidence)) = read_evidence(alloc, &bytes) else {
-        return Err(unreadable());
-    };
-    if !holds(alloc, &header, &evidence)? {
+    match read_evidence(alloc, &bytes) {
+        Ok((header, evidence)) => answer_by(alloc, &header, &evidence, &log),
+        Err(_) => Err(unreadable()),
+    }
+}
+
+/// Returns what the bytes of a log answer to evidence, whichever of the two runs the log is of.
+fn answer_by(
+    alloc: Global,
+    header: &Header,
+    evidence: &Evidence,
+    bytes: &[u8],
+) -> io::Result<String> {
+    if !holds(alloc, header, evidence)? {
         return text(alloc, "fails");
     }
-    if let Some(answer) = by_first(alloc, &header, &evidence, &log)? {
+    if let Some(answer) = by_first(alloc, header, evidence, bytes)? {
         return Ok(answer);
     }
-    match by_second(alloc, &header, &evidence, &log)? {
+    match by_second(alloc, header, evidence, bytes)? {
         Some(answer) => Ok(answer),
         None => text(alloc, "no own log"),
     }
