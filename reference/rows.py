@@ -55,6 +55,8 @@ def rows_of(name: str) -> Iterator[Tuple[int, str, str, str]]:
                 continue
             asked, _, wanted = line.partition(" = ")
             if asked.startswith("let "):
+                if asked[4:] in names:
+                    raise ValueError(f"{name}, line {number}: the name stands above too")
                 names[asked[4:]] = bytes_named(names, wanted)
             else:
                 yield number, asked, wanted, answer_of(names, asked)
