@@ -37,24 +37,29 @@ fn push_words<'a>(part: &'a str, tokens: &mut Vec<Token<'a>>) -> io::Result<()> 
     Ok(())
 }
 
-/// What is left of a row to be read, and the names above it.
+/// A row of which so many tokens are read, and the names above it.
 #[derive(Clone, Copy)]
 pub(crate) struct Row<'a> {
     names: &'a Names,
-    rest: &'a [Token<'a>],
+    tokens: &'a [Token<'a>],
+    read: usize,
 }
 
 impl<'a> Row<'a> {
     /// Returns a row of these tokens.
-    pub(crate) fn new(names: &'a Names, rest: &'a [Token<'a>]) -> Row<'a> {
-        Row { names, rest }
+    pub(crate) fn new(names: &'a Names, tokens: &'a [Token<'a>]) -> Row<'a> {
+        Row {
+            names,
+            tokens,
+            read: 0,
+        }
     }
 
-    /// Returns the next token, and leaves the rest.
+    /// Returns the next token, which is read then.
     fn next(&mut self) -> io::Result<Token<'a>> {
-        let (token, rest) = self.rest.split_first().ok_or_else(unreadable)?;
-        self.rest = rest;
-        Ok(*token)
+        let token = *self.tokens.get(self.read).ok_or_else(unreadable)?;
+        self.read = self.read.saturating_add(1);
+        Ok(token)
     }
 
     /// Returns the next word or text as it stands.
@@ -107,7 +112,7 @@ impl<'a> Row<'a> {
     /// Returns the bytes of all pieces that are left.
     pub(crate) fn bytes(&mut self, alloc: Global) -> io::Result<Vec<u8>> {
         let mut out = Vec::new(alloc);
-        for _ in 0..self.rest.len() {
+        for _ in self.read..self.tokens.len() {
             self.push_next(alloc, &mut out)?;
         }
         Ok(out)
