@@ -110,8 +110,9 @@ uint32_t sm_node_send(sm_node *node, uint32_t to, uint8_t *room, size_t room_byt
 
 /* Takes bytes that came from a neighbour in this round. `from` is the sender that the transport knows, and not what the
    bytes say. If they are not the neighbour's frame of this round, *fault is SM_F1 to SM_F8, nothing of them is kept,
-   and the neighbour's frame may still come. Before a round and after it that is SM_F1. SM_MISUSE if there is no node,
-   sm_node_finish has ended it, or `from` is above 15. */
+   and the neighbour's frame may still come. Before a round and after it that is SM_F1. Once the neighbour's frame of
+   this round was taken it is SM_F2, for an early frame too. SM_MISUSE if there is no node, sm_node_finish has ended it,
+   or `from` is above 15. */
 uint32_t sm_node_hear(sm_node *node, uint32_t from, const uint8_t *bytes, size_t byte_count, uint32_t *fault);
 
 /* Ends the round: a neighbour from which no frame was taken counts as one that sent nothing. SM_MISUSE if no round is
