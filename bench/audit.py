@@ -15,7 +15,7 @@ import sys
 import tempfile
 import time
 
-from decide import BUILT, PROGRAM, RUNS, TOP
+from decide import BUILT, RUNS, TOP, want_program
 from kernels import KEY_CRATES, KEYS_ON, built, least
 from signed import signed
 from threads import EVERYBODY, busy
@@ -121,7 +121,7 @@ def zeros(scratch):
 
 
 def main():
-    subprocess.run([PROGRAM, "--version"], capture_output=True)
+    want_program()
     for name, part in (("workers", by_workers), ("archive", archive), ("zeros", zeros)):
         if sys.argv[1:] in ([], [name]):
             with tempfile.TemporaryDirectory() as scratch:

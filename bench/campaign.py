@@ -11,7 +11,7 @@ import sys
 import tempfile
 import time
 
-from decide import BUILT, PROGRAM
+from decide import BUILT, want_program
 from signed import signed
 
 TIMES = 20
@@ -43,7 +43,7 @@ def scenario(slot, *lines):
 
 
 def main():
-    subprocess.run([PROGRAM, "decide"], input=b"", capture_output=True)
+    want_program()
     campaign = b"campaign %d\n" % SLOTS + b"".join(scenario(slot) for slot in range(SLOTS))
     words = ["--capacity", "16"]
     whole, peak = timed(["campaign", *words], campaign)

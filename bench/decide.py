@@ -8,21 +8,28 @@ import tempfile
 import time
 
 TOP = os.path.dirname(os.path.dirname(os.path.abspath(__file__)))
-# The script builds the program where it is stale, which takes some milliseconds to find out: what is timed is the program.
-PROGRAM = os.path.join(TOP, "sm_tool")
-BUILT = os.path.join(TOP, "crates", "sm_tool", "out", "sm_tool")
+# What is timed is the program that ./prove builds. The script looks first whether a source is newer, which takes some milliseconds.
+SCRIPT = os.path.join(TOP, "sm_tool")
+BUILT = os.path.join(TOP, "out", "sm_tool")
 RUNS = 15
 MEGABYTE = 1 << 20
 
 
 def set_tunables():
     """Has each program that is timed start as the script starts it, which says what the C library is to do."""
-    with open(PROGRAM, encoding="ascii") as script:
+    with open(SCRIPT, encoding="ascii") as script:
         found = re.search(r"\$\{GLIBC_TUNABLES=([^}]*)\}", script.read())
     os.environ.setdefault("GLIBC_TUNABLES", found.group(1))
 
 
 set_tunables()
+
+
+def want_program():
+    """Ends the measurement where there is no program that was proved from the sources as they are."""
+    ran = subprocess.run([SCRIPT, "--version"], capture_output=True, env={**os.environ, "SM_TOOL_PROVED": "1"}, check=False)
+    if ran.returncode:
+        sys.exit(f"{ran.stderr.decode().strip()}\nwhat is timed is out/sm_tool")
 
 
 def scenario(generals, edges, traitors, diameter, orders, order):
@@ -69,8 +76,7 @@ def measure(pieces, status):
 
 
 def main():
-    # The first run builds the program where it is stale.
-    subprocess.run([PROGRAM, "decide"], input=b"", capture_output=True)
+    want_program()
     line = [(a, a + 1) for a in range(15)]
     everybody = [(a, b) for a in range(16) for b in range(a + 1, 16)]
     cases = [

@@ -13,7 +13,7 @@ import sys
 import tempfile
 import time
 
-from decide import BUILT, PROGRAM
+from decide import BUILT, want_program
 from signed import signed
 
 TIMES = 40
@@ -80,7 +80,7 @@ def load(text):
 
 
 def main():
-    subprocess.run([PROGRAM, "decide"], input=b"", capture_output=True)
+    want_program()
     text = signed(16, EVERYBODY, 8, 8, 15, 14)
     for name, part in (("time", compare), ("load", load)):
         if sys.argv[1:] in ([], [name]):

@@ -14,7 +14,7 @@ import tempfile
 TOP = os.path.dirname(os.path.dirname(os.path.abspath(__file__)))
 KEY_CRATES = ["gen_types", "sha_lanes", "gen_ots", "gen_tree"]
 CHAIN_CRATES = KEY_CRATES + ["gen_net", "gen_walks", "gen_chain"]
-KEYS_ON = "gen_tree gen_ots gen_types sha2 anyhow"
+KEYS_ON = "gen_tree gen_ots gen_types sha_lanes sha2 anyhow"
 CHAINS_ON = "gen_walks gen_chain gen_tree gen_ots gen_net gen_types anyhow"
 
 # OpenSSL's SHA-256, a message after another: nanoseconds a message of 33 bytes, and a block of long input.
@@ -144,7 +144,7 @@ def keys():
         ("a ring of 16", "ring", 16 * 512, 16 * 257 + 30, None, 0.65),
         ("a ring of 64", "ring_of_64", 64 * 512, 64 * 257 + 126, 1.25, None),
         ("verifying", "verify", 256, 257 + 8, None, 0.85),
-        ("verifying, four at once", "verify_four", 256, 257 + 8, None, 0.85),
+        ("verifying, in all lanes", "verify_lanes", 256, 257 + 8, None, 0.85),
         ("taking and signing", "sign", 256, 0, None, 1.05),
     ]
     print(f"{'':23} {'':9} {'':8} {'':5} {'to OpenSSL':>20} {'for x86-64-v3':>31}")

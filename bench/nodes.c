@@ -81,7 +81,7 @@ static int64_t now(void) {
         int64_t since = now();                           \
         uint32_t status = (call);                        \
         if ((general) == WATCHED) times[kind] += now() - since; \
-        if (status != SM_DONE) exit(3);                  \
+        if (status != SM_OK) exit(3);                  \
     } while (0)
 
 static sm_node nodes[GENERALS];
@@ -96,12 +96,12 @@ static void make_header(uint8_t traitors) {
     for (int a = 0; a < GENERALS; a++) {
         seeds[a][0] = (uint8_t)a;
         int64_t since = now();
-        if (sm_root(seeds[a], 1, roots + 32 * a) != SM_DONE) exit(3);
+        if (sm_root(seeds[a], 1, roots + 32 * a) != SM_OK) exit(3);
         if (a == 0) printf("root %lld\n", (long long)(now() - since));
         for (int b = a + 1; b < GENERALS; b++) edges[edge++] = (uint8_t)a, edges[edge++] = (uint8_t)b;
     }
     sm_numbers numbers = {1, 0, GENERALS, traitors, 1, 2, 0};
-    if (sm_header(&numbers, edges, edge / 2, roots, GENERALS, header, sizeof header, &header_bytes, &fault) != SM_DONE)
+    if (sm_header(&numbers, edges, edge / 2, roots, GENERALS, header, sizeof header, &header_bytes, &fault) != SM_OK)
         exit(3);
 }
 
@@ -133,7 +133,7 @@ int main(int words_count, char **words) {
         for (uint32_t g = 0; g < GENERALS; g++) CALL(END, g, sm_node_end_round(&nodes[g]));
     }
     for (uint32_t g = 0; g < GENERALS; g++) CALL(FINISH, g, sm_node_finish(&nodes[g]));
-    if (sm_node_log(&nodes[WATCHED], room, MOST_BYTES, &log) != SM_DONE) exit(3);
+    if (sm_node_log(&nodes[WATCHED], room, MOST_BYTES, &log) != SM_OK) exit(3);
     for (int kind = 0; kind < KINDS; kind++) printf("%s %lld\n", names[kind], (long long)times[kind]);
     printf("in %zu\nout %zu\nlog %zu\nmost %zu\n", bytes_in, bytes_out, log, most);
     for (uint32_t g = 0; g < GENERALS; g++) sm_node_free(&nodes[g]);

@@ -2,10 +2,10 @@
 """Times one node of 16 generals who are all neighbours, called from C, beside the hashing that it needs, and its memory.
 
 The archive crates/sm_node/out/libsm_node.a is built before, by `rt lib` in crates/sm_node, and a C compiler is wanted. The
-program is nodes.c: all 16 nodes in one process, of which one is timed. The hashing that he needs is counted in compressions of
-SHA-256 and taken at OpenSSL's time for them, without the processor's instructions for SHA and without AVX, for which the
-archive isn't built: his ring of 16 leaves, one verification of each text's signature that comes to him, his own signatures,
-and his log.
+program is nodes.c: all 16 nodes in one process, of which one is timed. The hashing that this node needs is counted in
+compressions of SHA-256 and taken at OpenSSL's time for them, without the processor's instructions for SHA and without AVX, for
+which the archive isn't built: the node's ring of 16 leaves, one verification of each text's signature that comes to the node,
+its own signatures, and its log.
 """
 import os
 import subprocess

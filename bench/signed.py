@@ -2,12 +2,11 @@
 """Times `sm_tool decide` on scenarios with signatures, beside the keys and verifications that they need.
 
 What a run needs is counted: a ring for each general, each signature, and for each general each distinct
-signature that comes to him. Their times are those of the program bench/keys.txt, in the same run.
+signature that comes to that general. Their times are those of the program bench/keys.txt, in the same run.
 """
-import subprocess
 import tempfile
 
-from decide import PROGRAM, measure
+from decide import measure, want_program
 from kernels import KEY_CRATES, KEYS_ON, built, least
 
 
@@ -22,17 +21,17 @@ def signed(generals, edges, traitors, diameter, orders, order, lines=(), slot=No
 
 
 def makes(count):
-    """A script of general 0: lines by which he signs one order after another for one neighbour after another."""
+    """A script of general 0: lines by which that general signs one order after another for one neighbour after another."""
     return ["script 0"] + [f"make 1 {1 + line % 15} {line // 15 % 15} 0" for line in range(count)]
 
 
 def main():
-    subprocess.run([PROGRAM, "decide"], input=b"", capture_output=True)
+    want_program()
     with tempfile.TemporaryDirectory() as scratch:
         kernels = least(built(scratch, "keys.txt", KEY_CRATES, KEYS_ON))
     ring, tall, verify, sign = (kernels[name] / 1e6 for name in ("ring", "ring_of_64", "verify", "sign"))
     everybody = [(a, b) for a in range(16) for b in range(a + 1, 16)]
-    # Rings, verifications and signatures: each lieutenant gets the commander's order once from him, and lengthened
+    # Rings, verifications and signatures: each lieutenant gets the commander's order once from the commander, and lengthened
     # from 14 others.
     follow = 16 * ring + 15 * 15 * verify + 16 * sign
     cases = [

@@ -94,7 +94,8 @@ static struct job job_of(int words, char **word) {
     if (words == 3 && strcmp(word[1], "accuse") == 0) {
         char *end = word[2];
         unsigned long general = strtoul(word[2], &end, 10);
-        return end > word[2] && *end == '\0' && general < 16 ? (struct job){word[1], (uint32_t)general} : none;
+        bool is_number = word[2][0] >= '0' && word[2][0] <= '9' && *end == '\0';
+        return is_number && general < 16 ? (struct job){word[1], (uint32_t)general} : none;
     }
     static const char *const names[] = {"audit", "draw", "evidence", "decide"};
     for (size_t at = 0; words == 2 && at < sizeof names / sizeof *names; at++)

@@ -5,6 +5,7 @@
 //
 // The exit status is that of sm_tool, and so is the line of what failed.
 #include "sm_embed.h"
+#include <charconv>
 #include <cstdint>
 #include <cstdio>
 #include <functional>
@@ -14,6 +15,7 @@
 #include <new>
 #include <stdexcept>
 #include <string>
+#include <system_error>
 #include <vector>
 
 namespace {
@@ -31,7 +33,7 @@ using Call = std::function<std::uint32_t(std::uint8_t *, std::size_t, std::size_
 const std::map<std::string, decltype(&sm_audit)> jobs = {
     {"audit", sm_audit}, {"draw", sm_draw}, {"evidence", sm_evidence}, {"decide", sm_decide}};
 
-// Calls in as much room as it takes. Throws std::bad_alloc where the library is refused memory, as this does itself.
+// Calls in as much room as it takes. Throws std::bad_alloc if memory is refused, to the library or for the room.
 Answer in_room(const Call &call) {
     std::vector<std::uint8_t> room(64);
     for (;;) {
@@ -55,6 +57,14 @@ Answer answer(const std::string &job, std::uint32_t general, const std::string &
     });
 }
 
+// The general whose number a word is, in decimal digits. Any other word is no argument.
+std::uint32_t general_of(const std::string &word) {
+    std::uint32_t number = 0;
+    const auto read = std::from_chars(word.data(), word.data() + word.size(), number);
+    if (read.ec != std::errc() || read.ptr != word.data() + word.size()) throw std::invalid_argument(word);
+    return number;
+}
+
 // Says in a line on standard error what failed, and returns the exit status for it.
 int failed(int status, const std::string &line) {
     std::cerr << line << '\n';
@@ -70,7 +80,7 @@ int main(int words, char **word) try {
         std::cerr << "usage: example audit|draw|evidence|decide|accuse GENERAL\n";
         return 2;
     }
-    const std::uint32_t general = job == "accuse" ? static_cast<std::uint32_t>(std::stoul(word[2])) : 0;
+    const std::uint32_t general = job == "accuse" ? general_of(word[2]) : 0;
     const std::string input{std::istreambuf_iterator<char>(std::cin), {}};
     // The streams of C++ read by those of C, which know why the input ended.
     if (std::ferror(stdin)) return failed(5, "read failed");

@@ -55,14 +55,21 @@ def failed(status, line):
 
 def main():
     job, general = sys.argv[2:3], sys.argv[3:]
-    if len(general) != (job == ["accuse"]) or not job or job[0] not in JOBS or not all(it.isdecimal() for it in general):
+    fits = all(it.isascii() and it.isdecimal() and int(it) < 1 << 32 for it in general)
+    if len(general) != (job == ["accuse"]) or not job or job[0] not in JOBS or not fits:
         print(__doc__, file=sys.stderr)
         return 2
     try:
+        library = Library(sys.argv[1])
+    except (OSError, AttributeError) as told:
+        return failed(2, str(told).encode())
+    try:
         given = read()
+        status, text = library.answer(job[0], given, *map(int, general))
+    except MemoryError:
+        return failed(MEMORY, b"memory")
     except OSError:
         return failed(5, b"read failed")
-    status, text = Library(sys.argv[1]).answer(job[0], given, *map(int, general))
     if status in (FAULT, MEMORY):
         return failed(status, text if status == FAULT else b"memory")
     try:

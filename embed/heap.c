@@ -1,9 +1,10 @@
-/* Where the library takes its memory from: malloc, realloc and free of C, which align each block to 16 bytes, or to the
-   greatest power of two that divides its size. The library asks for no more.
+/* The library takes its memory from malloc, realloc and free of C. These align each block to 16 bytes, or to the greatest
+   power of two that divides its size. The library asks for no more.
 
-   Who writes these three anew keeps: they are of one allocator; a block is aligned to `align`, which divides 16; `ok` is
-   false exactly where memory is refused, and a block that could not be made longer is kept then; `at` is never null, as
-   nothing is read or written at it where `ok` is false; several threads may call them at once. */
+   Other functions in their place must keep these rules. All three are of one allocator. A block is aligned to `align`,
+   which divides 16. `bytes` may be 0: the block is then one like any other. rattle_realloc keeps the first `kept` bytes
+   of a block. `ok` is false if and only if memory is refused; a block that could not be made longer is kept then. `at`
+   is never null; nothing is read or written at it where `ok` is false. Several threads may call them at once. */
 #include <stdbool.h>
 #include <stddef.h>
 #include <stdint.h>

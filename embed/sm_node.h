@@ -1,7 +1,8 @@
 /* The library of nodes for C: one node (general) of a run, driven by the caller's program over the caller's transport.
 
-   Link libsm_node.a and heap.c; libsm_embed.a may be linked beside them. docs/EMBED.md has a run call by call, the
-   numbers to plan, and what becomes of lost, late and early frames. A general is a node, and an order is a value.
+   Link libsm_node.a and heap.c, which a release has as libsm_embed_heap.a too. libsm_embed.a may be linked beside them,
+   as for agree.c. docs/EMBED.md has a run call by call, the numbers to plan, and what becomes of lost, late and early
+   frames. A general is a node, and an order is a value.
 
    An sm_node is one pointer. The caller sets it to null before the first call, as by `sm_node node = {0};`, and does
    not read or write it afterwards. Null means that there is no node: sm_node_new makes a node there, and sm_node_free
@@ -9,31 +10,38 @@
 
    In version 1, one seed makes one node ever, for one run. In version 2, one seed makes one node ever in each slot, for
    one run. No second node may be made, not even if the first was freed, or its process ended or forked. What a node
-   signed is kept nowhere, so a second node would sign again. Two signed texts under one key convict the general and
-   give away its keys. A node that is started anew is out of that run; in version 2 all nodes may use the next slot. A
-   node that exists before a fork is used on one side alone, and on the other side it is freed at most.
+   signed is kept nowhere, so a second node would sign again. Two different texts under one key give away secrets of the
+   key, and can convict the general. A node that is started anew is out of that run; in version 2 all nodes may use the
+   next slot. A node that exists before a fork is used on one side alone, and on the other side it is freed at most.
 
-   Each function but sm_node_free returns one of these numbers:
+   Each function but sm_node_free and sm_node_version returns one of these numbers. Not every function returns each of
+   them. sm_status.h has them, and what may change between versions.
 
-     SM_DONE     it was done
-     SM_MISUSE   the call is not allowed here, and nothing was changed
-     SM_BAD      the input has a fault, and nothing was changed: *fault is its number, and else 0
-     SM_REFUSED  memory was refused, and the same call may be made again. After sm_node_begin_round a round may be half
+     SM_OK       it was done
+     SM_MISUSE   the call is not allowed here, or a pointer is null though there are bytes, and nothing was changed
+     SM_FAULT    the input has a fault, and nothing was changed: *fault is its number
+     SM_MEMORY   memory was refused, and the same call may be made again. After sm_node_begin_round a round may be half
                  begun, and after sm_node_end_round half ended: the same call continues it, and nothing is signed
-                 twice. Until it is done, sm_node_hear reports SM_F1, and every other call on the node but sm_node_free
-                 is SM_MISUSE. After all other functions nothing was changed
-     SM_SHORT    the bytes are longer than the room, and nothing was changed: call again with room for *count bytes
+                 twice. Until it is done, sm_node_hear reports SM_F1, and every other call on the node but
+                 sm_node_free, sm_node_round and sm_node_awaits is SM_MISUSE. After all other functions nothing was
+                 changed
+     SM_LENGTH   the bytes are longer than the room, and nothing was changed: call again with room for *count bytes
 
-   At SM_DONE and SM_SHORT *count is the number of bytes, and else 0. The room behind the bytes keeps its old content.
-   So does the whole room if no bytes were written.
+   At SM_FAULT alone *fault is not 0. At SM_OK and SM_LENGTH *count is the number of bytes, and else 0. The room behind
+   the bytes keeps its old content. So does the whole room if no bytes were written.
+
+   A pointer to bytes, edges, roots or logs may be null if their number is 0. If it is null and their number is not 0,
+   the call is SM_MISUSE. This is tested by C in this header, before the call of the archive: no proof is about it, and
+   a caller that does not use this header never passes null. No other pointer is null.
 
    The proofs hold for calls that keep the following, which nothing checks:
 
-   - A pointer points to as much as is said. No pointer is null, also if there are no bytes, and no two of these pieces
-     of memory overlap.
+   - A pointer points to as much as is said, and no two of these pieces of memory overlap.
    - During the call nobody writes to what is read, and nobody reads or writes the node, the room and the counts.
    - At most PTRDIFF_MAX bytes are passed as one input or room.
-   - All calls on a node are made by the thread that made it. Several threads may each have nodes of their own.
+   - Any thread may make a call on a node, but one call at a time. What orders two calls of different threads is a lock,
+     the start or the end of a thread, or an atomic variable (memory_order_seq_cst). Threads may call at the same time
+     on nodes of their own, and make the calls that have no node.
    - There is enough stack: 1 MiB was enough for each call that was tried, of up to 16 generals.
    - No call is made from a signal handler, nor in the forked child of a process with threads.
    - rattle_alloc, rattle_realloc and rattle_dealloc are those of heap.c, or keep the rules in its comment.
@@ -41,14 +49,14 @@
 #ifndef SM_NODE_H
 #define SM_NODE_H
 
-#include <stddef.h>
-#include <stdint.h>
+#include "sm_status.h"
 
 #ifdef __cplusplus
 extern "C" {
 #endif
 
-enum sm_node_status { SM_DONE = 0, SM_MISUSE = 2, SM_BAD = 3, SM_REFUSED = 4, SM_SHORT = 5 };
+/* An old name, which the next version does not have. */
+#define sm_node_status sm_status
 
 /* In place of an order: the general has none. Only general 0, the commander, has one. */
 enum { SM_NO_ORDER = 255 };
@@ -61,8 +69,8 @@ enum sm_node_fault {
     SM_OTHER_ROOT = 14, /* the header has another root for the general than that of the seed's keys */
     SM_F1 = 21, SM_F2, SM_F3, SM_F4, SM_F5, SM_F6, SM_F7, SM_F8, /* of a frame */
     SM_U1 = 31, SM_U2,  /* two generals that are not held for faulty have no walk, or none of at most d edges */
-    /* Of a bundle. Only SM_B4 to SM_B7 and SM_B9 can come, as no bundle is read. A fault of the bundle's header is
-       reported as the header's. */
+    /* Of a bundle. Only SM_B4, SM_B7 and SM_B9 can come, as no bundle is read, and the library makes the walks. A fault
+       of the bundle's header is reported as the header's. */
     SM_B1 = 41, SM_B2, SM_B3, SM_B4, SM_B5, SM_B6, SM_B7, SM_B8, SM_B9,
     SM_LONG_LOG = 50    /* a log has 2^32 bytes or more */
 };
@@ -72,8 +80,8 @@ typedef struct {
     void *at;
 } sm_node;
 
-/* The numbers of a header: traitors is m, diameter is d, and a run has m + d rounds. They may be any values, and
-   sm_header checks them. The slot counts in version 2 alone. */
+/* The numbers of a header: traitors is m, diameter is d, and a run has m + d rounds. There are `orders` orders, from 0.
+   The numbers may be any values, and sm_header checks them. The slot counts in version 2 alone. */
 typedef struct {
     uint8_t version, slot, generals, traitors, diameter, orders, choice;
 } sm_numbers;
@@ -84,64 +92,263 @@ typedef struct {
     size_t bytes;
 } sm_log;
 
-/* Writes the root of the keys that a seed makes, for headers of version 1 or 2. SM_MISUSE if it is another version. */
-uint32_t sm_root(const uint8_t seed[32], uint32_t version, uint8_t root[32]);
+/* Writes the root of the keys that a seed makes, for headers of version 1 or 2. SM_MISUSE if it is another version.
+   A seed is 32 secret random bytes of the system's generator, as getrandom gives them: whoever knows the seed can sign
+   as the general. The root is no secret. The library does not wipe what it makes of a seed, and the caller wipes the
+   seed. Returns SM_OK, SM_MISUSE or SM_MEMORY. */
+uint32_t sm_root(const uint8_t seed[32], uint32_t version, uint8_t root[32]) SM_CALL(1, 3);
 
 /* Writes the bytes of the header of these numbers, edges and roots: at most 8 + 2 * edge_count + 32 * root_count. An
    edge is two bytes, and the edges come in any order and direction. A root is 32 bytes, and the roots come in the order
    of their generals. H1 to H7 are reported first, then H10 for a version other than 1 or 2, then H8 for another number
-   of roots, then H11. */
+   of roots, then H11. Returns SM_OK, SM_MISUSE, SM_FAULT, SM_MEMORY or SM_LENGTH. */
 uint32_t sm_header(const sm_numbers *numbers, const uint8_t *edges, size_t edge_count, const uint8_t *roots,
-                   size_t root_count, uint8_t *room, size_t room_bytes, size_t *count, uint32_t *fault);
+                   size_t root_count, uint8_t *room, size_t room_bytes, size_t *count, uint32_t *fault)
+    SM_CALL(1, 2, 4, 6, 8, 9);
 
 /* Makes a node of a header's bytes, the number of a general, the general's seed, and the order if the general is the
-   commander, else SM_NO_ORDER. SM_MISUSE if a node is there already, the general is above 15, or the order is neither
-   0 to 15 nor SM_NO_ORDER. */
+   commander, else SM_NO_ORDER. SM_MISUSE if a node is there already, the general is above 15, or the order is neither 0
+   to 15 nor SM_NO_ORDER. Returns SM_OK, SM_MISUSE, SM_FAULT or SM_MEMORY. */
 uint32_t sm_node_new(sm_node *node, const uint8_t *header, size_t header_bytes, uint32_t general,
-                     const uint8_t seed[32], uint32_t order, uint32_t *fault);
+                     const uint8_t seed[32], uint32_t order, uint32_t *fault) SM_CALL(1, 2, 5, 7);
 
 /* Begins the next round: the node signs what it has to sign in this round. SM_MISUSE if there is no node, a round is
-   open, or the last round has ended. */
-uint32_t sm_node_begin_round(sm_node *node);
+   open, or the last round has ended. Returns SM_OK, SM_MISUSE or SM_MEMORY. */
+uint32_t sm_node_begin_round(sm_node *node) SM_CALL(1);
 
 /* Writes the bytes of this round's frame to a neighbour. The node stays as it was, so the same frame can be asked for
-   again. SM_MISUSE if no round is open, or `to` is no neighbour. */
-uint32_t sm_node_send(sm_node *node, uint32_t to, uint8_t *room, size_t room_bytes, size_t *count);
+   again. SM_MISUSE if no round is open, or `to` is no neighbour. Returns SM_OK, SM_MISUSE, SM_MEMORY or SM_LENGTH. */
+uint32_t sm_node_send(sm_node *node, uint32_t to, uint8_t *room, size_t room_bytes, size_t *count)
+    SM_CALL(1, 3, 5);
 
 /* Takes bytes that came from a neighbour in this round. `from` is the sender that the transport knows, and not what the
    bytes say. If they are not the neighbour's frame of this round, *fault is SM_F1 to SM_F8, nothing of them is kept,
    and the neighbour's frame may still come. Before a round and after it that is SM_F1. Once the neighbour's frame of
    this round was taken it is SM_F2, for an early frame too. SM_MISUSE if there is no node, sm_node_finish has ended it,
-   or `from` is above 15. */
-uint32_t sm_node_hear(sm_node *node, uint32_t from, const uint8_t *bytes, size_t byte_count, uint32_t *fault);
+   or `from` is above 15. Returns SM_OK, SM_MISUSE, SM_FAULT or SM_MEMORY. */
+uint32_t sm_node_hear(sm_node *node, uint32_t from, const uint8_t *bytes, size_t byte_count, uint32_t *fault)
+    SM_CALL(1, 3, 5);
 
 /* Ends the round: a neighbour from which no frame was taken counts as one that sent nothing. SM_MISUSE if no round is
-   open. */
-uint32_t sm_node_end_round(sm_node *node);
+   open. Returns SM_OK, SM_MISUSE or SM_MEMORY. */
+uint32_t sm_node_end_round(sm_node *node) SM_CALL(1);
 
 /* Ends the node after the last round: its log is sealed, and its ring of keys is closed. SM_MISUSE if there is no node,
-   its last round has not ended, or it has ended already. */
-uint32_t sm_node_finish(sm_node *node);
+   its last round has not ended, or it has ended already. Returns SM_OK, SM_MISUSE or SM_MEMORY. */
+uint32_t sm_node_finish(sm_node *node) SM_CALL(1);
 
-/* Writes the bytes of the log of a node that has ended. SM_MISUSE if there is none. */
-uint32_t sm_node_log(sm_node *node, uint8_t *room, size_t room_bytes, size_t *count);
+/* Writes the bytes of the log of a node that has ended. SM_MISUSE if there is none. Returns SM_OK, SM_MISUSE or
+   SM_LENGTH. */
+uint32_t sm_node_log(sm_node *node, uint8_t *room, size_t room_bytes, size_t *count) SM_CALL(1, 2, 4);
 
-/* Writes the order that a node which has ended decided, 0 to 14. SM_MISUSE if there is none; then *order is 0. */
-uint32_t sm_node_order(sm_node *node, uint32_t *order);
+/* Writes the order that a node which has ended decided, 0 to 14. SM_MISUSE if there is none; then *order is 0. Returns
+   SM_OK or SM_MISUSE. */
+uint32_t sm_node_order(sm_node *node, uint32_t *order) SM_CALL(1, 2);
 
 /* Frees what is there, at any time. Then there is no node. A ring of keys that is open is closed. */
 void sm_node_free(sm_node *node);
 
 /* Writes the bytes of the bundle of a run. The caller hands in the header's bytes, the set of the generals that are
    held for faulty, bit g for general g, and the logs that were collected, of all generals or of some. The library finds
-   the walks between the other generals. The logs stand one after another in `bytes`, in ascending order of their
-   generals. Their bytes may be anybody's, and sm_audit says what they are. SM_MISUSE if the set has a general above 15,
-   a general of a log is above 15, or the lengths of the logs do not add up to byte_count. */
+   the walks between the other generals. There are at most 64 logs, and several may be of one general. They stand one
+   after another in `bytes`, in ascending order of their generals. Their bytes may be anybody's, and sm_audit says what
+   they are. Faults of the header are reported first, then SM_U1 and SM_U2, then those of the bundle. SM_MISUSE if the
+   set has a general above 15, a general of a log is above 15, or the lengths of the logs do not add up to byte_count.
+   Returns SM_OK, SM_MISUSE, SM_FAULT, SM_MEMORY or SM_LENGTH. */
 uint32_t sm_bundle(const uint8_t *header, size_t header_bytes, uint32_t faulty, const sm_log *logs, size_t log_count,
                    const uint8_t *bytes, size_t byte_count, uint8_t *room, size_t room_bytes, size_t *count,
-                   uint32_t *fault);
+                   uint32_t *fault) SM_CALL(1, 4, 6, 8, 10, 11);
+
+/* Writes the bytes of a bundle, as sm_bundle, but there is no SM_U1 and no SM_U2: if two generals that are not held for
+   faulty have no walk of at most d edges, the bundle has no walks. The audit finds that, which is N10, and all else
+   that it finds in the logs. Returns SM_OK, SM_MISUSE, SM_FAULT, SM_MEMORY or SM_LENGTH. */
+uint32_t sm_bundle_parted(const uint8_t *header, size_t header_bytes, uint32_t faulty, const sm_log *logs,
+                          size_t log_count, const uint8_t *bytes, size_t byte_count, uint8_t *room, size_t room_bytes,
+                          size_t *count, uint32_t *fault) SM_CALL(1, 4, 6, 8, 10, 11);
+
+/* Reads the numbers of a header from its bytes. They stay as they were if it is not SM_OK. Returns SM_OK, SM_MISUSE,
+   SM_FAULT or SM_MEMORY. */
+uint32_t sm_header_numbers(const uint8_t *header, size_t header_bytes, sm_numbers *numbers, uint32_t *fault)
+    SM_CALL(1, 3, 4);
+
+/* Tells how many rounds a run of this header has, 1 to 16: m + d. *rounds is 0 if it is not SM_OK. Returns SM_OK,
+   SM_MISUSE, SM_FAULT or SM_MEMORY. */
+uint32_t sm_rounds(const uint8_t *header, size_t header_bytes, uint32_t *rounds, uint32_t *fault) SM_CALL(1, 3, 4);
+
+/* Tells the neighbours of a general by this header: bit g of the set is that of general g. The set is empty if the
+   general is none of the header's, or if it is not SM_OK. SM_MISUSE if the general is above 15. Returns SM_OK,
+   SM_MISUSE, SM_FAULT or SM_MEMORY. */
+uint32_t sm_neighbours(const uint8_t *header, size_t header_bytes, uint32_t general, uint32_t *set, uint32_t *fault)
+    SM_CALL(1, 4, 5);
+
+/* Tells how many bytes a frame has at most, in any round of a run of this header, if its sender follows the algorithm.
+   A transport need not carry a longer one. *most is 0 if it is not SM_OK. Returns SM_OK, SM_MISUSE, SM_FAULT or
+   SM_MEMORY. */
+uint32_t sm_frame_most(const uint8_t *header, size_t header_bytes, size_t *most, uint32_t *fault) SM_CALL(1, 3, 4);
+
+/* Tells the number of the round that began last, 0 before the first. SM_MISUSE if there is no node, or it has ended;
+   then *round is 0. Returns SM_OK or SM_MISUSE. */
+uint32_t sm_node_round(sm_node *node, uint32_t *round) SM_CALL(1, 2);
+
+/* Tells whether a frame goes out to a general now and one from it is awaited, 1 or 0: a round is open, and the general
+   is a neighbour. Whether its frame was taken in this round, sm_node_hear has told. SM_MISUSE if there is no node, it
+   has ended, or the general is above 15; then *awaited is 0. Returns SM_OK or SM_MISUSE. */
+uint32_t sm_node_awaits(sm_node *node, uint32_t general, uint32_t *awaited) SM_CALL(1, 3);
+
+/* The number of the version of the archive, which is SM_VERSION_NUMBER if the header is of the same version. */
+uint32_t sm_node_version(void);
 
 #ifdef __cplusplus
 }
+#endif
+
+/* A fault in words, by its number. It is never null, and stays as it is. */
+static inline const char *sm_fault_text(uint32_t fault) {
+    switch (fault) {
+    case SM_H1: return "there are not 2 to 16 generals";
+    case SM_H2: return "an edge is none between two of the generals, comes twice, or is out of order";
+    case SM_H3: return "m is above 8";
+    case SM_H4: return "d is not 1 to 15";
+    case SM_H5: return "there are more than 16 rounds";
+    case SM_H6: return "there are not 2 to 15 orders";
+    case SM_H7: return "the choice is not 0 or 1";
+    case SM_H8: return "there is not one root for each general";
+    case SM_H9: return "the bytes end before the header does";
+    case SM_H10: return "the version is none of those that there are";
+    case SM_H11: return "the slot is above 3";
+    case SM_LEFT_OVER: return "bytes are left over behind the header";
+    case SM_NO_GENERAL: return "the number is none of the header's generals, or the order does not fit the general";
+    case SM_OTHER_ROOT: return "the header has another root for the general than that of the seed's keys";
+    case SM_F1: return "no frame of this general is awaited";
+    case SM_F2: return "the frame of this general was taken before";
+    case SM_F3: return "the bytes end before the frame does";
+    case SM_F4: return "the first four bytes are not SMF1";
+    case SM_F5: return "bytes are left over behind the frame";
+    case SM_F6: return "the frame is of another run";
+    case SM_F7: return "the frame is of another round";
+    case SM_F8: return "the frame has another sender or receiver";
+    case SM_U1: return "two generals that are not held for faulty have no walk";
+    case SM_U2: return "two generals that are not held for faulty have no walk of at most d edges";
+    case SM_B1: return "the bytes end before the bundle does";
+    case SM_B2: return "the first four bytes are neither SMB1 nor SMB2";
+    case SM_B3: return "the header of the bundle breaks a rule";
+    case SM_B4: return "a general is held for faulty that the header does not have";
+    case SM_B5: return "there are more than 120 walks, or a walk has not 2 to 16 generals";
+    case SM_B6: return "a walk is none between two generals, or stands out of order";
+    case SM_B7: return "there are more than 64 logs, or a log is of a general that the header does not have";
+    case SM_B8: return "bytes are left over behind the bundle";
+    case SM_B9: return "the logs are not in the order of their generals";
+    case SM_LONG_LOG: return "a log has 2^32 bytes or more";
+    default: return fault == 0 ? "no fault" : "a fault that this header does not know";
+    }
+}
+
+/* Null pointers are tested before the call of the archive. With SM_UNCHECKED the archive is called at once. */
+#ifndef SM_UNCHECKED
+SM_CALL(1, 8, 9)
+static inline uint32_t sm_checked_header(const sm_numbers *numbers, const uint8_t *edges, size_t edge_count,
+                                         const uint8_t *roots, size_t root_count, uint8_t *room, size_t room_bytes,
+                                         size_t *count, uint32_t *fault) {
+    uint8_t none[3] = {0, 0, 0};
+    *count = 0;
+    *fault = 0;
+    if (sm_is_missing(edges, edge_count) || sm_is_missing(roots, root_count)) return SM_MISUSE;
+    if (sm_is_missing(room, room_bytes)) return SM_MISUSE;
+    return sm_header(numbers, edges ? edges : none, edge_count, roots ? roots : none + 1, root_count,
+                     room ? room : none + 2, room_bytes, count, fault);
+}
+SM_CALL(1, 5, 7)
+static inline uint32_t sm_checked_node_new(sm_node *node, const uint8_t *header, size_t header_bytes, uint32_t general,
+                                           const uint8_t seed[32], uint32_t order, uint32_t *fault) {
+    uint8_t none = 0;
+    *fault = 0;
+    if (sm_is_missing(header, header_bytes)) return SM_MISUSE;
+    return sm_node_new(node, header ? header : &none, header_bytes, general, seed, order, fault);
+}
+SM_CALL(1, 5)
+static inline uint32_t sm_checked_node_send(sm_node *node, uint32_t to, uint8_t *room, size_t room_bytes,
+                                            size_t *count) {
+    uint8_t none = 0;
+    *count = 0;
+    if (sm_is_missing(room, room_bytes)) return SM_MISUSE;
+    return sm_node_send(node, to, room ? room : &none, room_bytes, count);
+}
+SM_CALL(1, 5)
+static inline uint32_t sm_checked_node_hear(sm_node *node, uint32_t from, const uint8_t *bytes, size_t byte_count,
+                                            uint32_t *fault) {
+    uint8_t none = 0;
+    *fault = 0;
+    if (sm_is_missing(bytes, byte_count)) return SM_MISUSE;
+    return sm_node_hear(node, from, bytes ? bytes : &none, byte_count, fault);
+}
+SM_CALL(1, 4)
+static inline uint32_t sm_checked_node_log(sm_node *node, uint8_t *room, size_t room_bytes, size_t *count) {
+    uint8_t none = 0;
+    *count = 0;
+    if (sm_is_missing(room, room_bytes)) return SM_MISUSE;
+    return sm_node_log(node, room ? room : &none, room_bytes, count);
+}
+#define SM_CHECKED_BUNDLE(name)                                                                                        \
+    SM_CALL(10, 11) static inline uint32_t sm_checked_##name(                                                          \
+        const uint8_t *header, size_t header_bytes, uint32_t faulty, const sm_log *logs, size_t log_count,             \
+        const uint8_t *bytes, size_t byte_count, uint8_t *room, size_t room_bytes, size_t *count, uint32_t *fault) {   \
+        uint8_t none[3] = {0, 0, 0};                                                                                   \
+        sm_log nobody = {0, 0};                                                                                        \
+        *count = 0;                                                                                                    \
+        *fault = 0;                                                                                                    \
+        if (sm_is_missing(header, header_bytes) || sm_is_missing(logs, log_count)) return SM_MISUSE;                   \
+        if (sm_is_missing(bytes, byte_count) || sm_is_missing(room, room_bytes)) return SM_MISUSE;                     \
+        return sm_##name(header ? header : none, header_bytes, faulty, logs ? logs : &nobody, log_count,               \
+                         bytes ? bytes : none + 1, byte_count, room ? room : none + 2, room_bytes, count, fault);      \
+    }
+SM_CHECKED_BUNDLE(bundle)
+SM_CHECKED_BUNDLE(bundle_parted)
+#undef SM_CHECKED_BUNDLE
+SM_CALL(3, 4)
+static inline uint32_t sm_checked_header_numbers(const uint8_t *header, size_t header_bytes, sm_numbers *numbers,
+                                                 uint32_t *fault) {
+    uint8_t none = 0;
+    *fault = 0;
+    if (sm_is_missing(header, header_bytes)) return SM_MISUSE;
+    return sm_header_numbers(header ? header : &none, header_bytes, numbers, fault);
+}
+SM_CALL(3, 4)
+static inline uint32_t sm_checked_rounds(const uint8_t *header, size_t header_bytes, uint32_t *rounds,
+                                         uint32_t *fault) {
+    uint8_t none = 0;
+    *rounds = 0;
+    *fault = 0;
+    if (sm_is_missing(header, header_bytes)) return SM_MISUSE;
+    return sm_rounds(header ? header : &none, header_bytes, rounds, fault);
+}
+SM_CALL(4, 5)
+static inline uint32_t sm_checked_neighbours(const uint8_t *header, size_t header_bytes, uint32_t general,
+                                             uint32_t *set, uint32_t *fault) {
+    uint8_t none = 0;
+    *set = 0;
+    *fault = 0;
+    if (sm_is_missing(header, header_bytes)) return SM_MISUSE;
+    return sm_neighbours(header ? header : &none, header_bytes, general, set, fault);
+}
+SM_CALL(3, 4)
+static inline uint32_t sm_checked_frame_most(const uint8_t *header, size_t header_bytes, size_t *most,
+                                             uint32_t *fault) {
+    uint8_t none = 0;
+    *most = 0;
+    *fault = 0;
+    if (sm_is_missing(header, header_bytes)) return SM_MISUSE;
+    return sm_frame_most(header ? header : &none, header_bytes, most, fault);
+}
+#define sm_header sm_checked_header
+#define sm_node_new sm_checked_node_new
+#define sm_node_send sm_checked_node_send
+#define sm_node_hear sm_checked_node_hear
+#define sm_node_log sm_checked_node_log
+#define sm_bundle sm_checked_bundle
+#define sm_bundle_parted sm_checked_bundle_parted
+#define sm_header_numbers sm_checked_header_numbers
+#define sm_rounds sm_checked_rounds
+#define sm_neighbours sm_checked_neighbours
+#define sm_frame_most sm_checked_frame_most
 #endif
 #endif

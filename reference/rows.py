@@ -18,9 +18,9 @@ from typing import Dict, Iterator, List, Tuple
 sys.path.insert(0, os.path.dirname(os.path.abspath(__file__)))
 
 from model.faults import Fault  # noqa: E402
-from row_calls import commands, frames, judging, reading, signing, values  # noqa: E402
+from row_calls import commands, frames, judging, preparing, reading, signing, values  # noqa: E402
 
-MODULES = (values, signing, judging, frames, commands)
+MODULES = (values, signing, judging, preparing, frames, commands)
 # The file of rows that are wrong.
 WRONG = "wrong.rows"
 
@@ -29,6 +29,23 @@ def answer_of(names: Dict[str, bytes], asked: str) -> str:
     """The reference's answer to what stands in front of a row's answer."""
     row = reading.Row(names, reading.tokens_of(asked))
     call = row.word()
+    return cuts(row) if call == "cuts" else told(call, row)
+
+
+def cuts(row: reading.Row) -> str:
+    """What a call answers to the beginnings of its bytes: each other answer than the one before, behind its length."""
+    start, end, call = row.number(), row.number(), row.word()
+    lines: List[str] = []
+    before = ""
+    for length in range(start, end):
+        found = told(call, row.cut(length))
+        lines += [f"{length} {found}"] if found != before else []
+        before = found
+    return " / ".join(lines)
+
+
+def told(call: str, row: reading.Row) -> str:
+    """The answer to a call."""
     for module in MODULES:
         if call in module.CALLS:
             try:

@@ -8,7 +8,7 @@ copy_sources() {
     trap 'exit 130' HUP INT TERM
     # A source that changes from here on is newer than this file.
     touch "$copy/begun" && mkdir "$copy/tree" || exit 126
-    tar -C "$top" --exclude=.git --exclude=out --exclude=__pycache__ -cf - . | tar -C "$copy/tree" -xf - || exit 126
+    tar -C "$top" --exclude=.git --exclude=out --exclude=__pycache__ --exclude=target -cf - . | tar -C "$copy/tree" -xf - || exit 126
 }
 
 # The crates of the program in the copy: sm_tool and all that it stands on, each in a line.
@@ -31,13 +31,46 @@ names_of_program() {
 }
 
 # Puts the program that was proved and built in the copy to out/, with the sources that it was made of: ./sm_tool takes it for
-# as long as none of these is newer than the copy.
+# as long as none of these is newer than the copy. What the gate said last is kept beside it. The program of before for
+# processors of level 3 goes.
 keep_program() {
     kept=$top/out/sm_tool
-    mkdir -p "$top/out" && rm -f "$kept.sources" && cp "$copy/tree/crates/sm_tool/out/sm_tool" "$kept.new" &&
-        mv "$kept.new" "$kept" || return 1
+    mkdir -p "$top/out" && rm -f "$kept.sources" "$kept-v3" && put_built "$copy/tree/crates/sm_tool/out/sm_tool" sm_tool "$1" ||
+        return 1
     names_of_program | sed 's,.*,crates/&/src,' | tr '\n' ' ' >"$copy/sources" && echo crates.txt >>"$copy/sources" &&
         touch -r "$copy/begun" "$copy/sources" && cp -p "$copy/sources" "$kept.sources"
+}
+
+# Whether this processor has the instructions of the level x86-64-v3, AVX2 among them.
+has_level_3() {
+    flags=$(grep -m 1 '^flags' /proc/cpuinfo 2>/dev/null)
+    for flag in avx2 bmi1 bmi2 fma f16c movbe; do
+        case " $flags " in
+        *" $flag "*) ;;
+        *) return 1 ;;
+        esac
+    done
+}
+
+# Builds the program of the copy for processors of the level x86-64-v3 too, as $copy/sm_tool-v3. The libraries are those that
+# the gate has built, which count as built by tools/libraries.py. The toolchain proves the program's own crate anew, and runs
+# what it has built, which an older processor can't: that counts for nothing. The gate's own program stays where it is.
+build_level_3() {
+    built=$copy/tree/crates/sm_tool/out/sm_tool
+    mv "$built" "$copy/sm_tool" || return 1
+    (cd "$copy/tree/crates/sm_tool" && rt run --cpu=x86-64-v3 -- --version) >"$copy/level_3" 2>&1 </dev/null
+    grep -q '^logic=proved .* cpu=x86-64-v3 ' "$copy/level_3" && mv "$built" "$copy/sm_tool-v3"
+    is_built=$?
+    mv "$copy/sm_tool" "$built" || return 1
+    [ "$is_built" -eq 0 ] || tail -n 5 "$copy/level_3" >&2
+    return "$is_built"
+}
+
+# Puts a built file of a crate to out/, and keeps what it was proved from and what the gate said last: ./dist looks at that.
+put_built() {
+    new=$top/out/$(basename "$1")
+    rm -f "$new.proved" && cp "$1" "$new.new" && mv "$new.new" "$new" &&
+        python3 -B "$top/tools/proved.py" keep "$copy/tree" "$new" "$2" "$3"
 }
 
 # How many provers run side by side: one for each core, and for each 3 GiB of free memory.

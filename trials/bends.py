@@ -53,7 +53,8 @@ BYTES = [turn_bit, turn_bit, cut_end, cut_out, double, move, add_bytes]
 
 
 def bend_bytes(draws, data):
-    return draws.one_of(BYTES)(draws, data)
+    """The bytes with one change. What is empty can only get longer."""
+    return draws.one_of(BYTES)(draws, data) if data else add_bytes(draws, data)
 
 
 def bend_small(draws, data, places):
@@ -127,12 +128,12 @@ OF_LINES += [replace_line, insert_line, drop_line, double_line, move_line, space
 
 def bend_text(draws, text):
     """A text with one or two changes."""
-    if draws.is_one_in(5):
+    if not text or draws.is_one_in(5):
         return bend_bytes(draws, text)
     lines = text.decode().split("\n")[:-1]
     for _ in range(1 + draws.below(2)):
-        draws.one_of(OF_LINES)(draws, lines)
-    if draws.is_one_in(60):
+        (draws.one_of(OF_LINES) if lines else insert_line)(draws, lines)
+    if lines and draws.is_one_in(60):
         lengthen_line(draws, lines)
     return "".join(f"{line}\n" for line in lines).encode()
 

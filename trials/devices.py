@@ -4,9 +4,11 @@ import os
 import tempfile
 import threading
 
+from layout import MARK, Bundle
 from programs import End, differs, fault, run
-from scenarios import signed, sixteen
+from scenarios import header_text, signed, sixteen
 
+OPEN_FAILED = End(5, b"", b"open failed\n")
 READ_FAILED = End(5, b"", b"read failed\n")
 WRITE_FAILED = End(5, b"", b"write failed\n")
 LONGEST = 1 << 30
@@ -23,6 +25,7 @@ def jobs(program, commands):
     both += [(["audit"], bundle), (["audit", "--workers", "3"], bundle), (["draw"], bundle)]
     both += [(["accuse", "--general", "0"], bundle), (["run"], sixteen())]
     both += [(["campaign"], b"campaign 2\n" + b"".join(signed(slot=slot)["pair"] for slot in (1, 2)))]
+    both += [(["root"], bytes(range(32))), (["header"], header_text()), (["bundle", "-"], Bundle(bundle).front[MARK:])]
     return [(words, given) for words, given in [*both, (["evidence"], evidence)] if words[0] in commands]
 
 
@@ -121,6 +124,113 @@ def try_order(program, tally):
     tally.count(10)
 
 
+def by_pipe(program, words, given, folder):
+    """A run whose file is a named pipe, into which the input is written."""
+    pipe = os.path.join(folder, "pipe")
+    os.mkfifo(pipe)
+
+    def feed():
+        with contextlib.suppress(BrokenPipeError), open(pipe, "wb") as file:
+            file.write(given)
+
+    feeding = threading.Thread(target=feed)
+    feeding.start()
+    try:
+        return by_shell(program, [*words, pipe], "<&-")
+    finally:
+        feeding.join()
+        os.remove(pipe)
+
+
+def try_files(program, tally):
+    """Each command with its input in a file, and with a file that can't be opened or read."""
+    with tempfile.TemporaryDirectory() as folder:
+        file, missing = os.path.join(folder, "the input"), os.path.join(folder, "missing")
+        for words, given in jobs(program, tally.commands):
+            with open(file, "wb") as kept:
+                kept.write(given)
+            whole = run(program, words, given)
+            ends = {
+                "a file": (by_shell(program, [*words, file], "<&-"), whole),
+                "a file before the options": (by_shell(program, [words[0], file, *words[1:]], "<&-"), whole),
+                "a file behind --": (by_shell(program, [*words, "--", file], "<&-"), whole),
+                "standard input by its word": (run(program, [*words, "-"], given), whole),
+                "a named pipe": (by_pipe(program, words, given, folder), whole),
+                "no such file": (run(program, [*words, missing], given), OPEN_FAILED),
+                "a file with an empty name": (run(program, [*words, ""], given), OPEN_FAILED),
+                "a file in a file": (run(program, [*words, os.path.join(file, "x")], given), OPEN_FAILED),
+                "a folder": (run(program, [*words, folder], given), READ_FAILED),
+                "a file, a full device": (by_shell(program, [*words, file], ">/dev/full"), WRITE_FAILED),
+                "no such file, a full device": (by_shell(program, [*words, missing], ">/dev/full"), OPEN_FAILED),
+            }
+            for name, (end, wanted) in ends.items():
+                tally.hold(f"{' '.join(words)}, {name}", differs(end, wanted))
+            tally.count(len(ends) + 1)
+
+
+def on_terminal(program, words, given):
+    """A run whose standard output is a terminal: its status, what the terminal shows, and what standard error has."""
+    ours, its = os.openpty()
+    try:
+        end = run(program, words, given, stdout=its)
+        os.set_blocking(ours, False)
+        with contextlib.suppress(BlockingIOError):
+            return End(end.status, os.read(ours, 1 << 16), end.said)
+        return End(end.status, b"", end.said)
+    finally:
+        os.close(ours)
+        os.close(its)
+
+
+def from_terminal(program, words, given):
+    """A run whose standard input is a terminal at which the input is typed."""
+    ours, its = os.openpty()
+    try:
+        os.write(ours, given + b"\x04")
+        return run(program, words, stdin=its)
+    finally:
+        os.close(ours)
+        os.close(its)
+
+
+def try_terminals(program, tally):
+    """Bytes are not written to a terminal, and a command says that it waits for one."""
+    text = signed()["split"]
+    bundle = run(program, ["run"], text).wrote
+    for words in (["run"], ["campaign"], ["accuse", "--general", "0"], ["run", "missing"]):
+        end = on_terminal(program, words, b"")
+        is_well = end.status == 2 and end.wrote == b"" and end.said.endswith(b"; for more, try '--help'\n")
+        tally.hold(f"{' '.join(words)}, bytes to a terminal", None if is_well else f"{end}")
+    shown = on_terminal(program, ["audit"], bundle)
+    is_well = shown.status == 0 and shown.wrote.startswith(b"run ") and shown.said == b""
+    tally.hold("audit, text to a terminal", None if is_well else f"{shown}")
+    typed, given = from_terminal(program, ["decide"], text), run(program, ["decide"], text)
+    is_well = typed.status == 0 and typed.wrote == given.wrote and typed.said.count(b"\n") == 1
+    tally.hold("decide, from a terminal", None if is_well else f"{typed}")
+    tally.count(6)
+
+
+def try_run_ids(program, tally):
+    """The ids that are printed of a run and of a campaign are the ones that the verdict has, and are taken as asked for."""
+    text = signed()["split"]
+    plain = run(program, ["run"], text)
+    named = run(program, ["run", "--print-run"], text)
+    line = next(iter(run(program, ["audit"], plain.wrote).wrote.split(b"\n")))[len("run "):]
+    tally.hold("run --print-run", differs(named, End(0, plain.wrote, line + b"\n")))
+    several = b"campaign 2\n" + b"".join(signed(slot=slot)["pair"] for slot in (1, 2))
+    both = run(program, ["campaign", "--print-run"], several)
+    ids = [it[len("run "):] for it in run(program, ["audit"], both.wrote).wrote.split(b"\n") if it.startswith(b"run ")]
+    tally.hold("campaign --print-run", differs(both, End(0, both.wrote, b",".join(ids) + b"\n")))
+    for wanted, given in ((line, plain.wrote), (b",".join(ids), both.wrote)):
+        end = run(program, ["audit", "--run", wanted.decode()], given)
+        tally.hold("audit --run", differs(end, run(program, ["audit"], given)))
+    lost = by_shell(program, ["run", "--print-run"], ">/dev/full", given=text)
+    tally.hold("run --print-run, a full device", differs(lost, WRITE_FAILED))
+    bad = run(program, ["run", "--print-run"], b"")
+    tally.hold("run --print-run, a faulty text", differs(bad, fault("fault P1 line 1")))
+    tally.count(6)
+
+
 def gib_free():
     """The memory that the system says is available."""
     with open("/proc/meminfo", encoding="ascii") as lines:
@@ -150,5 +260,5 @@ def try_longest(program, tally):
 
 
 def trials(program, tally):
-    for trial in (try_jobs, try_order, try_longest):
+    for trial in (try_jobs, try_order, try_files, try_terminals, try_run_ids, try_longest):
         trial(program, tally)

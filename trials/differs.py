@@ -16,6 +16,7 @@ import hashlib
 import os
 import re
 import shlex
+import shutil
 import sys
 import tempfile
 import time
@@ -24,14 +25,19 @@ import traceback
 from bends import bend_bundle, bend_bytes, bend_campaign, bend_evidence, bend_text
 from bent import plain_texts, seeded_texts
 from campaigns import bytes_of
-from drawn import COMMANDS, HELPS, campaign_lines, draw_campaign, draw_plan, draw_words, good_options
+from drawn import COMMANDS, HELPS, SEVERAL, WANT_RUNS, campaign_lines, draw_campaign, draw_plan, draw_words
+from drawn import good_options, run_id
 from drawn import spell_lines, spoil_text
 from drawing import bundles_in
 from draws import Draws
 from forging import Forger, compose_evidence, forge_bundle, hold_for_faulty, replayed
-from layout import Bundle
-from programs import End, run, shown
+from layout import Bundle, front_length
+from programs import End, commands_of, run, shown
 from reference import answer
+from model import words as named
+from model.faults import Fault
+from model.show import shown_runs
+import several
 
 SECONDS = 120
 # So many cases share their bundles, so many bundles there are of them, and of so many bytes at most.
@@ -39,6 +45,8 @@ SHARED, BUNDLES, MOST_BYTES = 48, 4, 3_000_000
 SEEDS, TRIES = 3, 100
 # Texts that are not drawn.
 SEEDED, PLAIN = seeded_texts(), plain_texts()
+# The names that `explain` knows.
+NAMED = named.rows()
 # The line of status 2 ends with a pointer to --help; FORMATS.md fixes nothing else of it.
 POINTER = re.compile(rb"[^\n]*--help\W*\n")
 # What is counted of the text of a verdict.
@@ -216,28 +224,100 @@ def evidence_input(draws, block):
     return bend_bytes(draws, made) if draws.is_one_in(10) else made
 
 
+def shown_input(draws, block):
+    """A bundle, a campaign, evidence, or a header alone, whole or bent."""
+    way = draws.below(8)
+    if way < 3:
+        return evidence_input(draws, block)
+    if way > 3:
+        return bundle_input(draws, block)
+    data = block.bundle(draws.below(BUNDLES))[1]
+    header = data[4 : front_length(data) + draws.one_of([0, 0, 0, -1, 1, -40])]
+    return header if draws.below(3) else bend_bytes(draws, header)
+
+
+def root_input(draws, block):
+    """A seed, or bytes that are none."""
+    seed = bytes.fromhex(draws.one_of(block.seeds))
+    return draws.one_of([seed, seed, seed, seed[:-1], seed + b"\n", b"", seed.hex().encode(), seed * 2])
+
+
+def header_input(draws, block):
+    """The text of a header, whole or bent, or of another text."""
+    plan = draw_plan(draws)
+    roots = [run_id(draws) for _ in range(plan.generals + draws.one_of([0] * 8 + [-1, 1]))]
+    lines = [*plan.lines()[:-2], *(f"root {draws.one_of([root, root.upper()])}" for root in roots), "end"]
+    way, text = draws.below(16), spell_lines(lines)
+    if way == 0:
+        return scenario_input(draws, block, True)
+    if way < 3:
+        return spell_lines(with_bad_root(draws, lines))
+    if way < 6:
+        return bend_text(draws, text)
+    return spoil_text(draws, text) if way < 10 else text
+
+
+def with_bad_root(draws, lines):
+    """Lines of which one has digits that are no root's, or stands in another place."""
+    at = draws.one_of([at for at, line in enumerate(lines) if line.startswith("root ")] or [0])
+    line = lines[at]
+    bad = [line[:-1], line + "0", line[:-1] + "g", f"{line} ", "root", line.replace("root", "seed"), "end"]
+    return [*lines[:at], draws.one_of(bad), *lines[at + 1 :]]
+
+
+def text_input(draws, block):
+    """The text of a verdict, of decisions or of evidence, or a line of a fault, whole or bent."""
+    command = draws.one_of(["audit", "audit", "decide", "evidence"])
+    end = block.make([command], INPUTS[command](draws, block))
+    text = end.wrote + end.said
+    return bend_text(draws, text) if draws.is_one_in(3) else text
+
+
+def name_to_explain(draws):
+    """A name that stands in an answer, or two, or none."""
+    names = [row.name for row in NAMED]
+    name = draws.one_of(names)
+    return draws.one_of([name, name, f"{name} {draws.one_of(names)}", f"{name} ", name[:-1], name.lower(), "", "-"])
+
+
 INPUTS = {
     "decide": decide_input, "run": run_input, "judge": run_input, "campaign": campaign_input,
     "audit": bundle_input, "draw": bundle_input, "accuse": bundle_input, "evidence": evidence_input,
+    "show": shown_input, "words": text_input, "explain": foreign, "root": root_input, "header": header_input,
 }
 
 
+def runs_of(given):
+    """The ids of the runs that an input is of, as words have them."""
+    try:
+        return [run.hex() for run in shown_runs(given)]
+    except Fault:
+        return []
+
+
 class Cases:
-    """The cases of a seed, by their numbers."""
+    """The cases of a seed, by their numbers, of some commands."""
 
-    def __init__(self, seed, make):
-        self.seed, self.make, self.block, self.number = seed, make, None, None
+    def __init__(self, seed, make, commands):
+        self.seed, self.make, self.commands, self.block, self.number = seed, make, commands, None, None
 
-    def case(self, number):
-        """The words and the input of a case. The commands take turns."""
+    def case(self, number, folder):
+        """The words, the input and the files of a case, which stand in this folder. The commands take turns."""
         if number // SHARED != self.number:
             self.number = number // SHARED
             self.block = Block(self.seed, self.number, self.make)
-        draws, command = Draws(f"{self.seed} case {number}"), COMMANDS[number % len(COMMANDS)]
+        draws, command = Draws(f"{self.seed} case {number}"), self.commands[number % len(self.commands)]
+        files = several.Files(folder)
+        if command in SEVERAL:
+            words = several.CASES[command](draws, self.block, BUNDLES, files)
+            return (draw_words(draws, command) if draws.is_one_in(12) else words), files.standard, files
         given = INPUTS[command](draws, self.block)
         if draws.is_one_in(12):
-            return draw_words(draws, command), given
-        return [command, *good_options(draws, command)], given
+            return draw_words(draws, command), given, files
+        if command == "explain":
+            return [command, name_to_explain(draws)], given, files
+        runs = runs_of(given) if command in WANT_RUNS and draws.below(2) else []
+        return [command, *good_options(draws, command, runs)], given, files
 
 
 # Comparing.
@@ -248,10 +328,15 @@ def asks_for_help(words):
     return words in HELPS or words[1:] in HELPS or words[:1] == ["help"]
 
 
+def blame(words, said):
+    """What is said of words that ask for no job; in front of it stands the help where there are no words."""
+    return said if words else said[said.rfind(b"\n", 0, -1) + 1:]
+
+
 def difference(words, got, want):
     """None where the program ends as the reference does, as far as FORMATS.md and COMMANDS.md fix it."""
     if got.status == want.status == 2:
-        is_well = all(end.wrote == b"" and POINTER.fullmatch(end.said) for end in (got, want))
+        is_well = all(end.wrote == b"" and POINTER.fullmatch(blame(words, end.said)) for end in (got, want))
         return None if is_well else f"{shown(got)}; the reference: {shown(want)}"
     is_help = asks_for_help(words) and got.status == want.status == 0
     if got == want or is_help and got.wrote and got.said == want.said == b"":
@@ -297,10 +382,10 @@ class Counts:
 class Trial:
     """Compares case by case, and keeps the inputs of those that differ."""
 
-    def __init__(self, program, seed, folder):
+    def __init__(self, program, seed, folder, commands=COMMANDS):
         self.program, self.folder = program, folder
         make = functools.partial(run, program) if program else answer
-        self.cases, self.counts, self.seed = Cases(seed, make), Counts(), seed
+        self.cases, self.counts, self.seed = Cases(seed, make, commands), Counts(), seed
 
     def wrong(self, words, given):
         """What is wrong with the program's answer, or None; and the reference's answer."""
@@ -313,15 +398,17 @@ class Trial:
 
     def try_case(self, number):
         """One case: what is to be said where it differs, or None."""
-        words, given = self.cases.case(number)
+        self.folder = self.folder or tempfile.mkdtemp(prefix="differs-")
+        of_case = os.path.join(self.folder, f"{self.seed}-{number}")
+        words, given, files = self.cases.case(number, of_case)
+        files.write()
         wrong, want = self.wrong(words, given)
         self.counts.take(words, want)
         if wrong is None:
+            shutil.rmtree(of_case)
             return None
         self.counts.failed += 1
-        self.folder = self.folder or tempfile.mkdtemp(prefix="differs-")
-        os.makedirs(self.folder, exist_ok=True)
-        path = os.path.join(self.folder, f"{self.seed}-{number}.input")
+        path = os.path.join(of_case, "input")
         with open(path, "wb") as kept:
             kept.write(given)
         typed = " ".join(map(shlex.quote, [self.program or "reference/sm.py", *words]))
@@ -330,7 +417,8 @@ class Trial:
 
 def trials(program, tally):
     """As many cases of this day's seed as two minutes take."""
-    trial, since, number = Trial(program, day(), None), time.monotonic(), 0
+    commands = [command for command in COMMANDS if command in tally.commands]
+    trial, since, number = Trial(program, day(), None, commands), time.monotonic(), 0
     while number < SHARED or time.monotonic() - since < SECONDS:
         tally.hold("differs", trial.try_case(number))
         number += 1
@@ -363,7 +451,9 @@ def main():
     parser.add_argument("--folder")
     given = parser.parse_args()
     program = None if given.program == "reference" else os.path.abspath(given.program)
-    trial, since = Trial(program, given.seed, given.folder), time.monotonic()
+    known = commands_of(program) if program else COMMANDS
+    commands = [command for command in COMMANDS if command in known]
+    trial, since = Trial(program, given.seed, given.folder, commands), time.monotonic()
     print(f"seed {given.seed}", flush=True)
     try:
         for number in numbers(given):

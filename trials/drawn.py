@@ -315,13 +315,26 @@ def spoil_text(draws, text):
 
 # Words.
 
-COMMANDS = ["decide", "run", "judge", "campaign", "audit", "draw", "accuse", "evidence"]
+COMMANDS = ["decide", "run", "judge", "campaign", "audit", "draw", "accuse", "evidence", "show", "words", "explain"]
+COMMANDS += ["root", "header", "bundle", "answer"]
 TAKES = {
     "run": ["capacity"], "judge": ["capacity", "workers"], "campaign": ["capacity"],
-    "audit": ["workers"], "draw": ["workers"], "accuse": ["general"],
+    "audit": ["workers"], "draw": ["workers"], "accuse": ["general"], "header": ["slot"],
 }
+FLAGS = {
+    "decide": ["json"], "run": ["print-run"], "judge": ["strict", "json"], "campaign": ["print-run"],
+    "audit": ["strict", "json"], "evidence": ["json"], "root": ["tall"], "header": ["print-run"],
+}
+WANT_RUNS = ["audit", "draw", "accuse", "evidence", "show"]
+WANT_LIST = ["audit", "draw", "bundle"]
+# The commands of several files, whose names stand among the words.
+SEVERAL = ["bundle", "answer"]
+DIGITS = "0123456789abcdef"
 BAD_WORDS = ["", "x", "decide", "-x", "--capacity", "--workers", "--general", "--seed=1", "capacity=1", "-c1",
-             "--all"]
+             "--all", "-", "--strict", "--strict=1", "--print-run", "--run", "--run=0", "--run=", "/", "--json",
+             "--json=1", "--tall", "--tall=6", "--slot", "--slot=4", "--faulty", "--faulty=", "--faulty=0",
+             "--faulty=none", "--faulty=none,1", "--faulty=0,0", "--faulty=16", "--faulty=0,", "--faulty=00",
+             "--faulty=1 ,2"]
 BAD_NUMBERS = ["", "00", "01", "+1", "-1", "17", "99", "256", "1x", " 1", "1 ", "1.0", "\uff14", "\u0661",
                "0x1", "9" * 30]
 HELPS = [["--help"], ["-h"], ["--version"], ["-V"], ["help"]]
@@ -332,15 +345,39 @@ def option(draws, name, number):
     return draws.one_of([[f"--{name}", str(number)], [f"--{name}={number}"]])
 
 
-def good_options(draws, command):
-    """Options that the command takes, some of those that it can do without."""
+def good_options(draws, command, runs=()):
+    """Options that the command takes, some of those that it can do without. The runs are those of its input."""
     words = []
     for name in shuffled(draws, TAKES.get(command, [])):
         if name == "general":
             words += option(draws, name, draws.below(5) if draws.below(6) else draws.below(16))
+        elif name == "slot":
+            words += option(draws, name, draws.below(4)) if draws.below(2) else []
         elif draws.is_one_in(4):
             words += option(draws, name, 1 + draws.below(16))
-    return words
+    return words + other_words(draws, command, runs)
+
+
+def other_words(draws, command, runs):
+    """A flag, a list, the ids of runs, which are those of the input or of none, and the word for standard input."""
+    words = [f"--{name}" for name in FLAGS.get(command, []) if draws.is_one_in(4)]
+    if command in WANT_RUNS and draws.is_one_in(8):
+        drawn = [run_id(draws) for _ in range(1 + draws.below(4))]
+        words += option(draws, "run", ",".join(drawn if draws.below(2) else list(runs) or drawn))
+    if command in WANT_LIST and draws.is_one_in(4 if command != "bundle" else 2):
+        words += option(draws, "faulty", draw_list(draws))
+    return words + (["-"] if command not in SEVERAL and draws.is_one_in(8) else [])
+
+
+def draw_list(draws):
+    """Who is held for faulty, in any order."""
+    most = draws.one_of([2, 3, 4, 4, 6, 16])
+    return ",".join(map(str, some_of(draws, range(most), draws.below(most + 1)))) or "none"
+
+
+def run_id(draws):
+    """An id of no run."""
+    return "".join(DIGITS[draws.below(16)] for _ in range(64))
 
 
 def draw_words(draws, command):
@@ -353,7 +390,7 @@ def draw_words(draws, command):
                              ["help", "walk"]])
     words = [command, *good_options(draws, command)]
     if way < 5:
-        name = draws.one_of([*TAKES.get(command, ["capacity"]), "capacity", "workers", "general"])
+        name = draws.one_of([*TAKES.get(command, ["capacity"]), "capacity", "workers", "general", "slot", "faulty"])
         bad = draws.one_of([*BAD_NUMBERS, "0", "16", "15", "1"])
         return words + option(draws, name, bad)
     if way < 8:

@@ -18,8 +18,10 @@ from bent import Bases
 from campaigns import bytes_of, pair
 from devices import READ_FAILED, WRITE_FAILED, by_shell
 from draws import Draws
+from layout import Bundle
+from pinned import answer_of, pinned_cases, read, runs_of, told_cases
 from programs import End, differs, run, side_by_side, spell
-from refusals import EXAMPLES, build as build_refusing, count_up, refused
+from refusals import EXAMPLES, OF_MEMORY, build as build_refusing, count_up, refused
 from scenarios import signed, sixteen
 
 TOP = os.path.dirname(os.path.dirname(os.path.abspath(__file__)))
@@ -33,7 +35,7 @@ HUNDRED = 100
 # What docs/EMBED.md says is enough stack for a call.
 STACK = 1 << 20
 FILLED = b"\xa5"
-GENERAL, LENGTH = 2, 5
+OK, GENERAL, FAULT, LENGTH, NOBODY = 0, 2, 3, 5, 6
 
 
 class IsNotBuilt(Exception):
@@ -61,11 +63,13 @@ def build_all(folder):
         "C": [*of_c, source("example.c"), heap, ARCHIVE],
         "C, sanitized": [*of_c, *SANITIZERS, source("example.c"), source("heap.c"), ARCHIVE],
         "C++": [*of_cpp, source("example.cpp"), heap, ARCHIVE],
+        "answers": [*of_c, source("answers.c"), heap, ARCHIVE],
+        "answers, sanitized": [*of_c, *SANITIZERS, source("answers.c"), source("heap.c"), ARCHIVE],
         "shared": [*of_c, "-shared", heap, *whole],
     }
     made = {name: os.path.join(folder, f"{number}.built") for number, name in enumerate(builds)}
     side_by_side(lambda name: do([*builds[name], "-o", made[name]]), builds)
-    return made, made.pop("shared")
+    return made, made.pop("shared"), [made.pop("answers"), made.pop("answers, sanitized")]
 
 
 def by_cmake(folder):
@@ -84,8 +88,8 @@ def example_cases(program):
     """The jobs of the library on each example, and on what comes of scenarios; of the bundles one is of 16 generals."""
     jobs = [["audit"], ["draw"], ["evidence"], ["decide"], *(["accuse", str(general)] for general in (0, 1, 2, 15))]
     inputs = [b""]
-    for name in sorted(os.listdir(EXAMPLES)):
-        with open(os.path.join(EXAMPLES, name), "rb") as kept:
+    for path in filter(os.path.isfile, (os.path.join(EXAMPLES, name) for name in sorted(os.listdir(EXAMPLES)))):
+        with open(path, "rb") as kept:
             inputs.append(kept.read())
     once = [run(program, ["run"], text).wrote for text in (pair(0), pair(0, 1, {1: []}))]
     inputs += [run(program, ["run"], text).wrote for text in (*signed().values(), *signed(1).values(), sixteen())]
@@ -163,6 +167,114 @@ def try_rooms(library, tally, cases):
         tally.hold(f"general {general}", None if got == (GENERAL, 0, FILLED * 9) else f"{got}")
 
 
+def written(function, *words):
+    """A call with a room that is long enough: the number, and the bytes that it writes."""
+    count, room = ctypes.c_size_t(77), ctypes.create_string_buffer(1 << 17)
+    status = function(*words, room, ctypes.c_size_t(1 << 17), ctypes.byref(count))
+    return status, room.raw[: count.value]
+
+
+def given_as(data):
+    """Bytes as a call takes them."""
+    return data, ctypes.c_size_t(len(data))
+
+
+def try_answers(tally, program, shared):
+    """A general that is none of the run's has a number of its own, and evidence is answered by the log of the accused."""
+    calls, bundle = ctypes.CDLL(shared), run(program, ["run"], signed()["split"]).wrote
+    parts = Bundle(bundle)
+    for general in range(16):
+        known, any_one = (written(call, general, *given_as(bundle)) for call in (calls.sm_accuse_known, calls.sm_accuse))
+        wanted = any_one if general < parts.front[4 + 1] else (NOBODY, b"")
+        tally.hold(f"known general {general}", None if known == wanted else f"{known[0]}, not {wanted[0]}")
+    evidence = run(program, ["accuse", "--general", "0"], bundle).wrote
+    for log, wanted in ((b"", (3, b"fault L1")), (parts.exhibits[0][1], (1, b"no answer\n"))):
+        got = written(calls.sm_refute, *given_as(evidence), *given_as(log))
+        tally.hold(f"answer by a log of {len(log)} bytes", None if got == wanted else f"{got}, not {wanted}")
+
+
+def kept_cases(program):
+    """Cases of answers that are kept: runs that are expected, what is told, and bent files of both."""
+    draws, bases = Draws("kept"), Bases(program)
+    yield from pinned_cases(program)
+    yield from told_cases()
+    for _ in range(HUNDRED):
+        bundle, evidence = bend_bundle(draws, draws.one_of(bases.bundles)), bend_evidence(draws, draws.one_of(bases.evidence))
+        yield draws.one_of([["audit"], ["draw"], ["show"], ["accuse", "--general", str(draws.below(6))]]), bundle
+        yield draws.one_of([["evidence"], ["show"]]), evidence
+
+
+def try_kept(program, tally, answers):
+    """The example whose answers the library keeps, against the program, with little stack and under sanitizers too."""
+    cases = list(kept_cases(program))
+    wanted = side_by_side(lambda case: answer_of(program, *case), cases)
+    tally.count(len(cases))
+    asked = lambda words: words[:1] if words[0] == "explain" else words
+    calls = {it: lambda words, given, it=it: run(it, asked(words), given) for it in answers}
+    calls["1 MiB of stack"] = lambda words, given: with_little_stack(answers[0], asked(words), given)
+    for number, answered in enumerate(calls.values()):
+        tally.hold(f"answers, kept {number}", first_wrong(answered, cases, wanted))
+    for bad in (["audit", "--run", "12"], ["audit", "--run", ",".join(["0" * 64] * 5)], ["accuse"], ["accuse", "--general", "16"]):
+        end = run(answers[0], bad, read("split.bundle"))
+        tally.hold(f"answers, {spell(bad)}", None if (end.status, end.wrote) == (2, b"") else f"{end}")
+
+
+def header_of(bundle):
+    """The bytes of the header of a bundle of version 1."""
+    generals, edges = bundle[4 + 1], bundle[4 + 6]
+    return bundle[4 : 4 + 7 + 2 * edges + 32 * generals]
+
+
+def try_run_ids(program, tally, shared):
+    """The ids of the runs of files, in rooms of each length."""
+    call = ctypes.CDLL(shared).sm_run_id
+    split = read("split.bundle")
+    files = {"bundle": split, "campaign": read("series.bundles"), "evidence": read("split.evidence"), "header": header_of(split)}
+    for name, given in files.items():
+        ids = bytes.fromhex("".join(runs_of(program, given)))
+        for length in (*range(0, 140, 7), 31, 32, 33, 127, 128):
+            fits = length >= len(ids)
+            wanted = (OK, len(ids), ids + FILLED * (length - len(ids))) if fits else (LENGTH, len(ids), FILLED * length)
+            got = room_of(call, given, length)
+            tally.hold(f"run ids of a {name}, a room of {length}", None if got == wanted else f"{got}"[:300])
+    for name, given in (("nothing", b""), ("a cut bundle", split[:-1]), ("a long header", header_of(split) + b"x"), ("a text", b"x" * 99)):
+        got = room_of(call, given, 40)
+        tally.hold(f"run ids of {name}", None if got == (FAULT, 0, FILLED * 40) else f"{got}")
+
+
+def room_of(call, given, length):
+    """A call with a room of this length, which is filled before: the number, the count, and what the room has then."""
+    count, room = ctypes.c_size_t(77), ctypes.create_string_buffer(FILLED * length + b"\0")
+    status = call(*given_as(given), room, ctypes.c_size_t(length), ctypes.byref(count))
+    return status, count.value, room.raw[:length]
+
+
+def try_answer(tally, shared):
+    """One answer for call after call: what it holds, the rooms for it, and that it holds nothing in the end."""
+    calls, answer = ctypes.CDLL(shared), ctypes.c_void_p(None)
+    split, own = read("split.bundle"), ctypes.byref(answer)
+    text = lambda length: room_of(lambda *ends: calls.sm_answer_text(own, *ends[2:]), b"", length)
+    pinned = lambda ids, given: calls.sm_audit_of(ids, ctypes.c_size_t(len(ids) // 32), 0, *given_as(given), own)
+    verdict, other = read("split.verdict"), b"\1" * 32
+    tally.hold("an answer of nothing", None if text(9) == (GENERAL, 0, FILLED * 9) else f"{text(9)}")
+    steps = [(b"", split, 0, verdict), (other, split, 7, b"fault R1"), (other * 5, split, GENERAL, None), (b"", b"", 3, b"fault B1")]
+    for ids, given, wanted, held in steps:
+        status = pinned(ids, given)
+        is_held = text(0)[1] == len(held) if held is not None else not answer.value
+        tally.hold(f"an answer, {wanted}", None if status == wanted and is_held else f"{status}, {text(99)}")
+        for length in range(len(held or b"") + 2):
+            fits = held is not None and length >= len(held)
+            room = held + FILLED * (length - len(held)) if fits else FILLED * length
+            got = (OK, len(held), room) if fits else (LENGTH, len(held), room) if held is not None else (GENERAL, 0, room)
+            tally.hold(f"an answer, {wanted}, a room of {length}", None if text(length) == got else f"{text(length)}")
+    calls.sm_accuse_of(None, ctypes.c_size_t(0), 16, *given_as(split), own)
+    tally.hold("an answer of no general", f"{answer}" if answer.value else None)
+    pinned(b"", split)
+    calls.sm_answer_free(own)
+    calls.sm_answer_free(own)
+    tally.hold("a freed answer", None if not answer.value and text(9)[0] == GENERAL else f"{answer}")
+
+
 def try_streams(tally, examples, given):
     """Inputs and outputs that fail, by each example as a process."""
     ends = {"<&-": READ_FAILED, "0>/dev/null": READ_FAILED, ">/dev/full": WRITE_FAILED, ">&-": WRITE_FAILED}
@@ -172,23 +284,36 @@ def try_streams(tally, examples, given):
             tally.hold(f"{name}, {streams}", differs(end, wanted))
 
 
-def try_refusals(program, tally, folder, example):
+def try_generals(tally, examples, given):
+    """Words that name no general: each example as a process ends with status 2, and writes nothing."""
+    for name, (example, *words) in examples.items():
+        for bad in ("4294967296", "4294967299", "16", "-1", "+1", " 1", "1 ", "0x1", "3abc", "", "\u0661"):
+            end = run(example, [*words, "accuse", bad], given)
+            tally.hold(f"{name}, general {bad!r}", None if (end.status, end.wrote) == (2, b"") else f"{end}")
+
+
+def try_refusals(program, tally, folder, example, answers):
     """Each allocation refused, and all from one on: the whole answer, or status 4 with its line."""
     refusing = build_refusing(folder)
     split = run(program, ["run"], signed()["split"]).wrote
     evidence = run(program, ["accuse", "--general", "0"], split).wrote
     cases = [(["audit"], split), (["draw"], split), (["accuse", "0"], split), (["evidence"], evidence), (["decide"], signed()["split"])]
-    for job, given in cases:
-        whole = run(example, job, given)
+    asked = ["--run", ",".join(runs_of(program, split))]
+    kept = [(["audit", *asked], split), (["audit", "--strict", *asked], split), (["draw", *asked], split), (["show"], split)]
+    kept += [(["accuse", "--general", "0", *asked], split), (["evidence", *asked], evidence), (["show"], evidence)]
+    kept += [(["audit", "--run", "0" * 64], split), (["audit"], b""), (["explain"], b"K2"), (["words"], read("split.verdict"))]
+    kept += [(["run-ids"], it) for it in (split, evidence, header_of(split))]
+    for program_of, job, given in [*((example, *case) for case in cases), *((answers, *case) for case in kept)]:
+        whole = run(program_of, job, given)
         for after in (False, True):
-            call = lambda number, after=after: refused(example, refusing, job, given, "memory", number, after)
-            _, wrong = count_up(call, whole, "memory", after)
+            call = lambda number, after=after: refused(program_of, refusing, job, given, "memory", number, after)
+            _, wrong = count_up(call, [whole, OF_MEMORY], "memory", after)
             tally.hold(f"{spell(job)}, memory{' from then on' if after else ''}", wrong)
 
 
 def try_built(program, tally, folder):
     """All trials over the archive."""
-    examples, shared = build_all(folder)
+    examples, shared, answers = build_all(folder)
     if shutil.which("cmake") and shutil.which("pkg-config"):
         examples["C, installed"] = by_cmake(folder)
     else:
@@ -208,9 +333,17 @@ def try_built(program, tally, folder):
     ends = side_by_side(lambda case: run(program, words_of(case[0]), case[1]), few)
     tally.hold("example.py", first_wrong(lambda job, given: run("python3", [*process, *job], given), few, ends))
     processes = {name: [example] for name, example in examples.items()}
-    try_streams(tally, {**processes, "example.py": ["python3", *process]}, run(program, ["run"], signed()["split"]).wrote)
+    processes["example.py"] = ["python3", *process]
+    split = run(program, ["run"], signed()["split"]).wrote
+    try_streams(tally, {"answers": [answers[0]]}, split)
+    try_streams(tally, processes, split)
+    try_generals(tally, processes, split)
     try_rooms(library, tally, cases)
-    try_refusals(program, tally, folder, examples["C"])
+    try_answers(tally, program, shared)
+    try_kept(program, tally, answers)
+    try_run_ids(program, tally, shared)
+    try_answer(tally, shared)
+    try_refusals(program, tally, folder, examples["C"], answers[0])
 
 
 def trials(program, tally):

@@ -4,36 +4,25 @@ The archive is crates/sm_node/out/libsm_node.a, which `rt lib` builds in crates/
 compiler, nothing is tried, and a line says so. Of four processes one is a commander who tells two orders, by two nodes of
 one seed, and one is killed in the second round; of sixteen all are loyal. Before they begin, each gets datagrams that are
 of no general. The logs of the others, and the bundle that is made of them, are those of the scenario whose scripts say
-what these two do, byte for byte. The calls are made by ctypes, over a heap that refuses (refusing_heap.c), in a thread
-with little stack.
+what these two do, byte for byte. The calls are made by ctypes, over a heap that refuses (refusing_heap.c), in a thread with
+little stack.
 """
 import concurrent.futures
 import ctypes
-import hashlib
 import os
 import shutil
 import socket
-import subprocess
 import tempfile
 import threading
 import time
-from typing import NamedTuple
 
 from embed import ARCHIVE as JOBS, EMBED, IsNotBuilt, SANITIZERS, STACK, TOP, WARNINGS, do
 from layout import Bundle
+from processes import ARCHIVE, FOUR, OF_C, PARTS, SIXTEEN, Way, build_programs, make_header, run_id_of, sanitized, seed_of
+from processes import try_system, write_seeds
 from programs import run, side_by_side
-from scenarios import ZEROS, chain, everybody, scenario
+from scenarios import chain, scenario
 
-ARCHIVE = os.path.join(TOP, "crates", "sm_node", "out", "libsm_node.a")
-NODES = os.path.join(EMBED, "nodes")
-PROGRAMS = ["header", "general", "bundle"]
-OF_C = ["cc", "-std=c11", "-O2", "-D_DEFAULT_SOURCE", *WARNINGS, "-I", EMBED]
-# So long is a round at first, in milliseconds; where a process can't keep to the clock, all are run again with rounds
-# twice as long.
-ROUND, MOST_TRIES = 400, 6
-LATE = 3
-# No run of the processes takes longer, in seconds.
-PATIENCE = 300
 DONE, MISUSE, BAD, REFUSED, SHORT = 0, 2, 3, 4, 5
 NO_ORDER = 255
 # One call of each library: the root of the keys of general 0, and what is wrong with a bundle of no bytes.
@@ -45,7 +34,7 @@ int main(void) {
     const uint8_t seed[33] = SEED;
     uint8_t root[32], room[100];
     size_t count;
-    if (sm_audit(seed, 0, room, sizeof room, &count) != SM_FAULT || sm_root(seed, 1, root) != SM_DONE) return 1;
+    if (sm_audit(seed, 0, room, sizeof room, &count) != SM_FAULT || sm_root(seed, 1, root) != SM_OK) return 1;
     for (int place = 0; place < 32; place++) printf("%02x", root[place]);
     printf("\n%.*s\n", (int)count, (const char *)room);
     return 0;
@@ -53,201 +42,31 @@ int main(void) {
 """
 
 
-def seed_of(general, master=ZEROS):
-    """The seed of a general of a scenario, by docs/FORMATS.md."""
-    return hashlib.sha256(b"\x30" + bytes.fromhex(master) + bytes([general])).digest()
-
-
 # ---- processes
 
 
-class System(NamedTuple):
-    """Generals as processes, who are all neighbours; the words that some have besides, and scripts that say the same."""
+class Sockets(Way):
+    """Unix sockets in one folder."""
 
-    generals: int
-    traitors: int
-    orders: int
-    words: dict
-    scripts: dict
-    killed: int | None = None
-    slot: int | None = None
+    def open(self, folder, system, length):
+        self.folder, self.system = folder, system
+        return super().open(folder, system, length)
 
-    def loyal(self):
-        return [general for general in range(self.generals) if general not in self.scripts]
+    def disturb(self):
+        """Sends each general datagrams of no general: one of no socket, and an empty frame of another folder's commander."""
+        elsewhere, run_id = os.path.join(self.folder, "x"), run_id_of(self.folder)
+        os.mkdir(elsewhere)
+        nobody, other = (socket.socket(socket.AF_UNIX, socket.SOCK_DGRAM) for _ in range(2))
+        with nobody, other:
+            other.bind(os.path.join(elsewhere, "0"))
+            for general in range(self.system.generals):
+                his = os.path.join(self.folder, str(general))
+                nobody.sendto(bytes(1000), his)
+                other.sendto(b"SMF1" + run_id + bytes([1, 0, general, 0, 0]), his)
 
-    def faulty(self):
-        return sum(1 << general for general in self.scripts)
-
-    def text(self):
-        """Their scenario, whose order is 1."""
-        edges = everybody(self.generals)
-        return scenario(edges, self.traitors, 1, 1, self.scripts, orders=self.orders, slot=self.slot)
-
-
-# Four generals, of whom the commander tells two orders and general 3 is killed in round 2, when he has sent his frames.
-TOLD = ["make 1 1 1 0", "make 1 2 2 0", "make 1 3 2 0"]
-KILLED = ["pass 2 1 0 2 3", "pass 2 2 0 2 3"]
-FOUR = System(4, 2, 3, {0: ["1", "2", "2,3"]}, {0: TOLD, 3: KILLED}, killed=3)
-# Sixteen, of whom each sends more frames at once than a socket holds.
-SIXTEEN = System(16, 1, 2, {0: ["1"]}, {})
-
-
-def build_programs(folder):
-    """The programs of embed/nodes, the general under sanitizers too."""
-    builds = {name: [*OF_C, os.path.join(NODES, f"{name}.c")] for name in PROGRAMS}
-    builds["sanitized"] = [*OF_C, *SANITIZERS, os.path.join(NODES, "general.c")]
-    made = {name: os.path.join(folder, f"{name}.built") for name in builds}
-    rest = [os.path.join(EMBED, "heap.c"), ARCHIVE]
-    side_by_side(lambda name: do([*builds[name], *rest, "-o", made[name]]), builds)
-    little = ["sh", "-c", f'ulimit -s {STACK // 1024} && exec "$@"', "sh"]
-    return {name: [*([] if name == "sanitized" else little), path] for name, path in made.items()}
-
-
-def write_seeds(folder, generals, mode=0o600):
-    """The seeds of so many generals, which only their owner may read."""
-    for general in range(generals):
-        path = os.path.join(folder, f"{general}.seed")
-        with open(os.open(path, os.O_CREAT | os.O_EXCL | os.O_WRONLY, mode), "wb") as seed:
-            seed.write(seed_of(general))
-
-
-def make_header(made, folder, system):
-    """Writes the seeds, and the header by the roots of their keys."""
-    write_seeds(folder, system.generals)
-    version = "1" if system.slot is None else "2"
-    roots = [do([*made["header"], "root", folder, str(g), version]).strip() for g in range(system.generals)]
-    edges = ",".join(f"{a}-{b}" for a, b in everybody(system.generals))
-    numbers_of = [version, system.slot or 0, system.generals, system.traitors, 1, system.orders, 0]
-    do([*made["header"], "make", folder, *map(str, numbers_of), edges, *roots])
-
-
-def disturb(folder, system):
-    """Sends each general datagrams of no general: one of no socket, and an empty frame of another folder's commander."""
-    with open(os.path.join(folder, "header"), "rb") as kept:
-        run_id = hashlib.sha256(b"\x31" + kept.read()).digest()
-    elsewhere = os.path.join(folder, "x")
-    os.mkdir(elsewhere)
-    nobody, other = (socket.socket(socket.AF_UNIX, socket.SOCK_DGRAM) for _ in range(2))
-    with nobody, other:
-        other.bind(os.path.join(elsewhere, "0"))
-        for general in range(system.generals):
-            his = os.path.join(folder, str(general))
-            nobody.sendto(bytes(1000), his)
-            other.sendto(b"SMF1" + run_id + bytes([1, 0, general, 0, 0]), his)
-
-
-def start_general(program, folder, system, general, length):
-    """A process of a general, by the words of a program."""
-    words = [*program, folder, str(general), str(length), *system.words.get(general, [])]
-    pipe = subprocess.PIPE
-    return subprocess.Popen(words, stdin=pipe, stdout=pipe, stderr=subprocess.STDOUT, text=True)
-
-
-def kill_in_round_2(process, end):
-    """Kills a general once he sent his frames of round 2: 0, his status if he ended, LATE if round 3 may have begun."""
-    said = [process.stdout.readline() for _ in range(2)]
-    if said != ["round 1\n", "round 2\n"]:
-        return process.wait(), said
-    process.kill()
-    process.wait()
-    return (0 if time.monotonic() * 1000 < end else LATE), said
-
-
-def drive(system, processes, folder, length):
-    """Has them begin together, kills one in round 2, and tells how the others ended: statuses and lines."""
-    said = [process.stdout.readline() for process in processes]
-    if said != ["ready\n"] * system.generals:
-        return [1], said
-    disturb(folder, system)
-    start = int(time.monotonic() * 1000) + 200
-    for process in processes:
-        process.stdin.write(f"{start}\n")
-        process.stdin.flush()
-    if system.killed is not None:
-        status, said = kill_in_round_2(processes[system.killed], start + 2 * length)
-        if status:
-            return [status], said
-    others = [process for general, process in enumerate(processes) if general != system.killed]
-    lines = [process.stdout.read() for process in others]
-    return [process.wait() for process in others], lines
-
-
-def run_once(program, folder, system, length):
-    """One run of the processes."""
-    processes = [start_general(program, folder, system, general, length) for general in range(system.generals)]
-    watch = threading.Timer(PATIENCE, lambda: [process.kill() for process in processes])
-    watch.start()
-    try:
-        return drive(system, processes, folder, length)
-    finally:
-        watch.cancel()
-        for process in processes:
-            process.kill()
-            process.wait()
-            process.stdin.close()
-            process.stdout.close()
-
-
-class TooBusy(Exception):
-    """No run of the processes kept to the clock."""
-
-
-def run_in_time(made, program, folder, system):
-    """A run in which nobody was late: its folder, and the statuses and lines of those who weren't killed."""
-    for tried in range(MOST_TRIES):
-        of_run = os.path.join(folder, f"{len(os.listdir(folder))}")
-        os.mkdir(of_run)
-        make_header(made, of_run, system)
-        statuses, lines = run_once(program, of_run, system, ROUND << tried)
-        if LATE not in statuses:
-            return of_run, statuses, lines
-    raise TooBusy
-
-
-def wanted_bundle(program, system):
-    """The bundle of the scenario with the logs of the loyal alone, and their decisions."""
-    bundle = Bundle(run(program, ["run"], system.text()).wrote)
-    bundle.exhibits = [(general, log) for general, log in bundle.exhibits if general in system.loyal()]
-    decided = run(program, ["decide"], system.text()).wrote.decode().splitlines()
-    return bundle, [line.split()[-1] for line in decided]
-
-
-def made_bundle(made, folder, system):
-    """The bundle that is made of the logs of the loyal."""
-    program, *words = made["bundle"]
-    return run(program, [*words, folder, str(system.faulty()), *map(str, system.loyal())]).wrote
-
-
-def system_wrong(program, made, general, folder, system):
-    """None where the run of the processes is that of the scenario, and their bundle is its bundle."""
-    of_run, statuses, lines = run_in_time(made, general, folder, system)
-    if any(statuses):
-        return f"the processes ended with {statuses}: {lines}"
-    bundle, decided = wanted_bundle(program, system)
-    orders = [line.split()[-1] for line in lines[-len(decided) :]]
-    if orders != decided:
-        return f"they decide {orders}, and the scenario {decided}"
-    for loyal, log in bundle.exhibits:
-        with open(os.path.join(of_run, f"{loyal}.log"), "rb") as kept:
-            if kept.read() != log:
-                return f"the log of general {loyal} is another"
-    sockets = [str(loyal) for loyal in system.loyal() if os.path.exists(os.path.join(of_run, str(loyal)))]
-    if sockets:
-        return f"the sockets of {sockets} are left"
-    text = made_bundle(made, of_run, system)
-    return verdict_wrong(program, text, system) if text == bundle.spell() else "the bundle is another"
-
-
-def verdict_wrong(program, bundle, system):
-    """None where the bundle convicts a commander who tells two orders, by evidence that holds, and can be drawn."""
-    verdict, drawn = run(program, ["audit"], bundle), run(program, ["draw"], bundle)
-    if drawn.status != 0 or (verdict.status, b"convicted 0 by K2\n" in verdict.wrote) != (0, 0 in system.scripts):
-        return f"the verdict is {verdict}, and {drawn.status} of the picture"
-    evidence = run(program, ["accuse", "--general", "0"], bundle)
-    if 0 not in system.scripts:
-        return None if evidence.status == 1 else f"{evidence}"
-    holds = run(program, ["evidence"], evidence.wrote)
-    return None if (evidence.status, holds.status) == (0, 0) else f"{evidence}, {holds}"
+    def wrong(self):
+        left = [it for it in self.system.ended() if os.path.exists(os.path.join(self.folder, str(it)))]
+        return f"the sockets of {left} are left" if left else None
 
 
 def ends_with(status, words):
@@ -275,13 +94,38 @@ def words_wrong(made, folder):
     wrong = [(1, [*made["header"], "make", of_words, *of, edges, *roots]) for of, edges, roots in makes]
     wrong += [(1, [*made["header"], "root", *words]) for words in ((of_seeds, "0", "1"), (of_words, "0", "3"))]
     generals = [(of_seeds, "0", "9", "1"), (of_words, "1", "9"), (of_words, "16", "9"), (of_words, "0", "9")]
-    generals += [(of_words, "0", "9", "1", "2", bad) for bad in ("", "1,", "16", "1 2")]
     generals += [(of_words + "x" * 99, "0", "9", "1")]
-    wrong += [(1, [*made["general"], *words]) for words in generals]
+    traitors = [(of_words, "0", "9", "1", "2", bad) for bad in ("", "1,", "16", "1 2")]
+    for ending in ("", "_udp"):
+        wrong += [(1, [*made[f"general{ending}"], *words]) for words in generals]
+        wrong += [(1, [*made[f"traitor{ending}"], *words]) for words in traitors]
+        wrong += [(2, [*made[f"general{ending}"], *traitors[0]]), (2, [*made[f"traitor{ending}"], *generals[0]])]
     bundles = [("65536",), ("0", "16"), ("0", "2"), ("x",), ("0", "1", "0")]
     wrong += [(1, [*made["bundle"], of_words, *words]) for words in bundles]
-    wrong += [(2, made[name]) for name in PROGRAMS]
+    wrong += [(2, made[name]) for name in PARTS]
     return "; ".join(filter(None, side_by_side(lambda of: ends_with(*of), wrong))) or None
+
+
+def keygen_wrong(made, folder):
+    """None where each seed is 32 other bytes that its owner alone may read, and none is written over."""
+    of_keys = os.path.join(folder, "k")
+    os.mkdir(of_keys)
+    ends = [run(made["keygen"][0], [*made["keygen"][1:], of_keys, general]) for general in ("0", "1", "0", "16")]
+    paths = [os.path.join(of_keys, f"{general}.seed") for general in range(2)]
+    if [end.status for end in ends] != [0, 0, 1, 1] or sorted(os.listdir(of_keys)) != ["0.seed", "1.seed"]:
+        return f"{ends}"
+    seeds = [open(path, "rb").read() for path in paths]
+    modes = [os.stat(path).st_mode & 0o777 for path in paths]
+    return None if len(set(seeds)) == 2 and [len(it) for it in seeds] == [32] * 2 and modes == [0o600] * 2 else f"{modes}"
+
+
+def pool_wrong(made, folder):
+    """None where a general whose pool is too small says that memory is refused, and has signed nothing."""
+    of_pool = os.path.join(folder, "p")
+    os.mkdir(of_pool)
+    make_header(made, of_pool, FOUR)
+    end = run(made["general, small pool"][0], [*made["general, small pool"][1:], of_pool, "1", "9"])
+    return None if (end.status, end.wrote) == (1, b"") and b"says 4" in end.said else f"{end}"
 
 
 def both_wrong(program, folder):
@@ -296,6 +140,25 @@ def both_wrong(program, folder):
     root = Bundle(header).front[4 + 7 + 2 * 6 :][:32].hex()
     wanted = f"{root}\n{run(program, ['audit']).said.decode()}"
     return None if (told.status, told.wrote.decode()) == (0, wanted) else f"{told}, not {wanted}"
+
+
+def agree_wrong(folder):
+    """None where the four nodes of agree.c agree on value 2, under the sanitizers too."""
+    source, made = os.path.join(EMBED, "agree.c"), os.path.join(folder, "agree.built")
+    for flags in ([], SANITIZERS):
+        do([*OF_C, *flags, source, os.path.join(EMBED, "heap.c"), ARCHIVE, JOBS, "-o", made])
+        end = run(made, [])
+        if end.status != 0 or end.said or end.wrote.split(b"\n")[1:] != [b"verdict agreed 2", b"end", b""]:
+            return f"{end}"
+    return None
+
+
+def nulls_wrong(folder):
+    """None where null pointers, versions and texts are as the headers say."""
+    made = os.path.join(folder, "nulls.built")
+    do([*OF_C, os.path.join(TOP, "trials", "nulls.c"), os.path.join(EMBED, "heap.c"), ARCHIVE, JOBS, "-o", made])
+    told = run(made, [])
+    return None if told.status == 0 else told.wrote.decode()
 
 
 # ---- call by call
@@ -403,18 +266,51 @@ class Run:
         """The run of the two, whose logs are its answer."""
         for general in range(2):
             self.begin(general)
+        self.ask(0, round=0)
         for general in range(2):
             self.want(DONE, "sm_node_begin_round", self.at(general))
+        self.ask(0, round=1, awaits=[1])
         frames = [self.text(DONE, "sm_node_send", self.at(general), 1 - general) for general in range(2)]
         for general in range(2):
             self.hear(general, frames[1 - general])
+            self.ask(general, round=1, awaits=[1 - general])
             self.want(DONE, "sm_node_end_round", self.at(general))
             self.want(DONE, "sm_node_finish", self.at(general))
         logs = [self.text(DONE, "sm_node_log", self.at(general)) for general in range(2)]
         orders = [self.order(general) for general in range(2)]
         if orders != [1, 1]:
             self.wrong.append(f"they decide {orders}")
+        self.ask(0, MISUSE)
         return logs, self.bundle(DONE, logs)
+
+    def number(self, status, name, *words, kind=ctypes.c_uint32):
+        """The number that a call tells, which has to answer so; 0 if it is not done."""
+        told = kind(77)
+        self.want(status, name, *words, ctypes.byref(told))
+        if status != DONE and told.value:
+            self.wrong.append(f"{name} tells {told.value}")
+        return told.value
+
+    def ask(self, general, status=DONE, round=0, awaits=()):
+        """A node tells its round, and of which generals it awaits a frame."""
+        told = self.number(status, "sm_node_round", self.at(general))
+        awaited = [it for it in range(16) if self.number(status, "sm_node_awaits", self.at(general), it)]
+        self.number(MISUSE, "sm_node_awaits", self.at(general), 16)
+        if (told, awaited) != (round, list(awaits)):
+            self.wrong.append(f"round {told}, frames of {awaited}")
+
+    def plan(self, status=DONE, general=0):
+        """What is told of the header: its numbers, the rounds, the neighbours of a general, and the longest frame."""
+        at, told = (self.header, ctypes.c_size_t(len(self.header))), ctypes.create_string_buffer(b"\7" * 7, 7)
+        self.want(status, "sm_header_numbers", *at, told, ctypes.byref(self.fault))
+        tell = lambda name, *words, kind=ctypes.c_uint32: self.tell(status, name, *at, *words, kind=kind)
+        return told.raw, tell("sm_rounds"), tell("sm_neighbours", general), tell("sm_frame_most", kind=ctypes.c_size_t)
+
+    def tell(self, status, name, *words, kind):
+        """The number that a call on a header tells, which has to answer so."""
+        told = kind(77)
+        self.want(status, name, *words, ctypes.byref(told), ctypes.byref(self.fault))
+        return told.value
 
     def order(self, general):
         """The order that one decided for."""
@@ -422,13 +318,13 @@ class Run:
         self.want(DONE, "sm_node_order", self.at(general), ctypes.byref(order))
         return order.value
 
-    def bundle(self, status, logs, faulty=0, generals=(0, 1), cut=0):
+    def bundle(self, status, logs, faulty=0, generals=(0, 1), cut=0, call="sm_bundle"):
         """The bytes of a bundle, or none."""
         sizes = b"".join(g.to_bytes(8, "little") + len(log).to_bytes(8, "little") for g, log in zip(generals, logs))
         whole = b"".join(logs)
         whole = whole[: len(whole) - cut]
         words = (self.header, ctypes.c_size_t(len(self.header)), faulty, sizes, ctypes.c_size_t(len(logs)))
-        return self.text(status, "sm_bundle", *words, whole, ctypes.c_size_t(len(whole)), tail=True)
+        return self.text(status, call, *words, whole, ctypes.c_size_t(len(whole)), tail=True)
 
     def free(self):
         for general in range(2):
@@ -516,11 +412,33 @@ def bad_ends(two):
 
 
 def bad_walks(two):
-    """Bundles of three in a line, where d is 1: the ends have no walk without the middle, and with him one of 2 edges."""
+    """Bundles of three in a line, where d is 1: the ends have no walk without the middle, and with him one of 2 edges.
+    A bundle that may be parted has no walks then, and else those of any bundle."""
     two.header = two.header_of(DONE, (1, 0, 3, 0, 1, 2, 0), chain(3), bytes(96))
     for faulty, fault in ((2, 31), (0, 32)):
         two.bundle(BAD, [], faulty)
         two.told(fault)
+        made = two.bundle(DONE, [], faulty, call="sm_bundle_parted")
+        if made != b"SMB1" + two.header + bytes([0, faulty, 0, 0]):
+            two.wrong.append(f"a parted bundle {made[4 + len(two.header) :]}")
+    if two.bundle(DONE, [], 4, call="sm_bundle_parted") != two.bundle(DONE, [], 4):
+        two.wrong.append("a bundle that is not parted is another")
+    two.bundle(BAD, [], 8, call="sm_bundle_parted")
+    two.told(44)
+
+
+def plans(two):
+    """What is told of headers, and of bytes that are none."""
+    two.header = two.header_of(DONE, (2, 3, 4, 2, 3, 5, 1), [(0, 1), (1, 2), (3, 1)], bytes(128))
+    for general, near in ((0, 2), (1, 13), (2, 2), (3, 2), (4, 0), (15, 0)):
+        wanted = bytes([2, 3, 4, 2, 3, 5, 1]), 5, near, 41 + 5 * (6 + 16_577 * 5)
+        if two.plan(general=general) != wanted:
+            two.wrong.append(f"the plan {two.plan(general=general)}, not {wanted}")
+    two.tell(MISUSE, "sm_neighbours", two.header, ctypes.c_size_t(len(two.header)), 16, kind=ctypes.c_uint32)
+    two.header += b"\0"
+    if two.plan(BAD) != (b"\7" * 7, 0, 0, 0):
+        two.wrong.append(f"the plan of bytes that are no header {two.plan(BAD)}")
+    two.told(12)
 
 
 def misuse_wrong(library):
@@ -528,7 +446,7 @@ def misuse_wrong(library):
     two = Run(library, False)
     for name, version in (("sm_root", 0), ("sm_root", 3)):
         two.want(MISUSE, name, seed_of(0), version, ctypes.create_string_buffer(32))
-    for step in (nothing_there, bad_beginnings, bad_rounds, bad_ends, bad_walks):
+    for step in (nothing_there, bad_beginnings, bad_rounds, bad_ends, bad_walks, plans):
         step(two)
     two.free()
     return "; ".join(two.wrong) or (None if library.blocks.value == 0 else f"{library.blocks.value} blocks are left")
@@ -603,34 +521,31 @@ def with_little_stack(call, *words):
         threading.stack_size(kept)
 
 
-def try_system(tally, name, *given):
-    """One trial of processes, which is left out where the machine is too busy for their clock."""
-    try:
-        tally.hold(name, system_wrong(*given))
-    except TooBusy:
-        tally.note(f"left out: {name}, since no run kept to rounds of {ROUND << MOST_TRIES - 1} milliseconds")
-
-
 def try_built(program, tally, folder):
     """All trials over the archive."""
     made, library = build_programs(folder), Library(folder)
-    runs, general = os.path.join(folder, "r"), made["general"]
+    runs, way = os.path.join(folder, "r"), Sockets()
     os.mkdir(runs)
-    try_system(tally, "four processes", program, made, general, runs, FOUR)
-    try_system(tally, "four processes, sanitized", program, made, made["sanitized"], runs, FOUR)
-    try_system(tally, "four processes, slot 2", program, made, general, runs, FOUR._replace(slot=2))
-    try_system(tally, "sixteen processes", program, made, general, runs, SIXTEEN)
+    try_system(tally, "four processes", program, made, way, runs, FOUR)
+    try_system(tally, "four processes, sanitized", program, sanitized(made), way, runs, FOUR)
+    try_system(tally, "four processes, slot 2", program, made, way, runs, FOUR._replace(slot=2))
+    try_system(tally, "four processes, pool", program, {**made, "general": made["general, pool"]}, way, runs, FOUR)
+    try_system(tally, "sixteen processes", program, made, way, runs, SIXTEEN)
     tally.hold("wrong words", words_wrong(made, folder))
+    tally.hold("seeds", keygen_wrong(made, folder))
+    tally.hold("a pool that is too small", pool_wrong(made, folder))
     tally.hold("calls", with_little_stack(calls_wrong, program, library, False))
     tally.hold("calls, memory", with_little_stack(calls_wrong, program, library, True))
     for name, wrong in (("misuse", misuse_wrong), ("halves of rounds", halves_wrong), ("headers", header_wrong)):
         tally.hold(name, with_little_stack(wrong, library))
     if os.path.exists(JOBS):
         tally.hold("both libraries", both_wrong(program, folder))
-        tally.count(2)
+        tally.hold("four nodes in one program", agree_wrong(folder))
+        tally.hold("null pointers", nulls_wrong(folder))
+        tally.count(3)
     else:
         tally.note("left out: both libraries in one program, as crates/sm_embed/out/libsm_embed.a is not there")
-    tally.count(25)
+    tally.count(37)
 
 
 def trials(program, tally):

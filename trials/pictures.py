@@ -111,7 +111,7 @@ def try_faults(program, tally):
     for data, answer in cases:
         got, audited = run(program, ["draw"], data), run(program, ["audit"], data)
         tally.hold(f"draw, {answer}", differs(got, fault(f"fault {answer}")) or differs(got, audited))
-    for words in ("draw --workers 0", "draw --workers 17", "draw --capacity 1", "draw x", "draw --general 0"):
+    for words in ("draw --workers 0", "draw --workers 17", "draw --capacity 1", "draw x y", "draw --general 0"):
         end = run(program, words.split(), split)
         is_well = end.status == 2 and not end.wrote and end.said.count(b"\n") == 1
         tally.hold(f"words {words!r}", None if is_well else f"{end}")

@@ -10,13 +10,17 @@ import shutil
 import subprocess
 import tempfile
 
+from layout import MARK, Bundle
 from programs import End, count_cores, run, shown, side_by_side, spell
-from scenarios import ZEROS, signed, sixteen
+from scenarios import ZEROS, header_text, signed, sixteen
 
 HERE = os.path.dirname(os.path.abspath(__file__))
 EXAMPLES = os.path.join(os.path.dirname(HERE), "examples")
 OF_MEMORY = End(4, b"", b"memory\n")
 OF_THREADS = End(4, b"", b"thread\n")
+# Without memory for more, the line about a bad value does not show the value.
+BAD_WORDS = ["audit", "--workers", "0"]
+OF_WORDS = End(2, b"", b"error: --workers takes a number from 1 to 16; for more, try '--help'\n")
 # The number of runs that are started before it is seen whether one of them met no refusal.
 AT_ONCE = 4
 # No command comes near so many allocations: a count that does not end is a failed trial.
@@ -54,10 +58,9 @@ def numbers(is_sampled):
         number += number // 8 + 1 if is_sampled else 1
 
 
-def count_up(call, whole, kind, is_sampled):
+def count_up(call, lawful, kind, is_sampled):
     """Refuses one call after the other. Returns how many runs met a refusal, and what is wrong with one, or None."""
-    # A thread that gets no memory is one that could not be started.
-    lawful = [whole, OF_THREADS] + [OF_MEMORY] * (kind == "memory")
+    whole = lawful[0]
     coming, runs, refusals = numbers(is_sampled), 0, 0
     while True:
         some = [number for number, _ in zip(coming, range(AT_ONCE * count_cores()))]
@@ -72,8 +75,8 @@ def count_up(call, whole, kind, is_sampled):
             runs, refusals = runs + 1, refusals + (end != whole)
 
 
-def small_cases(program):
-    """Each command with small inputs: a name, the words, the input."""
+def small_cases(program, folder):
+    """Each command with small inputs: a name, the words, the input. Files that are named lie in a folder."""
     for name in sorted(name for name in os.listdir(EXAMPLES) if name.endswith(".scenario")):
         with open(os.path.join(EXAMPLES, name), "rb") as text:
             yield from scenario_cases(program, name.removesuffix(".scenario"), text.read())
@@ -82,10 +85,12 @@ def small_cases(program):
     yield from scenario_cases(program, "pair with signatures", texts["pair"])
     yield from scenario_cases(program, "pair in a slot", signed(slot=1)["pair"])
     yield from campaign_cases(program)
+    yield from prepared_cases(program, folder)
     yield "faulty text", ["decide"], b"generals 2\nedge 0\n"
     yield "no bundle", ["audit"], b"SMB1\x01"
     yield "help", ["--help"], b""
-    yield "bad words", ["audit", "--workers", "0"], b""
+    yield "bad words", BAD_WORDS, b""
+    yield "names", ["explain", "P9 S3"], b""
 
 
 def scenario_cases(program, name, text):
@@ -118,6 +123,29 @@ def campaign_cases(program):
     evidence = run(program, ["accuse", "--general", "0"], bundles).wrote
     if evidence:
         yield "one slot twice", ["evidence"], evidence
+        yield "one slot twice", ["show"], evidence
+    yield "one slot twice", ["show"], bundles
+    yield "one slot twice", ["words"], run(program, ["audit"], bundles).wrote
+
+
+def prepared_cases(program, folder):
+    """What prepares a run of two generals and a dispute about it: a seed, the text of a header, and files."""
+    yield "a seed", ["root"], bytes(range(32))
+    yield "a seed", ["root", "--tall"], bytes(range(32))
+    yield "no seed", ["root"], b"seed"
+    yield "a header's text", ["header", "--slot", "1", "--print-run"], header_text()
+    data = run(program, ["run"], signed()["split"]).wrote
+    split = Bundle(data)
+    files = {"header": split.front[MARK:], "log": split.exhibits[1][1]}
+    files["evidence"] = run(program, ["accuse", "--general", "0"], data).wrote
+    paths = {name: os.path.join(folder, name) for name in files}
+    for name, data in files.items():
+        with open(paths[name], "wb") as kept:
+            kept.write(data)
+    first = split.exhibits[0][1]
+    yield "parts", ["bundle", "--faulty", "0", paths["header"], f"1={paths['log']}", "0=-"], first
+    yield "evidence and a log", ["answer", paths["evidence"], "-"], first
+    yield "evidence and no log", ["answer", paths["evidence"], paths["header"]], b""
 
 
 def large_cases(program):
@@ -130,12 +158,20 @@ def large_cases(program):
         yield "16 generals", words, bundle
 
 
+def lawful_ends(words, whole, kind):
+    """How a run may end: as without refusals, or for want of a thread or of memory. A thread that gets no memory is one that could
+    not be started."""
+    of_memory = [OF_MEMORY] + [OF_WORDS] * (words == BAD_WORDS)
+    return [whole, OF_THREADS] + of_memory * (kind == "memory")
+
+
 def trials(program, tally):
     if not shutil.which("cc"):
         tally.fail("no C compiler (cc) is there to build refuse.c with, so nothing was refused")
         return
-    cases = [(case, False) for case in small_cases(program)] + [(case, True) for case in large_cases(program)]
     with tempfile.TemporaryDirectory() as scratch:
+        cases = [(case, False) for case in small_cases(program, scratch)]
+        cases += [(case, True) for case in large_cases(program)]
         library = build(scratch)
         for (name, words, given), is_sampled in cases:
             if words[0] not in tally.commands and words[0][0] != "-":
@@ -143,6 +179,6 @@ def trials(program, tally):
             whole = run(program, words, given)
             for kind, after in (("memory", False), ("memory", True), ("thread", False), ("thread", True)):
                 call = lambda number, k=kind, a=after: refused(program, library, words, given, k, number, a)
-                runs, wrong = count_up(call, whole, kind, is_sampled or kind == "memory" and after)
+                runs, wrong = count_up(call, lawful_ends(words, whole, kind), kind, is_sampled or kind == "memory" and after)
                 tally.count(runs + 1)
                 tally.hold(f"{spell(words)}, {name}, {kind}{' from then on' if after else ''}", wrong)

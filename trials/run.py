@@ -16,8 +16,9 @@ from programs import Hangs, commands_of
 from tally import Tally
 
 SUBJECTS = ["scripts", "worked", "walk", "campaigns", "pictures", "prefixes", "vectors", "second_answers", "differs"]
-SUBJECTS += ["costs", "refusals", "calls", "devices", "load", "embed", "nodes", "page"]
-LIBRARIES = ["embed", "nodes", "page"]
+SUBJECTS += ["json_texts", "costs", "refusals", "calls", "devices", "load", "archive", "embed", "nodes", "datagrams"]
+SUBJECTS += ["power", "system", "bindings", "page", "release"]
+LIBRARIES = ["embed", "nodes", "datagrams", "power", "system", "bindings", "page", "release"]
 GROUPS = {"libraries": LIBRARIES, "program": [subject for subject in SUBJECTS if subject not in LIBRARIES]}
 
 

@@ -53,3 +53,9 @@ def signed(slot=None):
 def sixteen(slot=None):
     """16 generals who are all neighbours, in 16 rounds."""
     return scenario(everybody(16), 8, 8, 14, orders=15, choice=1, slot=slot)
+
+
+def header_text():
+    """The text of a header of two generals, whose roots are any bytes."""
+    network = signed()["pair"].partition(b"\norder ")[0]
+    return network + b"\nroot " + b"01" * 32 + b"\nroot " + b"ab" * 32 + b"\nend\n"

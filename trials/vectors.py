@@ -6,11 +6,12 @@ import hashlib
 import json
 import os
 import re
+import tempfile
 
 from programs import End, differs, run, side_by_side, spell
 import reference  # noqa: F401
 import make_vectors
-from vector_cases.parts import TOP, bytes_of
+from vector_cases.parts import TOP, bytes_of, files_of
 
 # What bytes or files can't have: a fault of parts, and what hangs on what a node was handed before.
 UNTOLD = {"H8", "F1", "F2"}
@@ -37,10 +38,19 @@ def wrong_output(end, vector):
     return None if is_well else f"status {end.status}, {got}, said {end.said[:100]}; wanted: {wanted}"
 
 
+def run_vector(program, vector):
+    """A run of the program on a vector, in a folder that has the vector's files."""
+    with tempfile.TemporaryDirectory() as folder:
+        for name, data in files_of(vector).items():
+            with open(os.path.join(folder, name), "wb") as kept:
+                kept.write(data)
+        return run(program, vector["words"], bytes_of(vector), cwd=folder)
+
+
 def try_file(program, tally, name, vectors):
     """The vectors of one file."""
     commands = [vector for vector in vectors if vector.get("words", [""])[0] in tally.commands]
-    ends = side_by_side(lambda it: run(program, it["words"], bytes_of(it)), commands)
+    ends = side_by_side(lambda it: run_vector(program, it), commands)
     for end, vector in zip(ends, commands):
         tally.hold(f"{name}, {spell(vector['words'])}, {vector['about']}", wrong_output(end, vector))
     tally.count(len(commands))

@@ -3,7 +3,8 @@
 In a block of indented lines one that begins with `$ ` is a command, and the lines behind it, up to the next command or the
 end of the block, are what it prints, on standard output and standard error together. The commands of a document are run one
 after another by `sh` in a folder of their own, which has a copy of examples/, with `sm_tool` as the program. Besides,
-man/sm_tool.1 is the page that tools/man.py makes of docs/COMMANDS.md, and each piece of code in docs/LIBRARY.md stands in
+man/sm_tool.1 is the page that tools/man.py makes of docs/COMMANDS.md, man/*.3 are those that tools/man3.py makes of the headers,
+and each piece of code in docs/LIBRARY.md stands in
 the source that is named in front of it.
 """
 import os
@@ -82,5 +83,6 @@ def trials(program, tally):
     try_quotes("LIBRARY.md", tally)
     for document in DOCUMENTS:
         try_document(program, document, tally)
-    made = run(sys.executable, ["-B", os.path.join(TOP, "tools", "man.py"), "--check"])
-    tally.hold("man/sm_tool.1", None if made.status == 0 else "tools/man.py makes another page")
+    for pages, maker in (("man/sm_tool.1", "man.py"), ("man/*.3", "man3.py")):
+        made = run(sys.executable, ["-B", os.path.join(TOP, "tools", maker), "--check"])
+        tally.hold(pages, None if made.status == 0 else f"tools/{maker} makes others")

@@ -38,7 +38,7 @@ SCRIPTS = [
 ]
 
 # Words that ask for nothing.
-WORDS = ["", "walk", "decide x", "decide --workers 1", "run --capacity", "run --capacity 0", "run --capacity 17"]
+WORDS = ["", "walk", "decide x y", "explain", "decide --workers 1", "run --capacity", "run --capacity 0", "run --capacity 17"]
 WORDS += ["run --capacity 01", "run --capacity x", "run --capacity +1", "audit --workers 0", "audit --workers 17"]
 WORDS += ["judge --capacity 1 --workers 0", "judge --capacity 17 --workers 2", "judge --workers 2 --capacity 0"]
 WORDS += ["audit --workers 1 --workers 1", "accuse", "accuse --general 16", "accuse --general -1", "evidence --general 0"]
@@ -169,10 +169,12 @@ def try_texts(program, tally):
 
 
 def try_words(program, tally):
-    """Words that ask for nothing: status 2, one line, and nothing written, whatever the input is."""
+    """Words that ask for nothing: status 2, one line that points at help, behind the help where there are no words, and nothing
+    written, whatever the input is."""
     for words in WORDS:
         end = run(program, words.split(), stored("pair.scenario"))
-        is_well = end.status == 2 and not end.wrote and end.said.count(b"\n") == 1 and end.said.endswith(b"\n")
+        said = end.said.splitlines()[-1:] if not words else end.said.splitlines()
+        is_well = end.status == 2 and not end.wrote and len(said) == 1 and end.said.endswith(b"'--help'\n")
         tally.hold(f"words {words!r}", None if is_well else f"{end}")
         tally.count(1)
 

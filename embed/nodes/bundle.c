@@ -2,15 +2,16 @@
 
        bundle FOLDER FAULTY GENERAL ..
 
-   FOLDER has the file header, and GENERAL.log for each general of the words, who ascend. FAULTY is the set of those who
-   are held for faulty, bit g for general g. */
+   FOLDER has the file header, and GENERAL.log for each general of the words, which ascend. FAULTY is the set of the
+   generals that are held for faulty, bit g for general g, as a decimal number: 9 is generals 0 and 3. The log of a
+   general that did not end is empty, so leave that general out of the words. */
 #include "files.h"
 #include "sm_node.h"
 
-enum { MOST_LOGS = 64, MOST_WALKS = 120, WALK_BYTES = 17 };
+enum { MOST_WALKS = 120, WALK_BYTES = 17 };
 
 /* The logs one after another. */
-static struct bytes read_logs(const char *folder, char **generals, int count, sm_log logs[MOST_LOGS]) {
+static struct bytes read_logs(const char *folder, char **generals, int count, sm_log logs[SM_LOGS_MOST]) {
     struct bytes all = room_of(0);
     for (int place = 0; place < count; place++) {
         char name[20];
@@ -28,10 +29,10 @@ static struct bytes read_logs(const char *folder, char **generals, int count, sm
 }
 
 int main(int count, char **words) {
-    sm_log logs[MOST_LOGS];
+    sm_log logs[SM_LOGS_MOST];
     size_t length;
     uint32_t fault;
-    if (count < 3 || count > 3 + MOST_LOGS) {
+    if (count < 3 || count > 3 + SM_LOGS_MOST) {
         fprintf(stderr, "bundle FOLDER FAULTY GENERAL ..\n");
         return 2;
     }
@@ -39,7 +40,7 @@ int main(int count, char **words) {
     struct bytes header = read_file(words[1], "header");
     struct bytes all = read_logs(words[1], words + 3, count - 3, logs);
     /* Besides the header and the logs: the mark, the set and two counts, the walks, and what stands before each log. */
-    struct bytes room = room_of(header.length + all.length + 8 + MOST_WALKS * WALK_BYTES + MOST_LOGS * 5);
+    struct bytes room = room_of(header.length + all.length + 8 + MOST_WALKS * WALK_BYTES + SM_LOGS_MOST * 5);
     uint32_t status = sm_bundle(header.at, header.length, faulty, logs, (size_t)(count - 3), all.at, all.length,
                                 room.at, room.length, &length, &fault);
     must_fit(status, fault, "sm_bundle");

@@ -3,12 +3,14 @@
 #define FILES_H
 
 #include <errno.h>
+#include <fcntl.h>
 #include <stddef.h>
 #include <stdint.h>
 #include <stdio.h>
 #include <stdlib.h>
 #include <string.h>
 #include <sys/stat.h>
+#include <unistd.h>
 
 /* Some bytes on the heap. */
 struct bytes {
@@ -62,14 +64,44 @@ static inline struct bytes read_file(const char *folder, const char *name) {
     return all;
 }
 
-/* Writes a file: mode "wb" writes it anew, and "wbx" gives up where it is there. */
-static inline void write_file(const char *folder, const char *name, const char *mode, struct bytes all) {
-    FILE *file = open_file(folder, name, mode);
-    if (fwrite(all.at, 1, all.length, file) != all.length) give_up(name);
-    if (fclose(file) != 0) give_up(name);
+/* Waits until the names in a folder are on the disk. */
+static inline void sync_folder(const char *folder) {
+    int names = open(folder, O_RDONLY | O_DIRECTORY);
+    if (names < 0 || fsync(names) != 0 || close(names) != 0) give_up(folder);
 }
 
-/* The seed of a general, 32 bytes in GENERAL.seed, which none but its owner may read. */
+/* Writes bytes to a file that is opened by these flags, and waits until they are on the disk. */
+static inline void write_bytes(const char *path, int flags, mode_t mode, struct bytes all) {
+    int file = open(path, O_WRONLY | O_CREAT | O_CLOEXEC | flags, mode);
+    if (file < 0) give_up(path);
+    for (size_t done = 0; done < all.length;) {
+        ssize_t count = write(file, all.at + done, all.length - done);
+        if (count < 0 && errno != EINTR) give_up(path);
+        if (count > 0) done += (size_t)count;
+    }
+    if (fsync(file) != 0 || close(file) != 0) give_up(path);
+}
+
+/* Makes a file that must not be there before. When the call returns, a loss of power takes neither the file nor its
+   name away. */
+static inline void make_once(const char *folder, const char *name, mode_t mode, struct bytes all) {
+    char path[100];
+    path_in(path, folder, name);
+    write_bytes(path, O_EXCL, mode, all);
+    sync_folder(folder);
+}
+
+/* Puts a file into the place of one of that name. A loss of power leaves one of the two, whole. */
+static inline void replace_file(const char *folder, const char *name, struct bytes all) {
+    char path[100], fresh[110];
+    path_in(path, folder, name);
+    snprintf(fresh, sizeof fresh, "%s.new", path);
+    write_bytes(fresh, O_TRUNC, 0666, all);
+    if (rename(fresh, path) != 0) give_up(path);
+    sync_folder(folder);
+}
+
+/* The seed of a general, 32 bytes in GENERAL.seed, which its owner alone may read. */
 static inline void read_seed(const char *folder, uint32_t general, uint8_t seed[32]) {
     char name[20];
     struct stat state;

@@ -3,27 +3,28 @@
        header root FOLDER GENERAL VERSION                     writes the root of the keys of the seed in GENERAL.seed
        header make FOLDER VERSION SLOT GENERALS TRAITORS DIAMETER ORDERS CHOICE EDGES ROOT ..   writes FOLDER/header
 
-   A seed is 32 bytes of a source of randomness, in a file of mode 600. It serves one run in version 1, and one run in
-   each slot in version 2. A root is 64 hexadecimal digits, and edges are written as 0-1,1-2. */
+   keygen.c makes a seed. A seed serves one run in version 1, and one run in each slot in version 2. A root is 64
+   hexadecimal digits in lower case, and edges are written as 0-1,1-2. */
 #include "files.h"
 #include "sm_node.h"
 
-enum { MOST_EDGES = 120, MOST_GENERALS = 16, MOST_HEADER = 8 + 2 * MOST_EDGES + 32 * MOST_GENERALS };
+enum { MOST_EDGES = 120 };
 
 /* Prints the root of a seed's keys. */
 static void tell_root(const char *folder, uint32_t general, uint32_t version) {
     uint8_t seed[32], root[32];
     read_seed(folder, general, seed);
     must(sm_root(seed, version, root), "sm_root");
+    explicit_bzero(seed, sizeof seed);
     for (int place = 0; place < 32; place++) printf("%02x", root[place]);
     printf("\n");
 }
 
-/* The number of a hexadecimal digit. */
+/* The number of a hexadecimal digit in lower case. */
 static uint8_t digit_of(const char *digits, int place) {
     static const char known[] = "0123456789abcdef";
     const char *found = digits[place] == '\0' ? NULL : strchr(known, digits[place]);
-    if (found == NULL) refuse("not 64 hexadecimal digits", digits);
+    if (found == NULL) refuse("not 64 hexadecimal digits in lower case", digits);
     return (uint8_t)(found - known);
 }
 
@@ -31,7 +32,7 @@ static uint8_t digit_of(const char *digits, int place) {
 static void read_root(const char *digits, uint8_t root[32]) {
     for (int place = 0; place < 32; place++)
         root[place] = (uint8_t)(digit_of(digits, 2 * place) << 4 | digit_of(digits, 2 * place + 1));
-    if (digits[64] != '\0') refuse("not 64 hexadecimal digits", digits);
+    if (digits[64] != '\0') refuse("not 64 hexadecimal digits in lower case", digits);
 }
 
 /* The edges of a text, and how many there are. */
@@ -50,7 +51,7 @@ static size_t read_edges(const char *text, uint8_t edges[2 * MOST_EDGES]) {
 
 /* Writes the header of these words: seven numbers, the edges, and the roots. */
 static void make(const char *folder, char **words, int roots) {
-    uint8_t edges[2 * MOST_EDGES], known[32 * MOST_GENERALS], room[MOST_HEADER], given[7];
+    uint8_t edges[2 * MOST_EDGES], known[32 * SM_GENERALS_MOST], room[SM_HEADER_MOST], given[7];
     size_t count, edge_count = read_edges(words[7], edges);
     uint32_t fault;
     for (int general = 0; general < roots; general++) read_root(words[8 + general], known + 32 * general);
@@ -59,13 +60,13 @@ static void make(const char *folder, char **words, int roots) {
     uint32_t status =
         sm_header(&numbers, edges, edge_count, known, (size_t)roots, room, sizeof room, &count, &fault);
     must_fit(status, fault, "sm_header");
-    write_file(folder, "header", "wb", (struct bytes){room, count});
+    replace_file(folder, "header", (struct bytes){room, count});
 }
 
 int main(int count, char **words) {
     if (count == 5 && strcmp(words[1], "root") == 0) {
         tell_root(words[2], read_number(words[3], 15), read_number(words[4], UINT32_MAX));
-    } else if (count >= 12 && count <= 11 + MOST_GENERALS && strcmp(words[1], "make") == 0) {
+    } else if (count >= 12 && count <= 11 + SM_GENERALS_MOST && strcmp(words[1], "make") == 0) {
         make(words[2], words + 3, count - 11);
     } else {
         fprintf(stderr, "header root FOLDER GENERAL VERSION, or header make FOLDER V S N M D Q C EDGES ROOT ..\n");

@@ -22,12 +22,15 @@ import tempfile
 
 HERE = os.path.dirname(os.path.abspath(__file__))
 TOP = os.path.dirname(os.path.dirname(HERE))
+
 CRATE = "sm_embed"
 # The kit that this was tried with. With another the page has to be tried anew (trials/page.py) before this is changed.
 KIT = "rattle-kit-13f"
-EXPORTS = ["sm_audit", "sm_evidence", "sm_accuse", "room", "give_back"]
-# The page shows pictures where the library draws.
-DRAWS = "sm_draw"
+# What the page calls: of the library, and of its heap.
+EXPORTS = ["sm_audit_of", "sm_accuse_of", "sm_draw_of", "sm_evidence", "sm_run_id", "sm_show", "sm_explain", "sm_words"]
+EXPORTS += ["sm_answer_text", "sm_answer_free", "room", "give_back"]
+# The parts of the page's script, in their order.
+SCRIPTS = ["judging.js", "reading.js", "report.js", "page.js"]
 # What LLVM says of the layout of values on the one target and on the other.
 NATIVE = "x86_64-unknown-linux-gnu"
 WASM = "wasm64-unknown-unknown"
@@ -134,18 +137,33 @@ def once(pattern, put, text):
     return text
 
 
+# The shuffle of bytes of x86-64, and the same by that of WebAssembly. The first gives zero if the place's highest bit is set, and
+# otherwise takes the place's four lowest bits; the second gives zero for each place above 15.
+SHUFFLE = "@llvm.x86.ssse3.pshuf.b.128"
+SHUFFLED = f"""define internal <16 x i8> @shuffled_bytes(<16 x i8> %bytes, <16 x i8> %places) alwaysinline {{
+  %low = and <16 x i8> %places, <{", ".join(["i8 -113"] * 16)}>
+  %taken = call <16 x i8> @llvm.wasm.swizzle(<16 x i8> %bytes, <16 x i8> %low)
+  ret <16 x i8> %taken
+}}
+declare <16 x i8> @llvm.wasm.swizzle(<16 x i8>, <16 x i8>)"""
+
+
+def with_own_shuffle(text):
+    """The module's text with a function of its own in place of the shuffle of x86-64, if it has that."""
+    if SHUFFLE not in text:
+        return text
+    text = once(rf"^declare <16 x i8> {re.escape(SHUFFLE)}\(<16 x i8>, <16 x i8>\).*$", SHUFFLED, text)
+    return text.replace(SHUFFLE, "@shuffled_bytes")
+
+
 def retargeted(text):
     """The module's text for wasm64: the same code, with that layout of values and no word for the other processor."""
     text = once(r'^target datalayout = "e-.*-i128:128-.*"$', f'target datalayout = "{LAYOUT}"', text)
     text = once(rf'^target triple = "{NATIVE}"$', f'target triple = "{WASM}"', text)
+    text = with_own_shuffle(text)
     if "@llvm.x86" in text or re.search(r'\basm [a-z ]*"[^"]', text):
         raise Refused("the toolchain has changed: the module has instructions of another processor")
     return re.sub(r' "(probe-stack|stack-probe-size|target-cpu)"="[^"]*"', "", text)
-
-
-def names_of(text):
-    """What the page calls of the module with this text."""
-    return [*EXPORTS, DRAWS] if re.search(rf"^define .*@{DRAWS}\(", text, re.MULTILINE) else EXPORTS
 
 
 def compiled(kit, module, scratch):
@@ -158,7 +176,7 @@ def compiled(kit, module, scratch):
     run(clang, *FOR_WASM, "-O3", "-c", "-x", "ir", at("module64.ll"), "-o", at("module.o"))
     run(clang, *FOR_WASM, "-O2", "-ffreestanding", "-c", f"{HERE}/heap_wasm.c", "-o", at("heap.o"))
     os.symlink(f"{kit}/toolchain/bin/clang", at("wasm-ld"))
-    names = [f"--export={it}" for it in names_of(text)]
+    names = [f"--export={it}" for it in EXPORTS]
     # The stack lies below the data, so that one that grows too long leaves the memory, which traps.
     kept = ["--stack-first", "-z", f"stack-size={STACK}", "--gc-sections", "--strip-all"]
     run(at("wasm-ld"), "-mwasm64", "--no-entry", *names, *kept, "-o", at("page.wasm"), at("module.o"), at("heap.o"))
@@ -199,13 +217,13 @@ def look_over(wasm):
 def version():
     """The program's version, by its list of changes."""
     with open(f"{TOP}/CHANGELOG.md", encoding="utf-8") as lines:
-        return next(line.split()[1] for line in lines if line.startswith("## "))
+        return next(line.split()[1] for line in lines if re.match(r"## \d", line))
 
 
 def whole_page(wasm, kit):
     """The page's text, with the module, the script and the style in it."""
     part = lambda name: read(f"{HERE}/{name}").decode()
-    script = f"\n\"use strict\";\n{part('meanings.js')}\n{part('page.js')}"
+    script = "\n\"use strict\";\n" + "\n".join(map(part, SCRIPTS))
     puts = {"STYLE": part("page.css"), "VERSION": version(), "KIT": kit, "DIGEST": hashlib.sha256(wasm).hexdigest()}
     puts["SCRIPT"] = script[1:]
     puts["HASH"] = base64.b64encode(hashlib.sha256(script.encode()).digest()).decode()

@@ -1,110 +1,22 @@
-// Judges files by the module, and shows what it answers.
+// Shows what the module answers of files that are given to the page.
 
-// What an export answers in numbers; UNASKED is the page's own, where it could not ask.
-const YES = 0, NO = 1, FAULT = 3, MEMORY = 4, LENGTH = 5, UNASKED = 9;
-const LONGEST = 1073741824;
 // So many lines of a text are explained; of more it is said how many there are.
 const EXPLAINED = 300;
+// So many bytes of a root are shown in the table of the generals.
+const KEY_BYTES = 8;
 // A module with nothing but a 64-bit memory.
 const TRIED = Uint8Array.of(0, 97, 115, 109, 1, 0, 0, 0, 5, 3, 1, 4, 1);
 const LACKING = "This browser has no 64-bit memories for WebAssembly, so this page can judge nothing here. "
   + "Take a newer browser, or the program sm_tool.";
+const NO_RUN_ID = "The expected run id is not 64 hexadecimal digits, nor two to four of these with commas between them. "
+  + "No file was judged.";
+// The names of the answers in the page's style: agreed, explained, a no, and all else.
+const LOOKS = { agreed: "yes", holds: "yes", explained: "part", no: "no", fails: "no" };
 
 const byId = id => document.getElementById(id);
 const bytesOf = text => Uint8Array.from(atob(text), it => it.charCodeAt(0));
-const textOf = bytes => new TextDecoder().decode(bytes);
 const spell = count => count.toLocaleString("en");
-const linesOf = text => text.split("\n").filter(it => it);
-let compiled;
-
-// A fresh instance of the module, so that nothing is left of the file before.
-async function freshModule() {
-  compiled ??= WebAssembly.compile(bytesOf(byId("module").textContent));
-  return (await WebAssembly.instantiate(await compiled, {})).exports;
-}
-
-// What an export answers of these bytes, asked again with more room where it wants more. Numbers may come before them.
-function ask(of, call, given, ...numbers) {
-  const none = { end: MEMORY, bytes: new Uint8Array() };
-  const at = of.room(BigInt(given.length) + 1n), count = of.room(8n);
-  if (!at || !count) return none;
-  new Uint8Array(of.memory.buffer).set(given, Number(at));
-  for (let size = 4096n; ;) {
-    const room = of.room(size);
-    if (!room) return none;
-    const end = of[call](...numbers, at, BigInt(given.length), room, size, count);
-    const length = new DataView(of.memory.buffer).getBigUint64(Number(count), true);
-    const said = end === MEMORY || end === LENGTH ? 0 : Number(length);
-    const bytes = new Uint8Array(of.memory.buffer, Number(room), said).slice();
-    of.give_back(room);
-    if (end !== LENGTH) {
-      of.give_back(at);
-      of.give_back(count);
-      return { end, bytes };
-    }
-    size = length;
-  }
-}
-
-// What the first four bytes say that a file is.
-function kindOf(given) {
-  const mark = String.fromCharCode(...given.subarray(0, 4));
-  return { SMB1: "bundle", SMB2: "bundle", SMC2: "campaign", SME1: "evidence", SME2: "evidence" }[mark] ?? "neither";
-}
-
-// Who is accused by evidence that was read, and of which kind. Its header has its length in itself.
-function accusedOf(given) {
-  const from = given[3] === 49 ? 4 : 5, header = from + 7 + 2 * given[from + 6] + 32 * given[from + 1];
-  return { general: given[header], kind: `K${given[header + 1]}` };
-}
-
-// The evidence against each who is convicted by a text, weighed by the module as a file of evidence would be.
-function evidenceBy(of, given, text) {
-  const convicted = linesOf(text).filter(it => it.startsWith("convicted ")).map(it => Number(it.split(" ")[1]));
-  const generals = [...new Set(convicted)].sort((a, b) => a - b);
-  return generals.map(general => {
-    const { end, bytes } = ask(of, "sm_accuse", given, general);
-    return { general, bytes, holds: end === YES && ask(of, "sm_evidence", bytes).end === YES };
-  });
-}
-
-// The picture of a bundle or a campaign, or nothing where the module doesn't draw or has no memory for it.
-function pictureOf(of, given) {
-  const drawn = of.sm_draw ? ask(of, "sm_draw", given) : { end: MEMORY };
-  return drawn.end <= NO ? drawn.bytes : null;
-}
-
-// All that the module says of a file.
-async function judged(given) {
-  const of = await freshModule(), kind = kindOf(given);
-  if (kind === "evidence") {
-    const { end, bytes } = ask(of, "sm_evidence", given);
-    return { kind, end, text: textOf(bytes), accused: end < FAULT ? accusedOf(given) : null };
-  }
-  const { end, bytes } = ask(of, "sm_audit", given), text = textOf(bytes);
-  if (kind === "neither") {
-    const other = ask(of, "sm_evidence", given);
-    const isShort = end === MEMORY || other.end === MEMORY;
-    return { kind, end: isShort ? MEMORY : FAULT, text: `${text}\n${textOf(other.bytes)}` };
-  }
-  if (end > NO) return { kind, end, text };
-  return { kind, end, text, evidence: evidenceBy(of, given, text), picture: pictureOf(of, given) };
-}
-
-// The answer in one sentence.
-function headline({ kind, end, text, accused }) {
-  const lines = linesOf(text), findings = lines.filter(it => /^N\d/.test(it)).length;
-  const agreed = lines.map(it => /^verdict agreed (\d+)$/.exec(it)?.[1]).filter(it => it);
-  if (end === UNASKED) return "Not judged.";
-  if (end === MEMORY) return "Not judged: memory was refused.";
-  if (kind === "neither") return "Neither a bundle, nor a campaign, nor evidence.";
-  if (end === FAULT) return `Not judged: the ${kind} has a fault.`;
-  if (kind === "evidence" && end === YES) return `The evidence against general ${accused.general} holds.`;
-  if (kind === "evidence") return `The evidence against general ${accused.general} fails.`;
-  if (end === NO) return `No: ${findings === 1 ? "one finding stands" : `${spell(findings)} findings stand`} against it.`;
-  if (kind === "campaign") return "Yes: nothing stands against any run.";
-  return agreed.length ? `Yes: all who aren't held for faulty decided order ${agreed[0]}.` : "Yes: the logs are explained.";
-}
+const several = (count, one, many) => (count === 1 ? `one ${one}` : `${spell(count)} ${many}`);
 
 // A new element with a class, if it is given one, and with what it holds.
 function made(tag, kind, ...held) {
@@ -112,6 +24,173 @@ function made(tag, kind, ...held) {
   if (kind) it.className = kind;
   it.append(...held);
   return it;
+}
+
+// Numbers in words: `general 0`, `generals 0 and 2`.
+function generalsIn(numbers) {
+  if (numbers.length === 1) return `general ${numbers[0]}`;
+  return `generals ${numbers.slice(0, -1).join(", ")} and ${numbers.at(-1)}`;
+}
+
+// What an answer comes to: agreed, explained, no, holds or fails; nothing where nothing was judged.
+function outcomeOf({ kind, end, verdicts }) {
+  if (end > NO) return "";
+  if (kind === "evidence") return end === YES ? "holds" : "fails";
+  if (end === NO) return "no";
+  return verdicts.every(it => it.verdict === "agreed") ? "agreed" : "explained";
+}
+
+// The sentence for a file that nothing was judged of.
+function unjudged({ kind, end }) {
+  if (end === UNASKED) return "Not judged.";
+  if (end === MEMORY) return "Not judged: memory was refused.";
+  if (end === OTHER) return `Not judged: the ${kind} is of another run than the one that you expect.`;
+  if (kind === "neither") return "Neither a bundle, nor a campaign, nor evidence.";
+  return `Not judged: the ${kind} has a fault.`;
+}
+
+// The sentence for a bundle.
+function bundleHeadline(outcome, { verdicts, file }) {
+  const [{ faulty }] = file.runs, [{ order, findings }] = verdicts;
+  const held = `Held for faulty: ${faulty.length ? generalsIn(faulty) : "none"}.`;
+  if (outcome === "no") return `No: ${several(findings, "finding stands", "findings stand")} against it. ${held}`;
+  if (outcome === "agreed") return `Yes, agreed: all generals that aren't held for faulty decided order ${order}. ${held}`;
+  return "Explained, but not agreed: more generals are held for faulty than the run is planned for, so the others may have "
+    + `decided different orders. ${held}`;
+}
+
+// The sentence for a campaign.
+function campaignHeadline(outcome, { verdicts }) {
+  const places = verdict => verdicts.filter(it => it.verdict === verdict).length;
+  const runs = several(verdicts.length, "run", "runs");
+  if (outcome === "no") return `No: findings stand against ${places("no")} of ${runs}.`;
+  if (outcome === "agreed") return `Yes, agreed: nothing stands against any of ${runs}.`;
+  return `Explained, but not agreed: in ${places("explained")} of ${runs} more generals are held for faulty than the run `
+    + "is planned for, so the others may have decided different orders.";
+}
+
+// The answer in one sentence.
+function headline(outcome, answer) {
+  if (!outcome) return unjudged(answer);
+  if (answer.kind === "evidence") return `The evidence against general ${answer.file.accused} ${outcome}.`;
+  return answer.kind === "campaign" ? campaignHeadline(outcome, answer) : bundleHeadline(outcome, answer);
+}
+
+// A list of names and what they are.
+function factsOf(pairs) {
+  const list = made("dl", "facts");
+  for (const [name, said] of pairs) list.append(made("dt", "", name), made("dd", "long", said));
+  return list;
+}
+
+// A table in a frame that scrolls.
+function tableOf(label, names, rows) {
+  const cells = (tag, row) => row.map(it => made(tag, "", it));
+  const head = made("tr", "", ...cells("th", names));
+  for (const it of head.children) it.scope = "col";
+  const body = rows.map(row => {
+    const [first, ...others] = row, name = made("th", "", first);
+    name.scope = "row";
+    return made("tr", "", name, ...cells("td", others));
+  });
+  const table = made("table", "", made("caption", "", label), made("thead", "", head), made("tbody", "", ...body));
+  return framed("wide", label, table);
+}
+
+// A frame that scrolls, which the keyboard reaches.
+function framed(kind, label, held) {
+  const box = made("div", kind, held);
+  box.tabIndex = 0;
+  box.setAttribute("role", "group");
+  box.setAttribute("aria-label", label);
+  return box;
+}
+
+// What was judged, by what, and when.
+function fileFacts(name, { size, digest, took }, expected) {
+  const { version, kit, digest: module } = document.body.dataset;
+  const when = new Date().toISOString().replace("T", " ").slice(0, 16);
+  return factsOf([
+    ["File", `${name}, ${spell(size)} bytes`],
+    ["SHA-256 of the file", digest || "not computed here"],
+    ["Expected run", expected || "any: no run id was given, so compare the run id below with one that you know"],
+    ["Judged", `${when} UTC, in ${took.toFixed(0)} ms`],
+    ["By this page", `Vamuretu ${version}, compiled by ${kit}`],
+    ["SHA-256 of its module", module],
+  ]);
+}
+
+// What a run is about.
+function runFacts(run) {
+  const slot = run.version === 2 ? `, slot ${run.slot}` : "";
+  return factsOf([
+    ["Run id", run.id],
+    ["Generals", `n = ${run.generals}`],
+    ["Planned for", `m = ${run.traitors} faulty, d = ${run.diameter} as the diameter of the rest`],
+    ["Orders", `q = ${run.orders}, choice ${run.choice}`],
+    ["Form", `version ${run.version}${slot}`],
+  ]);
+}
+
+// What the logs that are shown of a general say that the general decided.
+function decidedIn(logs) {
+  if (!logs.length) return "no log";
+  return logs.map(it => it.decided ?? "none read").join(", ");
+}
+
+// The table of the generals of a run, with its verdict if there is one.
+function generalsTable(run, verdict, label) {
+  const rows = run.roots.map((root, general) => {
+    const logs = run.logs.filter(it => it.general === general);
+    return [String(general), `${root.slice(0, 2 * KEY_BYTES)}…`, run.faulty.includes(general) ? "yes" : "no",
+      logs.length ? logs.map(it => it.fault ?? `${spell(it.length)} bytes`).join(", ") : "none", decidedIn(logs),
+      verdict?.convicted[general]?.join(", ") ?? "no"];
+  });
+  const names = ["General", "Root begins", "Held for faulty", "Log shown", "Decided", "Convicted by"];
+  return tableOf(label, names, rows);
+}
+
+// The runs of a file, each with its numbers and its generals.
+function runsIn({ kind, file, verdicts }) {
+  const alone = file.runs.length === 1;
+  return file.runs.filter(it => it.id).flatMap((run, place) => {
+    const name = alone ? "The run" : kind === "evidence" ? `Run of the ${place ? "second" : "first"} text` : `Run ${place}`;
+    const said = verdicts[place] ? `${name}: ${verdicts[place].verdict}` : name;
+    const label = alone ? "The generals" : `The generals of run ${place}`;
+    const table = run.faulty ? [generalsTable(run, verdicts[place], label)] : [];
+    return [made("h3", "", said), runFacts(run), ...table];
+  });
+}
+
+// What stands on one side of evidence.
+const sideOf = (name, ...said) => made("section", "side", made("h4", "", name), ...said.map(it => made("p", "long", it)));
+
+// The two sides of a contradiction: texts, or a text or an entry beside the log.
+function sidesOf({ texts, runs, departs, kind }) {
+  const log = runs[0]?.logs[0];
+  const run = text => (kind.number === 5 ? `in run ${runs[text.place].id}` : "in this run");
+  if (texts.length === 2) {
+    return texts.map(it => sideOf(it.name === "first" ? "Signed first in the file" : "Signed besides", it.said, run(it)));
+  }
+  const sealed = `A log of ${several(log.entries.length, "entry", "entries")}, which the accused sealed.`;
+  if (texts.length) return [sideOf("Signed", texts[0].said), sideOf("Lacks it", sealed, "It has no such SIGN.")];
+  return [sideOf("Sealed", sealed), sideOf("Departs here", log.entries[departs] ?? `entry ${departs}`)];
+}
+
+// Who is accused by evidence, by what, with both sides.
+function accusedIn({ kind, file, claim }) {
+  if (kind !== "evidence" || !file.kind) return [];
+  const said = `It claims of general ${file.accused}, whose root is ${file.runs[0].roots[file.accused]}: ${claim}`;
+  return [made("h3", "", "What is claimed"), made("p", "long", said), made("div", "sides", ...sidesOf(file))];
+}
+
+// The lines of a text that need words, each with what it means.
+function explained(words) {
+  const said = meaningsOf(words);
+  const list = made("ul", "", ...said.slice(0, EXPLAINED).map(([line, meaning]) =>
+    made("li", "", made("code", "", line), ` – ${meaning}`)));
+  if (said.length > EXPLAINED) list.append(made("li", "", `${spell(said.length - EXPLAINED)} more lines stand below.`));
+  return said.length ? [made("h3", "", "What it means"), list] : [];
 }
 
 // A link that saves bytes under a name.
@@ -122,16 +201,7 @@ function saving(words, name, bytes, type) {
   return link;
 }
 
-// The lines of a text that need words, each with what it means.
-function explained(text) {
-  const said = linesOf(text).map(line => [line, meaningOf(line)]).filter(it => it[1]);
-  const list = made("ul", "", ...said.slice(0, EXPLAINED).map(([line, meaning]) =>
-    made("li", "", made("code", "", line), ` – ${meaning}`)));
-  if (said.length > EXPLAINED) list.append(made("li", "", `${spell(said.length - EXPLAINED)} more lines stand below.`));
-  return said.length ? [made("h3", "", "What it means"), list] : [];
-}
-
-// The evidence that can be saved, a link for each who is convicted.
+// The evidence that can be saved, a link for each general that is convicted.
 function offered(evidence, name) {
   if (!evidence?.length) return [];
   const list = made("ul", "", ...evidence.map(it => made("li", "",
@@ -145,61 +215,104 @@ function offered(evidence, name) {
 function pictured(picture, name) {
   if (!picture) return [];
   const read = new DOMParser().parseFromString(textOf(picture), "image/svg+xml");
-  const box = made("div", "picture"), tree = made("div", "");
-  box.tabIndex = 0;
-  box.setAttribute("role", "group");
-  box.setAttribute("aria-label", `Picture of ${name}`);
+  const tree = made("div", "");
   tree.attachShadow({ mode: "open" }).append(document.importNode(read.documentElement, true));
-  box.append(tree);
   const link = saving("Save the picture", `${name}.svg`, picture, "image/svg+xml");
-  return [made("h3", "", "The picture"), box, made("p", "", link)];
+  return [made("h3", "", "The picture"), framed("picture", `Picture of ${name}`, tree), made("p", "", link)];
 }
 
-// Who is accused by evidence, in words.
-function accusedIn(accused) {
-  if (!accused) return [];
-  return [made("p", "", `It claims of general ${accused.general} that ${KINDS[accused.kind]}.`)];
-}
+// What the text of the answer is.
+const textIn = (text, name) => [made("h3", "", "The text"), framed("frame", `Text of the answer on ${name}`, made("pre", "", text))];
 
 // Shows an answer above those before it.
-function show(name, size, answer, took) {
-  const said = headline(answer), head = made("h2", "", name), text = made("pre", "", answer.text);
-  const look = answer.end === YES ? "yes" : answer.end === NO ? "no" : "none";
+function show(name, told, expected) {
+  const answer = { ...told, file: readShown(told.shown), verdicts: told.end > NO ? [] : readVerdict(told.text) };
+  const outcome = outcomeOf(answer), said = headline(outcome, answer), head = made("h2", "", name);
   head.id = `answer${byId("answers").childElementCount}`;
-  text.tabIndex = 0;
-  text.setAttribute("role", "group");
-  text.setAttribute("aria-label", `Text of the answer on ${name}`);
-  const it = made("article", look, head, made("p", "answer", said), ...accusedIn(answer.accused),
-    ...explained(answer.text), ...offered(answer.evidence, name), ...pictured(answer.picture, name),
-    made("h3", "", "The text"), text, made("p", "small", `${spell(size)} bytes, ${took.toFixed(0)} ms`));
+  const it = made("article", LOOKS[outcome] ?? "none", head, made("p", "answer", said), buttonsOf(name, answer),
+    fileFacts(name, answer, expected), ...accusedIn(answer), ...runsIn(answer), ...explained(answer.words),
+    ...offered(answer.evidence, name), ...pictured(answer.picture, name), ...textIn(answer.text, name));
   it.setAttribute("aria-labelledby", head.id);
   it.dataset.end = answer.end;
   byId("answers").prepend(it);
   return said;
 }
 
-// Judges one file.
-async function judgeFile(file) {
-  const from = performance.now();
-  let answer;
-  try {
-    if (file.size > LONGEST) throw new RangeError("it is longer than the longest input.");
-    answer = await judged(new Uint8Array(await file.arrayBuffer()));
-  } catch (fault) {
-    answer = { kind: "neither", end: UNASKED, text: `The file could not be read or judged: ${fault.message}` };
+// Who judges: a worker, or the page itself where the browser makes no worker.
+class Judge {
+  constructor(source, module) {
+    Object.assign(this, { source, module, worker: null, settle: null, isBroken: false });
   }
-  return `${file.name}: ${show(file.name, file.size, answer, performance.now() - from)}`;
+
+  // The worker, which is made where there is none.
+  begin() {
+    try {
+      const made = new Blob([this.source], { type: "text/javascript" });
+      this.worker = new Worker(URL.createObjectURL(made));
+      this.worker.addEventListener("message", it => this.end(it.data));
+      this.worker.addEventListener("error", it => { it.preventDefault(); this.goOn(); });
+      this.worker.postMessage(this.module);
+    } catch {
+      this.goOn();
+    }
+  }
+
+  // Goes on without a worker, which the browser does not start.
+  async goOn() {
+    Object.assign(this, { worker: null, isBroken: true });
+    if (this.settle) this.end(await answered(this.module, this.file, this.runs));
+  }
+
+  // The answer on a file.
+  async ask(file, runs) {
+    if (!this.worker && !this.isBroken) this.begin();
+    if (!this.worker) return answered(this.module, file, runs);
+    Object.assign(this, { from: performance.now(), file, runs });
+    return new Promise(done => {
+      this.settle = done;
+      this.worker.postMessage({ file, runs });
+    });
+  }
+
+  // Ends what is asked with this answer.
+  end(answer) {
+    this.settle?.(answer);
+    this.settle = null;
+  }
+
+  // Ends the worker, and what is asked of it.
+  stop(why) {
+    if (!this.settle) return;
+    this.worker?.terminate();
+    this.worker = null;
+    const none = { kind: "neither", shown: "", words: "", claim: "", end: UNASKED, size: this.file.size };
+    this.end({ ...none, text: `The file was not judged: ${why}`, took: performance.now() - this.from });
+  }
+}
+
+// The run ids of the field, one after another; no bytes if it is empty, and null if it has something else.
+function expectedRuns(text) {
+  if (!text) return NOTHING;
+  if (!/^[0-9a-f]{64}(?:,[0-9a-f]{64}){0,3}$/i.test(text)) return null;
+  return Uint8Array.from(text.replaceAll(",", "").match(/../g), it => parseInt(it, 16));
 }
 
 // Judges files one after another, behind those that were given before.
-let last = Promise.resolve();
+let last = Promise.resolve(), judge;
 function take(files) {
-  const given = [...files];
+  const given = [...files], text = byId("expected").value.replace(/\s/g, "").toLowerCase(), runs = expectedRuns(text);
+  byId("expected").setAttribute("aria-invalid", runs ? "false" : "true");
+  if (!runs) {
+    byId("status").textContent = NO_RUN_ID;
+    return;
+  }
   last = last.then(async () => {
     for (const file of given) {
       byId("status").textContent = `Judging ${file.name} …`;
-      await new Promise(done => { setTimeout(done, 20); });
-      byId("status").textContent = await judgeFile(file);
+      byId("stop").hidden = false;
+      const answer = await judge.ask(file, runs);
+      byId("stop").hidden = true;
+      byId("status").textContent = `${file.name}: ${show(file.name, answer, text)}`;
     }
   });
 }
@@ -210,8 +323,10 @@ function begin() {
     byId("lacking").textContent = LACKING;
     byId("lacking").hidden = false;
   }
+  judge = new Judge(document.currentScript.textContent, bytesOf(byId("module").textContent));
   const drop = byId("drop");
   byId("file").addEventListener("change", it => { take(it.target.files); it.target.value = ""; });
+  byId("stop").addEventListener("click", () => judge.stop("it was stopped"));
   for (const name of ["dragenter", "dragover"]) {
     document.addEventListener(name, it => { it.preventDefault(); drop.className = "over"; });
   }
@@ -219,4 +334,6 @@ function begin() {
   document.addEventListener("drop", it => { it.preventDefault(); drop.className = ""; take(it.dataTransfer.files); });
 }
 
-begin();
+// The same script is that of the page and that of its worker.
+if (typeof document !== "undefined") begin();
+else if (typeof WorkerGlobalScope !== "undefined") beginWorker();

@@ -86,6 +86,27 @@ def make_walks(network: Network, rest: Sequence[int]) -> Tuple[Path, ...]:
     return tuple(walks)
 
 
+def hold(bundle: Bundle, faulty: Sequence[int]) -> Bundle:
+    """A bundle as if others were held for faulty, or B4: the header and the exhibits stay (FORMATS.md#another-list)."""
+    network = bundle.header.network
+    if any(general >= network.generals for general in faulty):
+        raise Fault("B4")
+    listed = tuple(sorted(faulty))
+    rest = [general for general in range(network.generals) if general not in listed]
+    return Bundle(bundle.header, listed, make_walks(network, rest), bundle.exhibits)
+
+
+def hold_all(campaign: bool, bundles: Sequence[Bundle], faulty: Sequence[int]) -> List[Bundle]:
+    """The same of each run of a campaign, or of a bundle that stands alone (FORMATS.md#another-list)."""
+    held: List[Bundle] = []
+    for number, bundle in enumerate(bundles):
+        try:
+            held.append(hold(bundle, faulty))
+        except Fault as inner:
+            raise (Fault(f"M3 run {number} {inner.words}") if campaign else inner) from None
+    return held
+
+
 def run_bundle(scenario: Scenario) -> Bundle:
     """The bundle of the run of a scenario with signatures (FORMATS.md#bundle)."""
     header, generals = play(scenario)

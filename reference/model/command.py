@@ -2,26 +2,49 @@
 
 from __future__ import annotations
 
+import os
+import re
 from dataclasses import dataclass, field
-from typing import Callable, Dict, List, Optional, Tuple
+from typing import Callable, Dict, List, Optional, Sequence, Tuple
 
+from . import json_text
+from .answering import answer_line
 from .audit import Judgement, judge
-from .bundle import CAMPAIGN_MARK, Bundle, read_bundle, read_campaign, run_bundle, spell_campaign
+from .bundle import (CAMPAIGN_MARK, Bundle, Exhibit, hold_all, read_bundle, read_campaign, run_bundle,
+                     spell_campaign)
 from .convict import accuse, campaign_text, verdict_text
 from .draw import draw_bundle, draw_campaign
 from .evidence import read_evidence
-from .faults import Fault
+from .faults import Cursor, Fault
 from .follow import plain_sets
+from .network import read_header
+from .prepare import bundle_of_parts, header_of_text, root_text
 from .run import play
 from .scenario import read_campaign_text, read_scenario
+from .show import shown_lines, shown_runs
+from .words import explain, with_words
 
 LONGEST_INPUT = 1_073_741_824
 ABOUT = b"sm_tool reference: answers from docs/FORMATS.md and docs/PROTOCOL.md; see reference/README.md\n"
 OPTIONS = {
     "decide": (), "run": ("capacity",), "judge": ("capacity", "workers"), "campaign": ("capacity",),
-    "audit": ("workers",), "draw": ("workers",), "accuse": ("general",), "evidence": (),
+    "audit": ("workers",), "draw": ("workers",), "accuse": ("general",), "evidence": (), "show": (), "explain": (), "words": (),
+    "root": (), "header": ("slot",), "bundle": (), "answer": (),
 }
-RANGES = {"capacity": (1, 16), "workers": (1, 16), "general": (0, 15)}
+RANGES = {"capacity": (1, 16), "workers": (1, 16), "general": (0, 15), "slot": (0, 3)}
+# Of each command what else it takes: the run ids that are asked for, who is held for faulty, and flags.
+TAKES = {
+    "decide": ("json",), "run": ("print-run",), "judge": ("strict", "json"), "campaign": ("print-run",),
+    "audit": ("run", "faulty", "strict", "json"), "draw": ("run", "faulty"), "accuse": ("run",),
+    "evidence": ("run", "json"), "show": ("run",), "root": ("tall",), "header": ("print-run",),
+    "bundle": ("faulty",),
+}
+FLAGS = ("strict", "print-run", "json", "tall")
+# The commands of several files: how many words for files they take, at least and at most.
+FILES = {"bundle": (1, None), "answer": (2, 2)}
+# The commands whose output is bytes.
+WRITE_BYTES = ("run", "campaign", "accuse", "header", "bundle")
+MOST_RUNS = 4
 Answer = Tuple[int, bytes, bytes]
 
 
@@ -35,19 +58,51 @@ class Asked(Exception):
 
 @dataclass
 class Job:
-    """A command with the numbers of its options."""
+    """A command with the numbers of its options, and what else words ask of it."""
 
     command: str
     numbers: Dict[str, int] = field(default_factory=dict)
+    runs: Optional[List[bytes]] = None
+    faulty: Optional[Tuple[int, ...]] = None
+    flags: Tuple[str, ...] = ()
+    files: Tuple[str, ...] = ()
+    # Of `bundle` the general of each file behind the first.
+    generals: Tuple[int, ...] = ()
+
+    def sources(self) -> Tuple[str, ...]:
+        """The files that are read, in this order; `-` is standard input (FORMATS.md#the-programs-commands)."""
+        return () if self.command == "explain" else self.files or ("-",)
+
+
+def _number_in(value: str, least: int, most: int) -> Optional[int]:
+    """The decimal number of at most two digits that a text is, if it is in the range."""
+    digits = value.isascii() and value.isdigit() and len(value) <= 2 and (value[0] != "0" or value == "0")
+    return int(value) if digits and least <= int(value) <= most else None
 
 
 def _number(option: str, value: str) -> int:
     """The number of an option (FORMATS.md#the-programs-commands)."""
-    least, most = RANGES[option]
-    digits = value.isascii() and value.isdigit() and len(value) <= 2 and (value[0] != "0" or value == "0")
-    if not digits or not least <= int(value) <= most:
-        raise Refused(f"--{option} takes a number from {least} to {most}")
-    return int(value)
+    number = _number_in(value, *RANGES[option])
+    if number is None:
+        raise Refused("--{} takes a number from {} to {}".format(option, *RANGES[option]))
+    return number
+
+
+def _faulty(text: str) -> Tuple[int, ...]:
+    """Who is held for faulty (FORMATS.md#the-programs-commands)."""
+    numbers = [] if text == "none" else [_number_in(part, 0, 15) for part in text.split(",")]
+    listed = sorted(number for number in numbers if number is not None)
+    if len(listed) != len(numbers) or len(set(listed)) != len(listed):
+        raise Refused("--faulty takes none, or numbers from 0 to 15 with commas between them, each once")
+    return tuple(listed)
+
+
+def _run_ids(text: str) -> List[bytes]:
+    """The run ids that are asked for (FORMATS.md#the-programs-commands)."""
+    parts = text.split(",")
+    if len(parts) > MOST_RUNS or not all(re.fullmatch("[0-9a-fA-F]{64}", part) for part in parts):
+        raise Refused("--run takes a run id, or up to four with commas between them")
+    return [bytes.fromhex(part) for part in parts]
 
 
 def _is_text(word: str) -> bool:
@@ -64,28 +119,78 @@ def _asks(word: str, letters: str) -> bool:
     return any(word == long[letter] or word.startswith("-" + letter) for letter in letters)
 
 
-def _read_options(command: str, words: List[str]) -> Dict[str, str]:
-    """The options of a command with what stands as their numbers (FORMATS.md#the-programs-commands)."""
-    given: Dict[str, str] = {}
+@dataclass
+class Given:
+    """What stands behind a command: options with their values, flags, and files."""
+
+    options: Dict[str, str] = field(default_factory=dict)
+    flags: List[str] = field(default_factory=list)
+    files: List[str] = field(default_factory=list)
+
+    def take_file(self, command: str, word: str) -> None:
+        """A word that is no option."""
+        most = FILES.get(command, (0, 1))[1]
+        if len(self.files) == most:
+            raise Refused(f"{word!r} stands behind a file")
+        self.files.append(word)
+
+    def take_option(self, command: str, word: str, left: List[str]) -> None:
+        """A word that is an option of the command, whose value may be the next word."""
+        name, equals, value = word.partition("=")
+        option = name[2:]
+        if not name.startswith("--") or option not in OPTIONS[command] + TAKES.get(command, ()):
+            raise Refused(f"{command} does not take {word!r}")
+        if option in self.options or option in self.flags:
+            raise Refused(f"--{option} stands twice")
+        if option in FLAGS:
+            if equals:
+                raise Refused(f"--{option} takes no value")
+            self.flags.append(option)
+            return
+        if not equals:
+            if not left or (left[0].startswith("-") and left[0] != "-"):
+                raise Refused(f"--{option} takes a value")
+            value = left.pop(0)
+        self.options[option] = value
+
+
+def _read_options(command: str, words: List[str]) -> Given:
+    """What stands behind a command (FORMATS.md#the-programs-commands)."""
+    given = Given()
     left = list(words)
     while left:
         word = left.pop(0)
-        if word == "--" and not left:
+        if word == "--":
+            for last in left:
+                given.take_file(command, last)
             break
         if _asks(word, "h"):
             raise Asked
-        name, equals, value = word.partition("=")
-        option = name[2:]
-        if not name.startswith("--") or option not in OPTIONS[command]:
-            raise Refused(f"{command} does not take {word!r}")
-        if option in given:
-            raise Refused(f"--{option} stands twice")
-        if not equals:
-            if not left or (left[0].startswith("-") and left[0] != "-"):
-                raise Refused(f"--{option} takes a number")
-            value = left.pop(0)
-        given[option] = value
+        if word.startswith("-") and word != "-":
+            given.take_option(command, word, left)
+        else:
+            given.take_file(command, word)
     return given
+
+
+def _generals(command: str, files: List[str]) -> Tuple[int, ...]:
+    """Of `bundle` the generals of the words G=LOG, of which the list keeps the files (FORMATS.md#the-programs-commands)."""
+    generals: List[int] = []
+    for at in range(1, len(files) if command == "bundle" else 0):
+        general, equals, files[at] = files[at].partition("=")
+        number = _number_in(general, 0, 15) if equals else None
+        if number is None:
+            raise Refused("bundle takes G=LOG behind the header, where G is a number from 0 to 15")
+        generals.append(number)
+    return tuple(generals)
+
+
+def _check_files(command: str, files: List[str]) -> None:
+    """A command that takes several files has as many as it needs, and standard input is at most one of them."""
+    if len(files) < FILES.get(command, (0, 1))[0]:
+        raise Refused("a file is missing")
+    if files.count("-") > 1:
+        raise Refused("standard input stands twice")
 
 
 def read_words(words: List[str]) -> Job:
@@ -103,30 +208,71 @@ def read_words(words: List[str]) -> Job:
     if words[0] not in OPTIONS:
         raise Refused("there is no such command")
     given = _read_options(words[0], words[1:])
-    if words[0] == "accuse" and "general" not in given:
+    if words[0] == "accuse" and "general" not in given.options:
         raise Refused("--general is missing")
-    told = [option for option in OPTIONS[words[0]] if option in given]
-    return Job(words[0], {option: _number(option, given[option]) for option in told})
+    if words[0] == "explain" and not given.files:
+        raise Refused("NAME is missing")
+    generals = _generals(words[0], given.files)
+    _check_files(words[0], given.files)
+    told = [option for option in OPTIONS[words[0]] if option in given.options]
+    numbers = {option: _number(option, given.options[option]) for option in told}
+    runs = _run_ids(given.options["run"]) if "run" in given.options else None
+    faulty = _faulty(given.options["faulty"]) if "faulty" in given.options else None
+    return Job(words[0], numbers, runs, faulty, tuple(given.flags), tuple(given.files), generals)
+
+
+def job_asked(words: List[str]) -> Optional[Job]:
+    """The job that words ask for; only for one the input is read (FORMATS.md#the-programs-answers)."""
+    try:
+        return read_words(words)
+    except (Asked, Refused):
+        return None
 
 
 def asks_for_job(words: List[str]) -> bool:
-    """Whether words ask for a job; only then the input is read (FORMATS.md#the-programs-answers)."""
-    try:
-        read_words(words)
-    except (Asked, Refused):
-        return False
-    return True
+    """Whether words ask for a job (FORMATS.md#the-programs-answers)."""
+    return job_asked(words) is not None
 
 
-def _judged(given: bytes) -> Tuple[bool, List[Judgement]]:
-    """Whether the input is a campaign, and the judgements on its runs, or on the bundle."""
+def _shown(given: bytes, runs: Optional[List[bytes]]) -> Tuple[bool, List[Bundle]]:
+    """Whether the input is a campaign, and the bundles of its runs, or the bundle, of the runs that are asked for.
+
+    FORMATS.md#the-programs-answers.
+    """
     campaign = given.startswith(CAMPAIGN_MARK)
     bundles: List[Bundle] = read_campaign(given) if campaign else [read_bundle(given)]
+    _check_runs(runs, [bundle.header.run_id for bundle in bundles])
+    return campaign, bundles
+
+
+def _check_runs(asked: Optional[List[bytes]], shown: List[bytes]) -> None:
+    """R1 for other runs than those that are asked for (FORMATS.md#the-programs-answers)."""
+    if asked is not None and asked != shown:
+        raise Fault("R1")
+
+
+def _judged(given: bytes, job: Job) -> Tuple[bool, List[Judgement]]:
+    """Whether the input is a campaign, and the judgements on its runs, or on the bundle.
+
+    With a list of the faulty they are judged as if it were theirs (FORMATS.md#another-list).
+    """
+    campaign, bundles = _shown(given, job.runs)
+    if job.faulty is not None:
+        bundles = hold_all(campaign, bundles, job.faulty)
     return campaign, [judge(bundle) for bundle in bundles]
 
 
-def decide(given: bytes) -> Tuple[int, bytes]:
+def _counts_as_no(judgement: Judgement, job: Job) -> bool:
+    """Whether a judgement counts as a no (FORMATS.md#the-programs-answers)."""
+    bundle = judgement.bundle
+    is_explained = len(bundle.faulty) > bundle.header.network.traitors
+    return bool(judgement.findings) or ("strict" in job.flags and is_explained)
+
+
+def decide(given: bytes, job: Job) -> Tuple[int, bytes]:
     """The command decide (FORMATS.md#decisions-text)."""
+    if "json" in job.flags:
+        return json_text.decide(given)
     scenario = read_scenario(given, False)
     network = scenario.network
     if scenario.seed is None:
@@ -143,70 +289,142 @@ def decide(given: bytes) -> Tuple[int, bytes]:
     return 0, "".join(lines).encode("ascii")
 
 
-def run(given: bytes) -> Tuple[int, bytes]:
+def run(given: bytes, job: Job) -> Tuple[int, bytes]:
     """The command run (FORMATS.md#bundle)."""
     return 0, run_bundle(read_scenario(given, True)).spell()
 
 
-def judge_scenario(given: bytes) -> Tuple[int, bytes]:
+def _verdict(campaign: bool, judgements: Sequence[Judgement], job: Job) -> Tuple[int, bytes]:
+    """Whether judgements say no, and their text or their object (FORMATS.md#verdict-text, FORMATS.md#json)."""
+    if "json" in job.flags:
+        value = json_text.campaign_value(judgements) if campaign else json_text.verdict_value(judgements[0])
+        text = json_text.line_of(value)
+    else:
+        text = (campaign_text(judgements) if campaign else verdict_text(judgements[0])).encode("ascii")
+    return 1 if any(_counts_as_no(judgement, job) for judgement in judgements) else 0, text
+
+
+def judge_scenario(given: bytes, job: Job) -> Tuple[int, bytes]:
     """The command judge (FORMATS.md#verdict-text)."""
-    judgement = judge(run_bundle(read_scenario(given, True)))
-    return 1 if judgement.findings else 0, verdict_text(judgement).encode("ascii")
+    return _verdict(False, [judge(run_bundle(read_scenario(given, True)))], job)
 
 
-def campaign(given: bytes) -> Tuple[int, bytes]:
+def campaign(given: bytes, job: Job) -> Tuple[int, bytes]:
     """The command campaign (FORMATS.md#campaign)."""
     return 0, spell_campaign([run_bundle(scenario) for scenario in read_campaign_text(given)])
 
 
-def audit(given: bytes) -> Tuple[int, bytes]:
+def audit(given: bytes, job: Job) -> Tuple[int, bytes]:
     """The command audit (FORMATS.md#verdict-text)."""
-    is_campaign, judgements = _judged(given)
-    text = campaign_text(judgements) if is_campaign else verdict_text(judgements[0])
-    return 1 if any(judgement.findings for judgement in judgements) else 0, text.encode("ascii")
+    return _verdict(*_judged(given, job), job)
 
 
-def draw(given: bytes) -> Tuple[int, bytes]:
+def draw(given: bytes, job: Job) -> Tuple[int, bytes]:
     """The command draw (FORMATS.md#picture)."""
-    is_campaign, judgements = _judged(given)
+    is_campaign, judgements = _judged(given, job)
     text = draw_campaign(judgements) if is_campaign else draw_bundle(judgements[0])
     return 0, text.encode("ascii")
 
 
-def check_evidence(given: bytes) -> Tuple[int, bytes]:
+def check_evidence(given: bytes, job: Job) -> Tuple[int, bytes]:
     """The command evidence (FORMATS.md#the-programs-commands)."""
-    holds = read_evidence(given).holds()
-    return (0, b"evidence holds\n") if holds else (1, b"evidence fails\n")
+    evidence = read_evidence(given)
+    _check_runs(job.runs, [evidence.header.run_id])
+    holds = evidence.holds()
+    text = json_text.line_of(json_text.evidence_value(evidence)) if "json" in job.flags else \
+        b"evidence holds\n" if holds else b"evidence fails\n"
+    return 0 if holds else 1, text
 
 
-def accuse_general(given: bytes, general: int) -> Tuple[int, bytes]:
+def accuse_general(given: bytes, job: Job) -> Tuple[int, bytes]:
     """The command accuse (FORMATS.md#the-programs-commands)."""
-    evidence = accuse(_judged(given)[1], general)
+    evidence = accuse(_judged(given, job)[1], job.numbers["general"])
     return (1, b"") if evidence is None else (0, evidence.spell())
 
 
-COMMANDS: Dict[str, Callable[[bytes], Tuple[int, bytes]]] = {
-    "decide": decide, "run": run, "judge": judge_scenario, "campaign": campaign,
-    "audit": audit, "draw": draw, "evidence": check_evidence,
+def show(given: bytes, job: Job) -> Tuple[int, bytes]:
+    """The command show (FORMATS.md#shown-text). What is not whole is of no run that is asked for."""
+    lines, is_whole = shown_lines(given)
+    if job.runs is not None:
+        _check_runs(job.runs, shown_runs(given) if is_whole else [])
+    return 0 if is_whole else 1, "".join(f"{line}\n" for line in lines).encode("ascii")
+
+
+def explain_name(job: Job) -> Tuple[int, bytes]:
+    """The command explain (FORMATS.md#words)."""
+    told = explain(os.fsencode(job.files[0]))
+    return (1, b"") if told is None else (0, told)
+
+
+def word_text(given: bytes, job: Job) -> Tuple[int, bytes]:
+    """The command words (FORMATS.md#words)."""
+    return 0, with_words(given)
+
+
+def tell_root(given: bytes, job: Job) -> Tuple[int, bytes]:
+    """The command root (FORMATS.md#seed-and-root)."""
+    return 0, root_text(given, 2 if "tall" in job.flags else 1)
+
+
+def make_header(given: bytes, job: Job) -> Tuple[int, bytes]:
+    """The command header (FORMATS.md#header-text)."""
+    return 0, header_of_text(given, job.numbers.get("slot")).spell()
+
+
+def make_bundle(header: bytes, *logs: bytes, job: Job) -> Tuple[int, bytes]:
+    """The command bundle (FORMATS.md#bundle)."""
+    exhibits = [Exhibit(general, log) for general, log in zip(job.generals, logs)]
+    return 0, bundle_of_parts(header, job.faulty or (), exhibits).spell()
+
+
+def answer_evidence(evidence: bytes, log: bytes, job: Job) -> Tuple[int, bytes]:
+    """The command answer (FORMATS.md#answer-text)."""
+    line = answer_line(evidence, log)
+    return (1, b"no answer\n") if line is None else (0, line)
+
+
+def run_ids_text(job: Job, output: bytes) -> bytes:
+    """The line with the run ids of a header, a bundle or a campaign (FORMATS.md#the-programs-answers)."""
+    if job.command == "header":
+        headers = [read_header(Cursor(output, "H9"), None)]
+    else:
+        headers = [bundle.header for bundle in _shown(output, None)[1]]
+    return ",".join(header.run_id.hex() for header in headers).encode("ascii") + b"\n"
+
+
+# What the commands do with their input, and those of several files with their inputs.
+COMMANDS: Dict[str, Callable[..., Tuple[int, bytes]]] = {
+    "decide": decide, "run": run, "judge": judge_scenario, "campaign": campaign, "audit": audit, "draw": draw,
+    "accuse": accuse_general, "evidence": check_evidence, "show": show, "explain": explain_name, "words": word_text,
+    "root": tell_root, "header": make_header, "bundle": make_bundle, "answer": answer_evidence,
 }
 
 
+def answer_job(job: Job, inputs: Sequence[bytes]) -> Answer:
+    """The status, the output and the error of a job on its inputs (FORMATS.md#the-programs-answers)."""
+    if any(len(given) > LONGEST_INPUT for given in inputs):
+        return 5, b"", b"read failed\n"
+    try:
+        status, output = COMMANDS[job.command](*inputs, job=job)
+    except Fault as fault:
+        return 3, b"", f"fault {fault.words}\n".encode("ascii")
+    return status, output, run_ids_text(job, output) if "print-run" in job.flags else b""
+
+
+def refused_text(refused: Refused) -> Answer:
+    """The answer to words that ask for no job (FORMATS.md#the-programs-answers)."""
+    return 2, b"", f"error: {refused}; for more, try '--help'\n".encode("utf-8", "backslashreplace")
+
+
 def answer_words(words: List[str], given: bytes) -> Answer:
-    """The status, the output and the error of words on an input (FORMATS.md#the-programs-answers)."""
+    """The status, the output and the error of words on an input (FORMATS.md#the-programs-answers).
+
+    No file that the words name is read; what is given stands for the bytes of each.
+    """
     try:
         job = read_words(words)
     except Asked:
         return 0, ABOUT, b""
     except Refused as refused:
-        return 2, b"", f"error: {refused}; for more, try '--help'\n".encode("utf-8", "backslashreplace")
-    if len(given) > LONGEST_INPUT:
-        return 5, b"", b"read failed\n"
-    general: Optional[int] = job.numbers.get("general")
-    try:
-        if general is not None:
-            status, output = accuse_general(given, general)
-        else:
-            status, output = COMMANDS[job.command](given)
-    except Fault as fault:
-        return 3, b"", f"fault {fault.words}\n".encode("ascii")
-    return status, output, b""
+        return refused_text(refused)
+    return answer_job(job, [given for _ in job.sources()])

@@ -110,7 +110,7 @@ class First:
         self.slot = slot
 
 
-def _read_network(lines: Lines, first: Optional[First]) -> Network:
+def read_network(lines: Lines, first: Optional[First]) -> Network:
     """The lines from `generals` to `choice` (FORMATS.md#scenario-text)."""
     generals = lines.number(lines.word(b"generals", 2)[1])
     if first is not None:
@@ -131,8 +131,8 @@ def _read_network(lines: Lines, first: Optional[First]) -> Network:
         raise lines.fault("P4 " + inner.words) from None
 
 
-def _read_seed(lines: Lines, field: bytes) -> bytes:
-    """The field HEX of a line `seed`, or P6."""
+def read_digits(lines: Lines, field: bytes) -> bytes:
+    """The field HEX of a line `seed` or `root`, or P6."""
     if len(field) != 64 or any(byte not in HEX_DIGITS for byte in field):
         raise lines.fault("P6")
     return bytes.fromhex(field.decode("ascii"))
@@ -177,7 +177,7 @@ def _read_scripts(lines: Lines, fields: List[bytes], network: Network) -> Dict[i
 
 def _read_text(lines: Lines, first: Optional[First]) -> Scenario:
     """A scenario text up to its line `end`; one of a campaign has a seed and a slot."""
-    network = _read_network(lines, first)
+    network = read_network(lines, first)
     order = lines.number(lines.word(b"order", 2)[1])
     if order >= network.orders:
         raise lines.fault("P5")
@@ -185,7 +185,7 @@ def _read_text(lines: Lines, first: Optional[First]) -> Scenario:
     seed_line = lines.line
     seed = slot = None
     if first is not None or fields[0] == b"seed":
-        seed = _read_seed(lines, lines.worded(fields, b"seed", 2)[1])
+        seed = read_digits(lines, lines.worded(fields, b"seed", 2)[1])
         if first is not None:
             first.same_seed(lines, seed)
         fields = lines.next()

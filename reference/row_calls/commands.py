@@ -4,15 +4,23 @@ from __future__ import annotations
 
 from typing import Callable, Dict, List
 
-from model.command import OPTIONS, Asked, Refused, answer_words, asks_for_job, read_words
+from model.command import OPTIONS, Answer, Asked, Refused, answer_words, asks_for_job, read_words
+from model.words import explain
 
 from .reading import Row, output_text
 
 
+# What stands for an option that is left out, where that is not 1.
+DEFAULTS = {"slot": "none"}
+
+
 def refusal_of(refused: Refused) -> str:
     """Which number of refused words is bad, or `words`."""
-    for option in ("capacity", "workers", "general"):
+    for option in ("capacity", "workers", "general", "slot"):
         if str(refused).startswith(f"--{option} takes a number from"):
+            return f"refused {option}"
+    for option in ("run", "faulty"):
+        if str(refused).startswith(f"--{option} takes ") and not str(refused).endswith(" takes a value"):
             return f"refused {option}"
     return "refused words"
 
@@ -28,8 +36,16 @@ def asked_text(row: Row) -> str:
         return refusal_of(refused)
     told: List[str] = [job.command]
     for option in OPTIONS[job.command]:
-        told += [option, str(job.numbers.get(option, 1))]
+        told += [option, str(job.numbers.get(option, DEFAULTS.get(option, 1)))]
     return " ".join(told)
+
+
+def answered(words: List[str], given: bytes) -> Answer:
+    """The answer of a job to an input. That of `explain` is the name; the program takes it from the words."""
+    if words[0] != "explain":
+        return answer_words(words, given)
+    told = explain(given)
+    return (1, b"", b"") if told is None else (0, told, b"")
 
 
 def command_text(row: Row) -> str:
@@ -42,8 +58,8 @@ def command_text(row: Row) -> str:
     for words in said.split(" | "):
         if not asks_for_job(words.split()):
             return "2"
-        status, given, error = answer_words(words.split(), given)
-        if error:
+        status, given, error = answered(words.split(), given)
+        if error and status > 1:
             return f"{status} {error.decode('ascii').rstrip()}"
     return f"{status} {output_text(given)}"
 

@@ -5,6 +5,7 @@ from __future__ import annotations
 import hashlib
 from typing import Callable, Dict, Iterator, List, Optional, Tuple
 
+from model.answering import own_log, refuted
 from model.audit import Report, judge
 from model.bundle import CAMPAIGN_MARK, Bundle, Exhibit, read_bundle, read_campaign, spell_campaign
 from model.convict import convicted, rivals
@@ -94,51 +95,17 @@ def evidence(data: bytes) -> str:
     return f"slot {told.header.slot} / {accusation(told.accused, told.claim)} / {holds}"
 
 
-def own_log(data: bytes, header: Header, general: int) -> Optional[Log]:
-    """The log that a general could have kept of a run by following, and sealed."""
-    try:
-        log = read_log(data, header)
-    except Fault:
-        return None
-    is_own = log.run_id == header.run_id and log.general == general and log.sealed(header, general)
-    return log if is_own and departs(header.network, general, log.entries) is None else None
-
-
-def has_text(log: Log, text: Text) -> bool:
-    """Whether a log has a statement as a SIGN, or a head as its own."""
-    if isinstance(text, Head):
-        return text == Head(len(log.entries), log.last_link())
-    return any(isinstance(entry, Sign) and (entry.order, entry.path) == (text.order, text.path) for entry in log.entries)
-
-
-def head_in(data: bytes, header: Header) -> Signed:
-    """The head of a log with its signature."""
-    log = read_log(data, header)
-    return Signed(Head(len(log.entries), log.last_link()), log.signature)
-
-
-def texts_of(told: Evidence) -> List[Signed]:
-    """The texts of the run of the evidence by which a claim convicts, in the order in which they are looked for in a log."""
-    claim = told.claim
-    if isinstance(claim, (TwoTexts, TwoOrders)):
-        return [claim.first, claim.second]
-    if isinstance(claim, Missing):
-        return [claim.signed, head_in(claim.log, told.header)]
-    assert isinstance(claim, Departing)
-    return [head_in(claim.log, told.header)]
-
-
 def forged_by(told: Evidence, data: bytes) -> Optional[Signed]:
     """The text of evidence that a log of the accused hasn't, where the accused kept this log (PROMISES.md#refute)."""
     claim = told.claim
     own = own_log(data, told.header, told.accused)
-    if isinstance(claim, Across):
-        if own is not None:
-            return claim.second
-        return None if own_log(data, claim.other, told.accused) is None else claim.first
-    if own is None:
-        return None
-    return next(signed for signed in texts_of(told) if not has_text(own, signed.text))
+    if own is not None:
+        found = refuted(told, own)
+        assert isinstance(found, Signed)
+        return found
+    if isinstance(claim, Across) and own_log(data, claim.other, told.accused) is not None:
+        return claim.first
+    return None
 
 
 def refute(row: Row) -> str:
@@ -232,34 +199,11 @@ FORMS: Dict[str, Callable[[bytes], str]] = {
 }
 
 
-def told_by(form: str, data: bytes) -> str:
-    """What bytes of a form are, or their fault."""
-    try:
-        return FORMS[form](data)
-    except Fault as fault:
-        return fault.words
-
-
 def on_bytes(form: str) -> Callable[[Row], str]:
     """The call that says what bytes of a form are."""
-    return lambda row: told_by(form, row.bytes())
-
-
-def cuts_of(form: str) -> Callable[[Row], str]:
-    """The call that says what the beginnings of bytes are, each answer once behind the least length that has it."""
-    def cuts(row: Row) -> str:
-        start, end, data = row.number(), row.number(), row.bytes()
-        lines: List[str] = []
-        before = ""
-        for length in range(start, end):
-            told = told_by(form, data[:length])
-            lines += [f"{length} {told}"] if told != before else []
-            before = told
-        return " / ".join(lines)
-    return cuts
+    return lambda row: FORMS[form](row.bytes())
 
 
 # The reference's answer to each call.
 CALLS: Dict[str, Callable[[Row], str]] = {"report": report, "departs": departs_at, "refute": refute}
 CALLS.update({form: on_bytes(form) for form in FORMS})
-CALLS.update({f"cuts_of_{form}": cuts_of(form) for form in FORMS})

@@ -4,7 +4,7 @@ from __future__ import annotations
 
 import hashlib
 import os
-from typing import Dict, Iterable, List, Sequence
+from typing import Dict, Iterable, List, Optional, Sequence
 
 from model.faults import Cursor
 from model.network import Header, read_header
@@ -50,8 +50,12 @@ def piece_of(names: Dict[str, bytes], token: Token) -> bytes:
 class Row:
     """What is left of a row to be read, and the names above it."""
 
-    def __init__(self, names: Dict[str, bytes], tokens: Sequence[Token]) -> None:
-        self.names, self.rest = names, list(tokens)
+    def __init__(self, names: Dict[str, bytes], tokens: Sequence[Token], length: Optional[int] = None) -> None:
+        self.names, self.rest, self.length = names, list(tokens), length
+
+    def cut(self, length: int) -> Row:
+        """What is left of the row, with so many of the bytes behind its words."""
+        return Row(self.names, self.rest, length)
 
     def word(self) -> str:
         """The next word or text as it stands."""
@@ -72,7 +76,7 @@ class Row:
     def bytes(self) -> bytes:
         """The bytes of all pieces that are left."""
         left, self.rest = self.rest, []
-        return b"".join(piece_of(self.names, token) for token in left)
+        return b"".join(piece_of(self.names, token) for token in left)[:self.length]
 
 
 def header_in(data: bytes) -> Header:

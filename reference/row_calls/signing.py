@@ -2,12 +2,11 @@
 
 from __future__ import annotations
 
-from itertools import groupby
-from typing import Any, Callable, Dict, Iterable, Tuple
+from typing import Any, Callable, Dict, Tuple
 
 from model import keys
 from model.chain import Chain, read_chain
-from model.faults import Cursor, Fault
+from model.faults import Cursor
 from model.log import Recv, Send, Sign, Start, last_link, read_log
 from model.network import Header, Path
 
@@ -188,38 +187,9 @@ def has_sign(row: Row) -> str:
     return yes(any(isinstance(entry, Sign) and (entry.order, entry.path) == (order, path) for entry in entries))
 
 
-# Beginnings.
-
-
-def fault_of(read: Callable[[bytes], Any], data: bytes) -> str:
-    """The fault of bytes, or `read`."""
-    try:
-        read(data)
-    except Fault as fault:
-        return fault.words
-    return "read"
-
-
-def runs_text(faults: Iterable[str]) -> str:
-    """Faults in their order, each with how many stand side by side."""
-    return ", ".join(f"{fault} {len(list(same))}" for fault, same in groupby(faults)) or "-"
-
-
-def cuts_of_chain(row: Row) -> str:
-    """`cuts_of_chain VERSION COUNT PIECES`."""
-    height, count, data = keys.height_of(row.number()), row.number(), row.bytes()
-    return runs_text(fault_of(lambda cut: chain_in(cut, height), data[:end]) for end in range(count))
-
-
-def cuts_of_log(row: Row) -> str:
-    """`cuts_of_log HEADER COUNT PIECES`."""
-    header, count, data = row.header(), row.number(), row.bytes()
-    return runs_text(fault_of(lambda cut: read_log(cut, header), data[:end]) for end in range(count))
-
-
 # The reference's answer to each call.
 CALLS: Dict[str, Callable[[Row], str]] = {
     "seed": seed, "root": root, "leaf_value": leaf_value, "signature": signature, "verify": verify, "leaves": leaves,
     "statement": statement, "head": head, "chain": chain, "chain_verifies": chain_verifies, "signed": signed,
     "chain_of": chain_of, "log": log, "head_verifies": head_verifies, "links": links, "lengths": lengths,
-    "has_sign": has_sign, "cuts_of_chain": cuts_of_chain, "cuts_of_log": cuts_of_log}
+    "has_sign": has_sign}

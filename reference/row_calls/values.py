@@ -99,27 +99,9 @@ def marks_in(row: Row) -> List[bytes]:
     return [row.word().encode("ascii") for _ in range(2)]
 
 
-def cuts(read: Callable[[bytes], str], data: bytes) -> str:
-    """What the proper beginnings of bytes are, with how many are so."""
-    counted: Dict[str, int] = {}
-    for end in range(len(data)):
-        try:
-            said = read(data[:end])
-        except Fault as fault:
-            said = fault.words
-        counted[said] = counted.get(said, 0) + 1
-    return ", ".join(f"{said} {times}" for said, times in counted.items()) or "-"
-
-
 def front_of(row: Row) -> str:
     """The mark and the header in front of bytes."""
     return front_at(marks_in(row), row.bytes())
-
-
-def cuts_of_front(row: Row) -> str:
-    """What the proper beginnings of a mark and a header are."""
-    marks = marks_in(row)
-    return cuts(lambda data: front_at(marks, data), row.bytes())
 
 
 # Script lines.
@@ -271,8 +253,6 @@ CALLS: Dict[str, Callable[[Row], str]] = {
     "fields": fields_of,
     "header": lambda row: header_at(row.bytes()),
     "front": front_of,
-    "cuts_of_header": lambda row: cuts(header_at, row.bytes()),
-    "cuts_of_front": cuts_of_front,
     "script": script_line,
     "walks": made_walks,
     "check_walks": checked_walks,

@@ -8,6 +8,7 @@ from functools import lru_cache
 from typing import Any, Callable, Dict, List, Sequence, Tuple, Union
 
 import sm
+from model.command import answer_job, job_asked
 from model.faults import Fault
 
 TOP = os.path.dirname(os.path.dirname(os.path.dirname(os.path.abspath(__file__))))
@@ -46,9 +47,23 @@ def made(words: Tuple[str, ...], data: bytes) -> bytes:
     return sm.answer(list(words), data)[1]
 
 
+def files_of(vector: Vector) -> Dict[str, bytes]:
+    """The files of a vector, by the names that its words have."""
+    return {name: spread(pieces) for name, pieces in vector.get("files", {}).items()}
+
+
+def answer_of(vector: Vector) -> Tuple[int, bytes, bytes]:
+    """The reference's answer to the words of a vector, whose files need not be on the disk."""
+    files = files_of(vector)
+    job = job_asked(vector["words"])
+    if not files or job is None:
+        return sm.answer(vector["words"], bytes_of(vector))
+    return answer_job(job, [files[name] for name in job.sources()])
+
+
 def output_of(piece: Vector) -> bytes:
     """The output of the command that a piece is."""
-    return made(tuple(piece["words"]), bytes_of(piece))
+    return answer_of(piece)[1] if "files" in piece else made(tuple(piece["words"]), bytes_of(piece))
 
 
 def packed(data: bytes) -> List[Piece]:
@@ -87,7 +102,7 @@ def given_as(data: Union[str, bytes, List[Piece]]) -> Vector:
 
 def bytes_of(vector: Vector) -> bytes:
     """The input of a vector."""
-    return vector["text"].encode("ascii") if "text" in vector else spread(vector["input"])
+    return vector["text"].encode("ascii") if "text" in vector else spread(vector.get("input", []))
 
 
 # Vectors.
@@ -102,8 +117,17 @@ def output_as(output: bytes) -> Any:
 
 def command(about: str, words: str, data: Union[str, bytes, List[Piece]], **more: Any) -> Vector:
     """A whole command, with its status and its output or its fault."""
-    vector: Vector = {"about": about, "words": words.split(" "), **given_as(data), **more}
-    status, output, error = sm.answer(vector["words"], bytes_of(vector))
+    return answered({"about": about, "words": words.split(" "), **given_as(data), **more})
+
+
+def command_of_files(about: str, words: str, files: Dict[str, Sequence[Piece]]) -> Vector:
+    """A whole command whose words name these files, with its status and its output or its fault."""
+    return answered({"about": about, "words": words.split(" "), "files": files})
+
+
+def answered(vector: Vector) -> Vector:
+    """A whole command with its status and its output or its fault."""
+    status, output, error = answer_of(vector)
     vector["status"] = status
     if status == 3:
         vector["fault"] = error.decode("ascii")[len("fault "):-1]

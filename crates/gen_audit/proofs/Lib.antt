@@ -7,6 +7,7 @@ pub mod BundleLaws
 pub mod BundleParts
 pub mod Claims
 pub mod Collecting
+pub mod Dealt
 pub mod Decided
 pub mod Deciders
 pub mod Deciding
@@ -14,9 +15,11 @@ pub mod FirstUnsigned
 pub mod Fit
 pub mod Following
 pub mod InputEnds
+pub mod Joined
 pub mod Judging
 pub mod Keeping
 pub mod LocalFinds
+pub mod Reporting
 pub mod RunBundles
 pub mod Sorted
 pub mod Supporting

@@ -9,7 +9,7 @@ use Rattle.gen_types.specs.Ascending.{IsListOf}
 use Rattle.gen_types.proofs.Lists.{Contains_filtered, Contains_here, Contains_cases, Contains_nil, below_or_least, ascending_one}
 use Rattle.gen_net.specs.Network.{Network, IsLoyal}
 use Rattle.gen_net.specs.Header.{RunHeader, run_id_of}
-use Rattle.gen_net.specs.Log.{LogEntry}
+use Rattle.gen_net.specs.Log.{LogEntry, Keeps}
 use Rattle.gen_net.specs.Departs.{IsFollowersLog, DepartsAt}
 use Rattle.gen_core.proofs.Decisions.{list_below}
 use Rattle.gen_walks.specs.Walks.{BoundsDiameter}
@@ -30,7 +30,7 @@ use Rattle.gen_match.specs.declared.finding.Finding.{Finding}
 use Rattle.gen_match.specs.declared.finding.Finding.TheVariants.{Missing, Several, Unreadable, Foreign, Unsigned, Unsealed, Departs, Unmatched, Underivable, Unjoined, Nobody}
 use Rattle.gen_audit.specs.Bundle.{Bundle, IsBundle, exhibits_of, counted, sole_log, logs_of}
 use Rattle.gen_audit.specs.Findings.{Shows, ShowsOwn, IsFinding}
-use Rattle.gen_audit.specs.Supported.{HasSoleLog, IsSupported, IsClean, CleanIsSupported, SupportedIsClean, CleanAgrees, AgreeOn}
+use Rattle.gen_audit.specs.Supported.{HasSoleLog, IsSupported, IsClean, CleanIsSupported, SupportedIsClean, SupportedShowsRun, CleanAgrees, AgreeOn}
 use Rattle.gen_audit.proofs.Claims.{nothing_found_explains, explained_finds_nothing}
 use Rattle.gen_audit.proofs.Agreeing.{few_faulty_agree}
 use Rattle.gen_audit.proofs.Deciding.{Dec}
@@ -240,3 +240,27 @@ clean_is_supported b bundle = ((λ clean. supported b bundle clean), (λ s. none
 
 pub clean_agrees : CleanAgrees
 clean_agrees b bundle clean few = agrees b (supported b bundle clean) few
+
+-- ---- what is shown is of one run
+one_log : (x y : List LogEntry) → Some x ≡ Some y → x ≡ y
+one_log x y e = cc
+
+pub supported_shows_run : SupportedShowsRun
+supported_shows_run b s =
+    let e = s.explained in (
+      e.run,
+      e.conducts,
+      e.signed,
+      λ g rest.
+          let one = s.each g rest in
+          let kept = e.keeps g rest in
+          let same : kept.0 ≡ map erase one.log.entries = one_log kept.0 (map erase one.log.entries) (sym kept.1 ∙ counts b g one.exhibit one.log one.sole one.reads one.verifies.says) in
+          record {
+            exhibit = one.exhibit;
+            sole = one.sole;
+            log = one.log;
+            reads = one.reads;
+            verifies = one.verifies;
+            keeps = subst (Keeps b.header.network e.run g (e.conducts g)) same kept.2;
+          },
+    )

@@ -1,4 +1,5 @@
 pub mod Agreement
+pub mod Answers
 pub mod Behind
 pub mod Bundle
 pub mod BundleFields
@@ -7,12 +8,15 @@ pub mod BundleParts
 pub mod BundleReading
 pub mod BundleSpelling
 pub mod Collecting
+pub mod Counts
 pub mod Ends
 pub mod Explained
+pub mod Faults
 pub mod Findings
 pub mod Headline
 pub mod Judgement
 pub mod LocalFindings
+pub mod Loops
 pub mod Sorting
 pub mod Supported
 pub mod Telling

@@ -1,7 +1,12 @@
 -- When a bundle supports a yes: what its logs have to be, without how that is tested.
 use Rattle.std.specs.Prelude.{ℕ, ◌≡◌, ◌≤◌, ◌↔◌, List, [], ◌∷◌, length, Ok}
 use Rattle.gen_types.specs.Ascending.{IsListOf}
+use Rattle.gen_net.specs.Follows.{Conduct}
+use Rattle.gen_net.specs.Log.{Keeps}
+use Rattle.gen_net.specs.Run.{Run}
+use Rattle.gen_net.specs.Signed.{IsSignedRun}
 use Rattle.gen_walks.specs.Walks.{BoundsDiameter}
+use Rattle.gen_local.specs.Erased.{erased}
 use Rattle.gen_log.specs.Log.{RunLog}
 use Rattle.gen_log.specs.LogReading.{log_of}
 use Rattle.gen_log.specs.Verifying.{LogVerifies}
@@ -30,6 +35,24 @@ pub record IsSupported (b : Bundle) : Type 0 where
   pub of_rest : IsListOf rest (IsOfRest b)
   pub bound : BoundsDiameter b.header.network rest b.walks
   pub explained : IsExplained b.header.network b.faulty (logs_of b)
+
+-- g has one exhibit. Its bytes read as a log that verifies, and the log has exactly the entries that g keeps
+-- in the run by its conduct.
+pub record ShowsOf (b : Bundle) (run : Run) (conduct : Conduct) (g : ℕ) : Type 0 where
+  pub exhibit : LogBytes
+  pub sole : exhibits_of b.exhibits g ≡ exhibit ∷ []
+  pub log : RunLog
+  pub reads : log_of b.header exhibit.bytes ≡ Ok log
+  pub verifies : LogVerifies b.header g log
+  pub keeps : Keeps b.header.network run g conduct (erased log.entries)
+
+-- If a bundle supports a yes, there is a run in which nobody forges a signature of the rest, and each of the
+-- rest shows its log of that run.
+abbrev pub SupportedShowsRun : Type 0
+SupportedShowsRun =
+    (b : Bundle) → IsSupported b → (run : Run) × (conducts : ℕ → Conduct)
+    × IsSignedRun b.header.network b.faulty run conducts
+    × ((g : ℕ) → IsOfRest b g → ShowsOf b run (conducts g) g)
 
 -- nothing is found in the bundle
 abbrev pub IsClean : Bundle → Type 0

@@ -1,10 +1,11 @@
 //! The audit of a bundle.
-ghost use Rattle.std.specs.Prelude.{◌≡◌, IfOk, IfSome, IfNone, map};
+ghost use Rattle.std.specs.Prelude.{◌≡◌, IfErr, IfOk, IfSome, IfNone, map};
 ghost use Rattle.gen_types.specs.Ascending.{IsListOf};
 ghost use Rattle.gen_convict.specs.Convictions.{AreConvictions, AreEvidence, ConvictsWhereHeld};
 ghost use Rattle.gen_convict.specs.Evidence.{told_of};
 ghost use Rattle.gen_audit.specs.Bundle.{IsBundle};
 ghost use Rattle.gen_audit.specs.Collecting.{DecidesIn, IsOwnOf};
+ghost use Rattle.gen_audit.specs.Faults.{IsFaultBy};
 ghost use Rattle.gen_audit.specs.Findings.{IsOfRest};
 ghost use Rattle.gen_audit.specs.Headline.{Headline};
 ghost use Rattle.gen_audit.specs.Supported.{AgreeOn, HasFew, IsClean};
@@ -12,13 +13,16 @@ ghost use Rattle.gen_audit.specs.Telling.{AreReports};
 ghost use Rattle.gen_audit.specs.Verdict.{AreDecisions, IsDecision, IsVerdict};
 
 use crate::bundles::Bundle;
+use crate::counts::WorkerCount;
+use crate::faults::AuditFault;
 use crate::findings_collected::findings_in;
+use crate::gates::JobGate;
+use crate::reports::reports_by_workers;
 use crate::verdicts::{Decisions, Findings, Judgement, Verdict};
 use gen_convict::{Evidence, find_evidence};
 use gen_local::{LocalReport, Reading};
 use gen_scenario::Decision;
 use gen_types::{GeneralNo, GeneralSet, OrderNo};
-use gen_workers::{AuditFault, JobGate, WorkerCount, reports_by_workers};
 use std::alloc::{AllocError, Global};
 use std::sync::Wait;
 use std::thread::Threads;
@@ -31,7 +35,8 @@ fn reports_of_all<R: Threads + Wait + Sync, G: JobGate + Sync>(
     workers: WorkerCount,
     gate: &G,
 ) -> Result<Vec<LocalReport>, AuditFault>
-    ensures { IfOk result (λ reports. AreReports bundle.now reports.items) }
+    ensures reports { IfOk result (λ reports. AreReports bundle.now reports.items) }
+    ensures fault { IfErr result (IsFaultBy workers) }
 {
     reports_by_workers(rt, alloc, bundle.header(), bundle.exhibits(), workers, gate)
 }
@@ -208,12 +213,12 @@ pub fn judge_reports(
 /// Piece i is exhibit i, counted from 0. Of W workers, worker w takes the pieces w, w + W, w + 2W and so on. It reads
 /// each log, verifies its signatures and hashes its links. The first worker runs in the calling thread, each other
 /// worker in a thread of its own; one worker alone starts no thread. The gate is called for each piece by the worker
-/// that takes it. A worker calls the gate for four of its pieces in a row before it works on them.
+/// that takes it. A worker calls the gate for up to `LANES` of its pieces in a row before it works on them.
 ///
 /// # Errors
 ///
-/// `Memory` if memory was refused to any worker; otherwise `Thread` if a thread could not be started, for whatever
-/// reason. All threads have ended then.
+/// `Memory` if memory was refused to the caller or to any worker; otherwise `Thread` if a thread could not be started,
+/// for whatever reason. So one worker never answers `Thread`. All threads have ended then.
 pub fn audit<R: Threads + Wait + Sync, G: JobGate + Sync>(
     rt: &R,
     alloc: Global,
@@ -239,6 +244,8 @@ pub fn audit<R: Threads + Wait + Sync, G: JobGate + Sync>(
     // Each conviction can be written as evidence.
     ensures lawful { IfOk result (λ judgement.
         AreEvidence bundle.now.header (map told_of judgement.convictions.items)) }
+    // Only an audit by several workers answers that a thread could not be started.
+    ensures fault { IfErr result (IsFaultBy workers) }
 {
     let reports = reports_of_all(rt, alloc, bundle, workers, gate)?;
     Ok(judge_reports(alloc, bundle, reports.as_slice())?)

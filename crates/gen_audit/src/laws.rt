@@ -11,7 +11,7 @@ ghost use Rattle.gen_audit.specs.Explained.{ExplainedFindsNothing, NothingFoundE
 ghost use Rattle.gen_audit.specs.Headline.{HeadlineHolds};
 ghost use Rattle.gen_audit.specs.Judgement.{OneJudgement};
 ghost use Rattle.gen_audit.specs.LocalFindings.{ReportsFindLocal};
-ghost use Rattle.gen_audit.specs.Supported.{CleanAgrees, CleanIsSupported, SupportedIsClean};
+ghost use Rattle.gen_audit.specs.Supported.{CleanAgrees, CleanIsSupported, SupportedIsClean, SupportedShowsRun};
 ghost use Rattle.gen_audit.specs.Telling.{ReportsTellLogs};
 ghost use Rattle.gen_audit.specs.Verdict.{EachDecidedOnce, OneVerdict, VerdictExists};
 ghost use Rattle.gen_audit.specs.WorldBundle.{LogsMakeBundle, ShownAreLogs, WorldIsAccepted, WorldIsBundle, WorldIsSupported, WorldMakesBundle};
@@ -37,10 +37,12 @@ pub fn runs_have_logs()
 /// States that nothing is found in a bundle if and only if the bundle supports a yes (`exactly`). A bundle supports a
 /// yes by four conditions. At least one general is of the rest. Each of the rest has one log, which verifies. The walks
 /// bound the diameter of the rest. One run explains the logs. Nothing is found in anything that supports a yes, even if
-/// it is no lawful bundle (`clean`).
+/// it is no lawful bundle (`clean`). If a bundle supports a yes, there is a run in which nobody forges a signature of the
+/// rest, and the one log that each of the rest shows has exactly the entries that it keeps in that run (`run`).
 pub fn clean_is_supported()
     ensures exactly { CleanIsSupported }
     ensures clean { SupportedIsClean }
+    ensures run { SupportedShowsRun }
 {}
 
 /// States that the logs of a bundle in which nothing is found agree on an order, if at most m generals are held for

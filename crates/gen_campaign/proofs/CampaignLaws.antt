@@ -1,15 +1,13 @@
 -- The laws of reading what is shown of a campaign.
-use Rattle.std.proofs.Common.{◌≡◌, ℕ, ◌^◌, Bool, true, false, cond, eqb, eqb-true, ◌&&◌, nat_lt, nat_le, List, [], ◌∷◌, ◌++◌, length, take, drop, AllPairs, Result, Ok, Err, refl, sym, ap, subst, ◌∙◌, append_assoc, arith}
+use Rattle.std.proofs.Common.{◌≡◌, ℕ, ◌^◌, Bool, true, false, cond, eqb, eqb-true, nat_lt, List, [], ◌∷◌, ◌++◌, length, take, drop, AllPairs, Result, Ok, Err, refl, sym, ap, subst, ◌∙◌, append_assoc, arith}
 use Rattle.std.specs.List.{flat_map}
 use Rattle.std.specs.Int.{w32, to_be_bytes, from_be_bytes, byte_len}
-use Rattle.std.proofs.lemmas.Bool.{leb-true, le-leb}
 use Rattle.std.proofs.lemmas.List.{append-nil}
 use Rattle.std.proofs.lemmas.List.Concat.{flat_map-cons}
 use Rattle.gen_types.specs.Reading.{◌>>=◌, check, map_fault}
 use Rattle.gen_types.specs.Bytes.{byte_at, number_at}
 use Rattle.gen_types.specs.Spelled.{Spells}
 use Rattle.gen_types.proofs.ByteFields.{IsBytes, Takes, Takes-then, byte_takes, number_takes, number_again, wide32}
-use Rattle.gen_types.proofs.Decimals.{both}
 use Rattle.gen_types.proofs.ManyFields.{Reads}
 use Rattle.gen_types.proofs.Steps.{after, after_check, at_end, guard_ok}
 use Rattle.gen_types.proofs.Wrapped.{mapped_reads}
@@ -26,15 +24,12 @@ use Rattle.gen_audit.proofs.BundleLaws.{bundles_read}
 use Rattle.gen_audit.proofs.InputEnds.{goes_on}
 use Rattle.gen_campaign.specs.declared.campaign_fault.CampaignFault.{CampaignFault}
 use Rattle.gen_campaign.specs.declared.campaign_fault.CampaignFault.TheVariants as faults
-use Rattle.gen_campaign.specs.Campaign.{CampaignBundle, JoinsRun, AreRuns, IsCampaign, fewest_runs, most_runs}
+use Rattle.gen_campaign.specs.Campaign.{CampaignBundle, JoinsRun, AreRuns, IsCampaign, is_run_count}
 use Rattle.gen_campaign.specs.CampaignSpelling.{campaign_mark, campaign_spelling}
-use Rattle.gen_campaign.specs.CampaignReading.{runs_at, is_run_count, several_at, sole_at, alone_at, says_several, is_marked, campaign_at, left_over, whole_campaign}
+use Rattle.gen_campaign.specs.CampaignReading.{runs_at, several_at, sole_at, alone_at, says_several, is_marked, campaign_at, left_over, whole_campaign}
 use Rattle.gen_campaign.specs.OneBundle.{shown_alone, OneBundleAsBefore}
+use Rattle.gen_campaign.proofs.RunCounts.{count_fits, count_known}
 use Rattle.gen_campaign.proofs.RunLaws.{behind_mark, mark_first, Stand, stand_each, stand_joined, stand_told, runs_take, runs_again}
-
-and_so : (a b : Bool) → a ≡ true → b ≡ true → (a && b) ≡ true
-and_so true b e f = f
-and_so false b e f = absurd cc
 
 abbrev CampaignTaken : List ℕ → CampaignBundle × List ℕ → Type 0
 CampaignTaken bytes x = Takes bytes (campaign_spelling x.0) x.1 × IsCampaign x.0
@@ -46,13 +41,11 @@ mark_bytes = to_be_bytes w32 campaign_mark
 
 runs_known : (bundles : List Bundle) (count : ℕ) → is_run_count count ≡ true → length bundles ≡ count → Stand [] bundles → AreRuns bundles
 runs_known bundles count known same s =
-    let p = both (nat_le fewest_runs count) (nat_le count most_runs) known in
-    let some = leb-true fewest_runs count p.0 in
-    let few = leb-true count most_runs p.1 in
+    let range = count_known count known in
     let none : AllPairs JoinsRun [] = λ i j d l m. absurd (omega (arith, l, m)) in
     record {
-      some = omega (arith, some, same);
-      few = omega (arith, few, same);
+      some = omega (arith, range.0, same);
+      few = omega (arith, range.1, same);
       each = stand_each [] bundles s;
       joined = stand_joined [] bundles none s;
     }
@@ -81,7 +74,7 @@ runs_from count bytes x fits known e =
 several_again : (bundles : List Bundle) (rest : List ℕ) → AreRuns bundles → several_at (length bundles ∷ (flat_map bundle_spelling bundles ++ rest)) ≡ Ok (record { alone = false; bundles = bundles }, rest)
 unfolding several_at
 several_again bundles rest are =
-    let known : is_run_count (length bundles) ≡ true = and_so (nat_le fewest_runs (length bundles)) (nat_le (length bundles) most_runs) (le-leb fewest_runs (length bundles) are.some) (le-leb (length bundles) most_runs are.few) in
+    let known : is_run_count (length bundles) ≡ true = count_fits (length bundles) are.some are.few in
     let runs = runs_again [] bundles rest (stand_told [] bundles are.each are.joined) in
     rw (known, runs) refl
 

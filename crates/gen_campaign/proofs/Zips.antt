@@ -1,17 +1,18 @@
 -- Two lists side by side, which grow at the end, and what the reports of bundles show.
-use Rattle.std.proofs.Common.{◌≡◌, ℕ, suc, ◌+◌, ◌<◌, List, [], ◌∷◌, ◌++◌, length, map, take, get_or, inl, inr, refl, sym, ap, subst, ◌∙◌}
+use Rattle.std.proofs.Common.{◌≡◌, ℕ, zero, suc, ◌+◌, ◌<◌, List, [], ◌∷◌, ◌++◌, length, map, take, get_or, inl, inr, refl, sym, ap, subst, ◌∙◌, arith}
 use Rattle.std.specs.List.{AllZip}
 use Rattle.std.proofs.lemmas.List.{take_more}
 use Rattle.gen_types.specs.Members.{Contains_cases, Contains_nil}
 use Rattle.gen_net.specs.Header.{RunHeader}
 use Rattle.gen_log.specs.Writing.{LogBytes}
-use Rattle.gen_local.specs.Report.{LocalReport}
+use Rattle.gen_local.specs.Report.{AreReportsOf, LocalReport}
 use Rattle.gen_convict.specs.Across.{ShownRun}
 use Rattle.gen_convict.specs.AcrossFinding.{RunReports, runs_of}
 use Rattle.gen_convict.specs.AcrossLaws.{AreUnderHeaders, shown_runs}
 use Rattle.gen_convict.specs.Convictions.{AreUnderHeader}
 use Rattle.gen_audit.specs.Bundle.{Bundle}
 use Rattle.gen_audit.specs.Telling.{AreReports}
+use Rattle.gen_audit.proofs.Telling.{are_reports}
 use Rattle.gen_campaign.specs.Judged.{shown_bundle, shown_bundles}
 
 module _ {A B : Type 0} where
@@ -28,8 +29,20 @@ module _ {A B : Type 0} where
 
 -- ---- the reports of bundles
 
+-- the step of a loop that makes them, bundle by bundle
+pub reports_more : (bundles : List Bundle) (lists : List (List LocalReport)) (i : ℕ) (b : Bundle) (reports : List LocalReport) → i < length bundles → b ≡ get_or bundles i b → AllZip AreReports (take i bundles) lists
+    → AreReportsOf b.header b.exhibits reports → AllZip AreReports (take (i + 1) bundles) (lists ++ reports ∷ [])
+reports_more bundles lists i b reports lt is before made = zip_more AreReports bundles lists i b reports lt is before (are_reports b reports made)
+
 abbrev pub headers_in : List Bundle → List RunHeader
 headers_in bundles = map (λ b. b.header) bundles
+
+-- those in the place of a bundle are the bundle's
+pub reports_there : {V : Type 0} (bundles : List Bundle) (seen : List V) (f : V → List LocalReport) (k : ℕ) (b : Bundle) (v : V) → AllZip AreReports bundles (map f seen) → k < length bundles → b ≡ get_or bundles k b → v ≡ get_or seen k v → AreReports b (f v)
+reports_there [] seen f k b v h lt is at = absurd (omega (arith, lt))
+reports_there (x ∷ bundles) [] f k b v h lt is at = absurd h
+reports_there (x ∷ bundles) (s ∷ seen) f zero b v h lt is at = subst (λ (y : Bundle). AreReports y (f v)) (sym is) (subst (λ w. AreReports x (f w)) (sym at) h.0)
+reports_there (x ∷ bundles) (s ∷ seen) f (suc k) b v h lt is at = reports_there bundles seen f k b v h.1 (omega (arith, lt)) is at
 
 -- they show what the bundles show
 pub same_shown : (bundles : List Bundle) (lists : List (List LocalReport)) → AllZip AreReports bundles lists → shown_runs (runs_of (headers_in bundles) lists) ≡ shown_bundles bundles

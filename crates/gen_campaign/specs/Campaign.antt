@@ -1,5 +1,5 @@
 -- What is shown of a campaign: the bundles of its runs, or a bundle that stands alone.
-use Rattle.std.specs.Prelude.{ℕ, ◌≡◌, ◌≢◌, ◌≤◌, Bool, true, false, List, [], ◌∷◌, length, All, AllPairs}
+use Rattle.std.specs.Prelude.{ℕ, ◌≡◌, ◌≢◌, ◌≤◌, ◌&&◌, nat_le, Bool, true, false, List, [], ◌∷◌, length, All, AllPairs}
 use Rattle.gen_net.specs.declared.version.Version.{Version}
 use Rattle.gen_net.specs.declared.version.Version.TheVariants.{One, Two}
 use Rattle.gen_net.specs.Header.{RunHeader, slot_of}
@@ -16,6 +16,10 @@ fewest_runs = 1
 
 abbrev pub most_runs : ℕ
 most_runs = 4
+
+-- a campaign may have this many runs
+abbrev pub is_run_count : ℕ → Bool
+is_run_count count = nat_le fewest_runs count && nat_le count most_runs
 
 -- A run with the header h may stand behind a run with the header before. Both have the same number of
 -- generals and the same roots, the slot is not less, and the headers differ.

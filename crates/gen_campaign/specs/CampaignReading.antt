@@ -13,7 +13,7 @@ use Rattle.gen_audit.specs.BundleReading.{bundle_at}
 use Rattle.gen_audit.specs.BundleSpelling.{bundle_marks}
 use Rattle.gen_campaign.specs.declared.campaign_fault.CampaignFault.{CampaignFault}
 use Rattle.gen_campaign.specs.declared.campaign_fault.CampaignFault.TheVariants as faults
-use Rattle.gen_campaign.specs.Campaign.{CampaignBundle, fewest_runs, most_runs}
+use Rattle.gen_campaign.specs.Campaign.{CampaignBundle, is_run_count}
 use Rattle.gen_campaign.specs.CampaignSpelling.{campaign_mark}
 
 -- a bundle of version 2, and the bytes after it
@@ -55,10 +55,6 @@ runs_at before (suc n) bytes = do
   run ← run_at before bytes
   others ← runs_at (before ++ run.0 ∷ []) n run.1
   Ok (run.0 ∷ others.0, others.1)
-
--- a campaign may have this many runs
-abbrev pub is_run_count : ℕ → Bool
-is_run_count count = nat_le fewest_runs count && nat_le count most_runs
 
 -- the number of runs, and then the runs; and the bytes after them
 unfoldable pub several_at : List ℕ → Result (CampaignBundle × List ℕ) CampaignFault

@@ -1,6 +1,14 @@
 pub mod Campaign
+pub mod CampaignMaking
+pub mod CampaignPlaces
 pub mod CampaignReading
 pub mod CampaignSpelling
+pub mod CampaignText
+pub mod CampaignTextReading
+pub mod CampaignVerdictText
 pub mod JoinsTested
 pub mod Judged
+pub mod Leaves
 pub mod OneBundle
+pub mod OneText
+pub mod Series

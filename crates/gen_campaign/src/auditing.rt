@@ -1,141 +1,50 @@
 //! The audit of a campaign.
-ghost use Rattle.std.specs.Prelude.{◌≡◌, ◌++◌, [], ◌∷◌, true, IfOk, OnOk, map};
+ghost use Rattle.std.specs.Prelude.{◌≡◌, ◌++◌, ◌∷◌, [], true, IfErr, IfOk, OnOk, map};
 ghost use Rattle.std.specs.List.{AllZip};
-ghost use Rattle.gen_convict.specs.AcrossLaws.{AreConvictedAcross, AreEvidenceAcross};
+ghost use Rattle.gen_convict.specs.AcrossLaws.{AreConvictedAcross, AreEvidenceAcross, ConvictsAcrossWhereHeld};
 ghost use Rattle.gen_convict.specs.Evidence.{told_of};
+ghost use Rattle.gen_audit.specs.Faults.{IsFaultBy};
 ghost use Rattle.gen_audit.specs.Telling.{AreReports};
-ghost use Rattle.gen_campaign.specs.Judged.{AreJudged, IsJudged, shown_bundles};
+ghost use Rattle.gen_campaign.specs.Judged.{AreJudged, shown_bundles};
 
 use crate::campaigns::CampaignBundle;
-use crate::laws::other_slots_convict_nobody;
+use crate::judging::judge_campaign;
 use crate::verdicts::CampaignVerdict;
-use gen_audit::{AuditFault, Bundle, JobGate, Judgement, WorkerCount, judge_reports};
-use gen_convict::{Evidence, find_across};
+use gen_audit::{AuditFault, Bundle, JobGate, WorkerCount, reports_by_workers};
 use gen_local::LocalReport;
-use gen_net::Header;
-use gen_workers::reports_by_workers;
 use std::alloc::{AllocError, Global};
 use std::sync::Wait;
 use std::thread::Threads;
 
-/// Returns the reports on all exhibits of a bundle, in their order, made by this number of workers.
-fn reports_of_run<R: Threads + Wait + Sync, G: JobGate + Sync>(
-    rt: &R,
-    alloc: Global,
-    bundle: &Bundle,
-    workers: WorkerCount,
-    gate: &G,
-) -> Result<Vec<LocalReport>, AuditFault>
-    ensures { IfOk result (λ reports. AreReports bundle.now reports.items) }
-{
-    reports_by_workers(rt, alloc, bundle.header(), bundle.exhibits(), workers, gate)
-}
-
-/// Returns the judgement on a bundle whose exhibits have these reports.
-pub(crate) fn judgement_by(
-    alloc: Global,
-    bundle: &Bundle,
-    reports: &[LocalReport],
-) -> Result<Judgement, AllocError>
-    requires { AreReports bundle.now reports.now }
-    ensures { IfOk result (IsJudged bundle.now) }
-{
-    judge_reports(alloc, bundle, reports)
-}
-
-/// Returns the judgement on a bundle, with the reports by which it was made.
-fn judge_run<R: Threads + Wait + Sync, G: JobGate + Sync>(
-    rt: &R,
-    alloc: Global,
-    bundle: &Bundle,
-    workers: WorkerCount,
-    gate: &G,
-) -> Result<(Judgement, Vec<LocalReport>), AuditFault>
-    ensures judged { IfOk result (λ r. IsJudged bundle.now r.0) }
-    ensures reports { IfOk result (λ r. AreReports bundle.now r.1.items) }
-{
-    let reports = reports_of_run(rt, alloc, bundle, workers, gate)?;
-    let judgement = judgement_by(alloc, bundle, reports.as_slice())?;
-    Ok((judgement, reports))
-}
-
-/// Appends a judgement and its reports to those of the runs before.
-pub(crate) fn keep_run(
-    judgements: &mut Vec<Judgement>,
+/// Appends the reports on the exhibits of a run.
+fn keep_reports(
     seen: &mut Vec<Vec<LocalReport>>,
-    judgement: Judgement,
     reports: Vec<LocalReport>,
 ) -> Result<(), AllocError>
-    ensures judgements { OnOk result (judgements.new.items ≡ judgements.old.items ++ judgement ∷ []) }
-    ensures seen { OnOk result (seen.new.items ≡ seen.old.items ++ reports ∷ []) }
+    ensures { OnOk result (seen.new.items ≡ seen.old.items ++ reports ∷ []) }
 {
-    judgements.push(judgement)?;
     seen.push(reports)?;
     Ok(())
 }
 
-/// Returns the judgements on the bundles, in their order, with the reports of each.
-fn judge_runs<R: Threads + Wait + Sync, G: JobGate + Sync>(
+/// Returns for each bundle the reports on all its exhibits, in their order, made by this number of workers.
+fn reports_by_threads<R: Threads + Wait + Sync, G: JobGate + Sync>(
     rt: &R,
     alloc: Global,
     bundles: &[Bundle],
     workers: WorkerCount,
     gate: &G,
-) -> Result<(Vec<Judgement>, Vec<Vec<LocalReport>>), AuditFault>
-    ensures judged { IfOk result (λ r. AreJudged bundles.now r.0.items) }
-    ensures reports { IfOk result (λ r. AllZip AreReports bundles.now (map (λ v. v.items) r.1.items)) }
+) -> Result<Vec<Vec<LocalReport>>, AuditFault>
+    ensures reports { IfOk result (λ seen. AllZip AreReports bundles.now (map (λ v. v.items) seen.items)) }
+    ensures fault { IfErr result (IsFaultBy workers) }
 {
-    let mut judgements = Vec::new(alloc);
-    let mut seen = Vec::new(alloc);
+    let mut seen = Vec::with_capacity(alloc, bundles.len())?;
     for bundle in bundles {
-        let (judgement, reports) = judge_run(rt, alloc, bundle, workers, gate)?;
-        keep_run(&mut judgements, &mut seen, judgement, reports)?;
+        let (header, exhibits) = (bundle.header(), bundle.exhibits());
+        let reports = reports_by_workers(rt, alloc, header, exhibits, workers, gate)?;
+        keep_reports(&mut seen, reports)?;
     }
-    Ok((judgements, seen))
-}
-
-/// Returns copies of the bundles' headers, in their order.
-fn headers_of(alloc: Global, bundles: &[Bundle]) -> Result<Vec<Header>, AllocError>
-    ensures { IfOk result (λ headers. headers.items ≡ map (λ b. b.header) bundles.now) }
-{
-    let mut headers = Vec::new(alloc);
-    'bundles: for bundle in bundles {
-        headers.push(bundle.header().clone()?)?;
-    }
-    Ok(headers)
-}
-
-/// Returns the evidence that convicts generals across the runs of these bundles, whose exhibits have these
-/// reports.
-fn find_in_runs(
-    alloc: Global,
-    bundles: &[Bundle],
-    seen: &[Vec<LocalReport>],
-) -> Result<Vec<Evidence>, AllocError>
-    requires { AllZip AreReports bundles.now (map (λ v. v.items) seen.now) }
-    ensures found { IfOk result (λ found.
-        AreConvictedAcross (shown_bundles bundles.now) (map told_of found.items)) }
-    ensures lawful { IfOk result (λ found. AreEvidenceAcross (map told_of found.items)) }
-{
-    let headers = headers_of(alloc, bundles)?;
-    find_across(alloc, headers.as_slice(), seen)
-}
-
-/// Returns the evidence that convicts generals across the runs of what is shown of a campaign, with these
-/// reports of its bundles.
-pub(crate) fn across_of(
-    alloc: Global,
-    campaign: &CampaignBundle,
-    seen: &[Vec<LocalReport>],
-) -> Result<Vec<Evidence>, AllocError>
-    requires { AllZip AreReports campaign.now.bundles (map (λ v. v.items) seen.now) }
-    ensures across { IfOk result (λ found.
-        AreConvictedAcross (shown_bundles campaign.now.bundles) (map told_of found.items)) }
-    ensures lawful { IfOk result (λ found. AreEvidenceAcross (map told_of found.items)) }
-    ensures alone { IfOk result (λ found. campaign.now.alone ≡ true → found.items ≡ []) }
-{
-    other_slots_convict_nobody();
-    find_in_runs(alloc, campaign.bundles(), seen)
+    Ok(seen)
 }
 
 /// Returns the verdict on a campaign. For each run it has the judgement on the run's bundle alone, as
@@ -148,7 +57,7 @@ pub(crate) fn across_of(
 /// # Errors
 ///
 /// `Memory` if memory was refused to any thread; else `Thread` if a thread could not be started, for want
-/// of memory too. All threads have ended then.
+/// of memory too. So one worker never answers `Thread`. All threads have ended then.
 pub fn audit_campaign<R: Threads + Wait + Sync, G: JobGate + Sync>(
     rt: &R,
     alloc: Global,
@@ -163,12 +72,17 @@ pub fn audit_campaign<R: Threads + Wait + Sync, G: JobGate + Sync>(
     // general under one leaf of one tree. The first two such texts convict the general.
     ensures across { IfOk result (λ v.
         AreConvictedAcross (shown_bundles campaign.now.bundles) (map told_of v.across.items)) }
+    // So a general is convicted across runs if and only if the exhibits of two runs hold two texts of the
+    // general that contradict each other across these runs.
+    ensures held { IfOk result (λ v.
+        ConvictsAcrossWhereHeld (shown_bundles campaign.now.bundles) (map told_of v.across.items)) }
     // Each of these convictions can be written as evidence.
     ensures lawful { IfOk result (λ v. AreEvidenceAcross (map told_of v.across.items)) }
     // A bundle that stands alone convicts nobody across runs.
     ensures alone { IfOk result (λ v. campaign.now.alone ≡ true → v.across.items ≡ []) }
+    // Only an audit by several workers answers that a thread could not be started.
+    ensures fault { IfErr result (IsFaultBy workers) }
 {
-    let (judgements, seen) = judge_runs(rt, alloc, campaign.bundles(), workers, gate)?;
-    let across = across_of(alloc, campaign, seen.as_slice())?;
-    Ok(CampaignVerdict { judgements, across })
+    let seen = reports_by_threads(rt, alloc, campaign.bundles(), workers, gate)?;
+    Ok(judge_campaign(alloc, campaign, seen.as_slice())?)
 }

@@ -9,7 +9,7 @@ ghost use Rattle.gen_campaign.specs.CampaignReading as reading;
 ghost use Rattle.gen_campaign.specs.CampaignSpelling.{campaign_spelling};
 
 use crate::campaign_fault::CampaignFault;
-use crate::campaigns::{CAMPAIGN_MARK, CampaignBundle, FEWEST_RUNS, MOST_RUNS};
+use crate::campaigns::{CAMPAIGN_MARK, CampaignBundle, is_run_count};
 use crate::joining::may_join;
 use gen_audit::{Bundle, BundleFault, bundle_in_front};
 use gen_types::{ReadError, check, u8_at, u32_at};
@@ -93,13 +93,6 @@ fn read_runs<'a>(
     Ok((runs, rest))
 }
 
-/// Whether a campaign may have this many runs: 1 to 4.
-fn is_run_count(count: u8) -> bool
-    ensures { result ≡ reading.is_run_count count }
-{
-    FEWEST_RUNS <= count && count <= MOST_RUNS
-}
-
 /// Reads the number of runs, and then the runs. Returns what they show of a campaign, and the bytes after
 /// them.
 #[tactic(auto, unfolding(crate::specs::CampaignReading::several_at))]
@@ -112,7 +105,7 @@ fn read_several<'a>(
     ensures { IsField result (reading.several_at bytes.now) }
 {
     let (count, rest) = u8_at(bytes, CampaignFault::NoCount)?;
-    check(is_run_count(count), CampaignFault::RunCount)?;
+    check(is_run_count(usize::from(count)), CampaignFault::RunCount)?;
     let (bundles, rest) = read_runs(alloc, input, count, rest)?;
     let campaign = CampaignBundle {
         alone: false,

@@ -1,6 +1,6 @@
 //! What is shown of campaigns.
 ghost use Rattle.std.specs.Prelude.{◌≡◌};
-ghost use Rattle.gen_campaign.specs.Campaign.{IsCampaign};
+ghost use Rattle.gen_campaign.specs.Campaign.{IsCampaign, is_run_count};
 
 use gen_audit::Bundle;
 use std::marker::Model;
@@ -10,10 +10,17 @@ use std::marker::Model;
 pub const CAMPAIGN_MARK: u32 = 0x534d_4332;
 
 /// The fewest runs of a campaign.
-pub const FEWEST_RUNS: u8 = 1;
+const FEWEST_RUNS: usize = 1;
 
-/// The most runs of a campaign.
-pub const MOST_RUNS: u8 = 4;
+/// The most runs of a campaign: a tree of 64 leaves serves four.
+const MOST_RUNS: usize = 4;
+
+/// Returns whether a campaign may have this many runs: 1 to 4.
+pub fn is_run_count(count: usize) -> bool
+    ensures { result ≡ is_run_count count }
+{
+    FEWEST_RUNS <= count && count <= MOST_RUNS
+}
 
 /// What is shown of a campaign. It is 1 to 4 bundles of version 2, one for each run, each of which may
 /// stand behind those before it; or it is a bundle that stands alone, of version 1 or 2. A contract sees

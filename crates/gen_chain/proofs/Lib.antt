@@ -4,9 +4,10 @@ pub mod KeptAnswers
 pub mod LongerChains
 pub mod Parts
 mod Room
+mod SignedClaims
 mod SignedFour
 pub mod SignedSoFar
-mod StoredFour
+mod StoredInTurn
 mod StoredSoFar
 pub mod Storing
 pub mod TestedChains

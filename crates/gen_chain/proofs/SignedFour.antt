@@ -63,11 +63,11 @@ triples_of_four order path a b c d = refl
 pub moved : (path : List ℕ) (g : ℕ) (rest longer : List ℕ) → longer ≡ path ++ g ∷ [] → AreDistinct (path ++ g ∷ rest) → AreDistinct (longer ++ rest)
 moved path g rest longer e apart = subst AreDistinct (sym (ap (λ p. p ++ rest) e ∙ append_assoc path (g ∷ []) rest)) apart
 
--- an answer to what is verified of a signing
-pub signed_at : (h : RunHeader) (xs : List Signing) (k : ℕ) (d : Signing) (other : Triple) (answer : Bool) → k < length xs
-    → IsTrue answer ↔ IsSigned h (triple_of (slice_index_or xs k d)) → IsTrue answer ↔ IsSigned h (slice_index_or (map triple_of xs) k other)
-signed_at h xs k d other answer below right =
-    subst (λ t. IsTrue answer ↔ IsSigned h t) (sym (get_or-map triple_of xs k d other below)) right
+-- what says the same as that a signing is true says it of its triple
+pub signed_at : (h : RunHeader) (xs : List Signing) (k : ℕ) (x : Signing) (other : Triple) (A : Type 0) → k < length xs → x ≡ slice_index_or xs k x
+    → A ↔ IsSigned h (triple_of x) → A ↔ IsSigned h (slice_index_or (map triple_of xs) k other)
+signed_at h xs k x other A below is right =
+    subst (λ t. A ↔ IsSigned h t) (ap triple_of is ∙ sym (get_or-map triple_of xs k x other below)) right
 
 pub through : {A B C : Type 0} → A ↔ B → B ↔ C → A ↔ C
 through f g = (λ a. g.0 (f.0 a), λ c. f.1 (g.1 c))
@@ -99,13 +99,13 @@ module _ (h : RunHeader) (order : ℕ) (signers rest : List Signer) (path : List
 
 -- what the answers to four say of all of them
 module _ (h : RunHeader) (xs : List Signing) (answers : List Bool) (order : ℕ) (path : List ℕ) (rest : List Signer) (many : 4 ≤ length rest) (are : map triple_of xs ≡ next_triples order path (take 4 rest))
-    (right : (j : ℕ) → j < 4 → (other : Triple) → IsTrue (slice_index_or answers j false) ↔ IsSigned h (slice_index_or (map triple_of xs) j other)) where
+    (wide : length xs ≡ 4) (right : (j : ℕ) → j < length xs → (other : Triple) → IsTrue (slice_index_or answers j false) ↔ IsSigned h (slice_index_or (map triple_of xs) j other)) where
   count : length (next_triples order path (take 4 rest)) ≡ 4
   count = length-next_triples order path (take 4 rest) ∙ length-take-le 4 rest many
 
   answers_true : (j : ℕ) → j < 4 → (other : Triple) → IsTrue (slice_index_or answers j false) ↔ IsSigned h (slice_index_or (next_triples order path (take 4 rest)) j other)
   answers_true j below other =
-      subst (λ ts. IsTrue (slice_index_or answers j false) ↔ IsSigned h (slice_index_or ts j other)) are (right j below other)
+      subst (λ ts. IsTrue (slice_index_or answers j false) ↔ IsSigned h (slice_index_or ts j other)) are (right j (omega (arith, wide)) other)
 
   pub true_all : ((j : ℕ) → j < 4 → IsTrue (slice_index_or answers j false)) → AllSigned h (next_triples order path (take 4 rest))
   true_all yes_all j below other =

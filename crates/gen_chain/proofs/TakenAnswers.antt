@@ -1,5 +1,5 @@
 -- Answers that one store takes from another.
-use Rattle.std.proofs.Common.{arith, ◌≡◌, ◌↔◌, ◌<◌, ◌+◌, ◌⊎◌, ℕ, suc, Bool, true, false, inl, inr, List, [], ◌∷◌, ◌++◌, append_assoc, length, Option, None, Some, Result, Ok, Err, refl, sym, ap, subst, ◌∙◌, slice_index_or}
+use Rattle.std.proofs.Common.{arith, ◌≡◌, ◌↔◌, ◌<◌, ◌+◌, ℕ, suc, Bool, true, false, inl, inr, List, [], ◌∷◌, ◌++◌, append_assoc, Option, None, Some, Result, Ok, Err, refl, sym, ap, subst, ◌∙◌, slice_index_or}
 use Rattle.std.specs.Prelude.{All, IsSome, OnOk, nat_eq}
 use Rattle.std.specs.Cmp.Lexicographic.{pointwise, bytes_decides}
 use Rattle.std.specs.Global.{Vec}
@@ -12,7 +12,7 @@ use Rattle.gen_chain.specs.declared.kept.Kept.{Kept}
 use Rattle.gen_chain.specs.Keeping.{items_of}
 use Rattle.gen_chain.specs.Store.{Store, Triple, answer_in, answer_of, kept_at, same_verified, KeepsAll, Serves}
 use Rattle.gen_chain.specs.Taking.{Takes, TakesEach, triple_at}
-use Rattle.gen_chain.proofs.StoredFour.{before_or_at}
+use Rattle.gen_chain.proofs.StoredInTurn.{before_or_at}
 use Rattle.gen_chain.proofs.Storing.{one_verified}
 
 -- two answers that are both right are the same

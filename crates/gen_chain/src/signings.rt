@@ -1,9 +1,11 @@
-//! Verifies four signatures of statements side by side.
+//! Verifies signatures of statements side by side.
 ghost use Rattle.std.specs.Prelude.{IsTrue, ℕ, ◌≡◌, ◌≢◌, ◌≤◌, ◌<◌, ◌+◌, ◌↔◌, ◌++◌, ◌∷◌, [], AllPairs, Contains, false, length, map, slice_index_or, take};
 ghost use Rattle.gen_tree.specs.Claims.{Stands};
 ghost use Rattle.gen_chain.specs.Chain.{signed_path};
 ghost use Rattle.gen_chain.specs.Signings.{triple_of, next_triples, IsSigned};
 ghost use Rattle.gen_chain.specs.Store.{Triple};
+ghost use Rattle.gen_chain.specs.declared.signings.Signing.{Signing};
+ghost use Rattle.gen_tree.specs.declared.claims.SignatureClaim.{SignatureClaim};
 
 use crate::chains::Signer;
 use crate::leaves::leaf_of_order;
@@ -11,8 +13,9 @@ use crate::sizes::MOST_SIGNERS;
 use crate::statements::{Statement, statement_digest};
 use crate::verifying::has_signed;
 use gen_net::Header;
-use gen_tree::{Signature, SignatureClaim, verify_four};
+use gen_tree::{Signature, SignatureClaim, verify_claims};
 use gen_types::{GeneralNo, OrderNo, Path};
+use sha_lanes::LANES;
 
 /// A claim, by whoever shows it, that a general signed a statement with this signature.
 #[derive(Clone, Copy)]
@@ -81,6 +84,7 @@ pub(crate) fn next_four<'a>(order: OrderNo, path: &mut Path, rest: &'a [Signer])
     requires many { 4 ≤ length rest.now }
     requires few { length path.old + 4 ≤ MOST_SIGNERS }
     requires distinct { AllPairs (λ g h. g ≢ h) (path.old ++ signed_path (take 4 rest.now)) }
+    ensures width { length result ≡ 4 }
     ensures path { path.new ≡ path.old ++ signed_path (take 4 rest.now) }
     ensures value { map triple_of result ≡ next_triples order path.old (take 4 rest.now) }
 {
@@ -93,32 +97,66 @@ pub(crate) fn next_four<'a>(order: OrderNo, path: &mut Path, rest: &'a [Signer])
     ]
 }
 
-/// Returns, for each of four claims, whether the general signed the statement, as `has_signed` does for one. It takes
-/// no memory.
-pub(crate) fn have_signed(header: &Header, signings: &[Signing<'_>; 4]) -> [bool; 4]
-    ensures { (j : ℕ) → j < 4 → (other : Triple) → IsTrue (slice_index_or result j false)
-        ↔ IsSigned header.now (slice_index_or (map triple_of signings.now) j other) }
+/// Whether the general of each claim is below n.
+fn are_of(header: &Header, signings: &[Signing<'_>]) -> bool
+    ensures { IsTrue result → (j : ℕ) → j < length signings.now → (d : Signing)
+        → (slice_index_or signings.now j d).signer < header.now.network.generals }
 {
-    let [a, b, c, d] = signings;
-    if a.is_of(header) && b.is_of(header) && c.is_of(header) && d.is_of(header) {
-        verify_four(&[
-            a.claim(header),
-            b.claim(header),
-            c.claim(header),
-            d.claim(header),
-        ])
-    } else {
-        [
-            a.is_true(header),
-            b.is_true(header),
-            c.is_true(header),
-            d.is_true(header),
-        ]
+    'places: for place in 0..signings.len() {
+        if !signings[place].is_of(header) {
+            return false;
+        }
     }
+    true
 }
 
-/// Whether all four answers are true.
-pub(crate) fn all_true(answers: &[bool; 4]) -> bool
+/// Returns the claims about the signatures and the generals' roots, at least one and at most `LANES` of them, and the
+/// first one again in the lanes that are left over. Each general is below n.
+fn claims_of<'b>(header: &'b Header, signings: &'b [Signing<'_>]) -> [SignatureClaim<'b>; LANES]
+    requires some { 0 < length signings.now }
+    requires few { length signings.now ≤ LANES }
+    requires generals { (j : ℕ) → j < length signings.now → (d : Signing)
+        → (slice_index_or signings.now j d).signer < header.now.network.generals }
+    ensures width { length result ≡ LANES }
+    ensures claims { (j : ℕ) → j < length signings.now → (d : SignatureClaim) → (other : Triple)
+        → Stands (slice_index_or result j d) ↔ IsSigned header.now (slice_index_or (map triple_of signings.now) j other) }
+{
+    let mut claims = [signings[0].claim(header); LANES];
+    'places: for place in 0..signings.len() {
+        claims[place] = signings[place].claim(header);
+    }
+    claims
+}
+
+/// Returns, for each of at most `LANES` claims, whether the general signed the statement, one claim after another.
+fn have_signed_in_turn(header: &Header, signings: &[Signing<'_>]) -> [bool; LANES]
+    requires { length signings.now ≤ LANES }
+    ensures { (j : ℕ) → j < length signings.now → (other : Triple) → IsTrue (slice_index_or result j false)
+        ↔ IsSigned header.now (slice_index_or (map triple_of signings.now) j other) }
+{
+    let mut answers = [false; LANES];
+    'places: for place in 0..signings.len() {
+        answers[place] = signings[place].is_true(header);
+    }
+    answers
+}
+
+/// Returns, for each of at most `LANES` claims, whether the general signed the statement, as `has_signed` does for one.
+/// What the result has behind these answers says nothing. It takes no memory.
+pub(crate) fn have_signed(header: &Header, signings: &[Signing<'_>]) -> [bool; LANES]
+    requires { length signings.now ≤ LANES }
+    ensures { (j : ℕ) → j < length signings.now → (other : Triple) → IsTrue (slice_index_or result j false)
+        ↔ IsSigned header.now (slice_index_or (map triple_of signings.now) j other) }
+{
+    if signings.is_empty() || !are_of(header, signings) {
+        return have_signed_in_turn(header, signings);
+    }
+    let claims = claims_of(header, signings);
+    verify_claims(&claims[..signings.len()])
+}
+
+/// Whether the first four answers are true.
+pub(crate) fn four_true(answers: &[bool; LANES]) -> bool
     ensures { IsTrue result ↔ ((j : ℕ) → j < 4 → IsTrue (slice_index_or answers.now j false)) }
 {
     answers[0] && answers[1] && answers[2] && answers[3]

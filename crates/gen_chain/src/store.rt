@@ -23,6 +23,7 @@ use crate::verifying::has_signed;
 use gen_net::Header;
 use gen_tree::{Signature, SignaturePool};
 use gen_types::{GeneralNo, OrderNo, Path};
+use sha_lanes::LANES;
 use std::alloc::{AllocError, Global};
 use std::collections::BTreeMap;
 use std::marker::Model;
@@ -266,27 +267,28 @@ impl VerifyStore {
         !self.keeps(a) && !self.keeps(b) && !self.keeps(c) && !self.keeps(d)
     }
 
-    /// Verifies four signatures of statements side by side, each as `has_signed` does, and keeps the answers that are
-    /// not kept yet. A later check of one of the four verifies nothing. The four take about as long as two and a half
-    /// single verifications.
+    /// Verifies at most `LANES` signatures of statements, each as `has_signed` does, and keeps the answers that are not
+    /// kept yet. A later check of one of them verifies nothing. If there are signatures for at least half of the lanes,
+    /// they are verified side by side.
     ///
     /// # Errors
     ///
-    /// Only if memory is refused. Then the store keeps its old answers, and possibly some of the four.
-    pub fn verify_four(
+    /// Only if memory is refused. Then the store keeps its old answers, and possibly some of the new ones.
+    pub fn verify_lanes(
         &mut self,
         header: &Header,
-        signings: &[Signing<'_>; 4],
+        signings: &[Signing<'_>],
     ) -> Result<(), AllocError>
+        requires few { length signings.now ≤ LANES }
         requires serves { Serves header.now self.old }
-        ensures kept { OnOk result ((j : ℕ) → j < 4 → (other : Triple)
+        ensures kept { OnOk result ((j : ℕ) → j < length signings.now → (other : Triple)
             → IsSome (answer_of self.new (slice_index_or (map triple_of signings.now) j other))) }
-        ensures count { kept_count self.new ≤ kept_count self.old + 4 }
+        ensures count { kept_count self.new ≤ kept_count self.old + length signings.now }
         ensures grows { KeepsAll self.old self.new }
         ensures serves { Serves header.now self.new }
     {
         let answers = have_signed(header, signings);
-        'places: for place in 0..4usize {
+        'places: for place in 0..signings.len() {
             self.add_answer(&signings[place], answers[place])?;
         }
         Ok(())
@@ -322,7 +324,7 @@ impl VerifyStore {
         if !self.keeps_none(&signings) {
             return Ok(0);
         }
-        self.verify_four(header, &signings)?;
+        self.verify_lanes(header, &signings)?;
         Ok(4)
     }
 

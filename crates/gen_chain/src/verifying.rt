@@ -5,7 +5,7 @@ ghost use Rattle.gen_chain.specs.Verifying.{HasSigned, AreSigned, ChainVerifies}
 
 use crate::chains::{SignedChain, Signer};
 use crate::leaves::leaf_of_order;
-use crate::signings::{all_true, have_signed, next_four};
+use crate::signings::{four_true, have_signed, next_four};
 use crate::sizes::MOST_SIGNERS;
 use crate::statements::{Statement, statement_digest};
 use gen_net::Header;
@@ -42,7 +42,7 @@ fn are_signed(header: &Header, order: OrderNo, signers: &[Signer]) -> bool
     'fours: while rest.len() >= 4 {
         let signings = next_four(order, &mut path, rest);
         let answers = have_signed(header, &signings);
-        if !all_true(&answers) {
+        if !four_true(&answers) {
             return false;
         }
         let (_, others) = rest.split_at(4);

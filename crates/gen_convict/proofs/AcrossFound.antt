@@ -7,7 +7,7 @@ use Rattle.gen_convict.specs.declared.run_texts.RunText.{RunText}
 use Rattle.gen_convict.specs.Accused.{TextVerifies}
 use Rattle.gen_convict.specs.Across.{AreRivals, ShownRun, of_run, texts_across, IsFirstAcross}
 use Rattle.gen_convict.specs.AcrossFinding.{is_rival, with_rival, first_rivals, RunReports, his_in_run, his_across, accusing_across, accusations_across}
-use Rattle.gen_convict.specs.AcrossLaws.{AreLawful, FoundWhereHeld, FirstContradict, OneFirstAcross, AreConvictedAcross, AreEvidenceAcross, shown_run, shown_runs}
+use Rattle.gen_convict.specs.AcrossLaws.{AreLawful, FoundWhereHeld, FirstContradict, OneFirstAcross, AreConvictedAcross, AreEvidenceAcross, ConvictsAcrossWhereHeld, shown_run, shown_runs}
 use Rattle.gen_convict.specs.Contradictions.{AcrossRuns}
 use Rattle.gen_convict.specs.Convictions.{shown_in}
 use Rattle.gen_convict.specs.Evidence.{Accusation, IsEvidence}
@@ -94,6 +94,16 @@ found_where_held runs general lawful = (
 
 pub one_first_across : OneFirstAcross
 one_first_across runs general x y v w p q = one_pair AreRivals (texts_across runs general) x y v w p q
+
+pub convicts_where_held : (runs : List ShownRun) (convictions : List Accusation) → AreLawful runs → AreConvictedAcross runs convictions → ConvictsAcrossWhereHeld runs convictions
+convicts_where_held runs convictions lawful are general low = (
+  (λ held.
+      let p = (found_where_held runs general lawful).0 held in
+      (record { accused = general; claim = AcrossRuns p.0 p.1 }, are.each general p.0 p.1 low p.2, refl)),
+  (λ convicted.
+      let f = (are.first convicted.0 convicted.1).1 in
+      (found_where_held runs general lawful).1 (f.0, f.1, subst (λ g. IsFirstAcross runs g f.0 f.1) convicted.2 f.3)),
+)
 
 -- ---- what reports have
 
@@ -196,3 +206,6 @@ module _ (runs : List RunReports) where
           let same = sym k.2 ∙ is in
           let first : k.0 ≡ v = cc in
           subst (λ (u : RunText). IsEvidence u.header x) first (across_lawful (shown_runs runs) x k.0 k.1 lawful_runs k.2 (each_first x.accused k.0 k.1 k.3))
+
+      pub held_across : (n : ℕ) → n ≡ 16 → ConvictsAcrossWhereHeld (shown_runs runs) (accusations_across runs (range_with_len 0 n))
+      held_across n is = convicts_where_held (shown_runs runs) (accusations_across runs (range_with_len 0 n)) lawful_runs (convicted_across n is)

@@ -7,7 +7,7 @@ use Rattle.gen_convict.specs.Across.{ShareLeaves, AreRivals, AreAcross, leaf_of,
 use Rattle.gen_convict.specs.AcrossFinding.{is_rival, RunReports}
 use Rattle.gen_convict.specs.Contradictions.{Claim, AcrossRuns}
 use Rattle.gen_convict.specs.Evidence.{Accusation, IsEvidence}
-use Rattle.gen_convict.specs.Convictions.{AreUnderHeader, shown_in}
+use Rattle.gen_convict.specs.Convictions.{AreUnderHeader, IsConvicted, shown_in}
 use Rattle.gen_convict.specs.Exhibits.{AllBytes}
 use Rattle.gen_convict.specs.SharedLeaves.{share_leaves}
 
@@ -86,6 +86,12 @@ pub record AreConvictedAcross (runs : List ShownRun) (convictions : List Accusat
       → (x.accused < 16) × IsFirstClaimAcross runs x.accused x.claim
   pub each : (general : ℕ) (x y : RunText) → general < 16 → IsFirstAcross runs general x y
       → Contains convictions (record { accused = general; claim = AcrossRuns x y })
+
+-- a general below 16 is accused if and only if the exhibits of two runs hold two texts of the general that
+-- contradict each other across these runs
+abbrev pub ConvictsAcrossWhereHeld : List ShownRun → List Accusation → Type 0
+ConvictsAcrossWhereHeld runs convictions =
+    (general : ℕ) → general < 16 → HoldAcross runs general ↔ IsConvicted convictions general
 
 -- each accusation can be written as evidence, under the header of its first text
 abbrev pub AreEvidenceAcross : List Accusation → Type 0

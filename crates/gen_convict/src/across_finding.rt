@@ -6,7 +6,8 @@ ghost use Rattle.gen_local.specs.Report.{IsReport, LocalReport as Report};
 ghost use Rattle.gen_net.specs.Header.{IsHeader};
 ghost use Rattle.gen_convict.specs.AcrossFinding as finds;
 ghost use Rattle.gen_convict.specs.AcrossFinding.{RunReports, runs_of};
-ghost use Rattle.gen_convict.specs.AcrossLaws.{AreConvictedAcross, AreEvidenceAcross, AreUnderHeaders, shown_runs};
+ghost use Rattle.gen_convict.specs.AcrossLaws.{AreConvictedAcross, AreEvidenceAcross, AreUnderHeaders};
+ghost use Rattle.gen_convict.specs.AcrossLaws.{ConvictsAcrossWhereHeld, shown_runs};
 ghost use Rattle.gen_convict.specs.Evidence.{told_of};
 ghost use Rattle.gen_convict.specs.Seen.{seen, seen_run};
 
@@ -129,6 +130,10 @@ pub fn find_across(
     requires under { AreUnderHeaders (runs_of headers.now (map (λ v. v.items) reports.now)) }
     // Each general against which the exhibits of two runs hold such texts has the first two; nothing else is returned.
     ensures found { IfOk result (λ found. AreConvictedAcross
+        (shown_runs (runs_of headers.now (map (λ v. v.items) reports.now))) (map told_of found.items)) }
+    // So a general is convicted if and only if the exhibits of two runs hold two texts of the general that contradict
+    // each other across these runs.
+    ensures held { IfOk result (λ found. ConvictsAcrossWhereHeld
         (shown_runs (runs_of headers.now (map (λ v. v.items) reports.now))) (map told_of found.items)) }
     // Each of these can be written as evidence.
     ensures lawful { IfOk result (λ found. AreEvidenceAcross (map told_of found.items)) }

@@ -28,8 +28,9 @@ use Rattle.gen_audit.proofs.BundleLaws.{bundle_only}
 use Rattle.gen_audit.proofs.RunBundles.{world_is_bundle}
 use Rattle.gen_audit.proofs.Worlds.{world_is_accepted}
 use Rattle.gen_jobs.specs.Accepted.{IsSound, RunsAreAccepted, RunsAreRead, alone}
-use Rattle.gen_jobs.specs.Audit.{Audits, AuditsForm, IsAudited, is_no}
+use Rattle.gen_jobs.specs.Audit.{Audits, AuditsShown, IsAudited, is_no}
 use Rattle.gen_jobs.specs.Judging.{JudgesRun, RunsAreJudged}
+use Rattle.gen_jobs.specs.declared.forms.Form.TheVariants.{Text}
 use Rattle.gen_jobs.specs.Run.{IsRun}
 
 -- the bytes of what is shown stand in the bundle's
@@ -91,9 +92,9 @@ same_shown input text report said negative run below audited =
     ok_is {F = CampaignFault} audited.shown (alone (bundle_of run.scenario run.walks)) (sym (campaign_only text audited.shown audited.spelled) ∙ ours)
 
 -- and what is made of it
-audits_run : (input text report : List ℕ) (said negative : Bool) (run : IsRun input text said) → AreBelow 256 text → IsAudited text report negative → Audits (bundle_of run.scenario run.walks) report negative
+audits_run : (input text report : List ℕ) (said negative : Bool) (run : IsRun input text said) → AreBelow 256 text → IsAudited text report negative → Audits Text (bundle_of run.scenario run.walks) report negative
 audits_run input text report said negative run below audited =
-    subst (λ (c : CampaignBundle). AuditsForm c.alone c.bundles report negative) (same_shown input text report said negative run below audited) audited.audits
+    subst (λ (c : CampaignBundle). AuditsShown Text c.alone c.bundles report negative) (same_shown input text report said negative run below audited) audited.audits
 
 pub runs_are_accepted : RunsAreAccepted
 runs_are_accepted input text report said negative run below sound audited =
@@ -104,7 +105,7 @@ runs_are_accepted input text report said negative run below sound audited =
 
 pub runs_are_judged : RunsAreJudged
 runs_are_judged input text report said negative run below audited =
-    let judges : JudgesRun run.scenario report negative = record {
+    let judges : JudgesRun Text run.scenario report negative = record {
       walks = run.walks;
       has_walks = run.has_walks;
       audits = audits_run input text report said negative run below audited;

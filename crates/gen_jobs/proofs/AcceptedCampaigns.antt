@@ -26,11 +26,12 @@ use Rattle.gen_campaign.specs.declared.campaign_fault.CampaignFault.{CampaignFau
 use Rattle.gen_campaign.specs.Campaign.{AreRuns, CampaignBundle, IsCampaign, IsRun, IsSecond, Joins, JoinsRun}
 use Rattle.gen_campaign.specs.CampaignSpelling.{campaign_front, campaign_spelling}
 use Rattle.gen_campaign.proofs.CampaignLaws.{campaign_only}
-use Rattle.gen_campaign_text.specs.CampaignText.{HasSlot, Precedes, SpellsTexts}
+use Rattle.gen_campaign.specs.CampaignText.{HasSlot, Precedes, SpellsTexts}
 use Rattle.gen_jobs.specs.Accepted.{IsSound}
 use Rattle.gen_jobs.specs.AcceptedCampaigns.{CampaignsAreAccepted, CampaignsAreRead, together}
-use Rattle.gen_jobs.specs.Audit.{AuditsForm, AuditsRuns, IsAudited}
+use Rattle.gen_jobs.specs.Audit.{AuditsShown, AuditsRuns, IsAudited}
 use Rattle.gen_jobs.specs.Campaigning.{IsCampaignRun}
+use Rattle.gen_jobs.specs.declared.forms.Form.TheVariants.{Text}
 use Rattle.gen_jobs.specs.Run.{IsOfRun}
 use Rattle.gen_jobs.proofs.Accepted.{is_acceptable, shown_bytes}
 
@@ -120,11 +121,11 @@ pub campaigns_are_read : CampaignsAreRead
 campaigns_are_read input text said run below = campaign_only text (together run.makes.0) (spelled_together input text said run below)
 
 -- what is audited are the bundles of the runs
-audits_runs : (input text report : List ℕ) (said negative : Bool) (run : IsCampaignRun input text said) → AreBelow 256 text → IsAudited text report negative → AuditsRuns run.makes.0 report negative
+audits_runs : (input text report : List ℕ) (said negative : Bool) (run : IsCampaignRun input text said) → AreBelow 256 text → IsAudited text report negative → AuditsRuns Text run.makes.0 report negative
 audits_runs input text report said negative run below audited =
     let ours = campaigns_are_read input text said run below in
     let same : audited.shown ≡ together run.makes.0 = ok_is {F = CampaignFault} audited.shown (together run.makes.0) (sym (campaign_only text audited.shown audited.spelled) ∙ ours) in
-    subst (λ (c : CampaignBundle). AuditsForm c.alone c.bundles report negative) same audited.audits
+    subst (λ (c : CampaignBundle). AuditsShown Text c.alone c.bundles report negative) same audited.audits
 
 pub campaigns_are_accepted : CampaignsAreAccepted
 campaigns_are_accepted input text report said negative run below sound audited =

@@ -6,8 +6,8 @@ use Rattle.gen_audit.specs.Headline.{Headline, IsYes}
 use Rattle.gen_audit.specs.Supported.{IsSupported}
 use Rattle.gen_audit.specs.declared.verdicts.Verdict.{Verdict}
 use Rattle.gen_audit.specs.declared.verdicts.Verdict.TheVariants.{Agreed, Explained, No}
-use Rattle.gen_workers.specs.declared.faults.AuditFault.{AuditFault}
-use Rattle.gen_workers.specs.declared.faults.AuditFault.TheVariants as audits
+use Rattle.gen_audit.specs.declared.faults.AuditFault.{AuditFault}
+use Rattle.gen_audit.specs.declared.faults.AuditFault.TheVariants as audits
 use Rattle.gen_jobs.specs.Audit.{IsAuditFault, IsWant, is_no}
 use Rattle.gen_jobs.specs.Failing.{audit_failure}
 use Rattle.gen_jobs.specs.declared.ends.JobFault.{JobFault}
@@ -34,6 +34,10 @@ one_want input faults.Write want = want
 one_want input (faults.Scenario f) want = want
 one_want input (faults.Campaign f) want = absurd want
 one_want input (faults.Evidence f) want = want
+one_want input (faults.Log f) want = want
+one_want input (faults.Seed f) want = want
+one_want input faults.OtherRun want = absurd want
+one_want input faults.Open want = want
 
 pub are_wants : {A : Type 0} (input : List ℕ) (r : Result A JobFault) → IfErr r IsWant → IfErr r (IsAuditFault input)
 are_wants input (Ok x) want = tt

@@ -19,6 +19,10 @@ by_fault A F old new faults.Thread never h = h
 by_fault A F old new (faults.Scenario s) never h = h
 by_fault A F old new (faults.Campaign b) never h = h
 by_fault A F old new (faults.Evidence e) never h = h
+by_fault A F old new (faults.Log e) never h = h
+by_fault A F old new (faults.Seed e) never h = h
+by_fault A F old new faults.OtherRun never h = h
+by_fault A F old new faults.Open never h = h
 
 by_write : (A : List ℕ → Bool → Type 0) (F : JobFault → Type 0) (old new : Option (List ℕ)) (text : List ℕ) (negative : Bool) (f : JobFault) → A text negative → f ≡ faults.Write → Answers A F old new (Failed f)
 by_write A F old new text negative f a e = rw e (text, negative, a)
@@ -54,6 +58,10 @@ kept_at old new faults.Thread k = k
 kept_at old new (faults.Scenario s) k = k
 kept_at old new (faults.Campaign b) k = k
 kept_at old new (faults.Evidence e) k = k
+kept_at old new (faults.Log e) k = k
+kept_at old new (faults.Seed e) k = k
+kept_at old new faults.OtherRun k = k
+kept_at old new faults.Open k = k
 
 late_output : (old new : Option (List ℕ)) (text : List ℕ) (negative : Bool) (end : JobEnd) → IsWritten text negative old new end → KeepsUntilWhole old new end
 late_output old new text negative Done w = tt
@@ -78,6 +86,10 @@ unread A F old new faults.Thread h = absurd h
 unread A F old new (faults.Scenario s) h = absurd h
 unread A F old new (faults.Campaign b) h = absurd h
 unread A F old new (faults.Evidence e) h = absurd h
+unread A F old new (faults.Log e) h = absurd h
+unread A F old new (faults.Seed e) h = absurd h
+unread A F old new faults.OtherRun h = absurd h
+unread A F old new faults.Open h = absurd h
 
 -- an input that can't be read is answered by this
 pub unread_answers : (A : List ℕ → List ℕ → Bool → Type 0) (F : List ℕ → JobFault → Type 0) (remaining old new : Option (List ℕ)) (f : JobFault) → IsReadFault f → IfSome remaining (λ input. Answers (A input) (F input) old new (Failed f))
@@ -92,6 +104,10 @@ untaken input faults.Thread h = absurd h
 untaken input (faults.Scenario s) h = absurd h
 untaken input (faults.Campaign b) h = absurd h
 untaken input (faults.Evidence e) h = absurd h
+untaken input (faults.Log e) h = absurd h
+untaken input (faults.Seed e) h = absurd h
+untaken input faults.OtherRun h = absurd h
+untaken input faults.Open h = absurd h
 
 -- of an input that can't be read no length is said
 pub unread_taken : (remaining : Option (List ℕ)) (f : JobFault) → IsReadFault f → IfSome remaining (λ input. IsTaken input (Failed f))

@@ -1,5 +1,5 @@
 -- The judgement on the bundle of a scenario's run, as the job judge writes it.
-use Rattle.std.proofs.Common.{◌≡◌, ◌↔◌, ℕ, Bool, false, List, sym, subst}
+use Rattle.std.proofs.Common.{◌≡◌, ◌↔◌, ◌∙◌, ℕ, Bool, false, List, ap, sym, subst}
 use Rattle.gen_convict.specs.Convictions.{AreConvictions, ConvictsWhereHeld}
 use Rattle.gen_convict.specs.Evidence.{Accusation}
 use Rattle.gen_scenario.specs.Scenario.{Scenario, IsScenario, scripted}
@@ -11,18 +11,22 @@ use Rattle.gen_audit.specs.Verdict.{IsVerdict}
 use Rattle.gen_audit.specs.WorldBundle.{AreWalksOfRun, HasWalks, bundle_of}
 use Rattle.gen_audit.specs.declared.verdicts.Verdict.{Verdict}
 use Rattle.gen_audit.proofs.RunBundles.{are_listed, are_members}
-use Rattle.gen_report.specs.VerdictText.{verdict_text}
-use Rattle.gen_jobs.specs.Audit.{is_no}
+use Rattle.gen_report.specs.Scenario.{SpellsScenario}
+use Rattle.gen_report.specs.declared.scenario_text.ScenarioText.{ScenarioText}
+use Rattle.gen_report.specs.declared.scenario_text.ScenarioText.TheVariants as texts
+use Rattle.gen_jobs.specs.Asking.{IsJudgedAs, JudgesRunAs}
+use Rattle.gen_jobs.specs.Audit.{is_no, judgement_text}
 use Rattle.gen_jobs.specs.Judging.{JudgesRun}
+use Rattle.gen_jobs.specs.declared.forms.Form.{Form}
 use Rattle.gen_jobs.proofs.Audited.{supported}
 
 -- what is said of a verdict, its convictions and their text makes it the judgement
-pub judges : (s : Scenario) (walks : List (List ℕ)) → HasWalks s walks → (v : Verdict) (cs : List Accusation) (text : List ℕ) (negative : Bool)
+pub judges : (form : Form) (s : Scenario) (walks : List (List ℕ)) → HasWalks s walks → (v : Verdict) (cs : List Accusation) (text : List ℕ) (negative : Bool)
     → IsVerdict (bundle_of s walks) v → Headline (bundle_of s walks) v
     → AreConvictions (bundle_of s walks).header (bundle_of s walks).exhibits cs
     → ConvictsWhereHeld (bundle_of s walks).header (bundle_of s walks).exhibits cs
-    → text ≡ verdict_text (bundle_of s walks).header v cs → negative ≡ is_no v → JudgesRun s text negative
-judges s walks has v cs text negative judged headline convicted held text_is negative_is =
+    → text ≡ judgement_text form (bundle_of s walks).header (bundle_of s walks).faulty v cs → negative ≡ is_no v → JudgesRun form s text negative
+judges form s walks has v cs text negative judged headline convicted held text_is negative_is =
     let is : (negative ≡ false) ↔ IsSupported (bundle_of s walks) = subst (λ (b : Bool). (b ≡ false) ↔ IsSupported (bundle_of s walks)) (sym negative_is) (supported (bundle_of s walks) v headline) in
     record {
       walks = walks;
@@ -46,3 +50,12 @@ scripted_below s ok = (are_members s ok).below
 
 pub walks_listed : (s : Scenario) (rest : List ℕ) (walks : List (List ℕ)) → IsScenario s → AreWalksOfRun s.net rest walks → AreListedWalks s.net.generals walks
 walks_listed s rest walks ok are = are_listed s rest walks ok are
+
+-- the judgement on the run of the scenario that was read is that of the input
+pub judged_as : (form : Form) (strict : Bool) (input : List ℕ) (told : ScenarioText) (plan s : Scenario) (text : List ℕ) (negative : Bool)
+    → SpellsScenario input told → told ≡ texts.Signed plan → s ≡ plan → JudgesRunAs form strict s text negative → IsJudgedAs form strict input text negative
+judged_as form strict input told plan s text negative spelled is same judges = record {
+  scenario = s;
+  spelled = subst (λ (t : ScenarioText). SpellsScenario input t) (is ∙ ap (λ (p : Scenario). texts.Signed p) (sym same)) spelled;
+  judges = judges;
+}

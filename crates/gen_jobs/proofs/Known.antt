@@ -21,6 +21,10 @@ within input (Failed faults.Write) le = le
 within input (Failed (faults.Scenario f)) le = le
 within input (Failed (faults.Campaign f)) le = le
 within input (Failed (faults.Evidence f)) le = le
+within input (Failed (faults.Log f)) le = le
+within input (Failed (faults.Seed f)) le = le
+within input (Failed faults.OtherRun) le = le
+within input (Failed faults.Open) le = le
 
 -- an input that was read whole, and whose bytes are within the limit
 pub taken : (remaining : Option (List ℕ)) (all : List ℕ) (end : JobEnd) → IfSome remaining (λ input. all ≡ input) → length all ≤ 1073741824 → IfSome remaining (λ input. IsTaken input end)

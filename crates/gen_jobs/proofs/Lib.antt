@@ -2,11 +2,15 @@ pub mod Accepted
 pub mod AcceptedCampaigns
 pub mod Accused
 pub mod AccusedRuns
+pub mod AskedFaults
+pub mod AskedTexts
 pub mod Audited
 pub mod Bundling
 pub mod Delivering
 pub mod Drawn
+pub mod Held
 pub mod JudgedRuns
 pub mod Known
+pub mod Named
 pub mod RunsOf
 pub mod Shown

@@ -1,32 +1,23 @@
 -- The bundles of the runs of a campaign, and their bytes.
-use Rattle.std.proofs.Common.{◌≡◌, ◌≤◌, ◌++◌, ◌∙◌, ℕ, suc, Bool, true, false, inl, inr, eqb, List, [], ◌∷◌, length, map, Ok, refl, sym, ap, subst, arith, Result}
-use Rattle.std.specs.Prelude.{nat_lt, if◌then◌else◌}
+use Rattle.std.proofs.Common.{◌≡◌, ◌≤◌, ◌++◌, ◌∙◌, ℕ, Bool, true, false, List, [], ◌∷◌, length, map, Ok, refl, sym, ap, subst, arith, Result}
 use Rattle.std.specs.Int.{w32, to_be_bytes}
 use Rattle.std.specs.List.{AllZip, flat_map}
-use Rattle.std.proofs.lemmas.Bool.{ltb-false}
 use Rattle.std.proofs.lemmas.List.{length-map}
 use Rattle.std.proofs.lemmas.Slice.Zip.{AllZip-long}
-use Rattle.gen_types.proofs.Lists.{bool_cases}
 use Rattle.gen_types.specs.Reading.{◌>>=◌, check}
 use Rattle.gen_scenario.specs.Scenario.{Scenario}
 use Rattle.gen_audit.specs.Bundle.{Bundle}
 use Rattle.gen_audit.specs.BundleSpelling.{bundle_spelling}
 use Rattle.gen_campaign.specs.CampaignSpelling.{campaign_mark, campaign_spelling}
-use Rattle.gen_series.specs.Campaign.{are_alike, ascend_from, campaign_of, is_few}
-use Rattle.gen_series.specs.declared.fault.CampaignFault.{CampaignFault}
-use Rattle.gen_series.specs.declared.fault.CampaignFault.TheVariants.{RunCount, Unlike, SlotOrder}
+use Rattle.gen_campaign.specs.Campaign.{is_run_count}
+use Rattle.gen_campaign.specs.Series.{are_alike, ascend_from, campaign_of}
+use Rattle.gen_campaign.specs.declared.series_fault.SeriesFault.{SeriesFault}
+use Rattle.gen_campaign.specs.declared.series_fault.SeriesFault.TheVariants.{RunCount, Unlike, SlotOrder}
+use Rattle.gen_campaign.proofs.RunCounts.{count_known}
 use Rattle.gen_jobs.specs.Campaigning.{AreBundlesOf, MakesTexts}
 use Rattle.gen_jobs.specs.Run.{IsOfRun}
 
-few_le : (n : ℕ) → is_few n ≡ true → n ≤ 4
-few_le n e = elim (bool_cases (nat_lt 4 n)) [
-  | inl t ↦
-      let zero : is_few n ≡ false = elim (bool_cases (eqb n 0)) [ inl a ↦ rw a refl | inr b ↦ rw (b, t) refl ] in
-      let no : true ≡ false = sym e ∙ zero in absurd cc
-  | inr f ↦ omega (arith, ltb-false 4 n f)
-]
-
-abbrev tested : Bool → Bool → Bool → List Scenario → Result (List Scenario) CampaignFault
+abbrev tested : Bool → Bool → Bool → List Scenario → Result (List Scenario) SeriesFault
 tested a b c runs = do
   few ← check a RunCount
   alike ← check b Unlike
@@ -39,8 +30,8 @@ first_passed true b c runs xs e = refl
 
 pub few_bundles : (runs : List Scenario) (bundles : List Bundle) → campaign_of runs ≡ Ok runs → AreBundlesOf runs bundles → length bundles ≤ 4
 few_bundles runs bundles ok are =
-    let few = few_le (length runs) (first_passed (is_few (length runs)) (are_alike runs) (ascend_from 0 runs) runs runs ok) in
-    omega (arith, few, AllZip-long IsOfRun runs bundles are)
+    let few = count_known (length runs) (first_passed (is_run_count (length runs)) (are_alike runs) (ascend_from 0 runs) runs runs ok) in
+    omega (arith, few.1, AllZip-long IsOfRun runs bundles are)
 
 pieces : (bundles : List Bundle) → flat_map (λ (text : List ℕ). text) (map bundle_spelling bundles) ≡ flat_map bundle_spelling bundles
 pieces [] = refl

@@ -1,6 +1,6 @@
 -- What the judgements on what is shown make of its text.
 use Rattle.std.proofs.Common.{◌≡◌, ◌↔◌, ℕ, Bool, true, false, not, List, [], ◌∷◌, map, ◌++◌, refl, sym, subst, ◌∙◌}
-use Rattle.std.specs.Prelude.{All, if◌then◌else◌}
+use Rattle.std.specs.Prelude.{All}
 use Rattle.std.specs.Bool.{Decides}
 use Rattle.std.proofs.lemmas.List.{append-nil}
 use Rattle.std.specs.List.{AllZip}
@@ -16,8 +16,9 @@ use Rattle.gen_audit.specs.declared.verdicts.Verdict.TheVariants.{Agreed, Explai
 use Rattle.gen_campaign.specs.Campaign.{AreShown}
 use Rattle.gen_campaign.specs.Judged.{AreJudged, AreYes, IsJudged, shown_bundles}
 use Rattle.gen_report.specs.VerdictText.{verdict_text}
-use Rattle.gen_campaign_text.specs.CampaignVerdictText.{several_text, verdict_texts}
-use Rattle.gen_jobs.specs.Audit.{AuditsForm, is_no}
+use Rattle.gen_jobs.specs.Audit.{AuditsShown, is_no, judgement_text, judgements_text, shown_text}
+use Rattle.gen_jobs.specs.declared.forms.Form.{Form}
+use Rattle.gen_jobs.specs.declared.forms.Form.TheVariants.{Text, Json}
 
 abbrev says : Judgement → Type 0
 says j = IsYes j.verdict
@@ -47,19 +48,27 @@ turned false (Agreed order) one other = let e : false ≡ true = other tt in abs
 turned false (Explained decisions) one other = let e : false ≡ true = other tt in absurd cc
 turned false (No findings) one other = refl
 
--- the texts of one verdict and of none behind it
-one_text : (xs : List ℕ) → xs ++ [] ≡ xs
-one_text xs = append-nil xs
+-- what is shown alone has the text of its one judgement
+alone_text : (form : Form) (b : Bundle) (j : Judgement) (across : List Accusation)
+    → shown_text form (record { alone = true; bundles = b ∷ [] }) (j ∷ []) across ≡ judgement_text form b.header b.faulty j.verdict (map told_of j.convictions.items)
+alone_text Text b j across = append-nil (verdict_text b.header j.verdict (map told_of j.convictions.items))
+alone_text Json b j across = refl
+
+-- several runs have the text of all judgements
+runs_text : (form : Form) (bundles : List Bundle) (js : List Judgement) (across : List Accusation)
+    → shown_text form (record { alone = false; bundles = bundles }) js across ≡ judgements_text form bundles js across
+runs_text Text bundles js across = refl
+runs_text Json bundles js across = refl
 
 -- the judgements of what is shown, with their text, are what the job audit answers
-pub audits_form : (alone : Bool) (bundles : List Bundle) (js : List Judgement) (across : List Accusation) (said : Bool) (text : List ℕ)
+pub audits_shown : (form : Form) (alone : Bool) (bundles : List Bundle) (js : List Judgement) (across : List Accusation) (said : Bool) (text : List ℕ)
     → AreShown alone bundles → AreJudged bundles js → AreConvictedAcross (shown_bundles bundles) across → Decides said (AreYes js)
-    → text ≡ (if alone then verdict_texts bundles js else several_text bundles js across) → AuditsForm alone bundles text (not said)
-audits_form true [] js across said text shown judged convicted decides is = shown
-audits_form true (b ∷ c ∷ others) js across said text shown judged convicted decides is = shown
-audits_form true (b ∷ []) [] across said text shown judged convicted decides is = absurd judged
-audits_form true (b ∷ []) (j ∷ k ∷ js) across said text shown judged convicted decides is = absurd judged.1
-audits_form true (b ∷ []) (j ∷ []) across said text shown judged convicted decides is =
+    → text ≡ shown_text form (record { alone = alone; bundles = bundles }) js across → AuditsShown form alone bundles text (not said)
+audits_shown form true [] js across said text shown judged convicted decides is = shown
+audits_shown form true (b ∷ c ∷ others) js across said text shown judged convicted decides is = shown
+audits_shown form true (b ∷ []) [] across said text shown judged convicted decides is = absurd judged
+audits_shown form true (b ∷ []) (j ∷ k ∷ js) across said text shown judged convicted decides is = absurd judged.1
+audits_shown form true (b ∷ []) (j ∷ []) across said text shown judged convicted decides is =
     let one : IsJudged b j = judged.0 in
     let both = yes_supported (b ∷ []) (j ∷ []) judged in
     let turn = not_false said in
@@ -70,14 +79,14 @@ audits_form true (b ∷ []) (j ∷ []) across said text shown judged convicted d
       convictions = map told_of j.convictions.items;
       convicted = one.convictions;
       held = one.held;
-      text_is = is ∙ one_text (verdict_text b.header j.verdict (map told_of j.convictions.items));
+      text_is = is ∙ alone_text form b j across;
       negative_is = turned said j.verdict (λ e. All-head says j [] (decides.0 e)) (λ y. decides.1 (All-cons says j [] y (All-nil says)));
       supported = (
         (λ e. All-head IsSupported b [] (both.0 (decides.0 (turn.0 e)))),
         (λ h. turn.1 (decides.1 (both.1 (All-cons IsSupported b [] h (All-nil IsSupported))))),
       );
     }
-audits_form false bundles js across said text shown judged convicted decides is =
+audits_shown form false bundles js across said text shown judged convicted decides is =
     let both = yes_supported bundles js judged in
     let turn = not_false said in
     record {
@@ -85,6 +94,6 @@ audits_form false bundles js across said text shown judged convicted decides is 
       judged = judged;
       across = across;
       convicted = convicted;
-      text_is = is;
+      text_is = is ∙ runs_text form bundles js across;
       supported = ((λ e. both.0 (decides.0 (turn.0 e))), (λ h. turn.1 (decides.1 (both.1 h))));
     }

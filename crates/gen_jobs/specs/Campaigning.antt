@@ -4,8 +4,8 @@ use Rattle.std.specs.List.{AllZip}
 use Rattle.gen_scenario.specs.Scenario.{Scenario}
 use Rattle.gen_audit.specs.Bundle.{Bundle}
 use Rattle.gen_campaign.specs.CampaignSpelling.{campaign_spelling}
-use Rattle.gen_campaign_text.specs.CampaignText.{SpellsCampaignText}
-use Rattle.gen_campaign_text.specs.CampaignTextReading.{campaign_text_of}
+use Rattle.gen_campaign.specs.CampaignText.{SpellsCampaignText}
+use Rattle.gen_campaign.specs.CampaignTextReading.{campaign_text_of}
 use Rattle.gen_jobs.specs.Run.{IsOfRun}
 use Rattle.gen_jobs.specs.declared.ends.JobFault.{JobFault}
 use Rattle.gen_jobs.specs.declared.ends.JobFault.TheVariants as faults

@@ -11,8 +11,12 @@ abbrev pub fault_status : JobFault → ℕ
 fault_status (faults.Scenario f) = 3
 fault_status (faults.Campaign f) = 3
 fault_status (faults.Evidence f) = 3
+fault_status (faults.Log f) = 3
+fault_status (faults.Seed f) = 3
+fault_status faults.OtherRun = 3
 fault_status faults.Memory = 4
 fault_status faults.Thread = 4
+fault_status faults.Open = 5
 fault_status faults.Read = 5
 fault_status faults.Write = 5
 

@@ -4,8 +4,13 @@ use Rattle.gen_types.specs.declared.reading.ReadError.TheVariants as errors
 use Rattle.gen_report.specs.declared.fault.ScenarioFault.{ScenarioFault}
 use Rattle.gen_campaign.specs.declared.campaign_fault.CampaignFault.{CampaignFault}
 use Rattle.gen_convict.specs.declared.evidence_fault.EvidenceFault.{EvidenceFault}
-use Rattle.gen_workers.specs.declared.faults.AuditFault.{AuditFault}
-use Rattle.gen_workers.specs.declared.faults.AuditFault.TheVariants as audits
+use Rattle.gen_answer.specs.declared.answers.AnswerFault.{AnswerFault}
+use Rattle.gen_answer.specs.declared.answers.AnswerFault.TheVariants as answers
+use Rattle.gen_audit.specs.declared.bundle_fault.BundleFault.{BundleFault}
+use Rattle.gen_campaign.specs.declared.campaign_fault.CampaignFault.TheVariants.{Alone}
+use Rattle.gen_prepare.specs.declared.seed_fault.SeedFault.{SeedFault}
+use Rattle.gen_audit.specs.declared.faults.AuditFault.{AuditFault}
+use Rattle.gen_audit.specs.declared.faults.AuditFault.TheVariants as audits
 use Rattle.gen_threads.specs.declared.ends.RunFault.{RunFault}
 use Rattle.gen_threads.specs.declared.ends.RunFault.TheVariants as runs
 use Rattle.gen_jobs.specs.declared.ends.JobFault.{JobFault}
@@ -25,6 +30,22 @@ campaign_failure (errors.Fault f) = faults.Campaign f
 abbrev pub evidence_failure : ReadError EvidenceFault → JobFault
 evidence_failure errors.Memory = faults.Memory
 evidence_failure (errors.Fault f) = faults.Evidence f
+
+-- the job's fault for a seed that can't be read
+abbrev pub seed_failure : ReadError SeedFault → JobFault
+seed_failure errors.Memory = faults.Memory
+seed_failure (errors.Fault f) = faults.Seed f
+
+-- the job's fault for a bundle that can't be made
+abbrev pub bundle_failure : ReadError BundleFault → JobFault
+bundle_failure errors.Memory = faults.Memory
+bundle_failure (errors.Fault f) = faults.Campaign (Alone f)
+
+-- the job's fault for evidence and a log that are not looked at
+abbrev pub answer_failure : AnswerFault → JobFault
+answer_failure answers.Memory = faults.Memory
+answer_failure (answers.Evidence f) = faults.Evidence f
+answer_failure (answers.Log f) = faults.Log f
 
 -- the job's fault for an audit that could not be made
 abbrev pub audit_failure : AuditFault → JobFault

@@ -1,35 +1,43 @@
 -- The jobs, and what each makes of its input.
 use Rattle.std.specs.Prelude.{ℕ, Bool, List}
-use Rattle.gen_jobs.specs.Accusing.{IsAccused}
-use Rattle.gen_jobs.specs.Audit.{IsAudited, IsAuditFault}
+use Rattle.gen_jobs.specs.Asking.{IsAccusedOf, IsAuditedBy, IsCheckedIn, IsDrawnBy, IsEvidenceFaultOf, IsHeldFault, IsJudgedAs, IsShowFault}
 use Rattle.gen_jobs.specs.Campaigning.{IsCampaignFault, IsCampaignRun}
-use Rattle.gen_jobs.specs.Checking.{IsChecked, IsEvidenceFault}
-use Rattle.gen_jobs.specs.Decide.{IsDecided, IsDecideFault}
-use Rattle.gen_jobs.specs.Drawing.{IsDrawn}
-use Rattle.gen_jobs.specs.Judging.{IsJudged}
+use Rattle.gen_jobs.specs.Decide.{IsDecidedIn, IsDecideFault}
+use Rattle.gen_jobs.specs.Preparing.{IsHeaderFault, IsHeaderOf, IsRoot, IsRootFault}
 use Rattle.gen_jobs.specs.Run.{IsRun, IsRunFault}
+use Rattle.gen_jobs.specs.Showing.{IsShownFault, IsShownOf}
+use Rattle.gen_jobs.specs.Telling.{IsMemory, IsTold}
 use Rattle.gen_jobs.specs.declared.ends.JobFault.{JobFault}
 use Rattle.gen_jobs.specs.declared.jobs.Job.{Job}
 use Rattle.gen_jobs.specs.declared.jobs.Job.TheVariants as jobs
 
 -- the text is an answer of the job to the input, and says no if `negative` is true
 abbrev pub JobAnswers : Job → List ℕ → List ℕ → Bool → Type 0
-JobAnswers jobs.Decide input text negative = IsDecided input text negative
+JobAnswers (jobs.Decide form) input text negative = IsDecidedIn form input text negative
 JobAnswers (jobs.Run n) input text negative = IsRun input text negative
-JobAnswers (jobs.Judge n w) input text negative = IsJudged input text negative
+JobAnswers (jobs.Judge n w strict form) input text negative = IsJudgedAs form strict input text negative
 JobAnswers (jobs.Campaign n) input text negative = IsCampaignRun input text negative
-JobAnswers (jobs.Audit w) input text negative = IsAudited input text negative
-JobAnswers (jobs.Draw w) input text negative = IsDrawn input text negative
-JobAnswers (jobs.Accuse g) input text negative = IsAccused g input text negative
-JobAnswers jobs.Evidence input text negative = IsChecked input text negative
+JobAnswers (jobs.Audit w asked strict form) input text negative =
+    IsAuditedBy asked form strict input text negative
+JobAnswers (jobs.Draw w asked) input text negative = IsDrawnBy asked input text negative
+JobAnswers (jobs.Accuse g asked) input text negative = IsAccusedOf asked g input text negative
+JobAnswers (jobs.Evidence asked form) input text negative = IsCheckedIn form asked input text negative
+JobAnswers (jobs.Show asked) input text negative = IsShownOf asked input text negative
+JobAnswers (jobs.Root height) input text negative = IsRoot height input text negative
+JobAnswers (jobs.Header version) input text negative = IsHeaderOf version input text negative
+JobAnswers (jobs.Tell what) input text negative = IsTold what input text negative
 
 -- the fault is one that the job has at the input
 abbrev pub JobFails : Job → List ℕ → JobFault → Type 0
-JobFails jobs.Decide input fault = IsDecideFault input fault
+JobFails (jobs.Decide form) input fault = IsDecideFault input fault
 JobFails (jobs.Run n) input fault = IsRunFault input fault
-JobFails (jobs.Judge n w) input fault = IsRunFault input fault
+JobFails (jobs.Judge n w strict form) input fault = IsRunFault input fault
 JobFails (jobs.Campaign n) input fault = IsCampaignFault input fault
-JobFails (jobs.Audit w) input fault = IsAuditFault input fault
-JobFails (jobs.Draw w) input fault = IsAuditFault input fault
-JobFails (jobs.Accuse g) input fault = IsAuditFault input fault
-JobFails jobs.Evidence input fault = IsEvidenceFault input fault
+JobFails (jobs.Audit w asked strict form) input fault = IsHeldFault asked input fault
+JobFails (jobs.Draw w asked) input fault = IsHeldFault asked input fault
+JobFails (jobs.Accuse g asked) input fault = IsShowFault asked input fault
+JobFails (jobs.Evidence asked form) input fault = IsEvidenceFaultOf asked input fault
+JobFails (jobs.Show asked) input fault = IsShownFault asked input fault
+JobFails (jobs.Root height) input fault = IsRootFault height input fault
+JobFails (jobs.Header version) input fault = IsHeaderFault version input fault
+JobFails (jobs.Tell what) input fault = IsMemory fault

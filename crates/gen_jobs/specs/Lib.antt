@@ -2,6 +2,8 @@ pub mod Accepted
 pub mod AcceptedCampaigns
 pub mod Accusing
 pub mod Answering
+pub mod AskedRuns
+pub mod Asking
 pub mod Audit
 pub mod Campaigning
 pub mod Checking
@@ -9,7 +11,14 @@ pub mod Decide
 pub mod Drawing
 pub mod Ends
 pub mod Failing
+pub mod Faulty
+pub mod Holding
 pub mod Jobs
+pub mod Joining
 pub mod Judging
+pub mod Naming
+pub mod Preparing
 pub mod Ranges
 pub mod Run
+pub mod Showing
+pub mod Telling

@@ -6,9 +6,12 @@ ghost use Rattle.gen_convict.specs.AcrossLaws.{AreConvictedAcross, AreEvidenceAc
 ghost use Rattle.gen_campaign.specs.Judged.{AreJudged, shown_bundles};
 ghost use Rattle.gen_jobs.specs.Accusing.{AccusesRuns, AccusesWithin, AreOfRuns, IsAccused, TellsAcross, TellsOf};
 ghost use Rattle.gen_jobs.specs.Answering.{Answers};
+ghost use Rattle.gen_jobs.specs.AskedRuns.{AreAsked, run_ids};
+ghost use Rattle.gen_jobs.specs.Asking.{AccusesAll, IsAccusedOf, IsShowFault, IsWantOrOthers};
 ghost use Rattle.gen_jobs.specs.Audit.{IsAuditFault, IsWant};
 ghost use Rattle.gen_jobs.specs.Ends.{IsTaken, KeepsUntilWhole};
 
+use crate::asked_runs::{AskedRuns, check_runs};
 use crate::ends::{JobEnd, JobFault, Output};
 use crate::gates::Open;
 use crate::transfer::{deliver, read_all};
@@ -190,23 +193,67 @@ pub fn accuse_taken<T: Threads + Wait + Sync>(
     accuse_of(rt, alloc, workers, general, &campaign)
 }
 
+/// Returns the bytes of the evidence that a bundle or a campaign of the runs that are asked for holds against a
+/// general. If there is none, there are no bytes, and the output says no.
+#[tactic(auto, using(crate::proofs::AskedFaults::others_or_wants, crate::proofs::AskedFaults::want_or_others))]
+fn accuse_asked<T: Threads + Wait + Sync>(
+    rt: &T,
+    alloc: Global,
+    workers: WorkerCount,
+    asked: AskedRuns,
+    general: GeneralNo,
+    campaign: &CampaignBundle,
+) -> Result<Output, JobFault>
+    ensures answer { IfOk result (λ o. AreAsked asked (run_ids campaign.now.bundles)
+        × AccusesAll general campaign.now o.text.items o.negative) }
+    ensures fault { IfErr result (IsWantOrOthers asked (run_ids campaign.now.bundles)) }
+{
+    check_runs(alloc, asked, campaign.bundles())?;
+    accuse_of(rt, alloc, workers, general, campaign)
+}
+
+/// Returns what `accuse` returns for the input, whose runs must be the ones that are asked for. The input is taken, and
+/// its bytes are not copied.
+///
+/// # Errors
+///
+/// `Campaign` with the first fault of an input that spells neither; else `OtherRun` if the runs are others. `Memory` if
+/// memory is refused; `Thread` if a worker's thread can't be started.
+#[tactic(auto, using(crate::proofs::AskedFaults::are_show_faults))]
+pub fn accuse_as_asked<T: Threads + Wait + Sync>(
+    rt: &T,
+    alloc: Global,
+    workers: WorkerCount,
+    asked: AskedRuns,
+    general: GeneralNo,
+    input: Vec<u8>,
+) -> Result<Output, JobFault>
+    ensures answer { IfOk result (λ o. IsAccusedOf asked general input.items o.text.items o.negative) }
+    ensures fault { IfErr result (IsShowFault asked input.items) }
+{
+    let campaign = read_taken_campaign(alloc, input)?;
+    accuse_asked(rt, alloc, workers, asked, general, &campaign)
+}
+
 /// Reads the bytes of a bundle or of a campaign to their end, and writes the bytes of the evidence against the general
-/// that `accuse` returns for them. If there is none, nothing is written, and the end is negative.
+/// that they hold. If there is none, nothing is written, and the end is negative. Nothing is written either if the runs
+/// are others than those that are asked for.
 ///
 /// A fault of the input is looked for after the whole input was read, and nothing is written before the output is
-/// whole. If a read, a write, memory or a worker's thread fails, the job ends with that fault.
+/// whole. If a read, a write, memory or a thread fails, the job ends with that fault.
 #[tactic(auto, using(crate::proofs::Delivering::output_engine))]
 pub fn accuse_engine<T: Threads + Wait + Sync, R: Read, W: Write>(
     rt: &T,
     alloc: Global,
     workers: WorkerCount,
+    asked: AskedRuns,
     general: GeneralNo,
     reader: &mut R,
     writer: &mut W,
 ) -> JobEnd
     // What is written is the evidence that what was read holds against the general.
     ensures answers { IfSome (R.remaining reader.old) (λ input.
-        Answers (IsAccused general input) (IsAuditFault input)
+        Answers (IsAccusedOf asked general input) (IsShowFault asked input)
         (W.contents writer.old) (W.contents writer.new) result) }
     // What was read is within the limit.
     ensures taken { IfSome (R.remaining reader.old) (λ input. IsTaken input result) }
@@ -214,7 +261,10 @@ pub fn accuse_engine<T: Threads + Wait + Sync, R: Read, W: Write>(
     ensures late { KeepsUntilWhole (W.contents writer.old) (W.contents writer.new) result }
 {
     match read_all(alloc, reader) {
-        Ok(input) => deliver(writer, accuse_taken(rt, alloc, workers, general, input)),
+        Ok(input) => deliver(
+            writer,
+            accuse_as_asked(rt, alloc, workers, asked, general, input),
+        ),
         Err(fault) => JobEnd::Failed(fault),
     }
 }

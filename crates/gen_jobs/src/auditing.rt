@@ -3,21 +3,30 @@ ghost use Rattle.std.specs.Prelude.{◌≡◌, IfOk, IfErr, IfSome, map};
 ghost use Rattle.gen_convict.specs.AcrossLaws.{AreConvictedAcross};
 ghost use Rattle.gen_convict.specs.Evidence.{told_of};
 ghost use Rattle.gen_campaign.specs.Judged.{AreJudged, shown_bundles};
-ghost use Rattle.gen_report.specs.VerdictText.{verdict_text};
 ghost use Rattle.gen_jobs.specs.Answering.{Answers};
-ghost use Rattle.gen_jobs.specs.Audit.{AuditsForm, IsAudited, IsAuditFault, IsWant, is_no};
+ghost use Rattle.gen_jobs.specs.AskedRuns.{AreAsked, run_ids};
+ghost use Rattle.gen_jobs.specs.Asking.{AuditsAs, IsAuditedBy, IsHeldFault, IsWantOrLack};
+ghost use Rattle.gen_jobs.specs.Audit.{AuditsShown, IsAudited, IsAuditFault, IsWant, is_no, judgement_text, shown_text};
 ghost use Rattle.gen_jobs.specs.Ends.{IsTaken, KeepsUntilWhole};
+ghost use Rattle.gen_jobs.specs.Holding.{HoldsAs};
 
+use crate::asked::Asked;
+use crate::asked_runs::check_runs;
+use crate::counting::{counted, have_few};
 use crate::ends::{JobEnd, JobFault, Output};
+use crate::forms::Form;
 use crate::gates::Open;
+use crate::holding::held_as;
 use crate::transfer::{deliver, read_all};
 use gen_audit::{Judgement, Verdict, WorkerCount};
 use gen_campaign::{
-    CampaignBundle, CampaignVerdict, audit_campaign, read_campaign, read_taken_campaign,
+    CampaignBundle, CampaignVerdict, audit_campaign, print_campaign, read_campaign,
+    read_taken_campaign,
 };
-use gen_campaign_text::print_campaign;
+use gen_json::{print_campaign_json, print_verdict_json};
 use gen_net::Header;
 use gen_report::print_verdict;
+use gen_types::GeneralSet;
 use std::alloc::{AllocError, Global};
 use std::io::{Read, Write};
 use std::sync::Wait;
@@ -33,26 +42,63 @@ fn says_no(verdict: &Verdict) -> bool
     }
 }
 
-/// Returns the text of a judgement under a header, and whether its verdict is a no.
-pub(crate) fn judgement_text(
+/// Returns a judgement under a header in this form. These generals are held for faulty.
+fn judgement_in(
     alloc: Global,
+    form: Form,
     header: &Header,
+    faulty: &GeneralSet,
+    judgement: &Judgement,
+) -> Result<Vec<u8>, AllocError>
+    ensures { IfOk result (λ v. v.items ≡ judgement_text form header.now faulty.now
+        judgement.now.verdict (map told_of judgement.now.convictions.items)) }
+{
+    match form {
+        Form::Text => print_verdict(alloc, header, judgement),
+        Form::Json => print_verdict_json(alloc, header, faulty, judgement),
+    }
+}
+
+/// Returns a judgement under a header in this form, and whether its verdict is a no. These generals are held for
+/// faulty.
+pub(crate) fn judgement_output(
+    alloc: Global,
+    form: Form,
+    header: &Header,
+    faulty: &GeneralSet,
     judgement: &Judgement,
 ) -> Result<Output, AllocError>
-    ensures text { IfOk result (λ o. o.text.items
-        ≡ verdict_text header.now judgement.now.verdict (map told_of judgement.now.convictions.items)) }
+    ensures text { IfOk result (λ o. o.text.items ≡ judgement_text form header.now faulty.now
+        judgement.now.verdict (map told_of judgement.now.convictions.items)) }
     ensures negative { IfOk result (λ o. o.negative ≡ is_no judgement.now.verdict) }
 {
-    let text = print_verdict(alloc, header, judgement)?;
+    let text = judgement_in(alloc, form, header, faulty, judgement)?;
     Ok(Output {
         text,
         negative: says_no(&judgement.verdict),
     })
 }
 
-/// Returns the text of a verdict on a bundle or a campaign, and whether it is a no on some run.
+/// Returns a verdict on a bundle or a campaign in this form.
+fn verdict_in(
+    alloc: Global,
+    form: Form,
+    campaign: &CampaignBundle,
+    verdict: &CampaignVerdict,
+) -> Result<Vec<u8>, AllocError>
+    ensures { IfOk result (λ v. v.items ≡ shown_text form campaign.now verdict.now.judgements.items
+        (map told_of verdict.now.across.items)) }
+{
+    match form {
+        Form::Text => print_campaign(alloc, campaign, verdict),
+        Form::Json => print_campaign_json(alloc, campaign, verdict),
+    }
+}
+
+/// Returns a verdict on a bundle or a campaign in this form, and whether it is a no on some run.
 pub(crate) fn output_by(
     alloc: Global,
+    form: Form,
     campaign: &CampaignBundle,
     verdict: &CampaignVerdict,
 ) -> Result<Output, AllocError>
@@ -60,31 +106,32 @@ pub(crate) fn output_by(
     requires across { AreConvictedAcross (shown_bundles campaign.now.bundles)
         (map told_of verdict.now.across.items) }
     ensures { IfOk result (λ o.
-        AuditsForm campaign.now.alone campaign.now.bundles o.text.items o.negative) }
+        AuditsShown form campaign.now.alone campaign.now.bundles o.text.items o.negative) }
 {
     // The contract needs what every campaign keeps, which this read tells.
     let _lawful = campaign.is_alone();
-    let text = print_campaign(alloc, campaign, verdict)?;
+    let text = verdict_in(alloc, form, campaign, verdict)?;
     Ok(Output {
         text,
         negative: !verdict.is_yes(),
     })
 }
 
-/// Returns the text of the verdict on a bundle or a campaign, and whether it is a no on some run.
+/// Returns the verdict on a bundle or a campaign in this form, and whether it is a no on some run.
 #[tactic(auto, using(crate::proofs::Audited::is_want))]
 fn audit_of<T: Threads + Wait + Sync>(
     rt: &T,
     alloc: Global,
     workers: WorkerCount,
+    form: Form,
     campaign: &CampaignBundle,
 ) -> Result<Output, JobFault>
     ensures answer { IfOk result (λ o.
-        AuditsForm campaign.now.alone campaign.now.bundles o.text.items o.negative) }
+        AuditsShown form campaign.now.alone campaign.now.bundles o.text.items o.negative) }
     ensures fault { IfErr result IsWant }
 {
     let verdict = audit_campaign(rt, alloc, campaign, workers, &Open)?;
-    Ok(output_by(alloc, campaign, &verdict)?)
+    Ok(output_by(alloc, form, campaign, &verdict)?)
 }
 
 /// Returns the text of the judgement on the bundle or the campaign that the input spells, and whether its verdict is a
@@ -106,7 +153,7 @@ pub fn audit<T: Threads + Wait + Sync>(
     ensures fault { IfErr result (IsAuditFault input.now) }
 {
     let campaign = read_campaign(alloc, input)?;
-    audit_of(rt, alloc, workers, &campaign)
+    audit_of(rt, alloc, workers, Form::Text, &campaign)
 }
 
 /// Returns what `audit` returns for the input, but takes the input, whose bytes are not copied.
@@ -125,11 +172,63 @@ pub fn audit_taken<T: Threads + Wait + Sync>(
     ensures fault { IfErr result (IsAuditFault input.items) }
 {
     let campaign = read_taken_campaign(alloc, input)?;
-    audit_of(rt, alloc, workers, &campaign)
+    audit_of(rt, alloc, workers, Form::Text, &campaign)
 }
 
-/// Reads the bytes of a bundle or of a campaign to their end, and writes the verdict on it; nothing if they spell
-/// neither. The end is negative if the verdict is a no, for a campaign on some run.
+/// Returns the verdict on a bundle or a campaign in this form, and whether it counts as a no. It must be of the runs
+/// that are asked for. The generals that are asked for are held for faulty.
+#[tactic(auto, using(crate::proofs::AskedFaults::other_or_lack, crate::proofs::AskedFaults::hold_or_lack, crate::proofs::AskedFaults::want_or_lack))]
+fn audit_by<T: Threads + Wait + Sync>(
+    rt: &T,
+    alloc: Global,
+    workers: WorkerCount,
+    asked: &Asked,
+    form: Form,
+    strict: bool,
+    campaign: CampaignBundle,
+) -> Result<Output, JobFault>
+    ensures answer { IfOk result (λ o. AreAsked asked.now.runs (run_ids campaign.bundles)
+        × HoldsAs asked.now.faulty campaign (AuditsAs form strict) o.text.items o.negative) }
+    ensures fault { IfErr result (IsWantOrLack asked.now campaign) }
+{
+    check_runs(alloc, asked.runs, campaign.bundles())?;
+    let held = held_as(alloc, asked.faulty, campaign)?;
+    let output = audit_of(rt, alloc, workers, form, &held)?;
+    Ok(counted(output, strict, have_few(held.bundles())))
+}
+
+/// Returns in this form the judgement on the bundle or the campaign that the input spells, whose runs must be the ones
+/// that are asked for. If generals are asked for, these are held for faulty in place of the ones that it lists, and the
+/// walks are the best ones between the others, or none if two of them have no short one; header and exhibits stay. What
+/// says no counts as a no. If it is asked strictly, so does a yes that says `explained`. The input is taken, and its
+/// bytes are not copied unless generals are asked for.
+///
+/// # Errors
+///
+/// `Campaign` with the first fault of an input that spells neither; else `OtherRun` if the runs are others. Else
+/// `Campaign` with `FaultyRange`, as the fault of the first bundle whose header lacks a general that is asked for.
+/// `Memory` if memory is refused; `Thread` if a worker's thread can't be started.
+#[tactic(auto, using(crate::proofs::AskedFaults::are_held_faults))]
+pub fn audit_as_asked<T: Threads + Wait + Sync>(
+    rt: &T,
+    alloc: Global,
+    workers: WorkerCount,
+    asked: &Asked,
+    form: Form,
+    strict: bool,
+    input: Vec<u8>,
+) -> Result<Output, JobFault>
+    ensures answer { IfOk result (λ o.
+        IsAuditedBy asked.now form strict input.items o.text.items o.negative) }
+    ensures fault { IfErr result (IsHeldFault asked.now input.items) }
+{
+    let campaign = read_taken_campaign(alloc, input)?;
+    audit_by(rt, alloc, workers, asked, form, strict, campaign)
+}
+
+/// Reads the bytes of a bundle or of a campaign to their end, and writes the verdict on it in this form; nothing if they
+/// spell neither, or other runs than those that are asked for, or lack a general that is asked for. The end is negative
+/// if the verdict counts as a no, for a campaign on some run: a no does, and if it is asked strictly, `explained` too.
 ///
 /// A fault of the input is looked for after the whole input was read, and nothing is written before the output is
 /// whole. If a read, a write, memory or a worker's thread fails, the job ends with that fault.
@@ -138,12 +237,15 @@ pub fn audit_engine<T: Threads + Wait + Sync, R: Read, W: Write>(
     rt: &T,
     alloc: Global,
     workers: WorkerCount,
+    asked: &Asked,
+    form: Form,
+    strict: bool,
     reader: &mut R,
     writer: &mut W,
 ) -> JobEnd
     // What is written is the verdict on what was read.
     ensures answers { IfSome (R.remaining reader.old) (λ input.
-        Answers (IsAudited input) (IsAuditFault input)
+        Answers (IsAuditedBy asked.now form strict input) (IsHeldFault asked.now input)
         (W.contents writer.old) (W.contents writer.new) result) }
     // What was read is within the limit.
     ensures taken { IfSome (R.remaining reader.old) (λ input. IsTaken input result) }
@@ -151,7 +253,10 @@ pub fn audit_engine<T: Threads + Wait + Sync, R: Read, W: Write>(
     ensures late { KeepsUntilWhole (W.contents writer.old) (W.contents writer.new) result }
 {
     match read_all(alloc, reader) {
-        Ok(input) => deliver(writer, audit_taken(rt, alloc, workers, input)),
+        Ok(input) => deliver(
+            writer,
+            audit_as_asked(rt, alloc, workers, asked, form, strict, input),
+        ),
         Err(fault) => JobEnd::Failed(fault),
     }
 }

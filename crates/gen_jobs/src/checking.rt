@@ -3,12 +3,17 @@ ghost use Rattle.std.specs.Prelude.{◌≡◌, IfOk, IfErr, IfSome};
 ghost use Rattle.gen_convict.specs.Evidence.{told_of};
 ghost use Rattle.gen_convict.specs.EvidenceReading.{IsWhole};
 ghost use Rattle.gen_jobs.specs.Answering.{Answers};
-ghost use Rattle.gen_jobs.specs.Checking.{IsChecked, IsEvidenceFault, Tells};
+ghost use Rattle.gen_jobs.specs.Asking.{IsCheckedIn, IsCheckedOf, IsEvidenceFaultOf};
+ghost use Rattle.gen_jobs.specs.Checking.{IsChecked, IsEvidenceFault, Tells, evidence_text, holds_text};
 ghost use Rattle.gen_jobs.specs.Ends.{IsTaken, KeepsUntilWhole};
+ghost use Rattle.gen_jobs.specs.declared.forms.Form.TheVariants.{Text};
 
+use crate::asked_runs::{AskedRuns, check_run};
 use crate::ends::{JobEnd, JobFault, Output};
+use crate::forms::Form;
 use crate::transfer::{deliver, read_all};
 use gen_convict::{Evidence, check_evidence, read_evidence};
+use gen_json::print_evidence_json;
 use gen_net::Header;
 use std::alloc::{AllocError, Global};
 use std::io::{Read, Write};
@@ -19,21 +24,55 @@ const HOLDS: &[u8] = b"evidence holds\n";
 /// The output for evidence that doesn't hold.
 const FAILS: &[u8] = b"evidence fails\n";
 
-/// Returns the text that says whether evidence holds under its header. The output says no if it doesn't hold.
-fn told(alloc: Global, header: &Header, evidence: &Evidence) -> Result<Output, AllocError>
+/// Returns the text that says whether evidence holds.
+fn holds_text(alloc: Global, holds: bool) -> Result<Vec<u8>, AllocError>
+    ensures { IfOk result (λ v. v.items ≡ holds_text holds) }
+{
+    if holds {
+        HOLDS.to_vec(alloc)
+    } else {
+        FAILS.to_vec(alloc)
+    }
+}
+
+/// Returns in this form what is told of evidence under its header, and whether it holds.
+fn text_of(
+    alloc: Global,
+    form: Form,
+    header: &Header,
+    evidence: &Evidence,
+    holds: bool,
+) -> Result<Vec<u8>, AllocError>
     requires { IsWhole (record { header = header.now; evidence = told_of evidence.now }) }
-    ensures { IfOk result (λ o. Tells
+    ensures { IfOk result (λ v. v.items ≡ evidence_text form
+        (record { header = header.now; evidence = told_of evidence.now }) holds) }
+{
+    match form {
+        Form::Text => holds_text(alloc, holds),
+        Form::Json => print_evidence_json(alloc, header, evidence, holds),
+    }
+}
+
+/// Returns in this form what is told of evidence under its header. The output says no if the evidence doesn't hold.
+fn told(
+    alloc: Global,
+    form: Form,
+    header: &Header,
+    evidence: &Evidence,
+) -> Result<Output, AllocError>
+    requires { IsWhole (record { header = header.now; evidence = told_of evidence.now }) }
+    ensures { IfOk result (λ o. Tells form
         (record { header = header.now; evidence = told_of evidence.now })
         o.text.items o.negative) }
 {
     if check_evidence(alloc, header, evidence)? {
         Ok(Output {
-            text: HOLDS.to_vec(alloc)?,
+            text: text_of(alloc, form, header, evidence, true)?,
             negative: false,
         })
     } else {
         Ok(Output {
-            text: FAILS.to_vec(alloc)?,
+            text: text_of(alloc, form, header, evidence, false)?,
             negative: true,
         })
     }
@@ -49,19 +88,62 @@ pub fn evidence(alloc: Global, input: &[u8]) -> Result<Output, JobFault>
     ensures fault { IfErr result (IsEvidenceFault input.now) }
 {
     let (header, evidence) = read_evidence(alloc, input)?;
-    Ok(told(alloc, &header, &evidence)?)
+    Ok(told(alloc, Form::Text, &header, &evidence)?)
 }
 
-/// Reads the bytes of evidence to their end, and writes whether it holds: `evidence holds` or `evidence fails`, and LF.
-/// The end is negative if the evidence fails.
+/// Returns in this form what is told of the evidence that the input spells. The output says no if it doesn't hold. It
+/// must be of the run that is asked for: that of its header. For evidence across two runs this is the first of them.
+///
+/// # Errors
+///
+/// `Evidence` with the first fault of an input that spells no evidence; else `OtherRun` if the run is another. `Memory`
+/// if memory is refused.
+#[tactic(auto, using(crate::proofs::AskedFaults::of_other))]
+pub fn evidence_in(
+    alloc: Global,
+    form: Form,
+    asked: AskedRuns,
+    input: &[u8],
+) -> Result<Output, JobFault>
+    ensures answer { IfOk result (λ o. IsCheckedIn form asked input.now o.text.items o.negative) }
+    ensures fault { IfErr result (IsEvidenceFaultOf asked input.now) }
+{
+    let (header, evidence) = read_evidence(alloc, input)?;
+    check_run(asked, &header)?;
+    Ok(told(alloc, form, &header, &evidence)?)
+}
+
+/// Returns what `evidence` returns for the input, which must be of the run that is asked for: that of its header. For
+/// evidence across two runs this is the first of them.
+///
+/// # Errors
+///
+/// `Evidence` with the first fault of an input that spells no evidence; else `OtherRun` if the run is another. `Memory`
+/// if memory is refused.
+pub fn evidence_as_asked(alloc: Global, asked: AskedRuns, input: &[u8]) -> Result<Output, JobFault>
+    ensures answer { IfOk result (λ o. IsCheckedOf asked input.now o.text.items o.negative) }
+    ensures fault { IfErr result (IsEvidenceFaultOf asked input.now) }
+{
+    evidence_in(alloc, Form::Text, asked, input)
+}
+
+/// Reads the bytes of evidence to their end, and writes in this form whether it holds, as text `evidence holds` or
+/// `evidence fails`, and LF. It writes nothing if they spell none, or evidence of another run than the one that is asked
+/// for. The end is negative if the evidence fails.
 ///
 /// A fault of the input is looked for after the whole input was read, and nothing is written before the output is
 /// whole. If a read, a write or memory fails, the job ends with that fault.
 #[tactic(auto, using(crate::proofs::Delivering::output_engine))]
-pub fn evidence_engine<R: Read, W: Write>(alloc: Global, reader: &mut R, writer: &mut W) -> JobEnd
+pub fn evidence_engine<R: Read, W: Write>(
+    alloc: Global,
+    form: Form,
+    asked: AskedRuns,
+    reader: &mut R,
+    writer: &mut W,
+) -> JobEnd
     // What is written says whether the evidence that was read holds.
     ensures answers { IfSome (R.remaining reader.old) (λ input.
-        Answers (IsChecked input) (IsEvidenceFault input)
+        Answers (IsCheckedIn form asked input) (IsEvidenceFaultOf asked input)
         (W.contents writer.old) (W.contents writer.new) result) }
     // What was read is within the limit.
     ensures taken { IfSome (R.remaining reader.old) (λ input. IsTaken input result) }
@@ -69,7 +151,7 @@ pub fn evidence_engine<R: Read, W: Write>(alloc: Global, reader: &mut R, writer:
     ensures late { KeepsUntilWhole (W.contents writer.old) (W.contents writer.new) result }
 {
     match read_all(alloc, reader) {
-        Ok(input) => deliver(writer, evidence(alloc, &input)),
+        Ok(input) => deliver(writer, evidence_in(alloc, form, asked, &input)),
         Err(fault) => JobEnd::Failed(fault),
     }
 }

@@ -2,14 +2,19 @@
 ghost use Rattle.std.specs.Prelude.{◌≡◌, IfOk, IfErr, IfSome};
 ghost use Rattle.gen_scenario.specs.Deciding as decisions;
 ghost use Rattle.gen_report.specs.Decisions.{decisions_text};
+ghost use Rattle.gen_json.specs.Line.{json_line};
 ghost use Rattle.gen_jobs.specs.Answering.{Answers};
-ghost use Rattle.gen_jobs.specs.Decide.{IsDecided, IsDecideFault, scenario_told};
+ghost use Rattle.gen_jobs.specs.Decide.{IsDecided, IsDecidedIn, IsDecideFault, scenario_told, told_data, told_text};
 ghost use Rattle.gen_jobs.specs.Ends.{IsTaken, KeepsUntilWhole};
+ghost use Rattle.gen_report.specs.declared.scenario_text.ScenarioText.TheVariants as texts;
 
 use crate::ends::{JobEnd, JobFault, Output};
+use crate::forms::Form;
 use crate::transfer::{deliver, read_all};
+use gen_json::print_decisions_json;
 use gen_report::{ScenarioText, print_decisions, read_scenario};
-use gen_scenario::Scenario;
+use gen_scenario::{PlainScenario, Scenario};
+use gen_types::GeneralSet;
 use gen_world::{decide_world, run_plain};
 use std::alloc::{AllocError, Global};
 use std::io::{Read, Write};
@@ -31,6 +36,67 @@ fn decisions_of(alloc: Global, told: ScenarioText) -> Result<Vec<u8>, AllocError
     }
 }
 
+/// Returns the object of the decisions in the run of a scenario in which nobody has a script.
+fn plain_object(alloc: Global, plain: &PlainScenario) -> Result<Vec<u8>, AllocError>
+    ensures { IfOk result (λ v. v.items ≡ json_line (told_data (texts.Plain plain.now))) }
+{
+    let run = run_plain(alloc, plain)?;
+    let nobody = GeneralSet::new();
+    print_decisions_json(alloc, plain.net(), None, &nobody, run.decisions())
+}
+
+/// Returns the object of the decisions in the run of a scenario with a seed.
+fn signed_object(alloc: Global, scenario: &Scenario) -> Result<Vec<u8>, AllocError>
+    ensures { IfOk result (λ v. v.items ≡ json_line (told_data (texts.Signed scenario.now))) }
+{
+    let decisions = decide_world(alloc, scenario)?;
+    let header = scenario.header();
+    let scripted = scenario.scripted();
+    let run = Some(*header.run_id());
+    print_decisions_json(alloc, header.net(), run, &scripted, decisions.as_slice())
+}
+
+/// Returns the object of the decisions in the run of a scenario.
+fn object_of(alloc: Global, told: ScenarioText) -> Result<Vec<u8>, AllocError>
+    ensures { IfOk result (λ v. v.items ≡ json_line (told_data told)) }
+{
+    match told {
+        ScenarioText::Plain(plain) => plain_object(alloc, &plain),
+        ScenarioText::Signed(plan) => {
+            let scenario = Scenario::of_plan(alloc, plan)?;
+            signed_object(alloc, &scenario)
+        }
+    }
+}
+
+/// Returns the decisions in the run of a scenario, in this form.
+fn told_in(alloc: Global, form: Form, told: ScenarioText) -> Result<Vec<u8>, AllocError>
+    ensures { IfOk result (λ v. v.items ≡ told_text form told) }
+{
+    match form {
+        Form::Text => decisions_of(alloc, told),
+        Form::Json => object_of(alloc, told),
+    }
+}
+
+/// Returns in this form what each general without a script decides in the run of the scenario that the input spells. The
+/// output never says no.
+///
+/// # Errors
+///
+/// `Scenario` with the first fault of an input that spells no scenario; `Memory` if memory is refused.
+pub fn decide_in(alloc: Global, form: Form, input: &[u8]) -> Result<Output, JobFault>
+    ensures answer { IfOk result (λ o. IsDecidedIn form input.now o.text.items o.negative) }
+    ensures fault { IfErr result (IsDecideFault input.now) }
+{
+    let told = read_scenario(alloc, input)?;
+    let text = told_in(alloc, form, told)?;
+    Ok(Output {
+        text,
+        negative: false,
+    })
+}
+
 /// Returns the text of what each general without a script decides in the run of the scenario that the input spells. The
 /// output never says no.
 ///
@@ -41,24 +107,24 @@ pub fn decide(alloc: Global, input: &[u8]) -> Result<Output, JobFault>
     ensures answer { IfOk result (λ o. IsDecided input.now o.text.items o.negative) }
     ensures fault { IfErr result (IsDecideFault input.now) }
 {
-    let told = read_scenario(alloc, input)?;
-    let text = decisions_of(alloc, told)?;
-    Ok(Output {
-        text,
-        negative: false,
-    })
+    decide_in(alloc, Form::Text, input)
 }
 
-/// Reads a scenario text to its end, and writes what each general without a script decides; nothing if the text has a
-/// fault.
+/// Reads a scenario text to its end, and writes in this form what each general without a script decides; nothing if the
+/// text has a fault.
 ///
 /// A fault of the input is looked for after the whole input was read, and nothing is written before the output is
 /// whole. If a read, a write or memory fails, the job ends with that fault.
 #[tactic(auto, using(crate::proofs::Delivering::output_engine))]
-pub fn decide_engine<R: Read, W: Write>(alloc: Global, reader: &mut R, writer: &mut W) -> JobEnd
+pub fn decide_engine<R: Read, W: Write>(
+    alloc: Global,
+    form: Form,
+    reader: &mut R,
+    writer: &mut W,
+) -> JobEnd
     // What is written answers what was read.
     ensures answers { IfSome (R.remaining reader.old) (λ input.
-        Answers (IsDecided input) (IsDecideFault input)
+        Answers (IsDecidedIn form input) (IsDecideFault input)
         (W.contents writer.old) (W.contents writer.new) result) }
     // What was read is within the limit.
     ensures taken { IfSome (R.remaining reader.old) (λ input. IsTaken input result) }
@@ -66,7 +132,7 @@ pub fn decide_engine<R: Read, W: Write>(alloc: Global, reader: &mut R, writer: &
     ensures late { KeepsUntilWhole (W.contents writer.old) (W.contents writer.new) result }
 {
     match read_all(alloc, reader) {
-        Ok(input) => deliver(writer, decide(alloc, &input)),
+        Ok(input) => deliver(writer, decide_in(alloc, form, &input)),
         Err(fault) => JobEnd::Failed(fault),
     }
 }

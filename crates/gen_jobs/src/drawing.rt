@@ -5,12 +5,18 @@ ghost use Rattle.gen_convict.specs.Evidence.{told_of};
 ghost use Rattle.gen_campaign.specs.Judged.{AreJudged, shown_bundles};
 ghost use Rattle.gen_draw.specs.Several.{several_picture};
 ghost use Rattle.gen_jobs.specs.Answering.{Answers};
+ghost use Rattle.gen_jobs.specs.AskedRuns.{AreAsked, run_ids};
+ghost use Rattle.gen_jobs.specs.Asking.{DrawsAll, IsDrawnBy, IsHeldFault, IsWantOrLack};
 ghost use Rattle.gen_jobs.specs.Audit.{IsAuditFault, IsWant};
 ghost use Rattle.gen_jobs.specs.Drawing.{DrawsForm, IsDrawn, first_picture};
 ghost use Rattle.gen_jobs.specs.Ends.{IsTaken, KeepsUntilWhole};
+ghost use Rattle.gen_jobs.specs.Holding.{HoldsAs};
 
+use crate::asked::Asked;
+use crate::asked_runs::check_runs;
 use crate::ends::{JobEnd, JobFault, Output};
 use crate::gates::Open;
+use crate::holding::held_as;
 use crate::transfer::{deliver, read_all};
 use gen_audit::{Bundle, Judgement, WorkerCount};
 use gen_campaign::{
@@ -138,8 +144,50 @@ pub fn draw_taken<T: Threads + Wait + Sync>(
     draw_of(rt, alloc, workers, &campaign)
 }
 
+/// Returns the picture of a bundle or a campaign and of the judgement on it. It must be of the runs that are asked for.
+/// The generals that are asked for are held for faulty.
+#[tactic(auto, using(crate::proofs::AskedFaults::other_or_lack, crate::proofs::AskedFaults::hold_or_lack, crate::proofs::AskedFaults::want_or_lack))]
+fn draw_by<T: Threads + Wait + Sync>(
+    rt: &T,
+    alloc: Global,
+    workers: WorkerCount,
+    asked: &Asked,
+    campaign: CampaignBundle,
+) -> Result<Output, JobFault>
+    ensures answer { IfOk result (λ o. AreAsked asked.now.runs (run_ids campaign.bundles)
+        × HoldsAs asked.now.faulty campaign DrawsAll o.text.items o.negative) }
+    ensures fault { IfErr result (IsWantOrLack asked.now campaign) }
+{
+    check_runs(alloc, asked.runs, campaign.bundles())?;
+    let held = held_as(alloc, asked.faulty, campaign)?;
+    draw_of(rt, alloc, workers, &held)
+}
+
+/// Returns what `draw` returns for the input, whose runs must be the ones that are asked for. If generals are asked for,
+/// these are held for faulty in place of the ones that it lists, as for `audit_as_asked`. The input is taken, and its
+/// bytes are not copied unless generals are asked for.
+///
+/// # Errors
+///
+/// Those of `audit_as_asked`.
+#[tactic(auto, using(crate::proofs::AskedFaults::are_held_faults))]
+pub fn draw_as_asked<T: Threads + Wait + Sync>(
+    rt: &T,
+    alloc: Global,
+    workers: WorkerCount,
+    asked: &Asked,
+    input: Vec<u8>,
+) -> Result<Output, JobFault>
+    ensures answer { IfOk result (λ o. IsDrawnBy asked.now input.items o.text.items o.negative) }
+    ensures fault { IfErr result (IsHeldFault asked.now input.items) }
+{
+    let campaign = read_taken_campaign(alloc, input)?;
+    draw_by(rt, alloc, workers, asked, campaign)
+}
+
 /// Reads the bytes of a bundle or of a campaign to their end, and writes the picture of it and of the judgement on it;
-/// nothing if they spell neither. The end is never negative.
+/// nothing if they spell neither, or other runs than those that are asked for, or lack a general that is asked for. The
+/// end is never negative.
 ///
 /// A fault of the input is looked for after the whole input was read, and nothing is written before the output is
 /// whole. If a read, a write, memory or a worker's thread fails, the job ends with that fault.
@@ -148,12 +196,13 @@ pub fn draw_engine<T: Threads + Wait + Sync, R: Read, W: Write>(
     rt: &T,
     alloc: Global,
     workers: WorkerCount,
+    asked: &Asked,
     reader: &mut R,
     writer: &mut W,
 ) -> JobEnd
     // What is written is the picture of what was read.
     ensures answers { IfSome (R.remaining reader.old) (λ input.
-        Answers (IsDrawn input) (IsAuditFault input)
+        Answers (IsDrawnBy asked.now input) (IsHeldFault asked.now input)
         (W.contents writer.old) (W.contents writer.new) result) }
     // What was read is within the limit.
     ensures taken { IfSome (R.remaining reader.old) (λ input. IsTaken input result) }
@@ -161,7 +210,7 @@ pub fn draw_engine<T: Threads + Wait + Sync, R: Read, W: Write>(
     ensures late { KeepsUntilWhole (W.contents writer.old) (W.contents writer.new) result }
 {
     match read_all(alloc, reader) {
-        Ok(input) => deliver(writer, draw_taken(rt, alloc, workers, input)),
+        Ok(input) => deliver(writer, draw_as_asked(rt, alloc, workers, asked, input)),
         Err(fault) => JobEnd::Failed(fault),
     }
 }

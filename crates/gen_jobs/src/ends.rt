@@ -3,9 +3,12 @@ ghost use Rattle.std.specs.Prelude.{◌≡◌};
 ghost use Rattle.gen_jobs.specs.Ends.{status_of, fault_in};
 ghost use Rattle.gen_jobs.specs.declared.ends.JobFault.TheVariants.{Memory};
 
-use gen_audit::AuditFault;
+use gen_answer::AnswerFault;
+use gen_audit::{AuditFault, BundleFault};
 use gen_campaign::CampaignFault;
 use gen_convict::EvidenceFault;
+use gen_log::LogFault;
+use gen_prepare::SeedFault;
 use gen_report::ScenarioFault;
 use gen_threads::RunFault;
 use gen_types::ReadError;
@@ -24,12 +27,24 @@ pub enum JobFault {
     /// The input is no evidence.
     #[error("fault {0}")]
     Evidence(EvidenceFault),
+    /// The input is no log of the run of the evidence.
+    #[error("fault {0}")]
+    Log(LogFault),
+    /// The input is no seed.
+    #[error("fault {0}")]
+    Seed(SeedFault),
+    /// The input is of another run than the one that is asked for.
+    #[error("fault R1")]
+    OtherRun,
     /// Memory was refused.
     #[error("memory")]
     Memory,
     /// A thread could not be started.
     #[error("thread")]
     Thread,
+    /// The file of the input could not be opened. No engine ends with it, since an engine is given a reader.
+    #[error("open failed")]
+    Open,
     /// The input could not be read, or is too long.
     #[error("read failed")]
     Read,
@@ -111,6 +126,46 @@ impl From<ReadError<EvidenceFault>> for JobFault {
     }
 }
 
+impl From<ReadError<SeedFault>> for JobFault {
+    ghost use Rattle.gen_jobs.specs.Failing.{seed_failure};
+
+    ghost from_gives = { λ e fault. fault ≡ seed_failure e };
+
+    fn from(e: ReadError<SeedFault>) -> JobFault {
+        match e {
+            ReadError::Memory => JobFault::Memory,
+            ReadError::Fault(fault) => JobFault::Seed(fault),
+        }
+    }
+}
+
+impl From<ReadError<BundleFault>> for JobFault {
+    ghost use Rattle.gen_jobs.specs.Failing.{bundle_failure};
+
+    ghost from_gives = { λ e fault. fault ≡ bundle_failure e };
+
+    fn from(e: ReadError<BundleFault>) -> JobFault {
+        match e {
+            ReadError::Memory => JobFault::Memory,
+            ReadError::Fault(fault) => JobFault::Campaign(CampaignFault::Alone(fault)),
+        }
+    }
+}
+
+impl From<AnswerFault> for JobFault {
+    ghost use Rattle.gen_jobs.specs.Failing.{answer_failure};
+
+    ghost from_gives = { λ e fault. fault ≡ answer_failure e };
+
+    fn from(e: AnswerFault) -> JobFault {
+        match e {
+            AnswerFault::Memory => JobFault::Memory,
+            AnswerFault::Evidence(fault) => JobFault::Evidence(fault),
+            AnswerFault::Log(fault) => JobFault::Log(fault),
+        }
+    }
+}
+
 /// The output of a job.
 #[derive(Debug, Drop)]
 pub struct Output {
@@ -133,17 +188,23 @@ pub enum JobEnd {
 
 impl JobEnd {
     /// Returns the program's exit status. It is 0 if the job is done, 1 if its output says no, 3 for a fault of the
-    /// input, 4 for memory or a thread, and 5 for a read or a write.
+    /// input, 4 for memory or a thread, and 5 for an open, a read or a write.
     pub fn status(self) -> u8
         ensures { result ≡ status_of self }
     {
         match self {
             JobEnd::Done => 0,
             JobEnd::Negative => 1,
-            JobEnd::Failed(JobFault::Scenario(_) | JobFault::Campaign(_) | JobFault::Evidence(_)) =>
-                3,
+            JobEnd::Failed(
+                JobFault::Scenario(_)
+                | JobFault::Campaign(_)
+                | JobFault::Evidence(_)
+                | JobFault::Log(_)
+                | JobFault::Seed(_)
+                | JobFault::OtherRun,
+            ) => 3,
             JobEnd::Failed(JobFault::Memory | JobFault::Thread) => 4,
-            JobEnd::Failed(JobFault::Read | JobFault::Write) => 5,
+            JobEnd::Failed(JobFault::Open | JobFault::Read | JobFault::Write) => 5,
         }
     }
 

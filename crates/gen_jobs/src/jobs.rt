@@ -1,4 +1,4 @@
-//! The eight jobs, and the choice of their engines.
+//! The jobs, and the choice of their engines.
 ghost use Rattle.std.specs.Prelude.{IfSome};
 ghost use Rattle.gen_jobs.specs.Answering.{Answers};
 ghost use Rattle.gen_jobs.specs.Ends.{IsTaken, KeepsUntilWhole};
@@ -6,16 +6,23 @@ ghost use Rattle.gen_jobs.specs.Jobs.{JobAnswers, JobFails};
 ghost use Rattle.gen_jobs.specs.Ranges.{IsInRange};
 
 use crate::accusing::accuse_engine;
+use crate::asked::Asked;
+use crate::asked_runs::AskedRuns;
 use crate::auditing::audit_engine;
 use crate::campaigning::campaign_engine;
 use crate::checking::evidence_engine;
 use crate::deciding::decide_engine;
 use crate::drawing::draw_engine;
 use crate::ends::JobEnd;
+use crate::forms::Form;
 use crate::judging::judge_engine;
+use crate::preparing::{header_engine, root_engine};
 use crate::running::run_engine;
+use crate::showing::show_engine;
+use crate::telling::{Telling, tell_engine};
 use gen_audit::WorkerCount;
-use gen_types::GeneralNo;
+use gen_net::Version;
+use gen_types::{GeneralNo, TreeHeight};
 use std::alloc::Global;
 use std::io::{Read, Write};
 use std::sync::Wait;
@@ -25,7 +32,10 @@ use std::thread::Threads;
 #[derive(Clone, Copy, Debug, PartialEq, Eq)]
 pub enum Job {
     /// Reads a scenario, and writes what each general decides.
-    Decide,
+    Decide {
+        /// The form of the answer.
+        form: Form,
+    },
     /// Reads a scenario with a seed, runs it in threads, and writes the bundle of the run.
     Run {
         /// How many frames an edge holds, 1 to 16.
@@ -37,6 +47,10 @@ pub enum Job {
         capacity: u8,
         /// How many workers read and verify logs.
         workers: WorkerCount,
+        /// Whether `explained` counts as a no.
+        strict: bool,
+        /// The form of the answer.
+        form: Form,
     },
     /// Reads the text of a campaign, runs its scenarios one after another in threads, and writes the campaign: the
     /// bundles of its runs.
@@ -48,19 +62,54 @@ pub enum Job {
     Audit {
         /// How many workers read and verify its logs.
         workers: WorkerCount,
+        /// The runs that it must be of, and who is held for faulty.
+        asked: Asked,
+        /// Whether `explained` counts as a no.
+        strict: bool,
+        /// The form of the answer.
+        form: Form,
     },
     /// Reads a bundle or a campaign, and writes the picture of it and of the judgement on it.
     Draw {
         /// How many workers read and verify its logs.
         workers: WorkerCount,
+        /// The runs that it must be of, and who is held for faulty.
+        asked: Asked,
     },
     /// Reads a bundle or a campaign, and writes the evidence that it holds against a general.
     Accuse {
         /// The general that is accused, 0 to 15.
         general: GeneralNo,
+        /// The runs that it must be of.
+        asked: AskedRuns,
     },
     /// Reads evidence, and writes whether it holds.
-    Evidence,
+    Evidence {
+        /// The run that it must be of.
+        asked: AskedRuns,
+        /// The form of the answer.
+        form: Form,
+    },
+    /// Reads a file, and writes what it is.
+    Show {
+        /// The runs that it must be of.
+        asked: AskedRuns,
+    },
+    /// Reads a seed, and writes the root of its tree of keys.
+    Root {
+        /// The height of the tree.
+        height: TreeHeight,
+    },
+    /// Reads the text of a header, and writes the header.
+    Header {
+        /// The version of the header, in version 2 with the slot, 0 to 3.
+        version: Version,
+    },
+    /// Reads an input, and writes what is told of it.
+    Tell {
+        /// What is told of it.
+        what: Telling,
+    },
 }
 
 /// Does a job by its engine: reads its input to its end and writes the answer; nothing if the input has a fault.
@@ -85,17 +134,37 @@ pub fn do_job<T: Threads + Wait + Sync, R: Read, W: Write>(
     ensures late { KeepsUntilWhole (W.contents writer.old) (W.contents writer.new) result }
 {
     match job {
-        Job::Decide => decide_engine(alloc, reader, writer),
+        Job::Decide { form } => decide_engine(alloc, form, reader, writer),
         Job::Run { capacity } => run_engine(rt, alloc, capacity, reader, writer),
-        Job::Judge { capacity, workers } => {
-            judge_engine(rt, alloc, capacity, workers, reader, writer)
-        }
+        Job::Judge {
+            capacity,
+            workers,
+            strict,
+            form,
+        } => judge_engine(rt, alloc, capacity, workers, form, strict, reader, writer),
         Job::Campaign { capacity } => campaign_engine(rt, alloc, capacity, reader, writer),
-        Job::Audit { workers } => audit_engine(rt, alloc, workers, reader, writer),
-        Job::Draw { workers } => draw_engine(rt, alloc, workers, reader, writer),
-        Job::Accuse { general } => {
-            accuse_engine(rt, alloc, WorkerCount::one(), general, reader, writer)
+        Job::Audit {
+            workers,
+            asked,
+            strict,
+            form,
+        } => audit_engine(rt, alloc, workers, &asked, form, strict, reader, writer),
+        Job::Draw { workers, asked } => draw_engine(rt, alloc, workers, &asked, reader, writer),
+        Job::Accuse { general, asked } => {
+            accuse_engine(
+                rt,
+                alloc,
+                WorkerCount::one(),
+                asked,
+                general,
+                reader,
+                writer,
+            )
         }
-        Job::Evidence => evidence_engine(alloc, reader, writer),
+        Job::Evidence { asked, form } => evidence_engine(alloc, form, asked, reader, writer),
+        Job::Show { asked } => show_engine(alloc, asked, reader, writer),
+        Job::Root { height } => root_engine(alloc, height, reader, writer),
+        Job::Header { version } => header_engine(alloc, version, reader, writer),
+        Job::Tell { what } => tell_engine(alloc, what, reader, writer),
     }
 }

@@ -1,13 +1,17 @@
 //! The job `judge`: runs a scenario, and audits its logs meanwhile.
 ghost use Rattle.std.specs.Prelude.{◌<◌, IfOk, IfErr, IfSome};
 ghost use Rattle.gen_jobs.specs.Answering.{Answers};
+ghost use Rattle.gen_jobs.specs.Asking.{IsJudgedAs, JudgesRunAs};
 ghost use Rattle.gen_jobs.specs.Audit.{IsWant};
 ghost use Rattle.gen_jobs.specs.Ends.{IsTaken, KeepsUntilWhole};
 ghost use Rattle.gen_jobs.specs.Judging.{IsJudged, JudgesRun};
 ghost use Rattle.gen_jobs.specs.Run.{IsRunFault};
+ghost use Rattle.gen_jobs.specs.declared.forms.Form.TheVariants.{Text};
 
-use crate::auditing::judgement_text;
+use crate::auditing::judgement_output;
+use crate::counting::{counted, has_few};
 use crate::ends::{JobEnd, JobFault, Output};
+use crate::forms::Form;
 use crate::gates::Open;
 use crate::running::{make_scenario, missing_seed, walks_between};
 use crate::transfer::{deliver, read_all};
@@ -20,16 +24,17 @@ use std::io::{Read, Write};
 use std::sync::Wait;
 use std::thread::Threads;
 
-/// Returns the text of the judgement on the bundle of a scenario's run, and whether its verdict is a no.
-fn judge_run<T: Threads + Wait + Sync>(
+/// Returns the judgement on the bundle of a scenario's run in this form, and whether its verdict is a no.
+fn judge_scenario<T: Threads + Wait + Sync>(
     rt: &T,
     alloc: Global,
     capacity: u8,
     workers: WorkerCount,
+    form: Form,
     scenario: &Scenario,
 ) -> Result<Output, JobFault>
     requires { 0 < capacity }
-    ensures answer { IfOk result (λ o. JudgesRun scenario.now o.text.items o.negative) }
+    ensures answer { IfOk result (λ o. JudgesRun form scenario.now o.text.items o.negative) }
     ensures fault { IfErr result IsWant }
 {
     let faulty = scenario.scripted();
@@ -39,7 +44,8 @@ fn judge_run<T: Threads + Wait + Sync>(
     let judgement = run_and_audit(
         rt, alloc, scenario, capacity, &faulty, &walks, workers, &Open, &Open,
     )?;
-    Ok(judgement_text(alloc, scenario.header(), &judgement)?)
+    let header = scenario.header();
+    Ok(judgement_output(alloc, form, header, &faulty, &judgement)?)
 }
 
 /// Returns the text of the judgement on the run of the scenario that the input spells, and whether its verdict is a no.
@@ -66,14 +72,62 @@ pub fn judge<T: Threads + Wait + Sync>(
         ScenarioText::Plain(plain) => Err(missing_seed(&plain)),
         ScenarioText::Signed(plan) => {
             let scenario = make_scenario(rt, alloc, plan)?;
-            judge_run(rt, alloc, capacity, workers, &scenario)
+            judge_scenario(rt, alloc, capacity, workers, Form::Text, &scenario)
+        }
+    }
+}
+
+/// Returns the judgement on the bundle of a scenario's run in this form, and whether it counts as a no.
+fn judge_scenario_as<T: Threads + Wait + Sync>(
+    rt: &T,
+    alloc: Global,
+    capacity: u8,
+    workers: WorkerCount,
+    form: Form,
+    strict: bool,
+    scenario: &Scenario,
+) -> Result<Output, JobFault>
+    requires { 0 < capacity }
+    ensures answer { IfOk result (λ o. JudgesRunAs form strict scenario.now o.text.items o.negative) }
+    ensures fault { IfErr result IsWant }
+{
+    let few = has_few(scenario.header().net(), &scenario.scripted());
+    let output = judge_scenario(rt, alloc, capacity, workers, form, scenario)?;
+    Ok(counted(output, strict, few))
+}
+
+/// Returns in this form the judgement that `judge` returns for the input, and whether it counts as a no. What says no
+/// does. If it is asked strictly, so does a yes that says `explained`.
+///
+/// # Errors
+///
+/// Those of `judge`.
+pub fn judge_as_asked<T: Threads + Wait + Sync>(
+    rt: &T,
+    alloc: Global,
+    capacity: u8,
+    workers: WorkerCount,
+    form: Form,
+    strict: bool,
+    input: &[u8],
+) -> Result<Output, JobFault>
+    requires { 0 < capacity }
+    ensures answer { IfOk result (λ o. IsJudgedAs form strict input.now o.text.items o.negative) }
+    ensures fault { IfErr result (IsRunFault input.now) }
+{
+    match read_scenario(alloc, input)? {
+        ScenarioText::Plain(plain) => Err(missing_seed(&plain)),
+        ScenarioText::Signed(plan) => {
+            let scenario = make_scenario(rt, alloc, plan)?;
+            judge_scenario_as(rt, alloc, capacity, workers, form, strict, &scenario)
         }
     }
 }
 
 /// Reads a scenario text with a seed to its end, runs it while this many workers audit the logs that are there, and
-/// writes the verdict on the bundle that `run_engine` would write. Each general runs in a thread of its own; the edges
-/// hold `capacity` frames each, at least one. The end is negative if the verdict is a no.
+/// writes in this form the verdict on the bundle that `run_engine` would write. Each general runs in a thread of its own; the edges
+/// hold `capacity` frames each, at least one. The end is negative if the verdict counts as a no: a no does, and if it
+/// is asked strictly, `explained` too.
 ///
 /// A fault of the input is looked for after the whole input was read, and nothing is written before the output is
 /// whole. If a read, a write, memory or a thread fails, the job ends with that fault.
@@ -83,13 +137,15 @@ pub fn judge_engine<T: Threads + Wait + Sync, R: Read, W: Write>(
     alloc: Global,
     capacity: u8,
     workers: WorkerCount,
+    form: Form,
+    strict: bool,
     reader: &mut R,
     writer: &mut W,
 ) -> JobEnd
     requires { 0 < capacity }
     // What is written is the verdict on the run of the scenario that was read.
     ensures answers { IfSome (R.remaining reader.old) (λ input.
-        Answers (IsJudged input) (IsRunFault input)
+        Answers (IsJudgedAs form strict input) (IsRunFault input)
         (W.contents writer.old) (W.contents writer.new) result) }
     // What was read is within the limit.
     ensures taken { IfSome (R.remaining reader.old) (λ input. IsTaken input result) }
@@ -97,7 +153,10 @@ pub fn judge_engine<T: Threads + Wait + Sync, R: Read, W: Write>(
     ensures late { KeepsUntilWhole (W.contents writer.old) (W.contents writer.new) result }
 {
     match read_all(alloc, reader) {
-        Ok(input) => deliver(writer, judge(rt, alloc, capacity, workers, &input)),
+        Ok(input) => deliver(
+            writer,
+            judge_as_asked(rt, alloc, capacity, workers, form, strict, &input),
+        ),
         Err(fault) => JobEnd::Failed(fault),
     }
 }

@@ -1,5 +1,5 @@
-//! The eight jobs that can be done with an input: decide, run, judge, run a campaign, audit, draw, accuse, and check
-//! evidence.
+//! The jobs that can be done with an input: decide, run, judge, run a campaign, audit, draw, accuse, show, tell, and
+//! check evidence.
 //!
 //! `decide`, `run`, `judge`, `campaign`, `audit`, `draw`, `accuse` and `evidence` take the bytes of an input, and
 //! return the text that answers it or its first fault. They need no reader, no writer and no words of a command line.
@@ -10,33 +10,56 @@
 #![tactic(auto)]
 
 mod accusing;
+mod asked;
+mod asked_runs;
 mod auditing;
 mod bundle_text;
 mod campaign_text;
 mod campaigning;
 mod checking;
+mod counting;
 mod deciding;
 mod drawing;
 mod ends;
+mod faulty;
+mod forms;
 mod gates;
+mod holding;
 mod in_place;
 mod jobs;
+mod joining;
 mod judging;
 pub mod laws;
+mod naming;
+mod preparing;
 mod running;
+mod showing;
+mod telling;
 mod transfer;
 
-pub use accusing::{accuse, accuse_engine, accuse_taken};
-pub use auditing::{audit, audit_engine, audit_taken};
+pub use accusing::{accuse, accuse_as_asked, accuse_engine, accuse_taken};
+pub use asked::Asked;
+pub use asked_runs::{AskedRuns, read_run_ids};
+pub use auditing::{audit, audit_as_asked, audit_engine, audit_taken};
 pub use bundle_text::{BundleText, deliver_bundle};
 pub use campaign_text::{CampaignText, deliver_campaign};
 pub use campaigning::{campaign, campaign_engine};
-pub use checking::{evidence, evidence_engine};
-pub use deciding::{decide, decide_engine};
-pub use drawing::{draw, draw_engine, draw_taken};
+pub use checking::{evidence, evidence_as_asked, evidence_engine, evidence_in};
+pub use deciding::{decide, decide_engine, decide_in};
+pub use drawing::{draw, draw_as_asked, draw_engine, draw_taken};
 pub use ends::{JobEnd, JobFault, Output};
-pub use in_place::{accuse_in_place, audit_in_place, draw_in_place};
+pub use faulty::{Faulty, read_faulty};
+pub use forms::Form;
+pub use in_place::{
+    accuse_asked_in_place, accuse_in_place, audit_asked_in_place, audit_in_place,
+    draw_asked_in_place, draw_in_place,
+};
 pub use jobs::{Job, do_job};
-pub use judging::{judge, judge_engine};
+pub use joining::{answer, join_in_pieces};
+pub use judging::{judge, judge_as_asked, judge_engine};
+pub use naming::{name_file, name_runs};
+pub use preparing::{header, header_engine, root, root_engine};
 pub use running::{run, run_engine, run_in_pieces};
+pub use showing::{show_as_asked, show_engine};
+pub use telling::{Telling, tell, tell_engine};
 pub use transfer::{deliver, read_all, write_output};

@@ -2,8 +2,8 @@
 use Rattle.std.specs.Prelude.{Bool, true, false, Result, Ok, Err}
 use Rattle.gen_threads.specs.declared.ends.RunFault.{RunFault}
 use Rattle.gen_threads.specs.declared.ends.RunFault.TheVariants as runs
-use Rattle.gen_workers.specs.declared.faults.AuditFault.{AuditFault}
-use Rattle.gen_workers.specs.declared.faults.AuditFault.TheVariants.{Memory, Thread}
+use Rattle.gen_audit.specs.declared.faults.AuditFault.{AuditFault}
+use Rattle.gen_audit.specs.declared.faults.AuditFault.TheVariants.{Memory, Thread}
 
 -- the audit's fault for a run that has no logs: Memory if memory was refused, and else Thread
 abbrev pub fault_of_run : RunFault → AuditFault

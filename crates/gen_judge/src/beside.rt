@@ -6,7 +6,7 @@ ghost use Rattle.gen_judge.specs.Faults.{ended_as};
 use crate::faults::fault_of;
 use crate::stopping::StopWord;
 use crate::trays::Tray;
-use crate::working::work_to_end;
+use crate::working::{Crew, work_to_end};
 use gen_audit::{AuditFault, JobGate};
 use gen_desk::Desk;
 use gen_log::SealedLog;
@@ -18,7 +18,7 @@ use std::sync::Wait;
 use std::thread;
 use std::thread::{JoinHandle, Scope, Threads};
 
-/// Starts up to `count` workers, as long as there is room for their handles, and returns whether all could be started.
+/// Starts the workers of a crew, as long as there is room for their handles, and returns whether all could be started.
 /// After one that can't be started no other is.
 fn start_workers<'s, E, R: Threads + Wait + Sync, J: JobGate + Sync>(
     rt: &'s R,
@@ -28,14 +28,15 @@ fn start_workers<'s, E, R: Threads + Wait + Sync, J: JobGate + Sync>(
     header: &'s Header,
     desk: &'s Desk,
     stop: &'s StopWord,
-    count: usize,
+    crew: Crew,
     handles: &mut Vec<JoinHandle<()>>,
 ) -> bool {
-    for _ in 0..count {
+    let Crew { workers, most } = crew;
+    for _ in 0..workers {
         if handles.len() == handles.capacity() {
             return false;
         }
-        match scope.spawn(move || work_to_end(rt, alloc, gate, header, desk, stop)) {
+        match scope.spawn(move || work_to_end(rt, alloc, gate, header, desk, most, stop)) {
             Ok(handle) => handles.push_reserved(handle),
             Err(_refused) => return false,
         }
@@ -76,12 +77,12 @@ fn ended(
 
 /// Starts the workers and runs the generals, while the workers wait for what the generals file. Then it ends the
 /// receipts that the desk knows, and joins the workers.
-fn run_within<'s, E, R: Threads + Wait + Sync, G: Gate + Sync, J: JobGate + Sync>(
+fn run_with_workers<'s, E, R: Threads + Wait + Sync, G: Gate + Sync, J: JobGate + Sync>(
     rt: &'s R,
     alloc: Global,
     scenario: &'s Scenario,
     capacity: usize,
-    workers: usize,
+    crew: Crew,
     desk: &'s Desk,
     tray: &'s Tray,
     stop: &'s StopWord,
@@ -103,7 +104,7 @@ fn run_within<'s, E, R: Threads + Wait + Sync, G: Gate + Sync, J: JobGate + Sync
         header,
         desk,
         stop,
-        workers,
+        crew,
         &mut handles,
     );
     if !started {
@@ -119,8 +120,8 @@ fn run_within<'s, E, R: Threads + Wait + Sync, G: Gate + Sync, J: JobGate + Sync
     ended(logs, started, stop.was_refused())
 }
 
-/// Runs a scenario, whose generals file at the gate, beside this many workers, each in a thread of its own. All threads
-/// have ended when it returns.
+/// Runs a scenario, whose generals file at the gate, beside the workers of a crew, each in a thread of its own. All
+/// threads have ended when it returns.
 ///
 /// # Errors
 ///
@@ -130,7 +131,7 @@ pub(crate) fn run_beside<R: Threads + Wait + Sync, G: Gate + Sync, J: JobGate + 
     alloc: Global,
     scenario: &Scenario,
     capacity: usize,
-    workers: usize,
+    crew: Crew,
     desk: &Desk,
     tray: &Tray,
     stop: &StopWord,
@@ -140,7 +141,7 @@ pub(crate) fn run_beside<R: Threads + Wait + Sync, G: Gate + Sync, J: JobGate + 
     requires { 0 < capacity }
     ensures { IfOk result (λ logs. logs.items ≡ logs_of_all scenario.now) }
 {
-    let handles = Vec::with_capacity(alloc, workers)?;
+    let handles = Vec::with_capacity(alloc, crew.workers)?;
     thread::scope(
         thread::scope_env(),
         rt,
@@ -148,8 +149,8 @@ pub(crate) fn run_beside<R: Threads + Wait + Sync, G: Gate + Sync, J: JobGate + 
             requires { 0 < capacity }
             ensures { IfOk result (λ logs. logs.items ≡ logs_of_all scenario.entry.now) }
         {
-            run_within(
-                rt, alloc, scenario, capacity, workers, desk, tray, stop, gate, job_gate, scope,
+            run_with_workers(
+                rt, alloc, scenario, capacity, crew, desk, tray, stop, gate, job_gate, scope,
                 handles,
             )
         },

@@ -7,6 +7,7 @@ use crate::filing::FilingGate;
 use crate::places::logs_below;
 use crate::stopping::StopWord;
 use crate::trays::Tray;
+use crate::working::Crew;
 use gen_audit::{AuditFault, JobGate, WorkerCount};
 use gen_desk::{Desk, Receipt, Row};
 use gen_log::SealedLog;
@@ -67,7 +68,7 @@ pub(crate) fn run_at_desk<R: Threads + Wait + Sync, G: Gate + Sync, J: JobGate +
         alloc,
         scenario,
         capacity,
-        workers.get(),
+        Crew::new(workers, places),
         &desk,
         &tray,
         &stop,

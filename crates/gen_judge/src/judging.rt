@@ -64,7 +64,7 @@ fn judge_by<R: Threads + Wait + Sync, J: JobGate + Sync>(
 
 /// Returns the judgement on the bundle of a run with these logs. It is made by the reports in the rows, if they are
 /// those of the logs; otherwise this many workers audit the bundle.
-pub(crate) fn judge_run<R: Threads + Wait + Sync, J: JobGate + Sync>(
+pub(crate) fn judge_logs<R: Threads + Wait + Sync, J: JobGate + Sync>(
     rt: &R,
     alloc: Global,
     scenario: &Scenario,

@@ -8,13 +8,6 @@ use gen_local::{Exhibit, LocalReport};
 use gen_net::Header;
 use std::alloc::{AllocError, Global};
 
-/// Returns whether two exhibits are the same.
-fn is_same(one: &Exhibit, other: &Exhibit) -> bool
-    ensures { IsTrue result ↔ (one.now ≡ other.now) }
-{
-    one.general() == other.general() && one.log() == other.log()
-}
-
 /// Returns whether two headers are the same.
 fn is_same_header(one: &Header, other: &Header) -> bool
     ensures { IsTrue result ↔ (one.now ≡ other.now) }
@@ -26,7 +19,10 @@ fn is_same_header(one: &Header, other: &Header) -> bool
 fn is_report_of(report: &LocalReport, header: &Header, exhibit: &Exhibit) -> bool
     ensures { IsTrue result ↔ ((report.now.header ≡ header.now) × (report.now.exhibit ≡ exhibit.now)) }
 {
-    is_same_header(report.header(), header) && is_same(report.exhibit(), exhibit)
+    let reported = report.exhibit();
+    is_same_header(report.header(), header)
+        && reported.general() == exhibit.general()
+        && reported.log() == exhibit.log()
 }
 
 /// Appends the report at a place, if it is the one of the exhibit under the header, and returns whether it is.

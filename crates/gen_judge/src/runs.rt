@@ -9,7 +9,7 @@ ghost use Rattle.gen_audit.specs.Verdict.{IsVerdict};
 ghost use Rattle.gen_audit.specs.WorldBundle.{run_bundle};
 
 use crate::desks::{FiledRun, run_at_desk};
-use crate::judging::judge_run;
+use crate::judging::judge_logs;
 use gen_audit::{AuditFault, JobGate, Judgement, WorkerCount};
 use gen_scenario::Scenario;
 use gen_threads::Gate;
@@ -69,7 +69,7 @@ pub fn run_and_audit<R: Threads + Wait + Sync, G: Gate + Sync, J: JobGate + Sync
     let FiledRun { logs, rows } = run_at_desk(
         rt, alloc, scenario, capacity, workers, gate, job_gate,
     )?;
-    judge_run(
+    judge_logs(
         rt, alloc, scenario, faulty, walks, logs, rows, workers, job_gate,
     )
 }

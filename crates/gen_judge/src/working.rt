@@ -2,37 +2,63 @@
 ghost use Rattle.gen_chain.specs.Store.{Serves};
 
 use crate::stopping::StopWord;
-use gen_audit::JobGate;
+use gen_audit::{JobGate, WorkerCount};
 use gen_chain::VerifyStore;
 use gen_desk::{Claim, Desk, DeskFault};
 use gen_local::{Exhibit, LocalReport, local_reports};
 use gen_net::Header;
+use sha_lanes::LANES;
 use std::alloc::{AllocError, Global};
 use std::sync::Wait;
 use std::thread;
 
-/// How many places a worker claims at a time: the number of lanes that are hashed side by side.
-const LANES: usize = 4;
-
-/// How often at most a worker looks at the desk before it works on fewer than four places.
+/// How often at most a worker looks at the desk before it works on fewer places than it may claim.
 const LOOKS: usize = 200;
 
-/// Claims up to four places that are filed and not yet claimed. A worker that has some, but fewer than four, lets other
-/// threads run a while and looks again. All logs of a run are filed within a short time, and four reports take little
-/// longer than two.
+/// The workers beside a run.
+#[derive(Clone, Copy)]
+pub(crate) struct Crew {
+    /// The number of workers.
+    pub(crate) workers: usize,
+    /// How many places a worker claims at a time, at most.
+    pub(crate) most: usize,
+}
+
+impl Crew {
+    /// Returns the crew of this many workers for a desk with this many places. A worker claims its share of the places
+    /// at a time, but at least one and at most `LANES`, the number of logs that are hashed side by side. So no worker
+    /// takes what another could report on meanwhile.
+    pub(crate) fn new(workers: WorkerCount, places: usize) -> Crew {
+        let workers = workers.get();
+        let share = places.div_ceil(workers);
+        Crew {
+            workers,
+            most: share.min(LANES).max(1),
+        }
+    }
+}
+
+/// Claims up to `most` places that are filed and not yet claimed. A worker that has some, but fewer than `most`, lets
+/// other threads run a while and looks again. All logs of a run are filed within a short time, and reports on several
+/// logs take little longer than one.
 ///
 /// # Errors
 ///
 /// `AllocError` if memory is refused. What was claimed before is then reported on by no worker.
-fn claim_some<R: Wait>(rt: &R, alloc: Global, desk: &Desk) -> Result<Vec<Claim>, AllocError> {
-    let mut claims = Vec::with_capacity(alloc, LANES)?;
+fn claim_some<R: Wait>(
+    rt: &R,
+    alloc: Global,
+    desk: &Desk,
+    most: usize,
+) -> Result<Vec<Claim>, AllocError> {
+    let mut claims = Vec::with_capacity(alloc, most)?;
     for _ in 0..LOOKS {
         match desk.claim(rt)? {
             Some(claim) => claims.push(claim)?,
             None if claims.is_empty() => return Ok(claims),
             None => thread::yield_now(),
         }
-        if claims.len() == LANES {
+        if claims.len() >= most {
             return Ok(claims);
         }
     }
@@ -103,7 +129,7 @@ fn serve<R: Wait, J: JobGate>(
 }
 
 /// Claims and reports, through a store of the worker's own, until all places are reported or the stop word is set. The
-/// worker takes up to four filed logs at a time. If there is nothing to claim, it sleeps until something is filed or
+/// worker takes up to `most` filed logs at a time. If there is nothing to claim, it sleeps until something is filed or
 /// reported, or all are woken.
 ///
 /// # Errors
@@ -115,6 +141,7 @@ fn work<R: Wait, J: JobGate>(
     gate: &J,
     header: &Header,
     desk: &Desk,
+    most: usize,
     stop: &StopWord,
 ) -> Result<(), DeskFault> {
     let Ok(mut store) = VerifyStore::new(alloc) else {
@@ -125,7 +152,7 @@ fn work<R: Wait, J: JobGate>(
         if stop.is_set() {
             return Ok(());
         }
-        let Ok(claims) = claim_some(rt, alloc, desk) else {
+        let Ok(claims) = claim_some(rt, alloc, desk, most) else {
             return Err(DeskFault::Memory);
         };
         if !claims.is_empty() {
@@ -146,9 +173,10 @@ pub(crate) fn work_to_end<R: Wait, J: JobGate>(
     gate: &J,
     header: &Header,
     desk: &Desk,
+    most: usize,
     stop: &StopWord,
 ) {
-    if let Err(fault) = work(rt, alloc, gate, header, desk, stop) {
+    if let Err(fault) = work(rt, alloc, gate, header, desk, most, stop) {
         stop.set_for(desk, fault);
     }
 }

@@ -1,8 +1,8 @@
+pub mod Endings
 pub mod Erased
 pub mod Following
 pub mod FollowingLaws
 pub mod FoundLog
-pub mod Grouped
 pub mod Keys
 pub mod Opened
 pub mod Recvs

@@ -1,13 +1,11 @@
 -- Opened exhibits: what their bytes are, before signatures and links are looked at.
-use Rattle.std.specs.Prelude.{ℕ, ◌≡◌, Bool, List, [], ◌∷◌, Option, Some, None, Ok, Err}
+use Rattle.std.specs.Prelude.{ℕ, ◌≡◌, List, [], ◌∷◌, map, Ok, Err}
+use Rattle.std.specs.List.{flat_map}
 use Rattle.gen_net.specs.Header.{RunHeader}
-use Rattle.gen_log.specs.Links.{link_over}
 use Rattle.gen_log.specs.Log.{RunLog, IsLog, log_spelling}
 use Rattle.gen_log.specs.LogReading.{log_of}
 use Rattle.gen_log.specs.Texts.{GeneralsLog}
 use Rattle.gen_log.specs.Verifying.{SaysItIsOf}
-use Rattle.gen_local.specs.SignedTexts.{head_in, text_verifies}
-use Rattle.gen_local.specs.declared.heads.Ending.{Ending}
 use Rattle.gen_local.specs.declared.opening.Opening.{Opening}
 use Rattle.gen_local.specs.declared.opening.Opening.TheVariants.{Unreadable, Foreign, Own}
 use Rattle.gen_local.specs.declared.opening.Opened.{Opened}
@@ -37,48 +35,17 @@ IsOpening h general bytes (Own log) = IsOwnLog h general bytes log
 abbrev pub IsOpened : RunHeader → Opened → Type 0
 IsOpened h o = IsOpening h o.exhibit.general o.exhibit.bytes o.opening
 
--- an opened exhibit's opening says what its bytes are, if it isn't missing
-abbrev pub AreOpened : RunHeader → Option Opened → Type 0
-AreOpened h None = Unit {0}
-AreOpened h (Some o) = IsOpened h o
+-- the log with its general, if the bytes are a log of this general and run; else no log
+abbrev pub own_logs : ℕ → Opening → List GeneralsLog
+own_logs general (Own log) = record { general = general; log = log } ∷ []
+own_logs general _ = []
 
--- the exhibit, if it isn't missing
-abbrev pub exhibits_in : Option Opened → List LogBytes
-exhibits_in None = []
-exhibits_in (Some o) = o.exhibit ∷ []
+abbrev pub logs_of : Opened → List GeneralsLog
+logs_of o = own_logs o.exhibit.general o.opening
 
--- the log with its general, if the bytes are a log of this general and run
-abbrev pub own_log : ℕ → Opening → Option GeneralsLog
-own_log general (Own log) = Some (record { general = general; log = log })
-own_log general _ = None
+-- the logs of opened exhibits, and the exhibits themselves, in the order of these
+abbrev pub logs_in : List Opened → List GeneralsLog
+logs_in opened = flat_map logs_of opened
 
-abbrev pub log_in : Option Opened → Option GeneralsLog
-log_in None = None
-log_in (Some o) = own_log o.exhibit.general o.opening
-
--- the link is the last link over the log, if there is one
-abbrev pub IsLinkOf : RunHeader → ℕ → Opening → List ℕ → Type 0
-IsLinkOf h general (Own log) link = link ≡ link_over h general log.entries
-IsLinkOf h general _ link = Unit {0}
-
-abbrev pub AreLinksOf : RunHeader → Option Opened → List ℕ → Type 0
-AreLinksOf h None link = Unit {0}
-AreLinksOf h (Some o) link = IsLinkOf h o.exhibit.general o.opening link
-
--- the Boolean is whether the signature of the log's head verifies, if there is a log
-abbrev pub IsSealOf : RunHeader → ℕ → Opening → Bool → Type 0
-IsSealOf h general (Own log) sealed = sealed ≡ text_verifies h (head_in h general log)
-IsSealOf h general _ sealed = Unit {0}
-
-abbrev pub AreSealsOf : RunHeader → Option Opened → Bool → Type 0
-AreSealsOf h None sealed = Unit {0}
-AreSealsOf h (Some o) sealed = IsSealOf h o.exhibit.general o.opening sealed
-
--- the ending is the last link and the seal of the log, if there is one
-pub record IsEndingOf (h : RunHeader) (general : ℕ) (opening : Opening) (e : Ending) : Type 0 where
-  pub link : IsLinkOf h general opening e.link
-  pub seal : IsSealOf h general opening e.sealed
-
-pub record AreEndingsOf (h : RunHeader) (o : Option Opened) (e : Ending) : Type 0 where
-  pub link : AreLinksOf h o e.link
-  pub seal : AreSealsOf h o e.sealed
+abbrev pub exhibits_of : List Opened → List LogBytes
+exhibits_of opened = map (λ o. o.exhibit) opened

@@ -189,7 +189,7 @@ pub fn gather_entries(
     let mut rest = entries;
     let mut index = 0usize;
     while let Some((entry, others)) = rest.split_first() {
-        verify_next(header, rest, store)?;
+        verify_next(alloc, header, rest, store)?;
         let signed = gather_entry(alloc, header, entry, store, texts)?;
         unsigned = first_of(unsigned, !signed, index);
         index += 1;

@@ -1,10 +1,10 @@
 //! Opens exhibits: tells what their bytes are, before signatures and links are looked at.
-ghost use Rattle.std.specs.Prelude.{IsTrue, ◌≡◌, ◌-◌, ◌↔◌, IfOk, length, take, drop};
+ghost use Rattle.std.specs.Prelude.{IsTrue, ◌≡◌, ◌↔◌, ◌++◌, All, IfOk, OnOk};
 ghost use Rattle.gen_log.specs.Log.{BeginsWithStartOf};
 ghost use Rattle.gen_log.specs.Verifying.{SaysItIsOf};
 ghost use Rattle.gen_chain.specs.Store.{Serves, KeepsAll};
 ghost use Rattle.gen_net.specs.Header.{RunHeader};
-ghost use Rattle.gen_local.specs.Opened.{IsOpening, IsOpened, AreOpened, exhibits_in, log_in};
+ghost use Rattle.gen_local.specs.Opened.{IsOpening, IsOpened, exhibits_of, logs_in, logs_of};
 
 use crate::departing::starter;
 use crate::exhibits::Exhibit;
@@ -94,42 +94,60 @@ pub fn open(
     })
 }
 
-/// Opens the first exhibit, if there is one, and returns the exhibits that are left too.
-pub fn open_first<'a>(
+/// Opens exhibits, in their order.
+///
+/// # Errors
+///
+/// `AllocError` where memory is refused.
+pub fn open_each(
     alloc: Global,
     header: &Header,
-    exhibits: &'a [Exhibit],
+    exhibits: &[Exhibit],
     store: &mut VerifyStore,
-) -> Result<(Option<Opened>, &'a [Exhibit]), AllocError>
+) -> Result<Vec<Opened>, AllocError>
     requires { Serves header.now store.old }
-    ensures first { IfOk result (λ x. exhibits_in x.0 ≡ take 1 exhibits.now) }
-    ensures rest { IfOk result (λ x. x.1.now ≡ drop 1 exhibits.now) }
-    ensures opened { IfOk result (λ x. AreOpened header.now x.0) }
+    ensures exhibits { IfOk result (λ opened. exhibits_of opened.items ≡ exhibits.now) }
+    ensures opened { IfOk result (λ opened. All (IsOpened header.now) opened.items) }
     ensures grows { KeepsAll store.old store.new }
     ensures serves { Serves header.now store.new }
 {
-    match exhibits.split_first() {
-        Some((exhibit, others)) => {
-            let opened = open(alloc, header, exhibit, store)?;
-            Ok((Some(opened), others))
-        }
-        None => Ok((None, exhibits)),
+    let mut opened = Vec::with_capacity(alloc, exhibits.len())?;
+    'exhibits: for exhibit in exhibits {
+        opened.push(open(alloc, header, exhibit, store)?)?;
     }
+    Ok(opened)
 }
 
-/// Returns the log of an opened exhibit with the log's bytes, if the bytes are a log of its general and this run.
-pub fn text_of(opened: &Option<Opened>) -> Option<LogText<'_>>
-    requires { (h : RunHeader) × AreOpened h opened.now }
-    ensures { result ≡ log_in opened.now }
+/// Appends the log of an opened exhibit with the log's bytes, if the bytes are a log of its general and this run.
+fn put_text<'a>(
+    alloc: Global,
+    opened: &'a Opened,
+    texts: &mut Vec<LogText<'a>>,
+) -> Result<(), AllocError>
+    requires { (h : RunHeader) × IsOpened h opened.now }
+    ensures { OnOk result (texts.new.items ≡ texts.old.items ++ logs_of opened.now) }
 {
-    match opened {
-        Some(opened) => match &opened.opening {
-            Opening::Own(log) => {
-                let exhibit = &opened.exhibit;
-                Some(LogText::new(exhibit.general(), log, exhibit.log()))
-            }
-            _ => None,
-        },
-        None => None,
+    if let Opening::Own(log) = &opened.opening {
+        let exhibit = &opened.exhibit;
+        let text = LogText::new(alloc, exhibit.general(), log, exhibit.log())?;
+        texts.push(text)?;
     }
+    Ok(())
+}
+
+/// Returns the logs of opened exhibits with their bytes, in the order of the exhibits. An exhibit whose bytes are no log
+/// of its general and this run has none.
+///
+/// # Errors
+///
+/// `AllocError` where memory is refused.
+pub fn texts_of<'a>(alloc: Global, opened: &'a [Opened]) -> Result<Vec<LogText<'a>>, AllocError>
+    requires { (h : RunHeader) × All (IsOpened h) opened.now }
+    ensures { IfOk result (λ texts. texts.items ≡ logs_in opened.now) }
+{
+    let mut texts = Vec::with_capacity(alloc, opened.len())?;
+    'opened: for one in opened {
+        put_text(alloc, one, &mut texts)?;
+    }
+    Ok(texts)
 }

@@ -1,14 +1,13 @@
 //! Makes the reading of an exhibit.
 ghost use Rattle.std.specs.Prelude.{◌≡◌, IfOk};
-ghost use Rattle.gen_log.specs.Links.{link_over};
 ghost use Rattle.gen_log.specs.Log.{IsLog};
 ghost use Rattle.gen_log.specs.LogReading.{log_of};
 ghost use Rattle.gen_log.specs.Verifying.{SaysItIsOf};
 ghost use Rattle.gen_chain.specs.Store.{Serves, KeepsAll};
+ghost use Rattle.gen_local.specs.Endings.{IsEndingOf, ending_over};
 ghost use Rattle.gen_local.specs.FoundLog.{IsFound};
 ghost use Rattle.gen_local.specs.Report.{IsReading};
-ghost use Rattle.gen_local.specs.SignedTexts.{head_in, text_verifies};
-ghost use Rattle.gen_local.specs.Opened.{IsOpening, IsEndingOf};
+ghost use Rattle.gen_local.specs.Opened.{IsOpening};
 
 use crate::departing::departs;
 use crate::exhibits::Exhibit;
@@ -35,8 +34,7 @@ fn own_log(
 ) -> Result<OwnLog, AllocError>
     requires log { IsLog header.now log }
     requires says { SaysItIsOf header.now general log }
-    requires link { ending.now.link ≡ link_over header.now general log.entries }
-    requires seal { ending.now.sealed ≡ text_verifies header.now (head_in header.now general log) }
+    requires ending { ending.now ≡ ending_over header.now (record { general = general; log = log }) }
     requires serves { Serves header.now store.old }
     ensures log { IfOk result (λ found. found.log ≡ log) }
     ensures found { IfOk result (IsFound header.now general) }

@@ -1,7 +1,8 @@
 //! Reports of exhibits.
 ghost use Rattle.std.specs.Prelude.{◌≡◌, IfOk};
 ghost use Rattle.gen_chain.specs.Store.{Serves, KeepsAll};
-ghost use Rattle.gen_local.specs.Opened.{IsOpened, IsEndingOf};
+ghost use Rattle.gen_local.specs.Endings.{IsEndingOf};
+ghost use Rattle.gen_local.specs.Opened.{IsOpened};
 ghost use Rattle.gen_local.specs.Report.{IsReport};
 
 use crate::exhibits::Exhibit;

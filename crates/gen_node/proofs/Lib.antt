@@ -1,4 +1,5 @@
 pub mod Accepted
+pub mod Existing
 pub mod FrameLaws
 pub mod Growing
 pub mod Places

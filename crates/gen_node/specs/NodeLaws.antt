@@ -137,6 +137,10 @@ pub record HandOn (s : Scenario) (x : Nodes) : Type 0 where
       → (script_of s.scripts from ≡ None → ⊥) → frame_in from (x.full k g).inbox ≡ frame_at s (k + 1) from g
   pub ends : (k g : ℕ) → k < rounds s.net → IsHonest s g → x.after (k + 1) g ≡ ended (x.full k g)
 
+-- each scenario has such nodes
+abbrev pub NodesExist : Type 0
+NodesExist = (s : Scenario) → (x : Nodes) × HandOn s x
+
 -- each such node stands after the last round as the scenario's general
 abbrev pub NodesRun : Type 0
 NodesRun =

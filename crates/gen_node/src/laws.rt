@@ -3,7 +3,8 @@
 ghost use Rattle.gen_types.specs.Spelled.{HasOneSpelling};
 ghost use Rattle.gen_node.specs.Frame.{IsFrame, frame_spelling};
 ghost use Rattle.gen_node.specs.NodeLaws.{NodesAreAccepted, NodesBegin, NodesDecide, NodesDecisions, NodesEnd};
-ghost use Rattle.gen_node.specs.NodeLaws.{NodesHear, NodesLog, NodesLogs, NodesRun, NodesSend, NodesStart, NodesTake};
+ghost use Rattle.gen_node.specs.NodeLaws.{NodesExist, NodesHear, NodesLog, NodesLogs, NodesRun, NodesSend, NodesStart};
+ghost use Rattle.gen_node.specs.NodeLaws.{NodesTake};
 
 /// Each frame has one spelling, and no spelling of a frame is the beginning of another.
 pub fn one_frame_spelling()
@@ -28,9 +29,11 @@ pub fn nodes_are_generals()
 {}
 
 /// A run of nodes is the run of the scenario, if all generals without a script are such nodes and each frame of each
-/// round is handed to its receiver. Then each node stands after the last round as the scenario's general (`run`). If no
-/// general has a script, their logs and decisions are all those of the scenario's run (`logs`, `decisions`).
+/// round is handed to its receiver. Each scenario has such nodes (`exist`). Each node stands after the last round as the
+/// scenario's general (`run`). If no general has a script, their logs and decisions are all those of the scenario's run
+/// (`logs`, `decisions`).
 pub fn nodes_make_the_run()
+    ensures exist { NodesExist }
     ensures run { NodesRun }
     ensures logs { NodesLogs }
     ensures decisions { NodesDecisions }

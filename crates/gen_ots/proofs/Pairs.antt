@@ -1,10 +1,12 @@
 -- The lengths of secrets and images, and the images that a signature gives back.
-use Rattle.std.proofs.Common.{◌≡◌, ℕ, zero, suc, ◌+◌, ◌*◌, Bool, true, false, List, [], ◌∷◌, ◌++◌, length, take, drop, refl, sym, ap, ◌∙◌, add-one, append_assoc, length-append, arith}
+use Rattle.std.proofs.Common.{◌≡◌, ℕ, zero, suc, ◌<◌, ◌+◌, ◌*◌, Bool, true, false, List, [], ◌∷◌, ◌++◌, length, take, drop, slice_index_or, refl, sym, ap, ◌∙◌, add-one, append_assoc, length-append, arith}
 use Rattle.std.proofs.lemmas.List.{take_at, drop_at, append-nil}
 use Rattle.rand_chacha.specs.ChaCha.{key_of}
 use Rattle.sha2.proofs.Facts256.{length-sha256}
+use Rattle.sha_lanes.specs.Lanes.{lane_bytes}
+use Rattle.sha_lanes.specs.One.{blocks_up_to}
 use Rattle.gen_ots.specs.OneTime.{image, leaf_over, bit_of, first_images, key_leaf_value, on_side}
-use Rattle.gen_ots.specs.Signatures.{signed_pair, first_pairs, signature_of, both_images, given_images, other_at, shown_at, signed_leaf_value}
+use Rattle.gen_ots.specs.Signatures.{signed_pair, first_pairs, pairs_up_to, signature_of, both_images, given_images, other_at, shown_at, signed_leaf_value}
 use Rattle.gen_ots.specs.Secrets.{KeyName, eight_words, secret_at, secret_of, secret_place, secret_stream}
 
 pub length-secret_at : (key : List ℕ) (stream place : ℕ) → length (secret_at key stream place) ≡ 32
@@ -70,12 +72,12 @@ pair-images k n one before rest e =
     ∙ both_images-on_side x y one
 
 -- one more bit
-pub given_images-suc : (pairs digest : List ℕ) (n : ℕ) → given_images pairs digest (suc n)
+given_images-suc : (pairs digest : List ℕ) (n : ℕ) → given_images pairs digest (suc n)
     ≡ given_images pairs digest n ++ both_images (take 32 (drop (64 * n) pairs)) (take 32 (drop (64 * n + 32) pairs)) (bit_of digest n)
 unfolding given_images
 given_images-suc pairs digest n = refl
 
-pub first_pairs-suc : (k : KeyName) (digest : List ℕ) (n : ℕ) → first_pairs k digest (suc n) ≡ first_pairs k digest n ++ signed_pair k n (bit_of digest n)
+first_pairs-suc : (k : KeyName) (digest : List ℕ) (n : ℕ) → first_pairs k digest (suc n) ≡ first_pairs k digest n ++ signed_pair k n (bit_of digest n)
 unfolding first_pairs
 first_pairs-suc k digest n = refl
 
@@ -122,15 +124,69 @@ pub given_images-next : (pairs digest : List ℕ) (n m : ℕ) → m ≡ suc n �
     ≡ given_images pairs digest n ++ both_images (shown_at pairs n) (other_at pairs n) (bit_of digest n)
 given_images-next pairs digest n m e = rw e (given_images-suc pairs digest n)
 
-pub first_pairs-next : (k : KeyName) (digest : List ℕ) (n m : ℕ) → m ≡ suc n
-    → first_pairs k digest m ≡ first_pairs k digest n ++ signed_pair k n (bit_of digest n)
-first_pairs-next k digest n m e = rw e (first_pairs-suc k digest n)
-
 -- the two images of a bit together
 pub first_images-both : (k : KeyName) (n : ℕ)
     → first_images k (n + 1) ≡ first_images k n ++ (image (secret_of k n 0) ++ image (secret_of k n 1))
 first_images-both k n =
     rw (add-one, first_images-suc k n) (append_assoc (first_images k n) (image (secret_of k n 0)) (image (secret_of k n 1)))
 
-pub in_one : (m a b c d : List ℕ) → m ++ (a ++ (b ++ (c ++ d))) ≡ (((m ++ a) ++ b) ++ c) ++ d
-in_one m a b c d = simp append_assoc
+-- both images of a bit
+abbrev pub images_of_bit : KeyName → ℕ → List ℕ
+images_of_bit k n = image (secret_of k n 0) ++ image (secret_of k n 1)
+
+-- and as a signature gives them
+abbrev pub given_of_bit : List ℕ → List ℕ → ℕ → List ℕ
+given_of_bit pairs digest n = both_images (shown_at pairs n) (other_at pairs n) (bit_of digest n)
+
+-- what grows by an element for each bit grows by those of the first m lanes, if each lane has the element of its bit
+grown : (whole : ℕ → List ℕ) (element : ℕ → List ℕ) → ((n : ℕ) → whole (suc n) ≡ whole n ++ element n)
+    → (laid : ℕ → List ℕ) (part : ℕ → List ℕ) → laid 0 ≡ [] → ((j : ℕ) → laid (suc j) ≡ laid j ++ part j)
+    → (n m : ℕ) → ((j : ℕ) → j < m → part j ≡ element (n + j)) → whole n ++ laid m ≡ whole (n + m)
+grown whole element grows laid part none more n zero each =
+    let same : n + 0 ≡ n = omega arith in
+    rw (same, none) (append-nil (whole n))
+grown whole element grows laid part none more n (suc m) each =
+    let next : n + suc m ≡ suc (n + m) = omega arith in
+    let before = grown whole element grows laid part none more n m (λ j below. each j (omega arith)) in
+    rw (next, more m, grows (n + m), ← before, each m (omega arith)) (sym (append_assoc (whole n) (laid m) (element (n + m))))
+
+blocks-none : (f s : List (List ℕ)) → blocks_up_to 0 f s ≡ []
+unfolding blocks_up_to
+blocks-none f s = refl
+
+blocks-more : (f s : List (List ℕ)) (j : ℕ) → blocks_up_to (suc j) f s ≡ blocks_up_to j f s ++ (lane_bytes j f ++ lane_bytes j s)
+unfolding blocks_up_to
+blocks-more f s j = refl
+
+pub pairs-none : (shown images : List (List ℕ)) → pairs_up_to 0 shown images ≡ []
+unfolding pairs_up_to
+pairs-none shown images = refl
+
+pub pairs-more : (shown images : List (List ℕ)) (j : ℕ) → pairs_up_to (suc j) shown images
+    ≡ pairs_up_to j shown images ++ (slice_index_or shown j [] ++ slice_index_or images j [])
+unfolding pairs_up_to
+pairs-more shown images j = refl
+
+-- a turn of the images of a key
+pub images-grown : (k : KeyName) (n m : ℕ) (low high : List (List ℕ))
+    → ((j : ℕ) → j < m → lane_bytes j low ++ lane_bytes j high ≡ images_of_bit k (n + j))
+    → first_images k n ++ blocks_up_to m low high ≡ first_images k (n + m)
+images-grown k n m low high =
+    grown (first_images k) (images_of_bit k) (λ i. rw (first_images-suc k i) (append_assoc (first_images k i) (image (secret_of k i 0)) (image (secret_of k i 1))))
+    (λ i. blocks_up_to i low high) (λ j. lane_bytes j low ++ lane_bytes j high) (blocks-none low high) (blocks-more low high) n m
+
+-- a turn of the images that a signature gives
+pub given-grown : (pairs digest : List ℕ) (n m : ℕ) (zeroth first : List (List ℕ))
+    → ((j : ℕ) → j < m → lane_bytes j zeroth ++ lane_bytes j first ≡ given_of_bit pairs digest (n + j))
+    → given_images pairs digest n ++ blocks_up_to m zeroth first ≡ given_images pairs digest (n + m)
+given-grown pairs digest n m zeroth first =
+    grown (given_images pairs digest) (given_of_bit pairs digest) (given_images-suc pairs digest)
+    (λ i. blocks_up_to i zeroth first) (λ j. lane_bytes j zeroth ++ lane_bytes j first) (blocks-none zeroth first) (blocks-more zeroth first) n m
+
+-- a turn of the pairs of a signature
+pub pairs-grown : (k : KeyName) (digest : List ℕ) (n m : ℕ) (shown images : List (List ℕ))
+    → ((j : ℕ) → j < m → slice_index_or shown j [] ++ slice_index_or images j [] ≡ signed_pair k (n + j) (bit_of digest (n + j)))
+    → first_pairs k digest n ++ pairs_up_to m shown images ≡ first_pairs k digest (n + m)
+pairs-grown k digest n m shown images =
+    grown (first_pairs k digest) (λ i. signed_pair k i (bit_of digest i)) (first_pairs-suc k digest)
+    (λ i. pairs_up_to i shown images) (λ j. slice_index_or shown j [] ++ slice_index_or images j []) (pairs-none shown images) (pairs-more shown images) n m

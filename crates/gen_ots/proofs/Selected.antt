@@ -1,32 +1,36 @@
 -- What a selection by the lanes of a mask gives.
-use Rattle.std.proofs.Common.{◌≡◌, ℕ, ◌<◌, Bool, true, false, List, [], ◌∷◌, if◌then◌else◌, length, nat_eq, slice_index, slice_index_or, arith, refl, ap, ◌∙◌}
-use Rattle.std.proofs.lemmas.Simd.{get_or-sel_l}
+use Rattle.std.proofs.Common.{◌≡◌, ℕ, ◌<◌, Bool, true, false, List, [], ◌∷◌, if◌then◌else◌, length, map, nat_eq, replicate, slice_index, slice_index_or, w32, arith, refl, ap, ◌∙◌}
+use Rattle.std.proofs.lemmas.List.{get_or-map, length-map}
+use Rattle.std.proofs.lemmas.Simd.{get_or-sel_l, tops_compared, zip2_splat}
 use Rattle.std.specs.Int.{from_bool}
-use Rattle.std.specs.Simd.Lanes.{sel_l, top}
+use Rattle.std.specs.Simd.Lanes.{sel_l, top, zip2}
 use Rattle.sha2.specs.Sha256.{digest_bytes}
 use Rattle.sha_lanes.specs.Lanes.{lane_at, lane_bytes}
-use Rattle.sha_lanes.proofs.LaneFacts.{each_lane}
+use Rattle.sha_lanes.specs.declared.words.TheConstants.{LANES}
 use Rattle.gen_ots.specs.OneTime.{on_side}
 
--- a lane of the mask, from the number of a bit
-abbrev marked : ℕ → Bool
-marked n = top 31 (if nat_eq n 1 then 4294967295 else 0)
+-- the lanes of the mask
+abbrev mask : List ℕ → List Bool
+mask bits = map (top 31) (zip2 (λ a b. if nat_eq a b then 4294967295 else 0) bits (replicate LANES 1))
 
-marked-bit : (one : Bool) (n : ℕ) → n ≡ from_bool one → marked n ≡ one
-marked-bit true n e = rw e refl
-marked-bit false n e = rw e refl
+-- a bit of the mask
+mask-bit : (one : Bool) (n : ℕ) → n ≡ from_bool one → nat_eq n 1 ≡ one
+mask-bit true n e = rw e refl
+mask-bit false n e = rw e refl
 
-pub selected : (ones : List Bool) (n0 n1 n2 n3 : ℕ) (z f : List ℕ) → length z ≡ 4 → length f ≡ 4
-    → n0 ≡ from_bool (slice_index_or ones 0 false) → n1 ≡ from_bool (slice_index_or ones 1 false)
-    → n2 ≡ from_bool (slice_index_or ones 2 false) → n3 ≡ from_bool (slice_index_or ones 3 false)
-    → (j : ℕ) → j < 4 → slice_index (sel_l (marked n0 ∷ marked n1 ∷ marked n2 ∷ marked n3 ∷ []) f z) j
+pub selected : (ones : List Bool) (bits z f : List ℕ) → length bits ≡ LANES → length z ≡ LANES → length f ≡ LANES
+    → ((j : ℕ) → j < LANES → slice_index bits j ≡ from_bool (slice_index_or ones j false))
+    → (j : ℕ) → j < LANES → slice_index (sel_l (mask bits) f z) j
     ≡ (if slice_index_or ones j false then slice_index f j else slice_index z j)
-selected ones n0 n1 n2 n3 z f wide_z wide_f e0 e1 e2 e3 j below =
-    let masks = marked n0 ∷ marked n1 ∷ marked n2 ∷ marked n3 ∷ [] in
-    let each = each_lane (λ (i : ℕ). slice_index_or masks i false ≡ slice_index_or ones i false)
-    (marked-bit _ n0 e0) (marked-bit _ n1 e1) (marked-bit _ n2 e2) (marked-bit _ n3 e3) in
-    get_or-sel_l masks f z j 0 (omega arith) (omega arith) (omega arith)
-    ∙ ap (λ (one : Bool). if one then slice_index f j else slice_index z j) (each j below)
+selected ones bits z f wide wide_z wide_f are j below =
+    let compared : mask bits ≡ map (λ n. nat_eq n 1) bits =
+    tops_compared w32 nat_eq bits (replicate LANES 1) ∙ zip2_splat nat_eq bits LANES 1 wide in
+    let long : length (map (λ n. nat_eq n 1) bits) ≡ LANES = length-map bits (λ (n : ℕ). nat_eq n 1) ∙ wide in
+    let marked : slice_index_or (map (λ n. nat_eq n 1) bits) j false ≡ slice_index_or ones j false =
+    get_or-map (λ (n : ℕ). nat_eq n 1) bits j 0 false (omega (arith, wide)) ∙ mask-bit _ _ (are j below) in
+    ap (λ (m : List Bool). slice_index (sel_l m f z) j) compared
+    ∙ get_or-sel_l (map (λ n. nat_eq n 1) bits) f z j 0 (omega (arith, long)) (omega (arith, wide_f)) (omega (arith, wide_z))
+    ∙ ap (λ (one : Bool). if one then slice_index f j else slice_index z j) marked
 
 -- a word of each of two lists, as a bit chooses
 abbrev chooses : Bool → ℕ → List (List ℕ) → List (List ℕ) → List (List ℕ) → ℕ → Type 0

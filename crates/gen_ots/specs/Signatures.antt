@@ -1,5 +1,5 @@
 -- One-time signatures, as lists of bytes, and the leaf values that they stand for.
-use Rattle.std.specs.Prelude.{ℕ, zero, suc, ◌+◌, ◌*◌, Bool, List, [], ◌++◌, take, drop}
+use Rattle.std.specs.Prelude.{ℕ, zero, suc, ◌+◌, ◌*◌, Bool, List, [], ◌++◌, take, drop, slice_index_or}
 use Rattle.gen_ots.specs.Secrets.{KeyName, secret_of}
 use Rattle.gen_ots.specs.OneTime.{image, leaf_over, bit_of, on_side}
 use Rattle.gen_ots.specs.Sizes.{digest_bits, hash_length, pair_length}
@@ -15,6 +15,12 @@ signed_pair k n one =
 unfoldable pub first_pairs : KeyName → List ℕ → ℕ → List ℕ
 first_pairs k digest zero = []
 first_pairs k digest (suc n) = first_pairs k digest n ++ signed_pair k n (bit_of digest n)
+
+-- the pairs of the first n lanes, one after another, where each lane has a secret that is shown and an image
+unfoldable pub pairs_up_to : ℕ → List (List ℕ) → List (List ℕ) → List ℕ
+pairs_up_to zero shown images = []
+pairs_up_to (suc n) shown images =
+    pairs_up_to n shown images ++ (slice_index_or shown n [] ++ slice_index_or images n [])
 
 -- the signature of a digest by a key
 unfoldable pub signature_of : KeyName → List ℕ → List ℕ

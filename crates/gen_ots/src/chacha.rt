@@ -1,4 +1,4 @@
-//! The block function of ChaCha20 (RFC 8439, section 2.3), for four blocks side by side.
+//! The block function of ChaCha20 (RFC 8439, section 2.3), for blocks side by side.
 //!
 //! Each word of a state is a vector, with one lane for each block. The blocks have one key and one stream,
 //! and each has a counter of its own. Counter and stream have 64 bits each.
@@ -8,17 +8,17 @@ ghost use Rattle.rand_chacha.specs.Lanes.{lane, lane_at};
 ghost use Rattle.gen_ots.specs.Blocks.{HasBlock, half_rounds};
 
 use crate::lanes::{add, rotate_left, xor};
-use std::simd::u32x4;
+use sha_lanes::{LANES, Words};
 
 /// The number of double rounds of ChaCha20, each of which is a round on columns and a round on diagonals.
 const DOUBLE_ROUNDS: usize = 10;
 
 // Returns for each lane the bits in which its two words differ, rotated to the left by `count` bits.
 #[inline(always)]
-fn xor_rotate(x: u32x4, y: u32x4, count: u32) -> u32x4
+fn xor_rotate(x: Words, y: Words, count: u32) -> Words
     requires some { 0 < count }
     requires fits { count < 32 }
-    ensures { (j : ℕ) → j < 4
+    ensures { (j : ℕ) → j < LANES
         → slice_index result j ≡ xor_rotate (slice_index x j) (slice_index y j) count }
 {
     rotate_left(xor(x, y), count)
@@ -29,10 +29,10 @@ fn xor_rotate(x: u32x4, y: u32x4, count: u32) -> u32x4
 // second.
 #[rattlefmt::skip]
 #[inline(always)]
-fn half_rounds(state: [u32x4; 16], first: u32, second: u32) -> [u32x4; 16]
+fn half_rounds(state: [Words; 16], first: u32, second: u32) -> [Words; 16]
     requires some { (0 < first) × (0 < second) }
     requires fit { (first < 32) × (second < 32) }
-    ensures { (j : ℕ) → j < 4
+    ensures { (j : ℕ) → j < LANES
         → lane j result ≡ half_rounds first second (lane j state) }
 {
     let [
@@ -61,8 +61,8 @@ fn half_rounds(state: [u32x4; 16], first: u32, second: u32) -> [u32x4; 16]
 
 // Returns the states after the quarter round on each column (RFC 8439, section 2.3).
 #[inline(always)]
-fn column_round(state: [u32x4; 16]) -> [u32x4; 16]
-    ensures { (j : ℕ) → j < 4 → lane j result ≡ column_round (lane j state) }
+fn column_round(state: [Words; 16]) -> [Words; 16]
+    ensures { (j : ℕ) → j < LANES → lane j result ≡ column_round (lane j state) }
 {
     let half = half_rounds(state, 16, 12);
     half_rounds(half, 8, 7)
@@ -72,8 +72,8 @@ fn column_round(state: [u32x4; 16]) -> [u32x4; 16]
 // turned, so that the diagonals become columns, and are turned back afterwards.
 #[rattlefmt::skip]
 #[inline(always)]
-fn diagonal_round(state: [u32x4; 16]) -> [u32x4; 16]
-    ensures { (j : ℕ) → j < 4 → lane j result ≡ diagonal_round (lane j state) }
+fn diagonal_round(state: [Words; 16]) -> [Words; 16]
+    ensures { (j : ℕ) → j < LANES → lane j result ≡ diagonal_round (lane j state) }
 {
     let [
         x0, x1, x2, x3,
@@ -114,38 +114,61 @@ fn high(x: u64) -> u32
     (x >> 32) as u32
 }
 
+// Returns the low words of the counters.
+#[inline(always)]
+fn low_words(counters: &[u64; LANES]) -> Words
+    ensures { (j : ℕ) → j < LANES → slice_index result j ≡ slice_index counters.now j % 2 ^ 32 }
+{
+    let mut words = [0; LANES];
+    'lanes: for j in 0..LANES {
+        words[j] = low(counters[j]);
+    }
+    Words::from_array(words)
+}
+
+// Returns the high words of the counters.
+#[inline(always)]
+fn high_words(counters: &[u64; LANES]) -> Words
+    ensures { (j : ℕ) → j < LANES → slice_index result j ≡ slice_index counters.now j / 2 ^ 32 }
+{
+    let mut words = [0; LANES];
+    'lanes: for j in 0..LANES {
+        words[j] = high(counters[j]);
+    }
+    Words::from_array(words)
+}
+
 // Returns the states before the rounds: the constants, the key, the counter of each lane, and the stream.
 #[inline(always)]
-fn initial_states(key: &[u32; 8], stream: u64, counters: &[u64; 4]) -> [u32x4; 16]
-    ensures { (j : ℕ) → j < 4
+fn initial_states(key: &[u32; 8], stream: u64, counters: &[u64; LANES]) -> [Words; 16]
+    ensures { (j : ℕ) → j < LANES
         → lane j result ≡ initial_state key.now (slice_index counters.now j) stream }
 {
-    let [c0, c1, c2, c3] = *counters;
     [
-        u32x4::splat(0x6170_7865),
-        u32x4::splat(0x3320_646e),
-        u32x4::splat(0x7962_2d32),
-        u32x4::splat(0x6b20_6574),
-        u32x4::splat(key[0]),
-        u32x4::splat(key[1]),
-        u32x4::splat(key[2]),
-        u32x4::splat(key[3]),
-        u32x4::splat(key[4]),
-        u32x4::splat(key[5]),
-        u32x4::splat(key[6]),
-        u32x4::splat(key[7]),
-        u32x4::from_array([low(c0), low(c1), low(c2), low(c3)]),
-        u32x4::from_array([high(c0), high(c1), high(c2), high(c3)]),
-        u32x4::splat(low(stream)),
-        u32x4::splat(high(stream)),
+        Words::splat(0x6170_7865),
+        Words::splat(0x3320_646e),
+        Words::splat(0x7962_2d32),
+        Words::splat(0x6b20_6574),
+        Words::splat(key[0]),
+        Words::splat(key[1]),
+        Words::splat(key[2]),
+        Words::splat(key[3]),
+        Words::splat(key[4]),
+        Words::splat(key[5]),
+        Words::splat(key[6]),
+        Words::splat(key[7]),
+        low_words(counters),
+        high_words(counters),
+        Words::splat(low(stream)),
+        Words::splat(high(stream)),
     ]
 }
 
 // Returns the sums of two states, word by word, modulo 2^32.
 #[rattlefmt::skip]
 #[inline(always)]
-fn sums(x: &[u32x4; 16], y: &[u32x4; 16]) -> [u32x4; 16]
-    ensures { (j k : ℕ) → j < 4 → k < 16
+fn sums(x: &[Words; 16], y: &[Words; 16]) -> [Words; 16]
+    ensures { (j k : ℕ) → j < LANES → k < 16
         → lane_at result k j ≡ add32 (lane_at x.now k j) (lane_at y.now k j) }
 {
     [
@@ -156,11 +179,10 @@ fn sums(x: &[u32x4; 16], y: &[u32x4; 16]) -> [u32x4; 16]
     ]
 }
 
-/// Returns the sixteen words of each of the four blocks with these counters. Lane j has the block of
-/// counter j.
+/// Returns the sixteen words of each of the blocks with these counters. Lane j has the block of counter j.
 #[inline(never)]
-pub fn four_blocks(key: &[u32; 8], stream: u64, counters: &[u64; 4]) -> [u32x4; 16]
-    ensures { (j : ℕ) → j < 4
+pub fn blocks_in_lanes(key: &[u32; 8], stream: u64, counters: &[u64; LANES]) -> [Words; 16]
+    ensures { (j : ℕ) → j < LANES
         → HasBlock j result key.now stream (slice_index counters.now j) }
 {
     let first = initial_states(key, stream, counters);

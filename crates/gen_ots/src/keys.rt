@@ -8,10 +8,10 @@ use crate::hashing::{LEAF_PREFIX, are_ones, chosen_in_lanes, images_in_lanes};
 use crate::secrets::{
     blocks_of_bits, blocks_of_leaves, high_secrets, key_of, low_secrets, stream_of,
 };
-use crate::signatures::{OtsSig, SigRoom, push_pair};
+use crate::signatures::{OtsSig, SigRoom, push_pairs};
 use crate::sizes::{DIGEST_BITS, OTS_BYTES};
 use gen_types::TreeHeight;
-use sha_lanes::{FourHashers, OneHasher, Schedules, to_bytes};
+use sha_lanes::{LANES, LaneHashers, OneHasher, Schedules, to_bytes};
 use std::marker::Model;
 
 /// A one-time key, which signs one digest or is retired. A contract sees its name, which is its seed,
@@ -89,9 +89,9 @@ impl OneTimeKey {
         let stream = stream_of(self.height);
         let mut schedules = Schedules::new();
         let mut hasher = OneHasher::new(LEAF_PREFIX);
-        // Each turn takes four bits, so that four secrets are hashed side by side.
-        'turns: for turn in 0..DIGEST_BITS / 4 {
-            let blocks = blocks_of_bits(&key, stream, self.leaf, 4 * turn);
+        // Each turn takes one bit for each lane, so that the secrets of these bits are hashed side by side.
+        'turns: for turn in 0..DIGEST_BITS / LANES {
+            let blocks = blocks_of_bits(&key, stream, self.leaf, LANES * turn);
             let low = images_in_lanes(&mut schedules, &low_secrets(&blocks));
             let high = images_in_lanes(&mut schedules, &high_secrets(&blocks));
             hasher.update(&low, &high);
@@ -113,19 +113,16 @@ impl OneTimeKey {
         let stream = stream_of(this.height);
         let mut schedules = Schedules::new();
         let mut bytes = room.bytes;
-        // Each turn takes four bits, so that four secrets are hashed side by side.
-        'turns: for turn in 0..DIGEST_BITS / 4 {
-            let ones = are_ones(digest, 4 * turn);
-            let blocks = blocks_of_bits(&key, stream, this.leaf, 4 * turn);
+        // Each turn takes one bit for each lane, so that the secrets of these bits are hashed side by side.
+        'turns: for turn in 0..DIGEST_BITS / LANES {
+            let ones = are_ones(digest, LANES * turn);
+            let blocks = blocks_of_bits(&key, stream, this.leaf, LANES * turn);
             let low = low_secrets(&blocks);
             let high = high_secrets(&blocks);
             let shown = to_bytes(&chosen_in_lanes(&ones, &low, &high));
             let hidden = chosen_in_lanes(&ones, &high, &low);
             let images = to_bytes(&images_in_lanes(&mut schedules, &hidden));
-            push_pair(&mut bytes, &shown[0], &images[0]);
-            push_pair(&mut bytes, &shown[1], &images[1]);
-            push_pair(&mut bytes, &shown[2], &images[2]);
-            push_pair(&mut bytes, &shown[3], &images[3]);
+            push_pairs(&mut bytes, &shown, &images);
         }
         OtsSig::owning(bytes)
     }
@@ -140,17 +137,17 @@ impl OneTimeKey {
     }
 }
 
-/// Returns the leaf values of four keys of a seed, which are hashed side by side: those of leaf `first`
-/// and of the three after it. All four must be leaves of a tree of this height.
-pub fn leaf_values(seed: &[u8; 32], height: TreeHeight, first: u8) -> [[u8; 32]; 4]
-    requires { first + 4 ≤ leaves_of height }
-    ensures { (j : ℕ) → j < 4 → slice_index_or result j [] ≡ key_leaf_value
+/// Returns the leaf values of keys of a seed, one in each lane, which are hashed side by side: those of leaf
+/// `first` and of the leaves after it. All of them must be leaves of a tree of this height.
+pub fn leaf_values(seed: &[u8; 32], height: TreeHeight, first: u8) -> [[u8; 32]; LANES]
+    requires { first + LANES ≤ leaves_of height }
+    ensures { (j : ℕ) → j < LANES → slice_index_or result j [] ≡ key_leaf_value
         (record { seed = seed.now; height = height; leaf = first + j }) }
 {
     let key = key_of(seed);
     let stream = stream_of(height);
     let mut schedules = Schedules::new();
-    let mut hashers = FourHashers::new(LEAF_PREFIX);
+    let mut hashers = LaneHashers::new(LEAF_PREFIX);
     'bits: for bit in 0..DIGEST_BITS {
         let blocks = blocks_of_leaves(&key, stream, first, bit);
         let low = images_in_lanes(&mut schedules, &low_secrets(&blocks));

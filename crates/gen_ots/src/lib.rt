@@ -18,18 +18,18 @@
 #![tactic(auto)]
 
 mod chacha;
-mod four;
 mod hashing;
 mod keys;
 mod lanes;
 mod secrets;
 mod sharing;
+mod side_by_side;
 mod signatures;
 pub mod sizes;
 
-pub use four::{SignedDigest, images_of_four};
 pub use keys::{OneTimeKey, leaf_values};
 pub use sharing::HeldBytes;
+pub use side_by_side::{SignedDigest, images_of_lanes};
 pub use signatures::{OtsSig, SigRoom, image_of};
 
 #[cfg(test)]

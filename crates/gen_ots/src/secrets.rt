@@ -2,18 +2,18 @@
 //!
 //! A block of sixteen words has the two secrets of one bit of one leaf: first that of side 0, then that of
 //! side 1.
-ghost use Rattle.std.specs.Prelude.{◌≡◌, ℕ, ◌<◌, ◌+◌, ◌*◌, List};
+ghost use Rattle.std.specs.Prelude.{◌≡◌, ℕ, ◌<◌, ◌≤◌, ◌+◌, ◌*◌, ◌^◌, List, slice_index};
 ghost use Rattle.rand_chacha.specs.ChaCha.{key_of};
 ghost use Rattle.sha_lanes.specs.Lanes.{lane_bytes};
 ghost use Rattle.gen_ots.specs.Blocks.{HasBlock};
 ghost use Rattle.gen_ots.specs.Secrets.{secret_at, secret_block, secret_stream};
 
-use crate::chacha::four_blocks;
+use crate::chacha::blocks_in_lanes;
 use crate::lanes::swap_bytes;
 use crate::sizes::DIGEST_BITS;
 use gen_types::TreeHeight;
 use rand_core::utils::read_u32;
-use std::simd::u32x4;
+use sha_lanes::{LANES, Words};
 
 /// The number of the stream of ChaCha20 that has the secrets of trees of four levels.
 const STREAM_OF_FOUR: u64 = 0;
@@ -57,45 +57,47 @@ fn block_of(leaf: u8, bit: usize) -> u64
     u64::from(leaf) * DIGEST_BITS as u64 + bit as u64
 }
 
-/// Returns the blocks with the secrets of one bit of four leaves: leaf `first` and the three after it,
-/// each in a lane of its own.
+// Returns the counter `first`, and in each lane after it a counter that is greater by `step`.
 #[inline(always)]
-pub fn blocks_of_leaves(key: &[u32; 8], stream: u64, first: u8, bit: usize) -> [u32x4; 16]
-    requires leaves { first + 3 < 256 }
-    requires bit { bit < DIGEST_BITS }
-    ensures { (j : ℕ) → j < 4
-        → HasBlock j result key.now stream (secret_block (first + j) bit) }
+fn counters_from(first: u64, step: u64) -> [u64; LANES]
+    requires { first + step * LANES < 2 ^ 64 }
+    ensures { (j : ℕ) → j < LANES → slice_index result j ≡ first + step * j }
 {
-    let counters = [
-        block_of(first, bit),
-        block_of(first + 1, bit),
-        block_of(first + 2, bit),
-        block_of(first + 3, bit),
-    ];
-    four_blocks(key, stream, &counters)
+    let mut counters = [0; LANES];
+    'lanes: for j in 0..LANES {
+        counters[j] = first + step * j as u64;
+    }
+    counters
 }
 
-/// Returns the blocks with the secrets of four bits of one leaf: bit `first` and the three after it, each
-/// in a lane of its own.
+/// Returns the blocks with the secrets of one bit of several leaves, one leaf in each lane: leaf `first`,
+/// and those after it.
 #[inline(always)]
-pub fn blocks_of_bits(key: &[u32; 8], stream: u64, leaf: u8, first: usize) -> [u32x4; 16]
-    requires { first + 3 < DIGEST_BITS }
-    ensures { (j : ℕ) → j < 4
+pub fn blocks_of_leaves(key: &[u32; 8], stream: u64, first: u8, bit: usize) -> [Words; 16]
+    requires leaves { first + LANES ≤ 256 }
+    requires bit { bit < DIGEST_BITS }
+    ensures { (j : ℕ) → j < LANES
+        → HasBlock j result key.now stream (secret_block (first + j) bit) }
+{
+    let counters = counters_from(block_of(first, bit), DIGEST_BITS as u64);
+    blocks_in_lanes(key, stream, &counters)
+}
+
+/// Returns the blocks with the secrets of several bits of one leaf, one bit in each lane: bit `first`, and
+/// those after it.
+#[inline(always)]
+pub fn blocks_of_bits(key: &[u32; 8], stream: u64, leaf: u8, first: usize) -> [Words; 16]
+    requires { first + LANES ≤ DIGEST_BITS }
+    ensures { (j : ℕ) → j < LANES
         → HasBlock j result key.now stream (secret_block leaf (first + j)) }
 {
-    let counters = [
-        block_of(leaf, first),
-        block_of(leaf, first + 1),
-        block_of(leaf, first + 2),
-        block_of(leaf, first + 3),
-    ];
-    four_blocks(key, stream, &counters)
+    blocks_in_lanes(key, stream, &counters_from(block_of(leaf, first), 1))
 }
 
 /// Returns the secrets of side 0 in these blocks, one in each lane, as words whose high byte comes first.
 #[inline(always)]
-pub fn low_secrets(blocks: &[u32x4; 16]) -> [u32x4; 8]
-    ensures { (j : ℕ) → j < 4 → (key : List ℕ) → (stream counter : ℕ)
+pub fn low_secrets(blocks: &[Words; 16]) -> [Words; 8]
+    ensures { (j : ℕ) → j < LANES → (key : List ℕ) → (stream counter : ℕ)
         → HasBlock j blocks.now key stream counter
         → lane_bytes j result ≡ secret_at key stream (16 * counter) }
 {
@@ -113,8 +115,8 @@ pub fn low_secrets(blocks: &[u32x4; 16]) -> [u32x4; 8]
 
 /// Returns the secrets of side 1 in these blocks, one in each lane, as words whose high byte comes first.
 #[inline(always)]
-pub fn high_secrets(blocks: &[u32x4; 16]) -> [u32x4; 8]
-    ensures { (j : ℕ) → j < 4 → (key : List ℕ) → (stream counter : ℕ)
+pub fn high_secrets(blocks: &[Words; 16]) -> [Words; 8]
+    ensures { (j : ℕ) → j < LANES → (key : List ℕ) → (stream counter : ℕ)
         → HasBlock j blocks.now key stream counter
         → lane_bytes j result ≡ secret_at key stream (16 * counter + 8) }
 {

@@ -1,18 +1,18 @@
 //! One-time signatures, and the room into which they are written.
-ghost use Rattle.std.specs.Prelude.{◌≡◌, ◌<◌, ◌≤◌, ◌+◌, ◌∷◌, ◌++◌, length, vec_len, vec_capacity, IfOk};
+ghost use Rattle.std.specs.Prelude.{◌≡◌, ◌<◌, ◌≤◌, ◌+◌, ◌*◌, ◌∷◌, ◌++◌, [], ℕ, length, slice_index_or, vec_len, vec_capacity, IfOk};
 ghost use Rattle.std.specs.Cmp.{partial_equiv_from_equiv};
 ghost use Rattle.std.specs.Cmp.Lexicographic.{pointwise};
 ghost use Rattle.std.specs.Bool.{nat_eq};
 ghost use Rattle.std.proofs.lemmas.Cmp.{nat_list_eq_equiv};
 ghost use Rattle.sha_lanes.specs.One.{HoldsOne};
 ghost use Rattle.gen_ots.specs.OneTime.{leaf_prefix};
-ghost use Rattle.gen_ots.specs.Signatures.{given_images, other_at, shown_at, signed_leaf_value};
+ghost use Rattle.gen_ots.specs.Signatures.{given_images, other_at, pairs_up_to, shown_at, signed_leaf_value};
 
 use crate::hashing::{LEAF_PREFIX, are_ones, chosen_in_lanes, images_in_lanes};
 use crate::sharing::HeldBytes;
 use crate::sizes::{DIGEST_BITS, HASH_BYTES, OTS_BYTES, PAIR_BYTES};
 use gen_types::TreeHeight;
-use sha_lanes::{OneHasher, Schedules, to_words};
+use sha_lanes::{LANES, OneHasher, Schedules, to_words};
 use std::alloc::{AllocError, Global};
 use std::marker::Model;
 
@@ -164,14 +164,15 @@ pub fn image_of(signature: &OtsSig, digest: &[u8; 32]) -> [u8; 32]
     let pairs = signature.as_bytes();
     let mut schedules = Schedules::new();
     let mut hasher = OneHasher::new(LEAF_PREFIX);
-    // Each turn takes four bits, so that four secrets are hashed side by side.
-    'turns: for turn in 0..DIGEST_BITS / 4 {
-        absorb(&mut schedules, &mut hasher, pairs, digest, 4 * turn);
+    // Each turn takes one bit for each lane, so that the secrets of these bits are hashed side by side.
+    'turns: for turn in 0..DIGEST_BITS / LANES {
+        absorb(&mut schedules, &mut hasher, pairs, digest, LANES * turn);
     }
     hasher.finalize()
 }
 
-// Feeds the hasher of a leaf value with both images of four bits: of bit `bit` and the three after it.
+// Feeds the hasher of a leaf value with both images of several bits: of bit `bit`, and of those after it,
+// one for each lane.
 fn absorb(
     schedules: &mut Schedules,
     hasher: &mut OneHasher,
@@ -180,27 +181,46 @@ fn absorb(
     bit: usize,
 )
     requires length { length pairs.now ≡ OTS_BYTES }
-    requires bits { bit + 3 < DIGEST_BITS }
+    requires bits { bit + LANES ≤ DIGEST_BITS }
     ensures { HoldsOne hasher.old (leaf_prefix ∷ given_images pairs.now digest.now bit)
-        → HoldsOne hasher.new (leaf_prefix ∷ given_images pairs.now digest.now (bit + 4)) }
+        → HoldsOne hasher.new (leaf_prefix ∷ given_images pairs.now digest.now (bit + LANES)) }
 {
-    let shown = to_words(&[
-        shown_at(pairs, bit),
-        shown_at(pairs, bit + 1),
-        shown_at(pairs, bit + 2),
-        shown_at(pairs, bit + 3),
-    ]);
-    let images = images_in_lanes(schedules, &shown);
-    let others = to_words(&[
-        other_at(pairs, bit),
-        other_at(pairs, bit + 1),
-        other_at(pairs, bit + 2),
-        other_at(pairs, bit + 3),
-    ]);
+    let images = images_in_lanes(schedules, &to_words(&secrets_from(pairs, bit)));
+    let others = to_words(&others_from(pairs, bit));
     let ones = are_ones(digest, bit);
     let zeroth = chosen_in_lanes(&ones, &images, &others);
     let first = chosen_in_lanes(&ones, &others, &images);
     hasher.update(&zeroth, &first);
+}
+
+// Returns for each lane the secret that the pairs show for a bit: bit `first` in lane 0, and those after it
+// in the others.
+#[inline(always)]
+fn secrets_from(pairs: &[u8], first: usize) -> [[u8; 32]; LANES]
+    requires length { length pairs.now ≡ OTS_BYTES }
+    requires bits { first + LANES ≤ DIGEST_BITS }
+    ensures { (j : ℕ) → j < LANES → slice_index_or result j [] ≡ shown_at pairs.now (first + j) }
+{
+    let mut secrets = [[0; HASH_BYTES]; LANES];
+    'lanes: for j in 0..LANES {
+        secrets[j] = shown_at(pairs, first + j);
+    }
+    secrets
+}
+
+// Returns for each lane the image that the pairs give for a bit: bit `first` in lane 0, and those after it
+// in the others.
+#[inline(always)]
+fn others_from(pairs: &[u8], first: usize) -> [[u8; 32]; LANES]
+    requires length { length pairs.now ≡ OTS_BYTES }
+    requires bits { first + LANES ≤ DIGEST_BITS }
+    ensures { (j : ℕ) → j < LANES → slice_index_or result j [] ≡ other_at pairs.now (first + j) }
+{
+    let mut others = [[0; HASH_BYTES]; LANES];
+    'lanes: for j in 0..LANES {
+        others[j] = other_at(pairs, first + j);
+    }
+    others
 }
 
 // Returns the secret that the pairs show for a bit.
@@ -228,7 +248,7 @@ pub(crate) fn other_at(pairs: &[u8], bit: usize) -> [u8; 32]
 }
 
 // Appends a secret that is shown, and the image of the other secret. The vector must have room for both.
-pub(crate) fn push_pair(bytes: &mut Vec<u8>, shown: &[u8; 32], image: &[u8; 32])
+fn push_pair(bytes: &mut Vec<u8>, shown: &[u8; 32], image: &[u8; 32])
     requires { vec_len bytes.old + PAIR_BYTES ≤ vec_capacity bytes.old }
     ensures items { bytes.new.items ≡ bytes.old.items ++ (shown.now ++ image.now) }
     ensures len { vec_len bytes.new ≡ vec_len bytes.old + PAIR_BYTES }
@@ -236,4 +256,17 @@ pub(crate) fn push_pair(bytes: &mut Vec<u8>, shown: &[u8; 32], image: &[u8; 32])
 {
     bytes.extend_from_slice(shown).unwrap();
     bytes.extend_from_slice(image).unwrap();
+}
+
+// Appends for each lane, in the order of the lanes, a secret that is shown and the image of the other
+// secret. The vector must have room for all of them.
+pub(crate) fn push_pairs(bytes: &mut Vec<u8>, shown: &[[u8; 32]; LANES], images: &[[u8; 32]; LANES])
+    requires { vec_len bytes.old + PAIR_BYTES * LANES ≤ vec_capacity bytes.old }
+    ensures items { bytes.new.items ≡ bytes.old.items ++ pairs_up_to LANES shown.now images.now }
+    ensures len { vec_len bytes.new ≡ vec_len bytes.old + PAIR_BYTES * LANES }
+    ensures capacity { vec_capacity bytes.old ≤ vec_capacity bytes.new }
+{
+    'lanes: for j in 0..LANES {
+        push_pair(bytes, &shown[j], &images[j]);
+    }
 }

@@ -1,11 +1,15 @@
 -- The command line: its commands, and the options that each takes.
 use Rattle.std.specs.Prelude.{[], ◌∷◌, codes, Some, true}
-use Rattle.clap.specs.declared.builder.ArgAction.TheVariants.{Set}
+use Rattle.clap.specs.declared.builder.ArgAction.TheVariants.{Append, Set, SetTrue}
 use Rattle.clap.specs.Words.{App, Rule, Text, new_app, new_rule, with_rule, with_subcommand}
 
 -- an option with its name behind two hyphens, which takes one value
 abbrev pub option_named : Text → Rule
 option_named name = record (new_rule name) { long = Some name; action = Some Set; value_names = 1 }
+
+-- an option with its name behind two hyphens, which takes no value
+abbrev pub flag_named : Text → Rule
+flag_named name = record (new_rule name) { long = Some name; action = Some SetTrue }
 
 -- how many frames an edge holds; 1 if the option is absent
 abbrev pub capacity : Rule
@@ -19,24 +23,107 @@ workers = record (option_named (codes "workers")) { defaults = codes "1" ∷ [] 
 abbrev pub general : Rule
 general = record (option_named (codes "general")) { required = true }
 
--- the commands with options
+-- the runs that the input must be of; any, if the option is absent
+abbrev pub asked : Rule
+asked = option_named (codes "run")
+
+-- the generals that are held for faulty in place of those that the input lists
+abbrev pub faulty : Rule
+faulty = option_named (codes "faulty")
+
+-- whether `explained` counts as a no
+abbrev pub strict : Rule
+strict = flag_named (codes "strict")
+
+-- whether the answer is JSON
+abbrev pub json : Rule
+json = flag_named (codes "json")
+
+-- whether a tree of keys has 64 leaves
+abbrev pub tall : Rule
+tall = flag_named (codes "tall")
+
+-- the slot of a header of version 2; version 1, if the option is absent
+abbrev pub slot : Rule
+slot = option_named (codes "slot")
+
+-- whether the ids of the runs are printed
+abbrev pub print_run : Rule
+print_run = flag_named (codes "print-run")
+
+-- the file of the input, a word without an option; standard input, if it is absent or a minus
+abbrev pub file : Rule
+file = record (new_rule (codes "file")) { action = Some Set; value_names = 1 }
+
+-- the name that is explained, in the place of a file
+abbrev pub name : Rule
+name = record (new_rule (codes "file")) { action = Some Set; value_names = 1; required = true }
+
+-- the file of a header, or of evidence, in the place of the file of the input
+abbrev pub first_file : Rule
+first_file = record (new_rule (codes "file")) { action = Some Set; value_names = 1; required = true }
+
+-- the file of a log
+abbrev pub log : Rule
+log = record (new_rule (codes "log")) { action = Some Set; value_names = 1; required = true }
+
+-- logs, a word for each, with its general and its file
+abbrev pub logs : Rule
+logs = record (new_rule (codes "log")) { action = Some Append; value_names = 1 }
+
+-- a command that takes a number of workers, runs and generals, too
+abbrev pub with_asking : App → App
+with_asking command = with_rule (with_rule (with_rule command workers) asked) faulty
+
+-- a command whose answer is a verdict, of a file
+abbrev pub with_verdict : App → App
+with_verdict command = with_rule (with_rule (with_rule command strict) json) file
+
+-- the commands with what each takes
+abbrev pub decide : App
+decide = with_rule (with_rule (new_app (codes "decide")) json) file
+
 abbrev pub run : App
-run = with_rule (new_app (codes "run")) capacity
+run = with_rule (with_rule (with_rule (new_app (codes "run")) capacity) print_run) file
 
 abbrev pub judge : App
-judge = with_rule (with_rule (new_app (codes "judge")) capacity) workers
+judge = with_verdict (with_rule (with_rule (new_app (codes "judge")) capacity) workers)
 
 abbrev pub campaign : App
-campaign = with_rule (new_app (codes "campaign")) capacity
+campaign = with_rule (with_rule (with_rule (new_app (codes "campaign")) capacity) print_run) file
 
 abbrev pub audit : App
-audit = with_rule (new_app (codes "audit")) workers
+audit = with_verdict (with_asking (new_app (codes "audit")))
 
 abbrev pub draw : App
-draw = with_rule (new_app (codes "draw")) workers
+draw = with_rule (with_asking (new_app (codes "draw"))) file
 
 abbrev pub accuse : App
-accuse = with_rule (new_app (codes "accuse")) general
+accuse = with_rule (with_rule (with_rule (new_app (codes "accuse")) general) asked) file
+
+abbrev pub evidence : App
+evidence = with_rule (with_rule (with_rule (new_app (codes "evidence")) asked) json) file
+
+abbrev pub show : App
+show = with_rule (with_rule (new_app (codes "show")) asked) file
+
+abbrev pub root : App
+root = with_rule (with_rule (new_app (codes "root")) tall) file
+
+abbrev pub header : App
+header = with_rule (with_rule (with_rule (new_app (codes "header")) slot) print_run) file
+
+abbrev pub bundle : App
+bundle = with_rule (with_rule (with_rule (new_app (codes "bundle")) faulty) first_file) logs
+
+abbrev pub answer : App
+answer = with_rule (with_rule (new_app (codes "answer")) first_file) log
+
+abbrev pub explain : App
+explain = with_rule (new_app (codes "explain")) name
+
+abbrev pub words : App
+words = with_rule (new_app (codes "words")) file
 
 -- the command line without its subcommands: it has a version, and a subcommand is required
 abbrev pub bare : App
@@ -46,7 +133,7 @@ bare =
 
 -- the command line with the commands that read a scenario, one added after another
 abbrev pub with_decide : App
-with_decide = with_subcommand bare (new_app (codes "decide")).top
+with_decide = with_subcommand bare decide.top
 
 abbrev pub with_runs : App
 with_runs = with_subcommand with_decide run.top
@@ -67,6 +154,29 @@ with_draw = with_subcommand with_audit draw.top
 abbrev pub with_bundles : App
 with_bundles = with_subcommand with_draw accuse.top
 
--- the program's command line: with the command that reads evidence, too
+-- the command line with the command that reads evidence, too
+abbrev pub with_evidence : App
+with_evidence = with_subcommand with_bundles evidence.top
+
+-- the program's command line: with the commands that tell of files, names and texts, and those that prepare a
+-- run and a dispute, too
+abbrev pub with_show : App
+with_show = with_subcommand with_evidence show.top
+
+abbrev pub with_root : App
+with_root = with_subcommand with_show root.top
+
+abbrev pub with_header : App
+with_header = with_subcommand with_root header.top
+
+abbrev pub with_bundle : App
+with_bundle = with_subcommand with_header bundle.top
+
+abbrev pub with_answer : App
+with_answer = with_subcommand with_bundle answer.top
+
+abbrev pub with_explain : App
+with_explain = with_subcommand with_answer explain.top
+
 abbrev pub tool : App
-tool = with_subcommand with_bundles (new_app (codes "evidence")).top
+tool = with_subcommand with_explain words.top

@@ -2,4 +2,5 @@ pub mod CommandLine
 pub mod Commands
 pub mod Jobs
 pub mod Refusal
+pub mod Sources
 pub mod Tool

@@ -8,7 +8,7 @@ use Rattle.gen_jobs.specs.declared.ends.JobEnd.TheVariants.{Done, Failed}
 use Rattle.gen_jobs.specs.declared.ends.JobFault.TheVariants as faults
 use Rattle.gen_program.specs.declared.words.WordsFault.{WordsFault}
 use Rattle.gen_program.specs.declared.words.WordsFault.TheVariants.{Memory, NotText, NoCommand, Words}
-use Rattle.gen_program.specs.declared.words.WordsFault.TheVariants.{BadCapacity, BadWorkers, BadGeneral}
+use Rattle.gen_program.specs.declared.words.WordsFault.TheVariants.{BadCapacity, BadWorkers, BadGeneral, BadSlot, BadRun, BadFaulty, BadLog, TwoStandard}
 use Rattle.gen_jobs.specs.Ends.{status_of}
 
 -- the exit status for words that ask for no job
@@ -39,6 +39,11 @@ Refuses NoCommand status = IsBlamed status
 Refuses BadCapacity status = IsBlamed status
 Refuses BadWorkers status = IsBlamed status
 Refuses BadGeneral status = IsBlamed status
+Refuses BadSlot status = IsBlamed status
+Refuses BadLog status = IsBlamed status
+Refuses TwoStandard status = IsBlamed status
+Refuses BadRun status = IsBlamed status
+Refuses BadFaulty status = IsBlamed status
 Refuses (Words e) status = (AsksToShow e → IsShown status) × ((AsksToShow e → ⊥) → IsBlamed status)
 
 -- The line ends by saying how to ask for help.

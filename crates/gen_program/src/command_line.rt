@@ -7,27 +7,32 @@ ghost use Rattle.gen_program.specs.CommandLine as lines;
 use clap::{Arg, ArgAction, Command};
 use std::alloc::{AllocError, Global};
 
-/// The end of the help: four examples, the exit statuses, the faults, and where more is explained.
+/// The end of the help: examples, the exit statuses, the faults, and where more is explained.
 const MORE: &str = "\
 Examples:
-  sm_tool run < split.scenario > split.bundle
-  sm_tool audit --workers 4 < split.bundle
-  sm_tool draw < split.bundle > split.svg
-  sm_tool accuse --general 0 < split.bundle > split.evidence
+  sm_tool run split.scenario > split.bundle
+  sm_tool audit --workers 4 split.bundle
+  sm_tool draw split.bundle > split.svg
+  sm_tool accuse --general 0 split.bundle > split.evidence
+  sm_tool evidence --run RUNID split.evidence
+  sm_tool show split.evidence
+  sm_tool explain N8
 
-Each command reads standard input to its end, and writes nothing before its output is whole. Bundles, campaigns
-and evidence are bytes: redirect them.
+Each command reads FILE to its end, or standard input if there is no FILE or it is '-', and writes nothing before its
+output is whole. Bundles, campaigns and evidence are bytes: redirect them.
 
 Exit status:
   0  done: the output is whole, and doesn't say no; a picture never does
-  1  done: a verdict of audit or judge is a no, evidence fails, or there is no evidence against the general
-  2  the words ask for nothing that there is
-  3  the input has a fault, which standard error names
+  1  done: a verdict of audit or judge is a no, evidence fails, or there is no evidence against the general; with
+     --strict also: a verdict is 'explained'; of show, the file doesn't read whole; of explain, there is no such name
+  2  the words ask for nothing that there is, or bytes would go to a terminal
+  3  the input has a fault, which standard error names; 'fault R1' says that it is of another run
   4  memory or a thread was refused
-  5  a read or a write failed
+  5  a file couldn't be opened, or a read or a write failed
 
-Faults, as 'fault P6 line 8', findings, as 'N8 from 0 to 1', and convictions, as 'K2', are explained in
-docs/FORMATS.md of the sources. 'sm_tool help run' tells of one command.";
+'sm_tool help run' tells of one command. 'man sm_tool' explains all of them. Faults, as 'fault P6 line 8', findings,
+as 'N8 from 0 to 1', and convictions, as 'K2', are told by 'sm_tool explain', and their rules stand in FORMATS.md: in the folder share/doc/vamuretu where the
+program is installed, and in docs of an unpacked release or of the sources.";
 
 /// Returns the option `--capacity`: how many frames an edge holds.
 fn capacity_option<'a>(alloc: Global) -> Arg<'a>
@@ -68,6 +73,146 @@ fn general_option<'a>(alloc: Global) -> Arg<'a>
         .required(true)
 }
 
+/// Returns the option `--run`: the runs that the input must be of.
+fn asked_option<'a>(alloc: Global) -> Arg<'a>
+    ensures rule { rule_of result ≡ lines.asked }
+    ensures local { result.global ≡ false }
+{
+    Arg::new(alloc, "run")
+        .long("run")
+        .value_name("RUNID")
+        .help("Refuses an input of another run; of a campaign all run ids, with commas")
+        .action(ArgAction::Set)
+}
+
+/// Returns the option `--faulty`: the generals that are held for faulty in place of those that the input lists.
+fn faulty_option<'a>(alloc: Global) -> Arg<'a>
+    ensures rule { rule_of result ≡ lines.faulty }
+    ensures local { result.global ≡ false }
+{
+    Arg::new(alloc, "faulty")
+        .long("faulty")
+        .value_name("LIST")
+        .help("Judges as if these were held for faulty: 'none', or numbers 0 to 15 with commas")
+        .action(ArgAction::Set)
+}
+
+/// Returns the flag `--json`: whether the answer is JSON.
+fn json_flag<'a>(alloc: Global) -> Arg<'a>
+    ensures rule { rule_of result ≡ lines.json }
+    ensures local { result.global ≡ false }
+{
+    Arg::new(alloc, "json")
+        .long("json")
+        .help("Answers with a JSON object in one line")
+        .action(ArgAction::SetTrue)
+}
+
+/// Returns the flag `--strict`: whether `explained` counts as a no.
+fn strict_flag<'a>(alloc: Global) -> Arg<'a>
+    ensures rule { rule_of result ≡ lines.strict }
+    ensures local { result.global ≡ false }
+{
+    Arg::new(alloc, "strict")
+        .long("strict")
+        .help("Ends with status 1 for the verdict 'explained' too")
+        .action(ArgAction::SetTrue)
+}
+
+/// Returns the flag `--tall`: whether a tree of keys has 64 leaves.
+fn tall_flag<'a>(alloc: Global) -> Arg<'a>
+    ensures rule { rule_of result ≡ lines.tall }
+    ensures local { result.global ≡ false }
+{
+    Arg::new(alloc, "tall")
+        .long("tall")
+        .help("Makes the tree of 64 leaves, for runs of version 2")
+        .action(ArgAction::SetTrue)
+}
+
+/// Returns the option `--slot`: the slot of a header of version 2.
+fn slot_option<'a>(alloc: Global) -> Arg<'a>
+    ensures rule { rule_of result ≡ lines.slot }
+    ensures local { result.global ≡ false }
+{
+    Arg::new(alloc, "slot")
+        .long("slot")
+        .value_name("U")
+        .help("Makes a header of version 2 in this slot, 0 to 3")
+        .action(ArgAction::Set)
+}
+
+/// Returns the flag `--print-run`: whether the ids of the runs are printed.
+fn print_run_flag<'a>(alloc: Global) -> Arg<'a>
+    ensures rule { rule_of result ≡ lines.print_run }
+    ensures local { result.global ≡ false }
+{
+    Arg::new(alloc, "print-run")
+        .long("print-run")
+        .help("Prints the run id on standard error; of a campaign all, with commas")
+        .action(ArgAction::SetTrue)
+}
+
+/// Returns the argument FILE: the file of the input.
+fn file_argument<'a>(alloc: Global) -> Arg<'a>
+    ensures rule { rule_of result ≡ lines.file }
+    ensures local { result.global ≡ false }
+{
+    Arg::new(alloc, "file")
+        .value_name("FILE")
+        .help("The file of the input; standard input if it is left out, or '-'")
+        .action(ArgAction::Set)
+}
+
+/// Returns the argument HEADER or EVIDENCE: a file in the place of that of the input.
+fn first_file_argument<'a>(alloc: Global, name: &'a str, help: &'a str) -> Arg<'a>
+    ensures rule { rule_of result ≡ lines.first_file }
+    ensures local { result.global ≡ false }
+{
+    Arg::new(alloc, "file")
+        .value_name(name)
+        .help(help)
+        .action(ArgAction::Set)
+        .required(true)
+}
+
+/// Returns the argument LOG: the file of a log.
+fn log_argument<'a>(alloc: Global) -> Arg<'a>
+    ensures rule { rule_of result ≡ lines.log }
+    ensures local { result.global ≡ false }
+{
+    Arg::new(alloc, "log")
+        .value_name("LOG")
+        .help("The file of the log that the accused kept")
+        .action(ArgAction::Set)
+        .required(true)
+}
+
+/// Returns the arguments G=LOG: logs, each with its general.
+fn logs_argument<'a>(alloc: Global) -> Arg<'a>
+    ensures rule { rule_of result ≡ lines.logs }
+    ensures local { result.global ≡ false }
+{
+    Arg::new(alloc, "log")
+        .value_name("G=LOG")
+        .help("The number of a general, and the file of its log; as often as there are logs")
+        .action(ArgAction::Append)
+}
+
+/// Returns the argument NAME: the name that is explained, in the place of a file.
+fn name_argument<'a>(alloc: Global) -> Arg<'a>
+    ensures rule { rule_of result ≡ lines.name }
+    ensures local { result.global ≡ false }
+{
+    Arg::new(alloc, "file")
+        .value_name("NAME")
+        .help(
+            "A fault, finding, conviction, verdict or status, as N8, K2, P6, 'P9 S3', agreed or 'status 3'",
+        )
+        .action(ArgAction::Set)
+        .required(true)
+}
+
 /// Returns a command of this name that takes no option.
 fn plain_command<'a>(alloc: Global, name: &'a str, about: &'a str) -> Command<'a>
     ensures app { app_of result ≡ new_app name.entry.now }
@@ -76,13 +221,52 @@ fn plain_command<'a>(alloc: Global, name: &'a str, about: &'a str) -> Command<'a
     Command::new(alloc, name).about(about)
 }
 
+/// Returns a command that takes a number of workers, the runs that are asked for and the generals that are held for
+/// faulty, too.
+fn with_asking<'a>(alloc: Global, command: Command<'a>) -> Result<Command<'a>, AllocError>
+    requires { (fields_of command).has_globals ≡ false }
+    ensures app { IfOk result (λ c. app_of c ≡ lines.with_asking (app_of command.entry)) }
+    ensures local { IfOk result (λ c. (fields_of c).has_globals ≡ false) }
+{
+    command
+        .arg(workers_option(alloc))?
+        .arg(asked_option(alloc))?
+        .arg(faulty_option(alloc))
+}
+
+/// Returns a command whose answer is a verdict of a file: it takes `--strict`, `--json` and FILE, too.
+fn with_verdict<'a>(alloc: Global, command: Command<'a>) -> Result<Command<'a>, AllocError>
+    requires { (fields_of command).has_globals ≡ false }
+    ensures app { IfOk result (λ c. app_of c ≡ lines.with_verdict (app_of command.entry)) }
+    ensures local { IfOk result (λ c. (fields_of c).has_globals ≡ false) }
+{
+    command
+        .arg(strict_flag(alloc))?
+        .arg(json_flag(alloc))?
+        .arg(file_argument(alloc))
+}
+
+/// Returns the command `decide`, which decides a scenario.
+fn decide_command<'a>(alloc: Global) -> Result<Command<'a>, AllocError>
+    ensures app { IfOk result (λ c. app_of c ≡ lines.decide) }
+    ensures local { IfOk result (λ c. (fields_of c).has_globals ≡ false) }
+{
+    let about = "Reads a scenario and prints what each general decides";
+    plain_command(alloc, "decide", about)
+        .arg(json_flag(alloc))?
+        .arg(file_argument(alloc))
+}
+
 /// Returns the command `run`, which runs a scenario.
 fn run_command<'a>(alloc: Global) -> Result<Command<'a>, AllocError>
     ensures app { IfOk result (λ c. app_of c ≡ lines.run) }
     ensures local { IfOk result (λ c. (fields_of c).has_globals ≡ false) }
 {
-    let about = "Reads a scenario with a seed from standard input, runs it and writes its bundle";
-    plain_command(alloc, "run", about).arg(capacity_option(alloc))
+    let about = "Reads a scenario with a seed, runs it and writes its bundle";
+    plain_command(alloc, "run", about)
+        .arg(capacity_option(alloc))?
+        .arg(print_run_flag(alloc))?
+        .arg(file_argument(alloc))
 }
 
 /// Returns the command `judge`, which runs a scenario and audits it.
@@ -91,10 +275,11 @@ fn judge_command<'a>(alloc: Global) -> Result<Command<'a>, AllocError>
     ensures local { IfOk result (λ c. (fields_of c).has_globals ≡ false) }
 {
     let about =
-        "Reads a scenario with a seed from standard input, runs it while its logs are audited, and prints the verdict";
-    plain_command(alloc, "judge", about)
+        "Reads a scenario with a seed, runs it while its logs are audited, and prints the verdict";
+    let command = plain_command(alloc, "judge", about)
         .arg(capacity_option(alloc))?
-        .arg(workers_option(alloc))
+        .arg(workers_option(alloc))?;
+    with_verdict(alloc, command)
 }
 
 /// Returns the command `campaign`, which runs a campaign.
@@ -102,9 +287,11 @@ fn campaign_command<'a>(alloc: Global) -> Result<Command<'a>, AllocError>
     ensures app { IfOk result (λ c. app_of c ≡ lines.campaign) }
     ensures local { IfOk result (λ c. (fields_of c).has_globals ≡ false) }
 {
-    let about =
-        "Reads the text of a campaign from standard input, runs it and writes the bundles of its runs";
-    plain_command(alloc, "campaign", about).arg(capacity_option(alloc))
+    let about = "Reads the text of a campaign, runs it and writes the bundles of its runs";
+    plain_command(alloc, "campaign", about)
+        .arg(capacity_option(alloc))?
+        .arg(print_run_flag(alloc))?
+        .arg(file_argument(alloc))
 }
 
 /// Returns the command `audit`, which audits a bundle or a campaign.
@@ -112,9 +299,9 @@ fn audit_command<'a>(alloc: Global) -> Result<Command<'a>, AllocError>
     ensures app { IfOk result (λ c. app_of c ≡ lines.audit) }
     ensures local { IfOk result (λ c. (fields_of c).has_globals ≡ false) }
 {
-    let about =
-        "Reads a bundle of logs, or a campaign, from standard input and prints whether a run explains them";
-    plain_command(alloc, "audit", about).arg(workers_option(alloc))
+    let about = "Reads a bundle of logs, or a campaign, and prints whether a run explains them";
+    let command = with_asking(alloc, plain_command(alloc, "audit", about))?;
+    with_verdict(alloc, command)
 }
 
 /// Returns the command `draw`, which draws a bundle or a campaign.
@@ -122,9 +309,8 @@ fn draw_command<'a>(alloc: Global) -> Result<Command<'a>, AllocError>
     ensures app { IfOk result (λ c. app_of c ≡ lines.draw) }
     ensures local { IfOk result (λ c. (fields_of c).has_globals ≡ false) }
 {
-    let about =
-        "Reads a bundle of logs, or a campaign, from standard input and writes its picture, an SVG text";
-    plain_command(alloc, "draw", about).arg(workers_option(alloc))
+    let about = "Reads a bundle of logs, or a campaign, and writes its picture, an SVG text";
+    with_asking(alloc, plain_command(alloc, "draw", about))?.arg(file_argument(alloc))
 }
 
 /// Returns the command `accuse`, which accuses a general.
@@ -132,9 +318,100 @@ fn accuse_command<'a>(alloc: Global) -> Result<Command<'a>, AllocError>
     ensures app { IfOk result (λ c. app_of c ≡ lines.accuse) }
     ensures local { IfOk result (λ c. (fields_of c).has_globals ≡ false) }
 {
+    let about = "Reads a bundle or a campaign and writes the evidence against a general";
+    plain_command(alloc, "accuse", about)
+        .arg(general_option(alloc))?
+        .arg(asked_option(alloc))?
+        .arg(file_argument(alloc))
+}
+
+/// Returns the command `evidence`, which checks evidence.
+fn evidence_command<'a>(alloc: Global) -> Result<Command<'a>, AllocError>
+    ensures app { IfOk result (λ c. app_of c ≡ lines.evidence) }
+    ensures local { IfOk result (λ c. (fields_of c).has_globals ≡ false) }
+{
+    let about = "Reads evidence and prints whether it holds";
+    plain_command(alloc, "evidence", about)
+        .arg(asked_option(alloc))?
+        .arg(json_flag(alloc))?
+        .arg(file_argument(alloc))
+}
+
+/// Returns the command `show`, which says what a file is.
+fn show_command<'a>(alloc: Global) -> Result<Command<'a>, AllocError>
+    ensures app { IfOk result (λ c. app_of c ≡ lines.show) }
+    ensures local { IfOk result (λ c. (fields_of c).has_globals ≡ false) }
+{
     let about =
-        "Reads a bundle or a campaign from standard input and writes the evidence against a general";
-    plain_command(alloc, "accuse", about).arg(general_option(alloc))
+        "Reads a bundle, a campaign, evidence or a header, and prints what it says, a line for each fact";
+    plain_command(alloc, "show", about)
+        .arg(asked_option(alloc))?
+        .arg(file_argument(alloc))
+}
+
+/// Returns the command `root`, which makes the root of a seed.
+fn root_command<'a>(alloc: Global) -> Result<Command<'a>, AllocError>
+    ensures app { IfOk result (λ c. app_of c ≡ lines.root) }
+    ensures local { IfOk result (λ c. (fields_of c).has_globals ≡ false) }
+{
+    let about = "Reads a seed of 32 bytes and prints the root of its keys";
+    plain_command(alloc, "root", about)
+        .arg(tall_flag(alloc))?
+        .arg(file_argument(alloc))
+}
+
+/// Returns the command `header`, which makes a header of its text.
+fn header_command<'a>(alloc: Global) -> Result<Command<'a>, AllocError>
+    ensures app { IfOk result (λ c. app_of c ≡ lines.header) }
+    ensures local { IfOk result (λ c. (fields_of c).has_globals ≡ false) }
+{
+    let about = "Reads the text of a header, with a root for each general, and writes the header";
+    plain_command(alloc, "header", about)
+        .arg(slot_option(alloc))?
+        .arg(print_run_flag(alloc))?
+        .arg(file_argument(alloc))
+}
+
+/// Returns the command `bundle`, which joins a header and logs.
+fn bundle_command<'a>(alloc: Global) -> Result<Command<'a>, AllocError>
+    ensures app { IfOk result (λ c. app_of c ≡ lines.bundle) }
+    ensures local { IfOk result (λ c. (fields_of c).has_globals ≡ false) }
+{
+    let about = "Reads a header and logs, each from its file, and writes their bundle";
+    plain_command(alloc, "bundle", about)
+        .arg(faulty_option(alloc))?
+        .arg(first_file_argument(alloc, "HEADER", "The file of the header"))?
+        .arg(logs_argument(alloc))
+}
+
+/// Returns the command `answer`, which answers evidence by a log.
+fn answer_command<'a>(alloc: Global) -> Result<Command<'a>, AllocError>
+    ensures app { IfOk result (λ c. app_of c ≡ lines.answer) }
+    ensures local { IfOk result (λ c. (fields_of c).has_globals ≡ false) }
+{
+    let about = "Reads evidence and a log of the accused, and prints what the log answers";
+    plain_command(alloc, "answer", about)
+        .arg(first_file_argument(alloc, "EVIDENCE", "The file of the evidence"))?
+        .arg(log_argument(alloc))
+}
+
+/// Returns the command `explain`, which says what a name means.
+fn explain_command<'a>(alloc: Global) -> Result<Command<'a>, AllocError>
+    ensures app { IfOk result (λ c. app_of c ≡ lines.explain) }
+    ensures local { IfOk result (λ c. (fields_of c).has_globals ≡ false) }
+{
+    let about = "Prints what a name means that stands in an answer; reads no input";
+    plain_command(alloc, "explain", about).arg(name_argument(alloc))
+}
+
+/// Returns the command `words`, which says what the lines of a text mean.
+fn words_command<'a>(alloc: Global) -> Result<Command<'a>, AllocError>
+    ensures app { IfOk result (λ c. app_of c ≡ lines.words) }
+    ensures local { IfOk result (λ c. (fields_of c).has_globals ≡ false) }
+{
+    let about =
+        "Reads a text of decisions or of a verdict, and prints it with what each line means";
+    plain_command(alloc, "words", about).arg(file_argument(alloc))
 }
 
 /// Returns the command line without its subcommands. One of them is required.
@@ -152,8 +429,8 @@ fn bare_command<'a>(alloc: Global) -> Command<'a>
 fn with_decide<'a>(alloc: Global) -> Result<Command<'a>, AllocError>
     ensures { IfOk result (λ c. app_of c ≡ lines.with_decide) }
 {
-    let about = "Reads a scenario from standard input and prints what each general decides";
-    bare_command(alloc).subcommand(plain_command(alloc, "decide", about))
+    let decide = decide_command(alloc)?;
+    bare_command(alloc).subcommand(decide)
 }
 
 /// Returns the command line with the commands up to `run`.
@@ -204,10 +481,66 @@ fn with_bundles<'a>(alloc: Global) -> Result<Command<'a>, AllocError>
     with_draw(alloc)?.subcommand(accuse)
 }
 
+/// Returns the command line with the commands up to `evidence`.
+fn with_evidence<'a>(alloc: Global) -> Result<Command<'a>, AllocError>
+    ensures { IfOk result (λ c. app_of c ≡ lines.with_evidence) }
+{
+    let evidence = evidence_command(alloc)?;
+    with_bundles(alloc)?.subcommand(evidence)
+}
+
+/// Returns the command line with the commands up to `show`.
+fn with_show<'a>(alloc: Global) -> Result<Command<'a>, AllocError>
+    ensures { IfOk result (λ c. app_of c ≡ lines.with_show) }
+{
+    let show = show_command(alloc)?;
+    with_evidence(alloc)?.subcommand(show)
+}
+
+/// Returns the command line with the commands up to `root`.
+fn with_root<'a>(alloc: Global) -> Result<Command<'a>, AllocError>
+    ensures { IfOk result (λ c. app_of c ≡ lines.with_root) }
+{
+    let root = root_command(alloc)?;
+    with_show(alloc)?.subcommand(root)
+}
+
+/// Returns the command line with the commands up to `header`.
+fn with_header<'a>(alloc: Global) -> Result<Command<'a>, AllocError>
+    ensures { IfOk result (λ c. app_of c ≡ lines.with_header) }
+{
+    let header = header_command(alloc)?;
+    with_root(alloc)?.subcommand(header)
+}
+
+/// Returns the command line with the commands up to `bundle`.
+fn with_bundle<'a>(alloc: Global) -> Result<Command<'a>, AllocError>
+    ensures { IfOk result (λ c. app_of c ≡ lines.with_bundle) }
+{
+    let bundle = bundle_command(alloc)?;
+    with_header(alloc)?.subcommand(bundle)
+}
+
+/// Returns the command line with the commands up to `answer`.
+fn with_answer<'a>(alloc: Global) -> Result<Command<'a>, AllocError>
+    ensures { IfOk result (λ c. app_of c ≡ lines.with_answer) }
+{
+    let answer = answer_command(alloc)?;
+    with_bundle(alloc)?.subcommand(answer)
+}
+
+/// Returns the command line with the commands up to `explain`.
+fn with_explain<'a>(alloc: Global) -> Result<Command<'a>, AllocError>
+    ensures { IfOk result (λ c. app_of c ≡ lines.with_explain) }
+{
+    let explain = explain_command(alloc)?;
+    with_answer(alloc)?.subcommand(explain)
+}
+
 /// Returns the command line of the program, with all its commands. It fails only if memory is refused.
 pub fn tool_command<'a>(alloc: Global) -> Result<Command<'a>, AllocError>
     ensures { IfOk result (λ c. app_of c ≡ lines.tool) }
 {
-    let about = "Reads evidence from standard input and prints whether it holds";
-    with_bundles(alloc)?.subcommand(plain_command(alloc, "evidence", about))
+    let words = words_command(alloc)?;
+    with_explain(alloc)?.subcommand(words)
 }

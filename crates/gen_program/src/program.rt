@@ -1,17 +1,23 @@
 //! The program: from its words to its exit status.
-ghost use Rattle.std.specs.Prelude.{◌≡◌, List, Some, IfOk, IfErr, IsSome, map, string_bytes};
-ghost use Rattle.clap.specs.Words.{Text};
+ghost use Rattle.std.specs.Prelude.{◌≡◌, IfOk, map, string_bytes};
 ghost use Rattle.gen_jobs.specs.Ends.{status_of};
 ghost use Rattle.gen_jobs.specs.Ranges.{IsInRange};
 ghost use Rattle.gen_jobs.specs.declared.ends.JobEnd.{JobEnd};
 ghost use Rattle.gen_program.specs.Refusal.{IsShown, IsBlamed, IsStatus, PointsAtHelp, Refuses};
-ghost use Rattle.gen_program.specs.Tool.{asked, IsFaultOf};
-ghost use Rattle.gen_program.specs.declared.words.WordsFault.TheVariants.{Memory};
+ghost use Rattle.gen_program.specs.Sources.{writes_bytes};
 
-use crate::words::{WordsFault, read_words};
-use gen_jobs::{Job, JobEnd, JobFault, do_job};
+use crate::blaming::{given_value, parts_of, usage};
+use crate::naming::do_and_name;
+use crate::reading::{answer_files, join_files, tell_waiting};
+use crate::several::{Several, read_several};
+use crate::sources::{Source, source_of};
+use crate::terminals::Terminals;
+use crate::words::{WordsFault, read_request};
+use gen_jobs::{Job, JobEnd, JobFault, Telling, do_job};
 use std::alloc::{AllocError, Global};
-use std::rt::Env;
+use std::fs::File;
+use std::io::Read;
+use std::rt::{Env, Files};
 use std::sync::Wait;
 use std::thread::Threads;
 use std::{env, io};
@@ -20,57 +26,37 @@ use std::{env, io};
 const WORDS_STATUS: u8 = 2;
 
 /// Does what the words ask for, and returns the exit status.
-pub fn run<R: Env + AllocGlobal + Input + Print + Eprint + Threads + Wait + Sync>(rt: &R) -> u8
+pub fn run<
+    R: Env + Files + Terminals + AllocGlobal + Input + Print + Eprint + Threads + Wait + Sync,
+>(rt: &R) -> u8
     ensures { IsStatus result }
 {
-    match given_job(rt) {
-        Ok(job) => finish(rt, job),
-        Err(fault) => refuse(rt, &fault),
+    match given_words(rt) {
+        Ok(given) => answer_given(rt, &given),
+        Err(fault) => refuse(rt, &fault, None),
     }
 }
 
-/// Does a job from standard input to standard output, and returns the exit status of its end.
-fn finish<R: AllocGlobal + Input + Print + Eprint + Threads + Wait + Sync>(rt: &R, job: Job) -> u8
-    requires { IsInRange job }
-    ensures { (end : JobEnd) × (result ≡ status_of end) }
-{
-    let mut reader = rt.reader();
-    let mut writer = io::writer(rt);
-    let end = do_job(rt, rt.alloc(), job, &mut reader, &mut writer);
-    end_with(rt, end)
-}
-
-/// Returns the job that the words of this process ask for, or why they ask for none.
-fn given_job<R: Env + AllocGlobal>(rt: &R) -> Result<Job, WordsFault>
-    // There are words that ask for it.
-    ensures asked { IfOk result (λ job. (words : List Text) × (asked words ≡ Some job)) }
-    // Its numbers are in their ranges.
-    ensures range { IfOk result IsInRange }
-{
+/// Returns the words of this process.
+fn given_words<R: Env + AllocGlobal>(rt: &R) -> Result<Vec<String>, WordsFault> {
     let given = match env::args(rt) {
         Ok(given) => given,
         Err(e) if e.kind() == io::ErrorKind::OutOfMemory => return Err(WordsFault::Memory),
         Err(_) => return Err(WordsFault::NotText),
     };
-    let given: Vec<String> = given.collect(rt.alloc())?;
-    job_in(rt.alloc(), &given)
+    Ok(given.collect(rt.alloc())?)
 }
 
-/// Returns the job that these words ask for; the first is the program's name. Its faults are those of
-/// `read_words`.
-fn job_in(alloc: Global, given: &[String]) -> Result<Job, WordsFault>
-    // The words ask for the job.
-    ensures ok { IfOk result (λ job. asked (map (λ w. string_bytes w) given.now) ≡ Some job) }
-    // Its numbers are in their ranges.
-    ensures range { IfOk result IsInRange }
-    // If the words ask for a job, the only fault is that memory was refused.
-    ensures only { IfErr result (λ fault.
-        IsSome (asked (map (λ w. string_bytes w) given.now)) → fault ≡ Memory) }
-    // A fault is one that the command line has at these words.
-    ensures fault { IfErr result (IsFaultOf (map (λ w. string_bytes w) given.now)) }
+/// Does what these words ask for, and returns the exit status. The first is the program's name.
+fn answer_given<
+    R: Files + Terminals + AllocGlobal + Input + Print + Eprint + Threads + Wait + Sync,
+>(rt: &R, given: &[String]) -> u8
+    ensures { IsStatus result }
 {
-    let words = texts_of(alloc, given)?;
-    read_words(alloc, &words)
+    match texts_of(rt.alloc(), given) {
+        Ok(words) => answer(rt, &words),
+        Err(_) => refuse(rt, &WordsFault::Memory, None),
+    }
 }
 
 /// Returns the texts of strings, in their order.
@@ -85,6 +71,164 @@ fn texts_of<'a>(alloc: Global, given: &'a [String]) -> Result<Vec<&'a str>, Allo
     Ok(words)
 }
 
+/// Does what these words ask for, and returns the exit status. The first is the program's name.
+fn answer<R: Files + Terminals + AllocGlobal + Input + Print + Eprint + Threads + Wait + Sync>(
+    rt: &R,
+    words: &[&str],
+) -> u8
+    ensures { IsStatus result }
+{
+    match read_several(rt.alloc(), words) {
+        Ok(Some(several)) => finish_several(rt, &several),
+        Ok(None) => answer_one(rt, words),
+        Err(fault) => refuse(rt, &fault, given_value(rt.alloc(), words, &fault)),
+    }
+}
+
+/// Says on standard error that bytes would go to a terminal, and returns the exit status.
+fn refuse_terminal<R: Eprint>(rt: &R) -> u8
+    ensures { IsStatus result }
+{
+    let _ = eprintln!(rt;
+        "error: the output is bytes, and would go to a terminal: write '> FILE' behind the command; for more, try '--help'"
+    );
+    WORDS_STATUS
+}
+
+/// Does what is asked for with several files, and returns the exit status: of its end, or that for words if bytes would
+/// go to a terminal.
+fn finish_several<R: Files + Terminals + AllocGlobal + Input + Print + Eprint>(
+    rt: &R,
+    several: &Several<'_>,
+) -> u8
+    ensures { IsStatus result }
+{
+    match several {
+        Several::Bundle {
+            faulty,
+            header,
+            generals,
+            logs,
+        } => {
+            if rt.writes_terminal() {
+                return refuse_terminal(rt);
+            }
+            end_with(rt, join_files(rt, *faulty, header, generals, logs))
+        }
+        Several::Answer { evidence, log } => end_with(rt, answer_files(rt, evidence, log)),
+    }
+}
+
+/// Does what these words ask for that name one input, and returns the exit status. The first is the program's name.
+fn answer_one<R: Files + Terminals + AllocGlobal + Input + Print + Eprint + Threads + Wait + Sync>(
+    rt: &R,
+    words: &[&str],
+) -> u8
+    ensures { IsStatus result }
+{
+    match read_request(rt.alloc(), words) {
+        Ok(request) => finish(rt, &request.job, request.file, request.prints_runs),
+        Err(fault) => {
+            if words.len() < 2 {
+                show_usage(rt);
+            }
+            refuse(rt, &fault, given_value(rt.alloc(), words, &fault))
+        }
+    }
+}
+
+/// Writes the help to standard error.
+fn show_usage<R: AllocGlobal + Eprint>(rt: &R) {
+    if let Some(text) = usage(rt.alloc()) {
+        let _ = eprint!(rt; "{text}");
+    }
+}
+
+/// Does what is asked for, and returns the exit status: of the job's end, or that for words if bytes would go to a
+/// terminal.
+fn finish<R: Files + Terminals + AllocGlobal + Input + Print + Eprint + Threads + Wait + Sync>(
+    rt: &R,
+    job: &Job,
+    file: Option<&str>,
+    prints_runs: bool,
+) -> u8
+    requires { IsInRange job.now }
+    ensures { IsStatus result }
+{
+    if writes_bytes(job) && rt.writes_terminal() {
+        return refuse_terminal(rt);
+    }
+    if tells_name(job) {
+        let mut name = file.unwrap_or("").as_bytes();
+        return finish_over(rt, job, &mut name, false);
+    }
+    finish_from(rt, job, source_of(file), prints_runs)
+}
+
+/// Returns whether a job tells what a name means, which stands in the place of a file.
+fn tells_name(job: &Job) -> bool {
+    match job {
+        Job::Tell { what } => *what == Telling::Name,
+        _ => false,
+    }
+}
+
+/// Returns whether a job writes bytes, and no text.
+fn writes_bytes(job: &Job) -> bool
+    ensures { result ≡ writes_bytes job.now }
+{
+    match job {
+        Job::Run { capacity: _ } | Job::Campaign { capacity: _ } => true,
+        Job::Accuse {
+            general: _,
+            asked: _,
+        }
+        | Job::Header { version: _ } => true,
+        _ => false,
+    }
+}
+
+/// Does a job on the input of its source, and returns the exit status of its end.
+fn finish_from<R: Files + Terminals + AllocGlobal + Input + Print + Eprint + Threads + Wait + Sync>(
+    rt: &R,
+    job: &Job,
+    source: Source<'_>,
+    prints_runs: bool,
+) -> u8
+    requires { IsInRange job.now }
+    ensures { (end : JobEnd) × (result ≡ status_of end) }
+{
+    match source {
+        Source::Standard => {
+            tell_waiting(rt);
+            finish_over(rt, job, &mut rt.reader(), prints_runs)
+        }
+        Source::Named(name) => match File::open(rt, name) {
+            Ok(mut file) => finish_over(rt, job, &mut file, prints_runs),
+            Err(_) => end_with(rt, JobEnd::Failed(JobFault::Open)),
+        },
+    }
+}
+
+/// Does a job from a reader to standard output, and returns the exit status of its end.
+fn finish_over<R: AllocGlobal + Print + Eprint + Threads + Wait + Sync, S: Read>(
+    rt: &R,
+    job: &Job,
+    reader: &mut S,
+    prints_runs: bool,
+) -> u8
+    requires { IsInRange job.now }
+    ensures { (end : JobEnd) × (result ≡ status_of end) }
+{
+    let mut writer = io::writer(rt);
+    let end = if prints_runs {
+        do_and_name(rt, job, reader, &mut writer)
+    } else {
+        do_job(rt, rt.alloc(), *job, reader, &mut writer)
+    };
+    end_with(rt, end)
+}
+
 /// Writes the line of a job's fault to standard error, if the job failed, and returns the exit status of its end.
 fn end_with<R: Eprint>(rt: &R, end: JobEnd) -> u8
     ensures { result ≡ status_of end }
@@ -96,15 +240,15 @@ fn end_with<R: Eprint>(rt: &R, end: JobEnd) -> u8
 }
 
 /// Answers words that ask for no job, and returns the exit status. Help and the version go to standard output, any
-/// other text to standard error.
-fn refuse<R: AllocGlobal + Print + Eprint>(rt: &R, fault: &WordsFault) -> u8
+/// other text to standard error. The value is that of the option which is bad.
+fn refuse<R: AllocGlobal + Print + Eprint>(rt: &R, fault: &WordsFault, value: Option<String>) -> u8
     ensures by_fault { Refuses fault.now result }
     ensures status { IsStatus result }
 {
     match fault {
         WordsFault::Memory => end_with(rt, JobEnd::Failed(JobFault::Memory)),
         WordsFault::Words(error) if !error.use_stderr() => show(rt, error),
-        _ => blame(rt, fault),
+        _ => blame(rt, fault, value),
     }
 }
 
@@ -120,11 +264,11 @@ fn show<R: Print + Eprint>(rt: &R, text: &clap::Error) -> u8
 }
 
 /// Writes a line to standard error that says what is wrong with the words, and returns the exit status.
-fn blame<R: AllocGlobal + Eprint>(rt: &R, fault: &WordsFault) -> u8
+fn blame<R: AllocGlobal + Eprint>(rt: &R, fault: &WordsFault, value: Option<String>) -> u8
     ensures blamed { IsBlamed result }
     ensures status { IsStatus result }
 {
-    match fault_line(rt.alloc(), fault) {
+    match fault_line(rt.alloc(), fault, value) {
         Ok(line) => {
             let _ = eprintln!(rt; "{line}");
             WORDS_STATUS
@@ -133,11 +277,20 @@ fn blame<R: AllocGlobal + Eprint>(rt: &R, fault: &WordsFault) -> u8
     }
 }
 
-/// Returns one line that says what is wrong with the words, and at its end how to ask for help.
-pub fn fault_line(alloc: Global, fault: &WordsFault) -> Result<String, AllocError>
+/// Returns one line that says what is wrong with the words, with the value that is bad, if there is one, and at its end
+/// how to ask for help.
+pub fn fault_line(
+    alloc: Global,
+    fault: &WordsFault,
+    value: Option<String>,
+) -> Result<String, AllocError>
     ensures { IfOk result (λ line. PointsAtHelp (string_bytes line)) }
 {
     let text = fault.to_string(alloc)?;
-    let first = text.lines().next().unwrap_or("");
+    let mut first = parts_of(alloc, text.as_str())?;
+    if let Some(value) = value {
+        write!(first, ", and not '{value}'")?;
+    }
+    let first = first.as_str();
     format!(in alloc; "{first}; for more, try '--help'")
 }

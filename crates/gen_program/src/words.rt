@@ -1,20 +1,23 @@
 //! Reads the words of the command line.
-ghost use Rattle.std.specs.Prelude.{◌≡◌, ◌&&◌, [], IfOk, IfErr, IfSome, Some, IsSome, map, option_map};
+ghost use Rattle.std.specs.Prelude.{◌≡◌, ◌≤◌, ◌&&◌, [], IfOk, IfErr, IfSome, None, Some, IsSome, map, option_map};
 ghost use Rattle.clap.specs.Simple.{subcommand_rows_of};
 ghost use Rattle.clap.specs.Words.{fault_of};
+ghost use Rattle.gen_net.specs.Version.{greatest_slot, slot_in};
 ghost use Rattle.gen_jobs.specs.Ranges.{IsInRange};
 ghost use Rattle.gen_program.specs.CommandLine.{tool};
-ghost use Rattle.gen_program.specs.Jobs.{job_against, job_judging, job_named, job_reading, number_between};
-ghost use Rattle.gen_program.specs.Commands.{Gives, HasSubcommand, IsGivenBy};
-ghost use Rattle.gen_program.specs.Tool.{asked, is_missing, refusal, takes_capacity, takes_general, takes_workers, IsFaultOf};
+ghost use Rattle.gen_program.specs.Jobs.{asked_of, faulty_asked, form_asked, is_set, job_accusing, job_against, job_judging, job_named, job_reading, job_showing, job_telling, height_asked, job_preparing, HasSlot, number_between, version_asked, runs_asked};
+ghost use Rattle.gen_program.specs.Commands.{Gives, HasSubcommand, IsGivenBy, choices_in, job_in, refusal_in};
+ghost use Rattle.gen_program.specs.Tool.{asked, is_missing, refusal, takes_capacity, takes_faulty, takes_general, takes_runs, takes_slot, takes_workers, Asks, IsFaultOf};
 ghost use Rattle.gen_program.specs.declared.words.WordsFault.TheVariants.{Memory};
 
+use crate::choices::Choices;
 use crate::command_line::tool_command;
 use clap::ArgMatches;
 use clap::error::ErrorKind;
 use gen_audit::WorkerCount;
-use gen_jobs::Job;
-use gen_types::{GeneralNo, decimal_number};
+use gen_jobs::{Asked, AskedRuns, Faulty, Form, Job, Telling, read_faulty, read_run_ids};
+use gen_net::Version;
+use gen_types::{GeneralNo, TreeHeight, decimal_number};
 use std::alloc::{AllocError, Global};
 use thiserror::Error;
 
@@ -39,6 +42,22 @@ pub enum WordsFault {
     /// The text behind `--general` is no decimal number from 0 to 15, without leading zeros or a sign.
     #[error("error: --general takes a number from 0 to 15")]
     BadGeneral,
+    /// The text behind `--slot` is no decimal number from 0 to 3, without leading zeros or a sign.
+    #[error("error: --slot takes a number from 0 to 3")]
+    BadSlot,
+    /// The text behind `--run` is not one to four run ids of 64 hexadecimal digits each, with commas between them.
+    #[error("error: --run takes a run id of 64 hexadecimal digits, or up to four with commas between them")]
+    BadRun,
+    /// The text behind `--faulty` is neither `none` nor numbers of generals from 0 to 15, each once, with commas between
+    /// them.
+    #[error("error: --faulty takes 'none', or numbers from 0 to 15, each once, with commas between them")]
+    BadFaulty,
+    /// A word behind the header of `bundle` is not the number of a general from 0 to 15, an equals sign and a file.
+    #[error("error: behind the header stands G=LOG, with a number from 0 to 15 and a file")]
+    BadLog,
+    /// Standard input stands for several files.
+    #[error("error: '-' stands for one file at most")]
+    TwoStandard,
     /// A mistake in the words, or a request for help or for the version.
     #[error("{0}")]
     Words(clap::Error),
@@ -77,6 +96,33 @@ pub(crate) struct GivenCommand<'a> {
     pub(crate) workers: Option<&'a str>,
     /// The text of `--general`, if the command takes it.
     pub(crate) general: Option<&'a str>,
+    /// The text of `--run`, if it is given.
+    pub(crate) asked: Option<&'a str>,
+    /// The text of `--faulty`, if it is given.
+    pub(crate) faulty: Option<&'a str>,
+    /// `true` for `--strict`, and `false` without it, if the command takes it.
+    pub(crate) strict: Option<&'a str>,
+    /// `true` for `--json`, and `false` without it, if the command takes it.
+    pub(crate) json: Option<&'a str>,
+    /// `true` for `--tall`, and `false` without it, if the command takes it.
+    pub(crate) tall: Option<&'a str>,
+    /// The text of `--slot`, if it is given.
+    pub(crate) slot: Option<&'a str>,
+    /// `true` for `--print-run`, and `false` without it, if the command takes it.
+    pub(crate) print_run: Option<&'a str>,
+    /// The word for the file, if it is given.
+    pub(crate) file: Option<&'a str>,
+}
+
+/// What words ask for.
+#[derive(Clone, Copy, Debug)]
+pub struct Request<'a> {
+    /// The job.
+    pub job: Job,
+    /// The word for the file of the input, if there is one. A minus stands for standard input.
+    pub file: Option<&'a str>,
+    /// Whether the ids of the runs are printed.
+    pub prints_runs: bool,
 }
 
 /// Returns the number that a text spells, if there is a text and the number is in the range.
@@ -90,7 +136,7 @@ fn number_between(text: Option<&str>, least: u8, most: u8) -> Option<u8>
 }
 
 /// Returns the general whose number a text spells, 0 to 15.
-fn general_of(text: Option<&str>) -> Option<GeneralNo>
+pub(crate) fn general_of(text: Option<&str>) -> Option<GeneralNo>
     ensures { result ≡ number_between 0 15 (option_map (λ t. t.now) text.entry) }
 {
     GeneralNo::new(number_between(text, 0, 15)?)
@@ -103,67 +149,234 @@ fn workers_of(text: Option<&str>) -> Option<WorkerCount>
     WorkerCount::new(usize::from(number_between(text, 1, 16)?))
 }
 
-/// Returns the job `accuse`, by the text of its option, or the job `evidence`; none for any other name.
-fn job_against(name: &str, general: Option<&str>) -> Option<Job>
-    ensures said { result ≡ job_against name.now (option_map (λ t. t.now) general.entry) }
+/// Returns whether a flag is set, by the text that the command line gives for it.
+fn is_set(text: Option<&str>) -> bool
+    ensures { result ≡ is_set (option_map (λ t. t.now) text.entry) }
+{
+    match text {
+        Some(text) => text == "true",
+        None => false,
+    }
+}
+
+/// Returns the runs that are asked for: any without a text, and those whose ids a text spells. None if it spells none.
+#[tactic(auto, unfolding(crate::specs::Jobs::runs_asked))]
+fn runs_asked(alloc: Global, text: Option<&str>) -> Result<Option<AskedRuns>, AllocError>
+    ensures { IfOk result (λ runs. runs ≡ runs_asked (option_map (λ t. t.now) text.entry)) }
+{
+    match text {
+        Some(text) => read_run_ids(alloc, text.as_bytes()),
+        None => Ok(Some(AskedRuns::Any)),
+    }
+}
+
+/// Returns the generals that are held for faulty: those that the input lists without a text, and those that a text
+/// spells. None if it spells none.
+#[tactic(auto, unfolding(crate::specs::Jobs::faulty_asked))]
+fn faulty_asked(alloc: Global, text: Option<&str>) -> Result<Option<Faulty>, AllocError>
+    ensures { IfOk result (λ faulty. faulty ≡ faulty_asked (option_map (λ t. t.now) text.entry)) }
+{
+    match text {
+        Some(text) => Ok(read_faulty(alloc, text.as_bytes())?.map(Faulty::These)),
+        None => Ok(Some(Faulty::Listed)),
+    }
+}
+
+/// Returns the form of the answer, by the text that the command line gives for the flag for JSON.
+fn form_asked(text: Option<&str>) -> Form
+    ensures { result ≡ form_asked (option_map (λ t. t.now) text.entry) }
+{
+    if is_set(text) { Form::Json } else { Form::Text }
+}
+
+/// Returns the height of a tree of keys, by the text that the command line gives for the flag for a tall one.
+fn height_asked(text: Option<&str>) -> TreeHeight
+    ensures { result ≡ height_asked (option_map (λ t. t.now) text.entry) }
+{
+    if is_set(text) {
+        TreeHeight::Six
+    } else {
+        TreeHeight::Four
+    }
+}
+
+/// Returns the version of a header: 1 without a text, and 2 with the slot that a text spells, 0 to 3. None if it spells
+/// none.
+#[tactic(auto, unfolding(crate::specs::Jobs::version_asked))]
+fn version_asked(text: Option<&str>) -> Option<Version>
+    ensures said { result ≡ version_asked (option_map (λ t. t.now) text.entry) }
+    ensures range { IfSome result (λ version. slot_in version ≤ greatest_slot) }
+{
+    match text {
+        Some(_) => Some(Version::Two {
+            slot: number_between(text, 0, 3)?,
+        }),
+        None => Some(Version::One),
+    }
+}
+
+/// Returns what a command that was given chooses beside numbers.
+fn choices_of(alloc: Global, given: &GivenCommand<'_>) -> Result<Choices, AllocError>
+    ensures said { IfOk result (λ choices. choices ≡ choices_in given.now) }
+    ensures slot { IfOk result HasSlot }
+{
+    let runs = runs_asked(alloc, given.asked)?;
+    let faulty = faulty_asked(alloc, given.faulty)?;
+    Ok(Choices {
+        runs,
+        faulty,
+        strict: is_set(given.strict),
+        form: form_asked(given.json),
+        height: height_asked(given.tall),
+        version: version_asked(given.slot),
+    })
+}
+
+/// Returns what is asked of a bundle or a campaign, if its runs and its set are known.
+fn asked_of(choices: &Choices) -> Option<Asked>
+    ensures { result ≡ asked_of choices.now.runs choices.now.faulty }
+{
+    Some(Asked {
+        runs: choices.runs?,
+        faulty: choices.faulty?,
+    })
+}
+
+/// Returns the job `accuse`, by the text of its option and the runs that are asked for.
+fn job_accusing(general: Option<&str>, runs: Option<AskedRuns>) -> Option<Job>
+    ensures said { result ≡ job_accusing (number_between 0 15 (option_map (λ t. t.now) general.entry)) runs }
+    ensures range { IfSome result IsInRange }
+{
+    Some(Job::Accuse {
+        general: general_of(general)?,
+        asked: runs?,
+    })
+}
+
+/// Returns the job that tells what the name of its command says; none for any other name.
+#[tactic(auto, unfolding(crate::specs::Jobs::job_telling))]
+fn job_telling(name: &str) -> Option<Job>
+    ensures said { result ≡ job_telling name.now }
+    ensures range { IfSome result IsInRange }
+{
+    let what = match name {
+        "explain" => Telling::Name,
+        "words" => Telling::Text,
+        _ => return None,
+    };
+    Some(Job::Tell { what })
+}
+
+/// Returns the job `root`, or the job `header`, if its version is known, or one that tells; none for any other name.
+#[tactic(auto, unfolding(crate::specs::Jobs::job_preparing))]
+fn job_preparing(name: &str, choices: &Choices) -> Option<Job>
+    requires { HasSlot choices.now }
+    ensures said { result ≡ job_preparing name.now choices.now }
     ensures range { IfSome result IsInRange }
 {
     match name {
-        "accuse" => Some(Job::Accuse {
-            general: general_of(general)?,
+        "root" => Some(Job::Root {
+            height: choices.height,
         }),
-        "evidence" => Some(Job::Evidence),
-        _ => None,
+        "header" => Some(Job::Header {
+            version: choices.version?,
+        }),
+        _ => job_telling(name),
+    }
+}
+
+/// Returns the job `evidence` or `show`, by the runs that are asked for, or one of the others; none for any other name.
+#[tactic(auto, unfolding(crate::specs::Jobs::job_showing))]
+fn job_showing(name: &str, choices: &Choices) -> Option<Job>
+    requires { HasSlot choices.now }
+    ensures said { result ≡ job_showing name.now choices.now }
+    ensures range { IfSome result IsInRange }
+{
+    match name {
+        "evidence" => Some(Job::Evidence {
+            asked: choices.runs?,
+            form: choices.form,
+        }),
+        "show" => Some(Job::Show {
+            asked: choices.runs?,
+        }),
+        _ => job_preparing(name, choices),
+    }
+}
+
+/// Returns the job `accuse`, by the text of its option, or one of the others; none for any other name.
+#[tactic(auto, unfolding(crate::specs::Jobs::job_against))]
+fn job_against(name: &str, general: Option<&str>, choices: &Choices) -> Option<Job>
+    requires { HasSlot choices.now }
+    ensures said { result ≡ job_against name.now (option_map (λ t. t.now) general.entry) choices.now }
+    ensures range { IfSome result IsInRange }
+{
+    if name == "accuse" {
+        job_accusing(general, choices.runs)
+    } else {
+        job_showing(name, choices)
     }
 }
 
 /// Returns the job `judge`, by the texts of its options.
-fn job_judging(capacity: Option<&str>, workers: Option<&str>) -> Option<Job>
+fn job_judging(capacity: Option<&str>, workers: Option<&str>, choices: &Choices) -> Option<Job>
     ensures said { result ≡ job_judging (number_between 1 16 (option_map (λ t. t.now) capacity.entry))
-        (number_between 1 16 (option_map (λ t. t.now) workers.entry)) }
+        (number_between 1 16 (option_map (λ t. t.now) workers.entry)) choices.now }
     ensures range { IfSome result IsInRange }
 {
     Some(Job::Judge {
         capacity: number_between(capacity, 1, 16)?,
         workers: workers_of(workers)?,
+        strict: choices.strict,
+        form: choices.form,
     })
 }
 
 /// Returns the job `draw`, if it is named, or else the job `audit`, by the text of their option.
-fn job_reading(name: &str, workers: Option<&str>) -> Option<Job>
-    ensures said { result ≡ job_reading name.now (number_between 1 16 (option_map (λ t. t.now) workers.entry)) }
+fn job_reading(name: &str, workers: Option<&str>, choices: &Choices) -> Option<Job>
+    ensures said { result ≡ job_reading name.now
+        (number_between 1 16 (option_map (λ t. t.now) workers.entry))
+        (asked_of choices.now.runs choices.now.faulty) choices.now }
     ensures range { IfSome result IsInRange }
 {
     let workers = workers_of(workers)?;
+    let asked = asked_of(choices)?;
     if name == "draw" {
-        Some(Job::Draw { workers })
+        Some(Job::Draw { workers, asked })
     } else {
-        Some(Job::Audit { workers })
+        Some(Job::Audit {
+            workers,
+            asked,
+            strict: choices.strict,
+            form: choices.form,
+        })
     }
 }
 
-/// Returns the job of a command, by the texts of its options.
+/// Returns the job of a command, by the texts of its options and what it chooses.
 fn job_of(
     name: &str,
     capacity: Option<&str>,
     workers: Option<&str>,
     general: Option<&str>,
+    choices: &Choices,
 ) -> Option<Job>
+    requires { HasSlot choices.now }
     ensures said { result ≡ job_named name.now (option_map (λ t. t.now) capacity.entry)
-        (option_map (λ t. t.now) workers.entry) (option_map (λ t. t.now) general.entry) }
+        (option_map (λ t. t.now) workers.entry) (option_map (λ t. t.now) general.entry) choices.now }
     ensures range { IfSome result IsInRange }
 {
     match name {
-        "decide" => Some(Job::Decide),
+        "decide" => Some(Job::Decide { form: choices.form }),
         "run" => Some(Job::Run {
             capacity: number_between(capacity, 1, 16)?,
         }),
-        "judge" => job_judging(capacity, workers),
+        "judge" => job_judging(capacity, workers, choices),
         "campaign" => Some(Job::Campaign {
             capacity: number_between(capacity, 1, 16)?,
         }),
-        "audit" | "draw" => job_reading(name, workers),
-        _ => job_against(name, general),
+        "audit" | "draw" => job_reading(name, workers, choices),
+        _ => job_against(name, general, choices),
     }
 }
 
@@ -191,17 +404,39 @@ fn lacks_general(name: &str, general: Option<&str>) -> bool
     name == "accuse" && number_between(general, 0, 15).is_none()
 }
 
-/// Returns why a command has no job: the first of its numbers that is missing or out of its range, or else that there
-/// is no such command.
+/// Whether a command takes a slot, and it is not known.
+fn lacks_slot(name: &str, choices: &Choices) -> bool
+    ensures { result ≡ (takes_slot name.now && is_missing choices.now.version) }
+{
+    name == "header" && choices.version.is_none()
+}
+
+/// Whether a command takes the runs that are asked for, and they are not known.
+fn lacks_runs(name: &str, choices: &Choices) -> bool
+    ensures { result ≡ (takes_runs name.now && is_missing choices.now.runs) }
+{
+    matches!(name, "audit" | "draw" | "accuse" | "evidence" | "show") && choices.runs.is_none()
+}
+
+/// Whether a command takes the generals that are held for faulty, and they are not known.
+fn lacks_faulty(name: &str, choices: &Choices) -> bool
+    ensures { result ≡ (takes_faulty name.now && is_missing choices.now.faulty) }
+{
+    matches!(name, "audit" | "draw") && choices.faulty.is_none()
+}
+
+/// Returns why a command has no job: the first of its numbers that is missing or out of its range; or that the runs that
+/// are asked for are not known, or else the generals; or else that there is no such command.
 fn refusal_of(
     name: &str,
     capacity: Option<&str>,
     workers: Option<&str>,
     general: Option<&str>,
+    choices: &Choices,
 ) -> WordsFault
     ensures { result ≡ refusal name.now (number_between 1 16 (option_map (λ t. t.now) capacity.entry))
         (number_between 1 16 (option_map (λ t. t.now) workers.entry))
-        (number_between 0 15 (option_map (λ t. t.now) general.entry)) }
+        (number_between 0 15 (option_map (λ t. t.now) general.entry)) choices.now }
 {
     if lacks_capacity(name, capacity) {
         WordsFault::BadCapacity
@@ -209,13 +444,22 @@ fn refusal_of(
         WordsFault::BadWorkers
     } else if lacks_general(name, general) {
         WordsFault::BadGeneral
+    } else if lacks_slot(name, choices) {
+        WordsFault::BadSlot
+    } else if lacks_runs(name, choices) {
+        WordsFault::BadRun
+    } else if lacks_faulty(name, choices) {
+        WordsFault::BadFaulty
     } else {
         WordsFault::NoCommand
     }
 }
 
 /// Returns what the command line makes of the words.
-fn matches_of<'a>(alloc: Global, words: &'a [&'a str]) -> Result<ArgMatches<'a>, WordsFault>
+pub(crate) fn matches_of<'a>(
+    alloc: Global,
+    words: &'a [&'a str],
+) -> Result<ArgMatches<'a>, WordsFault>
     ensures ok { IfOk result (HasSubcommand (map (λ w. w.now) words.now)) }
     ensures only { IfErr result (λ fault.
         fault_of tool (map (λ w. w.now) words.now) ≡ [] → fault ≡ Memory) }
@@ -235,11 +479,22 @@ fn given_by<'a>(matches: &ArgMatches<'a>) -> Option<GivenCommand<'a>>
         capacity: inner.get_str("capacity"),
         workers: inner.get_str("workers"),
         general: inner.get_str("general"),
+        asked: inner.get_str("run"),
+        faulty: inner.get_str("faulty"),
+        strict: inner.get_str("strict"),
+        json: inner.get_str("json"),
+        tall: inner.get_str("tall"),
+        slot: inner.get_str("slot"),
+        print_run: inner.get_str("print-run"),
+        file: inner.get_str("file"),
     })
 }
 
 /// Returns the command that the words name, with the texts of its options.
-fn given_in<'a>(alloc: Global, words: &'a [&'a str]) -> Result<GivenCommand<'a>, WordsFault>
+pub(crate) fn given_in<'a>(
+    alloc: Global,
+    words: &'a [&'a str],
+) -> Result<GivenCommand<'a>, WordsFault>
     ensures ok { IfOk result (Gives (map (λ w. w.now) words.now)) }
     ensures only { IfErr result (λ fault.
         IsSome (asked (map (λ w. w.now) words.now)) → fault ≡ Memory) }
@@ -252,13 +507,69 @@ fn given_in<'a>(alloc: Global, words: &'a [&'a str]) -> Result<GivenCommand<'a>,
     }
 }
 
+/// Returns the job of a command that was given, or why it has none.
+fn job_given(given: &GivenCommand<'_>, choices: &Choices) -> Result<Job, WordsFault>
+    requires { HasSlot choices.now }
+    ensures ok { IfOk result (λ job. job_in given.now choices.now ≡ Some job) }
+    ensures range { IfOk result IsInRange }
+    ensures err { IfErr result (λ fault. (job_in given.now choices.now ≡ None)
+        × (fault ≡ refusal_in given.now choices.now)) }
+{
+    match job_of(
+        given.name,
+        given.capacity,
+        given.workers,
+        given.general,
+        choices,
+    ) {
+        Some(job) => Ok(job),
+        None => Err(refusal_of(
+            given.name,
+            given.capacity,
+            given.workers,
+            given.general,
+            choices,
+        )),
+    }
+}
+
+/// Returns what the words ask for; the first word is the program's name.
+///
+/// # Errors
+///
+/// Those of `read_words`.
+pub fn read_request<'a>(alloc: Global, words: &'a [&'a str]) -> Result<Request<'a>, WordsFault>
+    // The words ask for it.
+    ensures ok { IfOk result (λ request. Asks (map (λ w. w.now) words.now) request) }
+    // The numbers of the job are in their ranges.
+    ensures range { IfOk result (λ request. IsInRange request.job) }
+    // If the words ask for a job, the only fault is that memory was refused.
+    ensures only { IfErr result (λ fault.
+        IsSome (asked (map (λ w. w.now) words.now)) → fault ≡ Memory) }
+    // A fault is one that the command line has at these words.
+    ensures fault { IfErr result (IsFaultOf (map (λ w. w.now) words.now)) }
+{
+    let given = given_in(alloc, words)?;
+    let choices = choices_of(alloc, &given)?;
+    match job_given(&given, &choices) {
+        Ok(job) => Ok(Request {
+            job,
+            file: given.file,
+            prints_runs: is_set(given.print_run),
+        }),
+        Err(fault) => Err(fault),
+    }
+}
+
 /// Returns the job that the words ask for; the first word is the program's name.
 ///
 /// # Errors
 ///
 /// `Words` if the command line has a fault at the words, or they ask for help or the version; `NoCommand` if they name
-/// no command. `BadCapacity`, else `BadWorkers`, else `BadGeneral` if the command takes the option and the text behind
-/// it isn't a decimal number in its range, without leading zeros or a sign. `Memory` if memory was refused.
+/// no command that has one file. `BadCapacity`, else `BadWorkers`, else `BadGeneral`, else `BadSlot` if the command takes
+/// the option and the text behind it isn't a decimal number in its range, without leading zeros or a sign. Else `BadRun`
+/// if the text behind `--run` spells no run ids. Else `BadFaulty` if the text behind `--faulty` spells no set of
+/// generals. `Memory` if memory was refused.
 pub fn read_words<'a>(alloc: Global, words: &'a [&'a str]) -> Result<Job, WordsFault>
     // The words ask for the job.
     ensures ok { IfOk result (λ job. asked (map (λ w. w.now) words.now) ≡ Some job) }
@@ -270,9 +581,8 @@ pub fn read_words<'a>(alloc: Global, words: &'a [&'a str]) -> Result<Job, WordsF
     // A fault is one that the command line has at these words.
     ensures fault { IfErr result (IsFaultOf (map (λ w. w.now) words.now)) }
 {
-    let given = given_in(alloc, words)?;
-    match job_of(given.name, given.capacity, given.workers, given.general) {
-        Some(job) => Ok(job),
-        None => Err(refusal_of(given.name, given.capacity, given.workers, given.general)),
+    match read_request(alloc, words) {
+        Ok(request) => Ok(request.job),
+        Err(fault) => Err(fault),
     }
 }

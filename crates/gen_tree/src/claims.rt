@@ -1,14 +1,15 @@
-//! Four signatures that are verified side by side.
-ghost use Rattle.std.specs.Prelude.{◌≡◌, ◌↔◌, ℕ, ◌<◌, IsTrue, false, slice_index_or, take};
-ghost use Rattle.gen_ots.specs.Four.{signed_value};
+//! Signatures that are verified side by side.
+ghost use Rattle.std.specs.Prelude.{◌≡◌, ◌↔◌, ℕ, ◌<◌, ◌≤◌, IsTrue, [], false, length, map, slice_index_or, take};
+ghost use Rattle.gen_ots.specs.SideBySide.{signed_value};
 ghost use Rattle.gen_ots.specs.Signatures.{signed_leaf_value};
 ghost use Rattle.gen_ots.specs.Sizes.{ots_length};
 ghost use Rattle.gen_tree.specs.Claims.{claimed_value, Stands};
 ghost use Rattle.gen_tree.specs.declared.claims.SignatureClaim.{SignatureClaim};
 
-use crate::signatures::{Signature, root_above, same_bytes};
-use gen_ots::{SignedDigest, images_of_four};
+use crate::signatures::{Signature, root_above, same_bytes, verify};
+use gen_ots::{SignedDigest, images_of_lanes};
 use gen_types::TreeHeight;
+use sha_lanes::LANES;
 
 /// The claim that a signature of a digest by a leaf stands under a root: the question that `verify`
 /// answers.
@@ -38,6 +39,14 @@ impl<'a> SignatureClaim<'a> {
         }
     }
 
+    /// Returns whether the claim is true.
+    fn is_true(&self) -> bool
+        ensures { IsTrue result ↔ Stands self.now }
+    {
+        let (root, signature) = (self.root, self.signature);
+        verify(root, self.height, self.leaf, &self.digest, signature)
+    }
+
     /// Returns whether the claim is true, given the leaf value that its signature stands for.
     fn stands(&self, value: &[u8; 32]) -> bool
         requires { value.now ≡ claimed_value self.now }
@@ -50,18 +59,61 @@ impl<'a> SignatureClaim<'a> {
     }
 }
 
-/// Returns for each of four claims whether it is true, as `verify` does for one. Their one-time signatures
-/// are hashed side by side, which takes about as long as hashing two and a half of them one after another.
-pub fn verify_four(claims: &[SignatureClaim<'_>; 4]) -> [bool; 4]
-    ensures { (j : ℕ) → j < 4 → (other : SignatureClaim)
+/// Returns the digests of the claims and their one-time signatures.
+fn signed_of<'a>(claims: &[SignatureClaim<'a>; LANES]) -> [SignedDigest<'a>; LANES]
+    ensures { (j : ℕ) → j < LANES
+        → slice_index_or (map signed_value result) j [] ≡ slice_index_or (map claimed_value claims.now) j [] }
+{
+    let mut signed = [claims[0].signed(); LANES];
+    'lanes: for lane in 0..LANES {
+        signed[lane] = claims[lane].signed();
+    }
+    signed
+}
+
+/// Returns for the claim in each lane whether it is true, as `verify` does for one. The one-time signatures
+/// are hashed side by side. With vectors of 256 bits this takes about twice as long as hashing one of them.
+pub fn verify_lanes(claims: &[SignatureClaim<'_>; LANES]) -> [bool; LANES]
+    ensures { (j : ℕ) → j < LANES → (other : SignatureClaim)
         → IsTrue (slice_index_or result j false) ↔ Stands (slice_index_or claims.now j other) }
 {
-    let [a, b, c, d] = claims;
-    let values = images_of_four(&[a.signed(), b.signed(), c.signed(), d.signed()]);
-    [
-        a.stands(&values[0]),
-        b.stands(&values[1]),
-        c.stands(&values[2]),
-        d.stands(&values[3]),
-    ]
+    let values = images_of_lanes(&signed_of(claims));
+    let mut answers = [false; LANES];
+    'lanes: for lane in 0..LANES {
+        answers[lane] = claims[lane].stands(&values[lane]);
+    }
+    answers
+}
+
+/// Returns for each claim whether it is true, one claim after another.
+fn verify_in_turn(claims: &[SignatureClaim<'_>]) -> [bool; LANES]
+    requires { length claims.now ≤ LANES }
+    ensures { (j : ℕ) → j < length claims.now → (other : SignatureClaim)
+        → IsTrue (slice_index_or result j false) ↔ Stands (slice_index_or claims.now j other) }
+{
+    let mut answers = [false; LANES];
+    'claims: for place in 0..claims.len() {
+        answers[place] = claims[place].is_true();
+    }
+    answers
+}
+
+/// Returns for each of at most `LANES` claims whether it is true, as `verify` does for one. What the result
+/// has behind these answers says nothing.
+///
+/// If there are claims for at least half of the lanes, they are verified side by side, and the lanes that
+/// are left over verify the first claim again. Fewer claims are verified one after another.
+pub fn verify_claims(claims: &[SignatureClaim<'_>]) -> [bool; LANES]
+    requires { length claims.now ≤ LANES }
+    ensures { (j : ℕ) → j < length claims.now → (other : SignatureClaim)
+        → IsTrue (slice_index_or result j false) ↔ Stands (slice_index_or claims.now j other) }
+{
+    if claims.len() < LANES / 2 {
+        return verify_in_turn(claims);
+    }
+    let mut lanes = [claims[0]; LANES];
+    'claims: for place in 0..claims.len() {
+        lanes[place] = claims[place];
+    }
+    verify_lanes(&lanes)
 }

@@ -7,11 +7,12 @@ use crate::keys::LeafKey;
 use crate::nodes::{node_at, siblings_of};
 use gen_ots::{OneTimeKey, leaf_values};
 use gen_types::TreeHeight;
+use sha_lanes::LANES;
 use std::alloc::{AllocError, Global};
 use std::marker::Model;
 
 /// The number of leaves whose values are hashed side by side.
-const LEAVES_A_TURN: u8 = 4;
+const LEAVES_A_TURN: u8 = LANES as u8;
 
 /// The tree of keys of a seed: the values of all its leaves. A contract sees the seed and the height.
 ///
@@ -51,10 +52,7 @@ impl KeyTree {
         let mut leaves = Vec::with_capacity(alloc, usize::from(height.leaves()))?;
         'turns: for turn in 0..height.leaves() / LEAVES_A_TURN {
             let values = leaf_values(seed, height, LEAVES_A_TURN * turn);
-            leaves.push(values[0])?;
-            leaves.push(values[1])?;
-            leaves.push(values[2])?;
-            leaves.push(values[3])?;
+            leaves.extend_from_slice(&values)?;
         }
         Ok(KeyTree {
             seed: *seed,

@@ -1,10 +1,10 @@
 //! What a desk of several places says as logs are filed and reported on, and how it ends.
-use crate::filing::{file_all, give_up_all, header_of, logs_of, next_claim, report_on};
+use crate::filing::{desk_without_slips, file_all, header_of, logs_of, next_claim, report_on};
 use crate::texts::{OTHER_STAR, PAIR, STAR};
 use gen_desk::{Claim, Desk, Receipt, Row};
 use gen_log::SealedLog;
 use gen_net::Header;
-use std::alloc::Global;
+use std::alloc::{AllocError, Global};
 use std::sync::Wait;
 use std::test::*;
 
@@ -44,91 +44,126 @@ fn reports_each<R: Wait>(
     Ok(desk.all_reported(rt))
 }
 
-/// Whether each row has the log of its place, filed and reported on.
-fn have_logs(rows: &[Row], logs: &[SealedLog]) -> bool {
-    for (place, log) in logs.iter().enumerate() {
-        match rows.get(place) {
-            Some(
-                Row {
-                    filed: Some(exhibit),
-                    report: Some(report),
-                    ..
-                },
-            ) if exhibit.log() == log.bytes() && report.exhibit().log() == log.bytes() => {}
-            _ => return false,
+/// Whether a log is filed in a row and reported on.
+fn has_log(row: &Row, log: &SealedLog) -> bool {
+    match (&row.filed, &row.report) {
+        (Some(exhibit), Some(report)) => {
+            exhibit.log() == log.bytes() && report.exhibit().log() == log.bytes()
         }
+        _ => false,
     }
-    rows.len() == logs.len()
 }
 
-/// Whether so many logs of a run go from filing to the end, with the reports in the order of places or in the
+/// Whether each row has the log of its place, filed and reported on.
+fn have_logs(rows: &[Row], logs: &[SealedLog]) -> bool {
+    if rows.len() != logs.len() {
+        return false;
+    }
+    for place in 0..logs.len() {
+        if !has_log(&rows[place], &logs[place]) {
+            return false;
+        }
+    }
+    true
+}
+
+/// Whether what is filed at a desk is claimed in the order of places, and reported on in that order or in the
 /// other.
-fn goes_to_the_end<R: Wait>(
+fn claims_and_reports<R: Wait>(
     rt: &R,
     alloc: Global,
+    desk: &Desk,
+    header: &Header,
     places: usize,
     is_turned: bool,
 ) -> Result<bool, Fail> {
-    let mut logs = logs_of(alloc, STAR)?;
-    logs.truncate(places);
-    let (desk, slips) = Desk::new(alloc, places)?;
-    let receipts = file_all(rt, alloc, &desk, slips, logs.as_slice());
-    let mut claims = claims_of(rt, alloc, &desk, places)?;
+    let mut claims = claims_of(rt, alloc, desk, places)?;
     if is_turned {
         claims.reverse();
     }
-    let header = header_of(alloc, STAR)?;
-    let told = reports_each(rt, alloc, &desk, &header, claims)?;
-    let are_all = receipts.len() == places;
+    reports_each(rt, alloc, desk, header, claims)
+}
+
+/// Whether a desk ends with these logs.
+fn ends_with(desk: Desk, receipts: Vec<Receipt>, logs: &[SealedLog]) -> bool {
     match desk.close(receipts) {
-        Ok(filed) => Ok(told && are_all && have_logs(filed.rows(), logs.as_slice())),
-        Err(_strange) => Ok(false),
+        Ok(filed) => have_logs(filed.rows(), logs),
+        Err(_strange) => false,
     }
+}
+
+/// Whether so many logs of a run go from filing to the end.
+fn goes_to_the_end<R: Wait>(
+    rt: &R,
+    alloc: Global,
+    header: &Header,
+    logs: &[SealedLog],
+    places: usize,
+    is_turned: bool,
+) -> Result<bool, Fail> {
+    let logs = logs.get(..places).ok_or("too few logs")?;
+    let (desk, slips) = Desk::new(alloc, places)?;
+    let receipts = file_all(rt, alloc, &desk, slips, logs);
+    let told = claims_and_reports(rt, alloc, &desk, header, places, is_turned)?;
+    let are_all = receipts.len() == places;
+    let have_ended = ends_with(desk, receipts, logs);
+    Ok(told && are_all && have_ended)
 }
 
 /// How many places desks have.
 const SIZES: [usize; 5] = [1, 2, 3, 5, 16];
 
+/// Whether that is so at desks of each size, in both orders.
+fn go_to_the_end<R: Wait>(
+    rt: &R,
+    alloc: Global,
+    header: &Header,
+    logs: &[SealedLog],
+) -> Result<bool, Fail> {
+    for places in &SIZES {
+        let in_order = goes_to_the_end(rt, alloc, header, logs, *places, false)?;
+        if !in_order || !goes_to_the_end(rt, alloc, header, logs, *places, true)? {
+            return Ok(false);
+        }
+    }
+    Ok(true)
+}
+
 #[test]
 fn logs_from_filing_to_the_end(rt: HostRuntime) -> Result<(), Fail> {
-    for places in SIZES {
-        assert!(rt;
-            goes_to_the_end(&rt, rt.alloc(), places, false)?,
-            "{places} places"
-        );
-        assert!(rt;
-            goes_to_the_end(&rt, rt.alloc(), places, true)?,
-            "{places} places, turned"
-        );
-    }
+    let header = header_of(rt.alloc(), STAR)?;
+    let logs = logs_of(rt.alloc(), STAR)?;
+    assert!(rt; go_to_the_end(&rt, rt.alloc(), &header, &logs)?);
     Ok(())
 }
 
-/// The receipts of a desk at which the first logs of a run are filed.
+/// The receipts of a desk at which the first of these logs are filed.
 fn receipts_of<R: Wait>(
     rt: &R,
     alloc: Global,
-    text: &[u8],
+    logs: &[SealedLog],
     places: usize,
-) -> Result<Vec<Receipt>, Fail> {
-    let logs = logs_of(alloc, text)?;
+) -> Result<Vec<Receipt>, AllocError> {
     let (desk, slips) = Desk::new(alloc, places)?;
-    Ok(file_all(rt, alloc, &desk, slips, logs.as_slice()))
+    Ok(file_all(rt, alloc, &desk, slips, logs))
+}
+
+/// Whether two receipts are strange to a desk of two places, and the first of them is named.
+fn are_strange(desk: Desk, receipts: Vec<Receipt>) -> bool {
+    match desk.close(receipts) {
+        Ok(_filed) => false,
+        Err(strange) => {
+            strange.first == 0 && strange.receipts.len() == 2 && strange.state.rows().len() == 2
+        }
+    }
 }
 
 #[test]
 fn receipts_of_another_desk(rt: HostRuntime) -> Result<(), Fail> {
-    let alloc = rt.alloc();
-    let receipts = receipts_of(&rt, alloc, PAIR, 2)?;
-    let (desk, slips) = Desk::new(alloc, 2)?;
-    give_up_all(slips);
-    match desk.close(receipts) {
-        Ok(_filed) => return Err("no strange receipt".into()),
-        Err(strange) => {
-            assert!(rt; strange.first == 0 && strange.receipts.len() == 2);
-            assert!(rt; strange.state.rows().len() == 2);
-        }
-    }
+    let logs = logs_of(rt.alloc(), PAIR)?;
+    let desk = desk_without_slips(rt.alloc(), 2)?;
+    let receipts = receipts_of(&rt, rt.alloc(), &logs, 2)?;
+    assert!(rt; are_strange(desk, receipts));
     Ok(())
 }
 
@@ -138,37 +173,53 @@ fn known<R: Wait>(
     alloc: Global,
     receipts: &[Receipt],
     logs: &[SealedLog],
-) -> Result<usize, Fail> {
+) -> Result<usize, AllocError> {
     let (desk, slips) = Desk::new(alloc, receipts.len())?;
     let _own = file_all(rt, alloc, &desk, slips, logs);
     let mut count: usize = 0;
     for receipt in receipts {
-        if desk.knows(rt, receipt) {
-            count = count.saturating_add(1);
-        }
+        count = count.saturating_add(usize::from(desk.knows(rt, receipt)));
     }
     Ok(count)
 }
 
 /// Whether a desk of so many places knows all receipts of the logs that are filed at it, and none where each
 /// place has the log of another general, other bytes of the same general, or nothing.
-fn knows_filed<R: Wait>(rt: &R, alloc: Global, places: usize) -> Result<bool, Fail> {
-    let receipts = receipts_of(rt, alloc, STAR, places)?;
-    let own = logs_of(alloc, STAR)?;
-    let others = own.as_slice().get(1..).unwrap_or(&[]);
-    let other_bytes = logs_of(alloc, OTHER_STAR)?;
-    Ok(
-        known(rt, alloc, receipts.as_slice(), own.as_slice())? == places
-            && known(rt, alloc, receipts.as_slice(), others)? == 0
-            && known(rt, alloc, receipts.as_slice(), other_bytes.as_slice())? == 0
-            && known(rt, alloc, receipts.as_slice(), &[])? == 0,
-    )
+fn knows_filed<R: Wait>(
+    rt: &R,
+    alloc: Global,
+    logs: &[SealedLog],
+    other_bytes: &[SealedLog],
+    places: usize,
+) -> Result<bool, Fail> {
+    let others = logs.get(1..).ok_or("no log")?;
+    let receipts = receipts_of(rt, alloc, logs, places)?;
+    let own = known(rt, alloc, &receipts, logs)?;
+    let strange = known(rt, alloc, &receipts, others)?;
+    let other = known(rt, alloc, &receipts, other_bytes)?;
+    let nothing = known(rt, alloc, &receipts, &[])?;
+    Ok(own == places && strange == 0 && other == 0 && nothing == 0)
+}
+
+/// Whether that is so of desks of each size.
+fn know_filed<R: Wait>(
+    rt: &R,
+    alloc: Global,
+    logs: &[SealedLog],
+    other_bytes: &[SealedLog],
+) -> Result<bool, Fail> {
+    for places in &SIZES {
+        if !knows_filed(rt, alloc, logs, other_bytes, *places)? {
+            return Ok(false);
+        }
+    }
+    Ok(true)
 }
 
 #[test]
 fn a_desk_knows_what_is_filed(rt: HostRuntime) -> Result<(), Fail> {
-    for places in SIZES {
-        assert!(rt; knows_filed(&rt, rt.alloc(), places)?, "{places} places");
-    }
+    let logs = logs_of(rt.alloc(), STAR)?;
+    let other_bytes = logs_of(rt.alloc(), OTHER_STAR)?;
+    assert!(rt; know_filed(&rt, rt.alloc(), &logs, &other_bytes)?);
     Ok(())
 }

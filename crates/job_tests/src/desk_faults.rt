@@ -1,11 +1,11 @@
 //! What a desk refuses, and what comes back.
-use crate::filing::{claimed_once, give_up_all, header_of, logs_of, report_of};
+use crate::filing::{claimed_once, desk_without_slips, give_up_all, header_of, logs_of, report_of};
 use crate::texts::PAIR;
 use gen_desk::{Claim, Desk, DeskFault, Slip};
 use gen_local::{LocalReport, local_report};
 use gen_log::SealedLog;
 use gen_types::GeneralNo;
-use std::alloc::Global;
+use std::alloc::{AllocError, Global};
 use std::sync::Wait;
 use std::test::*;
 
@@ -23,6 +23,12 @@ fn refused_log<R: Wait>(
     }
 }
 
+/// The last log of a pair.
+fn last_log(alloc: Global) -> Result<SealedLog, Fail> {
+    let mut logs = logs_of(alloc, PAIR)?;
+    Ok(logs.pop().ok_or("no log")?)
+}
+
 /// Files the last log by the last slip of another desk of so many places, and gives the others up: what comes
 /// back.
 fn refused_by_strange_slip<R: Wait>(
@@ -31,8 +37,7 @@ fn refused_by_strange_slip<R: Wait>(
     desk: &Desk,
     places: usize,
 ) -> Result<Option<(usize, u8, DeskFault)>, Fail> {
-    let mut logs = logs_of(alloc, PAIR)?;
-    let log = logs.pop().ok_or("no log")?;
+    let log = last_log(alloc)?;
     let (_other, mut slips) = Desk::new(alloc, places)?;
     let back = match slips.pop() {
         Some(slip) => refused_log(rt, desk, slip, log),
@@ -42,14 +47,18 @@ fn refused_by_strange_slip<R: Wait>(
     Ok(back)
 }
 
+/// Whether a desk of one place, at which a log is filed, refuses a slip of that place and one of the next.
+fn refuses_slips<R: Wait>(rt: &R, alloc: Global, desk: &Desk) -> Result<bool, Fail> {
+    let filed = refused_by_strange_slip(rt, alloc, desk, 1)?;
+    let outside = refused_by_strange_slip(rt, alloc, desk, 2)?;
+    let wrong = DeskFault::WrongPlace;
+    Ok(filed == Some((0, 1, wrong)) && outside == Some((1, 1, wrong)))
+}
+
 #[test]
 fn slips_of_another_desk(rt: HostRuntime) -> Result<(), Fail> {
-    let alloc = rt.alloc();
-    let (desk, _claim) = claimed_once(&rt, alloc)?;
-    let filed = refused_by_strange_slip(&rt, alloc, &desk, 1)?;
-    assert!(rt; filed == Some((0, 1, DeskFault::WrongPlace)));
-    let outside = refused_by_strange_slip(&rt, alloc, &desk, 2)?;
-    assert!(rt; outside == Some((1, 1, DeskFault::WrongPlace)));
+    let (desk, _claim) = claimed_once(&rt, rt.alloc())?;
+    assert!(rt; refuses_slips(&rt, rt.alloc(), &desk)?);
     Ok(())
 }
 
@@ -72,10 +81,10 @@ fn refused_report<R: Wait>(
 #[test]
 fn a_claim_of_another_desk(rt: HostRuntime) -> Result<(), Fail> {
     let alloc = rt.alloc();
+    let header = header_of(alloc, PAIR)?;
+    let desk = desk_without_slips(alloc, 1)?;
     let (_other, claim) = claimed_once(&rt, alloc)?;
-    let report = report_of(alloc, &header_of(alloc, PAIR)?, &claim)?;
-    let (desk, slips) = Desk::new(alloc, 1)?;
-    give_up_all(slips);
+    let report = report_of(alloc, &header, &claim)?;
     let back = refused_report(&rt, &desk, claim, report);
     assert!(rt; back == Some((0, 0, DeskFault::WrongPlace)));
     Ok(())
@@ -91,10 +100,16 @@ fn a_report_of_another_exhibit(rt: HostRuntime) -> Result<(), Fail> {
     Ok(())
 }
 
+/// Whether a fault is shown so.
+fn is_shown(alloc: Global, fault: DeskFault, text: &str) -> Result<bool, AllocError> {
+    let shown = fault.to_string(alloc)?;
+    Ok(shown.as_str() == text)
+}
+
 #[test]
 fn texts_of_faults(rt: HostRuntime) -> Result<(), Fail> {
-    assert!(rt; DeskFault::WrongPlace.to_string(rt.alloc())?.as_str() == "Y1");
-    assert!(rt; DeskFault::WrongExhibit.to_string(rt.alloc())?.as_str() == "Y2");
-    assert!(rt; DeskFault::Memory.to_string(rt.alloc())?.as_str() == "memory");
+    assert!(rt; is_shown(rt.alloc(), DeskFault::WrongPlace, "Y1")?);
+    assert!(rt; is_shown(rt.alloc(), DeskFault::WrongExhibit, "Y2")?);
+    assert!(rt; is_shown(rt.alloc(), DeskFault::Memory, "memory")?);
     Ok(())
 }

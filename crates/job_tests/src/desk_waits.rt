@@ -1,5 +1,7 @@
 //! That who waits at a desk is woken.
-use crate::filing::{claimed_once, file_last, give_up_all, header_of, logs_of, report_of};
+use crate::filing::{
+    claimed_once, desk_without_slips, file_last, give_up_all, header_of, logs_of, report_of,
+};
 use crate::texts::PAIR;
 use gen_desk::{Claim, Desk, Slip};
 use gen_local::LocalReport;
@@ -60,8 +62,7 @@ fn a_report_wakes_who_waits(rt: HostRuntime) -> Result<(), Fail> {
 
 #[test]
 fn all_who_wait_can_be_woken(rt: HostRuntime) -> Result<(), Fail> {
-    let (desk, slips) = Desk::new(rt.alloc(), 1)?;
-    give_up_all(slips);
+    let desk = desk_without_slips(rt.alloc(), 1)?;
     let word = AtomicBool::new(false);
     let (at, with, seen) = (&rt, &desk, &word);
     let (_woken, _set) = thread::join(

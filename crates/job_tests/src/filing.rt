@@ -6,7 +6,7 @@ use gen_local::{LocalReport, local_report};
 use gen_log::SealedLog;
 use gen_net::Header;
 use gen_world::run_world;
-use std::alloc::Global;
+use std::alloc::{AllocError, Global};
 use std::sync::Wait;
 use std::test::Fail;
 
@@ -29,6 +29,13 @@ pub(crate) fn give_up_all(slips: Vec<Slip>) {
         let _place = slip.give_up();
     }
     slips.destroy_empty();
+}
+
+/// A desk of so many places, whose slips are given up.
+pub(crate) fn desk_without_slips(alloc: Global, places: usize) -> Result<Desk, AllocError> {
+    let (desk, slips) = Desk::new(alloc, places)?;
+    give_up_all(slips);
+    Ok(desk)
 }
 
 /// Files the log with the number of the slip's place: the receipt, if there is one.

@@ -7,8 +7,9 @@ ghost use Rattle.gen_audit.specs.BundleParts.{AreListedWalks};
 
 use crate::made::{bundle_of, campaign_in, scenario_of, written};
 use crate::texts::{LINE, PAIR, RING, STAR, TWO_RUNS};
-use gen_audit::{AuditFault, JobGate, Judgement, Verdict, WorkerCount, audit};
-use gen_campaign::audit_campaign;
+use gen_audit::{AuditFault, Bundle, JobGate, Judgement, Verdict, WorkerCount, audit};
+use gen_campaign::{CampaignVerdict, audit_campaign};
+use gen_jobs::Job;
 use gen_judge::run_and_audit;
 use gen_log::SealedLog;
 use gen_scenario::Scenario;
@@ -217,108 +218,136 @@ const CASES: [Case; 5] = [
     (STAR, 16, 16, (15, 2, 14), 16, ALL_ONCE),
 ];
 
+/// Whether that is so of a case.
+fn judges<R: Threads + Wait + Sync>(rt: &R, alloc: Global, case: &Case) -> Result<bool, Fail> {
+    let (text, workers, party, late, logs, once) = *case;
+    let gates = Meeting::new(party, logs, late);
+    judges_at_once(rt, alloc, text, workers, &gates, once)
+}
+
 #[test]
 fn runs_are_judged_while_they_go_on(rt: HostRuntime) -> Result<(), Fail> {
-    for (text, workers, party, late, logs, once) in CASES {
-        let gates = Meeting::new(party, logs, late);
-        let judged = judges_at_once(&rt, rt.alloc(), text, workers, &gates, once)?;
-        assert!(rt; judged, "{workers} workers, {party} at once");
+    for case in &CASES {
+        let workers = case.1;
+        assert!(rt; judges(&rt, rt.alloc(), case)?, "{workers} workers");
     }
     Ok(())
 }
 
-/// Whether so many workers audit the bundle of a text's run at once, each log once.
+/// Whether so many workers audit a bundle at once, a party of them together, each of its logs once.
 fn audits_at_once<R: Threads + Wait + Sync>(
     rt: &R,
     alloc: Global,
-    text: &[u8],
+    bundle: &Bundle,
     workers: usize,
-    gate: &Meeting,
+    party: usize,
     once: u64,
 ) -> Result<bool, Fail> {
-    let bundle = bundle_of(rt, alloc, text)?;
-    let judgement = audit(rt, alloc, &bundle, count_of(workers)?, gate)?;
+    let gate = Meeting::new(party, bundle.exhibits().len(), NOBODY);
+    let judgement = audit(rt, alloc, bundle, count_of(workers)?, &gate)?;
     Ok(is_agreed(&judgement) && gate.has_met(once, 0))
 }
 
 #[test]
 fn workers_audit_at_once(rt: HostRuntime) -> Result<(), Fail> {
-    let alloc = rt.alloc();
-    assert!(rt; audits_at_once(&rt, alloc, RING, 3, &Meeting::new(3, 6, NOBODY), SIX_ONCE)?);
-    assert!(rt; audits_at_once(&rt, alloc, RING, 16, &Meeting::new(6, 6, NOBODY), SIX_ONCE)?);
-    assert!(rt;
-        audits_at_once(
-            &rt,
-            alloc,
-            STAR,
-            16,
-            &Meeting::new(16, 16, NOBODY),
-            ALL_ONCE
-        )?
-    );
+    let ring = bundle_of(&rt, rt.alloc(), RING)?;
+    let by_three = audits_at_once(&rt, rt.alloc(), &ring, 3, 3, SIX_ONCE)?;
+    assert!(rt; by_three && audits_at_once(&rt, rt.alloc(), &ring, 16, 6, SIX_ONCE)?);
     Ok(())
 }
 
-/// Whether so many workers audit what bytes show of a campaign at once, each log once.
+#[test]
+fn sixteen_workers_audit_at_once(rt: HostRuntime) -> Result<(), Fail> {
+    let star = bundle_of(&rt, rt.alloc(), STAR)?;
+    assert!(rt; audits_at_once(&rt, rt.alloc(), &star, 16, 16, ALL_ONCE)?);
+    Ok(())
+}
+
+/// Whether all runs of a campaign are agreed.
+fn are_agreed(verdict: &CampaignVerdict) -> bool {
+    for judgement in &verdict.judgements {
+        if !is_agreed(judgement) {
+            return false;
+        }
+    }
+    true
+}
+
+/// Whether so many workers audit at once what the output of a job shows of a campaign, each of so many logs
+/// once.
 fn campaign_at_once<R: Threads + Wait + Sync>(
     rt: &R,
     alloc: Global,
     bytes: &[u8],
     workers: usize,
-    gate: &Meeting,
+    logs: usize,
     once: u64,
 ) -> Result<bool, Fail> {
     let campaign = campaign_in(alloc, bytes)?;
-    let verdict = audit_campaign(rt, alloc, &campaign, count_of(workers)?, gate)?;
-    Ok(
-        verdict
-            .judgements
-            .iter()
-            .all(|judgement| is_agreed(judgement))
-            && gate.has_met(once, 0),
-    )
+    let gate = Meeting::new(workers, logs, NOBODY);
+    let verdict = audit_campaign(rt, alloc, &campaign, count_of(workers)?, &gate)?;
+    Ok(are_agreed(&verdict) && gate.has_met(once, 0))
 }
 
 #[test]
 fn workers_audit_a_campaign_at_once(rt: HostRuntime) -> Result<(), Fail> {
-    let alloc = rt.alloc();
-    let runs = written(&rt, alloc, &["sm_tool", "campaign"], TWO_RUNS)?;
-    let twice = 2 * THREE_ONCE;
-    assert!(rt; campaign_at_once(&rt, alloc, &runs, 3, &Meeting::new(3, 6, NOBODY), twice)?);
-    let star = written(&rt, alloc, &["sm_tool", "run"], STAR)?;
-    let gate = Meeting::new(16, 16, NOBODY);
-    assert!(rt; campaign_at_once(&rt, alloc, &star, 16, &gate, ALL_ONCE)?);
+    let runs = written(&rt, rt.alloc(), Job::Campaign { capacity: 1 }, TWO_RUNS)?;
+    assert!(rt; campaign_at_once(&rt, rt.alloc(), &runs, 3, 6, 2 * THREE_ONCE)?);
     Ok(())
 }
 
 #[test]
+fn workers_audit_one_run_at_once(rt: HostRuntime) -> Result<(), Fail> {
+    let star = written(&rt, rt.alloc(), Job::Run { capacity: 1 }, STAR)?;
+    assert!(rt; campaign_at_once(&rt, rt.alloc(), &star, 16, 16, ALL_ONCE)?);
+    Ok(())
+}
+
+/// Whether each general of a text's run shows the gate its logs once.
+fn shows_logs<R: Threads + Wait + Sync>(
+    rt: &R,
+    alloc: Global,
+    text: &[u8],
+    once: u64,
+) -> Result<bool, Fail> {
+    let gate = Meeting::new(0, 0, (0, 1, 0));
+    let scenario = scenario_of(alloc, text)?;
+    let logs = run_threads(rt, alloc, &scenario, 1, &gate)?;
+    Ok(!logs.is_empty() && gate.has_met(0, once))
+}
+
+#[test]
 fn each_general_shows_the_gate_its_logs(rt: HostRuntime) -> Result<(), Fail> {
-    for (text, once) in [(RING, SIX_ONCE), (STAR, ALL_ONCE)] {
-        let gate = Meeting::new(0, 0, (0, 1, 0));
-        let scenario = scenario_of(rt.alloc(), text)?;
-        let logs = run_threads(&rt, rt.alloc(), &scenario, 1, &gate)?;
-        assert!(rt; !logs.is_empty() && gate.has_met(0, once));
-    }
+    assert!(rt; shows_logs(&rt, rt.alloc(), RING, SIX_ONCE)?);
+    assert!(rt; shows_logs(&rt, rt.alloc(), STAR, ALL_ONCE)?);
     Ok(())
 }
 
 /// More frames than memory can hold.
 const TOO_MUCH_ROOM: usize = 1_000_000_000_000_000;
 
+/// Whether a run over edges of so much room wants memory.
+fn wants_memory<R: Threads + Wait + Sync>(rt: &R, alloc: Global, scenario: &Scenario) -> bool {
+    let gates = Meeting::new(0, 0, NOBODY);
+    let run = run_threads(rt, alloc, scenario, TOO_MUCH_ROOM, &gates);
+    matches!(&run, Err(RunFault::Memory))
+}
+
+/// Whether the judgement on such a run does.
+fn judging_wants_memory<R: Threads + Wait + Sync>(
+    rt: &R,
+    alloc: Global,
+    scenario: &Scenario,
+) -> Result<bool, Fail> {
+    let gates = Meeting::new(0, 0, NOBODY);
+    let judgement = judged(rt, alloc, scenario, TOO_MUCH_ROOM, count_of(3)?, &gates)?;
+    Ok(matches!(&judgement, Err(AuditFault::Memory)))
+}
+
 #[test]
 fn edges_of_too_much_room_want_memory(rt: HostRuntime) -> Result<(), Fail> {
     let scenario = scenario_of(rt.alloc(), PAIR)?;
-    let gates = Meeting::new(0, 0, NOBODY);
-    let run = run_threads(&rt, rt.alloc(), &scenario, TOO_MUCH_ROOM, &gates);
-    assert!(rt; matches!(&run, Err(RunFault::Memory)));
-    let judgement = judged(
-        &rt,
-        rt.alloc(),
-        &scenario,
-        TOO_MUCH_ROOM,
-        count_of(3)?,
-        &gates,
-    )?;
-    assert!(rt; matches!(&judgement, Err(AuditFault::Memory)));
+    let is_wanted = wants_memory(&rt, rt.alloc(), &scenario);
+    assert!(rt; is_wanted && judging_wants_memory(&rt, rt.alloc(), &scenario)?);
     Ok(())
 }

@@ -1,10 +1,9 @@
-//! This crate has the tests of `gen_jobs`, `gen_judge`, `gen_desk` and `gen_program` that rows can't say.
+//! This crate has the tests of `gen_jobs`, `gen_judge` and `gen_desk` that rows can't say.
 //!
 //! `texts` has the texts, `made` what is made of them, `streams` a reader and a writer that slip, and
-//! `filing` logs at desks. `slips` has each job over readers and writers that slip, `ends` whole inputs and
-//! how jobs end, `words` what is said of words that ask for no job, `largest` the largest run by the machine,
-//! `judged_gates` workers who work at once, and `desk_ends`, `desk_faults`, `desk_turns` and `desk_waits` the
-//! desk.
+//! `filing` logs at desks. `slips` has each job over readers and writers that slip, `largest` the largest run
+//! by the machine, `judged_gates` workers who work at once, and `desk_ends`, `desk_faults`, `desk_turns` and
+//! `desk_waits` the desk.
 #![tactic(auto)]
 
 #[cfg(test)]
@@ -15,8 +14,6 @@ mod desk_faults;
 mod desk_turns;
 #[cfg(test)]
 mod desk_waits;
-#[cfg(test)]
-mod ends;
 #[cfg(test)]
 mod filing;
 #[cfg(test)]
@@ -31,5 +28,3 @@ mod slips;
 mod streams;
 #[cfg(test)]
 mod texts;
-#[cfg(test)]
-mod words;

@@ -1,11 +1,9 @@
 //! What these tests are made of: jobs, scenarios, and what is read of bytes.
-ghost use Rattle.std.specs.Prelude.{IfOk};
 ghost use Rattle.gen_jobs.specs.Ranges.{IsInRange};
 
 use gen_audit::{Bundle, read_bundle};
 use gen_campaign::{CampaignBundle, read_campaign};
 use gen_jobs::{Job, JobEnd, do_job};
-use gen_program::read_words;
 use gen_report::{ScenarioText, read_scenario};
 use gen_scenario::Scenario;
 use std::alloc::Global;
@@ -13,24 +11,15 @@ use std::sync::Wait;
 use std::test::Fail;
 use std::thread::Threads;
 
-/// The job that words ask for.
-fn job_of<'a>(alloc: Global, words: &'a [&'a str]) -> Result<Job, Fail>
-    ensures { IfOk result IsInRange }
-{
-    let Ok(job) = read_words(alloc, words) else {
-        return Err("no job".into());
-    };
-    Ok(job)
-}
-
-/// What the job of these words writes of an input.
-pub(crate) fn written<'a, R: Threads + Wait + Sync>(
+/// What a job writes of an input.
+pub(crate) fn written<R: Threads + Wait + Sync>(
     rt: &R,
     alloc: Global,
-    words: &'a [&'a str],
+    job: Job,
     input: &[u8],
-) -> Result<Vec<u8>, Fail> {
-    let job = job_of(alloc, words)?;
+) -> Result<Vec<u8>, Fail>
+    requires { IsInRange job }
+{
     let mut reader = input;
     let mut text = Vec::new(alloc);
     match do_job(rt, alloc, job, &mut reader, &mut text) {
@@ -53,7 +42,7 @@ pub(crate) fn bundle_of<R: Threads + Wait + Sync>(
     alloc: Global,
     text: &[u8],
 ) -> Result<Bundle, Fail> {
-    let bytes = written(rt, alloc, &["sm_tool", "run"], text)?;
+    let bytes = written(rt, alloc, Job::Run { capacity: 1 }, text)?;
     match read_bundle(alloc, &bytes) {
         Ok(bundle) => Ok(bundle),
         Err(_) => Err("no bundle".into()),

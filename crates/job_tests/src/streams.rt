@@ -1,4 +1,4 @@
-//! A reader and a writer that give and take a few bytes of each call, and slip at one; and a reader of zeros.
+//! A reader and a writer that give and take a few bytes of each call, and slip at one.
 use std::alloc::Global;
 use std::io;
 use std::io::{Read, Write};
@@ -90,21 +90,6 @@ impl Write for Sink {
             Some(Err(e)) => Err(e),
             _ => Ok(()),
         }
-    }
-}
-
-/// Gives so many zeros, without having them.
-#[derive(Drop)]
-pub(crate) struct Zeros {
-    pub(crate) left: usize,
-}
-
-impl Read for Zeros {
-    fn read(&mut self, buf: &mut [u8]) -> io::Result<usize> {
-        let count = buf.len().min(self.left);
-        buf[..count].fill(0);
-        self.left -= count;
-        Ok(count)
     }
 }
 

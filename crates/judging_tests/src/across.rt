@@ -4,7 +4,7 @@
 ghost use Rattle.std.specs.Prelude.{IfOk};
 ghost use Rattle.gen_convict.specs.Convictions.{AreUnderHeader};
 
-use crate::scenarios::{FIRST, FIRST_OF_ONE, LAST, LAST_OF_ONE, SECOND_OF_ONE, run_of};
+use crate::scenarios::{FIRST, FIRST_OF_ONE, LAST, LAST_OF_ONE, SECOND_OF_ONE, header_of, run_of};
 use gen_convict::{Claim, Evidence, RunText, check_evidence, find_across};
 use gen_local::{Exhibit, LocalReport, Reading, SignedText, local_report};
 use gen_net::Header;
@@ -50,47 +50,57 @@ fn convicted(alloc: Global, first: &[u8], second: &[u8]) -> Result<usize, Fail> 
     Ok(found_in(alloc, one, &heard, other, &gave)?.len())
 }
 
+// The rows of convictions have runs of slot 0, and runs of two slots. No bytes show one run twice.
 #[test]
-fn runs_of_other_slots_convict_nobody(rt: HostRuntime) -> Result<(), Fail> {
-    assert!(rt; convicted(rt.alloc(), FIRST, FIRST_OF_ONE)? == 1);
-    assert!(rt; convicted(rt.alloc(), FIRST, SECOND_OF_ONE)? == 0);
+fn two_runs_of_one_slot_convict(rt: HostRuntime) -> Result<(), Fail> {
     assert!(rt; convicted(rt.alloc(), FIRST, FIRST)? == 0);
     assert!(rt; convicted(rt.alloc(), LAST, LAST_OF_ONE)? == 1);
     Ok(())
+}
+
+/// Returns the first text of the general's own log that is reported on.
+fn first_text(alloc: Global, report: &LocalReport) -> Result<SignedText, Fail> {
+    let Reading::Own(log) = report.reading() else {
+        return Err("another log".into());
+    };
+    let first = log.texts().first().ok_or("no text")?;
+    Ok(SignedText {
+        signer: first.signer,
+        text: first.text,
+        signature: first.signature.share(alloc)?,
+    })
 }
 
 /// Returns the commander's order of a run, which is the first text of the commander's log.
 fn order_of(alloc: Global, text: &[u8]) -> Result<RunText, Fail> {
     let (header, exhibit) = shown_of(alloc, text, 0)?;
     let report = local_report(alloc, &header, exhibit.general(), exhibit.log())?;
-    let Reading::Own(log) = report.reading() else {
-        return Err("another log".into());
-    };
-    let [first, ..] = log.texts() else {
-        return Err("no text".into());
-    };
-    let text = SignedText {
-        signer: first.signer,
-        text: first.text,
-        signature: first.signature.share(alloc)?,
-    };
+    let text = first_text(alloc, &report)?;
     Ok(RunText { header, text })
+}
+
+/// Returns the evidence against the commander that the orders of the first run and of another one would be.
+fn evidence_of(alloc: Global, second: &[u8]) -> Result<Evidence, Fail> {
+    let first = order_of(alloc, FIRST)?;
+    let second = order_of(alloc, second)?;
+    let accused = GeneralNo::commander();
+    let claim = Claim::Across { first, second };
+    Ok(Evidence { accused, claim })
+}
+
+/// Whether evidence holds under a header.
+fn holds(alloc: Global, header: &Header, evidence: &Evidence) -> Result<bool, Fail> {
+    if evidence.accused.get() >= header.net().generals() {
+        return Err("no general of the network".into());
+    }
+    Ok(check_evidence(alloc, header, evidence)?)
 }
 
 /// Whether it holds against the commander that the orders of the first run and of another one are two texts.
 fn holds_with(alloc: Global, second: &[u8]) -> Result<bool, Fail> {
-    let first = order_of(alloc, FIRST)?;
-    let second = order_of(alloc, second)?;
-    let header = first.header.clone()?;
-    let accused = GeneralNo::commander();
-    let evidence = Evidence {
-        accused,
-        claim: Claim::Across { first, second },
-    };
-    if evidence.accused.get() >= header.net().generals() {
-        return Err("no general of the network".into());
-    }
-    Ok(check_evidence(alloc, &header, &evidence)?)
+    let header = header_of(alloc, FIRST)?;
+    let evidence = evidence_of(alloc, second)?;
+    holds(alloc, &header, &evidence)
 }
 
 // No bytes say the last two: they are no evidence.

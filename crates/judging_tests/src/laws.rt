@@ -1,8 +1,8 @@
 //! The laws, each called once.
 use gen_audit::laws as audits;
-use gen_campaign::laws as campaigns;
-use gen_campaign_text::{
-    one_bundle_is_printed_as_before, one_campaign_text, places_name_runs, texts_make_campaigns,
+use gen_campaign::{
+    laws as campaigns, one_bundle_is_printed_as_before, one_campaign_text, places_name_runs,
+    texts_make_campaigns,
 };
 use gen_convict::laws as evidence;
 use gen_local::laws as reports;

@@ -1,11 +1,11 @@
 //! Reports of exhibits side by side and alone, through one store of verifications.
-use crate::scenarios::{RING, run_of};
+use crate::scenarios::{RING, header_of, run_of};
 use gen_chain::VerifyStore;
 use gen_local::{Exhibit, LocalReport, Reading, local_report, local_reports};
 use gen_log::LogFault;
 use gen_net::Header;
 use gen_types::GeneralNo;
-use std::alloc::Global;
+use std::alloc::{AllocError, Global};
 use std::test::Fail;
 
 /// What is found of a log: the first entry with a signature that doesn't verify, whether the head verifies,
@@ -56,33 +56,41 @@ fn found_in(report: &LocalReport) -> Option<Found> {
     }
 }
 
-/// Whether that is found in these reports, from the first to the last.
-fn find(reports: &[LocalReport], found: &[Option<Found>]) -> bool {
-    reports.len() == found.len()
-        && reports
-            .iter()
-            .zip(found.iter())
-            .all(|(report, found)| found_in(report) == *found)
+/// Whether that is found in six reports, from the first to the last.
+fn find(reports: &[LocalReport], found: &[Option<Found>; 6]) -> bool {
+    if reports.len() != 6 {
+        return false;
+    }
+    for place in 0..6usize {
+        if found_in(&reports[place]) != found[place] {
+            return false;
+        }
+    }
+    true
 }
 
-/// Returns the reports of exhibits by one store, side by side, and how many verifications it keeps then.
+/// Returns how many verifications a new store keeps by which exhibits are reported on, side by side; None if
+/// something else is found.
 fn together(
     alloc: Global,
     header: &Header,
     exhibits: &[Exhibit],
-) -> Result<(Vec<LocalReport>, u64), Fail> {
+    found: &[Option<Found>; 6],
+) -> Result<Option<u64>, AllocError> {
     let mut store = VerifyStore::new(alloc)?;
     let reports = local_reports(alloc, header, exhibits, &mut store)?;
-    Ok((reports, store.runs()))
+    if find(reports.as_slice(), found) {
+        Ok(Some(store.runs()))
+    } else {
+        Ok(None)
+    }
 }
 
 // Of 17 signatures of statements 5 are distinct.
 #[test]
 fn each_signature_once(rt: HostRuntime) -> Result<(), Fail> {
-    let (header, exhibits) = run_of(rt.alloc(), RING)?;
-    let (reports, kept) = together(rt.alloc(), &header, exhibits.as_slice())?;
-    assert!(rt; find(reports.as_slice(), &ON_THE_RING));
-    assert!(rt; kept == 5);
+    let (header, ring) = run_of(rt.alloc(), RING)?;
+    assert!(rt; together(rt.alloc(), &header, ring.as_slice(), &ON_THE_RING)? == Some(5));
     Ok(())
 }
 
@@ -104,8 +112,8 @@ fn exhibit_of(
 /// Returns the six exhibits.
 fn six_of(alloc: Global, ring: &[Exhibit]) -> Result<Vec<Exhibit>, Fail> {
     let mut six = Vec::new(alloc);
-    for (general, place) in SIX {
-        six.push(exhibit_of(alloc, ring, general, place)?)?;
+    for (general, place) in &SIX {
+        six.push(exhibit_of(alloc, ring, *general, *place)?)?;
     }
     Ok(six)
 }
@@ -119,30 +127,35 @@ fn alone(alloc: Global, header: &Header, exhibits: &[Exhibit]) -> Result<Vec<Loc
     Ok(reports)
 }
 
+/// Whether that is found in the six exhibits, side by side and each alone.
+fn find_alike(alloc: Global, header: &Header, ring: &[Exhibit]) -> Result<bool, Fail> {
+    let six = six_of(alloc, ring)?;
+    let is_together = together(alloc, header, six.as_slice(), &IN_SIX)?.is_some();
+    let reports = alone(alloc, header, six.as_slice())?;
+    Ok(is_together && find(reports.as_slice(), &IN_SIX))
+}
+
 #[test]
 fn side_by_side_and_alone(rt: HostRuntime) -> Result<(), Fail> {
     let (header, ring) = run_of(rt.alloc(), RING)?;
-    let six = six_of(rt.alloc(), ring.as_slice())?;
-    let (reports, _) = together(rt.alloc(), &header, six.as_slice())?;
-    assert!(rt; find(reports.as_slice(), &IN_SIX));
-    let reports = alone(rt.alloc(), &header, six.as_slice())?;
-    assert!(rt; find(reports.as_slice(), &IN_SIX));
+    assert!(rt; find_alike(rt.alloc(), &header, ring.as_slice())?);
     Ok(())
 }
 
-/// Whether the only report says that bytes end too early.
-fn is_truncated(reports: &[LocalReport]) -> bool {
-    match reports {
-        [report] => matches!(report.reading(), Reading::Unreadable(LogFault::Truncated)),
-        _ => false,
+/// Whether the reports by a new store are one, which says that bytes end too early.
+fn are_truncated(alloc: Global, header: &Header, exhibits: &[Exhibit]) -> Result<bool, AllocError> {
+    let mut store = VerifyStore::new(alloc)?;
+    let reports = local_reports(alloc, header, exhibits, &mut store)?;
+    match reports.as_slice() {
+        [report] => Ok(matches!(report.reading(), Reading::Unreadable(LogFault::Truncated))),
+        _ => Ok(false),
     }
 }
 
 #[test]
 fn one_of_no_bytes(rt: HostRuntime) -> Result<(), Fail> {
-    let (header, _) = run_of(rt.alloc(), RING)?;
+    let header = header_of(rt.alloc(), RING)?;
     let exhibits = [Exhibit::new(GeneralNo::at(1), Vec::new(rt.alloc()))?];
-    let (reports, _) = together(rt.alloc(), &header, &exhibits)?;
-    assert!(rt; is_truncated(reports.as_slice()));
+    assert!(rt; are_truncated(rt.alloc(), &header, &exhibits)?);
     Ok(())
 }

@@ -71,6 +71,12 @@ pub(crate) fn scenario_of(alloc: Global, text: &[u8]) -> Result<Scenario, Fail> 
     }
 }
 
+/// Returns the header of that scenario's run.
+pub(crate) fn header_of(alloc: Global, text: &[u8]) -> Result<Header, Fail> {
+    let scenario = scenario_of(alloc, text)?;
+    Ok(scenario.header().clone()?)
+}
+
 /// Returns the header of that scenario's run, and the logs of its generals.
 pub(crate) fn run_of(alloc: Global, text: &[u8]) -> Result<(Header, Vec<Exhibit>), Fail> {
     let scenario = scenario_of(alloc, text)?;

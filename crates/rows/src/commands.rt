@@ -1,33 +1,35 @@
 //! Calls of words of the command line, and of whole commands.
 use crate::forms::{Form, done};
-use crate::names::unreadable;
+use crate::names::Refused;
 use crate::rows::Row;
-use crate::texts::{output_text, text};
+use crate::texts::Answer;
 use clap::error::ErrorKind;
-use gen_jobs::Job;
-use gen_program::{WordsFault, read_words};
+use gen_jobs::{Job, JobEnd, Telling};
+use gen_net::Version;
+use gen_program::{Several, WordsFault, read_several, read_words};
 use std::alloc::Global;
-use std::io;
 use std::sync::Wait;
 use std::thread::Threads;
 
-/// Returns the answer to a call of this module.
-pub(crate) fn answer<R: AllocGlobal + Threads + Wait + Sync>(
+/// Answers a call of this module, and returns whether it is one.
+pub(crate) fn tell<R: AllocGlobal + Threads + Wait + Sync>(
     rt: &R,
     call: &str,
     row: Row<'_>,
-) -> io::Result<Option<String>> {
+    answer: &mut Answer,
+) -> Result<bool, Refused> {
     match call {
-        "words" => Ok(Some(asked_text(rt.alloc(), row)?)),
-        "command" => Ok(Some(command_text(rt, Form::Engine, row)?)),
-        "over_bytes" => Ok(Some(command_text(rt, Form::Bytes, row)?)),
-        "in_place" => Ok(Some(command_text(rt, Form::InPlace, row)?)),
-        _ => Ok(None),
+        "words" => tell_words(rt.alloc(), row, answer)?,
+        "command" => tell_command(rt, Form::Engine, row, answer)?,
+        "over_bytes" => tell_command(rt, Form::Bytes, row, answer)?,
+        "in_place" => tell_command(rt, Form::InPlace, row, answer)?,
+        _ => return Ok(false),
     }
+    Ok(true)
 }
 
 /// Returns the program's name and the words of a text.
-fn words_of(alloc: Global, said: &str) -> io::Result<Vec<&str>> {
+fn words_of(alloc: Global, said: &str) -> Result<Vec<&str>, Refused> {
     let mut words = Vec::new(alloc);
     words.push("sm_tool")?;
     for word in said.split_ascii_whitespace() {
@@ -36,74 +38,150 @@ fn words_of(alloc: Global, said: &str) -> io::Result<Vec<&str>> {
     Ok(words)
 }
 
-/// Returns the job that words ask for, or why they ask for none.
-fn asked_text(alloc: Global, mut row: Row<'_>) -> io::Result<String> {
+/// Tells the job that words ask for, or why they ask for none.
+fn tell_words(alloc: Global, mut row: Row<'_>, answer: &mut Answer) -> Result<(), Refused> {
     let words = words_of(alloc, row.word()?)?;
-    match &read_words(alloc, &words) {
-        Ok(job) => job_text(alloc, *job),
-        Err(fault) => text(alloc, refusal_of(fault)?),
+    match read_several(alloc, &words) {
+        Ok(Some(several)) => answer.word(command_of(&several)),
+        Ok(None) => tell_asked(&read_words(alloc, &words), answer)?,
+        Err(fault) => answer.word(refusal_of(&fault)?),
+    }
+    Ok(())
+}
+
+/// Returns the command that has these files.
+fn command_of(several: &Several<'_>) -> &'static str {
+    match several {
+        Several::Bundle { .. } => "bundle",
+        Several::Answer { .. } => "answer",
     }
 }
 
-/// Returns a job's command with its numbers.
-fn job_text(alloc: Global, job: Job) -> io::Result<String> {
+/// Tells a job, or why words ask for none.
+fn tell_asked(asked: &Result<Job, WordsFault>, answer: &mut Answer) -> Result<(), Refused> {
+    match asked {
+        Ok(job) => tell_job(*job, answer),
+        Err(fault) => answer.word(refusal_of(fault)?),
+    }
+    Ok(())
+}
+
+/// Tells a job's command with its numbers.
+fn tell_job(job: Job, answer: &mut Answer) {
     match job {
-        Job::Decide => text(alloc, "decide"),
-        Job::Run { capacity } => Ok(format!(in alloc; "run capacity {capacity}")?),
-        Job::Judge { capacity, workers } => {
-            let count = workers.get();
-            Ok(format!(in alloc; "judge capacity {capacity} workers {count}")?)
+        Job::Decide { .. } => answer.word("decide"),
+        Job::Run { capacity } => answer.field("run capacity", capacity),
+        Job::Judge {
+            capacity,
+            workers,
+            ..
+        } => {
+            answer.field("judge capacity", capacity);
+            answer.field("workers", workers.get());
         }
-        Job::Campaign { capacity } => Ok(format!(in alloc; "campaign capacity {capacity}")?),
-        Job::Audit { workers } => {
-            let count = workers.get();
-            Ok(format!(in alloc; "audit workers {count}")?)
-        }
-        Job::Draw { workers } => {
-            let count = workers.get();
-            Ok(format!(in alloc; "draw workers {count}")?)
-        }
-        Job::Accuse { general } => Ok(format!(in alloc; "accuse general {general}")?),
-        Job::Evidence => text(alloc, "evidence"),
+        Job::Campaign { capacity } => answer.field("campaign capacity", capacity),
+        Job::Audit { workers, .. } => answer.field("audit workers", workers.get()),
+        Job::Draw { workers, .. } => answer.field("draw workers", workers.get()),
+        Job::Accuse { general, .. } => answer.field("accuse general", general),
+        Job::Evidence { .. } => answer.word("evidence"),
+        Job::Show { .. } => answer.word("show"),
+        Job::Root { .. } => answer.word("root"),
+        Job::Header { version } => tell_slot(version, answer),
+        Job::Tell { what } => answer.word(word_of(what)),
+    }
+}
+
+/// Tells the command `header` with the slot.
+fn tell_slot(version: Version, answer: &mut Answer) {
+    match version {
+        Version::One => answer.word("header slot none"),
+        Version::Two { slot } => answer.field("header slot", slot),
+    }
+}
+
+/// Returns the command that tells this.
+fn word_of(what: Telling) -> &'static str {
+    match what {
+        Telling::File => "show",
+        Telling::Name => "explain",
+        Telling::Text => "words",
     }
 }
 
 /// Returns why words ask for no job.
-fn refusal_of(fault: &WordsFault) -> io::Result<&'static str> {
+fn refusal_of(fault: &WordsFault) -> Result<&'static str, Refused> {
     match fault {
         WordsFault::BadCapacity => Ok("refused capacity"),
         WordsFault::BadWorkers => Ok("refused workers"),
         WordsFault::BadGeneral => Ok("refused general"),
+        WordsFault::BadSlot => Ok("refused slot"),
+        WordsFault::BadRun => Ok("refused run"),
+        WordsFault::BadLog | WordsFault::TwoStandard => Ok("refused words"),
+        WordsFault::BadFaulty => Ok("refused faulty"),
         WordsFault::Words(error) if error.kind() == ErrorKind::DisplayHelp => Ok("help"),
         WordsFault::Words(error) if error.kind() == ErrorKind::DisplayVersion => Ok("version"),
         WordsFault::Words(_) => Ok("refused words"),
-        WordsFault::NoCommand | WordsFault::NotText | WordsFault::Memory => Err(unreadable()),
+        WordsFault::NoCommand | WordsFault::NotText | WordsFault::Memory => Err(Refused),
     }
 }
 
-/// Returns the status and the output of a command in this form, or its fault. Of several with ` | ` between them each reads
+/// Tells the status and the output of a command in this form, or its fault. Of several with ` | ` between them each reads
 /// what the one before wrote, and the answer is that of the last, or of the first that fails.
-fn command_text<R: AllocGlobal + Threads + Wait + Sync>(
+fn tell_command<R: AllocGlobal + Threads + Wait + Sync>(
     rt: &R,
     form: Form,
     mut row: Row<'_>,
-) -> io::Result<String> {
-    let alloc = rt.alloc();
+    answer: &mut Answer,
+) -> Result<(), Refused> {
     let said = row.word()?;
-    let mut bytes = row.bytes(alloc)?;
-    let mut status = 0u8;
+    let mut bytes = row.rest()?.to_vec(rt.alloc())?;
+    match do_all(rt, form, said, &mut bytes)? {
+        Some(end) => tell_end(end, bytes.as_slice(), answer),
+        None => answer.word("2"),
+    }
+    Ok(())
+}
+
+/// Tells how a job ended, and what it wrote if it didn't fail.
+fn tell_end(end: JobEnd, written: &[u8], answer: &mut Answer) {
+    answer.show(end.status());
+    match end.fault() {
+        Some(fault) => answer.show(fault),
+        None => answer.output(written),
+    }
+}
+
+/// Does commands until one fails, each on what the one before wrote. Returns how the last one ended, or nothing where its
+/// words ask for no job.
+fn do_all<R: AllocGlobal + Threads + Wait + Sync>(
+    rt: &R,
+    form: Form,
+    said: &str,
+    bytes: &mut Vec<u8>,
+) -> Result<Option<JobEnd>, Refused> {
+    let mut last = None;
     for command in said.split(" | ") {
-        let words = words_of(alloc, command)?;
-        let Ok(job) = read_words(alloc, &words) else {
-            return text(alloc, "2");
-        };
-        let (end, written) = done(rt, alloc, form, job, &bytes);
-        status = end.status();
-        bytes = written;
-        if let Some(fault) = end.fault() {
-            return Ok(format!(in alloc; "{status} {fault}")?);
+        last = do_one(rt, form, command, bytes)?;
+        match last {
+            Some(JobEnd::Done | JobEnd::Negative) => {}
+            _ => return Ok(last),
         }
     }
-    let shown = output_text(alloc, &bytes)?;
-    Ok(format!(in alloc; "{status} {shown}")?)
+    Ok(last)
+}
+
+/// Does a command on bytes, and leaves what it writes in their place.
+fn do_one<R: AllocGlobal + Threads + Wait + Sync>(
+    rt: &R,
+    form: Form,
+    command: &str,
+    bytes: &mut Vec<u8>,
+) -> Result<Option<JobEnd>, Refused> {
+    let words = words_of(rt.alloc(), command)?;
+    let Ok(job) = read_words(rt.alloc(), &words) else {
+        return Ok(None);
+    };
+    let (end, written) = done(rt, rt.alloc(), form, job, bytes.as_slice());
+    *bytes = written;
+    Ok(Some(end))
 }

@@ -1,7 +1,9 @@
 //! Files of rows.
-use crate::names::{Names, unreadable};
-use crate::rows::{Row, tokens_of};
-use crate::{commands, frames, judging, signing, values};
+use crate::names::{Names, Refused};
+use crate::rows::{Asked, Row};
+use crate::texts::Answer;
+use crate::{commands, frames, judging, preparing, signing, values};
+use std::alloc::Global;
 use std::rt::Files;
 use std::sync::Wait;
 use std::thread::Threads;
@@ -17,34 +19,69 @@ pub(crate) fn try_file<R: AllocGlobal + Files + Print + Threads + Wait + Sync>(
     let mut number = 0u64;
     for line in text.lines() {
         number = number.saturating_add(1);
-        if let Some(wrong) = try_line(rt, &mut names, line)? {
-            println!(rt; "{name}, line {number}: {wrong}")?;
+        let mut wrong = Answer::new(rt.alloc());
+        try_line(rt, &mut names, line, &mut wrong)?;
+        let said = wrong.text()?;
+        if !said.is_empty() {
+            println!(rt; "{name}, line {number}: {said}")?;
         }
     }
     let end = if number == 0 { "nothing" } else { "the end" };
     println!(rt; "{name}: read to {end}")
 }
 
-/// Does what a line says: nothing, gives bytes a name, or tries a row. Returns what is wrong with it.
+/// What a line of a file is.
+#[derive(Clone, Copy)]
+enum Line<'a> {
+    /// Nothing, or a comment.
+    Comment,
+    /// A name, and what it stands for.
+    Name(&'a str, &'a str),
+    /// A row: what it asks, and its answer.
+    Row(&'a str, &'a str),
+    /// No line of a file of rows.
+    Other,
+}
+
+/// Returns what a line is.
+fn line_of(line: &str) -> Line<'_> {
+    if line.is_empty() || line.starts_with('#') {
+        return Line::Comment;
+    }
+    let Some((asked, wanted)) = line.split_once(" = ") else {
+        return Line::Other;
+    };
+    match asked.strip_prefix("let ") {
+        Some(name) => Line::Name(name, wanted),
+        None => Line::Row(asked, wanted),
+    }
+}
+
+/// Does what a line says: nothing, gives bytes a name, or tries a row. Tells what is wrong with it.
 fn try_line<R: AllocGlobal + Files + Threads + Wait + Sync>(
     rt: &R,
     names: &mut Names,
     line: &str,
-) -> io::Result<Option<String>> {
-    if line.is_empty() || line.starts_with('#') {
-        return Ok(None);
+    wrong: &mut Answer,
+) -> io::Result<()> {
+    match line_of(line) {
+        Line::Comment => {}
+        Line::Name(name, said) => return give_name(rt, names, name, said),
+        Line::Row(asked, wanted) => compare(rt, names, asked, wanted, wrong),
+        Line::Other => wrong.word("no row"),
     }
-    let Some((asked, wanted)) = line.split_once(" = ") else {
-        return Ok(Some(format!(in rt.alloc(); "no row")?));
-    };
-    match asked.strip_prefix("let ") {
-        Some(name) => {
-            let bytes = bytes_named(rt, names, wanted)?;
-            names.add(rt.alloc(), name, bytes)?;
-            Ok(None)
-        }
-        None => compare(rt, names, asked, wanted),
-    }
+    Ok(())
+}
+
+/// Gives a name to bytes.
+fn give_name<R: AllocGlobal + Files>(
+    rt: &R,
+    names: &mut Names,
+    name: &str,
+    said: &str,
+) -> io::Result<()> {
+    let bytes = bytes_named(rt, names, said)?;
+    names.add(rt.alloc(), name, bytes)
 }
 
 /// Returns the bytes that are given a name: those of a file behind `@`, or of pieces.
@@ -52,47 +89,117 @@ fn bytes_named<R: AllocGlobal + Files>(rt: &R, names: &Names, said: &str) -> io:
     match said.strip_prefix('@') {
         Some(file) => fs::read(rt, file),
         None => {
-            let tokens = tokens_of(rt.alloc(), said)?;
-            Row::new(names, tokens.as_slice()).bytes(rt.alloc())
+            let asked = Asked::new(rt.alloc(), names, said)?;
+            Ok(asked.row().rest()?.to_vec(rt.alloc())?)
         }
     }
 }
 
-/// Returns how the answer to a row is another one than it should be, if it is.
+/// Tells how the answer to a row is another one than it should be, if it is.
 fn compare<R: AllocGlobal + Threads + Wait + Sync>(
     rt: &R,
     names: &Names,
     asked: &str,
     wanted: &str,
-) -> io::Result<Option<String>> {
-    match answer(rt, names, asked) {
-        Ok(found) if found.as_str() == wanted => Ok(None),
-        Ok(found) => Ok(Some(format!(in rt.alloc(); "{found}, not {wanted}")?)),
-        Err(_) => Ok(Some(format!(in rt.alloc(); "can't be tried")?)),
+    wrong: &mut Answer,
+) {
+    let mut answer = Answer::new(rt.alloc());
+    let told = answer_row(rt, names, asked, &mut answer);
+    match answer.text() {
+        Ok(found) if told.is_ok() => tell_otherwise(found, wanted, wrong),
+        _ => wrong.word("can't be tried"),
     }
 }
 
-/// Returns the answer to what stands in front of a row's answer.
-fn answer<R: AllocGlobal + Threads + Wait + Sync>(
+/// Tells an answer that is another one than it should be.
+fn tell_otherwise(found: &str, wanted: &str, wrong: &mut Answer) {
+    if found != wanted {
+        wrong.push(found);
+        wrong.push(", not ");
+        wrong.push(wanted);
+    }
+}
+
+/// Answers what stands in front of a row's answer.
+fn answer_row<R: AllocGlobal + Threads + Wait + Sync>(
     rt: &R,
     names: &Names,
     asked: &str,
-) -> io::Result<String> {
-    let alloc = rt.alloc();
-    let tokens = tokens_of(alloc, asked)?;
-    let mut row = Row::new(names, tokens.as_slice());
+    answer: &mut Answer,
+) -> Result<(), Refused> {
+    let asked = Asked::new(rt.alloc(), names, asked)?;
+    let mut row = asked.row();
+    match row.word()? {
+        "cuts" => tell_cuts(rt, row, answer),
+        call => tell(rt, call, row, answer),
+    }
+}
+
+/// Tells what a call answers to the beginnings of its bytes, of lengths from one number on and before another: each answer
+/// that is another one than the answer before, behind the length.
+fn tell_cuts<R: AllocGlobal + Threads + Wait + Sync>(
+    rt: &R,
+    mut row: Row<'_>,
+    answer: &mut Answer,
+) -> Result<(), Refused> {
+    let (from, to) = (row.number()?, row.number()?);
     let call = row.word()?;
-    if let Some(found) = values::answer(alloc, call, row)? {
-        return Ok(found);
+    let mut before = Answer::new(rt.alloc());
+    for len in from..to {
+        let mut next = Answer::new(rt.alloc());
+        tell(rt, call, row.cut(len), &mut next)?;
+        if next.text()? != before.text()? {
+            answer.end_line();
+            answer.show(len);
+            answer.word(next.text()?);
+        }
+        before = next;
     }
-    if let Some(found) = signing::answer(alloc, call, row)? {
-        return Ok(found);
+    Ok(())
+}
+
+/// Answers a call.
+fn tell<R: AllocGlobal + Threads + Wait + Sync>(
+    rt: &R,
+    call: &str,
+    row: Row<'_>,
+    answer: &mut Answer,
+) -> Result<(), Refused> {
+    let alloc = rt.alloc();
+    if values::tell(alloc, call, row, answer)? {
+        return Ok(());
     }
-    if let Some(found) = judging::answer(alloc, call, row)? {
-        return Ok(found);
+    if signing::tell(alloc, call, row, answer)? {
+        return Ok(());
     }
-    if let Some(found) = frames::answer(alloc, call, row)? {
-        return Ok(found);
+    if judging::tell(alloc, call, row, answer)? {
+        return Ok(());
     }
-    commands::answer(rt, call, row)?.ok_or_else(unreadable)
+    if preparing::tell(alloc, call, row, answer)? {
+        return Ok(());
+    }
+    if frames::tell(alloc, call, row, answer)? {
+        return Ok(());
+    }
+    if commands::tell(rt, call, row, answer)? {
+        return Ok(());
+    }
+    tell_under(alloc, call, row, answer)
+}
+
+/// Answers a call on a header.
+fn tell_under(
+    alloc: Global,
+    call: &str,
+    mut row: Row<'_>,
+    answer: &mut Answer,
+) -> Result<(), Refused> {
+    let header = row.header(alloc)?;
+    let is_told = values::tell_under(alloc, call, &header, row, answer)?
+        || signing::tell_under(alloc, call, &header, row, answer)?
+        || judging::tell_under(alloc, call, &header, row, answer)?;
+    if !is_told {
+        return Err(Refused);
+    }
+    Ok(())
 }

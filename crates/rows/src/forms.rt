@@ -4,9 +4,13 @@ ghost use Rattle.gen_jobs.specs.Ranges.{IsInRange};
 
 use gen_audit::WorkerCount;
 use gen_jobs::{
-    Job, JobEnd, JobFault, Output, accuse, accuse_in_place, audit, audit_in_place, campaign,
-    decide, deliver, do_job, draw, draw_in_place, evidence, judge, run,
+    Asked, AskedRuns, Faulty, Form as Answering, Job, JobEnd, JobFault, Output, accuse,
+    accuse_as_asked, accuse_asked_in_place, accuse_in_place, audit, audit_as_asked,
+    audit_asked_in_place, audit_in_place, campaign, decide, decide_in, deliver, do_job, draw,
+    draw_as_asked, draw_asked_in_place, draw_in_place, evidence, evidence_as_asked, evidence_in,
+    header, judge, judge_as_asked, root, run, show_as_asked, tell,
 };
+use gen_types::GeneralNo;
 use std::alloc::Global;
 use std::sync::Wait;
 use std::thread::Threads;
@@ -42,6 +46,103 @@ fn campaign_output<R: Threads + Wait + Sync>(
     })
 }
 
+/// Returns what the calls of `accuse` over bytes give, by three workers.
+fn by_three<R: Threads + Wait + Sync>(
+    rt: &R,
+    alloc: Global,
+    general: GeneralNo,
+    asked: AskedRuns,
+    input: &[u8],
+) -> Result<Output, JobFault> {
+    let three = WorkerCount::new(3).unwrap_or(WorkerCount::one());
+    match asked {
+        AskedRuns::Any => accuse(rt, alloc, three, general, input),
+        _ => accuse_as_asked(rt, alloc, three, asked, general, input.to_vec(alloc)?),
+    }
+}
+
+/// What is asked of an input of which nothing is asked.
+const NOTHING: Asked = Asked {
+    runs: AskedRuns::Any,
+    faulty: Faulty::Listed,
+};
+
+/// Returns what the calls of `decide` over bytes give.
+fn decided(alloc: Global, form: Answering, input: &[u8]) -> Result<Output, JobFault> {
+    match form {
+        Answering::Text => decide(alloc, input),
+        Answering::Json => decide_in(alloc, form, input),
+    }
+}
+
+/// Returns what the calls of `audit` over bytes give.
+fn audited<R: Threads + Wait + Sync>(
+    rt: &R,
+    alloc: Global,
+    workers: WorkerCount,
+    asked: &Asked,
+    form: Answering,
+    strict: bool,
+    input: &[u8],
+) -> Result<Output, JobFault> {
+    if *asked == NOTHING && form == Answering::Text && !strict {
+        audit(rt, alloc, workers, input)
+    } else {
+        let taken = input.to_vec(alloc)?;
+        audit_as_asked(rt, alloc, workers, asked, form, strict, taken)
+    }
+}
+
+/// Returns what the calls of `draw` over bytes give.
+fn drawn<R: Threads + Wait + Sync>(
+    rt: &R,
+    alloc: Global,
+    workers: WorkerCount,
+    asked: &Asked,
+    input: &[u8],
+) -> Result<Output, JobFault> {
+    if *asked == NOTHING {
+        draw(rt, alloc, workers, input)
+    } else {
+        draw_as_asked(rt, alloc, workers, asked, input.to_vec(alloc)?)
+    }
+}
+
+/// Returns what the calls of `evidence` over bytes give.
+fn checked(
+    alloc: Global,
+    asked: AskedRuns,
+    form: Answering,
+    input: &[u8],
+) -> Result<Output, JobFault> {
+    if form == Answering::Json {
+        return evidence_in(alloc, form, asked, input);
+    }
+    match asked {
+        AskedRuns::Any => evidence(alloc, input),
+        _ => evidence_as_asked(alloc, asked, input),
+    }
+}
+
+/// Returns what the calls of `judge` over bytes give.
+fn judged<R: Threads + Wait + Sync>(
+    rt: &R,
+    alloc: Global,
+    capacity: u8,
+    workers: WorkerCount,
+    form: Answering,
+    strict: bool,
+    input: &[u8],
+) -> Result<Output, JobFault>
+    requires { 0 < capacity }
+{
+    if strict || form == Answering::Json {
+        judge_as_asked(rt, alloc, capacity, workers, form, strict, input)
+    } else {
+        judge(rt, alloc, capacity, workers, input)
+    }
+}
+
 /// Returns what the call of a job over bytes gives; that of `accuse` is by three workers.
 fn by_bytes<R: Threads + Wait + Sync>(
     rt: &R,
@@ -52,17 +153,77 @@ fn by_bytes<R: Threads + Wait + Sync>(
     requires { IsInRange job }
 {
     match job {
-        Job::Decide => decide(alloc, input),
+        Job::Decide { form } => decided(alloc, form, input),
         Job::Run { capacity } => run(rt, alloc, capacity, input),
-        Job::Judge { capacity, workers } => judge(rt, alloc, capacity, workers, input),
+        Job::Judge {
+            capacity,
+            workers,
+            strict,
+            form,
+        } => judged(rt, alloc, capacity, workers, form, strict, input),
         Job::Campaign { capacity } => campaign_output(rt, alloc, capacity, input),
-        Job::Audit { workers } => audit(rt, alloc, workers, input),
-        Job::Draw { workers } => draw(rt, alloc, workers, input),
-        Job::Accuse { general } => {
-            let three = WorkerCount::new(3).unwrap_or(WorkerCount::one());
-            accuse(rt, alloc, three, general, input)
-        }
-        Job::Evidence => evidence(alloc, input),
+        Job::Audit {
+            workers,
+            asked,
+            strict,
+            form,
+        } => audited(rt, alloc, workers, &asked, form, strict, input),
+        Job::Draw { workers, asked } => drawn(rt, alloc, workers, &asked, input),
+        Job::Accuse { general, asked } => by_three(rt, alloc, general, asked, input),
+        Job::Evidence { asked, form } => checked(alloc, asked, form, input),
+        Job::Show { asked } => show_as_asked(alloc, asked, input),
+        Job::Root { height } => root(alloc, height, input),
+        Job::Header { version } => header(alloc, version, input),
+        Job::Tell { what } => tell(alloc, what, input),
+    }
+}
+
+/// Returns what the calls of `audit` give that start no thread, or those over bytes for what no such call has.
+fn audited_in_place<R: Threads + Wait + Sync>(
+    rt: &R,
+    alloc: Global,
+    workers: WorkerCount,
+    asked: &Asked,
+    form: Answering,
+    strict: bool,
+    input: &[u8],
+) -> Result<Output, JobFault> {
+    if form == Answering::Json || asked.faulty != Faulty::Listed {
+        audited(rt, alloc, workers, asked, form, strict, input)
+    } else if strict || asked.runs != AskedRuns::Any {
+        audit_asked_in_place(alloc, asked.runs, strict, input)
+    } else {
+        audit_in_place(alloc, input)
+    }
+}
+
+/// Returns what the calls of `draw` give that start no thread, or those over bytes for what no such call has.
+fn drawn_in_place<R: Threads + Wait + Sync>(
+    rt: &R,
+    alloc: Global,
+    workers: WorkerCount,
+    asked: &Asked,
+    input: &[u8],
+) -> Result<Output, JobFault> {
+    if asked.faulty != Faulty::Listed {
+        drawn(rt, alloc, workers, asked, input)
+    } else if asked.runs != AskedRuns::Any {
+        draw_asked_in_place(alloc, asked.runs, input)
+    } else {
+        draw_in_place(alloc, input)
+    }
+}
+
+/// Returns what the calls of `accuse` give that start no thread.
+fn accused_in_place(
+    alloc: Global,
+    general: GeneralNo,
+    asked: AskedRuns,
+    input: &[u8],
+) -> Result<Output, JobFault> {
+    match asked {
+        AskedRuns::Any => accuse_in_place(alloc, general, input),
+        _ => accuse_asked_in_place(alloc, asked, general, input),
     }
 }
 
@@ -76,9 +237,14 @@ fn in_place<R: Threads + Wait + Sync>(
     requires { IsInRange job }
 {
     match job {
-        Job::Audit { workers: _ } => audit_in_place(alloc, input),
-        Job::Draw { workers: _ } => draw_in_place(alloc, input),
-        Job::Accuse { general } => accuse_in_place(alloc, general, input),
+        Job::Audit {
+            workers,
+            asked,
+            strict,
+            form,
+        } => audited_in_place(rt, alloc, workers, &asked, form, strict, input),
+        Job::Draw { workers, asked } => drawn_in_place(rt, alloc, workers, &asked, input),
+        Job::Accuse { general, asked } => accused_in_place(alloc, general, asked, input),
         _ => by_bytes(rt, alloc, job, input),
     }
 }

@@ -1,201 +1,219 @@
 //! Evidence, and what answers it.
-use crate::judging_reports::{push_line, statement_said, text_said};
-use crate::names::unreadable;
+ghost use Rattle.gen_convict.specs.Refuting.{IsOwnLogFor};
+ghost use Rattle.gen_convict.specs.Told.{told};
+
+use crate::judging_reports::tell_text;
+use crate::names::Refused;
 use crate::rows::Row;
-use crate::texts::{fault_text, hex_text, text};
-use gen_chain::Statement;
+use crate::signing_keys::written_signature;
+use crate::texts::Answer;
 use gen_convict::{
     Claim, Evidence, Refutation, RunText, check_evidence, is_own_log, read_evidence, refute,
     write_evidence,
 };
-use gen_log::read_log;
+use gen_log::{Log, read_log};
 use gen_net::Header;
-use gen_types::{OrderNo, Path, ReadError};
-use sha2::{Digest, Sha256};
+use gen_types::{OrderNo, Path};
 use std::alloc::Global;
-use std::io;
 
-/// Returns what evidence says and whether it holds, or the fault of bytes that are none.
-pub(crate) fn evidence(alloc: Global, bytes: &[u8]) -> io::Result<String> {
+/// Tells what evidence says and whether it holds, or the fault of bytes that are none.
+pub(crate) fn tell_evidence(
+    alloc: Global,
+    row: Row<'_>,
+    answer: &mut Answer,
+) -> Result<(), Refused> {
+    let bytes = row.rest()?;
     match read_evidence(alloc, bytes) {
         Ok((header, evidence)) => {
-            let again = write_evidence(alloc, &header, &evidence)?;
-            if again.as_slice() != bytes {
-                return text(alloc, "written otherwise");
+            if write_evidence(alloc, &header, &evidence)?.as_slice() != bytes {
+                answer.word("written otherwise");
+                return Ok(());
             }
-            judged(alloc, &header, &evidence)
+            tell_read(alloc, &header, &evidence, answer)
         }
-        Err(ReadError::Fault(fault)) => fault_text(alloc, fault),
-        Err(ReadError::Memory) => Err(unreadable()),
+        Err(fault) => Ok(answer.show(fault)),
     }
 }
 
-/// Returns what evidence says, and whether it holds.
-fn judged(alloc: Global, header: &Header, evidence: &Evidence) -> io::Result<String> {
-    let slot = header.slot();
-    let mut all = format!(in alloc; "slot {slot}")?;
-    push_accusation(alloc, &mut all, evidence)?;
+/// Tells what evidence says, and whether it holds.
+fn tell_read(
+    alloc: Global,
+    header: &Header,
+    evidence: &Evidence,
+    answer: &mut Answer,
+) -> Result<(), Refused> {
     let is_held = holds(alloc, header, evidence)?;
-    push_line(
-        &mut all,
-        text(alloc, if is_held { "holds" } else { "fails" })?,
-    )?;
-    Ok(all)
+    answer.field("slot", header.slot());
+    tell_accusation(evidence, answer);
+    answer.end_line();
+    answer.word(if is_held { "holds" } else { "fails" });
+    Ok(())
 }
 
 /// Returns whether evidence holds.
-fn holds(alloc: Global, header: &Header, evidence: &Evidence) -> io::Result<bool> {
+fn holds(alloc: Global, header: &Header, evidence: &Evidence) -> Result<bool, Refused> {
     if evidence.accused.get() >= header.net().generals() {
-        return Err(unreadable());
+        return Err(Refused);
     }
     Ok(check_evidence(alloc, header, evidence)?)
 }
 
-/// Appends who is accused, and the two parts of the claim.
-pub(crate) fn push_accusation(
+/// Tells in lines of its own who is accused, and the two parts of the claim.
+pub(crate) fn tell_accusation(evidence: &Evidence, answer: &mut Answer) {
+    answer.end_line();
+    answer.field("accused", evidence.accused);
+    answer.field("kind", evidence.claim.kind());
+    answer.end_line();
+    tell_first(&evidence.claim, answer);
+    answer.end_line();
+    tell_second(&evidence.claim, answer);
+}
+
+/// Tells the first part of a claim: a text, or how many bytes its log has.
+fn tell_first(claim: &Claim, answer: &mut Answer) {
+    match claim {
+        Claim::Texts { first, second: _ } => tell_text(&first.text, answer),
+        Claim::Orders { first, .. } => tell_command(*first, answer),
+        Claim::Missing { log, .. } => answer.field("log", log.len()),
+        Claim::Departing { log, entry: _ } => answer.field("log", log.len()),
+        Claim::Across { first, second: _ } => tell_text(&first.text.text, answer),
+    }
+}
+
+/// Tells the second part of a claim: a text, or at which entry its log departs.
+fn tell_second(claim: &Claim, answer: &mut Answer) {
+    match claim {
+        Claim::Texts { first: _, second } => tell_text(&second.text, answer),
+        Claim::Orders { second, .. } => tell_command(*second, answer),
+        Claim::Missing { statement, .. } => answer.statement(statement.order, &statement.path),
+        Claim::Departing { log: _, entry } => answer.field("entry", *entry),
+        Claim::Across { first: _, second } => tell_other(second, answer),
+    }
+}
+
+/// Tells an order of the commander's.
+fn tell_command(order: OrderNo, answer: &mut Answer) {
+    answer.statement(order, &Path::commander());
+}
+
+/// Tells a text with the run id of its run.
+fn tell_other(text: &RunText, answer: &mut Answer) {
+    tell_text(&text.text.text, answer);
+    answer.word("in run");
+    answer.hex(text.header.run_id());
+}
+
+/// Tells what a log answers to evidence, where the log is the accused's own of the run of the evidence or of the other one.
+pub(crate) fn tell_refuted(
     alloc: Global,
-    all: &mut String,
-    evidence: &Evidence,
-) -> io::Result<()> {
-    let (accused, kind) = (evidence.accused, evidence.claim.kind());
-    push_line(all, format!(in alloc; "accused {accused} kind {kind}")?)?;
-    push_line(all, first_part(alloc, &evidence.claim)?)?;
-    push_line(all, second_part(alloc, &evidence.claim)?)
-}
-
-/// Returns the first part of a claim: a text, or how many bytes its log has.
-fn first_part(alloc: Global, claim: &Claim) -> io::Result<String> {
-    match claim {
-        Claim::Texts { first, second: _ } => text_said(alloc, &first.text),
-        Claim::Orders { first, .. } => command_said(alloc, *first),
-        Claim::Missing { log, .. } => length(alloc, log),
-        Claim::Departing { log, entry: _ } => length(alloc, log),
-        Claim::Across { first, second: _ } => text_said(alloc, &first.text.text),
+    mut row: Row<'_>,
+    answer: &mut Answer,
+) -> Result<(), Refused> {
+    match read_evidence(alloc, row.piece()?) {
+        Ok((header, evidence)) => tell_refuting(alloc, &header, &evidence, row.rest()?, answer),
+        Err(_) => Err(Refused),
     }
 }
 
-/// Returns the second part of a claim: a text, or at which entry its log departs.
-fn second_part(alloc: Global, claim: &Claim) -> io::Result<String> {
-    match claim {
-        Claim::Texts { first: _, second } => text_said(alloc, &second.text),
-        Claim::Orders { second, .. } => command_said(alloc, *second),
-        Claim::Missing { statement, .. } => statement_said(alloc, statement),
-        Claim::Departing { log: _, entry } => Ok(format!(in alloc; "entry {entry}")?),
-        Claim::Across { first: _, second } => said_in(alloc, second),
-    }
-}
-
-/// Returns an order of the commander's.
-fn command_said(alloc: Global, order: OrderNo) -> io::Result<String> {
-    let path = Path::commander();
-    statement_said(alloc, &Statement { order, path })
-}
-
-/// Returns how many bytes a log has.
-fn length(alloc: Global, log: &[u8]) -> io::Result<String> {
-    let len = log.len();
-    Ok(format!(in alloc; "log {len}")?)
-}
-
-/// Returns a text with the run id of its run.
-fn said_in(alloc: Global, text: &RunText) -> io::Result<String> {
-    let said = text_said(alloc, &text.text.text)?;
-    let run = hex_text(alloc, text.header.run_id())?;
-    Ok(format!(in alloc; "{said} in run {run}")?)
-}
-
-/// Returns what a log answers to evidence, where the log is the accused's own of the run of the evidence or of the other one.
-pub(crate) fn refuted(alloc: Global, mut row: Row<'_>) -> io::Result<String> {
-    let bytes = row.piece(alloc)?;
-    let log = row.bytes(alloc)?;
-    match read_evidence(alloc, &bytes) {
-        Ok((header, evidence)) => answer_by(alloc, &header, &evidence, &log),
-        Err(_) => Err(unreadable()),
-    }
-}
-
-/// Returns what the bytes of a log answer to evidence, whichever of the two runs the log is of.
-fn answer_by(
+/// Tells what the bytes of a log answer to evidence, whichever of the two runs the log is of.
+fn tell_refuting(
     alloc: Global,
     header: &Header,
     evidence: &Evidence,
     bytes: &[u8],
-) -> io::Result<String> {
+    answer: &mut Answer,
+) -> Result<(), Refused> {
     if !holds(alloc, header, evidence)? {
-        return text(alloc, "fails");
+        answer.word("fails");
+        return Ok(());
     }
-    if let Some(answer) = by_first(alloc, header, evidence, bytes)? {
-        return Ok(answer);
+    if tell_by_first(alloc, header, evidence, bytes, answer)? {
+        return Ok(());
     }
-    match by_second(alloc, header, evidence, bytes)? {
-        Some(answer) => Ok(answer),
-        None => text(alloc, "no own log"),
+    if !tell_by_second(alloc, header, evidence, bytes, answer)? {
+        answer.word("no own log");
     }
+    Ok(())
 }
 
-/// Returns what a log of the run of the evidence answers, where it is the accused's own.
-fn by_first(
+/// Tells what a log of the run of the evidence answers, and returns whether it is the accused's own.
+fn tell_by_first(
     alloc: Global,
     header: &Header,
     evidence: &Evidence,
     bytes: &[u8],
-) -> io::Result<Option<String>> {
+    answer: &mut Answer,
+) -> Result<bool, Refused> {
     let Ok(own) = read_log(alloc, header, bytes) else {
-        return Ok(None);
+        return Ok(false);
     };
     if evidence.accused.get() >= header.net().generals() {
-        return Err(unreadable());
-    }
-    if !check_evidence(alloc, header, evidence)? {
-        return Ok(None);
+        return Err(Refused);
     }
     if !is_own_log(header, evidence.accused, &own) {
-        return Ok(None);
+        return Ok(false);
     }
-    let answer = refute(alloc, header, evidence, &own)?;
-    Ok(Some(answer_said(alloc, &answer)?))
+    tell_own(alloc, header, evidence, &own, answer)?;
+    Ok(true)
 }
 
-/// Returns what a log of the other run of evidence by two answers, where it is the accused's own.
-fn by_second(
+/// Tells what a log of the other run of evidence by two answers, and returns whether it is the accused's own.
+fn tell_by_second(
     alloc: Global,
     header: &Header,
     evidence: &Evidence,
     bytes: &[u8],
-) -> io::Result<Option<String>> {
+    answer: &mut Answer,
+) -> Result<bool, Refused> {
     let Claim::Across { second, .. } = &evidence.claim else {
-        return Ok(None);
+        return Ok(false);
     };
     let Ok(own) = read_log(alloc, &second.header, bytes) else {
-        return Ok(None);
+        return Ok(false);
     };
     if evidence.accused.get() >= second.header.net().generals() {
-        return Err(unreadable());
+        return Err(Refused);
     }
     if !is_own_log(&second.header, evidence.accused, &own) {
-        return Ok(None);
+        return Ok(false);
     }
-    if evidence.accused.get() >= header.net().generals() {
-        return Err(unreadable());
-    }
-    if !check_evidence(alloc, header, evidence)? {
-        return Ok(None);
-    }
-    let answer = refute(alloc, header, evidence, &own)?;
-    Ok(Some(answer_said(alloc, &answer)?))
+    tell_own(alloc, header, evidence, &own, answer)?;
+    Ok(true)
 }
 
-/// Returns the text that is forged, with the SHA-256 of its signature, or that two strings collide.
-fn answer_said(alloc: Global, answer: &Refutation) -> io::Result<String> {
-    match answer {
-        Refutation::Forged(forged) => {
-            let said = text_said(alloc, &forged.text)?;
-            let mut bytes = Vec::new(alloc);
-            forged.signature.append_to(&mut bytes)?;
-            let digest: [u8; 32] = Sha256::digest(bytes.as_slice());
-            let signature = hex::encode(alloc, digest)?;
-            Ok(format!(in alloc; "forged {said} signature {signature}")?)
-        }
-        Refutation::Collision(_, _) => text(alloc, "collision"),
+/// Tells what the accused's own log answers to evidence that holds.
+fn tell_own(
+    alloc: Global,
+    header: &Header,
+    evidence: &Evidence,
+    own: &Log,
+    answer: &mut Answer,
+) -> Result<(), Refused>
+    requires { IsOwnLogFor header.now evidence.now.accused (told evidence.now.claim) own.now }
+{
+    if evidence.accused.get() >= header.net().generals() {
+        return Err(Refused);
     }
+    if !check_evidence(alloc, header, evidence)? {
+        return Err(Refused);
+    }
+    tell_refutation(alloc, &refute(alloc, header, evidence, own)?, answer)
+}
+
+/// Tells the text that is forged, with the SHA-256 of its signature, or that two strings collide.
+fn tell_refutation(
+    alloc: Global,
+    refutation: &Refutation,
+    answer: &mut Answer,
+) -> Result<(), Refused> {
+    match refutation {
+        Refutation::Forged(forged) => {
+            answer.word("forged");
+            tell_text(&forged.text, answer);
+            answer.word("signature");
+            answer.hash(written_signature(alloc, &forged.signature)?.as_slice());
+        }
+        Refutation::Collision(_, _) => answer.word("collision"),
+    }
+    Ok(())
 }

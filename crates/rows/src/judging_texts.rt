@@ -1,75 +1,82 @@
 //! Texts of scenarios and of campaigns.
-use crate::judging_reports::push_line;
-use crate::names::unreadable;
-use crate::texts::{hex_text, or_none};
-use gen_campaign_text::read_campaign_text;
+use crate::names::Refused;
+use crate::rows::Row;
+use crate::texts::Answer;
+use gen_campaign::read_campaign_text;
 use gen_net::Version;
 use gen_report::{ScenarioFault, ScenarioText, read_scenario};
 use gen_script::Script;
 use gen_types::ReadError;
 use std::alloc::Global;
-use std::io;
 
-/// Returns what a scenario text says, or its first fault.
-pub(crate) fn scenario(alloc: Global, bytes: &[u8]) -> io::Result<String> {
-    match read_scenario(alloc, bytes) {
-        Ok(told) => told_text(alloc, &told),
-        Err(ReadError::Fault(fault)) => line_text(alloc, &fault),
-        Err(ReadError::Memory) => Err(unreadable()),
+/// Tells what a scenario text says, or its first fault.
+pub(crate) fn tell_scenario(
+    alloc: Global,
+    row: Row<'_>,
+    answer: &mut Answer,
+) -> Result<(), Refused> {
+    match read_scenario(alloc, row.rest()?) {
+        Ok(told) => tell_read(&told, answer),
+        Err(ReadError::Fault(fault)) => tell_fault(fault, answer),
+        Err(ReadError::Memory) => return Err(Refused),
     }
+    Ok(())
 }
 
-/// Returns what the texts of a campaign say, or the first fault.
-pub(crate) fn series(alloc: Global, bytes: &[u8]) -> io::Result<String> {
-    let plans = match read_campaign_text(alloc, bytes) {
-        Ok(plans) => plans,
-        Err(ReadError::Fault(fault)) => return line_text(alloc, &fault),
-        Err(ReadError::Memory) => return Err(unreadable()),
-    };
-    let mut all = String::new(alloc);
-    for plan in plans {
-        push_line(&mut all, told_text(alloc, &ScenarioText::Signed(plan))?)?;
-    }
-    Ok(all)
-}
-
-/// Returns a fault with its line.
-fn line_text(alloc: Global, fault: &ScenarioFault) -> io::Result<String> {
-    let ScenarioFault { kind, line } = *fault;
-    Ok(format!(in alloc; "{kind} line {line}")?)
-}
-
-/// Returns the network and the order of a text; and where it has a seed that, the version with the slot, and its scripts.
-fn told_text(alloc: Global, told: &ScenarioText) -> io::Result<String> {
-    let (net, order) = (told.net(), told.order());
-    let (generals, edges) = (net.generals(), net.edges().len());
-    let (rounds, orders) = (net.rounds(), net.orders());
-    let said = format!(in alloc;
-        "generals {generals} edges {edges} rounds {rounds} orders {orders} order {order}"
-    )?;
-    match told {
-        ScenarioText::Plain(_) => Ok(said),
-        ScenarioText::Signed(plan) => {
-            let seed = hex_text(alloc, plan.master())?;
-            let (version, slot) = match plan.version() {
-                Version::One => (1u8, 0u8),
-                Version::Two { slot } => (2, slot),
-            };
-            let scripts = scripts_text(alloc, plan.scripts())?;
-            Ok(format!(in alloc;
-                "{said} seed {seed} version {version} slot {slot} scripts {scripts}"
-            )?)
+/// Tells what the texts of a campaign say, or the first fault.
+pub(crate) fn tell_series(alloc: Global, row: Row<'_>, answer: &mut Answer) -> Result<(), Refused> {
+    match read_campaign_text(alloc, row.rest()?) {
+        Ok(plans) => {
+            for plan in plans {
+                answer.end_line();
+                tell_read(&ScenarioText::Signed(plan), answer);
+            }
         }
+        Err(ReadError::Fault(fault)) => tell_fault(fault, answer),
+        Err(ReadError::Memory) => return Err(Refused),
+    }
+    Ok(())
+}
+
+/// Tells a fault with its line.
+fn tell_fault(fault: ScenarioFault, answer: &mut Answer) {
+    answer.show(fault.kind);
+    answer.field("line", fault.line);
+}
+
+/// Tells the network and the order of a text; and where it has a seed that, the version with the slot, and its scripts.
+fn tell_read(told: &ScenarioText, answer: &mut Answer) {
+    let net = told.net();
+    answer.field("generals", net.generals());
+    answer.field("edges", net.edges().len());
+    answer.field("rounds", net.rounds());
+    answer.field("orders", net.orders());
+    answer.field("order", told.order());
+    if let ScenarioText::Signed(plan) = told {
+        answer.word("seed");
+        answer.hex(plan.master());
+        tell_version(plan.version(), answer);
+        tell_scripts(plan.scripts(), answer);
     }
 }
 
-/// Returns each general with a script, and how many lines it has.
-fn scripts_text(alloc: Global, scripts: &[Script]) -> io::Result<String> {
-    let mut list = String::new(alloc);
+/// Tells a version with the slot.
+fn tell_version(version: Version, answer: &mut Answer) {
+    let (number, slot) = match version {
+        Version::One => (1u8, 0u8),
+        Version::Two { slot } => (2, slot),
+    };
+    answer.field("version", number);
+    answer.field("slot", slot);
+}
+
+/// Tells each general with a script, and how many lines it has.
+fn tell_scripts(scripts: &[Script], answer: &mut Answer) {
+    answer.word("scripts");
     for script in scripts {
-        let (general, lines) = (script.general(), script.lines().len());
-        let comma = if list.is_empty() { "" } else { "," };
-        list = format!(in alloc; "{list}{comma}{general}:{lines}")?;
+        answer.item(script.general());
+        answer.join(":");
+        answer.item(script.lines().len());
     }
-    or_none(alloc, list)
+    answer.end_list();
 }

@@ -16,6 +16,7 @@ mod judging_evidence;
 mod judging_reports;
 mod judging_texts;
 mod names;
+mod preparing;
 mod rows;
 mod signing;
 mod signing_chains;

@@ -1,7 +1,29 @@
 //! Bytes as rows write them, in pieces one behind another, and names for bytes.
-use std::alloc::Global;
+use gen_types::Number;
+use std::alloc::{AllocError, AllocFailed, Global};
 use std::io::{self, ErrorKind};
-use std::ops::Range;
+
+/// A row can't be tried: it isn't written as rows are, or memory is refused.
+#[derive(Clone, Copy)]
+pub(crate) struct Refused;
+
+impl From<AllocError> for Refused {
+    fn from(_: AllocError) -> Refused {
+        Refused
+    }
+}
+
+impl<T: Drop> From<AllocFailed<T>> for Refused {
+    fn from(_: AllocFailed<T>) -> Refused {
+        Refused
+    }
+}
+
+impl From<Refused> for io::Error {
+    fn from(_: Refused) -> io::Error {
+        ErrorKind::InvalidInput.into()
+    }
+}
 
 /// Bytes that have a name.
 #[derive(Drop)]
@@ -16,14 +38,90 @@ pub(crate) struct Names {
     all: Vec<Named>,
 }
 
-/// Returns the error of a row that isn't written as rows are.
-pub(crate) fn unreadable() -> io::Error {
-    ErrorKind::InvalidInput.into()
+/// Bytes that are put together. A refusal of memory is kept.
+#[derive(Drop)]
+pub(crate) struct Bytes {
+    all: Vec<u8>,
+    is_refused: bool,
+}
+
+impl Bytes {
+    /// Returns no bytes.
+    pub(crate) fn new(alloc: Global) -> Bytes {
+        Bytes {
+            all: Vec::new(alloc),
+            is_refused: false,
+        }
+    }
+
+    /// Returns the bytes that are put together.
+    pub(crate) fn as_slice(&self) -> &[u8] {
+        self.all.as_slice()
+    }
+
+    /// Returns whether memory was refused.
+    pub(crate) fn is_refused(&self) -> bool {
+        self.is_refused
+    }
+
+    /// Appends bytes.
+    pub(crate) fn push(&mut self, bytes: &[u8]) {
+        if self.all.extend_from_slice(bytes).is_err() {
+            self.is_refused = true;
+        }
+    }
+
+    /// Appends the bytes that a call returns.
+    pub(crate) fn push_written(&mut self, written: Result<Vec<u8>, AllocError>) {
+        match written {
+            Ok(bytes) => self.push(bytes.as_slice()),
+            Err(_) => self.is_refused = true,
+        }
+    }
+
+    /// Appends the bytes of a text, in which `\n` stands for a line feed.
+    pub(crate) fn push_text(&mut self, text: &str) {
+        let mut is_first = true;
+        for line in text.split("\\n") {
+            if !is_first {
+                self.push(b"\n");
+            }
+            self.push(line.as_bytes());
+            is_first = false;
+        }
+    }
+
+    /// Appends the bytes of hexadecimal digits so many times, and returns whether they are digits.
+    fn push_digits(&mut self, alloc: Global, digits: &str, times: usize) -> bool {
+        let Ok(bytes) = hex::decode(alloc, digits) else {
+            return false;
+        };
+        for _ in 0..times {
+            self.push(bytes.as_slice());
+        }
+        true
+    }
 }
 
 /// Returns a number in decimal digits.
-pub(crate) fn number_of(text: &str) -> io::Result<usize> {
-    text.parse::<usize>().map_err(|_| unreadable())
+pub(crate) fn number_of(digits: &str) -> Option<usize> {
+    match digits.parse::<usize>() {
+        Ok(number) => Some(number),
+        Err(_) => None,
+    }
+}
+
+/// Returns a number below 256 in decimal digits.
+pub(crate) fn byte_of(digits: &str) -> Option<u8> {
+    match digits.parse::<u8>() {
+        Ok(number) => Some(number),
+        Err(_) => None,
+    }
+}
+
+/// Returns the general or the order of a number in decimal digits.
+pub(crate) fn numbered<K>(digits: &str) -> Option<Number<K>> {
+    Number::new(byte_of(digits)?)
 }
 
 impl Names {
@@ -42,81 +140,57 @@ impl Names {
     }
 
     /// Returns the bytes of a name.
-    fn get(&self, name: &str) -> io::Result<&[u8]> {
+    fn get(&self, name: &str) -> Option<&[u8]> {
         for named in self.all.as_slice() {
             if named.name.as_str() == name {
-                return Ok(named.bytes.as_slice());
+                return Some(named.bytes.as_slice());
             }
         }
-        Err(unreadable())
-    }
-
-    /// Appends the bytes of a piece: `$NAME`, `$NAME[FROM..TO]`, `HH*TIMES`, or hexadecimal digits.
-    pub(crate) fn push_piece(
-        &self,
-        alloc: Global,
-        piece: &str,
-        out: &mut Vec<u8>,
-    ) -> io::Result<()> {
-        if let Some(named) = piece.strip_prefix('$') {
-            out.extend_from_slice(self.part_of(named)?)?;
-            return Ok(());
-        }
-        match piece.split_once('*') {
-            Some((byte, times)) => push_times(byte, number_of(times)?, out),
-            None => push_digits(alloc, piece, out),
-        }
+        None
     }
 
     /// Returns the bytes of a name, or the part of them that stands in brackets behind it.
-    fn part_of(&self, named: &str) -> io::Result<&[u8]> {
+    fn part_of(&self, named: &str) -> Option<&[u8]> {
         let Some((name, behind)) = named.split_once('[') else {
             return self.get(named);
         };
-        let bytes = self.get(name)?;
-        let range = range_of(behind, bytes.len())?;
-        bytes.get(range).ok_or_else(unreadable)
+        let (from, to) = behind.strip_suffix(']')?.split_once("..")?;
+        part(self.get(name)?, from, to)
     }
-}
 
-/// Returns the range `FROM..TO]` of so many bytes; without a number it begins or ends where the bytes do.
-fn range_of(text: &str, len: usize) -> io::Result<Range<usize>> {
-    let inner = text.strip_suffix(']').ok_or_else(unreadable)?;
-    let (from, to) = inner.split_once("..").ok_or_else(unreadable)?;
-    let start = if from.is_empty() { 0 } else { number_of(from)? };
-    let end = if to.is_empty() { len } else { number_of(to)? };
-    Ok(start..end)
-}
-
-/// Appends the bytes of hexadecimal digits.
-fn push_digits(alloc: Global, digits: &str, out: &mut Vec<u8>) -> io::Result<()> {
-    match hex::decode(alloc, digits) {
-        Ok(bytes) => Ok(out.extend_from_slice(bytes.as_slice())?),
-        Err(_) => Err(unreadable()),
-    }
-}
-
-/// Appends a byte so many times.
-fn push_times(digits: &str, times: usize, out: &mut Vec<u8>) -> io::Result<()> {
-    let mut byte = [0u8; 1];
-    if hex::decode_to_slice(digits, &mut byte).is_err() {
-        return Err(unreadable());
-    }
-    for _ in 0..times {
-        out.push(byte[0])?;
-    }
-    Ok(())
-}
-
-/// Appends the bytes of a text, in which `\n` stands for a line feed.
-pub(crate) fn push_text(text: &str, out: &mut Vec<u8>) -> io::Result<()> {
-    let mut is_first = true;
-    for line in text.split("\\n") {
-        if !is_first {
-            out.push(b'\n')?;
+    /// Appends the bytes of a piece, `$NAME`, `$NAME[FROM..TO]`, `HH*TIMES`, or hexadecimal digits, and returns whether it is one.
+    pub(crate) fn push_piece(&self, alloc: Global, piece: &str, out: &mut Bytes) -> bool {
+        if let Some(named) = piece.strip_prefix('$') {
+            return match self.part_of(named) {
+                Some(bytes) => {
+                    out.push(bytes);
+                    true
+                }
+                None => false,
+            };
         }
-        out.extend_from_slice(line.as_bytes())?;
-        is_first = false;
+        let (digits, times) = match piece.split_once('*') {
+            Some((digits, times)) => (digits, number_of(times)),
+            None => (piece, Some(1)),
+        };
+        match times {
+            Some(times) => out.push_digits(alloc, digits, times),
+            None => false,
+        }
     }
-    Ok(())
+}
+
+/// Returns the part of bytes from one number on and before another; without a number it begins or ends where the bytes do.
+fn part<'a>(bytes: &'a [u8], from: &str, to: &str) -> Option<&'a [u8]> {
+    let start = number_or(from, 0)?;
+    let end = number_or(to, bytes.len())?;
+    bytes.get(start..end)
+}
+
+/// Returns a number in decimal digits, or another one for no digits.
+fn number_or(digits: &str, other: usize) -> Option<usize> {
+    if digits.is_empty() {
+        return Some(other);
+    }
+    number_of(digits)
 }

@@ -1,32 +1,51 @@
 //! Calls of keys, chains and logs.
+use crate::names::Refused;
 use crate::rows::Row;
+use crate::texts::Answer;
 use crate::{signing_chains, signing_keys, signing_logs};
+use gen_net::Header;
 use std::alloc::Global;
-use std::io;
 
-/// Returns the answer to a call of this module.
-pub(crate) fn answer(alloc: Global, call: &str, row: Row<'_>) -> io::Result<Option<String>> {
-    let found = match call {
-        "seed" => signing_keys::seed(alloc, row),
-        "root" => signing_keys::root(alloc, row),
-        "leaf_value" => signing_keys::leaf_value(alloc, row),
-        "signature" => signing_keys::signature(alloc, row),
-        "verify" => signing_keys::verify(alloc, row),
-        "leaves" => signing_keys::leaves(alloc, row),
-        "statement" => signing_chains::statement(alloc, row),
-        "head" => signing_chains::head(alloc, row),
-        "chain" => signing_chains::chain(alloc, row),
-        "chain_verifies" => signing_chains::chain_verifies(alloc, row),
-        "signed" => signing_chains::signed(alloc, row),
-        "chain_of" => signing_chains::chain_of(alloc, row),
-        "log" => signing_logs::log(alloc, row),
-        "head_verifies" => signing_logs::head_verifies(alloc, row),
-        "links" => signing_logs::links(alloc, row),
-        "lengths" => signing_logs::lengths(alloc, row),
-        "has_sign" => signing_logs::has_sign(alloc, row),
-        "cuts_of_chain" => signing_logs::cuts_of_chain(alloc, row),
-        "cuts_of_log" => signing_logs::cuts_of_log(alloc, row),
-        _ => return Ok(None),
-    };
-    Ok(Some(found?))
+/// Answers a call of this module, and returns whether it is one.
+pub(crate) fn tell(
+    alloc: Global,
+    call: &str,
+    row: Row<'_>,
+    answer: &mut Answer,
+) -> Result<bool, Refused> {
+    match call {
+        "seed" => signing_keys::tell_seed(row, answer)?,
+        "root" => signing_keys::tell_root(alloc, row, answer)?,
+        "leaf_value" => signing_keys::tell_leaf_value(row, answer)?,
+        "signature" => signing_keys::tell_signature(alloc, row, answer)?,
+        "verify" => signing_keys::tell_verified(alloc, row, answer)?,
+        "leaves" => signing_keys::tell_leaves(alloc, row, answer)?,
+        "chain" => signing_chains::tell_chain(alloc, row, answer)?,
+        "chain_of" => signing_chains::tell_made(alloc, row, answer)?,
+        _ => return Ok(false),
+    }
+    Ok(true)
+}
+
+/// Answers a call of this module on a header, and returns whether it is one.
+pub(crate) fn tell_under(
+    alloc: Global,
+    call: &str,
+    header: &Header,
+    row: Row<'_>,
+    answer: &mut Answer,
+) -> Result<bool, Refused> {
+    match call {
+        "statement" => signing_chains::tell_statement(alloc, header, row, answer)?,
+        "head" => signing_chains::tell_head(alloc, header, row, answer)?,
+        "chain_verifies" => signing_chains::tell_verified(alloc, header, row, answer)?,
+        "signed" => signing_chains::tell_signed(alloc, header, row, answer)?,
+        "log" => signing_logs::tell_log(alloc, header, row, answer)?,
+        "head_verifies" => signing_logs::tell_head(alloc, header, row, answer)?,
+        "links" => signing_logs::tell_links(alloc, header, row, answer)?,
+        "lengths" => signing_logs::tell_lengths(alloc, header, row, answer)?,
+        "has_sign" => signing_logs::tell_sign(alloc, header, row, answer)?,
+        _ => return Ok(false),
+    }
+    Ok(true)
 }

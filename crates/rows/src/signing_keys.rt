@@ -1,127 +1,144 @@
 //! Calls of keys and signatures.
-use crate::names::unreadable;
+use crate::names::Refused;
 use crate::rows::Row;
-use crate::texts::{digest_text, hex_text, or_none, text, with_number, yes_text};
+use crate::texts::Answer;
 use gen_ots::{SigRoom, leaf_values};
 use gen_tree::sizes::signature_bytes;
 use gen_tree::{KeyRing, Signature, general_seed};
 use gen_types::TreeHeight;
-use std::alloc::Global;
-use std::io;
-
-/// Returns the 32 bytes of the next piece.
-pub(crate) fn hash_of(alloc: Global, row: &mut Row<'_>) -> io::Result<[u8; 32]> {
-    let bytes = row.piece(alloc)?;
-    bytes
-        .as_slice()
-        .as_array::<32>()
-        .copied()
-        .ok_or_else(unreadable)
-}
+use sha_lanes::LANES;
+use std::alloc::{AllocError, Global};
 
 /// Returns the height that is the next word: 4 or 6.
-fn height_of(row: &mut Row<'_>) -> io::Result<TreeHeight> {
-    match row.number()? {
+fn height_of(row: &mut Row<'_>) -> Result<TreeHeight, Refused> {
+    match row.byte()? {
         4 => Ok(TreeHeight::Four),
         6 => Ok(TreeHeight::Six),
-        _ => Err(unreadable()),
+        _ => Err(Refused),
     }
 }
 
 /// Returns the signature that is the rest of the row, of the version that its length says.
-pub(crate) fn signature_of(alloc: Global, row: &mut Row<'_>) -> io::Result<Signature> {
-    let bytes = row.bytes(alloc)?;
-    for height in [TreeHeight::Four, TreeHeight::Six] {
-        if bytes.len() == signature_bytes(height) {
-            let room = SigRoom::new(alloc, height)?;
-            return Ok(Signature::read(room, bytes.as_slice()));
-        }
+pub(crate) fn signature_of(alloc: Global, row: Row<'_>) -> Result<Signature, Refused> {
+    let bytes = row.rest()?;
+    let height = if bytes.len() == signature_bytes(TreeHeight::Four) {
+        TreeHeight::Four
+    } else {
+        TreeHeight::Six
+    };
+    if bytes.len() != signature_bytes(height) {
+        return Err(Refused);
     }
-    Err(unreadable())
+    Ok(Signature::read(SigRoom::new(alloc, height)?, bytes))
 }
 
-/// Returns a general's seed under a master seed.
-pub(crate) fn seed(alloc: Global, mut row: Row<'_>) -> io::Result<String> {
-    let master = hash_of(alloc, &mut row)?;
-    let seed = general_seed(&master, row.general()?);
-    hex_text(alloc, &seed)
+/// Tells a general's seed under a master seed.
+pub(crate) fn tell_seed(mut row: Row<'_>, answer: &mut Answer) -> Result<(), Refused> {
+    let master = row.hash()?;
+    answer.hex(&general_seed(&master, row.general()?));
+    Ok(())
 }
 
-/// Returns the root of a seed's ring, of which no leaf is taken.
-pub(crate) fn root(alloc: Global, mut row: Row<'_>) -> io::Result<String> {
-    let seed = hash_of(alloc, &mut row)?;
+/// Tells the root of a seed's ring, of which no leaf is taken.
+pub(crate) fn tell_root(
+    alloc: Global,
+    mut row: Row<'_>,
+    answer: &mut Answer,
+) -> Result<(), Refused> {
+    let seed = row.hash()?;
     let height = height_of(&mut row)?;
     let ring = KeyRing::from_seed(alloc, &seed, height)?;
     let (root, found) = (ring.root(), ring.height());
     let leaves = ring.close();
-    if found != height || !leaves.is_empty() {
-        return text(alloc, "another ring");
+    if found == height && leaves.is_empty() {
+        answer.hex(&root);
+    } else {
+        answer.word("another ring");
     }
-    hex_text(alloc, &root)
+    Ok(())
 }
 
-/// Returns the value of a leaf of a seed's tree, which is hashed beside three others.
-pub(crate) fn leaf_value(alloc: Global, mut row: Row<'_>) -> io::Result<String> {
-    let seed = hash_of(alloc, &mut row)?;
+/// Tells the value of a leaf of a seed's tree, which is hashed beside others of its tree.
+pub(crate) fn tell_leaf_value(mut row: Row<'_>, answer: &mut Answer) -> Result<(), Refused> {
+    let seed = row.hash()?;
     let height = height_of(&mut row)?;
     let leaf = row.byte()?;
-    let first = leaf & 0xfc;
-    let Some(end) = first.checked_add(4) else {
-        return Err(unreadable());
-    };
-    if end > height.leaves() {
-        return Err(unreadable());
+    let lane = leaf % LANES as u8;
+    let first = leaf - lane;
+    if first.checked_add(LANES as u8).ok_or(Refused)? > height.leaves() {
+        return Err(Refused);
     }
     let values = leaf_values(&seed, height, first);
-    let value = values.get(usize::from(leaf & 3)).ok_or_else(unreadable)?;
-    hex_text(alloc, value)
+    answer.hex(values.get(usize::from(lane)).ok_or(Refused)?);
+    Ok(())
 }
 
-/// Returns the length and the SHA-256 of a signature by a leaf, or `no leaf`.
-pub(crate) fn signature(alloc: Global, mut row: Row<'_>) -> io::Result<String> {
-    let seed = hash_of(alloc, &mut row)?;
+/// Tells the length and the SHA-256 of a signature by a leaf, or `no leaf`.
+pub(crate) fn tell_signature(
+    alloc: Global,
+    mut row: Row<'_>,
+    answer: &mut Answer,
+) -> Result<(), Refused> {
+    let seed = row.hash()?;
     let height = height_of(&mut row)?;
     let leaf = row.byte()?;
-    let digest = hash_of(alloc, &mut row)?;
+    let digest = row.hash()?;
     let room = SigRoom::new(alloc, height)?;
     let mut ring = KeyRing::from_seed(alloc, &seed, height)?;
     let key = ring.take(leaf);
     let _leaves = ring.close();
     match key {
-        Some(key) => signature_text(alloc, &key.sign(room, &digest)),
-        None => text(alloc, "no leaf"),
+        Some(key) => tell_signed(alloc, &key.sign(room, &digest), answer),
+        None => Ok(answer.word("no leaf")),
     }
 }
 
-/// Returns the length and the SHA-256 of the bytes of a signature.
-fn signature_text(alloc: Global, signature: &Signature) -> io::Result<String> {
+/// Tells the length and the SHA-256 of the bytes of a signature.
+fn tell_signed(alloc: Global, signature: &Signature, answer: &mut Answer) -> Result<(), Refused> {
+    answer.digest(written_signature(alloc, signature)?.as_slice());
+    Ok(())
+}
+
+/// Returns the bytes of a signature.
+pub(crate) fn written_signature(
+    alloc: Global,
+    signature: &Signature,
+) -> Result<Vec<u8>, AllocError> {
     let mut bytes = Vec::new(alloc);
     signature.append_to(&mut bytes)?;
-    digest_text(alloc, bytes.as_slice())
+    Ok(bytes)
 }
 
-/// Returns whether a signature stands under a root and a leaf.
-pub(crate) fn verify(alloc: Global, mut row: Row<'_>) -> io::Result<String> {
-    let root = hash_of(alloc, &mut row)?;
+/// Tells whether a signature stands under a root and a leaf.
+pub(crate) fn tell_verified(
+    alloc: Global,
+    mut row: Row<'_>,
+    answer: &mut Answer,
+) -> Result<(), Refused> {
+    let root = row.hash()?;
     let height = height_of(&mut row)?;
     let leaf = row.byte()?;
-    let digest = hash_of(alloc, &mut row)?;
-    let signature = signature_of(alloc, &mut row)?;
-    let stands = gen_tree::verify(&root, height, leaf, &digest, &signature);
-    yes_text(alloc, stands)
+    let digest = row.hash()?;
+    let signature = signature_of(alloc, row)?;
+    answer.yes(gen_tree::verify(&root, height, leaf, &digest, &signature));
+    Ok(())
 }
 
-/// Returns the numbers of the leaves under which a signature stands.
-pub(crate) fn leaves(alloc: Global, mut row: Row<'_>) -> io::Result<String> {
-    let root = hash_of(alloc, &mut row)?;
+/// Tells the numbers of the leaves under which a signature stands.
+pub(crate) fn tell_leaves(
+    alloc: Global,
+    mut row: Row<'_>,
+    answer: &mut Answer,
+) -> Result<(), Refused> {
+    let root = row.hash()?;
     let height = height_of(&mut row)?;
-    let digest = hash_of(alloc, &mut row)?;
-    let signature = signature_of(alloc, &mut row)?;
-    let mut list = String::new(alloc);
+    let digest = row.hash()?;
+    let signature = signature_of(alloc, row)?;
     for leaf in 0..=u8::MAX {
         if gen_tree::verify(&root, height, leaf, &digest, &signature) {
-            list = with_number(alloc, list, leaf)?;
+            answer.item(leaf);
         }
     }
-    or_none(alloc, list)
+    answer.end_list();
+    Ok(())
 }

@@ -1,77 +1,79 @@
-//! Numbers, sets and edges of rows, and how a network is spelled.
-use crate::names::unreadable;
-use crate::texts::or_none;
+//! Lists of rows, and how a network is spelled.
+use crate::names::{Refused, byte_of, numbered};
+use crate::texts::Answer;
 use gen_net::Net;
-use gen_types::{GeneralNo, Number, NumberSet};
+use gen_types::{GeneralNo, NumberSet, Path};
 use std::alloc::Global;
-use std::io;
 
-/// Returns the number below 256 that digits spell.
-pub(crate) fn byte_in(digits: &str) -> io::Result<u8> {
-    match digits.parse::<u8>() {
-        Ok(number) => Ok(number),
-        Err(_) => Err(unreadable()),
-    }
-}
-
-/// Returns the numbers below 256 with commas between them; `-` stands for none.
-pub(crate) fn numbers_in(alloc: Global, said: &str) -> io::Result<Vec<u8>> {
-    let mut numbers = Vec::new(alloc);
+/// Returns the set of the generals or orders with commas between them; `-` stands for none.
+pub(crate) fn set_in<K>(said: &str) -> Option<NumberSet<K>> {
+    let mut set = NumberSet::new();
     if said == "-" {
-        return Ok(numbers);
+        return Some(set);
     }
     for digits in said.split(',') {
-        numbers.push(byte_in(digits)?)?;
+        set.insert(numbered(digits)?);
     }
-    Ok(numbers)
+    Some(set)
 }
 
-/// Returns the set of the generals or orders of these numbers.
-pub(crate) fn set_in<K>(alloc: Global, said: &str) -> io::Result<NumberSet<K>> {
-    let mut set = NumberSet::new();
-    for number in &numbers_in(alloc, said)? {
-        set.insert(Number::new(*number).ok_or_else(unreadable)?);
+/// Returns the path of the generals with commas between them; `-` stands for none.
+pub(crate) fn path_in(said: &str) -> Option<Path> {
+    let mut path = Path::new();
+    if said == "-" {
+        return Some(path);
     }
-    Ok(set)
+    for digits in said.split(',') {
+        if path.push(numbered(digits)?).is_err() {
+            return None;
+        }
+    }
+    Some(path)
 }
 
-/// Returns the generals of these numbers, in their order.
-pub(crate) fn generals_in(alloc: Global, said: &str) -> io::Result<Vec<GeneralNo>> {
+/// Returns the generals with commas between them, in their order; `-` stands for none.
+pub(crate) fn generals_in(alloc: Global, said: &str) -> Result<Vec<GeneralNo>, Refused> {
     let mut generals = Vec::new(alloc);
-    for number in &numbers_in(alloc, said)? {
-        generals.push(GeneralNo::new(*number).ok_or_else(unreadable)?)?;
+    if said == "-" {
+        return Ok(generals);
+    }
+    for digits in said.split(',') {
+        generals.push(numbered(digits).ok_or(Refused)?)?;
     }
     Ok(generals)
 }
 
 /// Returns the edges `A-B` with commas between them; `-` stands for none.
-pub(crate) fn edges_in(alloc: Global, said: &str) -> io::Result<Vec<(u8, u8)>> {
+pub(crate) fn edges_in(alloc: Global, said: &str) -> Result<Vec<(u8, u8)>, Refused> {
     let mut edges = Vec::new(alloc);
     if said == "-" {
         return Ok(edges);
     }
     for edge in said.split(',') {
-        let (a, b) = edge.split_once('-').ok_or_else(unreadable)?;
-        edges.push((byte_in(a)?, byte_in(b)?))?;
+        edges.push(edge_in(edge).ok_or(Refused)?)?;
     }
     Ok(edges)
 }
 
-/// Returns edges as a network keeps them.
-fn edges_text(alloc: Global, edges: &[(GeneralNo, GeneralNo)]) -> io::Result<String> {
-    let mut list = String::new(alloc);
-    for (a, b) in edges {
-        let between = if list.is_empty() { "" } else { "," };
-        list = format!(in alloc; "{list}{between}{a}-{b}")?;
-    }
-    or_none(alloc, list)
+/// Returns the edge `A-B`.
+fn edge_in(said: &str) -> Option<(u8, u8)> {
+    let (a, b) = said.split_once('-')?;
+    Some((byte_of(a)?, byte_of(b)?))
 }
 
-/// Returns the numbers of a network, its rounds and its edges.
-pub(crate) fn net_text(alloc: Global, net: &Net) -> io::Result<String> {
-    let (n, m, d) = (net.generals(), net.traitors(), net.diameter());
-    let (q, choice, rounds) = (net.orders(), net.choice().number(), net.rounds());
-    let edges = edges_text(alloc, net.edges())?;
-    let numbers = format!(in alloc; "generals {n} traitors {m} diameter {d} orders {q}")?;
-    Ok(format!(in alloc; "{numbers} choice {choice} rounds {rounds} edges {edges}")?)
+/// Tells the numbers of a network, its rounds and its edges, as it keeps them.
+pub(crate) fn tell_net(net: &Net, answer: &mut Answer) {
+    answer.field("generals", net.generals());
+    answer.field("traitors", net.traitors());
+    answer.field("diameter", net.diameter());
+    answer.field("orders", net.orders());
+    answer.field("choice", net.choice().number());
+    answer.field("rounds", net.rounds());
+    answer.word("edges");
+    for (a, b) in net.edges() {
+        answer.item(*a);
+        answer.join("-");
+        answer.item(*b);
+    }
+    answer.end_list();
 }

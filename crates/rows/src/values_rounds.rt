@@ -2,31 +2,37 @@
 ghost use Rattle.std.specs.Prelude.{◌≡◌};
 ghost use Rattle.gen_net.specs.Network.{rounds};
 
-use crate::names::unreadable;
+use crate::names::{Refused, numbered};
 use crate::rows::Row;
-use crate::texts::{or_none, order_set_text, path_text};
-use crate::values_parts::{byte_in, generals_in};
+use crate::texts::Answer;
+use crate::values_parts::path_in;
 use gen_core::{Adds, Commander, Lieutenant, Outgoing, Seen, sends};
 use gen_net::Net;
-use gen_types::{GeneralNo, OrderNo, OrderSet, Path};
+use gen_types::{OrderNo, OrderSet};
 use std::alloc::Global;
-use std::io;
 
-/// Returns what a lieutenant adds and sends in each round for what arrives in it, and what is decided after the last.
-pub(crate) fn play(alloc: Global, mut row: Row<'_>) -> io::Result<String> {
-    let header = row.header(alloc)?;
-    let (net, me) = (header.net(), row.general()?);
+/// Tells what a lieutenant adds and sends in each round for what arrives in it, and what is decided after the last.
+pub(crate) fn play(
+    alloc: Global,
+    net: &Net,
+    mut row: Row<'_>,
+    answer: &mut Answer,
+) -> Result<(), Refused> {
+    let me = row.general()?;
     if me.get() == 0 || me.get() >= net.generals() {
-        return Err(unreadable());
+        return Err(Refused);
     }
     let mut lieutenant = Lieutenant::new(net, me);
-    let mut said = String::new(alloc);
     'rounds: for _ in 0..net.rounds() {
         let Ok(arriving) = row.word() else { break };
         let adds = adds_for(alloc, net, &mut lieutenant, arriving)?;
-        said = with_round(alloc, said, net, me, &adds)?;
+        let out = sends(alloc, net, me, &adds)?;
+        tell_adds(&adds, answer);
+        tell_sends(out.as_slice(), answer);
+        answer.end_line();
     }
-    with_end(alloc, said, net, &lieutenant)
+    tell_end(net, &lieutenant, answer);
+    Ok(())
 }
 
 /// Returns what a lieutenant adds in the next round, in which these chains arrive.
@@ -35,105 +41,97 @@ fn adds_for(
     net: &Net,
     lieutenant: &mut Lieutenant,
     arriving: &str,
-) -> io::Result<Adds>
+) -> Result<Adds, Refused>
     requires { lieutenant.old.rounds ≡ rounds net.now }
     ensures { lieutenant.new.rounds ≡ rounds net.now }
 {
     if lieutenant.gone() >= net.rounds() {
-        return Err(unreadable());
+        return Err(Refused);
     }
     let arrived = arrivals_in(alloc, arriving)?;
     Ok(lieutenant.round(arrived.as_slice()))
 }
 
-/// Returns what is said of the rounds before and of this one.
-fn with_round(
-    alloc: Global,
-    said: String,
-    net: &Net,
-    me: GeneralNo,
-    adds: &Adds,
-) -> io::Result<String> {
-    let out = sends(alloc, net, me, adds)?;
-    let added = adds_text(alloc, adds)?;
-    let sent = sends_text(alloc, out.as_slice())?;
-    Ok(format!(in alloc; "{said}adds {added} sends {sent} / ")?)
-}
-
-/// Returns what is said of the rounds and of the decision, or that there are more rounds.
-fn with_end(alloc: Global, said: String, net: &Net, lieutenant: &Lieutenant) -> io::Result<String>
+/// Tells the decision, or that there are more rounds.
+fn tell_end(net: &Net, lieutenant: &Lieutenant, answer: &mut Answer)
     requires { lieutenant.now.rounds ≡ rounds net.now }
 {
     if lieutenant.gone() != net.rounds() {
-        return Ok(format!(in alloc; "{said}goes on")?);
+        return answer.word("goes on");
     }
     let (orders, order) = lieutenant.decide();
-    let decided = decision_text(alloc, &orders, order)?;
-    Ok(format!(in alloc; "{said}{decided}")?)
+    tell_decision(&orders, order, answer);
 }
 
-/// Returns what the commander sends and decides.
-pub(crate) fn command(alloc: Global, mut row: Row<'_>) -> io::Result<String> {
-    let header = row.header(alloc)?;
-    let order = OrderNo::new(row.byte()?).ok_or_else(unreadable)?;
-    let commander = Commander::new(order);
-    let out = commander.sends(alloc, header.net())?;
-    let sent = sends_text(alloc, out.as_slice())?;
+/// Tells what the commander sends and decides.
+pub(crate) fn command(
+    alloc: Global,
+    net: &Net,
+    mut row: Row<'_>,
+    answer: &mut Answer,
+) -> Result<(), Refused> {
+    let commander = Commander::new(row.order()?);
+    let out = commander.sends(alloc, net)?;
+    tell_sends(out.as_slice(), answer);
+    answer.end_line();
     let (orders, order) = commander.decide();
-    let decided = decision_text(alloc, &orders, order)?;
-    Ok(format!(in alloc; "sends {sent} / {decided}")?)
+    tell_decision(&orders, order, answer);
+    Ok(())
 }
 
-/// Returns a set of orders and what is decided.
-fn decision_text(alloc: Global, orders: &OrderSet, order: OrderNo) -> io::Result<String> {
-    let set = order_set_text(alloc, orders)?;
-    Ok(format!(in alloc; "set {set} decides {order}")?)
+/// Tells a set of orders and what is decided.
+fn tell_decision(orders: &OrderSet, order: OrderNo, answer: &mut Answer) {
+    answer.word("set");
+    answer.set(orders);
+    answer.field("decides", order);
 }
 
 /// Returns the chains with spaces between them.
-fn arrivals_in(alloc: Global, said: &str) -> io::Result<Vec<Seen>> {
+fn arrivals_in(alloc: Global, said: &str) -> Result<Vec<Seen>, Refused> {
     let mut arrived = Vec::new(alloc);
     for chain in said.split_ascii_whitespace() {
-        arrived.push(chain_in(alloc, chain)?)?;
+        arrived.push(chain_in(chain).ok_or(Refused)?)?;
     }
     Ok(arrived)
 }
 
 /// Returns a chain that comes from the last general of its path.
-fn chain_in(alloc: Global, said: &str) -> io::Result<Seen> {
-    let (digits, generals) = said.split_once(':').ok_or_else(unreadable)?;
-    let order = OrderNo::new(byte_in(digits)?).ok_or_else(unreadable)?;
-    let mut path = Path::new();
-    for general in &generals_in(alloc, generals)? {
-        if path.push(*general).is_err() {
-            return Err(unreadable());
-        }
-    }
-    let from = path.last().ok_or_else(unreadable)?;
-    Ok(Seen { from, order, path })
+fn chain_in(said: &str) -> Option<Seen> {
+    let (digits, generals) = said.split_once(':')?;
+    let order = numbered(digits)?;
+    let path = path_in(generals)?;
+    let from = path.last()?;
+    Some(Seen { from, order, path })
 }
 
-/// Returns the chains of the orders that are added, ascending.
-fn adds_text(alloc: Global, adds: &Adds) -> io::Result<String> {
-    let mut list = String::new(alloc);
+/// Tells the chains of the orders that are added, ascending.
+fn tell_adds(adds: &Adds, answer: &mut Answer) {
+    answer.word("adds");
+    let mut is_none = true;
     for number in 0..16u8 {
         if let Some(path) = adds.get(OrderNo::at(number)) {
-            let between = if list.is_empty() { "" } else { " " };
-            let path = path_text(alloc, &path)?;
-            list = format!(in alloc; "{list}{between}{number}:{path}")?;
+            answer.show(number);
+            answer.join(":");
+            answer.generals(path.generals());
+            is_none = false;
         }
     }
-    or_none(alloc, list)
+    if is_none {
+        answer.word("-");
+    }
 }
 
-/// Returns the chains that are sent, each behind its receiver.
-fn sends_text(alloc: Global, out: &[Outgoing]) -> io::Result<String> {
-    let mut list = String::new(alloc);
-    for sent in out {
-        let (to, order) = (sent.to, sent.order);
-        let between = if list.is_empty() { "" } else { " " };
-        let path = path_text(alloc, &sent.path)?;
-        list = format!(in alloc; "{list}{between}{to}:{order}:{path}")?;
+/// Tells the chains that are sent, each behind its receiver.
+fn tell_sends(out: &[Outgoing], answer: &mut Answer) {
+    answer.word("sends");
+    if out.is_empty() {
+        answer.word("-");
     }
-    or_none(alloc, list)
+    for sent in out {
+        answer.show(sent.to);
+        answer.join(":");
+        answer.show(sent.order);
+        answer.join(":");
+        answer.generals(sent.path.generals());
+    }
 }

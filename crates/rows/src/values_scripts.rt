@@ -1,27 +1,32 @@
 //! Calls of script lines.
-use crate::names::unreadable;
+use crate::names::Refused;
 use crate::rows::Row;
-use crate::texts::{fault_text, hex_text, path_text, text};
+use crate::texts::Answer;
+use gen_net::Net;
 use gen_script::{ScriptLine, read_script_bytes};
+use gen_types::GeneralNo;
 use std::alloc::Global;
-use std::io;
 
-/// Returns what a line says in the script of a general of a network, or its fault.
-pub(crate) fn read_as_line(alloc: Global, mut row: Row<'_>) -> io::Result<String> {
-    let header = row.header(alloc)?;
-    let (net, general) = (header.net(), row.general()?);
+/// Tells what a line says in the script of a general of a network, or its fault.
+pub(crate) fn tell_script(
+    alloc: Global,
+    net: &Net,
+    mut row: Row<'_>,
+    answer: &mut Answer,
+) -> Result<(), Refused> {
+    let general = row.general()?;
     if general.get() >= net.generals() {
-        return Err(unreadable());
+        return Err(Refused);
     }
-    let line = row.bytes(alloc)?;
-    match read_script_bytes(alloc, net, general, line.as_slice()) {
-        Ok(said) => line_text(alloc, &said),
-        Err(fault) => fault_text(alloc, fault),
+    match read_script_bytes(alloc, net, general, row.rest()?) {
+        Ok(said) => tell_line(&said, answer),
+        Err(fault) => answer.show(fault),
     }
+    Ok(())
 }
 
-/// Returns a line as it is spelled with hexadecimal digits of lower case.
-fn line_text(alloc: Global, line: &ScriptLine) -> io::Result<String> {
+/// Tells a line as it is spelled with hexadecimal digits of lower case.
+fn tell_line(line: &ScriptLine, answer: &mut Answer) {
     match line {
         ScriptLine::Make {
             round,
@@ -29,8 +34,9 @@ fn line_text(alloc: Global, line: &ScriptLine) -> io::Result<String> {
             order,
             path,
         } => {
-            let path = path_text(alloc, path)?;
-            Ok(format!(in alloc; "make {round} {to} {order} {path}")?)
+            begin("make", *round, *to, answer);
+            answer.show(*order);
+            answer.generals(path.generals());
         }
         ScriptLine::Pass {
             round,
@@ -39,22 +45,35 @@ fn line_text(alloc: Global, line: &ScriptLine) -> io::Result<String> {
             order,
             path,
         } => {
-            let path = path_text(alloc, path)?;
-            Ok(format!(in alloc; "pass {round} {to} {from} {order} {path}")?)
+            begin("pass", *round, *to, answer);
+            answer.show(*from);
+            answer.show(*order);
+            answer.generals(path.generals());
         }
         ScriptLine::Bend {
             round,
             to,
             from,
             order,
-        } => Ok(format!(in alloc; "bend {round} {to} {from} {order}")?),
+        } => {
+            begin("bend", *round, *to, answer);
+            answer.show(*from);
+            answer.show(*order);
+        }
         ScriptLine::Raw { round, to, parcel } => {
-            let digits = hex_text(alloc, parcel.bytes())?;
-            Ok(format!(in alloc; "raw {round} {to} {digits}")?)
+            begin("raw", *round, *to, answer);
+            answer.hex(parcel.bytes());
         }
         ScriptLine::Hide { round, from, order } => {
-            Ok(format!(in alloc; "hide {round} {from} {order}")?)
+            begin("hide", *round, *from, answer);
+            answer.show(*order);
         }
-        ScriptLine::TwoHeads => text(alloc, "twohead"),
+        ScriptLine::TwoHeads => answer.word("twohead"),
     }
+}
+
+/// Tells the first word of a line, its round, and the general behind these.
+fn begin(word: &str, round: u8, general: GeneralNo, answer: &mut Answer) {
+    answer.field(word, round);
+    answer.show(general);
 }

@@ -1,4 +1,4 @@
-//! Acts of the machine, and what it keeps. The answers of the two rows are worked out by hand.
+//! Acts of the machine, and what it keeps. The answers of the two tables are worked out by hand.
 use crate::scenarios::{pair, scenario_of};
 use gen_async::{Machine, Moved};
 use gen_log::SealedLog;
@@ -41,21 +41,37 @@ impl Held {
     }
 }
 
-/// What the attempts of these generals answer, one after the other.
-pub(crate) fn answers_of(
+/// What the attempt of a general answers, None if there is no such general.
+pub(crate) fn answer_of(
     alloc: Global,
     machine: &mut Machine,
-    acts: &[u8],
-) -> Result<Vec<Moved>, AllocError> {
-    let mut answers = Vec::new(alloc);
-    for number in acts {
-        if let Some(me) = GeneralNo::new(*number) {
-            if me.get() < machine.generals() {
-                answers.push(machine.act(alloc, me)?)?;
-            }
-        }
+    number: u8,
+) -> Result<Option<Moved>, AllocError> {
+    match GeneralNo::new(number) {
+        Some(me) if me.get() < machine.generals() => Ok(Some(machine.act(alloc, me)?)),
+        _ => Ok(None),
     }
-    Ok(answers)
+}
+
+/// Lets these generals act, one after the other.
+pub(crate) fn act_all(alloc: Global, machine: &mut Machine, acts: &[u8]) -> Result<(), AllocError> {
+    for number in acts {
+        answer_of(alloc, machine, *number)?;
+    }
+    Ok(())
+}
+
+/// Whether the attempts of generals answer so, one after the other.
+fn answer_so(
+    alloc: Global,
+    machine: &mut Machine,
+    acts: &[(u8, Moved)],
+) -> Result<bool, AllocError> {
+    let mut alike = true;
+    for act in acts {
+        alike = answer_of(alloc, machine, act.0)? == Some(act.1) && alike;
+    }
+    Ok(alike)
 }
 
 /// Lets whoever can act until nobody can, and at most so often, and returns how many acts moved.
@@ -73,24 +89,24 @@ pub(crate) fn moves_to_the_end(
     Ok(most)
 }
 
-/// What two generals answer who act as below.
-const OF_PAIR: [Moved; 7] = [
-    Moved::Put,
-    Moved::Blocked,
-    Moved::Put,
-    Moved::Took,
-    Moved::Done,
-    Moved::Took,
-    Moved::Done,
+/// Which of two generals act one after the other, and what they answer.
+const OF_PAIR: [(u8, Moved); 7] = [
+    (1, Moved::Put),
+    (1, Moved::Blocked),
+    (0, Moved::Put),
+    (1, Moved::Took),
+    (1, Moved::Done),
+    (0, Moved::Took),
+    (0, Moved::Done),
 ];
 
 #[test]
 fn two_generals(rt: HostRuntime) -> Result<(), Fail> {
     let alloc = rt.alloc();
-    let scenario = pair(alloc)?;
-    let mut held = Held::new(alloc, &scenario, 1)?;
-    let answers = answers_of(alloc, &mut held.machine, &[1, 1, 0, 1, 1, 0, 0])?;
-    assert!(rt; answers.as_slice() == OF_PAIR.as_slice() && held.machine.mover().is_none());
+    let stage = pair(alloc)?;
+    let scenario = &stage.scenario;
+    let mut held = Held::new(alloc, scenario, 1)?;
+    assert!(rt; answer_so(alloc, &mut held.machine, &OF_PAIR)? && held.machine.mover().is_none());
     assert!(rt; held.into_logs(alloc)?.len() == 2);
     Ok(())
 }
@@ -101,32 +117,39 @@ const SPLIT: &[u8] = b"\
     seed 0000000000000000000000000000000000000000000000000000000000000000\nscript 0\n\
     make 1 1 1 0\nmake 1 2 0 0\nend\n";
 
-/// What three generals answer who act as below, but for the last answer.
-const OF_THREE: [Moved; 8] = [
-    Moved::Put,
-    Moved::Put,
-    Moved::Put,
-    Moved::Put,
-    Moved::Put,
-    Moved::Put,
-    Moved::Took,
-    Moved::Took,
+/// Which of three generals act one after the other, and what they answer.
+const OF_THREE: [(u8, Moved); 8] = [
+    (0, Moved::Put),
+    (0, Moved::Put),
+    (2, Moved::Put),
+    (2, Moved::Put),
+    (1, Moved::Put),
+    (1, Moved::Put),
+    (1, Moved::Took),
+    (1, Moved::Took),
 ];
+
+/// Whether the three answer so at this capacity, general 1 answers one more attempt so, and 24 acts more end
+/// the run.
+fn goes_so(
+    alloc: Global,
+    scenario: &Scenario,
+    capacity: usize,
+    last: Moved,
+) -> Result<bool, AllocError> {
+    let mut held = Held::new(alloc, scenario, capacity)?;
+    let alike = answer_so(alloc, &mut held.machine, &OF_THREE)?;
+    let found = answer_of(alloc, &mut held.machine, 1)?;
+    moves_to_the_end(alloc, &mut held.machine, 24)?;
+    Ok(alike && found == Some(last) && held.machine.mover().is_none())
+}
 
 #[test]
 fn three_generals(rt: HostRuntime) -> Result<(), Fail> {
     let alloc = rt.alloc();
-    let scenario = scenario_of(alloc, SPLIT)?;
-    for (capacity, last) in [(1, Moved::Blocked), (2, Moved::Put)] {
-        let mut held = Held::new(alloc, &scenario, capacity)?;
-        let answers = answers_of(alloc, &mut held.machine, &[0, 0, 2, 2, 1, 1, 1, 1, 1])?;
-        let (found, others) = answers.as_slice().split_last().ok_or("no answers")?;
-        assert!(rt;
-            *found == last && others == OF_THREE.as_slice(),
-            "capacity {capacity}"
-        );
-        moves_to_the_end(alloc, &mut held.machine, 24)?;
-        assert!(rt; held.machine.mover().is_none(), "capacity {capacity}");
-    }
+    let stage = scenario_of(alloc, SPLIT)?;
+    let scenario = &stage.scenario;
+    assert!(rt; goes_so(alloc, scenario, 1, Moved::Blocked)?);
+    assert!(rt; goes_so(alloc, scenario, 2, Moved::Put)?);
     Ok(())
 }

@@ -1,12 +1,12 @@
 //! Nodes that are driven over a transport: what they send, keep and decide is what the run of their scenario
 //! has.
-use crate::scenarios::scenario_of;
+use crate::scenarios::{run_of, scenario_of};
 use gen_log::SealedLog;
 use gen_net::Header;
 use gen_node::{FrameFront, Node, NodeEnd, frame_bytes};
 use gen_tree::general_seed;
 use gen_types::GeneralNo;
-use gen_world::{Decision, FrameRow, Scenario, WorldRun, run_world};
+use gen_world::{Decision, FrameRow, Scenario, WorldRun};
 use std::alloc::Global;
 use std::test::Fail;
 
@@ -61,7 +61,7 @@ impl Driven {
     }
 }
 
-/// A general of the scenario, who has his own seed alone.
+/// A general of the scenario, with the seed of this general alone.
 pub(crate) fn node_of(alloc: Global, scenario: &Scenario, me: GeneralNo) -> Result<Driven, Fail> {
     let own = if me == GeneralNo::commander() {
         Some(scenario.order())
@@ -98,15 +98,11 @@ fn carry(alloc: Global, node: &mut Node, row: &FrameRow) -> Result<bool, Fail> {
     if row.round() != node.round() {
         return Ok(true);
     }
+    let bytes = bytes_of(alloc, node.header(), row)?;
     if row.to() == node.me() {
-        let bytes = bytes_of(alloc, node.header(), row)?;
         node.heard(alloc, row.from(), bytes.as_slice())?;
     }
-    if row.from() == node.me() {
-        let bytes = bytes_of(alloc, node.header(), row)?;
-        return sends(alloc, node, row.to(), bytes.as_slice());
-    }
-    Ok(true)
+    Ok(row.from() != node.me() || sends(alloc, node, row.to(), bytes.as_slice())?)
 }
 
 /// One round of a node, with the frames of a run. Whether all was as in the run.
@@ -148,22 +144,24 @@ pub(crate) fn is_driven(alloc: Global, run: &WorldRun, mut driven: Driven) -> Re
     Ok(alike && are_of(run, &log, decision))
 }
 
+/// Whether this holds of a general of a scenario's text, with the frames of its run.
+fn is_driven_in(alloc: Global, text: &[u8], me: GeneralNo) -> Result<bool, Fail> {
+    let stage = scenario_of(alloc, text)?;
+    let scenario = &stage.scenario;
+    let held = run_of(alloc, scenario)?;
+    is_driven(alloc, &held.run, node_of(alloc, scenario, me)?)
+}
+
 #[test]
 fn nodes_keep_the_logs_of_the_run(rt: HostRuntime) -> Result<(), Fail> {
-    let alloc = rt.alloc();
-    let pair = scenario_of(alloc, PAIR)?;
-    let run = run_world(alloc, &pair)?;
-    assert!(rt; is_driven(alloc, &run, node_of(alloc, &pair, GeneralNo::at(0))?)?);
-    assert!(rt; is_driven(alloc, &run, node_of(alloc, &pair, GeneralNo::at(1))?)?);
+    assert!(rt; is_driven_in(rt.alloc(), PAIR, GeneralNo::at(0))?);
+    assert!(rt; is_driven_in(rt.alloc(), PAIR, GeneralNo::at(1))?);
     Ok(())
 }
 
 #[test]
 fn a_traitor_changes_nothing_of_that(rt: HostRuntime) -> Result<(), Fail> {
-    let alloc = rt.alloc();
-    let split = scenario_of(alloc, SPLIT)?;
-    let run = run_world(alloc, &split)?;
-    assert!(rt; is_driven(alloc, &run, node_of(alloc, &split, GeneralNo::at(1))?)?);
-    assert!(rt; is_driven(alloc, &run, node_of(alloc, &split, GeneralNo::at(2))?)?);
+    assert!(rt; is_driven_in(rt.alloc(), SPLIT, GeneralNo::at(1))?);
+    assert!(rt; is_driven_in(rt.alloc(), SPLIT, GeneralNo::at(2))?);
     Ok(())
 }

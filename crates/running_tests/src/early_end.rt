@@ -1,21 +1,24 @@
 //! A general whose neighbours end after the first round, by public calls alone.
-ghost use Rattle.std.specs.Prelude.{false, IfOk, IfSome};
+ghost use Rattle.std.specs.Prelude.{false, All, IfOk, IfSome, OnOk};
+ghost use Rattle.std.specs.Vec.Iter.{into_iter_items};
 ghost use Rattle.gen_edge.specs.Ends.{IsPutPassOf, put_view};
 ghost use Rattle.gen_edge.specs.Frames.{carried, edge_frames};
 ghost use Rattle.gen_edge.specs.Tied.{ComesNext};
 ghost use Rattle.gen_threads.specs.Edges.{HasNewPasses};
+ghost use Rattle.running_tests.specs.Seats.{MayTakeSeat};
 
 use crate::edge_frames::frame_of;
 use crate::gates::Open;
-use crate::own_threads::{make_ready, run_ready};
+use crate::own_threads::{Seat, run_seat, seats_of};
 use crate::scenarios::line;
 use gen_edge::{Edge, Frame, PutPass};
-use gen_threads::{Edges, GeneralEnd, Passes, RunFault, RunPart};
+use gen_threads::{Edges, GeneralEnd, Passes, RunFault};
 use gen_types::GeneralNo;
 use gen_world::{Scenario, run_world};
 use std::alloc::Global;
 use std::sync::Wait;
 use std::test::*;
+use std::vec::IntoIter;
 
 /// The frame of round 1 from one general to another, to be put on an edge.
 fn first_frame(
@@ -42,7 +45,7 @@ fn put_both<R: Wait>(rt: &R, edge: &Edge, pass: &mut PutPass, frame: Frame) -> b
     put && !pass.has_ended() && edge.try_put(rt, pass, Frame::Gone).is_ok()
 }
 
-/// Puts the frame of round 1 to general 1, if he is this general's least neighbour, and then the
+/// Puts the frame of round 1 to general 1, if this is the general's least neighbour, and then the
 /// word that no more comes. Whether both were put.
 fn end_early<R: Wait>(
     rt: &R,
@@ -70,49 +73,62 @@ fn end_early<R: Wait>(
     Ok(put_both(rt, edge, &mut puts[0], frame))
 }
 
-/// How general 1 ends whose neighbours, generals 0 and 2, end after round 1.
-fn end_between<R: Wait>(rt: &R, alloc: Global, scenario: &Scenario) -> Result<GeneralEnd, Fail> {
-    let _few = scenario.header().net().generals();
-    let me = GeneralNo::at(1);
-    let part = RunPart::of(alloc, scenario, me)?;
-    let (edges, all) = Edges::new(alloc, scenario, 4)?;
-    let mut rest = all.into_iter();
-    let Some(below) = rest.next() else {
+/// The next general ends after round 1, as `end_early` says.
+fn end_next<R: Wait>(
+    rt: &R,
+    alloc: Global,
+    scenario: &Scenario,
+    edges: &Edges,
+    rest: &mut IntoIter<Seat>,
+) -> Result<(), Fail>
+    requires { All (λ seat. MayTakeSeat edges.now scenario.now seat.me seat.passes)
+        (into_iter_items rest.old) }
+    ensures { OnOk result (All (λ seat. MayTakeSeat edges.now scenario.now seat.me seat.passes)
+        (into_iter_items rest.new)) }
+{
+    let Some(seat) = rest.next() else {
         return Err("nobody".into());
     };
-    let Some(passes) = rest.next() else {
+    let Seat { me, passes } = seat;
+    if !end_early(rt, alloc, scenario, edges, me, passes)? {
+        return Err("not put".into());
+    }
+    Ok(())
+}
+
+/// How general 1 ends whose neighbours, generals 0 and 2, end after round 1.
+fn end_between<R: Wait>(rt: &R, alloc: Global, scenario: &Scenario) -> Result<GeneralEnd, Fail> {
+    let (edges, all) = Edges::new(alloc, scenario, 4)?;
+    let mut rest = seats_of(alloc, scenario, &edges, all)?.into_iter();
+    end_next(rt, alloc, scenario, &edges, &mut rest)?;
+    let Some(seat) = rest.next() else {
         return Err("one alone".into());
     };
-    let Some(above) = rest.next() else {
-        return Err("two alone".into());
-    };
-    if !end_early(rt, alloc, scenario, &edges, GeneralNo::at(0), below)? {
-        return Err("general 0".into());
-    }
-    if !end_early(rt, alloc, scenario, &edges, GeneralNo::at(2), above)? {
-        return Err("general 2".into());
-    }
-    let ready = make_ready(scenario, me, &edges, passes)?;
-    Ok(run_ready(rt, alloc, &Open, &part, &edges, ready))
+    end_next(rt, alloc, scenario, &edges, &mut rest)?;
+    Ok(run_seat(rt, alloc, &Open, scenario, &edges, seat)?)
 }
 
 /// Two rounds' frames and then the last word are put, and one round's frame and then the last word are taken.
 #[test]
 fn neighbours_who_end_after_a_round(rt: HostRuntime) -> Result<(), Fail> {
     let alloc = rt.alloc();
-    let scenario = line(alloc)?;
-    let end = end_between(&rt, alloc, &scenario)?;
+    let stage = line(alloc)?;
+    let scenario = &stage.scenario;
+    let end = end_between(&rt, alloc, scenario)?;
     assert!(rt; matches!(&end.logs, Err(RunFault::Gone)) && end.ring.is_some());
-    assert!(rt; end.puts.len() == 2 && end.takes.len() == 2);
     assert!(rt;
-        end.puts
-            .iter()
-            .all(|pass| pass.put() == 2 && pass.has_ended())
+        end.puts.len() == 2
+            && end
+                .puts
+                .iter()
+                .all(|pass| pass.put() == 2 && pass.has_ended())
     );
     assert!(rt;
-        end.takes
-            .iter()
-            .all(|pass| pass.taken() == 1 && pass.has_ended())
+        end.takes.len() == 2
+            && end
+                .takes
+                .iter()
+                .all(|pass| pass.taken() == 1 && pass.has_ended())
     );
     Ok(())
 }

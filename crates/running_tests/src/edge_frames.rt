@@ -149,11 +149,12 @@ pub(crate) fn take_told<R: Wait>(
     None
 }
 
-/// The shapes of what is left.
-pub(crate) fn shapes_of(alloc: Global, left: &Left) -> Result<Vec<Shape>, AllocError> {
-    let mut shapes = Vec::new(alloc);
-    for frame in left.frames.as_slice() {
-        shapes.push(shape(frame))?;
-    }
-    Ok(shapes)
+/// Whether what is left has these shapes.
+pub(crate) fn are_left(left: &Left, wanted: &[Shape]) -> bool {
+    let frames = left.frames.as_slice();
+    frames.len() == wanted.len()
+        && frames
+            .iter()
+            .zip(wanted)
+            .all(|(frame, wanted)| shape(frame) == *wanted)
 }

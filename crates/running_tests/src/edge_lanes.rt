@@ -4,40 +4,54 @@ ghost use Rattle.gen_scenario.specs.Rows.{rows_of};
 ghost use Rattle.gen_edge.specs.Frames.{edge_frames};
 ghost use Rattle.gen_edge.specs.Ends.{IsPutPassOf, IsTakePassOf, edge_capacity, put_view};
 
-use crate::edge_frames::{Shape, put_last_told, put_next, shapes_of, take_shape, take_told};
+use crate::edge_frames::{Shape, are_left, put_last_told, put_next, take_shape, take_told};
 use gen_edge::{Edge, PutPass, TakePass};
 use gen_types::GeneralNo;
 use gen_world::{Scenario, WorldRun, run_world};
 use std::alloc::{AllocError, Global};
 use std::sync::Wait;
 
+/// A scenario and its run. One call lets them go.
+pub(crate) struct Course {
+    pub(crate) scenario: Scenario,
+    pub(crate) run: WorldRun,
+}
+
+impl Drop for Course {
+    fn drop(self) {
+        let Course {
+            scenario: _,
+            run: _,
+        } = self;
+    }
+}
+
 /// An edge of a scenario, on which the frames of its run are put, with its passes.
 #[derive(Drop)]
 pub(crate) struct Lane {
-    pub(crate) scenario: Scenario,
-    pub(crate) run: WorldRun,
+    pub(crate) course: Course,
     pub(crate) way: (GeneralNo, GeneralNo),
     pub(crate) edge: Edge,
     pub(crate) capacity: usize,
     pub(crate) put: PutPass,
     pub(crate) take: TakePass,
-    ghost run_of: { run.frames ≡ rows_of scenario },
+    ghost run_of: { course.run.frames ≡ rows_of course.scenario },
     ghost holds: { capacity ≡ edge_capacity edge },
     ghost passes: { IsPutPassOf edge put × IsTakePassOf edge take },
-    ghost frames: { (put_view put).frames ≡ edge_frames scenario way.0 way.1 },
+    ghost frames: { (put_view put).frames ≡ edge_frames course.scenario way.0 way.1 },
 }
 
-/// What is tried on a lane.
+/// What is tried on a lane, and what it answers.
 #[derive(Drop)]
 pub(crate) enum Step {
-    /// The next frame is put.
-    Put,
-    /// Both are told how far the other is, and the last word is put where there is room.
-    End,
-    /// Something is taken.
-    Take,
+    /// The next frame is put. Whether there was room.
+    Put(bool),
+    /// Both are told how far the other is, and the last word is put where there is room. Whether there was.
+    End(bool),
+    /// Something is taken, if it is there.
+    Take(Option<Shape>),
     /// Both are told, and something is taken where the taker knows of it.
-    Tell,
+    Tell(Option<Shape>),
 }
 
 impl Lane {
@@ -53,8 +67,7 @@ impl Lane {
         let run = run_world(alloc, &scenario)?;
         let (edge, put, take) = Edge::new(alloc, &scenario, way.0, way.1, capacity)?;
         Ok(Lane {
-            scenario,
-            run,
+            course: Course { scenario, run },
             way,
             edge,
             capacity,
@@ -68,8 +81,8 @@ impl Lane {
         put_next(
             rt,
             alloc,
-            &self.scenario,
-            &self.run,
+            &self.course.scenario,
+            &self.course.run,
             self.way,
             &self.edge,
             &mut self.put,
@@ -86,24 +99,28 @@ impl Lane {
         take_told(rt, &self.edge, &mut self.put, &mut self.take)
     }
 
-    /// Tries one step after the other. What each put answers, and each take.
-    pub(crate) fn try_all<R: Wait>(
+    /// Tries a step. Whether it answers as it says.
+    fn answers<R: Wait>(&mut self, rt: &R, alloc: Global, step: &Step) -> Result<bool, AllocError> {
+        match step {
+            Step::Put(wanted) => Ok(self.put_next(rt, alloc)? == *wanted),
+            Step::End(wanted) => Ok(self.put_last_told(rt) == *wanted),
+            Step::Take(wanted) => Ok(take_shape(rt, &self.edge, &mut self.take) == *wanted),
+            Step::Tell(wanted) => Ok(self.take_told(rt) == *wanted),
+        }
+    }
+
+    /// Tries one step after the other. Whether each answers as it says.
+    pub(crate) fn answers_all<R: Wait>(
         &mut self,
         rt: &R,
         alloc: Global,
         steps: &[Step],
-    ) -> Result<(Vec<bool>, Vec<Option<Shape>>), AllocError> {
-        let mut puts = Vec::new(alloc);
-        let mut takes = Vec::new(alloc);
+    ) -> Result<bool, AllocError> {
+        let mut alike = true;
         for step in steps {
-            match step {
-                Step::Put => puts.push(self.put_next(rt, alloc)?)?,
-                Step::End => puts.push(self.put_last_told(rt))?,
-                Step::Take => takes.push(take_shape(rt, &self.edge, &mut self.take))?,
-                Step::Tell => takes.push(self.take_told(rt))?,
-            }
+            alike = self.answers(rt, alloc, step)? && alike;
         }
-        Ok((puts, takes))
+        Ok(alike)
     }
 
     /// How many frames were put and taken, and whether the last word was.
@@ -114,15 +131,14 @@ impl Lane {
         ]
     }
 
-    /// What is left in the end.
-    pub(crate) fn settle<R: Wait>(self, rt: &R, alloc: Global) -> Result<Vec<Shape>, AllocError> {
+    /// Whether this is left in the end.
+    pub(crate) fn leaves<R: Wait>(self, rt: &R, wanted: &[Shape]) -> bool {
         let Lane {
             edge,
             put,
             take,
             ..
         } = self;
-        let left = edge.settle(rt, put, take);
-        shapes_of(alloc, &left)
+        are_left(&edge.settle(rt, put, take), wanted)
     }
 }

@@ -16,6 +16,9 @@ use std::test::Fail;
 use std::thread;
 use std::thread::Threads;
 
+/// The rounds of 16 frames, and 0 of the last word.
+const ROUNDS: [u8; 17] = [1, 2, 3, 4, 5, 6, 7, 8, 9, 10, 11, 12, 13, 14, 15, 16, 0];
+
 /// Puts all frames of the run on an edge, and then the last word; and tries again where the edge is full.
 fn put_all<R: Wait>(
     rt: &R,
@@ -74,8 +77,7 @@ fn through<R: Threads + Wait + Sync>(
     lane: Lane,
 ) -> Result<Vec<u8>, AllocError> {
     let Lane {
-        scenario,
-        run,
+        course,
         way,
         edge,
         put,
@@ -84,22 +86,33 @@ fn through<R: Threads + Wait + Sync>(
     } = lane;
     let (sent, came) = thread::join(
         rt,
-        || put_all(rt, alloc, &scenario, &run, way, &edge, put),
+        || put_all(rt, alloc, &course.scenario, &course.run, way, &edge, put),
         || rounds_taken(rt, alloc, &edge, take),
     );
     sent?;
     came
 }
 
+/// Whether all frames of 16 rounds come from one thread to another in their order, and behind them the last
+/// word, over an edge that holds so many.
+fn come_in_order<R: Threads + Wait + Sync>(
+    rt: &R,
+    alloc: Global,
+    capacity: usize,
+) -> Result<bool, Fail> {
+    if capacity == 0 {
+        return Err("no room".into());
+    }
+    let pair = without_scripts(alloc, 2, &[(0, 1)], (8, 8))?;
+    let way = (GeneralNo::at(0), GeneralNo::at(1));
+    let lane = Lane::new(alloc, pair, way, capacity)?;
+    Ok(through(rt, alloc, lane)?.as_slice() == ROUNDS.as_slice())
+}
+
 #[test]
 fn all_frames_come_through_in_order(rt: HostRuntime) -> Result<(), Fail> {
-    let alloc = rt.alloc();
-    let rounds = [1, 2, 3, 4, 5, 6, 7, 8, 9, 10, 11, 12, 13, 14, 15, 16, 0];
-    let way = (GeneralNo::at(0), GeneralNo::at(1));
     for capacity in [1, 1, 1, 2, 1, 16, 1] {
-        let pair = without_scripts(alloc, 2, &[(0, 1)], (8, 8))?;
-        let lane = Lane::new(alloc, pair, way, capacity)?;
-        assert!(rt; through(&rt, alloc, lane)?.as_slice() == rounds.as_slice());
+        assert!(rt; come_in_order(&rt, rt.alloc(), capacity)?);
     }
     Ok(())
 }

@@ -82,26 +82,48 @@ fn all_rounds(alloc: Global, one: &mut Node, other: &mut Node) -> Result<(), Fai
     Ok(())
 }
 
-/// What two nodes of the header show after all rounds, of which the first commands order 1. Both must have
-/// decided it.
+/// A node of the header before the first round.
+fn node_of_two(
+    alloc: Global,
+    header: &Header,
+    me: GeneralNo,
+    seed: &[u8; 32],
+    own: Option<OrderNo>,
+) -> Result<Driven, Fail> {
+    let node = Node::new(alloc, header.clone()?, me, seed, own)?;
+    Ok(Driven { node })
+}
+
+/// What a node shows after all rounds. It must have decided order 1.
+fn log_of(alloc: Global, driven: Driven) -> Result<Exhibit, Fail> {
+    let (log, decision) = driven.into_end(alloc)?;
+    if decision.order != OrderNo::at(1) {
+        return Err("another order".into());
+    }
+    Ok(Exhibit::of_log(log)?)
+}
+
+/// What two nodes of the header show after all rounds, of which the first commands order 1.
 fn logs_of_two(alloc: Global, header: &Header) -> Result<Vec<Exhibit>, Fail> {
     let [first, second] = &SEEDS;
-    let (zero, one) = (GeneralNo::at(0), GeneralNo::at(1));
-    let order = OrderNo::at(1);
-    let node = Node::new(alloc, header.clone()?, zero, first, Some(order))?;
-    let mut left = Driven { node };
-    let node = Node::new(alloc, header.clone()?, one, second, None)?;
-    let mut right = Driven { node };
+    let own = Some(OrderNo::at(1));
+    let mut left = node_of_two(alloc, header, GeneralNo::at(0), first, own)?;
+    let mut right = node_of_two(alloc, header, GeneralNo::at(1), second, None)?;
     all_rounds(alloc, &mut left.node, &mut right.node)?;
     let mut logs = Vec::new(alloc);
-    for driven in [left, right] {
-        let (log, decision) = driven.into_end(alloc)?;
-        if decision.order != order {
-            return Err("another order".into());
-        }
-        logs.push(Exhibit::of_log(log)?)?;
-    }
+    logs.push(log_of(alloc, left)?)?;
+    logs.push(log_of(alloc, right)?)?;
     Ok(logs)
+}
+
+/// The bytes of the bundle of the two.
+fn bundle_of_two(alloc: Global) -> Result<Vec<u8>, Fail> {
+    let header = header_of_two(alloc)?;
+    let logs = logs_of_two(alloc, &header)?;
+    match make_walks(alloc, header.net(), &GeneralSet::from_bits(3)) {
+        Ok(walks) => Ok(make_bundle(alloc, header, GeneralSet::new(), walks, logs)?),
+        Err(_) => Err("no walks".into()),
+    }
 }
 
 /// A gate at which nobody waits.
@@ -123,14 +145,8 @@ fn verdict_on<R: Threads + Wait + Sync>(
 
 #[test]
 fn the_bundle_of_two_nodes_is_accepted(rt: HostRuntime) -> Result<(), Fail> {
-    let alloc = rt.alloc();
-    let header = header_of_two(alloc)?;
-    let logs = logs_of_two(alloc, &header)?;
-    let Ok(walks) = make_walks(alloc, header.net(), &GeneralSet::from_bits(3)) else {
-        return Err("no walks".into());
-    };
-    let bytes = make_bundle(alloc, header, GeneralSet::new(), walks, logs)?;
-    match verdict_on(&rt, alloc, bytes.as_slice())? {
+    let bytes = bundle_of_two(rt.alloc())?;
+    match verdict_on(&rt, rt.alloc(), bytes.as_slice())? {
         Verdict::Agreed(order) => assert!(rt; order == OrderNo::at(1)),
         _ => return Err("no order".into()),
     }

@@ -72,7 +72,8 @@ pub(crate) struct Watch {
 }
 
 impl Watch {
-    /// The gate of who looks, with the round, and who is looked for, with the round. Nobody was there yet.
+    /// The gate of the general that looks, and of the one that is looked for, each with its round. Neither
+    /// was there yet.
     pub(crate) fn new(watcher: (u8, u8), watched: (u8, u8), times: u32) -> Watch {
         Watch {
             watcher,

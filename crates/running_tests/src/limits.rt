@@ -2,7 +2,7 @@
 //! 16 that can't, 15 neighbours, and 64 logs. No neighbour is left who could hear a chain of 16.
 use crate::driving::{Driven, is_driven};
 use crate::exchange::header_of_two;
-use crate::scenarios::scenario_of;
+use crate::scenarios::{run_of, scenario_of};
 use gen_audit::{BundleFault, read_bundle};
 use gen_local::Exhibit;
 use gen_net::{Header, Net};
@@ -11,7 +11,7 @@ use gen_script::Parcel;
 use gen_tree::{KeyRing, general_seed};
 use gen_types::{GeneralNo, GeneralSet, ReadError, TreeHeight};
 use gen_walks::Walks;
-use gen_world::run_world;
+use gen_world::{Scenario, WorldRun};
 use std::alloc::{AllocError, Global};
 use std::test::Fail;
 
@@ -52,41 +52,67 @@ fn ringed(alloc: Global, header: Header, me: GeneralNo, seed: &[u8; 32]) -> Resu
     }
 }
 
+/// Whether the frame of round 15 to general 15 has 15 chains of 15 signers.
+fn has_longest_chains(run: &WorldRun) -> bool {
+    let mut rows = run.frames().iter();
+    match rows.find(|row| row.round() == 15 && row.to().get() == 15) {
+        Some(row) => {
+            let mut parcels = row.parcels().iter();
+            row.parcels().len() == 15 && parcels.all(|it| it.bytes().len() == FIFTEEN_SIGNERS)
+        }
+        None => false,
+    }
+}
+
+/// Whether a lieutenant with a ring that is there already is driven as in the run.
+fn is_driven_with_ring(
+    alloc: Global,
+    scenario: &Scenario,
+    run: &WorldRun,
+    me: GeneralNo,
+) -> Result<bool, Fail> {
+    let seed = general_seed(scenario.plan().master(), me);
+    let driven = ringed(alloc, scenario.header().clone()?, me, &seed)?;
+    is_driven(alloc, run, driven)
+}
+
 #[test]
 fn fifteen_chains_of_fifteen_signers(rt: HostRuntime) -> Result<(), Fail> {
     let alloc = rt.alloc();
-    let scenario = scenario_of(alloc, LINE_OF_SIXTEEN)?;
-    let run = run_world(alloc, &scenario)?;
-    let mut rows = run.frames().iter();
-    let longest = rows.find(|row| row.round() == 15 && row.to().get() == 15);
-    let parcels = longest.ok_or("no frame")?.parcels();
-    assert!(rt; parcels.len() == 15);
-    assert!(rt;
-        parcels
-            .iter()
-            .all(|parcel| parcel.bytes().len() == FIFTEEN_SIGNERS)
-    );
-    for me in [GeneralNo::at(14), GeneralNo::at(15)] {
-        let seed = general_seed(scenario.plan().master(), me);
-        let driven = ringed(alloc, scenario.header().clone()?, me, &seed)?;
-        assert!(rt; is_driven(alloc, &run, driven)?, "general {me}");
-    }
+    let stage = scenario_of(alloc, LINE_OF_SIXTEEN)?;
+    let scenario = &stage.scenario;
+    let held = run_of(alloc, scenario)?;
+    let run = &held.run;
+    assert!(rt; has_longest_chains(run));
+    assert!(rt; is_driven_with_ring(alloc, scenario, run, GeneralNo::at(14))?);
+    assert!(rt; is_driven_with_ring(alloc, scenario, run, GeneralNo::at(15))?);
     Ok(())
+}
+
+/// All edges between 16 generals.
+fn all_edges(alloc: Global) -> Result<Vec<(u8, u8)>, AllocError> {
+    let mut edges = Vec::new(alloc);
+    for b in 1..16u8 {
+        for a in 0..b {
+            edges.push((a, b))?;
+        }
+    }
+    Ok(edges)
+}
+
+/// The roots of 16 generals of whom nobody but general 15 has keys.
+fn roots_of_one(alloc: Global) -> Result<Vec<[u8; 32]>, AllocError> {
+    let mut roots = vec![in alloc; [0u8; 32]; 15]?;
+    roots.push(root_of(alloc, &SEED, TreeHeight::Six)?)?;
+    Ok(roots)
 }
 
 /// The header of 16 generals who are all neighbours, with 16 rounds and 15 orders, in slot 3. Nobody but
 /// general 15 has keys.
 fn header_of_all(alloc: Global) -> Result<Header, Fail> {
-    let mut edges = Vec::new(alloc);
-    let mut roots = Vec::new(alloc);
-    for b in 1..16u8 {
-        for a in 0..b {
-            edges.push((a, b))?;
-        }
-        roots.push([0; 32])?;
-    }
-    roots.push(root_of(alloc, &SEED, TreeHeight::Six)?)?;
+    let edges = all_edges(alloc)?;
     let net = Net::new(alloc, 16, &edges, 1, 15, 15, 0)?;
+    let roots = roots_of_one(alloc)?;
     Header::new_in_slot(net, 3, roots).map_err(|_| "no header".into())
 }
 
@@ -158,34 +184,40 @@ fn sixteen_neighbours_and_the_longest_frame(rt: HostRuntime) -> Result<(), Fail>
     Ok(())
 }
 
+/// As many logs of one byte.
+fn short_logs(alloc: Global, count: u8) -> Result<Vec<Exhibit>, AllocError> {
+    let mut logs = Vec::new(alloc);
+    for number in 0..count {
+        let log = Vec::from_slice(alloc, &[number])?;
+        logs.push(Exhibit::new(GeneralNo::at(1), log)?)?;
+    }
+    Ok(logs)
+}
+
+/// How many bytes the bundle of so many logs has, None if so many are refused. What is made has so many logs
+/// where it is read.
+fn bundle_length(alloc: Global, count: u8) -> Result<Option<usize>, Fail> {
+    let logs = short_logs(alloc, count)?;
+    let header = header_of_two(alloc)?;
+    match make_bundle(alloc, header, GeneralSet::new(), Walks::new(alloc), logs) {
+        Ok(bytes) => {
+            if read_bundle(alloc, bytes.as_slice())?.exhibits().len() != usize::from(count) {
+                return Err("another number of logs".into());
+            }
+            Ok(Some(bytes.len()))
+        }
+        Err(ReadError::Fault(BundleFault::BadExhibit)) => Ok(None),
+        Err(_) => Err("another fault".into()),
+    }
+}
+
 /// A bundle of two generals has 81 bytes without walks and exhibits, and an exhibit of one byte has 6.
 /// There are 64 at most.
 #[test]
 fn bundles_of_many_logs(rt: HostRuntime) -> Result<(), Fail> {
     let alloc = rt.alloc();
-    for (count, length) in [(32, 273), (64, 465), (65, 0)] {
-        let header = header_of_two(alloc)?;
-        let mut logs = Vec::new(alloc);
-        for number in 0..count {
-            let log = Vec::from_slice(alloc, &[number])?;
-            logs.push(Exhibit::new(GeneralNo::at(1), log)?)?;
-        }
-        match make_bundle(alloc, header, GeneralSet::new(), Walks::new(alloc), logs) {
-            Ok(bytes) => {
-                let read = read_bundle(alloc, bytes.as_slice())?.exhibits().len();
-                assert!(rt;
-                    bytes.len() == length && read == usize::from(count),
-                    "{count} logs"
-                );
-            }
-            Err(ReadError::Fault(fault)) => {
-                assert!(rt;
-                    count == 65 && fault == BundleFault::BadExhibit,
-                    "{count} logs"
-                );
-            }
-            Err(ReadError::Memory) => return Err("memory".into()),
-        }
-    }
+    assert!(rt; bundle_length(alloc, 32)? == Some(273));
+    assert!(rt; bundle_length(alloc, 64)? == Some(465));
+    assert!(rt; bundle_length(alloc, 65)?.is_none());
     Ok(())
 }

@@ -17,14 +17,12 @@ fn refusal(alloc: Global, node: &mut Node, from: GeneralNo, bytes: &[u8]) -> u8 
     }
 }
 
-/// The bytes of an empty frame to general 1: the byte of the run id, the round and the sender are as given.
-fn empty_frame(
-    alloc: Global,
-    first: u8,
-    round: u8,
-    from: u8,
-    node: &Node,
-) -> Result<Vec<u8>, Fail> {
+/// How an empty frame to general 1 is bent: a byte of the run id, the round, the sender, and bytes behind it.
+type Bent = (u8, u8, u8, &'static [u8]);
+
+/// The bytes of such a frame.
+fn bent_frame(alloc: Global, node: &Node, bent: Bent) -> Result<Vec<u8>, Fail> {
+    let (first, round, from, behind) = bent;
     let mut run_id = *node.header().run_id();
     run_id[0] ^= first;
     let front = FrameFront {
@@ -33,45 +31,53 @@ fn empty_frame(
         from,
         to: 1,
     };
-    Ok(frame_bytes(alloc, &front, &[])?)
+    let mut bytes = frame_bytes(alloc, &front, &[])?;
+    bytes.extend_from_slice(behind)?;
+    Ok(bytes)
 }
 
-/// With which numbers frames of general 0 are refused, one after another, in round 1.
-fn refusals(alloc: Global, node: &mut Node) -> Result<[u8; 10], Fail> {
-    let zero = GeneralNo::at(0);
-    let good = empty_frame(alloc, 0, 1, 0, node)?;
-    let early = refusal(alloc, node, zero, &good);
+/// With which number such a frame of a general is refused.
+fn refusal_of(alloc: Global, node: &mut Node, from: u8, bent: Bent) -> Result<u8, Fail> {
+    let from = GeneralNo::new(from).ok_or("no general")?;
+    let bytes = bent_frame(alloc, node, bent)?;
+    Ok(refusal(alloc, node, from, bytes.as_slice()))
+}
+
+/// The frame that is awaited in round 1.
+const GOOD: Bent = (0, 1, 0, &[]);
+
+/// Whose frames, bent how, are refused with which number, one after another, in round 1.
+const REFUSED: [(u8, Bent, u8); 7] = [
+    (1, GOOD, 1),
+    (0, (0, 1, 0, &[0]), 5),
+    (0, (1, 1, 0, &[]), 6),
+    (0, (0, 2, 0, &[]), 7),
+    (0, (0, 1, 1, &[]), 8),
+    (0, GOOD, 0),
+    (0, GOOD, 2),
+];
+
+/// Whether a frame is refused before the first round, and these bytes and frames are refused so in it.
+fn are_refused(alloc: Global, node: &mut Node) -> Result<bool, Fail> {
+    let mut same = refusal_of(alloc, node, 0, GOOD)? == 1;
     if !node.may_begin() {
         return Err("no round".into());
     }
     node.begin_round(alloc)?;
-    let run = empty_frame(alloc, 1, 1, 0, node)?;
-    let round = empty_frame(alloc, 0, 2, 0, node)?;
-    let sender = empty_frame(alloc, 0, 1, 1, node)?;
-    let mut longer = empty_frame(alloc, 0, 1, 0, node)?;
-    longer.push(0)?;
-    let told = [
-        early,
-        refusal(alloc, node, GeneralNo::at(1), &good),
-        refusal(alloc, node, zero, b"SMF1"),
-        refusal(alloc, node, zero, b"SMF2"),
-        refusal(alloc, node, zero, &longer),
-        refusal(alloc, node, zero, &run),
-        refusal(alloc, node, zero, &round),
-        refusal(alloc, node, zero, &sender),
-        refusal(alloc, node, zero, &good),
-        refusal(alloc, node, zero, &good),
-    ];
-    Ok(told)
+    same = refusal(alloc, node, GeneralNo::at(0), b"SMF1") == 3 && same;
+    same = refusal(alloc, node, GeneralNo::at(0), b"SMF2") == 4 && same;
+    for (from, bent, number) in REFUSED {
+        same = refusal_of(alloc, node, from, bent)? == number && same;
+    }
+    Ok(same)
 }
 
 #[test]
 fn frames_are_refused(rt: HostRuntime) -> Result<(), Fail> {
-    let alloc = rt.alloc();
-    let pair = scenario_of(alloc, PAIR)?;
-    let mut driven = node_of(alloc, &pair, GeneralNo::at(1))?;
-    let told = refusals(alloc, &mut driven.node)?;
-    assert!(rt; told == [1, 1, 3, 4, 5, 6, 7, 8, 0, 2]);
+    let stage = scenario_of(rt.alloc(), PAIR)?;
+    let pair = &stage.scenario;
+    let mut driven = node_of(rt.alloc(), pair, GeneralNo::at(1))?;
+    assert!(rt; are_refused(rt.alloc(), &mut driven.node)?);
     Ok(())
 }
 
@@ -96,17 +102,18 @@ fn fault_of(
 #[test]
 fn nodes_are_refused(rt: HostRuntime) -> Result<(), Fail> {
     let alloc = rt.alloc();
-    let pair = scenario_of(alloc, PAIR)?;
+    let stage = scenario_of(alloc, PAIR)?;
+    let pair = &stage.scenario;
     let one = GeneralNo::at(1);
     let seed = general_seed(pair.plan().master(), one);
-    assert!(rt; fault_of(alloc, &pair, one, &seed, None)?.is_none());
-    let ordered = fault_of(alloc, &pair, one, &seed, Some(OrderNo::at(0)))?;
+    assert!(rt; fault_of(alloc, pair, one, &seed, None)?.is_none());
+    let ordered = fault_of(alloc, pair, one, &seed, Some(OrderNo::at(0)))?;
     assert!(rt; ordered == Some(NodeFault::NoGeneral));
-    let stranger = fault_of(alloc, &pair, GeneralNo::at(2), &seed, None)?;
+    let stranger = fault_of(alloc, pair, GeneralNo::at(2), &seed, None)?;
     assert!(rt; stranger == Some(NodeFault::NoGeneral));
-    let other = fault_of(alloc, &pair, one, &[7; 32], None)?;
+    let other = fault_of(alloc, pair, one, &[7; 32], None)?;
     assert!(rt; other == Some(NodeFault::OtherRoot));
-    let both = fault_of(alloc, &pair, one, &[7; 32], Some(OrderNo::at(0)))?;
+    let both = fault_of(alloc, pair, one, &[7; 32], Some(OrderNo::at(0)))?;
     assert!(rt; both == Some(NodeFault::NoGeneral));
     let root = root_of(alloc, &seed, pair.header().height())?;
     assert!(rt; pair.header().roots()[1..] == [root]);
@@ -117,7 +124,8 @@ fn nodes_are_refused(rt: HostRuntime) -> Result<(), Fail> {
 #[test]
 fn the_height_of_a_ring_is_tested_first(rt: HostRuntime) -> Result<(), Fail> {
     let alloc = rt.alloc();
-    let pair = scenario_of(alloc, PAIR)?;
+    let stage = scenario_of(alloc, PAIR)?;
+    let pair = &stage.scenario;
     let (header, order) = (pair.header().clone()?, Some(OrderNo::at(0)));
     let ring = KeyRing::from_seed(alloc, &[7; 32], TreeHeight::Four)?;
     match Node::with_ring(alloc, header, GeneralNo::at(1), ring, order) {

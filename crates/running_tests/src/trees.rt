@@ -2,11 +2,12 @@
 ghost use Rattle.std.specs.Prelude.{◌≤◌};
 ghost use Rattle.gen_net.specs.Version.{greatest_slot, slot_in};
 
+use crate::scenarios::{Stage, are_same, logs_of_run};
 use gen_net::{Net, Version};
 use gen_threads::make_trees;
 use gen_tree::KeyTree;
 use gen_types::{GeneralNo, OrderNo};
-use gen_world::{Scenario, SignedPlan, run_world};
+use gen_world::{Scenario, SignedPlan};
 use std::alloc::Global;
 use std::test::*;
 use std::thread::Threads;
@@ -22,17 +23,19 @@ fn line<R: Threads + Sync>(
     alloc: Global,
     version: Version,
     by_threads: bool,
-) -> Result<Scenario, Fail>
+) -> Result<Stage, Fail>
     requires { slot_in version ≤ greatest_slot }
 {
     let net = Net::new(alloc, 3, &[(0, 1), (1, 2)], 0, 2, 2, 0)?;
     let plan = SignedPlan::new(version, net, OrderNo::at(1), &MASTER, Vec::new(alloc));
     if !by_threads {
-        return Ok(Scenario::of_plan(alloc, plan)?);
+        let scenario = Scenario::of_plan(alloc, plan)?;
+        return Ok(Stage { scenario });
     }
     let generals = plan.net().generals();
     let trees = make_trees(rt, alloc, plan.master(), plan.version().height(), generals)?;
-    Ok(Scenario::of_trees(alloc, plan, trees)?)
+    let scenario = Scenario::of_trees(alloc, plan, trees)?;
+    Ok(Stage { scenario })
 }
 
 /// Whether the root of each tree is its general's in the scenario.
@@ -51,16 +54,21 @@ fn are_of(scenario: &Scenario, trees: &[KeyTree]) -> bool {
     number == header.net().generals()
 }
 
+/// Whether the trees of a version that threads make are those of the scenario.
+fn are_alike<R: Threads + Sync>(rt: &R, alloc: Global, version: Version) -> Result<bool, Fail>
+    requires { slot_in version ≤ greatest_slot }
+{
+    let stage = line(rt, alloc, version, false)?;
+    let trees = make_trees(rt, alloc, &MASTER, version.height(), 3)?;
+    Ok(are_of(&stage.scenario, trees.as_slice()))
+}
+
 #[test]
 fn trees_of_threads_are_those_of_the_scenario(rt: HostRuntime) -> Result<(), Fail> {
     let alloc = rt.alloc();
-    for version in [Version::One, Version::Two { slot: 3 }] {
-        let scenario = line(&rt, alloc, version, false)?;
-        let trees = make_trees(&rt, alloc, &MASTER, version.height(), 3)?;
-        assert!(rt; are_of(&scenario, trees.as_slice()));
-    }
-    let none = make_trees(&rt, alloc, &MASTER, Version::One.height(), 0)?;
-    assert!(rt; none.is_empty());
+    assert!(rt; are_alike(&rt, alloc, Version::One)?);
+    assert!(rt; are_alike(&rt, alloc, Version::Two { slot: 3 })?);
+    assert!(rt; make_trees(&rt, alloc, &MASTER, Version::One.height(), 0)?.is_empty());
     Ok(())
 }
 
@@ -69,11 +77,10 @@ fn a_scenario_over_trees_of_threads(rt: HostRuntime) -> Result<(), Fail> {
     let alloc = rt.alloc();
     let own = line(&rt, alloc, Version::One, false)?;
     let made = line(&rt, alloc, Version::One, true)?;
+    let (own, made) = (&own.scenario, &made.scenario);
     assert!(rt; own.header().run_id() == made.header().run_id());
-    let (first, second) = (run_world(alloc, &own)?, run_world(alloc, &made)?);
-    assert!(rt; first.logs().len() == 3 && second.logs().len() == 3);
-    for (log, same) in first.logs().iter().zip(second.logs()) {
-        assert!(rt; log.general() == same.general() && log.bytes() == same.bytes());
-    }
+    let first = logs_of_run(alloc, own)?;
+    let second = logs_of_run(alloc, made)?;
+    assert!(rt; first.len() == 3 && are_same(first.as_slice(), second.as_slice()));
     Ok(())
 }

@@ -1,27 +1,26 @@
-//! The words of the blocks of four messages.
+//! The words of the blocks of messages, one message in each lane.
 //!
 //! A message is one byte and then halves of blocks, 32 bytes each. So a block is the byte before it, one
 //! half, and 31 bytes of the next half. The last byte of that half is carried to the next block.
 ghost use Rattle.std.specs.Prelude.{◌≡◌, ℕ, ◌<◌, ◌%◌, ◌^◌, slice_index};
 ghost use Rattle.sha_lanes.specs.Lanes.{HasWords, block, lane_bytes, seam};
 
-use crate::words::{or, shift_left, shift_right};
-use std::simd::u32x4;
+use crate::words::{LANES, Words, or, shift_left, shift_right};
 
 // Returns for each lane the word whose high byte is the low byte of `before`, and whose other bytes are
 // the three high bytes of `after`.
 #[inline(always)]
-fn joined(before: u32x4, after: u32x4) -> u32x4
-    ensures { (j : ℕ) → j < 4 → slice_index result j ≡ seam (slice_index before j) (slice_index after j) }
+fn joined(before: Words, after: Words) -> Words
+    ensures { (j : ℕ) → j < LANES → slice_index result j ≡ seam (slice_index before j) (slice_index after j) }
 {
     or(shift_left(before, 24), shift_right(after, 8))
 }
 
-/// Returns the words of four blocks, one in each lane. A block is a carried byte, a first half, and all
-/// but the last byte of a second half. The carried byte is the low byte of the lane's word.
+/// Returns the words of the blocks, one block in each lane. A block is a carried byte, a first half, and
+/// all but the last byte of a second half. The carried byte is the low byte of the lane's word.
 #[inline(always)]
-pub fn blocks(carry: u32x4, first: &[u32x4; 8], second: &[u32x4; 8]) -> [u32x4; 16]
-    ensures { (j : ℕ) → j < 4 → HasWords j result (block (slice_index carry j % 2 ^ 8)
+pub fn blocks(carry: Words, first: &[Words; 8], second: &[Words; 8]) -> [Words; 16]
+    ensures { (j : ℕ) → j < LANES → HasWords j result (block (slice_index carry j % 2 ^ 8)
         (lane_bytes j first.now) (lane_bytes j second.now)) }
 {
     [

@@ -1,10 +1,10 @@
-//! Words in four lanes, and the bytes that they stand for.
+//! Words in lanes, and the bytes that they stand for.
 ghost use Rattle.std.specs.Prelude.{◌≡◌, ℕ, ◌<◌, ◌*◌, [], length, take, drop, slice_index, slice_index_or};
 ghost use Rattle.std.specs.Int.{w32, to_be_bytes};
 ghost use Rattle.sha2.specs.Sha256.{digest_bytes};
-ghost use Rattle.sha_lanes.specs.Lanes.{lane_bytes};
+ghost use Rattle.sha_lanes.specs.Lanes.{lane_bytes, state};
 
-use std::simd::u32x4;
+use crate::words::{LANES, Words};
 
 // Returns word `i` of 32 bytes, high byte first.
 #[inline(always)]
@@ -19,23 +19,22 @@ fn word(half: &[u8; 32], i: usize) -> u32
 
 // Returns word `i` of the 32 bytes of each lane.
 #[inline(always)]
-fn words(halves: &[[u8; 32]; 4], i: usize) -> u32x4
+fn words(halves: &[[u8; 32]; LANES], i: usize) -> Words
     requires { i < 8 }
-    ensures width { (j : ℕ) → j < 4 → length (slice_index_or halves.now j []) ≡ 32 }
-    ensures value { (j : ℕ) → j < 4 → to_be_bytes w32 (slice_index result j)
+    ensures width { (j : ℕ) → j < LANES → length (slice_index_or halves.now j []) ≡ 32 }
+    ensures value { (j : ℕ) → j < LANES → to_be_bytes w32 (slice_index result j)
         ≡ take 4 (drop (4 * i) (slice_index_or halves.now j [])) }
 {
-    u32x4::from_array([
-        word(&halves[0], i),
-        word(&halves[1], i),
-        word(&halves[2], i),
-        word(&halves[3], i),
-    ])
+    let mut lanes = [0; LANES];
+    'lanes: for j in 0..LANES {
+        lanes[j] = word(&halves[j], i);
+    }
+    Words::from_array(lanes)
 }
 
 /// Returns the 32 bytes of each lane as eight words of four bytes, high byte first.
-pub fn to_words(halves: &[[u8; 32]; 4]) -> [u32x4; 8]
-    ensures { (j : ℕ) → j < 4 → lane_bytes j result ≡ slice_index_or halves.now j [] }
+pub fn to_words(halves: &[[u8; 32]; LANES]) -> [Words; 8]
+    ensures { (j : ℕ) → j < LANES → lane_bytes j result ≡ slice_index_or halves.now j [] }
 {
     [
         words(halves, 0),
@@ -50,23 +49,32 @@ pub fn to_words(halves: &[[u8; 32]; 4]) -> [u32x4; 8]
 }
 
 /// Returns the 32 bytes that each lane's words stand for, high byte first.
-pub fn to_bytes(words: &[u32x4; 8]) -> [[u8; 32]; 4]
-    ensures width { length result ≡ 4 }
-    ensures value { (j : ℕ) → j < 4 → slice_index_or result j [] ≡ lane_bytes j words.now }
+pub fn to_bytes(words: &[Words; 8]) -> [[u8; 32]; LANES]
+    ensures width { length result ≡ LANES }
+    ensures value { (j : ℕ) → j < LANES → slice_index_or result j [] ≡ lane_bytes j words.now }
 {
-    let [a0, b0, c0, d0] = words[0].to_array();
-    let [a1, b1, c1, d1] = words[1].to_array();
-    let [a2, b2, c2, d2] = words[2].to_array();
-    let [a3, b3, c3, d3] = words[3].to_array();
-    let [a4, b4, c4, d4] = words[4].to_array();
-    let [a5, b5, c5, d5] = words[5].to_array();
-    let [a6, b6, c6, d6] = words[6].to_array();
-    let [a7, b7, c7, d7] = words[7].to_array();
+    let mut halves = [[0; 32]; LANES];
+    'lanes: for j in 0..LANES {
+        halves[j] = bytes(&words_of_lane(words, j));
+    }
+    halves
+}
+
+// Returns the words of this lane.
+#[inline(always)]
+fn words_of_lane(words: &[Words; 8], j: usize) -> [u32; 8]
+    requires { j < LANES }
+    ensures { result ≡ state j words.now }
+{
     [
-        bytes(&[a0, a1, a2, a3, a4, a5, a6, a7]),
-        bytes(&[b0, b1, b2, b3, b4, b5, b6, b7]),
-        bytes(&[c0, c1, c2, c3, c4, c5, c6, c7]),
-        bytes(&[d0, d1, d2, d3, d4, d5, d6, d7]),
+        words[0].to_array()[j],
+        words[1].to_array()[j],
+        words[2].to_array()[j],
+        words[3].to_array()[j],
+        words[4].to_array()[j],
+        words[5].to_array()[j],
+        words[6].to_array()[j],
+        words[7].to_array()[j],
     ]
 }
 

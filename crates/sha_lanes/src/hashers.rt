@@ -1,4 +1,4 @@
-//! Four messages that are hashed side by side, 64 bytes of each at a time.
+//! Messages that are hashed side by side, 64 bytes of each at a time.
 ghost use Rattle.std.specs.Prelude.{◌≡◌, ℕ, ◌<◌, ◌%◌, ◌^◌, List, [], ◌∷◌, ◌++◌, replicate, slice_index, slice_index_or};
 ghost use Rattle.std.specs.Int.{w64, to_be_bytes};
 ghost use Rattle.sha2.specs.Sha256.{compress, sha256};
@@ -9,7 +9,7 @@ use crate::blocks::blocks;
 use crate::halves::{to_bytes, to_words};
 use crate::rounds::{compress, initial_states};
 use crate::scheduling::Schedules;
-use std::simd::u32x4;
+use crate::words::{LANES, Words};
 
 /// The number of bytes of the two halves of a block.
 const BLOCK_BYTES: u64 = 64;
@@ -21,31 +21,31 @@ const PADDING_START: [u8; 32] = [
     0, 0, 0, 0, 0, 0, 0, 0, 0, 0, 0, 0, 0, 0, 0, 0,
 ];
 
-/// Hashers of four messages, each one byte longer than whole blocks of 64 bytes.
+/// Hashers of messages, one in each lane, each one byte longer than whole blocks of 64 bytes.
 #[derive(Drop)]
-pub struct FourHashers {
+pub struct LaneHashers {
     // The hash values after all whole blocks, one word in each vector.
-    a: u32x4,
-    b: u32x4,
-    c: u32x4,
-    d: u32x4,
-    e: u32x4,
-    f: u32x4,
-    g: u32x4,
-    h: u32x4,
+    a: Words,
+    b: Words,
+    c: Words,
+    d: Words,
+    e: Words,
+    f: Words,
+    g: Words,
+    h: Words,
     // Words whose low bytes are the last bytes of the messages, which are in no whole block yet.
-    carry: u32x4,
+    carry: Words,
     // The length of each message so far, in bytes modulo 2^64.
     total: u64,
 }
 
-impl FourHashers {
-    /// Returns the hashers of four messages, each of which is the one byte `byte`.
-    pub fn new(byte: u8) -> FourHashers
-        ensures { (j : ℕ) → j < 4 → HoldsLane j result (byte ∷ []) }
+impl LaneHashers {
+    /// Returns hashers of messages, each of which is the one byte `byte`.
+    pub fn new(byte: u8) -> LaneHashers
+        ensures { (j : ℕ) → j < LANES → HoldsLane j result (byte ∷ []) }
     {
         let [a, b, c, d, e, f, g, h] = initial_states();
-        FourHashers {
+        LaneHashers {
             a,
             b,
             c,
@@ -54,29 +54,29 @@ impl FourHashers {
             f,
             g,
             h,
-            carry: u32x4::splat(u32::from(byte)),
+            carry: Words::splat(u32::from(byte)),
             total: 1,
         }
     }
 
-    /// Returns the hashers of four messages that all have this hash value, this word whose low byte is
-    /// carried, and this length.
-    pub(crate) fn alike(hash: &[u32; 8], carry: u32, total: u64) -> FourHashers
-        ensures state { (j : ℕ) → j < 4 → state_of j result ≡ hash.now }
-        ensures carry { (j : ℕ) → j < 4 → slice_index result.carry j ≡ carry }
+    /// Returns hashers of messages that all have this hash value, this word whose low byte is carried, and
+    /// this length.
+    pub(crate) fn alike(hash: &[u32; 8], carry: u32, total: u64) -> LaneHashers
+        ensures state { (j : ℕ) → j < LANES → state_of j result ≡ hash.now }
+        ensures carry { (j : ℕ) → j < LANES → slice_index result.carry j ≡ carry }
         ensures total { result.total ≡ total }
     {
         let [a, b, c, d, e, f, g, h] = *hash;
-        FourHashers {
-            a: u32x4::splat(a),
-            b: u32x4::splat(b),
-            c: u32x4::splat(c),
-            d: u32x4::splat(d),
-            e: u32x4::splat(e),
-            f: u32x4::splat(f),
-            g: u32x4::splat(g),
-            h: u32x4::splat(h),
-            carry: u32x4::splat(carry),
+        LaneHashers {
+            a: Words::splat(a),
+            b: Words::splat(b),
+            c: Words::splat(c),
+            d: Words::splat(d),
+            e: Words::splat(e),
+            f: Words::splat(f),
+            g: Words::splat(g),
+            h: Words::splat(h),
+            carry: Words::splat(carry),
             total,
         }
     }
@@ -86,10 +86,10 @@ impl FourHashers {
     fn hashed(
         &self,
         schedules: &mut Schedules,
-        first: &[u32x4; 8],
-        second: &[u32x4; 8],
-    ) -> [u32x4; 8]
-        ensures { (j : ℕ) → j < 4 → state j result
+        first: &[Words; 8],
+        second: &[Words; 8],
+    ) -> [Words; 8]
+        ensures { (j : ℕ) → j < LANES → state j result
             ≡ compress (state_of j self.now) (block (slice_index self.now.carry j % 2 ^ 8)
             (lane_bytes j first.now) (lane_bytes j second.now)) }
     {
@@ -101,8 +101,8 @@ impl FourHashers {
     }
 
     /// Appends 64 bytes to each message, given as two halves of eight words each.
-    pub fn update(&mut self, schedules: &mut Schedules, first: &[u32x4; 8], second: &[u32x4; 8])
-        ensures { (j : ℕ) → j < 4 → (m : List ℕ) → HoldsLane j self.old m → HoldsLane j self.new
+    pub fn update(&mut self, schedules: &mut Schedules, first: &[Words; 8], second: &[Words; 8])
+        ensures { (j : ℕ) → j < LANES → (m : List ℕ) → HoldsLane j self.old m → HoldsLane j self.new
             (m ++ (lane_bytes j first.now ++ lane_bytes j second.now)) }
     {
         let [a, b, c, d, e, f, g, h] = self.hashed(schedules, first, second);
@@ -118,14 +118,14 @@ impl FourHashers {
         self.total = self.total.wrapping_add(BLOCK_BYTES);
     }
 
-    /// Returns the digests of the four messages.
-    pub fn finalize(self, schedules: &mut Schedules) -> [[u8; 32]; 4]
-        ensures { (j : ℕ) → j < 4 → (m : List ℕ) → HoldsLane j self m
+    /// Returns the digests of the messages.
+    pub fn finalize(self, schedules: &mut Schedules) -> [[u8; 32]; LANES]
+        ensures { (j : ℕ) → j < LANES → (m : List ℕ) → HoldsLane j self m
             → slice_index_or result j [] ≡ sha256 m }
     {
         let bits = self.total.wrapping_mul(8);
-        let first = to_words(&[PADDING_START; 4]);
-        let second = to_words(&[length_half(bits); 4]);
+        let first = to_words(&[PADDING_START; LANES]);
+        let second = to_words(&[length_half(bits); LANES]);
         to_bytes(&self.hashed(schedules, &first, &second))
     }
 }

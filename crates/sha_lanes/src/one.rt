@@ -1,21 +1,22 @@
-//! One message that is hashed 256 bytes at a time.
+//! One message that is hashed many blocks at a time, one for each lane.
 //!
-//! The rounds over a block add its schedule, which depends on the block alone. So the schedules of four
-//! blocks of a message are made side by side, and only the rounds go over one block after another.
-ghost use Rattle.std.specs.Prelude.{◌≡◌, ℕ, ◌%◌, ◌^◌, List, [], ◌∷◌, ◌++◌, slice_index, slice_index_or};
+//! The rounds over a block add its schedule, which depends on the block alone. So the schedules of as many
+//! blocks of a message as there are lanes are made side by side, and only the rounds go over one block
+//! after another.
+ghost use Rattle.std.specs.Prelude.{◌≡◌, ℕ, ◌<◌, ◌+◌, ◌%◌, ◌^◌, List, [], ◌∷◌, ◌++◌, slice_index, slice_index_or};
 ghost use Rattle.sha2.specs.Sha256.{sha256};
 ghost use Rattle.sha_lanes.specs.Lanes.{lane_at};
-ghost use Rattle.sha_lanes.specs.One.{HoldsOne, four_blocks};
+ghost use Rattle.sha_lanes.specs.One.{HoldsOne, all_blocks};
 
 use crate::blocks::blocks;
-use crate::hashers::FourHashers;
-use crate::plain::compress_four;
+use crate::hashers::LaneHashers;
+use crate::plain::compress_lanes;
 use crate::rounds::INITIAL_HASH;
 use crate::scheduling::Schedules;
-use std::simd::u32x4;
+use crate::words::{LANES, Words};
 
-/// The number of bytes of the two halves of four blocks.
-const TURN_BYTES: u64 = 256;
+/// The number of bytes of the two halves of a block in each lane.
+const TURN_BYTES: u64 = 64 * LANES as u64;
 
 /// A hasher of one message, which is one byte longer than whole blocks of 64 bytes.
 #[derive(Drop)]
@@ -40,16 +41,15 @@ impl OneHasher {
         }
     }
 
-    /// Appends 256 bytes to the message: the two halves of 64 bytes in lane 0, and then those in lanes 1,
-    /// 2 and 3.
-    pub fn update(&mut self, first: &[u32x4; 8], second: &[u32x4; 8])
+    /// Appends 64 bytes for each lane to the message: the two halves in lane 0, and then those in the lanes
+    /// after it.
+    pub fn update(&mut self, first: &[Words; 8], second: &[Words; 8])
         ensures { (m : List ℕ) → HoldsOne self.old m
-            → HoldsOne self.new (m ++ four_blocks first.now second.now) }
+            → HoldsOne self.new (m ++ all_blocks first.now second.now) }
     {
-        let [last0, last1, last2, last3] = second[7].to_array();
-        let carry = u32x4::from_array([self.carry, last0, last1, last2]);
-        self.hash = compress_four(self.hash, &blocks(carry, first, second));
-        self.carry = last3;
+        let carry = carried(self.carry, second[7]);
+        self.hash = compress_lanes(self.hash, &blocks(carry, first, second));
+        self.carry = second[7].to_array()[LANES - 1];
         self.total = self.total.wrapping_add(TURN_BYTES);
     }
 
@@ -57,7 +57,22 @@ impl OneHasher {
     pub fn finalize(self) -> [u8; 32]
         ensures { (m : List ℕ) → HoldsOne self m → result ≡ sha256 m }
     {
-        let alike = FourHashers::alike(&self.hash, self.carry, self.total);
+        let alike = LaneHashers::alike(&self.hash, self.carry, self.total);
         alike.finalize(&mut Schedules::new())[0]
     }
+}
+
+// Returns for each lane the word whose low byte is carried into the lane's block: in lane 0 this word, and
+// in each other lane the last word of the second half in the lane before.
+#[inline(always)]
+fn carried(carry: u32, last: Words) -> Words
+    ensures first { slice_index result 0 ≡ carry }
+    ensures others { (j : ℕ) → j + 1 < LANES → slice_index result (j + 1) ≡ slice_index last j }
+{
+    let before = last.to_array();
+    let mut words = [carry; LANES];
+    'lanes: for j in 1..LANES {
+        words[j] = before[j - 1];
+    }
+    Words::from_array(words)
 }

@@ -4,8 +4,7 @@ ghost use Rattle.sha2.specs.Sha256.{compress, initial_hash_256, round, round_con
 ghost use Rattle.sha_lanes.specs.Lanes.{HasWords, lane, state};
 
 use crate::scheduling::Schedules;
-use crate::words::{add, big_sigma0, big_sigma1, ch, maj};
-use std::simd::u32x4;
+use crate::words::{LANES, Words, add, big_sigma0, big_sigma1, ch, maj};
 
 /// The number of words of a block.
 pub const BLOCK_WORDS: usize = 16;
@@ -13,34 +12,34 @@ pub const BLOCK_WORDS: usize = 16;
 /// The number of rounds over a block, each of which has a word of its own.
 pub const ROUNDS: usize = 64;
 
-// A row of four equal constants for each round.
+// A row of equal constants for each round, one for each lane.
 struct RoundConstants {
     // The value means nothing. The field aligns the rows to 16 bytes, so that no row lies on two lines of
     // a cache.
     alignment: u128,
-    rows: [[u32; 4]; ROUNDS],
+    rows: [[u32; LANES]; ROUNDS],
 }
 
 // K: the first 32 bits of the fractional parts of the cube roots of the first 64 primes (FIPS 180-4,
 // section 4.2.2). Each stands once for each lane, so that a round adds the row as it is read.
 #[rattlefmt::skip]
 static ROUND_CONSTANTS: RoundConstants = RoundConstants { alignment: 0, rows: [
-    [0x428a_2f98; 4], [0x7137_4491; 4], [0xb5c0_fbcf; 4], [0xe9b5_dba5; 4],
-    [0x3956_c25b; 4], [0x59f1_11f1; 4], [0x923f_82a4; 4], [0xab1c_5ed5; 4],
-    [0xd807_aa98; 4], [0x1283_5b01; 4], [0x2431_85be; 4], [0x550c_7dc3; 4],
-    [0x72be_5d74; 4], [0x80de_b1fe; 4], [0x9bdc_06a7; 4], [0xc19b_f174; 4],
-    [0xe49b_69c1; 4], [0xefbe_4786; 4], [0x0fc1_9dc6; 4], [0x240c_a1cc; 4],
-    [0x2de9_2c6f; 4], [0x4a74_84aa; 4], [0x5cb0_a9dc; 4], [0x76f9_88da; 4],
-    [0x983e_5152; 4], [0xa831_c66d; 4], [0xb003_27c8; 4], [0xbf59_7fc7; 4],
-    [0xc6e0_0bf3; 4], [0xd5a7_9147; 4], [0x06ca_6351; 4], [0x1429_2967; 4],
-    [0x27b7_0a85; 4], [0x2e1b_2138; 4], [0x4d2c_6dfc; 4], [0x5338_0d13; 4],
-    [0x650a_7354; 4], [0x766a_0abb; 4], [0x81c2_c92e; 4], [0x9272_2c85; 4],
-    [0xa2bf_e8a1; 4], [0xa81a_664b; 4], [0xc24b_8b70; 4], [0xc76c_51a3; 4],
-    [0xd192_e819; 4], [0xd699_0624; 4], [0xf40e_3585; 4], [0x106a_a070; 4],
-    [0x19a4_c116; 4], [0x1e37_6c08; 4], [0x2748_774c; 4], [0x34b0_bcb5; 4],
-    [0x391c_0cb3; 4], [0x4ed8_aa4a; 4], [0x5b9c_ca4f; 4], [0x682e_6ff3; 4],
-    [0x748f_82ee; 4], [0x78a5_636f; 4], [0x84c8_7814; 4], [0x8cc7_0208; 4],
-    [0x90be_fffa; 4], [0xa450_6ceb; 4], [0xbef9_a3f7; 4], [0xc671_78f2; 4],
+    [0x428a_2f98; LANES], [0x7137_4491; LANES], [0xb5c0_fbcf; LANES], [0xe9b5_dba5; LANES],
+    [0x3956_c25b; LANES], [0x59f1_11f1; LANES], [0x923f_82a4; LANES], [0xab1c_5ed5; LANES],
+    [0xd807_aa98; LANES], [0x1283_5b01; LANES], [0x2431_85be; LANES], [0x550c_7dc3; LANES],
+    [0x72be_5d74; LANES], [0x80de_b1fe; LANES], [0x9bdc_06a7; LANES], [0xc19b_f174; LANES],
+    [0xe49b_69c1; LANES], [0xefbe_4786; LANES], [0x0fc1_9dc6; LANES], [0x240c_a1cc; LANES],
+    [0x2de9_2c6f; LANES], [0x4a74_84aa; LANES], [0x5cb0_a9dc; LANES], [0x76f9_88da; LANES],
+    [0x983e_5152; LANES], [0xa831_c66d; LANES], [0xb003_27c8; LANES], [0xbf59_7fc7; LANES],
+    [0xc6e0_0bf3; LANES], [0xd5a7_9147; LANES], [0x06ca_6351; LANES], [0x1429_2967; LANES],
+    [0x27b7_0a85; LANES], [0x2e1b_2138; LANES], [0x4d2c_6dfc; LANES], [0x5338_0d13; LANES],
+    [0x650a_7354; LANES], [0x766a_0abb; LANES], [0x81c2_c92e; LANES], [0x9272_2c85; LANES],
+    [0xa2bf_e8a1; LANES], [0xa81a_664b; LANES], [0xc24b_8b70; LANES], [0xc76c_51a3; LANES],
+    [0xd192_e819; LANES], [0xd699_0624; LANES], [0xf40e_3585; LANES], [0x106a_a070; LANES],
+    [0x19a4_c116; LANES], [0x1e37_6c08; LANES], [0x2748_774c; LANES], [0x34b0_bcb5; LANES],
+    [0x391c_0cb3; LANES], [0x4ed8_aa4a; LANES], [0x5b9c_ca4f; LANES], [0x682e_6ff3; LANES],
+    [0x748f_82ee; LANES], [0x78a5_636f; LANES], [0x84c8_7814; LANES], [0x8cc7_0208; LANES],
+    [0x90be_fffa; LANES], [0xa450_6ceb; LANES], [0xbef9_a3f7; LANES], [0xc671_78f2; LANES],
 ]};
 
 /// H: the first 32 bits of the fractional parts of the square roots of the first eight primes (FIPS 180-4,
@@ -58,35 +57,35 @@ pub const INITIAL_HASH: [u32; 8] = [
 
 /// Returns the initial hash value, in each lane.
 #[inline(always)]
-pub fn initial_states() -> [u32x4; 8]
-    ensures { (j : ℕ) → j < 4 → state j result ≡ initial_hash_256 }
+pub fn initial_states() -> [Words; 8]
+    ensures { (j : ℕ) → j < LANES → state j result ≡ initial_hash_256 }
 {
     let [a, b, c, d, e, f, g, h] = INITIAL_HASH;
     [
-        u32x4::splat(a),
-        u32x4::splat(b),
-        u32x4::splat(c),
-        u32x4::splat(d),
-        u32x4::splat(e),
-        u32x4::splat(f),
-        u32x4::splat(g),
-        u32x4::splat(h),
+        Words::splat(a),
+        Words::splat(b),
+        Words::splat(c),
+        Words::splat(d),
+        Words::splat(e),
+        Words::splat(f),
+        Words::splat(g),
+        Words::splat(h),
     ]
 }
 
 /// Returns the constant of round `t`, in each lane.
 #[inline(always)]
-pub fn constant_at(t: usize) -> u32x4
+pub fn constant_at(t: usize) -> Words
     requires { t < ROUNDS }
-    ensures { (j : ℕ) → j < 4 → slice_index result j ≡ slice_index round_constants t }
+    ensures { (j : ℕ) → j < LANES → slice_index result j ≡ slice_index round_constants t }
 {
-    u32x4::from_array(ROUND_CONSTANTS.rows[t])
+    Words::from_array(ROUND_CONSTANTS.rows[t])
 }
 
 // Returns the working variables of each lane after one round (FIPS 180-4, section 6.2.2, step 3).
 #[inline(always)]
-fn round(v: [u32x4; 8], constant: u32x4, word: u32x4) -> [u32x4; 8]
-    ensures { (j : ℕ) → j < 4 → state j result
+fn round(v: [Words; 8], constant: Words, word: Words) -> [Words; 8]
+    ensures { (j : ℕ) → j < LANES → state j result
         ≡ round (state j v) (slice_index constant j) (slice_index word j) }
 {
     let [a, b, c, d, e, f, g, h] = v;
@@ -98,9 +97,9 @@ fn round(v: [u32x4; 8], constant: u32x4, word: u32x4) -> [u32x4; 8]
 
 // Returns the working variables after round `t`, with its constant and its word.
 #[inline(always)]
-fn round_at(schedules: &Schedules, v: [u32x4; 8], t: usize) -> [u32x4; 8]
+fn round_at(schedules: &Schedules, v: [Words; 8], t: usize) -> [Words; 8]
     requires { t < ROUNDS }
-    ensures { (j : ℕ) → j < 4 → (h : List ℕ) → state j v ≡ rounds h (lane j schedules.now) t
+    ensures { (j : ℕ) → j < LANES → (h : List ℕ) → state j v ≡ rounds h (lane j schedules.now) t
         → state j result ≡ rounds h (lane j schedules.now) (t + 1) }
 {
     round(v, constant_at(t), schedules.word(t))
@@ -109,9 +108,9 @@ fn round_at(schedules: &Schedules, v: [u32x4; 8], t: usize) -> [u32x4; 8]
 // Returns the working variables after the eight rounds from `t` on, after which each variable is in its
 // place again.
 #[inline(always)]
-fn eight_rounds(schedules: &Schedules, v: [u32x4; 8], t: usize) -> [u32x4; 8]
+fn eight_rounds(schedules: &Schedules, v: [Words; 8], t: usize) -> [Words; 8]
     requires { t + 8 ≤ ROUNDS }
-    ensures { (j : ℕ) → j < 4 → (h : List ℕ) → state j v ≡ rounds h (lane j schedules.now) t
+    ensures { (j : ℕ) → j < LANES → (h : List ℕ) → state j v ≡ rounds h (lane j schedules.now) t
         → state j result ≡ rounds h (lane j schedules.now) (t + 8) }
 {
     let v = round_at(schedules, v, t);
@@ -129,8 +128,8 @@ fn eight_rounds(schedules: &Schedules, v: [u32x4; 8], t: usize) -> [u32x4; 8]
 ///
 /// It is not inlined: one copy serves all callers, so that it stays in the processor's caches.
 #[inline(never)]
-pub fn compress(start: [u32x4; 8], schedules: &mut Schedules) -> [u32x4; 8]
-    ensures { (j : ℕ) → j < 4 → (b : List ℕ) → HasWords j (take 16 schedules.old) b
+pub fn compress(start: [Words; 8], schedules: &mut Schedules) -> [Words; 8]
+    ensures { (j : ℕ) → j < LANES → (b : List ℕ) → HasWords j (take 16 schedules.old) b
         → state j result ≡ compress (state j start) b }
 {
     schedules.extend();

@@ -1,20 +1,20 @@
-//! The message schedules of four blocks side by side (FIPS 180-4, section 6.2.2, step 1).
+//! The message schedules of blocks side by side, one in each lane (FIPS 180-4, section 6.2.2, step 1).
 ghost use Rattle.std.specs.Prelude.{◌≡◌, ℕ, ◌<◌, ◌≤◌, ◌-◌, List, [], length, slice_index, slice_index_or, slice_set, take};
 ghost use Rattle.sha2.specs.Sha256.{next_word, schedule};
 ghost use Rattle.sha_lanes.specs.Lanes.{HasWords, lane, lane_at};
 
 use crate::rounds::{BLOCK_WORDS, ROUNDS};
-use crate::words::{add, small_sigma0, small_sigma1};
+use crate::words::{LANES, Words, add, small_sigma0, small_sigma1};
 use std::marker::Model;
-use std::simd::u32x4;
 
 // The words of one round, one in each lane.
 #[derive(Clone, Copy)]
 struct Row {
-    lanes: u32x4,
+    lanes: Words,
 }
 
-/// Room for the message schedules of four blocks side by side: for each round one word of each block.
+/// Room for the message schedules of blocks side by side, one in each lane: for each round one word of each
+/// block.
 ///
 /// What the room has between two calls has no meaning, since each call writes a word before it reads the
 /// word. The room is filled with zeros when it is made. So a caller that hashes many messages makes it
@@ -44,14 +44,14 @@ impl Schedules {
         Schedules {
             alignment: 0,
             rows: [Row {
-                lanes: u32x4::splat(0),
+                lanes: Words::splat(0),
             }; ROUNDS],
         }
     }
 
     /// Returns the words of round `t`, one in each lane.
     #[inline(always)]
-    pub(crate) fn word(&self, t: usize) -> u32x4
+    pub(crate) fn word(&self, t: usize) -> Words
         requires { t < ROUNDS }
         ensures width { length self.now ≡ ROUNDS }
         ensures value { result ≡ slice_index_or self.now t [] }
@@ -61,7 +61,7 @@ impl Schedules {
 
     /// Sets the words of round `t`.
     #[inline(always)]
-    pub(crate) fn set_word(&mut self, t: usize, word: u32x4)
+    pub(crate) fn set_word(&mut self, t: usize, word: Words)
         requires { t < ROUNDS }
         ensures { self.new ≡ slice_set self.old t word }
     {
@@ -70,7 +70,7 @@ impl Schedules {
 
     /// Sets the words of the first 16 rounds to those of a block in each lane.
     #[inline(always)]
-    pub(crate) fn begin(&mut self, block: &[u32x4; BLOCK_WORDS])
+    pub(crate) fn begin(&mut self, block: &[Words; BLOCK_WORDS])
         ensures { take 16 self.new ≡ block.now }
     {
         let _ = &self.rows;
@@ -81,10 +81,10 @@ impl Schedules {
 
     // Returns word `t` of the schedules, made of the words before it. Word `t - 2` is given.
     #[inline(always)]
-    fn next_word(&self, t: usize, second_last: u32x4) -> u32x4
+    fn next_word(&self, t: usize, second_last: Words) -> Words
         requires block { BLOCK_WORDS ≤ t }
         requires below { t < ROUNDS }
-        ensures { (j : ℕ) → j < 4 → slice_index second_last j ≡ lane_at self.now (t - 2) j
+        ensures { (j : ℕ) → j < LANES → slice_index second_last j ≡ lane_at self.now (t - 2) j
             → slice_index result j ≡ next_word (lane j self.now) t }
     {
         let near = add(small_sigma1(second_last), self.word(t - 7));
@@ -98,7 +98,7 @@ impl Schedules {
     /// schedules were begun. Each turn makes two words, which are at hand for the next turn.
     #[inline(always)]
     pub(crate) fn extend(&mut self)
-        ensures { (j : ℕ) → j < 4 → (b : List ℕ) → HasWords j (take 16 self.old) b
+        ensures { (j : ℕ) → j < LANES → (b : List ℕ) → HasWords j (take 16 self.old) b
             → lane j self.new ≡ schedule b 48 }
     {
         let mut even = self.word(BLOCK_WORDS - 2);

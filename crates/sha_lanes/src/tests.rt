@@ -2,7 +2,8 @@
 use super::*;
 use sha2::{Digest, Sha256};
 
-// The digests of the byte 0 and 32 bytes of value n, where n is the number of the lane.
+// The digests of the byte 0 and 32 bytes of value n in the first four lanes, where n is the number of the
+// lane.
 const IMAGES: [[u8; 32]; 4] = [
     [
         0x7f, 0x9c, 0x9e, 0x31, 0xac, 0x82, 0x56, 0xca, 0x2f, 0x25, 0x85, 0x83, 0xdf, 0x26, 0x2d,
@@ -26,8 +27,8 @@ const IMAGES: [[u8; 32]; 4] = [
     ],
 ];
 
-// The digests of the byte 1 and then 32 bytes each of the values n, n + 10, n + 20 and n + 30, where n is
-// the number of the lane.
+// The digests of the byte 1 and then 32 bytes each of the values n, n + 10, n + 20 and n + 30 in the first
+// four lanes, where n is the number of the lane.
 const LONGER: [[u8; 32]; 4] = [
     [
         0x54, 0xc1, 0x76, 0x06, 0x9e, 0xf4, 0x40, 0xc0, 0xe0, 0x51, 0x6c, 0xd3, 0x52, 0x03, 0xfc,
@@ -51,19 +52,11 @@ const LONGER: [[u8; 32]; 4] = [
     ],
 ];
 
-const FIRST: [[u8; 32]; 4] = [[0; 32], [1; 32], [2; 32], [3; 32]];
-
-const SECOND: [[u8; 32]; 4] = [[10; 32], [11; 32], [12; 32], [13; 32]];
-
-const THIRD: [[u8; 32]; 4] = [[20; 32], [21; 32], [22; 32], [23; 32]];
-
-const FOURTH: [[u8; 32]; 4] = [[30; 32], [31; 32], [32; 32], [33; 32]];
-
-// The digest of one message, which is the byte 1, and then 512 bytes. Lane after lane, these are first 32
+// The digest of one message, which is the byte 1, and then 1,024 bytes. Lane after lane, these are first 32
 // bytes of the value n and 32 of n + 10, and then 32 of n + 20 and 32 of n + 30.
 const IN_ONE: [u8; 32] = [
-    0x2b, 0x62, 0xb0, 0xf4, 0x80, 0x26, 0xe9, 0xa8, 0x03, 0x08, 0x90, 0x71, 0xdc, 0x62, 0x51, 0x78,
-    0x62, 0x1b, 0x25, 0xde, 0x04, 0x6f, 0xca, 0xb7, 0x0b, 0xf5, 0x6a, 0xbc, 0x20, 0x2d, 0xce, 0xf1,
+    0x9c, 0xb8, 0x6a, 0xb2, 0x8a, 0xfa, 0xa1, 0xdb, 0x1f, 0xeb, 0x23, 0xd1, 0x6e, 0x69, 0x12, 0x80,
+    0x61, 0xcf, 0xb8, 0x05, 0x8a, 0x52, 0x2e, 0x33, 0xa0, 0x39, 0x5f, 0xf7, 0xc7, 0x6c, 0x59, 0x99,
 ];
 
 // A message of 33 bytes without its first byte, which is 5; its digest follows. The two are the vector of
@@ -78,54 +71,86 @@ const VALIDATED_DIGEST: [u8; 32] = [
     0xb2, 0x4c, 0xa6, 0xf0, 0x9f, 0xef, 0x69, 0x40, 0x2d, 0xc9, 0x0e, 0xce, 0x74, 0x21, 0xcb, 0xb7,
 ];
 
+// Returns 32 bytes of the value `first + n` for each lane, where n is the number of the lane.
+fn rows(first: u8) -> [[u8; 32]; LANES] {
+    let mut rows = [[0; 32]; LANES];
+    let mut value = first;
+    for row in &mut rows {
+        *row = [value; 32];
+        value = value.wrapping_add(1);
+    }
+    rows
+}
+
+// Returns the words of those bytes.
+fn words_from(first: u8) -> [Words; 8] {
+    to_words(&rows(first))
+}
+
 #[test]
 fn a_vector_of_the_standards_validation_holds(rt: HostRuntime) {
-    let messages = to_words(&[VALIDATED; 4]);
-    assert!(rt; to_bytes(&images(&mut Schedules::new(), 5, &messages)) == [VALIDATED_DIGEST; 4]);
+    let messages = to_words(&[VALIDATED; LANES]);
+    assert!(rt;
+        to_bytes(&images(&mut Schedules::new(), 5, &messages)) == [VALIDATED_DIGEST; LANES]
+    );
 }
 
 #[test]
 fn images_are_those_of_another_program(rt: HostRuntime) {
-    assert!(rt; to_bytes(&images(&mut Schedules::new(), 0, &to_words(&FIRST))) == IMAGES);
+    let found = to_bytes(&images(&mut Schedules::new(), 0, &words_from(0)));
+    assert!(rt; found.starts_with(&IMAGES));
 }
 
 #[test]
 fn longer_messages_are_those_of_another_program(rt: HostRuntime) {
     let mut schedules = Schedules::new();
-    let mut hashers = FourHashers::new(1);
-    hashers.update(&mut schedules, &to_words(&FIRST), &to_words(&SECOND));
-    hashers.update(&mut schedules, &to_words(&THIRD), &to_words(&FOURTH));
-    assert!(rt; hashers.finalize(&mut schedules) == LONGER);
+    let mut hashers = LaneHashers::new(1);
+    hashers.update(&mut schedules, &words_from(0), &words_from(10));
+    hashers.update(&mut schedules, &words_from(20), &words_from(30));
+    assert!(rt; hashers.finalize(&mut schedules).starts_with(&LONGER));
 }
 
 #[test]
 fn lanes_are_those_of_one_message_after_another(rt: HostRuntime) {
-    let found = to_bytes(&images(&mut Schedules::new(), 0xff, &to_words(&FOURTH)));
-    for lane in 0..4 {
+    let messages = rows(30);
+    let found = to_bytes(&images(&mut Schedules::new(), 0xff, &to_words(&messages)));
+    for lane in 0..LANES {
         let mut hasher = Sha256::new();
         hasher.update([0xff]);
-        hasher.update(FOURTH[lane]);
+        hasher.update(messages[lane]);
         assert!(rt; found[lane] == hasher.finalize());
     }
 }
 
 #[test]
 fn words_have_their_high_bytes_first(rt: HostRuntime) {
-    let words = to_words(&[[0; 32], VALIDATED, [1; 32], [2; 32]]);
-    assert!(rt; words[0].to_array() == [0, 0x46f7_b868, 0x0101_0101, 0x0202_0202]);
-    assert!(rt; words[7].to_array() == [0, 0xaab3_88a7, 0x0101_0101, 0x0202_0202]);
-    assert!(rt; to_bytes(&words) == [[0; 32], VALIDATED, [1; 32], [2; 32]]);
+    let mut messages = rows(0);
+    messages[1] = VALIDATED;
+    let words = to_words(&messages);
+    assert!(rt;
+        words[0]
+            .to_array()
+            .starts_with(&[0, 0x46f7_b868, 0x0202_0202])
+    );
+    assert!(rt;
+        words[7]
+            .to_array()
+            .starts_with(&[0, 0xaab3_88a7, 0x0202_0202])
+    );
+    assert!(rt; to_bytes(&words) == messages);
 }
 
 #[test]
 fn one_byte_is_hashed_alone(rt: HostRuntime) {
-    assert!(rt; FourHashers::new(7).finalize(&mut Schedules::new()) == [Sha256::digest([7]); 4]);
+    assert!(rt;
+        LaneHashers::new(7).finalize(&mut Schedules::new()) == [Sha256::digest([7]); LANES]
+    );
 }
 
 #[test]
 fn one_message_is_that_of_another_program(rt: HostRuntime) {
     let mut hasher = OneHasher::new(1);
-    hasher.update(&to_words(&FIRST), &to_words(&SECOND));
-    hasher.update(&to_words(&THIRD), &to_words(&FOURTH));
+    hasher.update(&words_from(0), &words_from(10));
+    hasher.update(&words_from(20), &words_from(30));
     assert!(rt; hasher.finalize() == IN_ONE);
 }

@@ -1,5 +1,5 @@
-//! Rings and the leaves that are taken from them, signatures that are shared and copied, and four claims side
-//! by side.
+//! Rings and the leaves that are taken from them, signatures that are shared and copied, and claims side by
+//! side.
 use crate::made::{ring_of, root_of, signed};
 use gen_ots::SigRoom;
 use gen_ots::sizes::OTS_BYTES;
@@ -7,8 +7,9 @@ use gen_tree::sizes::{sibling_bytes, signature_bytes};
 use gen_tree::*;
 use gen_types::TreeHeight::{Four, Six};
 use gen_types::{GeneralNo, TreeHeight};
+use sha_lanes::LANES;
 use sha2::{Digest, Sha256};
-use std::alloc::Global;
+use std::alloc::{AllocError, Global};
 use std::test::Fail;
 
 /// The root of the tree of four levels of a seed of zeros.
@@ -38,13 +39,19 @@ fn opened(tree: &KeyTree) -> Result<([u8; 32], Option<u8>, Option<u8>), Fail> {
     Ok((root, first, again))
 }
 
+/// Returns whether the tree of a seed of zeros has this root, and a ring that is opened from it gives leaf 5
+/// once.
+fn is_opened(alloc: Global, height: TreeHeight, root: &[u8; 32]) -> Result<bool, Fail> {
+    let tree = KeyTree::from_seed(alloc, &[0; 32], height)?;
+    let (of_ring, first, again) = opened(&tree)?;
+    let have_root = tree.root() == *root && of_ring == *root;
+    Ok(have_root && tree.height() == height && first == Some(5) && again == None)
+}
+
 #[test]
 fn rings_opened_from_a_tree(rt: HostRuntime) -> Result<(), Fail> {
-    for (height, root) in [(Four, ROOT_OF_FOUR), (Six, ROOT_OF_SIX)] {
-        let tree = KeyTree::from_seed(rt.alloc(), &[0; 32], height)?;
-        assert!(rt; tree.root() == root && tree.height() == height);
-        assert!(rt; opened(&tree)? == (root, Some(5), None));
-    }
+    assert!(rt; is_opened(rt.alloc(), Four, &ROOT_OF_FOUR)?);
+    assert!(rt; is_opened(rt.alloc(), Six, &ROOT_OF_SIX)?);
     Ok(())
 }
 
@@ -67,17 +74,23 @@ fn asked(
 
 /// Returns whether leaf 3 and this one are exactly the leaves of a set.
 fn are_taken(leaves: &LeafSet, last: u8) -> bool {
-    leaves.len() == 2
-        && !leaves.is_empty()
-        && (0..=u8::MAX).all(|leaf| leaves.contains(leaf) == (leaf == 3 || leaf == last))
+    for leaf in 0..=u8::MAX {
+        if leaves.contains(leaf) != (leaf == 3 || leaf == last) {
+            return false;
+        }
+    }
+    leaves.len() == 2 && !leaves.is_empty()
+}
+
+/// Returns whether a new ring gives leaf 3 once and its last leaf, and none behind it.
+fn gives_leaves(alloc: Global, height: TreeHeight, last: u8) -> Result<bool, Fail> {
+    let (answers, leaves) = asked(alloc, height, [3, 3, last, last.wrapping_add(1)])?;
+    Ok(answers == [Some(3), None, Some(last), None] && are_taken(&leaves, last))
 }
 
 #[test]
 fn leaves_are_taken_once(rt: HostRuntime) -> Result<(), Fail> {
-    let (answers, leaves) = asked(rt.alloc(), Four, [3, 3, 15, 16])?;
-    assert!(rt; answers == [Some(3), None, Some(15), None] && are_taken(&leaves, 15));
-    let (answers, leaves) = asked(rt.alloc(), Six, [3, 3, 63, 64])?;
-    assert!(rt; answers == [Some(3), None, Some(63), None] && are_taken(&leaves, 63));
+    assert!(rt; gives_leaves(rt.alloc(), Four, 15)? && gives_leaves(rt.alloc(), Six, 63)?);
     Ok(())
 }
 
@@ -90,19 +103,25 @@ fn sets_of_leaves_compare(rt: HostRuntime) -> Result<(), Fail> {
     Ok(())
 }
 
-/// Returns whether a signature of the digest of "abc" by this leaf has the lengths of its height, and is
-/// equal to itself where it is shared, and where it is copied.
+/// Returns whether a signature has the lengths of its height.
+fn has_lengths(signature: &Signature, height: TreeHeight) -> bool {
+    let (one_time, siblings) = signature.parts();
+    one_time.len() == OTS_BYTES
+        && siblings.len() == sibling_bytes(height)
+        && signature.height() == height
+}
+
+/// Returns whether a signature is equal to itself where it is shared, and where it is copied.
+fn is_same(alloc: Global, signature: &Signature) -> Result<bool, AllocError> {
+    let copy = signature.copy(SigRoom::new(alloc, signature.height())?);
+    let shared = signature.share(alloc)?;
+    Ok(has_lengths(&copy, signature.height()) && copy == *signature && shared == *signature)
+}
+
+/// Returns whether that is so of a signature of the digest of "abc" by this leaf.
 fn is_copied(alloc: Global, height: TreeHeight, leaf: u8) -> Result<bool, Fail> {
     let signature = signed(alloc, height, leaf, &Sha256::digest("abc"))?;
-    let copy = signature.copy(SigRoom::new(alloc, height)?);
-    let (one_time, siblings) = signature.parts();
-    let lengths = one_time.len() == OTS_BYTES && siblings.len() == sibling_bytes(height);
-    Ok(
-        lengths
-            && copy.height() == height
-            && copy == signature
-            && signature.share(alloc)? == signature,
-    )
+    Ok(has_lengths(&signature, height) && is_same(alloc, &signature)?)
 }
 
 #[test]
@@ -111,59 +130,70 @@ fn signatures_are_copied(rt: HostRuntime) -> Result<(), Fail> {
     Ok(())
 }
 
-/// A claim of a signature of the digest of "abc", of which something may be changed.
+/// The claim of a signature of the digest of "abc" by a leaf.
 fn claim_of<'x>(
     root: &'x [u8; 32],
     height: TreeHeight,
     leaf: u8,
     signature: &'x Signature,
-    change: Option<u8>,
 ) -> SignatureClaim<'x> {
-    let mut digest = Sha256::digest("abc");
-    if change == Some(0) {
-        digest[31] ^= 1;
-    }
-    let other_height = if height == Four { Six } else { Four };
     SignatureClaim {
         root,
-        height: if change == Some(2) {
-            other_height
-        } else {
-            height
-        },
-        leaf: match change {
-            Some(1) => 255,
-            Some(3) => leaf ^ 1,
-            _ => leaf,
-        },
-        digest,
+        height,
+        leaf,
+        digest: Sha256::digest("abc"),
         signature,
     }
 }
 
-/// Returns the answers to claims of a signature by leaf 3 of a tree of four levels and of one by leaf 40 of a
-/// tree of six, each twice, once something of the claim at this place is changed.
-fn four_answers<'x>(
+/// Returns claims of a signature by leaf 3 of a tree of four levels and of one by leaf 40 of a tree of six,
+/// by turns, once one thing of the claim at this place is changed; of none if the place is 4 or more.
+fn claims_by_turns<'x>(
     roots: &'x [[u8; 32]; 2],
     four: &'x Signature,
     six: &'x Signature,
     place: usize,
-    change: u8,
-) -> [bool; 4] {
-    let change_at = |lane: usize| if lane == place { Some(change) } else { None };
-    verify_four(&[
-        claim_of(&roots[0], Four, 3, four, change_at(0)),
-        claim_of(&roots[1], Six, 40, six, change_at(1)),
-        claim_of(&roots[0], Four, 3, four, change_at(2)),
-        claim_of(&roots[1], Six, 40, six, change_at(3)),
-    ])
+) -> [SignatureClaim<'x>; LANES] {
+    let of_four = claim_of(&roots[0], Four, 3, four);
+    let of_six = claim_of(&roots[1], Six, 40, six);
+    let mut claims = [
+        of_four, of_six, of_four, of_six, of_four, of_six, of_four, of_six,
+    ];
+    match place {
+        0 => claims[0].digest[31] ^= 1,
+        1 => claims[1].leaf = 255,
+        2 => claims[2].height = Six,
+        3 => claims[3].leaf = 41,
+        _ => {}
+    }
+    claims
 }
 
-/// The place of the claim that is changed, or 4 for none, and what of it.
-const CHANGES: [(usize, u8); 5] = [(0, 0), (1, 1), (2, 2), (3, 3), (4, 0)];
+/// Returns whether the first answers, as many as these, are true but for the one at this place.
+fn are_true_elsewhere(answers: &[bool; LANES], count: usize, place: usize) -> bool {
+    let mut alike = true;
+    for lane in 0..LANES.min(count) {
+        alike = alike && answers[lane] == (place > 3 || lane != place);
+    }
+    alike
+}
+
+/// Returns whether each claim is answered for itself, wherever one is changed: in all lanes, and of three and
+/// five claims.
+fn are_answered(roots: &[[u8; 32]; 2], four: &Signature, six: &Signature) -> bool {
+    let mut alike = true;
+    for place in 0..5usize {
+        let claims = claims_by_turns(roots, four, six, place);
+        alike = alike
+            && are_true_elsewhere(&verify_lanes(&claims), LANES, place)
+            && are_true_elsewhere(&verify_claims(&claims[..3]), 3, place)
+            && are_true_elsewhere(&verify_claims(&claims[..5]), 5, place);
+    }
+    alike
+}
 
 #[test]
-fn four_claims_each_for_itself(rt: HostRuntime) -> Result<(), Fail> {
+fn claims_each_for_itself(rt: HostRuntime) -> Result<(), Fail> {
     let commander = GeneralNo::commander();
     let roots = [
         root_of(rt.alloc(), commander, Four)?,
@@ -171,11 +201,7 @@ fn four_claims_each_for_itself(rt: HostRuntime) -> Result<(), Fail> {
     ];
     let four = signed(rt.alloc(), Four, 3, &Sha256::digest("abc"))?;
     let six = signed(rt.alloc(), Six, 40, &Sha256::digest("abc"))?;
-    for (place, change) in CHANGES {
-        let wanted = [place != 0, place != 1, place != 2, place != 3];
-        let answers = four_answers(&roots, &four, &six, place, change);
-        assert!(rt; answers == wanted, "at {place}");
-    }
+    assert!(rt; are_answered(&roots, &four, &six));
     Ok(())
 }
 
@@ -195,16 +221,24 @@ fn reads_changed(pool: &mut SignaturePool, bytes: &mut [u8], at: usize) -> Resul
     Ok(spelled && first == again && first != changed)
 }
 
+/// Places of a signature's bytes: in the hashes and in the siblings.
+const PLACES: [usize; 5] = [7, 8, 16_383, 16_384, 16_511];
+
+/// Returns whether a pool gives what is read, wherever a byte is changed.
+fn gives_what_is_read(pool: &mut SignaturePool, bytes: &mut [u8]) -> Result<bool, Fail> {
+    for at in &PLACES {
+        if !reads_changed(pool, bytes, *at)? {
+            return Ok(false);
+        }
+    }
+    Ok(true)
+}
+
 #[test]
 fn a_pool_gives_what_is_read(rt: HostRuntime) -> Result<(), Fail> {
     let mut bytes = Vec::new(rt.alloc());
     signed(rt.alloc(), Four, 3, &Sha256::digest("abc"))?.append_to(&mut bytes)?;
     let mut pool = SignaturePool::new(rt.alloc());
-    for at in [7, 8, 16_383, 16_384, 16_511] {
-        assert!(rt;
-            reads_changed(&mut pool, bytes.as_mut_slice(), at)?,
-            "at {at}"
-        );
-    }
+    assert!(rt; gives_what_is_read(&mut pool, bytes.as_mut_slice())?);
     Ok(())
 }

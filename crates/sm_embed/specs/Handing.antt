@@ -19,6 +19,12 @@ IsTooLong text old new count = (count ≡ length text) × (length old < count) �
 abbrev pub IsUntouched : List ℕ → List ℕ → ℕ → Type 0
 IsUntouched old new count = (count ≡ 0) × (new ≡ old)
 
+-- the text was put into the room, and the number is 0; or it is longer than the room, its length alone is
+-- told, and the number is 5
+abbrev pub PutsText : List ℕ → List ℕ → List ℕ → ℕ → ℕ → Type 0
+PutsText text old new count status =
+    (status ≡ 0) × Fits text old new count ⊎ ((status ≡ 5) × IsTooLong text old new count)
+
 -- the text was handed; or it is longer than the room, and its length alone was handed
 abbrev pub HandsAnswer : List ℕ → Bool → List ℕ → List ℕ → ℕ → Handed → Type 0
 HandsAnswer text negative old new count Yes = (negative ≡ false) × Fits text old new count

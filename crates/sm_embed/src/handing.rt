@@ -8,7 +8,7 @@ use std::alloc::Global;
 
 /// Copies a text to the beginning of the room if it fits there, and returns whether it does. The count is the text's
 /// length in both cases.
-fn put(text: &[u8], room: &mut [u8], count: &mut usize) -> bool
+pub(crate) fn put(text: &[u8], room: &mut [u8], count: &mut usize) -> bool
     ensures fits { result ≡ true → Fits text.now room.old room.new count.new }
     ensures long { result ≡ false → IsTooLong text.now room.old room.new count.new }
 {
@@ -22,7 +22,7 @@ fn put(text: &[u8], room: &mut [u8], count: &mut usize) -> bool
 }
 
 /// Hands over the text of an answer.
-fn hand_answer(output: &Output, room: &mut [u8], count: &mut usize) -> Handed
+pub(crate) fn hand_answer(output: &Output, room: &mut [u8], count: &mut usize) -> Handed
     ensures { HandsAnswer output.now.text.items output.now.negative room.old room.new count.new result }
 {
     if !put(&output.text, room, count) {
@@ -56,14 +56,22 @@ fn hand_line(alloc: Global, fault: JobFault, room: &mut [u8], count: &mut usize)
 }
 
 /// Hands over the line that names an input's fault; nothing for any other fault.
-fn hand_fault(alloc: Global, fault: JobFault, room: &mut [u8], count: &mut usize) -> Handed
+pub(crate) fn hand_fault(
+    alloc: Global,
+    fault: JobFault,
+    room: &mut [u8],
+    count: &mut usize,
+) -> Handed
     ensures { HandsFault fault room.old room.new count.new result }
 {
     match fault {
-        JobFault::Scenario(_) | JobFault::Campaign(_) | JobFault::Evidence(_) => {
-            hand_line(alloc, fault, room, count)
-        }
-        JobFault::Memory | JobFault::Thread | JobFault::Read | JobFault::Write => {
+        JobFault::Scenario(_)
+        | JobFault::Campaign(_)
+        | JobFault::Evidence(_)
+        | JobFault::Log(_)
+        | JobFault::Seed(_)
+        | JobFault::OtherRun => hand_line(alloc, fault, room, count),
+        JobFault::Memory | JobFault::Thread | JobFault::Open | JobFault::Read | JobFault::Write => {
             *count = 0;
             Handed::Nothing
         }

@@ -12,23 +12,61 @@
 //! | 4 | nothing: memory was refused | 0 |
 //! | 5 | nothing: it is shorter than the text or line | the length of that |
 //!
-//! No function keeps anything between its calls, starts a thread, waits for one, prints, or ends the process. The
-//! contract of each function says what `Handed` and its `IsHanded` mean for it.
+//! Some functions take an answer in place of the room: one pointer, which owns what is held, and is null if nothing is.
+//! What was held before is dropped. The text is held whatever its length, and is handed over by `sm_answer_text` as often
+//! as it is asked for. Their numbers are 0 to 4, and 7.
+//!
+//! | number | what the answer holds |
+//! |---|---|
+//! | 0 | the text that the program writes, which doesn't say no |
+//! | 1 | the text that the program writes, which says no |
+//! | 2 | nothing: the number of a general is above 15, or more than four runs are asked for |
+//! | 3 | the line that names the input's fault, as the program writes it, without its LF |
+//! | 4 | nothing: memory was refused |
+//! | 7 | the line that says that the input is of another run than the one that is asked for |
+//!
+//! No function keeps anything outside the answer that it was handed, starts a thread, waits for one, prints, or ends the
+//! process. The contract of each function says what `Handed` and its `IsHanded` mean for it, or `Made` and its `IsMade`.
 #![tactic(auto)]
 
-ghost use Rattle.std.specs.Prelude.{ℕ, ◌≡◌, ◌<◌, ◌≤◌};
+ghost use Rattle.std.specs.Prelude.{ℕ, ◌≡◌, ◌<◌, ◌≤◌, None};
 ghost use Rattle.gen_jobs.specs.Accusing.{IsAccused};
+ghost use Rattle.gen_jobs.specs.Asking.{IsAccusedOf, IsAuditedAs, IsCheckedOf, IsDrawnOf, IsEvidenceFaultOf, IsShowFault};
 ghost use Rattle.gen_jobs.specs.Audit.{IsAudited, IsAuditFault};
 ghost use Rattle.gen_jobs.specs.Checking.{IsChecked, IsEvidenceFault};
 ghost use Rattle.gen_jobs.specs.Decide.{IsDecided, IsDecideFault};
 ghost use Rattle.gen_jobs.specs.Drawing.{IsDrawn};
+ghost use Rattle.gen_jobs.specs.Telling.{IsMemory, IsTold};
+ghost use Rattle.gen_jobs.specs.declared.telling.Telling.TheVariants as tellings;
 ghost use Rattle.sm_embed.specs.Handing.{IsHanded, IsUntouched};
+ghost use Rattle.sm_embed.specs.Knowing.{AccusesKnown};
+ghost use Rattle.sm_embed.specs.Making.{HandsKept, IsMade, IsMisuse, MakesIf, asked_in, is_strict};
+ghost use Rattle.sm_embed.specs.Refuting.{IsReplied};
+ghost use Rattle.sm_embed.specs.Runs.{TellsRuns};
 
 mod handed;
 mod handing;
+mod kept;
+mod knowing;
+mod loose;
+mod made;
+mod making;
+mod opaque;
+mod replied;
+mod replying;
+mod runs;
 
 use crate::handing::hand;
-use gen_jobs::{accuse_in_place, audit_in_place, decide, draw_in_place, evidence};
+use crate::knowing::{accuse_known, hand_known, status_of_known};
+use crate::making::{asked_in, hand_kept, keep};
+use crate::opaque::SmAnswer;
+use crate::replying::hand_reply;
+use crate::runs::tell_runs;
+use gen_answer::answer;
+use gen_jobs::{
+    Telling, accuse_asked_in_place, accuse_in_place, audit_asked_in_place, audit_in_place, decide,
+    draw_asked_in_place, draw_in_place, evidence, evidence_as_asked, tell,
+};
 use gen_types::GeneralNo;
 use std::alloc::Global;
 
@@ -92,4 +130,205 @@ pub extern "C" fn sm_decide(alloc: Global, input: &[u8], room: &mut [u8], count:
     ensures { IsHanded (IsDecided input.now) (IsDecideFault input.now) room.old room.new count.new result }
 {
     hand(alloc, decide(alloc, input), room, count).status()
+}
+
+/// Hands over the evidence that the bundle or the campaign in the input holds against a general, as `sm_accuse` does, but
+/// returns 6, and hands nothing over, if the general is no run's.
+#[unsafe(no_mangle)]
+pub extern "C" fn sm_accuse_known(
+    alloc: Global,
+    general: u32,
+    input: &[u8],
+    room: &mut [u8],
+    count: &mut usize,
+) -> u32
+    ensures general { general < 16 →
+        AccusesKnown general input.now room.old room.new count.new result }
+    // The number is 16 or more, so it is no general's.
+    ensures nobody { 16 ≤ general → (result ≡ 2) × IsUntouched room.old room.new count.new }
+{
+    if general >= 16 {
+        *count = 0;
+        return 2;
+    }
+    let accused = GeneralNo::at(general as u8);
+    status_of_known(hand_known(alloc, accuse_known(alloc, accused, input), room, count))
+}
+
+/// Hands over what answers evidence by a log of the accused: the text of the evidence that the log doesn't have, or two
+/// strings of bytes with one hash. It says no if there is no answer.
+#[unsafe(no_mangle)]
+pub extern "C" fn sm_refute(
+    alloc: Global,
+    evidence: &[u8],
+    log: &[u8],
+    room: &mut [u8],
+    count: &mut usize,
+) -> u32
+    ensures { IsReplied evidence.now log.now room.old room.new count.new result }
+{
+    hand_reply(alloc, answer(alloc, evidence, log), room, count).status()
+}
+
+/// Returns the number of the version of this library: 1000000 times the first number, 1000 times the second, and the
+/// third.
+#[unsafe(no_mangle)]
+pub extern "C" fn sm_version() -> u32
+    ensures { result ≡ 2000 }
+{
+    2000
+}
+
+/// Hands over the ids of the runs that the input is of, 32 bytes each: one of a header, a bundle or evidence, and of a
+/// campaign those of its runs in their order. It returns 0, or 5 if they are longer than the room, or 3, and hands
+/// nothing over, if the input is no whole header, bundle, campaign or evidence. At 4 memory was refused.
+#[unsafe(no_mangle)]
+pub extern "C" fn sm_run_id(alloc: Global, input: &[u8], room: &mut [u8], count: &mut usize) -> u32
+    ensures { TellsRuns input.now room.old room.new count.new result }
+{
+    tell_runs(alloc, input, room, count)
+}
+
+/// Makes the answer of the verdict on the bundle or the campaign that the input spells, as the command `audit` writes it.
+/// The input must be of the runs with these ids, in their order, or of any if there are none. If it is asked strictly,
+/// by a number that is not 0, `explained` counts as a no too.
+#[unsafe(no_mangle)]
+pub extern "C" fn sm_audit_of(
+    alloc: Global,
+    runs: &[[u8; 32]],
+    strict: u32,
+    input: &[u8],
+    answer: &mut SmAnswer,
+) -> u32
+    ensures { MakesIf (λ asked. IsAuditedAs asked (is_strict strict) input.now)
+        (λ asked. IsShowFault asked input.now) (asked_in runs.now) answer.new.held result }
+{
+    answer.clear(alloc);
+    let Some(asked) = asked_in(runs) else {
+        return 2;
+    };
+    let answered = audit_asked_in_place(alloc, asked, strict != 0, input);
+    keep(alloc, answered, answer).status()
+}
+
+/// Makes the answer of the picture of the bundle or the campaign that the input spells, and of the judgement on it: the
+/// SVG text that the command `draw` writes. The input must be of the runs with these ids, or of any if there are none.
+#[unsafe(no_mangle)]
+pub extern "C" fn sm_draw_of(
+    alloc: Global,
+    runs: &[[u8; 32]],
+    input: &[u8],
+    answer: &mut SmAnswer,
+) -> u32
+    ensures { MakesIf (λ asked. IsDrawnOf asked input.now) (λ asked. IsShowFault asked input.now)
+        (asked_in runs.now) answer.new.held result }
+{
+    answer.clear(alloc);
+    let Some(asked) = asked_in(runs) else {
+        return 2;
+    };
+    keep(alloc, draw_asked_in_place(alloc, asked, input), answer).status()
+}
+
+/// Makes the answer of the evidence that the bundle or the campaign in the input holds against a general: the bytes that
+/// the command `accuse` writes. If there is none, there are no bytes, and the answer says no. The input must be of the
+/// runs with these ids, or of any if there are none.
+#[unsafe(no_mangle)]
+pub extern "C" fn sm_accuse_of(
+    alloc: Global,
+    runs: &[[u8; 32]],
+    general: u32,
+    input: &[u8],
+    answer: &mut SmAnswer,
+) -> u32
+    ensures general { general < 16 → MakesIf (λ asked. IsAccusedOf asked general input.now)
+        (λ asked. IsShowFault asked input.now) (asked_in runs.now) answer.new.held result }
+    // The number is 16 or more, so it is no general's.
+    ensures nobody { 16 ≤ general → IsMisuse answer.new.held result }
+{
+    answer.clear(alloc);
+    if general >= 16 {
+        return 2;
+    }
+    let Some(asked) = asked_in(runs) else {
+        return 2;
+    };
+    let accused = GeneralNo::at(general as u8);
+    keep(
+        alloc,
+        accuse_asked_in_place(alloc, asked, accused, input),
+        answer,
+    )
+    .status()
+}
+
+/// Makes the answer of whether the evidence that the input spells holds, as the command `evidence` writes it. The input
+/// must be of the run with this id, or of any if there is none; evidence across two runs is of the first.
+#[unsafe(no_mangle)]
+pub extern "C" fn sm_evidence_of(
+    alloc: Global,
+    runs: &[[u8; 32]],
+    input: &[u8],
+    answer: &mut SmAnswer,
+) -> u32
+    ensures { MakesIf (λ asked. IsCheckedOf asked input.now) (λ asked. IsEvidenceFaultOf asked input.now)
+        (asked_in runs.now) answer.new.held result }
+{
+    answer.clear(alloc);
+    let Some(asked) = asked_in(runs) else {
+        return 2;
+    };
+    keep(alloc, evidence_as_asked(alloc, asked, input), answer).status()
+}
+
+/// Makes the answer of what a file is, line by line, as the command `show` writes it. It says no if the file is no whole
+/// bundle, campaign, evidence or header.
+#[unsafe(no_mangle)]
+pub extern "C" fn sm_show(alloc: Global, input: &[u8], answer: &mut SmAnswer) -> u32
+    ensures { IsMade (IsTold tellings.File input.now) IsMemory answer.new.held result }
+{
+    answer.clear(alloc);
+    keep(alloc, tell(alloc, Telling::File, input), answer).status()
+}
+
+/// Makes the answer of what a name means, as the command `explain` writes it. If the name is none, there is no text, and
+/// the answer says no.
+#[unsafe(no_mangle)]
+pub extern "C" fn sm_explain(alloc: Global, input: &[u8], answer: &mut SmAnswer) -> u32
+    ensures { IsMade (IsTold tellings.Name input.now) IsMemory answer.new.held result }
+{
+    answer.clear(alloc);
+    keep(alloc, tell(alloc, Telling::Name, input), answer).status()
+}
+
+/// Makes the answer of a text with what each of its lines means behind the line, as the command `words` writes it.
+#[unsafe(no_mangle)]
+pub extern "C" fn sm_words(alloc: Global, input: &[u8], answer: &mut SmAnswer) -> u32
+    ensures { IsMade (IsTold tellings.Text input.now) IsMemory answer.new.held result }
+{
+    answer.clear(alloc);
+    keep(alloc, tell(alloc, Telling::Text, input), answer).status()
+}
+
+/// Hands over the text that an answer holds, which stays there. It returns 0, or 5 if the text is longer than the room,
+/// or 2 if nothing is held.
+#[unsafe(no_mangle)]
+pub extern "C" fn sm_answer_text(
+    alloc: Global,
+    answer: &mut SmAnswer,
+    room: &mut [u8],
+    count: &mut usize,
+) -> u32
+    ensures same { answer.new.held ≡ answer.old.held }
+    ensures text { HandsKept answer.old.held room.old room.new count.new result }
+{
+    hand_kept(alloc, answer, room, count)
+}
+
+/// Frees what an answer holds, so that it holds nothing.
+#[unsafe(no_mangle)]
+pub extern "C" fn sm_answer_free(alloc: Global, answer: &mut SmAnswer)
+    ensures { answer.new.held ≡ None }
+{
+    answer.clear(alloc)
 }

@@ -1,9 +1,13 @@
+pub mod Asking
 pub mod Bundles
 pub mod Driving
 pub mod Faults
 pub mod Handing
 pub mod Headers
 pub mod Held
+pub mod Longest
 pub mod Owning
+pub mod Parted
+pub mod Plans
 pub mod Starting
 pub mod Told

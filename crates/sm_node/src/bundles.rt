@@ -42,7 +42,11 @@ fn is_in_front(log: SmLog, bytes: &[u8]) -> bool
 
 /// Returns the logs that stand one after another in the bytes; None if the bytes are not exactly these logs.
 #[tactic(auto, using(crate::proofs::Gathering::taken_off, crate::proofs::Gathering::none_had, crate::proofs::Gathering::all_had))]
-fn logs_in(alloc: Global, logs: &[SmLog], bytes: &[u8]) -> Result<Option<Vec<Exhibit>>, AllocError>
+pub(crate) fn logs_in(
+    alloc: Global,
+    logs: &[SmLog],
+    bytes: &[u8],
+) -> Result<Option<Vec<Exhibit>>, AllocError>
     ensures { IfOk result (λ found. gathering.listed found ≡ gathering.logs_in logs.now bytes.now) }
 {
     let mut had = Vec::new(alloc);
@@ -87,7 +91,7 @@ fn walks_of(
 }
 
 /// Returns the header of a bundle, which the bytes must be.
-fn header_of(alloc: Global, bytes: &[u8]) -> Result<Header, ReadError<GatherFault>>
+pub(crate) fn header_of(alloc: Global, bytes: &[u8]) -> Result<Header, ReadError<GatherFault>>
     ensures { gathering.FindsHeader bytes.now result }
 {
     match header_in(alloc, bytes) {

@@ -93,7 +93,7 @@ fn bundle_number(fault: BundleFault) -> u32
 }
 
 /// Returns the number of a fault of a header's bytes, 1 to 12.
-fn bytes_number(fault: BytesFault) -> u32
+pub(crate) fn bytes_number(fault: BytesFault) -> u32
     ensures { result ≡ numbers.bytes_number fault }
 {
     match fault {

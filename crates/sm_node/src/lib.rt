@@ -16,28 +16,38 @@
 #![tactic(auto)]
 
 ghost use Rattle.std.specs.Prelude.{◌≡◌, ◌<◌, ◌≤◌, None};
+ghost use Rattle.sm_node.specs.Asking.{TellsAwaited, TellsRound};
 ghost use Rattle.sm_node.specs.Bundles.{HandsBundle, logs_in};
 ghost use Rattle.sm_node.specs.Driving.{Begins, Ends, Finishes, HandsLog, Hears, Sends, TellsOrder};
 ghost use Rattle.sm_node.specs.Handing.{IsUntouched};
 ghost use Rattle.sm_node.specs.Headers.{header_made, MakesHeader};
+ghost use Rattle.sm_node.specs.Parted.{HandsParted};
+ghost use Rattle.sm_node.specs.Plans.{TellsMost, TellsNeighbours, TellsNumbers, TellsRounds};
 ghost use Rattle.sm_node.specs.Starting.{Starts, WritesRoot};
 ghost use Rattle.sm_node.specs.Told.{IsTold};
 
+mod asking;
 mod bundles;
 mod driving;
 mod faults;
 mod handing;
 mod headers;
 mod held;
+mod longest;
 mod loose;
 mod opaque;
+mod parted;
+mod plans;
 mod starting;
 mod told;
 
+use crate::asking::{awaited, round};
 use crate::bundles::{SmLog, hand_bundle};
 use crate::driving::{begin_round, end_round, finish, free, hear, log, order, send};
 use crate::headers::{SmNumbers, make_header};
 use crate::opaque::SmNode;
+use crate::parted::hand_parted;
+use crate::plans::{tell_most, tell_neighbours, tell_numbers, tell_rounds};
 use crate::starting::{start, write_root};
 use gen_types::GeneralNo;
 use std::alloc::Global;
@@ -202,4 +212,119 @@ pub extern "C" fn sm_bundle(
         room.old room.new count.new fault.new) result }
 {
     hand_bundle(alloc, header, faulty, logs, bytes, room, count, fault).status()
+}
+
+/// Hands out the bytes of the bundle of a run, as `sm_bundle` does, but if two generals that aren't held for faulty have
+/// no short walk, the bundle has no walks. The audit then finds that.
+#[unsafe(no_mangle)]
+pub extern "C" fn sm_bundle_parted(
+    alloc: Global,
+    header: &[u8],
+    faulty: u32,
+    logs: &[SmLog],
+    bytes: &[u8],
+    room: &mut [u8],
+    count: &mut usize,
+    fault: &mut u32,
+) -> u32
+    ensures { IsTold (HandsParted header.now faulty (logs_in logs.now bytes.now)
+        room.old room.new count.new fault.new) result }
+{
+    hand_parted(alloc, header, faulty, logs, bytes, room, count, fault).status()
+}
+
+/// Returns the number of the version of this library: 1000000 times the first number, 1000 times the second, and the
+/// third.
+#[unsafe(no_mangle)]
+pub extern "C" fn sm_node_version() -> u32
+    ensures { result ≡ 2000 }
+{
+    2000
+}
+
+/// Tells the numbers of the header that the bytes are.
+#[unsafe(no_mangle)]
+pub extern "C" fn sm_header_numbers(
+    alloc: Global,
+    header: &[u8],
+    numbers: &mut SmNumbers,
+    fault: &mut u32,
+) -> u32
+    ensures { IsTold (TellsNumbers header.now numbers.old numbers.new fault.new) result }
+{
+    tell_numbers(alloc, header, numbers, fault).status()
+}
+
+/// Tells the number of rounds of a run of the header that the bytes are.
+#[unsafe(no_mangle)]
+pub extern "C" fn sm_rounds(alloc: Global, header: &[u8], rounds: &mut u32, fault: &mut u32) -> u32
+    ensures { IsTold (TellsRounds header.now rounds.new fault.new) result }
+{
+    tell_rounds(alloc, header, rounds, fault).status()
+}
+
+/// Tells the most bytes of a frame of a node that follows the algorithm, in a run of the header that the bytes are.
+#[unsafe(no_mangle)]
+pub extern "C" fn sm_frame_most(
+    alloc: Global,
+    header: &[u8],
+    most: &mut usize,
+    fault: &mut u32,
+) -> u32
+    ensures { IsTold (TellsMost header.now most.new fault.new) result }
+{
+    tell_most(alloc, header, most, fault).status()
+}
+
+/// Tells the set of the neighbours of a general, bit g for general g, by the header that the bytes are. It is empty for
+/// a number that is no general's of the header.
+#[unsafe(no_mangle)]
+pub extern "C" fn sm_neighbours(
+    alloc: Global,
+    header: &[u8],
+    general: u32,
+    set: &mut u32,
+    fault: &mut u32,
+) -> u32
+    ensures general { general < 16 →
+        IsTold (TellsNeighbours header.now general set.new fault.new) result }
+    // The number is 16 or more, so it is no general's.
+    ensures nobody { 16 ≤ general → (result ≡ 2) × (set.new ≡ 0) × (fault.new ≡ 0) }
+{
+    if general >= 16 {
+        *set = 0;
+        *fault = 0;
+        return 2;
+    }
+    tell_neighbours(alloc, header, GeneralNo::at(general as u8), set, fault).status()
+}
+
+/// Tells the number of the round of a node that began last, 0 before the first.
+#[unsafe(no_mangle)]
+pub extern "C" fn sm_node_round(alloc: Global, node: &mut SmNode, current: &mut u32) -> u32
+    ensures same { node.new.held ≡ node.old.held }
+    ensures round { IsTold (TellsRound node.old.held current.new) result }
+{
+    round(alloc, node, current).status()
+}
+
+/// Tells whether a frame goes out to a general now and one from it is awaited, 1 or 0: a round is open, and the general
+/// is a neighbour.
+#[unsafe(no_mangle)]
+pub extern "C" fn sm_node_awaits(
+    alloc: Global,
+    node: &mut SmNode,
+    from: u32,
+    whether: &mut u32,
+) -> u32
+    ensures same { node.new.held ≡ node.old.held }
+    ensures general { from < 16 → IsTold (TellsAwaited from node.old.held whether.new) result }
+    // The number is 16 or more, so it is no general's.
+    ensures nobody { 16 ≤ from → (result ≡ 2) × (whether.new ≡ 0) }
+{
+    if from >= 16 {
+        *whether = 0;
+        return 2;
+    }
+    awaited(alloc, node, GeneralNo::at(from as u8), whether).status()
 }

@@ -7,7 +7,7 @@ ghost use Rattle.sm_node.specs.Owning.{node_owns};
 use crate::held::Held;
 use crate::loose::Loose;
 use std::alloc::Global;
-use std::marker::Model;
+use std::marker::{Model, Send};
 use std::mem::replace;
 use std::ptr::null_mut;
 
@@ -22,6 +22,8 @@ pub struct SmNode {
 impl Model for SmNode {
     ghost also_owns = { λ n. node_owns n.at n.held };
 }
+
+unsafe impl Send for SmNode {}
 
 impl SmNode {
     /// Returns a node that holds nothing.

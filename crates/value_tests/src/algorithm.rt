@@ -3,6 +3,7 @@ use crate::made::{net_of, path_of};
 use gen_core::*;
 use gen_net::Net;
 use gen_types::{GeneralNo, OrderNo, Path};
+use std::alloc::{AllocError, Global};
 use std::test::Fail;
 
 /// The edges of four generals who are all neighbours.
@@ -27,6 +28,20 @@ fn first_adds(net: &Net) -> Option<Adds> {
     Some(Lieutenant::new(net, GeneralNo::at(2)).round(&arrived))
 }
 
+/// Whether this is order 2 with the path 0, 1 to this general.
+fn is_to(sent: &Outgoing, to: u8) -> bool {
+    sent.to.get() == to && sent.order.get() == 2 && sent.path == path_of(&[0, 1])
+}
+
+/// Whether general 1 sends for these adds order 2 to generals 2 and 3, and nothing else.
+fn is_sent_to_two(alloc: Global, net: &Net, adds: &Adds) -> Result<bool, AllocError> {
+    let sent = sends(alloc, net, GeneralNo::at(1), adds)?;
+    match sent.as_slice() {
+        [one, other] => Ok(is_to(one, 2) && is_to(other, 3)),
+        _ => Ok(false),
+    }
+}
+
 /// General 1 signed the path of order 1: handed in for general 1, it is sent to nobody.
 #[test]
 fn own_paths(rt: HostRuntime) -> Result<(), Fail> {
@@ -34,20 +49,7 @@ fn own_paths(rt: HostRuntime) -> Result<(), Fail> {
     let adds = first_adds(&net).ok_or("no lieutenant")?;
     assert!(rt; adds.get(OrderNo::at(1)) == Some(path_of(&[0, 1])));
     assert!(rt; adds.get(OrderNo::at(0)) == None);
-    let (order, path) = (OrderNo::at(2), path_of(&[0, 1]));
-    let sent = [
-        Outgoing {
-            to: GeneralNo::at(2),
-            order,
-            path,
-        },
-        Outgoing {
-            to: GeneralNo::at(3),
-            order,
-            path,
-        },
-    ];
-    assert!(rt; sends(rt.alloc(), &net, GeneralNo::at(1), &adds)?.as_slice() == sent.as_slice());
+    assert!(rt; is_sent_to_two(rt.alloc(), &net, &adds)?);
     Ok(())
 }
 

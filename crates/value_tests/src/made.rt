@@ -13,12 +13,19 @@ pub fn roots(alloc: Global, count: u8) -> Result<Vec<[u8; 32]>, AllocError> {
     Ok(roots)
 }
 
+/// Appends a root of 32 such bytes.
+pub fn put_root(bytes: &mut Vec<u8>, byte: u8) -> Result<(), AllocError> {
+    for _ in 0..32u8 {
+        bytes.push(byte)?;
+    }
+    Ok(())
+}
+
 /// The bytes of a header that begins with these and has this many roots.
 pub fn bytes_with(alloc: Global, front: &[u8], count: u8) -> Result<Vec<u8>, AllocError> {
-    let mut bytes = Vec::new(alloc);
-    bytes.extend_from_slice(front)?;
-    for root in &roots(alloc, count)? {
-        bytes.extend_from_slice(root)?;
+    let mut bytes = Vec::from_slice(alloc, front)?;
+    for number in 0..count {
+        put_root(&mut bytes, number.wrapping_add(1))?;
     }
     Ok(bytes)
 }
@@ -34,20 +41,10 @@ pub fn header_of(alloc: Global, bytes: &[u8]) -> Result<Header, Fail> {
 /// The network with these edges, the numbers n, m, d and q, and choice 0.
 pub fn net_of(alloc: Global, numbers: [u8; 4], edges: &[(u8, u8)]) -> Result<Net, Fail> {
     let [n, m, d, q] = numbers;
-    Net::new(alloc, n, edges, m, d, q, 0).map_err(|_| "no net".into())
-}
-
-/// The edges between 16 generals that join numbers at most this far apart, ascending.
-pub fn edges_up_to(alloc: Global, far: u8) -> Result<Vec<(u8, u8)>, AllocError> {
-    let mut edges = Vec::new(alloc);
-    for low in 0..15u8 {
-        for high in low + 1..16 {
-            if high - low <= far {
-                edges.push((low, high))?;
-            }
-        }
+    match Net::new(alloc, n, edges, m, d, q, 0) {
+        Ok(net) => Ok(net),
+        Err(_) => Err("no net".into()),
     }
-    Ok(edges)
 }
 
 /// The path of these generals; one who stands in it already is left out.

@@ -1,7 +1,7 @@
 //! Lines and scripts that are made by hand, read from a text, and copied.
 use crate::made::{net_of, path_of};
 use gen_script::*;
-use gen_types::{GeneralNo, OrderNo};
+use gen_types::{GeneralNo, OrderNo, Path};
 use std::alloc::{AllocError, Global};
 use std::test::Fail;
 
@@ -14,23 +14,32 @@ fn line_of(alloc: Global, text: &str) -> Result<ScriptLine, Fail> {
     if net.generals() < 4 {
         return Err("another net".into());
     }
-    read_script_line(alloc, &net, GeneralNo::at(3), text).map_err(|_| "no line".into())
+    match read_script_line(alloc, &net, GeneralNo::at(3), text) {
+        Ok(line) => Ok(line),
+        Err(_) => Err("no line".into()),
+    }
+}
+
+/// The path that the line of a text names.
+fn path_in(alloc: Global, text: &str) -> Result<Option<Path>, Fail> {
+    let line = line_of(alloc, text)?;
+    Ok(line.path().copied())
 }
 
 #[test]
 fn lines_name_paths(rt: HostRuntime) -> Result<(), Fail> {
-    let make = line_of(rt.alloc(), "make 2 0 0 0,3")?;
-    assert!(rt; make.path().copied() == Some(path_of(&[0, 3])));
-    let pass = line_of(rt.alloc(), "pass 4 4 0 2 2,1,3")?;
-    assert!(rt; pass.path().copied() == Some(path_of(&[2, 1, 3])));
+    assert!(rt; path_in(rt.alloc(), "make 2 0 0 0,3")? == Some(path_of(&[0, 3])));
+    assert!(rt; path_in(rt.alloc(), "pass 4 4 0 2 2,1,3")? == Some(path_of(&[2, 1, 3])));
     Ok(())
 }
 
+/// Lines that name no path.
+const NAMELESS: [&str; 4] = ["bend 2 2 4 0", "raw 1 0 00", "hide 1 2 0", "twohead"];
+
 #[test]
 fn lines_name_no_paths(rt: HostRuntime) -> Result<(), Fail> {
-    for text in ["bend 2 2 4 0", "raw 1 0 00", "hide 1 2 0", "twohead"] {
-        let line = line_of(rt.alloc(), text)?;
-        assert!(rt; line.path().is_none(), "{text}");
+    for text in &NAMELESS {
+        assert!(rt; path_in(rt.alloc(), *text)?.is_none());
     }
     let hide = ScriptLine::Hide {
         round: 1,
@@ -48,9 +57,7 @@ fn law_of_lines() {
 
 /// A parcel of these bytes.
 fn parcel_of(alloc: Global, bytes: &[u8]) -> Result<Parcel, AllocError> {
-    let mut out = Vec::new(alloc);
-    out.extend_from_slice(bytes)?;
-    Ok(Parcel::new(out))
+    Ok(Parcel::new(Vec::from_slice(alloc, bytes)?))
 }
 
 /// A script of general 3: two heads, and three bytes to general 2 in round 2.

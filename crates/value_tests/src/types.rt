@@ -1,94 +1,94 @@
-//! Values: choices through their types, numbers, sets, paths, and what readers share.
+//! Values: numbers, sets, paths, and what readers share.
 use crate::made::path_of;
 use gen_types::*;
 use std::alloc::{AllocError, AllocFailed};
 use std::test::Fail;
 
-/// The bits of a set of orders, and what either choice chooses from it.
-const CHOICES: [(u16, u8, u8); 6] = [
-    (0, 0, 0),
-    (0b1, 0, 0),
-    (0b100, 2, 2),
-    (0b1010, 0, 1),
-    (0b1101, 0, 2),
-    (0b1110_0000_0000_0010, 0, 13),
-];
-
-#[test]
-fn types_choose(rt: HostRuntime) {
-    for (bits, only, median) in CHOICES {
-        let orders = OrderSet::from_bits(bits);
-        assert_eq!(rt; OnlyOrRetreat.choose(orders).get(), only, "{bits}");
-        assert_eq!(rt; MedianOrder.choose(orders).get(), median, "{bits}");
+/// Whether a number is a general's.
+fn is_general(number: u8) -> bool {
+    match GeneralNo::new(number) {
+        Some(general) => general.get() == number,
+        None => false,
     }
 }
 
-/// A number, and that of the general, if it is one.
-const GENERALS: [(u8, Option<u8>); 5] = [
-    (0, Some(0)),
-    (15, Some(15)),
-    (16, None),
-    (17, None),
-    (255, None),
-];
-
-/// A number, and that of the order, or its fault.
-const ORDERS: [(u8, Result<u8, NumberFault>); 3] = [
-    (0, Ok(0)),
-    (15, Ok(15)),
-    (16, Err(NumberFault::AboveFifteen)),
-];
+/// Whether a number is an order's. The fault of any other is that it is above 15.
+fn is_order(number: u8) -> bool {
+    match OrderNo::try_from(number) {
+        Ok(order) => order.get() == number,
+        Err(NumberFault::AboveFifteen) => false,
+    }
+}
 
 #[test]
 fn numbers(rt: HostRuntime) {
-    assert!(rt;
-        GENERALS.iter().all(|(number, want)| GeneralNo::new(*number).map(GeneralNo::get) == *want)
-    );
-    assert!(rt;
-        ORDERS.iter().all(|(number, want)| OrderNo::try_from(*number).map(OrderNo::get) == *want)
-    );
+    assert!(rt; is_general(0) && is_general(15));
+    assert!(rt; !is_general(16) && !is_general(17) && !is_general(255));
+    assert!(rt; is_order(0) && is_order(15) && !is_order(16));
     assert!(rt; GeneralNo::at(7).get() == 7 && GeneralNo::commander().get() == 0);
     assert!(rt; OrderNo::retreat().get() == 0);
 }
 
-/// The number of a general who is put into a set, and whether the general is new there.
-const INSERTED: [(u8, bool); 5] = [(9, true), (0, true), (15, true), (9, false), (0, false)];
-
-/// The number of a general, and whether the general is a member then.
-const MEMBERS: [(u8, bool); 5] = [(0, true), (1, false), (9, true), (14, false), (15, true)];
-
-/// An index, and the number of the member there.
-const PLACES: [(usize, Option<u8>); 4] = [(0, Some(0)), (2, Some(15)), (3, None), (16, None)];
+/// Puts a general into a set, and returns whether the general is new there.
+fn insert(set: &mut GeneralSet, number: u8) -> bool {
+    set.insert(GeneralNo::at(number % 16))
+}
 
 /// The set of generals 0, 9 and 15; None where one of them is new or not otherwise than it should be.
 fn set_of_three() -> Option<GeneralSet> {
     let mut set = GeneralSet::default();
-    for (number, new) in INSERTED {
-        if set.insert(GeneralNo::at(number % 16)) != new {
-            return None;
-        }
+    let are_new = insert(&mut set, 9) && insert(&mut set, 0) && insert(&mut set, 15);
+    let is_again = insert(&mut set, 9) || insert(&mut set, 0);
+    if are_new && !is_again {
+        Some(set)
+    } else {
+        None
     }
-    Some(set)
+}
+
+/// Whether a general is a member of a set.
+fn has(set: &GeneralSet, number: u8) -> bool {
+    set.contains(GeneralNo::at(number % 16))
+}
+
+/// The number of the member at an index.
+fn member(set: &GeneralSet, index: usize) -> Option<u8> {
+    Some(set.get(index)?.get())
 }
 
 #[test]
 fn sets_have_members(rt: HostRuntime) -> Result<(), Fail> {
     let set = set_of_three().ok_or("another set")?;
     assert!(rt; set.len() == 3 && !set.is_empty());
-    assert!(rt;
-        MEMBERS.iter().all(|(number, member)| set.contains(GeneralNo::at(*number % 16)) == *member)
-    );
-    assert!(rt; PLACES.iter().all(|(index, want)| set.get(*index).map(GeneralNo::get) == *want));
+    assert!(rt; has(&set, 0) && has(&set, 9) && has(&set, 15) && !has(&set, 1) && !has(&set, 14));
+    assert!(rt; member(&set, 0) == Some(0) && member(&set, 2) == Some(15));
+    assert!(rt; member(&set, 3) == None && member(&set, 16) == None);
     Ok(())
+}
+
+/// Whether these are generals 0, 9 and 15, in this order.
+fn are_three(members: GeneralMembers) -> bool {
+    let mut rest = members;
+    is_next(&mut rest, 0)
+        && is_next(&mut rest, 9)
+        && is_next(&mut rest, 15)
+        && rest.next().is_none()
+}
+
+/// Whether the next one is this general.
+fn is_next(rest: &mut GeneralMembers, number: u8) -> bool {
+    match rest.next() {
+        Some(general) => general.get() == number,
+        None => false,
+    }
 }
 
 #[test]
 fn sets_ascend(rt: HostRuntime) -> Result<(), Fail> {
     let set = set_of_three().ok_or("another set")?;
-    let ascending = [0, 9, 15];
-    assert!(rt; (&set).into_iter().map(GeneralNo::get).eq(ascending));
-    assert!(rt; set.iter().map(GeneralNo::get).eq(ascending));
-    assert!(rt; set.into_iter().map(GeneralNo::get).eq(ascending));
+    assert!(rt; are_three((&set).into_iter()));
+    assert!(rt; are_three(set.iter()));
+    assert!(rt; are_three(set.into_iter()));
     Ok(())
 }
 
@@ -149,7 +149,8 @@ fn paths_refuse(rt: HostRuntime) -> Result<(), Fail> {
 fn paths_begin_and_end(rt: HostRuntime) {
     let short = path_of(&[0, 2, 1]);
     assert!(rt; short.len() == 3 && !Path::new().starts_with(&short));
-    assert!(rt; short.generals().iter().map(|g| g.get()).eq([0, 2, 1]));
+    let generals = [GeneralNo::at(0), GeneralNo::at(2), GeneralNo::at(1)];
+    assert!(rt; short.generals() == generals.as_slice());
     assert!(rt; short.contains(GeneralNo::at(1)) && !short.contains(GeneralNo::at(3)));
     assert!(rt; short.ends_with(GeneralNo::at(1)) && !short.ends_with(GeneralNo::at(0)));
 }
@@ -189,24 +190,45 @@ fn heights(rt: HostRuntime) {
     assert!(rt; TreeHeight::Six.levels() == 6 && TreeHeight::Six.leaves() == 64);
 }
 
+/// Nine bytes.
+const BYTES: [u8; 9] = [1, 2, 3, 4, 5, 6, 7, 8, 9];
+
+#[test]
+fn numbers_of_bytes(rt: HostRuntime) {
+    assert!(rt; matches!(u8_at(&BYTES, 'H'), Ok((1, [2, .., 9]))));
+    assert!(rt; matches!(u16_at(&BYTES, 'H'), Ok((0x0102, [3, .., 9]))));
+    assert!(rt; matches!(u32_at(&BYTES, 'H'), Ok((0x0102_0304, [5, .., 9]))));
+    assert!(rt; matches!(u64_at(&BYTES, 'H'), Ok((0x0102_0304_0506_0708, [9]))));
+    assert!(rt; matches!(u64_at(&BYTES[..7], 'H'), Err(ReadError::Fault('H'))));
+}
+
+/// Whether numbers are read of bytes if and only if they are long enough.
+fn are_enough(front: &[u8]) -> bool {
+    let count = front.len();
+    u8_at(front, 'H').is_ok() == (count >= 1)
+        && u16_at(front, 'H').is_ok() == (count >= 2)
+        && u32_at(front, 'H').is_ok() == (count >= 4)
+        && u64_at(front, 'H').is_ok() == (count >= 8)
+}
+
+/// Whether so many of the nine bytes are read of them, and not of fewer.
+fn are_taken(front: &[u8]) -> bool {
+    let count = front.len();
+    let is_read = match bytes_at(&BYTES, count, 'H') {
+        Ok((taken, rest)) => taken == front && taken.len().saturating_add(rest.len()) == 9,
+        Err(_) => false,
+    };
+    is_read
+        && matches!(
+            bytes_at(front, count.saturating_add(1), 'H'),
+            Err(ReadError::Fault('H'))
+        )
+}
+
 #[test]
 fn fields_of_bytes(rt: HostRuntime) {
-    let bytes = [1u8, 2, 3, 4, 5, 6, 7, 8, 9];
-    assert_eq!(rt; u8_at(&bytes, 'H'), Ok((1, &bytes[1..])));
-    assert_eq!(rt; u16_at(&bytes, 'H'), Ok((0x0102, &bytes[2..])));
-    assert_eq!(rt; u32_at(&bytes, 'H'), Ok((0x0102_0304, &bytes[4..])));
-    assert_eq!(rt;
-        u64_at(&bytes, 'H'),
-        Ok((0x0102_0304_0506_0708, &bytes[8..]))
-    );
     for count in 0..=9usize {
-        let front = &bytes[..count];
-        assert_eq!(rt; bytes_at(&bytes, count, 'H'), Ok((front, &bytes[count..])));
-        assert_eq!(rt; bytes_at(front, count + 1, 'H'), Err(ReadError::Fault('H')));
-        assert_eq!(rt; u8_at(front, 'H').is_err(), count < 1, "{count}");
-        assert_eq!(rt; u16_at(front, 'H').is_err(), count < 2, "{count}");
-        assert_eq!(rt; u32_at(front, 'H').is_err(), count < 4, "{count}");
-        assert_eq!(rt; u64_at(front, 'H').is_err(), count < 8, "{count}");
+        let front = &BYTES[..count];
+        assert!(rt; are_enough(front) && are_taken(front), "{count}");
     }
-    assert_eq!(rt; u64_at(&bytes[..7], 'H'), Err(ReadError::Fault('H')));
 }

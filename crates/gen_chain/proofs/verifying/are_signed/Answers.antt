@@ -11,18 +11,18 @@ fours-init c = rw c.new-path.ensures (at_first c.args.header.now c.args.order c.
 pub next_four-signings-requires-clause-distinct : goal.next_four-signings-requires-clause-distinct
 next_four-signings-requires-clause-distinct c = four_apart c.fours.path c.fours.rest.now c.args.signers.now c.requires.distinct (joined _ _ _ _ _ c.fours.invariant)
 
-pub returns-then-not-all_true : goal.returns-then-not-all_true
-returns-then-not-all_true c = (
+pub returns-then-not-four_true : goal.returns-then-not-four_true
+returns-then-not-four_true c = (
   λ t. absurd cc,
   λ all.
       let four = four_next _ _ _ _ _ c.fours.invariant all in
-      let t = c.all_true.ensures.1 (all_are_true _ _ _ _ _ c.fours.rest.now (omega arith) c.next_four-signings.ensures.value c.have_signed-answers.ensures four) in
+      let t = c.four_true.ensures.1 (all_are_true _ _ _ _ _ c.fours.rest.now (omega arith) c.next_four-signings.ensures.value c.next_four-signings.ensures.width c.have_signed-answers.ensures four) in
       absurd cc,
 )
 
 pub fours-preserved : goal.fours-preserved
 fours-preserved c =
-    let four = true_all _ _ _ _ _ c.fours.rest.now (omega arith) c.next_four-signings.ensures.value c.have_signed-answers.ensures (c.all_true.ensures.0 c.if-not-all_true.false) in
+    let four = true_all _ _ _ _ _ c.fours.rest.now (omega arith) c.next_four-signings.ensures.value c.next_four-signings.ensures.width c.have_signed-answers.ensures (c.four_true.ensures.0 c.if-not-four_true.false) in
     rw c.split_at.ensures.back (four_on _ _ _ _ _ c.fours.invariant _ c.next_four-signings.ensures.path four)
 
 pub push_new-requires-clause-room : goal.push_new-requires-clause-room

@@ -1,10 +1,10 @@
 use Rattle.std.proofs.Common.{◌≡◌}
 use Rattle.std.specs.Prelude.{IfSome}
-use Rattle.gen_jobs.specs.Checking.{IsChecked, IsEvidenceFault}
+use Rattle.gen_jobs.specs.Asking.{IsCheckedIn, IsEvidenceFaultOf}
 use Rattle.gen_jobs.proofs.Delivering.{answered}
 use Rattle.gen_jobs.proofs.checking.evidence_engine.Goals as goal
 
 pub returns-in-Ok-clause-answers : goal.returns-in-Ok-clause-answers
 returns-in-Ok-clause-answers g c =
     let whole : IfSome (g.R.Read.remaining c.args.reader.now) (λ input. c.deref.result.now ≡ input) = rw c.deref.ensures.value c.in-Ok.ensures.whole in
-    answered IsChecked IsEvidenceFault (g.R.Read.remaining c.args.reader.now) (g.W.Write.contents c.args.writer.now) (g.W.Write.contents c.deliver.new.writer) c.deref.result.now c.evidence.result c.deliver.result (λ never. never) whole c.evidence.ensures.answer c.evidence.ensures.fault c.deliver.ensures
+    answered (IsCheckedIn c.args.form c.args.asked) (IsEvidenceFaultOf c.args.asked) (g.R.Read.remaining c.args.reader.now) (g.W.Write.contents c.args.writer.now) (g.W.Write.contents c.deliver.new.writer) c.deref.result.now c.evidence_in.result c.deliver.result (λ never. never) whole c.evidence_in.ensures.answer c.evidence_in.ensures.fault c.deliver.ensures

@@ -8,4 +8,4 @@ points bytes (Ok s) front h = (front, h)
 points bytes (Err e) front h = tt
 
 pub returns : goal.returns
-returns c = points (λ s. string_bytes s) c.format.result c.unwrap_or-first.result.now c.format.ensures.ok
+returns c = points (λ s. string_bytes s) c.format.result _ c.format.ensures.ok

@@ -12,4 +12,12 @@ returns c =
       capacity = c.get_str.ensures ∙ first_value-rows (found_of c.in_ok-name.inner.now) (codes "capacity");
       workers = c.get_str-2.ensures ∙ first_value-rows (found_of c.in_ok-name.inner.now) (codes "workers");
       general = c.get_str-3.ensures ∙ first_value-rows (found_of c.in_ok-name.inner.now) (codes "general");
+      asked = c.get_str-4.ensures ∙ first_value-rows (found_of c.in_ok-name.inner.now) (codes "run");
+      faulty = c.get_str-5.ensures ∙ first_value-rows (found_of c.in_ok-name.inner.now) (codes "faulty");
+      strict = c.get_str-6.ensures ∙ first_value-rows (found_of c.in_ok-name.inner.now) (codes "strict");
+      json = c.get_str-7.ensures ∙ first_value-rows (found_of c.in_ok-name.inner.now) (codes "json");
+      tall = c.get_str-8.ensures ∙ first_value-rows (found_of c.in_ok-name.inner.now) (codes "tall");
+      slot = c.get_str-9.ensures ∙ first_value-rows (found_of c.in_ok-name.inner.now) (codes "slot");
+      print_run = c.get_str-10.ensures ∙ first_value-rows (found_of c.in_ok-name.inner.now) (codes "print-run");
+      file = c.get_str-11.ensures ∙ first_value-rows (found_of c.in_ok-name.inner.now) (codes "file");
     })

@@ -2,7 +2,7 @@ use Rattle.std.proofs.Common.{◌≡◌, List, [], ap, map, ◌∙◌, subst}
 use Rattle.std.proofs.lemmas.Result.{err_from_is_err_and}
 use Rattle.clap.specs.Words.{App, Text, fault_of, is_simple, is_simple_and_free, subcommand_of}
 use Rattle.gen_program.specs.CommandLine.{tool}
-use Rattle.gen_program.proofs.Faults.{only_memory, tool_is_free, tool_is_simple}
+use Rattle.gen_program.proofs.Faults.{fault_had, only_memory, tool_is_free, tool_is_simple}
 use Rattle.gen_program.proofs.words.matches_of.Goals as goal
 
 pub returns-clause-ok : goal.returns-clause-ok
@@ -22,3 +22,11 @@ returns-in_err-try_get_matches_from-clause-only c =
     let has = c.in_err-try_get_matches_from.ensures.kinds (ap is_simple_and_free is_tool ∙ tool_is_free) in
     let p = err_from_is_err_and c.from_residual-in_err-try_get_matches_from.result c.from_residual-in_err-try_get_matches_from.ensures.1 in
     rw p.1 (λ none. only_memory _ _ _ has p.2 (ap (λ (a : App). fault_of a texts) is_tool ∙ none))
+
+pub returns-in_err-try_get_matches_from-clause-fault : goal.returns-in_err-try_get_matches_from-clause-fault
+returns-in_err-try_get_matches_from-clause-fault c =
+    let texts : List Text = map (λ w. w.now) c.args.words.now in
+    let is_tool = c.in_ok-command.ensures in
+    let has = c.in_err-try_get_matches_from.ensures.kinds (ap is_simple_and_free is_tool ∙ tool_is_free) in
+    let p = err_from_is_err_and c.from_residual-in_err-try_get_matches_from.result c.from_residual-in_err-try_get_matches_from.ensures.1 in
+    rw p.1 (fault_had texts _ _ _ (ap (λ (a : App). fault_of a texts) is_tool) has p.2)

@@ -9,14 +9,15 @@ returns-then-ahead-gt0-clause-count c = omega (arith, next_few c.args.self.now c
 pub next_four-signings-requires-clause-distinct : goal.next_four-signings-requires-clause-distinct
 next_four-signings-requires-clause-distinct c = next_apart c.args.path.now c.args.rest.now c.requires.distinct
 
-pub returns-in_err-verify_four-clause-known : goal.returns-in_err-verify_four-clause-known
-returns-in_err-verify_four-clause-known c = λ s others e is.
+pub returns-in_err-verify_lanes-clause-known : goal.returns-in_err-verify_lanes-clause-known
+returns-in_err-verify_lanes-clause-known c = λ s others e is.
     absurd (first_unknown c.args.self.now c.args.order c.args.path.now c.args.rest.now others s _ c.next_four-signings.ensures.value (c.keeps_none.ensures c.if-not-keeps_none.false) e is)
 
 pub returns-clause-ahead : goal.returns-clause-ahead
 returns-clause-ahead c = (
-  keeps_four c.verify_four.new.self c.args.order c.args.path.now c.args.rest.now _ (omega (arith, c.if-rest-lt4.false)) c.next_four-signings.ensures.value c.in_ok-verify_four.ensures.kept,
-  omega (arith, c.in_ok-verify_four.ensures.count, c.if-ahead-gt0.false),
+  keeps_four c.verify_lanes.new.self c.args.order c.args.path.now c.args.rest.now _ (omega (arith, c.if-rest-lt4.false)) c.next_four-signings.ensures.value
+      (λ j low other. c.in_ok-verify_lanes.ensures.kept j (omega (arith, c.next_four-signings.ensures.width)) other),
+  omega (arith, c.in_ok-verify_lanes.ensures.count, c.next_four-signings.ensures.width, c.if-ahead-gt0.false),
 )
 
 pub returns-clause-known : goal.returns-clause-known

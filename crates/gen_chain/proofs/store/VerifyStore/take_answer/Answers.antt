@@ -1,5 +1,4 @@
 use Rattle.std.proofs.Common.{sym, ◌∙◌}
-use Rattle.gen_chain.specs.Store.{KeepsAll, Serves}
 use Rattle.gen_chain.proofs.TakenAnswers.{taken}
 use Rattle.gen_chain.proofs.store.VerifyStore.take_answer.Goals as goal
 

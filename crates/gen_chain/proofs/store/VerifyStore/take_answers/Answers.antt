@@ -1,4 +1,4 @@
-use Rattle.std.proofs.Common.{arith, ◌≡◌, slice_index_or, sym, subst, ◌∙◌}
+use Rattle.std.proofs.Common.{arith, ◌≡◌, slice_index_or, subst, ◌∙◌}
 use Rattle.std.proofs.lemmas.List.{get_or_default}
 use Rattle.gen_chain.specs.declared.kept.Kept.{Kept}
 use Rattle.gen_chain.specs.Taking.{Takes, triple_at}

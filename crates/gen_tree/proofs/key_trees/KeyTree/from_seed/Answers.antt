@@ -1,15 +1,34 @@
-use Rattle.std.proofs.Common.{◌≡◌, ℕ, suc, ◌+◌, ◌*◌, ◌++◌, List, [], ◌∷◌, arith}
+use Rattle.std.proofs.Common.{◌≡◌, ℕ, suc, ◌<◌, ◌+◌, ◌*◌, ◌++◌, List, [], ◌∷◌, length, slice_index_or, append_assoc, sym, ap, ◌∙◌, arith}
+use Rattle.std.proofs.lemmas.List.{append-nil}
+use Rattle.sha_lanes.specs.declared.words.TheConstants.{LANES}
 use Rattle.gen_types.specs.declared.heights.TreeHeight.{TreeHeight}
 use Rattle.gen_ots.specs.OneTime.{key_leaf_value}
 use Rattle.gen_tree.specs.Rings.{leaf_values}
 use Rattle.gen_tree.proofs.Folding.{leaf_values-suc}
 use Rattle.gen_tree.proofs.key_trees.KeyTree.from_seed.Goals as goal
 
--- one leaf more, by what was pushed
-one_more : (seed : List ℕ) (height : TreeHeight) (n m : ℕ) (value : List ℕ) (before after : List (List ℕ)) → m ≡ suc n
-    → before ≡ leaf_values seed height n → value ≡ key_leaf_value (record { seed = seed; height = height; leaf = n })
-    → after ≡ before ++ value ∷ [] → after ≡ leaf_values seed height m
-one_more seed height n m value before after e b v pushed = rw (e, leaf_values-suc seed height n, ← b, ← v) pushed
+-- the value of a leaf
+abbrev value_of : List ℕ → TreeHeight → ℕ → List ℕ
+value_of seed height leaf = key_leaf_value (record { seed = seed; height = height; leaf = leaf })
+
+-- several leaves more, by what was appended
+some_more : (seed : List ℕ) (height : TreeHeight) (n : ℕ) (values : List (List ℕ))
+    → ((j : ℕ) → j < length values → slice_index_or values j [] ≡ value_of seed height (n + j))
+    → leaf_values seed height n ++ values ≡ leaf_values seed height (n + length values)
+some_more seed height n [] each =
+    let same : n + 0 ≡ n = omega arith in
+    rw same (append-nil (leaf_values seed height n))
+some_more seed height n (v ∷ values) each =
+    let first : n + 0 ≡ n = omega arith in
+    let here : v ≡ value_of seed height n = rw first at (each 0 (omega arith)) in
+    let all : n + suc (length values) ≡ suc n + length values = omega arith in
+    let front : leaf_values seed height (suc n) ≡ leaf_values seed height n ++ v ∷ [] =
+    leaf_values-suc seed height n ∙ ap (λ (x : List ℕ). leaf_values seed height n ++ x ∷ []) (sym here) in
+    let others = some_more seed height (suc n) values (λ j below.
+    let next : n + suc j ≡ suc n + j = omega arith in
+    rw next at (each (suc j) (omega arith))) in
+    rw all (sym (append_assoc (leaf_values seed height n) (v ∷ []) values)
+    ∙ ap (λ (x : List (List ℕ)). x ++ values) (sym front) ∙ others)
 
 pub turns-init : goal.turns-init
 unfolding leaf_values
@@ -19,10 +38,9 @@ pub turns-preserved : goal.turns-preserved
 turns-preserved c =
     let seed = c.args.seed.now in
     let height = c.args.height in
-    let n = 4 * c.turns.turn in
-    let zero : n + 0 ≡ n = omega arith in
-    let value = c.leaf_values-values.ensures in
-    let p0 = one_more seed height n (n + 1) _ _ _ (omega arith) c.turns.invariant (rw zero at (value 0 (omega arith))) c.in_ok-push.ensures.items in
-    let p1 = one_more seed height (n + 1) (n + 2) _ _ _ (omega arith) p0 (value 1 (omega arith)) c.in_ok-push-2.ensures.items in
-    let p2 = one_more seed height (n + 2) (n + 3) _ _ _ (omega arith) p1 (value 2 (omega arith)) c.in_ok-push-3.ensures.items in
-    one_more seed height (n + 3) (4 * (c.turns.turn + 1)) _ _ _ (omega arith) p2 (value 3 (omega arith)) c.in_ok-push-4.ensures.items
+    let n = LANES * c.turns.turn in
+    let values = c.leaf_values-values.result in
+    let wide : length values ≡ LANES = omega (arith, c.leaf_values-values.type_inv) in
+    let next : n + length values ≡ LANES * (c.turns.turn + 1) = omega (arith, wide) in
+    let more = some_more seed height n values (λ j below. c.leaf_values-values.ensures j (omega (arith, wide))) in
+    c.in_ok-extend_from_slice.ensures.items ∙ ap (λ (x : List (List ℕ)). x ++ values) c.turns.invariant ∙ more ∙ ap (leaf_values seed height) next

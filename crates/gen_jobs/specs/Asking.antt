@@ -1,0 +1,187 @@
+-- What jobs make of an input if runs, a set or a form are asked for, or if `explained` counts as a no.
+use Rattle.std.specs.Prelude.{ℕ, ◌≡◌, ◌⊎◌, ◌||◌, Bool, false, true, not, nat_le, List, [], ◌∷◌, length, Some, Err}
+use Rattle.std.specs.List.{list_all}
+use Rattle.gen_types.specs.Spelled.{Spells}
+use Rattle.gen_net.specs.Header.{run_id_of}
+use Rattle.gen_net.specs.Network.{Network}
+use Rattle.gen_scenario.specs.Scenario.{Scenario, scripted}
+use Rattle.gen_report.specs.Scenario.{SpellsScenario}
+use Rattle.gen_report.specs.declared.scenario_text.ScenarioText.TheVariants as texts
+use Rattle.gen_audit.specs.Bundle.{Bundle}
+use Rattle.gen_convict.specs.EvidenceReading.{IsWhole}
+use Rattle.gen_convict.specs.EvidenceSpelling.{HeaderAndEvidence, whole_spelling}
+use Rattle.gen_campaign.specs.Campaign.{CampaignBundle, IsCampaign}
+use Rattle.gen_campaign.specs.CampaignReading.{whole_campaign}
+use Rattle.gen_campaign.specs.CampaignSpelling.{campaign_spelling}
+use Rattle.gen_campaign.specs.declared.campaign_fault.CampaignFault.{CampaignFault}
+use Rattle.gen_jobs.specs.Accusing.{AccusesRuns}
+use Rattle.gen_jobs.specs.AskedRuns.{AreAsked, run_ids}
+use Rattle.gen_jobs.specs.Audit.{AuditsShown, IsAuditFault, IsWant}
+use Rattle.gen_jobs.specs.Checking.{IsEvidenceFault, Tells}
+use Rattle.gen_jobs.specs.Drawing.{DrawsForm}
+use Rattle.gen_jobs.specs.Holding.{IsHeldAs, held_fault}
+use Rattle.gen_jobs.specs.Judging.{JudgesRun}
+use Rattle.gen_jobs.specs.declared.asked.Asked.{Asked}
+use Rattle.gen_jobs.specs.declared.asked_runs.AskedRuns.{AskedRuns}
+use Rattle.gen_jobs.specs.declared.ends.JobFault.{JobFault}
+use Rattle.gen_jobs.specs.declared.ends.JobFault.TheVariants as faults
+use Rattle.gen_jobs.specs.declared.forms.Form.{Form}
+use Rattle.gen_jobs.specs.declared.forms.Form.TheVariants.{Text}
+
+-- memory was refused, or the runs with these ids are not the ones that are asked for
+abbrev pub OthersAsked : AskedRuns → List (List ℕ) → JobFault → Type 0
+OthersAsked asked ids faults.Memory = Unit {0}
+OthersAsked asked ids faults.OtherRun = AreAsked asked ids → ⊥
+OthersAsked asked ids _ = ⊥
+
+-- memory was refused, or a thread was, or the runs with these ids are not the ones that are asked for
+abbrev pub IsWantOrOthers : AskedRuns → List (List ℕ) → JobFault → Type 0
+IsWantOrOthers asked ids faults.OtherRun = AreAsked asked ids → ⊥
+IsWantOrOthers asked ids fault = IsWant fault
+
+-- The input spells a bundle or a campaign of the runs that are asked for, and what it shows is answered so.
+pub record Shows (asked : AskedRuns) (IsAnswer : CampaignBundle → List ℕ → Bool → Type 0)
+    (input text : List ℕ) (negative : Bool) : Type 0 where
+  pub shown : CampaignBundle
+  pub spelled : Spells IsCampaign campaign_spelling input shown
+  pub runs : AreAsked asked (run_ids shown.bundles)
+  pub answers : IsAnswer shown text negative
+
+-- The input spells a bundle or a campaign, and not one of the runs that are asked for.
+pub record ShowsOthers (asked : AskedRuns) (input : List ℕ) : Type 0 where
+  pub shown : CampaignBundle
+  pub spelled : Spells IsCampaign campaign_spelling input shown
+  pub others : AreAsked asked (run_ids shown.bundles) → ⊥
+
+-- the faults of an input that should show a bundle or a campaign: those of any such input, and that it shows
+-- other runs
+abbrev pub IsShowFault : AskedRuns → List ℕ → JobFault → Type 0
+IsShowFault asked input faults.OtherRun = ShowsOthers asked input
+IsShowFault asked input fault = IsAuditFault input fault
+
+-- ---- what is asked of the set, too
+
+-- The input spells a bundle or a campaign of the runs that are asked for. What it shows, with the generals
+-- that are asked for held for faulty, is answered so.
+pub record ShowsHeld (asked : Asked) (IsAnswer : CampaignBundle → List ℕ → Bool → Type 0)
+    (input text : List ℕ) (negative : Bool) : Type 0 where
+  pub shown : CampaignBundle
+  pub spelled : Spells IsCampaign campaign_spelling input shown
+  pub runs : AreAsked asked.runs (run_ids shown.bundles)
+  pub held : CampaignBundle
+  pub held_is : IsHeldAs asked.faulty shown held
+  pub answers : IsAnswer held text negative
+
+-- The input spells a bundle or a campaign of the runs that are asked for, and this is the fault since one of
+-- its headers lacks a general that is asked for.
+pub record LacksHeld (asked : Asked) (input : List ℕ) (fault : CampaignFault) : Type 0 where
+  pub shown : CampaignBundle
+  pub spelled : Spells IsCampaign campaign_spelling input shown
+  pub runs : AreAsked asked.runs (run_ids shown.bundles)
+  pub fault_is : held_fault asked.faulty shown ≡ Some fault
+
+-- memory was refused, or a thread was, or what is shown is of other runs, or else it lacks a general that is
+-- asked for
+abbrev pub IsWantOrLack : Asked → CampaignBundle → JobFault → Type 0
+IsWantOrLack asked shown faults.OtherRun = AreAsked asked.runs (run_ids shown.bundles) → ⊥
+IsWantOrLack asked shown (faults.Campaign f) =
+    AreAsked asked.runs (run_ids shown.bundles) × (held_fault asked.faulty shown ≡ Some f)
+IsWantOrLack asked shown fault = IsWant fault
+
+-- the faults of an input that should show a bundle or a campaign: those of any such input, that it shows
+-- other runs, and that it lacks a general that is asked for
+abbrev pub IsHeldFault : Asked → List ℕ → JobFault → Type 0
+IsHeldFault asked input faults.OtherRun = ShowsOthers asked.runs input
+IsHeldFault asked input (faults.Campaign f) = (whole_campaign input ≡ Err f) ⊎ LacksHeld asked input f
+IsHeldFault asked input fault = IsAuditFault input fault
+
+-- ---- what counts as a no
+
+-- at most m generals of the network are held for faulty
+abbrev pub has_few : Network → List ℕ → Bool
+has_few net faulty = nat_le (length faulty) net.traitors
+
+-- at most m generals are held for faulty in each bundle
+abbrev pub have_few : List Bundle → Bool
+have_few bundles = list_all (λ b. has_few b.header.network b.faulty) bundles
+
+-- What says no counts as a no. If it is asked strictly, a yes counts as a no too if more than m generals are
+-- held for faulty, for its verdict is then `explained` and not `agreed`.
+abbrev pub counts_as_no : Bool → Bool → Bool → Bool
+counts_as_no false said few = said
+counts_as_no true said few = said || not few
+
+-- ---- the answers
+
+-- the text is that of the audit of what is shown, in this form, and this is whether it counts as a no
+abbrev pub AuditsAs : Form → Bool → CampaignBundle → List ℕ → Bool → Type 0
+AuditsAs form strict shown text negative =
+    (said : Bool) × AuditsShown form shown.alone shown.bundles text said
+    × (negative ≡ counts_as_no strict said (have_few shown.bundles))
+
+-- the text is that of the judgement on the bundle or campaign in the input, of the runs that are asked for
+abbrev pub IsAuditedAs : AskedRuns → Bool → List ℕ → List ℕ → Bool → Type 0
+IsAuditedAs asked strict input text negative = Shows asked (AuditsAs Text strict) input text negative
+
+-- the same in a form, with the generals that are asked for held for faulty
+abbrev pub IsAuditedBy : Asked → Form → Bool → List ℕ → List ℕ → Bool → Type 0
+IsAuditedBy asked form strict input text negative =
+    ShowsHeld asked (AuditsAs form strict) input text negative
+
+-- the text is the picture of what is shown, and doesn't say no
+abbrev pub DrawsAll : CampaignBundle → List ℕ → Bool → Type 0
+DrawsAll shown text negative = DrawsForm shown.alone shown.bundles text × (negative ≡ false)
+
+-- the text is the picture of the bundle or campaign in the input, of the runs that are asked for
+abbrev pub IsDrawnOf : AskedRuns → List ℕ → List ℕ → Bool → Type 0
+IsDrawnOf asked input text negative = Shows asked DrawsAll input text negative
+
+-- the same with the generals that are asked for held for faulty
+abbrev pub IsDrawnBy : Asked → List ℕ → List ℕ → Bool → Type 0
+IsDrawnBy asked input text negative = ShowsHeld asked DrawsAll input text negative
+
+-- the text is the evidence against the general that is shown
+abbrev pub AccusesAll : ℕ → CampaignBundle → List ℕ → Bool → Type 0
+AccusesAll general shown text negative = AccusesRuns shown.bundles general text negative
+
+-- the text is the evidence against the general in the bundle or campaign in the input, of the runs that are
+-- asked for
+abbrev pub IsAccusedOf : AskedRuns → ℕ → List ℕ → List ℕ → Bool → Type 0
+IsAccusedOf asked general input text negative = Shows asked (AccusesAll general) input text negative
+
+-- The text says in this form whether the evidence that the input spells holds, and the evidence is of the run
+-- that is asked for: that of its header.
+pub record IsCheckedIn (form : Form) (asked : AskedRuns) (input text : List ℕ) (negative : Bool)
+    : Type 0 where
+  pub read : HeaderAndEvidence
+  pub spelled : Spells IsWhole whole_spelling input read
+  pub run : AreAsked asked (run_id_of read.header ∷ [])
+  pub tells : Tells form read text negative
+
+abbrev pub IsCheckedOf : AskedRuns → List ℕ → List ℕ → Bool → Type 0
+IsCheckedOf = IsCheckedIn Text
+
+-- The input spells evidence, and not of the run that is asked for.
+pub record IsOfOther (asked : AskedRuns) (input : List ℕ) : Type 0 where
+  pub read : HeaderAndEvidence
+  pub spelled : Spells IsWhole whole_spelling input read
+  pub other : AreAsked asked (run_id_of read.header ∷ []) → ⊥
+
+-- the faults of an input that should be evidence: those of any such input, and that it is of another run
+abbrev pub IsEvidenceFaultOf : AskedRuns → List ℕ → JobFault → Type 0
+IsEvidenceFaultOf asked input faults.OtherRun = IsOfOther asked input
+IsEvidenceFaultOf asked input fault = IsEvidenceFault input fault
+
+-- the text is that of the judgement on the bundle of the scenario's run, in this form, and this is whether
+-- it counts as a no
+abbrev pub JudgesRunAs : Form → Bool → Scenario → List ℕ → Bool → Type 0
+JudgesRunAs form strict s text negative =
+    (said : Bool) × JudgesRun form s text said
+    × (negative ≡ counts_as_no strict said (has_few s.net (scripted s.scripts)))
+
+-- The text is that of the judgement on the run of the scenario that the input spells, in this form, and this
+-- is whether it counts as a no.
+pub record IsJudgedAs (form : Form) (strict : Bool) (input text : List ℕ) (negative : Bool) : Type 0 where
+  pub scenario : Scenario
+  pub spelled : SpellsScenario input (texts.Signed scenario)
+  pub judges : JudgesRunAs form strict scenario text negative

@@ -1,0 +1,10 @@
+//! The form of an answer.
+
+/// The form in which a job gives its answer.
+#[derive(Clone, Copy, Debug, PartialEq, Eq)]
+pub enum Form {
+    /// Lines of text.
+    Text,
+    /// One line with a JSON object.
+    Json,
+}

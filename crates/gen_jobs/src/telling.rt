@@ -1,0 +1,96 @@
+//! The job that tells: what a file is, what a name means, or what the lines of a text mean.
+ghost use Rattle.std.specs.Prelude.{IfErr, IfOk, IfSome};
+ghost use Rattle.gen_jobs.specs.Answering.{Answers};
+ghost use Rattle.gen_jobs.specs.Ends.{IsTaken, KeepsUntilWhole};
+ghost use Rattle.gen_jobs.specs.Telling.{IsMemory, IsTold, TellsFile, TellsFound};
+ghost use Rattle.gen_words.specs.Table.{words};
+ghost use Rattle.gen_words.specs.Worded.{explained};
+
+use crate::ends::{JobEnd, JobFault, Output};
+use crate::transfer::{deliver, read_all};
+use std::alloc::{AllocError, Global};
+use std::io::{Read, Write};
+
+/// What is told of an input.
+#[derive(Clone, Copy, Debug, PartialEq, Eq)]
+pub enum Telling {
+    /// What the file is, line by line: a bundle, a campaign, evidence or a header alone.
+    File,
+    /// What the name means: a fault, a finding, a kind of conviction, a verdict or a status.
+    Name,
+    /// The text, with what each of its lines means behind the line.
+    Text,
+}
+
+/// Returns what a file is, and says no if it is no whole file of its kind.
+pub(crate) fn tell_file(alloc: Global, input: &[u8]) -> Result<Output, AllocError>
+    ensures { IfOk result (λ o. TellsFile input.now o.text.items o.negative) }
+{
+    let shown = gen_show::show(alloc, input)?;
+    let negative = !shown.whole;
+    Ok(Output {
+        text: shown.text,
+        negative,
+    })
+}
+
+/// Returns what a name means, and says no if it is no name.
+fn tell_name(alloc: Global, input: &[u8]) -> Result<Output, AllocError>
+    ensures { IfOk result (λ o. TellsFound (explained words input.now) o.text.items o.negative) }
+{
+    match gen_words::explain(alloc, input)? {
+        Some(text) => Ok(Output {
+            text,
+            negative: false,
+        }),
+        None => Ok(Output {
+            text: Vec::new(alloc),
+            negative: true,
+        }),
+    }
+}
+
+/// Returns what is told of an input. The output says no if the file is no whole bundle, campaign, evidence or header, and if
+/// the name is none.
+///
+/// # Errors
+///
+/// `Memory` if memory is refused. Any input is told.
+pub fn tell(alloc: Global, what: Telling, input: &[u8]) -> Result<Output, JobFault>
+    ensures answer { IfOk result (λ o. IsTold what input.now o.text.items o.negative) }
+    ensures fault { IfErr result IsMemory }
+{
+    match what {
+        Telling::File => Ok(tell_file(alloc, input)?),
+        Telling::Name => Ok(tell_name(alloc, input)?),
+        Telling::Text => Ok(Output {
+            text: gen_words::with_words(alloc, input)?,
+            negative: false,
+        }),
+    }
+}
+
+/// Reads an input to its end, and writes what is told of it. The end is negative if the output says no.
+///
+/// Nothing is written before the output is whole. If a read, a write or memory fails, the job ends with that fault.
+#[tactic(auto, using(crate::proofs::Delivering::output_engine))]
+pub fn tell_engine<R: Read, W: Write>(
+    alloc: Global,
+    what: Telling,
+    reader: &mut R,
+    writer: &mut W,
+) -> JobEnd
+    // What is written is told of what was read.
+    ensures answers { IfSome (R.remaining reader.old) (λ input.
+        Answers (IsTold what input) IsMemory
+        (W.contents writer.old) (W.contents writer.new) result) }
+    // What was read is within the limit.
+    ensures taken { IfSome (R.remaining reader.old) (λ input. IsTaken input result) }
+    // Nothing is written before the output is whole.
+    ensures late { KeepsUntilWhole (W.contents writer.old) (W.contents writer.new) result }
+{
+    match read_all(alloc, reader) {
+        Ok(input) => deliver(writer, tell(alloc, what, &input)),
+        Err(fault) => JobEnd::Failed(fault),
+    }
+}

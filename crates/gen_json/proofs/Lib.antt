@@ -1,0 +1,9 @@
+pub mod Held
+pub mod OneValue
+pub mod Plain
+pub mod PlainCampaigns
+pub mod PlainDecisions
+pub mod PlainEvidence
+pub mod PlainVerdicts
+pub mod Ranges
+pub mod Told

@@ -1,0 +1,10 @@
+pub mod CampaignData
+pub mod ClaimData
+pub mod ConvictionData
+pub mod DecisionData
+pub mod EvidenceData
+pub mod FindingData
+pub mod JsonData
+pub mod Line
+pub mod StatusData
+pub mod VerdictData

@@ -1,0 +1,216 @@
+//! Verdicts on campaigns as JSON.
+ghost use Rattle.std.specs.Prelude.{◌≡◌, ◌++◌, [], ◌∷◌, IfOk, OnOk, map};
+ghost use Rattle.serde_json.specs.Data.{array};
+ghost use Rattle.serde_json.specs.View.{items_of, view};
+ghost use Rattle.gen_convict.specs.Evidence.{told_of};
+ghost use Rattle.gen_campaign.specs.CampaignVerdictText.{place_of};
+ghost use Rattle.gen_json.specs.CampaignData.{across_data, alone_data, campaign_data, campaign_object, places_data, run_data, runs_data, several_data};
+ghost use Rattle.gen_json.specs.JsonData.{list_of};
+ghost use Rattle.gen_json.specs.Line.{ReadsAs, json_line};
+
+use crate::convictions::conviction_value;
+use crate::lines::value_line;
+use crate::places::place_of;
+use crate::verdicts::judgement_value;
+use gen_audit::{Bundle, Judgement};
+use gen_campaign::{CampaignBundle, CampaignVerdict};
+use gen_convict::{Claim, Evidence};
+use serde_json::{Value, json};
+use std::alloc::{AllocError, Global};
+
+/// Returns the judgement on the run of a bundle.
+fn run_value(alloc: Global, bundle: &Bundle, judgement: &Judgement) -> Result<Value, AllocError>
+    ensures { IfOk result (λ v. view v ≡ run_data bundle.now judgement.now) }
+{
+    judgement_value(alloc, bundle.header(), bundle.faulty(), judgement)
+}
+
+/// Appends a value.
+fn push_seen(list: &mut Vec<Value>, value: Value) -> Result<(), AllocError>
+    ensures { OnOk result
+        (map view list.new.items ≡ map view list.old.items ++ view value ∷ []) }
+{
+    serde_json::push(list, value)
+}
+
+/// Appends the judgement on the run of a bundle.
+fn push_run(
+    alloc: Global,
+    list: &mut Vec<Value>,
+    bundle: &Bundle,
+    judgement: &Judgement,
+) -> Result<(), AllocError>
+    ensures { OnOk result (map view list.new.items
+        ≡ map view list.old.items ++ run_data bundle.now judgement.now ∷ []) }
+{
+    let value = run_value(alloc, bundle, judgement)?;
+    push_seen(list, value)
+}
+
+/// Appends the judgements on runs, in their order. A run without a judgement has none.
+fn push_runs(
+    alloc: Global,
+    list: &mut Vec<Value>,
+    bundles: &[Bundle],
+    judgements: &[Judgement],
+) -> Result<(), AllocError>
+    ensures { OnOk result (map view list.new.items
+        ≡ map view list.old.items ++ runs_data bundles.now judgements.now) }
+{
+    let mut runs = bundles;
+    let mut rest = judgements;
+    'runs: while let Some((run, others)) = runs.split_first() {
+        let Some((judgement, more)) = rest.split_first() else {
+            return Ok(());
+        };
+        push_run(alloc, list, run, judgement)?;
+        runs = others;
+        rest = more;
+    }
+    Ok(())
+}
+
+/// Returns the list of the judgements on runs.
+fn runs_value(
+    alloc: Global,
+    bundles: &[Bundle],
+    judgements: &[Judgement],
+) -> Result<Value, AllocError>
+    ensures { IfOk result (λ v. view v ≡ array (items_of (runs_data bundles.now judgements.now))) }
+{
+    let mut list = Vec::new(alloc);
+    push_runs(alloc, &mut list, bundles, judgements)?;
+    Ok(Value::Array(list))
+}
+
+/// Returns a general that is convicted across two runs, and the places of the runs.
+fn places_value(
+    alloc: Global,
+    general: u8,
+    first: usize,
+    second: usize,
+) -> Result<Value, AllocError>
+    ensures { IfOk result (λ v. view v ≡ places_data general first second) }
+{
+    json!(in alloc; {"first": first, "general": general, "id": "K1", "second": second})
+}
+
+/// Returns a conviction across two runs, with the places of the two among these bundles. Evidence of one run alone has
+/// its kind in place of the runs.
+fn across_value(alloc: Global, bundles: &[Bundle], evidence: &Evidence) -> Result<Value, AllocError>
+    ensures { IfOk result (λ v. view v ≡ across_data bundles.now (told_of evidence.now)) }
+{
+    match &evidence.claim {
+        Claim::Across { first, second } => {
+            let one = place_of(bundles, &first.header);
+            let other = place_of(bundles, &second.header);
+            places_value(alloc, evidence.accused.get(), one, other)
+        }
+        _ => conviction_value(alloc, evidence),
+    }
+}
+
+/// Returns the list of convictions across two runs.
+fn all_across_value(
+    alloc: Global,
+    bundles: &[Bundle],
+    across: &[Evidence],
+) -> Result<Value, AllocError>
+    ensures { IfOk result (λ v. view v
+        ≡ list_of (across_data bundles.now) (map told_of across.now)) }
+{
+    let mut list = Vec::new(alloc);
+    for evidence in across {
+        let value = across_value(alloc, bundles, evidence)?;
+        serde_json::push(&mut list, value)?;
+    }
+    Ok(Value::Array(list))
+}
+
+/// Returns the object of a campaign, of its convictions across two runs and of the judgements on its runs.
+fn object_of(alloc: Global, across: Value, runs: Value) -> Result<Value, AllocError>
+    ensures { IfOk result (λ v. view v ≡ campaign_object (view across) (view runs)) }
+{
+    json!(in alloc; {
+        "across": across,
+        "format": "campaign verdict",
+        "runs": runs,
+        "version": 1u8,
+    })
+}
+
+/// Returns the verdict on several runs.
+fn several_value(
+    alloc: Global,
+    bundles: &[Bundle],
+    judgements: &[Judgement],
+    across: &[Evidence],
+) -> Result<Value, AllocError>
+    ensures { IfOk result (λ v. view v
+        ≡ several_data bundles.now judgements.now (map told_of across.now)) }
+{
+    let convicted = all_across_value(alloc, bundles, across)?;
+    let runs = runs_value(alloc, bundles, judgements)?;
+    object_of(alloc, convicted, runs)
+}
+
+/// Returns the judgement on the first run, and null if there is none.
+fn alone_value(
+    alloc: Global,
+    bundles: &[Bundle],
+    judgements: &[Judgement],
+) -> Result<Value, AllocError>
+    ensures { IfOk result (λ v. view v ≡ alone_data bundles.now judgements.now) }
+{
+    let Some((bundle, _)) = bundles.split_first() else {
+        return Ok(Value::Null);
+    };
+    let Some((judgement, _)) = judgements.split_first() else {
+        return Ok(Value::Null);
+    };
+    run_value(alloc, bundle, judgement)
+}
+
+/// Returns the verdict on what is shown of a campaign.
+fn campaign_value(
+    alloc: Global,
+    campaign: &CampaignBundle,
+    verdict: &CampaignVerdict,
+) -> Result<Value, AllocError>
+    ensures { IfOk result (λ v. view v ≡ campaign_data campaign.now
+        verdict.now.judgements.items (map told_of verdict.now.across.items)) }
+{
+    let bundles = campaign.bundles();
+    let judgements = verdict.judgements.as_slice();
+    if campaign.is_alone() {
+        alone_value(alloc, bundles, judgements)
+    } else {
+        several_value(alloc, bundles, judgements, verdict.across.as_slice())
+    }
+}
+
+/// Returns the line of JSON of the verdict on a campaign. It has the judgement on each run, as `print_verdict_json`
+/// gives it, and for each conviction across two runs the general and the places of the two runs in the campaign,
+/// counted from 0. For a bundle that stands alone it is the line of `print_verdict_json`.
+///
+/// The verdict is meant to be that of `audit_campaign` on the same campaign, with a judgement for each run. A run
+/// without a judgement is left out, and a bundle that stands alone without one is `null`.
+///
+/// # Errors
+///
+/// `AllocError` if memory is refused.
+pub fn print_campaign_json(
+    alloc: Global,
+    campaign: &CampaignBundle,
+    verdict: &CampaignVerdict,
+) -> Result<Vec<u8>, AllocError>
+    // It is the line of this value, byte for byte.
+    ensures text { IfOk result (λ line. line.items ≡ json_line (campaign_data campaign.now
+        verdict.now.judgements.items (map told_of verdict.now.across.items))) }
+    // A reader of JSON finds this value in it.
+    ensures reads { IfOk result (λ line. ReadsAs line.items (campaign_data campaign.now
+        verdict.now.judgements.items (map told_of verdict.now.across.items))) }
+{
+    let value = campaign_value(alloc, campaign, verdict)?;
+    value_line(alloc, &value)
+}

@@ -1,0 +1,116 @@
+//! Decisions as JSON.
+ghost use Rattle.std.specs.Prelude.{◌≡◌, IfOk};
+ghost use Rattle.serde_json.specs.View.{view};
+ghost use Rattle.gen_json.specs.DecisionData.{decided_data, decision_data, decisions_data, run_data};
+ghost use Rattle.gen_json.specs.JsonData.{list_of};
+ghost use Rattle.gen_json.specs.Line.{ReadsAs, json_line};
+
+use crate::lines::value_line;
+use crate::numbers::{digits_value, network_value, set_value};
+use gen_net::Net;
+use gen_scenario::Decision;
+use gen_types::GeneralSet;
+use serde_json::{Value, json};
+use std::alloc::{AllocError, Global};
+
+/// Returns which order a general decided.
+fn decided_value(alloc: Global, decision: &Decision) -> Result<Value, AllocError>
+    ensures { IfOk result (λ v. view v ≡ decided_data decision.now) }
+{
+    let general = decision.general.get();
+    let order = decision.order.get();
+    json!(in alloc; {"general": general, "order": order})
+}
+
+/// Returns the list of which orders generals decided.
+pub(crate) fn all_decided_value(alloc: Global, decisions: &[Decision]) -> Result<Value, AllocError>
+    ensures { IfOk result (λ v. view v ≡ list_of decided_data decisions.now) }
+{
+    let mut list = Vec::new(alloc);
+    for decision in decisions {
+        let value = decided_value(alloc, decision)?;
+        serde_json::push(&mut list, value)?;
+    }
+    Ok(Value::Array(list))
+}
+
+/// Returns which order a general decided from which set of orders.
+fn decision_value(alloc: Global, decision: &Decision) -> Result<Value, AllocError>
+    ensures { IfOk result (λ v. view v ≡ decision_data decision.now) }
+{
+    let general = decision.general.get();
+    let order = decision.order.get();
+    let set = set_value(alloc, &decision.orders)?;
+    json!(in alloc; {"general": general, "order": order, "set": set})
+}
+
+/// Returns the list of decisions.
+fn decision_list_value(alloc: Global, decisions: &[Decision]) -> Result<Value, AllocError>
+    ensures { IfOk result (λ v. view v ≡ list_of decision_data decisions.now) }
+{
+    let mut list = Vec::new(alloc);
+    for decision in decisions {
+        let value = decision_value(alloc, decision)?;
+        serde_json::push(&mut list, value)?;
+    }
+    Ok(Value::Array(list))
+}
+
+/// Returns a run id in hexadecimal digits, and null for none.
+fn run_value(alloc: Global, run: Option<[u8; 32]>) -> Result<Value, AllocError>
+    ensures { IfOk result (λ v. view v ≡ run_data run) }
+{
+    match run {
+        Some(id) => digits_value(alloc, &id),
+        None => Ok(Value::Null),
+    }
+}
+
+/// Returns decisions on a network. They are those of the generals that aren't among the faulty.
+fn decisions_value(
+    alloc: Global,
+    net: &Net,
+    run: Option<[u8; 32]>,
+    faulty: &GeneralSet,
+    decisions: &[Decision],
+) -> Result<Value, AllocError>
+    ensures { IfOk result (λ v. view v
+        ≡ decisions_data net.now run faulty.now decisions.now) }
+{
+    let decided = decision_list_value(alloc, decisions)?;
+    let faulty = set_value(alloc, faulty)?;
+    let network = network_value(alloc, net)?;
+    let run = run_value(alloc, run)?;
+    json!(in alloc; {
+        "decisions": decided,
+        "faulty": faulty,
+        "format": "decisions",
+        "network": network,
+        "run": run,
+        "version": 1u8,
+    })
+}
+
+/// Returns the line of JSON of decisions on a network: its numbers, the run id or null, the generals that have scripts,
+/// and for each decision the general, the orders of its set and the order that it decides.
+///
+/// # Errors
+///
+/// `AllocError` if memory is refused.
+pub fn print_decisions_json(
+    alloc: Global,
+    net: &Net,
+    run: Option<[u8; 32]>,
+    faulty: &GeneralSet,
+    decisions: &[Decision],
+) -> Result<Vec<u8>, AllocError>
+    // It is the line of this value, byte for byte.
+    ensures text { IfOk result (λ line. line.items ≡ json_line
+        (decisions_data net.now run faulty.now decisions.now)) }
+    // A reader of JSON finds this value in it.
+    ensures reads { IfOk result (λ line. ReadsAs line.items
+        (decisions_data net.now run faulty.now decisions.now)) }
+{
+    let value = decisions_value(alloc, net, run, faulty, decisions)?;
+    value_line(alloc, &value)
+}

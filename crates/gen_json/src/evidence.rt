@@ -1,0 +1,73 @@
+//! Evidence as JSON.
+ghost use Rattle.std.specs.Prelude.{◌≡◌, ◌<◌, IfOk};
+ghost use Rattle.serde_json.specs.View.{view};
+ghost use Rattle.gen_convict.specs.Evidence.{told_of};
+ghost use Rattle.gen_json.specs.EvidenceData.{evidence_data};
+ghost use Rattle.gen_json.specs.Line.{ReadsAs, json_line};
+
+use crate::claims::claim_value;
+use crate::convictions::name_value;
+use crate::lines::value_line;
+use crate::numbers::{digits_value, network_value};
+use gen_convict::Evidence;
+use gen_net::Header;
+use serde_json::{Value, json};
+use std::alloc::{AllocError, Global};
+
+/// Returns evidence under a header, and whether it holds. The accused is a general of the network.
+///
+/// # Errors
+///
+/// `AllocError` if memory is refused.
+pub fn evidence_value(
+    alloc: Global,
+    header: &Header,
+    evidence: &Evidence,
+    holds: bool,
+) -> Result<Value, AllocError>
+    requires { evidence.now.accused < header.now.network.generals }
+    ensures { IfOk result (λ v. view v ≡ evidence_data header.now (told_of evidence.now) holds) }
+{
+    let accused = evidence.accused.get();
+    let claim = claim_value(alloc, &evidence.claim)?;
+    let kind = name_value(alloc, &evidence.claim)?;
+    let network = network_value(alloc, header.net())?;
+    let root = digits_value(alloc, header.root(evidence.accused))?;
+    let run = digits_value(alloc, header.run_id())?;
+    json!(in alloc; {
+        "accused": accused,
+        "claim": claim,
+        "format": "evidence",
+        "holds": holds,
+        "kind": kind,
+        "network": network,
+        "root": root,
+        "run": run,
+        "version": 1u8,
+    })
+}
+
+/// Returns the line of JSON of evidence under a header, and of whether it holds: the accused with the root of its keys,
+/// the kind of the claim and what it says, the run id and the numbers of the network.
+///
+/// # Errors
+///
+/// `AllocError` if memory is refused.
+pub fn print_evidence_json(
+    alloc: Global,
+    header: &Header,
+    evidence: &Evidence,
+    holds: bool,
+) -> Result<Vec<u8>, AllocError>
+    // The accused is a general of the network, as in all evidence that `read_evidence` reads.
+    requires { evidence.now.accused < header.now.network.generals }
+    // It is the line of this value, byte for byte.
+    ensures text { IfOk result (λ line. line.items
+        ≡ json_line (evidence_data header.now (told_of evidence.now) holds)) }
+    // A reader of JSON finds this value in it.
+    ensures reads { IfOk result (λ line. ReadsAs line.items
+        (evidence_data header.now (told_of evidence.now) holds)) }
+{
+    let value = evidence_value(alloc, header, evidence, holds)?;
+    value_line(alloc, &value)
+}

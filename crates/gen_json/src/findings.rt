@@ -1,0 +1,123 @@
+//! Findings as JSON.
+ghost use Rattle.std.specs.Prelude.{◌≡◌, IfOk};
+ghost use Rattle.serde_json.specs.Data.{string};
+ghost use Rattle.serde_json.specs.View.{view};
+ghost use Rattle.gen_report.specs.Findings.{log_fault_name};
+ghost use Rattle.gen_match.specs.declared.finding.Finding.TheVariants.{Unreadable, Unjoined};
+ghost use Rattle.gen_json.specs.JsonData.{list_of};
+ghost use Rattle.gen_json.specs.FindingData.{about_entry, about_general, about_message, finding_data};
+
+use gen_log::LogFault;
+use gen_match::Finding;
+use gen_types::{GeneralNo, OrderNo};
+use serde_json::{Value, json};
+use std::alloc::{AllocError, Global};
+
+/// Returns the name of a log's fault, and, if that is a chain's fault, the name of the chain's fault behind it.
+fn fault_value(alloc: Global, fault: LogFault) -> Result<Value, AllocError>
+    ensures { IfOk result (λ v. view v ≡ string (log_fault_name fault)) }
+{
+    let (of_log, of_chain) = fault.numbers();
+    let text = match fault {
+        LogFault::Chain(_) => format!(in alloc; "L{of_log} C{of_chain}")?,
+        _ => format!(in alloc; "L{of_log}")?,
+    };
+    Ok(Value::String(text))
+}
+
+/// Returns a finding about a general.
+fn about_general(alloc: Global, id: &str, general: GeneralNo) -> Result<Value, AllocError>
+    ensures { IfOk result (λ v. view v ≡ about_general id.now general) }
+{
+    let general = general.get();
+    json!(in alloc; {"general": general, "id": id})
+}
+
+/// Returns a finding about an entry of a general's log.
+fn about_entry(
+    alloc: Global,
+    id: &str,
+    general: GeneralNo,
+    entry: usize,
+) -> Result<Value, AllocError>
+    ensures { IfOk result (λ v. view v ≡ about_entry id.now general entry) }
+{
+    let general = general.get();
+    json!(in alloc; {"entry": entry, "general": general, "id": id})
+}
+
+/// Returns the finding that a log doesn't read.
+fn unreadable(alloc: Global, general: GeneralNo, fault: LogFault) -> Result<Value, AllocError>
+    ensures { IfOk result (λ v. view v ≡ finding_data (Unreadable general fault)) }
+{
+    let fault = fault_value(alloc, fault)?;
+    let general = general.get();
+    json!(in alloc; {"fault": fault, "general": general, "id": "N3"})
+}
+
+/// Returns a finding about a message.
+fn about_message(
+    alloc: Global,
+    id: &str,
+    from: GeneralNo,
+    to: GeneralNo,
+    round: u8,
+    order: OrderNo,
+) -> Result<Value, AllocError>
+    ensures { IfOk result (λ v. view v ≡ about_message id.now from to round order) }
+{
+    let from = from.get();
+    let to = to.get();
+    let order = order.get();
+    json!(in alloc; {"from": from, "id": id, "order": order, "round": round, "to": to})
+}
+
+/// Returns the finding that the walks don't join two generals.
+fn unjoined(alloc: Global, first: GeneralNo, second: GeneralNo) -> Result<Value, AllocError>
+    ensures { IfOk result (λ v. view v ≡ finding_data (Unjoined first second)) }
+{
+    let first = first.get();
+    let second = second.get();
+    json!(in alloc; {"first": first, "id": "N10", "second": second})
+}
+
+/// Returns a finding: its number as in `N8`, and what it is about.
+fn finding_value(alloc: Global, finding: &Finding) -> Result<Value, AllocError>
+    ensures { IfOk result (λ v. view v ≡ finding_data finding.now) }
+{
+    match *finding {
+        Finding::Missing { general } => about_general(alloc, "N1", general),
+        Finding::Several { general } => about_general(alloc, "N2", general),
+        Finding::Unreadable { general, fault } => unreadable(alloc, general, fault),
+        Finding::Foreign { general } => about_general(alloc, "N4", general),
+        Finding::Unsigned { general, entry } => about_entry(alloc, "N5", general, entry),
+        Finding::Unsealed { general } => about_general(alloc, "N6", general),
+        Finding::Departs { general, entry } => about_entry(alloc, "N7", general, entry),
+        Finding::Unmatched {
+            from,
+            to,
+            round,
+            order,
+        } => about_message(alloc, "N8", from, to, round, order),
+        Finding::Underivable {
+            from,
+            to,
+            round,
+            order,
+        } => about_message(alloc, "N9", from, to, round, order),
+        Finding::Unjoined { first, second } => unjoined(alloc, first, second),
+        Finding::Nobody => json!(in alloc; {"id": "N11"}),
+    }
+}
+
+/// Returns the list of findings.
+pub(crate) fn findings_value(alloc: Global, findings: &[Finding]) -> Result<Value, AllocError>
+    ensures { IfOk result (λ v. view v ≡ list_of finding_data findings.now) }
+{
+    let mut list = Vec::new(alloc);
+    for finding in findings {
+        let value = finding_value(alloc, finding)?;
+        serde_json::push(&mut list, value)?;
+    }
+    Ok(Value::Array(list))
+}

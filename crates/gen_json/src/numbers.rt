@@ -1,0 +1,73 @@
+//! Numbers, sets, digits and networks as JSON.
+ghost use Rattle.std.specs.Prelude.{◌≡◌, IfOk};
+ghost use Rattle.serde_json.specs.View.{view};
+ghost use Rattle.gen_json.specs.JsonData.{digits_data, network_data, numbers_data};
+
+use gen_net::Net;
+use gen_types::{GeneralNo, NumberSet};
+use serde_json::{Value, json};
+use std::alloc::{AllocError, Global};
+
+/// Returns bytes in hexadecimal digits.
+///
+/// # Errors
+///
+/// `AllocError` if memory is refused.
+pub fn digits_value(alloc: Global, bytes: &[u8; 32]) -> Result<Value, AllocError>
+    ensures { IfOk result (λ v. view v ≡ digits_data bytes.now) }
+{
+    let digits = hex::encode(alloc, *bytes)?;
+    Ok(Value::String(digits))
+}
+
+/// Returns the list of the members of a set, ascending.
+///
+/// # Errors
+///
+/// `AllocError` if memory is refused.
+pub fn set_value<K>(alloc: Global, set: &NumberSet<K>) -> Result<Value, AllocError>
+    ensures { IfOk result (λ v. view v ≡ numbers_data set.now) }
+{
+    let mut list = Vec::new(alloc);
+    for member in set.iter() {
+        serde_json::push(&mut list, Value::from(member.get()))?;
+    }
+    Ok(Value::Array(list))
+}
+
+/// Returns the list of the generals of a path.
+///
+/// # Errors
+///
+/// `AllocError` if memory is refused.
+pub fn path_value(alloc: Global, generals: &[GeneralNo]) -> Result<Value, AllocError>
+    ensures { IfOk result (λ v. view v ≡ numbers_data generals.now) }
+{
+    let mut list = Vec::new(alloc);
+    for general in generals {
+        serde_json::push(&mut list, Value::from(general.get()))?;
+    }
+    Ok(Value::Array(list))
+}
+
+/// Returns the numbers of a network.
+///
+/// # Errors
+///
+/// `AllocError` if memory is refused.
+pub fn network_value(alloc: Global, net: &Net) -> Result<Value, AllocError>
+    ensures { IfOk result (λ v. view v ≡ network_data net.now) }
+{
+    let choice = net.choice().number();
+    let diameter = net.diameter();
+    let generals = net.generals();
+    let orders = net.orders();
+    let traitors = net.traitors();
+    json!(in alloc; {
+        "choice": choice,
+        "diameter": diameter,
+        "generals": generals,
+        "orders": orders,
+        "traitors": traitors,
+    })
+}

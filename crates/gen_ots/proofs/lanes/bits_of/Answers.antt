@@ -1,0 +1,16 @@
+use Rattle.std.proofs.Common.{ℕ, false, slice_index_or, arith}
+use Rattle.std.specs.Int.{from_bool}
+use Rattle.gen_ots.proofs.Filled.{none_filled, one_filled}
+use Rattle.gen_ots.proofs.lanes.bits_of.Goals as goal
+
+pub lanes-init : goal.lanes-init
+lanes-init c = none_filled (λ (k : ℕ). from_bool (slice_index_or c.args.ones.now k false)) 0
+
+pub lanes-preserved : goal.lanes-preserved
+lanes-preserved c = one_filled (λ (k : ℕ). from_bool (slice_index_or c.args.ones.now k false)) c.lanes.j c.lanes.bits _ (omega arith) c.from.ensures c.lanes.invariant
+
+pub returns-clause-width : goal.returns-clause-width
+returns-clause-width c = c.lanes.invariant.0
+
+pub returns-clause-value : goal.returns-clause-value
+returns-clause-value c j below = c.lanes.invariant.1 j (omega arith) 0

@@ -1,0 +1,134 @@
+//! Reads headers from text.
+ghost use Rattle.std.specs.Prelude.{◌≡◌, ◌≤◌, length, map, IfOk, Ok};
+ghost use Rattle.gen_types.specs.Reading.{Gives};
+ghost use Rattle.gen_types.specs.Spelled.{IsRead};
+ghost use Rattle.gen_net.specs.Header.{RunHeader, header_with};
+ghost use Rattle.gen_net.specs.Version.{greatest_slot, slot_in};
+ghost use Rattle.gen_prepare.specs.HeaderText.{SpellsHeader};
+ghost use Rattle.gen_prepare.specs.HeaderTextReading.{header_of_text, last_at, last_in, root_at, root_in, roots_at};
+
+use crate::net_text::first_net;
+use gen_net::{Header, HeaderFault, Net, Version};
+use gen_report::{Cursor, LineFault, ScenarioFault};
+use gen_types::ReadError;
+use hex::FromHex;
+use std::alloc::Global;
+
+/// Returns the root of a line.
+#[tactic(auto, unfolding(crate::specs::HeaderTextReading::root_in))]
+fn root_in(fields: &[&[u8]], line: usize) -> Result<[u8; 32], ReadError<ScenarioFault>>
+    ensures { IsRead result (root_in line (map (λ f. f.now) fields.now)) }
+{
+    match fields {
+        [word, digits] if *word == b"root".as_slice() => {
+            match <[u8; 32] as FromHex>::from_hex(*digits) {
+                Ok(root) => Ok(root),
+                Err(_) => Err(LineFault::BadSeed.refused(line)),
+            }
+        }
+        _ => Err(LineFault::Shape.refused(line)),
+    }
+}
+
+/// Returns the root of the line that begins here, and the cursor after the line.
+#[tactic(auto, unfolding(crate::specs::HeaderTextReading::root_at))]
+fn read_root<'a>(
+    alloc: Global,
+    start: &Cursor<'a>,
+) -> Result<([u8; 32], Cursor<'a>), ReadError<ScenarioFault>>
+    ensures { IsRead result (root_at start.now) }
+{
+    let (line, after) = start.next_line(alloc)?;
+    let root = root_in(&line.fields, line.number)?;
+    Ok((root, after))
+}
+
+/// Returns the roots of this many lines from here on, and the cursor after them.
+fn read_roots<'a>(
+    alloc: Global,
+    count: u8,
+    start: Cursor<'a>,
+) -> Result<(Vec<[u8; 32]>, Cursor<'a>), ReadError<ScenarioFault>>
+    ensures { Gives (λ x. (x.0.items, x.1)) result (roots_at count start.entry) }
+{
+    let mut roots = Vec::new(alloc);
+    let mut cursor = start;
+    for _place in 0..count {
+        let (root, after) = read_root(alloc, &cursor)?;
+        roots.push(root)?;
+        cursor = after;
+    }
+    Ok((roots, cursor))
+}
+
+/// Checks that the line is the last one of a text.
+#[tactic(auto, unfolding(crate::specs::HeaderTextReading::last_in))]
+fn last_in(fields: &[&[u8]], line: usize) -> Result<(), ReadError<ScenarioFault>>
+    ensures { IsRead result (last_in line (map (λ f. f.now) fields.now)) }
+{
+    match fields {
+        [word] if *word == b"end".as_slice() => Ok(()),
+        _ => Err(LineFault::Shape.refused(line)),
+    }
+}
+
+/// Returns the cursor after the last line of a text, which begins here.
+#[tactic(auto, unfolding(crate::specs::HeaderTextReading::last_at))]
+fn read_last<'a>(alloc: Global, start: &Cursor<'a>) -> Result<Cursor<'a>, ReadError<ScenarioFault>>
+    ensures { IsRead result (last_at start.now) }
+{
+    let (line, after) = start.next_line(alloc)?;
+    last_in(&line.fields, line.number)?;
+    Ok(after)
+}
+
+/// Returns the header of this version, this network and these roots.
+fn header_with(version: Version, net: Net, roots: Vec<[u8; 32]>) -> Result<Header, HeaderFault>
+    ensures { result ≡ header_with version net roots.items }
+{
+    match version {
+        Version::One => Header::new(net, roots),
+        Version::Two { slot } => Header::new_in_slot(net, slot, roots),
+    }
+}
+
+/// Reads a whole text line by line, and returns the header of this version that it is.
+#[tactic(auto, unfolding(crate::specs::HeaderTextReading::header_of_text))]
+fn whole(alloc: Global, version: Version, text: &[u8]) -> Result<Header, ReadError<ScenarioFault>>
+    requires { slot_in version ≤ greatest_slot }
+    ensures { IsRead result (header_of_text version text.now) }
+{
+    let (net, rest) = first_net(alloc, text)?;
+    let (roots, rest) = read_roots(alloc, net.generals(), rest)?;
+    let rest = read_last(alloc, &rest)?;
+    if !rest.is_over() {
+        return Err(LineFault::Extra.refused(rest.line()));
+    }
+    Ok(header_with(version, net, roots).unwrap())
+}
+
+/// Returns the header of this version that a text spells. The text has the lines of a network as a scenario text has
+/// them, from that of the generals to that of the choice. Then comes a line `root HEX` for each general, in their order,
+/// with the root of the general's keys in 64 hexadecimal digits, and then the line `end`. The slot of version 2 must be
+/// 0 to 3.
+///
+/// # Errors
+///
+/// The text's first fault, with its line, as `read_scenario` has it. `BadSeed` stands for a root that isn't 64
+/// hexadecimal digits, and `Extra` for bytes that follow the last line. Memory if memory was refused before a fault was
+/// met.
+pub fn read_header_text(
+    alloc: Global,
+    version: Version,
+    text: &[u8],
+) -> Result<Header, ReadError<ScenarioFault>>
+    requires { slot_in version ≤ greatest_slot }
+    // If a header is read, the text spells it.
+    ensures found { IfOk result (SpellsHeader version text.now) }
+    // If the text spells a header, that header is read, unless memory runs out.
+    ensures only { (h : RunHeader) → SpellsHeader version text.now h → IsRead result (Ok h) }
+    // The answer, and so the first fault and its line, is that of `header_of_text`.
+    ensures exact { IsRead result (header_of_text version text.now) }
+{
+    whole(alloc, version, text)
+}

@@ -1,0 +1,21 @@
+//! What is prepared for a run and for a dispute about it: the root of a seed's keys, the header of a text, the bundle of
+//! logs that were collected, and a bundle in which other generals are held for faulty.
+//!
+//! All calls take bytes and values, and none reads a file.
+#![tactic(auto)]
+
+mod gathering;
+mod header_text;
+mod holding;
+mod net_text;
+mod ordering;
+mod roots;
+mod seed_fault;
+mod walking;
+
+pub use gathering::{bundle_of_parts, gather};
+pub use header_text::read_header_text;
+pub use holding::hold;
+pub use roots::root_text;
+pub use seed_fault::SeedFault;
+pub use walking::{walks_between, walks_if_any};

@@ -1,0 +1,45 @@
+//! Puts logs into the order of their generals.
+ghost use Rattle.std.specs.Prelude.{◌≡◌, ◌++◌, ◌∷◌, [], IfOk, OnOk};
+ghost use Rattle.gen_audit.specs.Bundle.{exhibits_of};
+ghost use Rattle.gen_prepare.specs.Gathering.{in_order};
+
+use gen_local::Exhibit;
+use std::alloc::{AllocError, Global};
+
+/// The number of numbers that generals can have.
+const GENERALS: u8 = 16;
+
+/// Appends a log if it is the general's. Its bytes are not copied.
+fn push_if_of(log: &Exhibit, general: u8, ordered: &mut Vec<Exhibit>) -> Result<(), AllocError>
+    ensures { OnOk result (ordered.new.items ≡ ordered.old.items ++ exhibits_of (log.now ∷ []) general) }
+{
+    if log.general().get() == general {
+        ordered.push(log.share()?)?;
+    }
+    Ok(())
+}
+
+/// Appends those of the logs that are the general's, in their order.
+#[tactic(auto, using(crate::proofs::Ordered::taken_off))]
+fn push_all_of(logs: &[Exhibit], general: u8, ordered: &mut Vec<Exhibit>) -> Result<(), AllocError>
+    ensures { OnOk result (ordered.new.items ≡ ordered.old.items ++ exhibits_of logs.now general) }
+{
+    let mut rest = logs;
+    'logs: while let Some((log, others)) = rest.split_first() {
+        push_if_of(log, general, ordered)?;
+        rest = others;
+    }
+    Ok(())
+}
+
+/// Returns logs in ascending order of their generals. Those of one general stay in their order. It fails only if memory
+/// was refused.
+pub(crate) fn in_order(alloc: Global, logs: &[Exhibit]) -> Result<Vec<Exhibit>, AllocError>
+    ensures { IfOk result (λ ordered. ordered.items ≡ in_order logs.now) }
+{
+    let mut ordered = Vec::with_capacity(alloc, logs.len())?;
+    'generals: for general in 0..GENERALS {
+        push_all_of(logs, general, &mut ordered)?;
+    }
+    Ok(ordered)
+}

@@ -1,0 +1,51 @@
+//! Jobs that print the ids of their runs.
+ghost use Rattle.gen_jobs.specs.Ranges.{IsInRange};
+
+use gen_jobs::{Job, JobEnd, JobFault, Output, do_job, name_file, write_output};
+use std::io::{Read, Write};
+use std::sync::Wait;
+use std::thread::Threads;
+
+/// Does a job, and says on standard error of which runs its output is, if there is one: their ids, with commas between
+/// them. The output is kept in memory until it is whole.
+pub(crate) fn do_and_name<R: AllocGlobal + Eprint + Threads + Wait + Sync, S: Read, W: Write>(
+    rt: &R,
+    job: &Job,
+    reader: &mut S,
+    writer: &mut W,
+) -> JobEnd
+    requires { IsInRange job.now }
+{
+    let mut text = Vec::new(rt.alloc());
+    match do_job(rt, rt.alloc(), *job, reader, &mut text) {
+        JobEnd::Done => write_named(rt, text, writer),
+        // Only memory can be refused to what is written into memory.
+        JobEnd::Failed(JobFault::Write) => JobEnd::Failed(JobFault::Memory),
+        end => end,
+    }
+}
+
+/// Writes bytes, and says on standard error of which runs they are.
+fn write_named<R: AllocGlobal + Eprint, W: Write>(rt: &R, text: Vec<u8>, writer: &mut W) -> JobEnd {
+    match name_file(rt.alloc(), &text) {
+        Ok(names) => {
+            let output = Output {
+                text,
+                negative: false,
+            };
+            let end = write_output(writer, &output);
+            if let (JobEnd::Done, Some(names)) = (end, &names) {
+                tell(rt, names);
+            }
+            end
+        }
+        Err(_) => JobEnd::Failed(JobFault::Memory),
+    }
+}
+
+/// Writes a line to standard error.
+fn tell<R: Eprint>(rt: &R, line: &[u8]) {
+    if let Ok(line) = str::from_utf8(line) {
+        let _ = eprintln!(rt; "{line}");
+    }
+}

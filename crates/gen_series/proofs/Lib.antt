@@ -1,4 +1,0 @@
-pub mod Keeping
-pub mod OneTexts
-pub mod Serving
-pub mod Testing

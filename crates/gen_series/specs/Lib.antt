@@ -1,3 +1,0 @@
-pub mod Campaign
-pub mod Leaves
-pub mod OneText

@@ -1,0 +1,39 @@
+-- What is shown of a campaign, as lines.
+use Rattle.std.specs.Prelude.{ℕ, ◌+◌, ◌<◌, ◌^◌, Bool, true, false, List, [], ◌∷◌, ◌++◌, codes, length, sum_by, if◌then◌else◌}
+use Rattle.gen_audit.specs.Bundle.{Bundle}
+use Rattle.gen_campaign.specs.Campaign.{CampaignBundle}
+use Rattle.gen_show.specs.BundleText.{bundle_length, bundle_lines, run_lines}
+use Rattle.gen_show.specs.Words.{number_said}
+
+-- the number of bytes before the first bundle of several runs
+abbrev pub campaign_front_length : ℕ
+campaign_front_length = 5
+
+-- the name of the format of several runs
+unfoldable pub campaign_name : List ℕ
+campaign_name = codes "format campaign"
+
+-- the first line of several runs: the name of the format, its version, and the number of runs
+unfoldable pub campaign_line : ℕ → List ℕ
+campaign_line count =
+    campaign_name ++ number_said (codes "version") 2 ++ number_said (codes "runs") count
+    ++ codes "\n"
+
+-- the lines of several runs
+abbrev pub several_lines : List Bundle → List ℕ
+several_lines bundles =
+    campaign_line (length bundles) ++ run_lines 0 campaign_front_length bundles ++ codes "end campaign\n"
+
+-- the lines of a bundle that stands alone
+abbrev pub alone_lines : List Bundle → List ℕ
+alone_lines [] = []
+alone_lines (b ∷ bs) = bundle_lines 0 b
+
+-- the bundles end before byte 2^64
+abbrev pub HaveRoom : Bool → List Bundle → Type 0
+HaveRoom true bundles = sum_by bundle_length bundles < 2 ^ 64
+HaveRoom false bundles = campaign_front_length + sum_by bundle_length bundles < 2 ^ 64
+
+-- the lines of what is shown of a campaign
+abbrev pub campaign_lines : CampaignBundle → List ℕ
+campaign_lines c = if c.alone then alone_lines c.bundles else several_lines c.bundles

@@ -1,0 +1,45 @@
+-- The names of faults of whole files.
+use Rattle.std.specs.Prelude.{ℕ, List, ◌++◌, codes}
+use Rattle.std.specs.Fmt.{decimal}
+use Rattle.gen_convict.specs.declared.evidence_fault.EvidenceFault.{EvidenceFault}
+use Rattle.gen_convict.specs.declared.evidence_fault.EvidenceFault.TheVariants as evidences
+use Rattle.gen_audit.specs.declared.bundle_fault.BundleFault.{BundleFault}
+use Rattle.gen_audit.specs.declared.bundle_fault.BundleFault.TheVariants as bundles
+use Rattle.gen_campaign.specs.declared.campaign_fault.CampaignFault.{CampaignFault}
+use Rattle.gen_campaign.specs.declared.campaign_fault.CampaignFault.TheVariants as campaigns
+use Rattle.gen_show.specs.FaultText.{header_fault_name}
+
+-- the name of a bundle's fault
+abbrev pub bundle_fault_name : BundleFault → List ℕ
+bundle_fault_name bundles.Truncated = codes "B1"
+bundle_fault_name bundles.UnknownMark = codes "B2"
+bundle_fault_name (bundles.BadHeader fault) = codes "B3 " ++ header_fault_name fault
+bundle_fault_name bundles.FaultyRange = codes "B4"
+bundle_fault_name bundles.WalkCount = codes "B5"
+bundle_fault_name bundles.BadWalk = codes "B6"
+bundle_fault_name bundles.BadExhibit = codes "B7"
+bundle_fault_name bundles.LeftOver = codes "B8"
+bundle_fault_name bundles.OutOfOrder = codes "B9"
+bundle_fault_name bundles.LongLog = codes "a log is too long"
+
+-- the name of the fault of a campaign's run, with the place of the run
+unfoldable pub run_fault_name : ℕ → BundleFault → List ℕ
+run_fault_name place fault = codes "M3 run " ++ decimal place ++ codes " " ++ bundle_fault_name fault
+
+-- the name of a campaign's fault; that of a bundle that stands alone is the bundle's
+abbrev pub campaign_fault_name : CampaignFault → List ℕ
+campaign_fault_name campaigns.NoCount = codes "M1"
+campaign_fault_name campaigns.RunCount = codes "M2"
+campaign_fault_name (campaigns.BadRun place fault) = run_fault_name place fault
+campaign_fault_name campaigns.Unjoined = codes "M4"
+campaign_fault_name campaigns.LeftOver = codes "M5"
+campaign_fault_name (campaigns.Alone fault) = bundle_fault_name fault
+
+-- the name of the fault of evidence
+abbrev pub evidence_fault_name : EvidenceFault → List ℕ
+evidence_fault_name evidences.Truncated = codes "V1"
+evidence_fault_name evidences.UnknownMark = codes "V2"
+evidence_fault_name (evidences.BadHeader fault) = codes "V3 " ++ header_fault_name fault
+evidence_fault_name evidences.OutOfRange = codes "V4"
+evidence_fault_name evidences.LeftOver = codes "V5"
+evidence_fault_name evidences.OtherLeaves = codes "V6"

@@ -1,0 +1,186 @@
+//! Bundles as lines.
+ghost use Rattle.std.specs.Prelude.{◌≡◌, ◌+◌, ◌<◌, ◌^◌, ◌++◌, IfOk, OnOk, length, string_bytes, sum_by};
+ghost use Rattle.std.specs.List.{flat_map};
+ghost use Rattle.gen_show.specs.BundleText.{bundle_front_length, bundle_header_lines, bundle_length, bundle_lines, claimed_lines, exhibit_length, exhibit_lines, exhibit_text, place_line, run_lines, run_text, walk_line};
+
+use crate::headers::push_header;
+use crate::logs::push_log;
+use crate::words::{push_generals_line, push_number, push_set_line};
+use gen_audit::{Bundle, bundle_front};
+use gen_local::Exhibit;
+use gen_net::Header;
+use gen_walks::Walk;
+use std::alloc::{AllocError, Global};
+
+/// The bytes before the log of an exhibit.
+const EXHIBIT_FRONT: usize = 5;
+
+/// Appends the line of a walk.
+#[tactic(auto, unfolding(crate::specs::BundleText::walk_line))]
+fn push_walk(out: &mut String, walk: &Walk) -> Result<(), AllocError>
+    ensures { OnOk result (string_bytes out.new ≡ string_bytes out.old ++ walk_line walk.now) }
+{
+    push_generals_line(out, "walk", walk.generals())
+}
+
+/// Appends the lines of walks.
+fn push_walks(out: &mut String, walks: &[Walk]) -> Result<(), AllocError>
+    ensures { OnOk result
+        (string_bytes out.new ≡ string_bytes out.old ++ flat_map walk_line walks.now) }
+{
+    for walk in walks {
+        push_walk(out, walk)?;
+    }
+    Ok(())
+}
+
+/// Appends the lines of a bundle's header.
+#[tactic(auto, unfolding(crate::specs::BundleText::bundle_header_lines))]
+fn push_bundle_header(alloc: Global, out: &mut String, bundle: &Bundle) -> Result<(), AllocError>
+    ensures { OnOk result
+        (string_bytes out.new ≡ string_bytes out.old ++ bundle_header_lines bundle.now) }
+{
+    push_header(alloc, out, "bundle", bundle.header())
+}
+
+/// Appends the lines of the generals that a bundle holds for faulty, and of its walks.
+#[tactic(auto, unfolding(crate::specs::BundleText::claimed_lines))]
+fn push_claimed(out: &mut String, bundle: &Bundle) -> Result<(), AllocError>
+    ensures { OnOk result
+        (string_bytes out.new ≡ string_bytes out.old ++ claimed_lines bundle.now) }
+{
+    push_set_line(out, "faulty", *bundle.faulty())?;
+    push_walks(out, bundle.walks().as_slice())
+}
+
+/// Returns the number of bytes of an exhibit.
+fn exhibit_bytes(exhibit: &Exhibit) -> usize
+    requires { exhibit_length exhibit.now < 2 ^ 64 }
+    ensures { result ≡ exhibit_length exhibit.now }
+{
+    EXHIBIT_FRONT + exhibit.log().len()
+}
+
+/// Appends the lines of an exhibit that begins at this byte.
+#[tactic(auto, unfolding(crate::specs::BundleText::exhibit_text))]
+fn push_exhibit(
+    alloc: Global,
+    out: &mut String,
+    header: &Header,
+    at: usize,
+    exhibit: &Exhibit,
+) -> Result<(), AllocError>
+    requires { at + exhibit_length exhibit.now < 2 ^ 64 }
+    ensures { OnOk result
+        (string_bytes out.new ≡ string_bytes out.old ++ exhibit_text header.now at exhibit.now) }
+{
+    let log = exhibit.log();
+    push_log(
+        alloc,
+        out,
+        header,
+        exhibit.general(),
+        at + EXHIBIT_FRONT,
+        log,
+    )
+}
+
+/// Appends the lines of exhibits, of which the first begins at this byte. Returns the byte at which they end.
+fn push_exhibits(
+    alloc: Global,
+    out: &mut String,
+    header: &Header,
+    start: usize,
+    exhibits: &[Exhibit],
+) -> Result<usize, AllocError>
+    requires { start + sum_by exhibit_length exhibits.now < 2 ^ 64 }
+    ensures text { OnOk result
+        (string_bytes out.new ≡ string_bytes out.old ++ exhibit_lines header.now start exhibits.now) }
+    ensures end { IfOk result (λ end. end ≡ start + sum_by exhibit_length exhibits.now) }
+{
+    let mut at = start;
+    for index in 0..exhibits.len() {
+        let exhibit = &exhibits[index];
+        push_exhibit(alloc, out, header, at, exhibit)?;
+        at += exhibit_bytes(exhibit);
+    }
+    Ok(at)
+}
+
+/// Returns how many bytes of a bundle stand before its exhibits.
+#[tactic(auto, unfolding(crate::specs::BundleText::bundle_front_length), using(crate::proofs::BundleLengths::front_has))]
+fn front_length(alloc: Global, bundle: &Bundle) -> Result<usize, AllocError>
+    ensures { IfOk result (λ count. count ≡ bundle_front_length bundle.now) }
+{
+    let front = bundle_front(alloc, bundle)?;
+    Ok(front.len())
+}
+
+/// Appends the lines of a bundle that begins at this byte of a file. Returns the byte at which it ends.
+#[tactic(auto, unfolding(crate::specs::BundleText::bundle_lines))]
+pub fn push_bundle(
+    alloc: Global,
+    out: &mut String,
+    at: usize,
+    bundle: &Bundle,
+) -> Result<usize, AllocError>
+    requires { at + bundle_length bundle.now < 2 ^ 64 }
+    ensures text { OnOk result
+        (string_bytes out.new ≡ string_bytes out.old ++ bundle_lines at bundle.now) }
+    ensures end { IfOk result (λ end. end ≡ at + bundle_length bundle.now) }
+{
+    let header = bundle.header();
+    push_bundle_header(alloc, out, bundle)?;
+    push_claimed(out, bundle)?;
+    let start = at + front_length(alloc, bundle)?;
+    let end = push_exhibits(alloc, out, header, start, bundle.exhibits())?;
+    out.push_str("end\n")?;
+    Ok(end)
+}
+
+/// Appends the line before the bundle of a run of a campaign.
+#[tactic(auto, unfolding(crate::specs::BundleText::place_line))]
+fn push_place(out: &mut String, place: usize, at: usize) -> Result<(), AllocError>
+    ensures { OnOk result (string_bytes out.new ≡ string_bytes out.old ++ place_line place at) }
+{
+    write!(out, "place {place}")?;
+    push_number(out, "byte", at)?;
+    out.push_str("\n")
+}
+
+/// Appends the lines of the bundle of a run of a campaign, which begins at this byte. Returns the byte at which it ends.
+#[tactic(auto, unfolding(crate::specs::BundleText::run_text))]
+fn push_run(
+    alloc: Global,
+    out: &mut String,
+    place: usize,
+    at: usize,
+    bundle: &Bundle,
+) -> Result<usize, AllocError>
+    requires { at + bundle_length bundle.now < 2 ^ 64 }
+    ensures text { OnOk result
+        (string_bytes out.new ≡ string_bytes out.old ++ run_text place at bundle.now) }
+    ensures end { IfOk result (λ end. end ≡ at + bundle_length bundle.now) }
+{
+    push_place(out, place, at)?;
+    push_bundle(alloc, out, at, bundle)
+}
+
+/// Appends the lines of the bundles of a campaign's runs, of which the first begins at this byte.
+pub fn push_runs(
+    alloc: Global,
+    out: &mut String,
+    start: usize,
+    bundles: &[Bundle],
+) -> Result<(), AllocError>
+    requires { start + sum_by bundle_length bundles.now < 2 ^ 64 }
+    ensures { OnOk result
+        (string_bytes out.new ≡ string_bytes out.old ++ run_lines 0 start bundles.now) }
+{
+    let mut at = start;
+    for place in 0..bundles.len() {
+        let bundle = &bundles[place];
+        at = push_run(alloc, out, place, at, bundle)?;
+    }
+    Ok(())
+}

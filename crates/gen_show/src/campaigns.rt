@@ -1,0 +1,75 @@
+//! What is shown of a campaign, as lines.
+ghost use Rattle.std.specs.Prelude.{◌≡◌, ◌+◌, ◌<◌, ◌^◌, ◌++◌, OnOk, string_bytes, sum_by};
+ghost use Rattle.gen_show.specs.BundleText.{bundle_length};
+ghost use Rattle.gen_show.specs.CampaignText.{HaveRoom, alone_lines, campaign_line, campaign_lines, campaign_name, several_lines};
+
+use crate::bundles::{push_bundle, push_runs};
+use crate::words::push_number;
+use gen_audit::Bundle;
+use gen_campaign::CampaignBundle;
+use std::alloc::{AllocError, Global};
+
+/// The bytes before the first bundle of several runs.
+const FRONT_BYTES: usize = 5;
+
+/// Appends the name of the format of several runs.
+#[tactic(auto, unfolding(crate::specs::CampaignText::campaign_name))]
+fn push_campaign_name(out: &mut String) -> Result<(), AllocError>
+    ensures { OnOk result (string_bytes out.new ≡ string_bytes out.old ++ campaign_name) }
+{
+    out.push_str("format campaign")
+}
+
+/// Appends the first line of several runs.
+#[tactic(auto, unfolding(crate::specs::CampaignText::campaign_line))]
+fn push_campaign_line(out: &mut String, count: usize) -> Result<(), AllocError>
+    ensures { OnOk result (string_bytes out.new ≡ string_bytes out.old ++ campaign_line count) }
+{
+    push_campaign_name(out)?;
+    push_number(out, "version", 2)?;
+    push_number(out, "runs", count)?;
+    out.push_str("\n")
+}
+
+/// Appends the lines of several runs.
+fn push_several(alloc: Global, out: &mut String, bundles: &[Bundle]) -> Result<(), AllocError>
+    requires { 5 + sum_by bundle_length bundles.now < 2 ^ 64 }
+    ensures { OnOk result
+        (string_bytes out.new ≡ string_bytes out.old ++ several_lines bundles.now) }
+{
+    push_campaign_line(out, bundles.len())?;
+    push_runs(alloc, out, FRONT_BYTES, bundles)?;
+    out.push_str("end campaign\n")
+}
+
+/// Appends the lines of a bundle that stands alone.
+fn push_alone(alloc: Global, out: &mut String, bundles: &[Bundle]) -> Result<(), AllocError>
+    requires { sum_by bundle_length bundles.now < 2 ^ 64 }
+    ensures { OnOk result
+        (string_bytes out.new ≡ string_bytes out.old ++ alone_lines bundles.now) }
+{
+    match bundles.split_first() {
+        Some((bundle, _)) => {
+            push_bundle(alloc, out, 0, bundle)?;
+            Ok(())
+        }
+        None => Ok(()),
+    }
+}
+
+/// Appends the lines of what is shown of a campaign.
+pub fn push_campaign(
+    alloc: Global,
+    out: &mut String,
+    campaign: &CampaignBundle,
+) -> Result<(), AllocError>
+    requires { HaveRoom campaign.now.alone campaign.now.bundles }
+    ensures { OnOk result
+        (string_bytes out.new ≡ string_bytes out.old ++ campaign_lines campaign.now) }
+{
+    if campaign.is_alone() {
+        push_alone(alloc, out, campaign.bundles())
+    } else {
+        push_several(alloc, out, campaign.bundles())
+    }
+}

@@ -1,0 +1,58 @@
+//! The names of faults of headers and logs.
+ghost use Rattle.std.specs.Prelude.{◌≡◌, ◌++◌, OnOk, string_bytes};
+ghost use Rattle.gen_show.specs.FaultText.{fault_line, header_fault_name, header_rule, log_fault_name};
+
+use crate::words::push_number;
+use gen_log::LogFault;
+use gen_net::HeaderFault;
+use std::alloc::AllocError;
+
+/// Returns the number of a header's rule.
+fn header_rule(fault: HeaderFault) -> u8
+    ensures { result ≡ header_rule fault }
+{
+    match fault {
+        HeaderFault::GeneralCount => 1,
+        HeaderFault::BadEdge => 2,
+        HeaderFault::TraitorCount => 3,
+        HeaderFault::DiameterRange => 4,
+        HeaderFault::RoundCount => 5,
+        HeaderFault::OrderCount => 6,
+        HeaderFault::UnknownChoice => 7,
+        HeaderFault::RootCount => 8,
+        HeaderFault::Truncated => 9,
+        HeaderFault::UnknownVersion => 10,
+        HeaderFault::SlotRange => 11,
+    }
+}
+
+/// Appends the name of a header's fault.
+#[tactic(auto, unfolding(crate::specs::FaultText::header_fault_name))]
+pub fn push_header_fault(out: &mut String, fault: HeaderFault) -> Result<(), AllocError>
+    ensures { OnOk result
+        (string_bytes out.new ≡ string_bytes out.old ++ header_fault_name fault) }
+{
+    let rule = header_rule(fault);
+    write!(out, "H{rule}")
+}
+
+/// Appends the name of a log's fault, and, if that is a chain's fault, the name of the chain's fault behind it.
+pub fn push_log_fault(out: &mut String, fault: LogFault) -> Result<(), AllocError>
+    ensures { OnOk result (string_bytes out.new ≡ string_bytes out.old ++ log_fault_name fault) }
+{
+    let (of_log, of_chain) = fault.numbers();
+    match fault {
+        LogFault::Chain(_) => write!(out, "L{of_log} C{of_chain}"),
+        _ => write!(out, "L{of_log}"),
+    }
+}
+
+/// Appends the last line of what doesn't read.
+#[tactic(auto, unfolding(crate::specs::FaultText::fault_line))]
+pub fn push_fault(out: &mut String, name: &str, at: usize) -> Result<(), AllocError>
+    ensures { OnOk result (string_bytes out.new ≡ string_bytes out.old ++ fault_line name.now at) }
+{
+    write!(out, "fault {name}")?;
+    push_number(out, "byte", at)?;
+    out.push_str("\n")
+}

@@ -1,0 +1,124 @@
+//! Logs as lines.
+ghost use Rattle.std.specs.Prelude.{◌≡◌, ◌+◌, ◌<◌, ◌^◌, ◌++◌, Ok, Err, OnOk, length, string_bytes};
+ghost use Rattle.gen_log.specs.Texts.{IsTextOf};
+ghost use Rattle.gen_show.specs.LogText.{head_line, log_line, log_lines, reading_lines, says_line, unreadable_line};
+
+use crate::entries::push_entries;
+use crate::faults::push_log_fault;
+use crate::words::{push_digits, push_number};
+use gen_log::{Log, LogFault, read_log};
+use gen_net::Header;
+use gen_types::{GeneralNo, ReadError};
+use std::alloc::{AllocError, Global};
+
+/// The bytes before the entries of a log.
+const FRONT_BYTES: usize = 40;
+
+/// Appends the first line of what is shown as the log of a general.
+#[tactic(auto, unfolding(crate::specs::LogText::log_line))]
+fn push_log_line(
+    out: &mut String,
+    general: GeneralNo,
+    at: usize,
+    size: usize,
+) -> Result<(), AllocError>
+    ensures { OnOk result
+        (string_bytes out.new ≡ string_bytes out.old ++ log_line general at size) }
+{
+    out.push_str("log")?;
+    push_number(out, "of", usize::from(general.get()))?;
+    push_number(out, "byte", at)?;
+    push_number(out, "length", size)?;
+    out.push_str("\n")
+}
+
+/// Appends the line of a log that reads.
+#[tactic(auto, unfolding(crate::specs::LogText::says_line))]
+fn push_says(
+    alloc: Global,
+    out: &mut String,
+    general: GeneralNo,
+    log: &Log,
+) -> Result<(), AllocError>
+    ensures { OnOk result
+        (string_bytes out.new ≡ string_bytes out.old ++ says_line general log.now) }
+{
+    out.push_str("says")?;
+    push_number(out, "of", usize::from(general.get()))?;
+    push_digits(alloc, out, "run", log.run_id())?;
+    push_number(out, "entries", log.entries().len())?;
+    out.push_str("\n")
+}
+
+/// Appends the line behind the entries of a log.
+#[tactic(auto, unfolding(crate::specs::LogText::head_line))]
+fn push_head(out: &mut String, general: GeneralNo, at: usize) -> Result<(), AllocError>
+    ensures { OnOk result (string_bytes out.new ≡ string_bytes out.old ++ head_line general at) }
+{
+    out.push_str("head")?;
+    push_number(out, "of", usize::from(general.get()))?;
+    push_number(out, "byte", at)?;
+    out.push_str("\n")
+}
+
+/// Appends the line of bytes that are no log.
+#[tactic(auto, unfolding(crate::specs::LogText::unreadable_line))]
+fn push_unreadable(out: &mut String, general: GeneralNo, fault: LogFault) -> Result<(), AllocError>
+    ensures { OnOk result
+        (string_bytes out.new ≡ string_bytes out.old ++ unreadable_line general fault) }
+{
+    out.push_str("unreadable")?;
+    push_number(out, "of", usize::from(general.get()))?;
+    out.push_str(" fault ")?;
+    push_log_fault(out, fault)?;
+    out.push_str("\n")
+}
+
+/// Appends the lines of a log that was read from these bytes, which begin at this byte of a file.
+#[tactic(auto, using(crate::proofs::Lengths::entries_within))]
+fn push_read(
+    alloc: Global,
+    out: &mut String,
+    general: GeneralNo,
+    at: usize,
+    log: &Log,
+    bytes: &[u8],
+) -> Result<(), AllocError>
+    requires text { IsTextOf log.now bytes.now }
+    requires room { at + length bytes.now < 2 ^ 64 }
+    ensures { OnOk result
+        (string_bytes out.new ≡ string_bytes out.old ++ reading_lines general at (Ok log.now)) }
+{
+    // The entries end within the bytes.
+    let _count = bytes.len();
+    push_says(alloc, out, general, log)?;
+    let end = push_entries(out, general, at + FRONT_BYTES, log.entries())?;
+    push_head(out, general, end)
+}
+
+/// Appends the lines of bytes that begin at this byte of a file and are shown as the log of a general in the run of a
+/// header: a line with their length, and then, if they are a log, what the log says, or else their fault.
+///
+/// # Errors
+///
+/// `AllocError` where memory is refused; then what stands in `out` isn't said.
+#[tactic(auto, unfolding(crate::specs::LogText::log_lines))]
+pub fn push_log(
+    alloc: Global,
+    out: &mut String,
+    header: &Header,
+    general: GeneralNo,
+    at: usize,
+    bytes: &[u8],
+) -> Result<(), AllocError>
+    requires { at + length bytes.now < 2 ^ 64 }
+    ensures { OnOk result (string_bytes out.new
+        ≡ string_bytes out.old ++ log_lines header.now general at bytes.now) }
+{
+    push_log_line(out, general, at, bytes.len())?;
+    match read_log(alloc, header, bytes) {
+        Ok(log) => push_read(alloc, out, general, at, &log, bytes),
+        Err(ReadError::Memory) => Err(AllocError),
+        Err(ReadError::Fault(fault)) => push_unreadable(out, general, fault),
+    }
+}

@@ -1,0 +1,18 @@
+use Rattle.std.proofs.Common.{◌↔◌, ℕ, IsTrue, false, slice_index_or, subst, ◌∙◌, arith}
+use Rattle.std.proofs.lemmas.List.{get_or_default}
+use Rattle.gen_ots.proofs.Filled.{none_filled, one_filled}
+use Rattle.gen_tree.specs.Claims.{Stands}
+use Rattle.gen_tree.proofs.claims.verify_claims.Goals as goal
+
+pub claims-init : goal.claims-init
+claims-init c = λ d. none_filled (λ (k : ℕ). slice_index_or c.args.claims.now k d) _
+
+pub claims-preserved : goal.claims-preserved
+claims-preserved c = λ d.
+    one_filled (λ (k : ℕ). slice_index_or c.args.claims.now k d) c.claims.place c.claims.lanes _ (omega arith)
+    (c.index-claims-place.is ∙ get_or_default c.args.claims.now c.claims.place _ d (omega arith)) (c.claims.invariant d)
+
+pub returns : goal.returns
+returns c j below = λ other.
+    subst (λ x. IsTrue (slice_index_or c.verify_lanes.result j false) ↔ Stands x)
+    ((c.claims.invariant other).1 j (omega arith) other) (c.verify_lanes.ensures j (omega arith) other)

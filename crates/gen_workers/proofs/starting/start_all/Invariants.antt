@@ -1,6 +1,0 @@
-use Rattle.std.proofs.Common.{◌≡◌, ◌≤◌, vec_len, vec_capacity}
-use Rattle.gen_workers.specs.Loops.Started.{ArePromised}
-use Rattle.gen_workers.proofs.starting.start_all.Given as goal
-
-abbrev pub invariant-loop-before : goal.invariant-loop-before
-invariant-loop-before g l = (vec_len l.handles ≡ l.before) × (l.last ≤ vec_capacity l.handles) × ArePromised l.header l.exhibits l.last l.handles.items

@@ -1,4 +1,0 @@
--- Definitions of which only loops and private functions speak.
-pub mod Dealing
-pub mod Hands
-pub mod Started

@@ -1,0 +1,55 @@
+-- Accusing a general that may be none of the runs' generals.
+use Rattle.std.specs.Prelude.{ℕ, ◌≡◌, ◌⊎◌, Bool, true, false, List, Option, Some, None, Result, Ok, Err, nat_lt}
+use Rattle.std.specs.List.{list_any}
+use Rattle.gen_types.specs.Spelled.{Spells}
+use Rattle.gen_campaign.specs.Campaign.{CampaignBundle, IsCampaign}
+use Rattle.gen_campaign.specs.CampaignSpelling.{campaign_spelling}
+use Rattle.gen_jobs.specs.Accusing.{IsAccused}
+use Rattle.gen_jobs.specs.Audit.{IsAuditFault}
+use Rattle.gen_jobs.specs.declared.ends.JobFault.{JobFault}
+use Rattle.gen_jobs.specs.declared.ends.Output.{Output}
+use Rattle.sm_embed.specs.Handing.{HandsAnswer, HandsFault, IsHanded, IsUntouched}
+use Rattle.sm_embed.specs.Statuses.{status_of_handed}
+use Rattle.sm_embed.specs.declared.handed.Handed.{Handed}
+
+-- the number is that of a general of some run that is shown
+abbrev pub is_known : ℕ → CampaignBundle → Bool
+is_known general shown = list_any (λ b. nat_lt general b.header.network.generals) shown.bundles
+
+-- the input spells a bundle or a campaign, and whether the general is one of a run's is this
+abbrev pub Knows : ℕ → List ℕ → Bool → Type 0
+Knows general input known =
+    (shown : CampaignBundle) × Spells IsCampaign campaign_spelling input shown
+    × (is_known general shown ≡ known)
+
+-- the text is the evidence against a general of a run
+abbrev pub IsAccusedKnown : ℕ → List ℕ → List ℕ → Bool → Type 0
+IsAccusedKnown general input text negative = IsAccused general input text negative × Knows general input true
+
+-- an answer about a general of a run; or there is none, because the general is no run's
+abbrev pub TellsKnown : ℕ → List ℕ → Option Output → Type 0
+TellsKnown general input None = Knows general input false
+TellsKnown general input (Some o) = IsAccusedKnown general input o.text.items o.negative
+
+-- the answer was handed over, or the fault in its place; or nothing was, because the general is no run's
+abbrev pub HandsKnown :
+    Result (Option Output) JobFault → List ℕ → List ℕ → ℕ → Option Handed → Type 0
+HandsKnown (Ok None) old new count None = IsUntouched old new count
+HandsKnown (Ok None) old new count (Some handed) = ⊥
+HandsKnown (Ok (Some o)) old new count None = ⊥
+HandsKnown (Ok (Some o)) old new count (Some handed) =
+    HandsAnswer o.text.items o.negative old new count handed
+HandsKnown (Err fault) old new count None = ⊥
+HandsKnown (Err fault) old new count (Some handed) = HandsFault fault old new count handed
+
+-- the number for what was handed; 6 for a general that is no run's
+abbrev pub status_of_known : Option Handed → ℕ
+status_of_known None = 6
+status_of_known (Some handed) = status_of_handed handed
+
+-- the returned number is 6, and the general is no run's; or it is the one for what was handed of the evidence
+-- against a general of a run
+abbrev pub AccusesKnown : ℕ → List ℕ → List ℕ → List ℕ → ℕ → ℕ → Type 0
+AccusesKnown general input old new count status =
+    ((status ≡ 6) × IsUntouched old new count × Knows general input false)
+    ⊎ IsHanded (IsAccusedKnown general input) (IsAuditFault input) old new count status

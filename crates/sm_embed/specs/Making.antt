@@ -1,0 +1,88 @@
+-- What a call makes of an answer that a caller in another language holds.
+use Rattle.std.specs.Prelude.{ℕ, ◌≡◌, ◌==◌, not, Bool, true, false, List, [], ◌∷◌, Option, Some, None, Result, Ok, Err}
+use Rattle.gen_jobs.specs.AskedRuns.{few_runs}
+use Rattle.gen_jobs.specs.Ends.{fault_status}
+use Rattle.gen_jobs.specs.declared.asked_runs.AskedRuns.{AskedRuns}
+use Rattle.gen_jobs.specs.declared.asked_runs.AskedRuns.TheVariants.{Any}
+use Rattle.gen_jobs.specs.declared.ends.JobFault.{JobFault}
+use Rattle.gen_jobs.specs.declared.ends.JobFault.TheVariants as faults
+use Rattle.gen_jobs.specs.declared.ends.Output.{Output}
+use Rattle.sm_embed.specs.Handing.{IsOfInput, IsUntouched, PutsText}
+use Rattle.sm_embed.specs.declared.kept.Kept.{Kept}
+use Rattle.sm_embed.specs.declared.made.Made.{Made}
+use Rattle.sm_embed.specs.declared.made.Made.TheVariants.{Yes, No, Line, Nothing}
+
+-- the runs with these ids: any for none, and None for more than four
+abbrev pub asked_in : List (List ℕ) → Option AskedRuns
+asked_in [] = Some Any
+asked_in (id ∷ ids) = few_runs (id ∷ ids)
+
+-- whether a number asks strictly
+abbrev pub is_strict : ℕ → Bool
+is_strict number = not (number == 0)
+
+-- the number for the line of a fault: the program's exit status, and 7 for an input of another run
+abbrev pub line_status : JobFault → ℕ
+line_status faults.OtherRun = 7
+line_status fault = fault_status fault
+
+-- the number for what was made
+abbrev pub status_of_made : Made → ℕ
+status_of_made Yes = 0
+status_of_made No = 1
+status_of_made (Line fault) = line_status fault
+status_of_made Nothing = 4
+
+-- this text is held
+abbrev pub Keeps : Option Kept → List ℕ → Type 0
+Keeps None text = ⊥
+Keeps (Some kept) text = kept.text.items ≡ text
+
+-- the text is held; or nothing is, because memory was refused
+abbrev pub KeepsAnswer : List ℕ → Bool → Option Kept → Made → Type 0
+KeepsAnswer text negative held Yes = (negative ≡ false) × Keeps held text
+KeepsAnswer text negative held No = (negative ≡ true) × Keeps held text
+KeepsAnswer text negative held (Line f) = ⊥
+KeepsAnswer text negative held Nothing = held ≡ None
+
+-- the line of a fault of the input is held; or nothing is
+abbrev pub KeepsFault : JobFault → Option Kept → Made → Type 0
+KeepsFault fault held Yes = ⊥
+KeepsFault fault held No = ⊥
+KeepsFault fault held (Line f) = (f ≡ fault) × IsOfInput f × ((line : List ℕ) × Keeps held line)
+KeepsFault fault held Nothing = held ≡ None
+
+-- the answer is held, or the line of the fault in its place
+abbrev pub KeepsOver : Result Output JobFault → Option Kept → Made → Type 0
+KeepsOver (Ok output) held made = KeepsAnswer output.text.items output.negative held made
+KeepsOver (Err fault) held made = KeepsFault fault held made
+
+-- A job has answers to its input, each a text that says no or doesn't, and it has faults. What is held is an
+-- answer, or the line of a fault of the input. Otherwise memory was refused, and nothing is held.
+abbrev pub Makes : (List ℕ → Bool → Type 0) → (JobFault → Type 0) → Option Kept → Made → Type 0
+Makes IsAnswer IsFault held Yes = (text : List ℕ) × IsAnswer text false × Keeps held text
+Makes IsAnswer IsFault held No = (text : List ℕ) × IsAnswer text true × Keeps held text
+Makes IsAnswer IsFault held (Line f) = IsFault f × IsOfInput f × ((line : List ℕ) × Keeps held line)
+Makes IsAnswer IsFault held Nothing = held ≡ None
+
+-- the returned number is the one for what was made
+abbrev pub IsMade : (List ℕ → Bool → Type 0) → (JobFault → Type 0) → Option Kept → ℕ → Type 0
+IsMade IsAnswer IsFault held status =
+    (made : Made) × (status ≡ status_of_made made) × Makes IsAnswer IsFault held made
+
+-- the call may not be made, and nothing is held
+abbrev pub IsMisuse : Option Kept → ℕ → Type 0
+IsMisuse held status = (status ≡ 2) × (held ≡ None)
+
+-- Runs are asked for. More than four are misuse; else what is made is what the job answers if these runs are
+-- asked for.
+abbrev pub MakesIf :
+    (AskedRuns → List ℕ → Bool → Type 0) → (AskedRuns → JobFault → Type 0) → Option AskedRuns → Option Kept
+    → ℕ → Type 0
+MakesIf IsAnswer IsFault None held status = IsMisuse held status
+MakesIf IsAnswer IsFault (Some asked) held status = IsMade (IsAnswer asked) (IsFault asked) held status
+
+-- the room has the text that is held, or its length alone is told; if nothing is held, that is misuse
+abbrev pub HandsKept : Option Kept → List ℕ → List ℕ → ℕ → ℕ → Type 0
+HandsKept None old new count status = (status ≡ 2) × IsUntouched old new count
+HandsKept (Some kept) old new count status = PutsText kept.text.items old new count status

@@ -1,0 +1,15 @@
+-- What the one pointer of an answer for C owns.
+use Rattle.std.specs.Prelude.{◌≡◌, Option, Some, None}
+use Rattle.std.specs.Box.Ownership.{box_owns}
+use base.Fml.{Fml, ftrue, fex}
+use denote.RawPtr.{Ptr, null_ptr}
+use Rattle.std.specs.declared.alloc.Global.{Global}
+use Rattle.std.specs.contracts.impls.GlobalAllocator.TheImpl.{ghosts}
+use Rattle.sm_embed.specs.declared.kept.Kept.{Kept}
+use Rattle.sm_embed.specs.contracts.kept.Kept.{the_row}
+
+-- the pointer is null and owns nothing, if nothing is held; otherwise it owns the box of what is held, which
+-- any handle of the heap frees
+abbrev pub answer_owns : Ptr → Option Kept → Fml
+answer_owns p None = fex (p ≡ null_ptr) (λ _. ftrue)
+answer_owns p (Some kept) = fex Global (λ alloc. box_owns (ghosts.dealloc_token alloc) the_row p kept)

@@ -1,0 +1,135 @@
+//! Keeps an answer for a caller in another language.
+ghost use Rattle.std.specs.Prelude.{◌≡◌, false, None, true};
+ghost use Rattle.sm_embed.specs.Handing.{IsOfInput, PutsText};
+ghost use Rattle.sm_embed.specs.Making.{HandsKept, Keeps, KeepsAnswer, KeepsFault, KeepsOver, asked_in};
+
+use crate::handing::put;
+use crate::kept::Kept;
+use crate::made::Made;
+use crate::opaque::SmAnswer;
+use gen_jobs::{AskedRuns, JobFault, Output};
+use std::alloc::Global;
+
+/// The numbers that say that a text was put into the room, that nothing is held, and that the room is too short.
+const DONE: u32 = 0;
+
+const MISUSE: u32 = 2;
+
+const LENGTH: u32 = 5;
+
+/// Returns the runs with these ids: any for none, and None for more than four.
+pub(crate) fn asked_in(runs: &[[u8; 32]]) -> Option<AskedRuns>
+    ensures { result ≡ asked_in runs.now }
+{
+    match runs {
+        [] => Some(AskedRuns::Any),
+        [a] => Some(AskedRuns::One([*a])),
+        [a, b] => Some(AskedRuns::Two([*a, *b])),
+        [a, b, c] => Some(AskedRuns::Three([*a, *b, *c])),
+        [a, b, c, d] => Some(AskedRuns::Four([*a, *b, *c, *d])),
+        _ => None,
+    }
+}
+
+/// Keeps a text, and returns whether memory was there for it. What was held before is dropped.
+fn keep_text(alloc: Global, text: Vec<u8>, answer: &mut SmAnswer) -> bool
+    ensures kept { result ≡ true → Keeps answer.new.held text.items }
+    ensures nothing { result ≡ false → answer.new.held ≡ None }
+{
+    match Box::new(alloc, Kept { text }) {
+        Ok(place) => {
+            answer.put(alloc, place);
+            true
+        }
+        Err(_) => {
+            answer.clear(alloc);
+            false
+        }
+    }
+}
+
+/// Keeps the text of an output.
+fn keep_output(alloc: Global, output: Output, answer: &mut SmAnswer) -> Made
+    ensures { KeepsAnswer output.text.items output.negative answer.new.held result }
+{
+    let Output { text, negative } = output;
+    if !keep_text(alloc, text, answer) {
+        return Made::Nothing;
+    }
+    if negative { Made::No } else { Made::Yes }
+}
+
+/// Keeps the line that names an input's fault.
+fn keep_line(alloc: Global, fault: JobFault, answer: &mut SmAnswer) -> Made
+    requires { IsOfInput fault }
+    ensures { KeepsFault fault answer.new.held result }
+{
+    match fault.to_string(alloc) {
+        Ok(line) => {
+            if keep_text(alloc, line.into_bytes(), answer) {
+                Made::Line(fault)
+            } else {
+                Made::Nothing
+            }
+        }
+        Err(_) => {
+            answer.clear(alloc);
+            Made::Nothing
+        }
+    }
+}
+
+/// Keeps the line that names an input's fault; nothing for any other fault.
+fn keep_fault(alloc: Global, fault: JobFault, answer: &mut SmAnswer) -> Made
+    ensures { KeepsFault fault answer.new.held result }
+{
+    match fault {
+        JobFault::Scenario(_)
+        | JobFault::Campaign(_)
+        | JobFault::Evidence(_)
+        | JobFault::Log(_)
+        | JobFault::Seed(_)
+        | JobFault::OtherRun => keep_line(alloc, fault, answer),
+        JobFault::Memory | JobFault::Thread | JobFault::Open | JobFault::Read | JobFault::Write => {
+            answer.clear(alloc);
+            Made::Nothing
+        }
+    }
+}
+
+/// Keeps the answer to an input: the text, or the line of the fault in its place. What was held before is dropped.
+pub(crate) fn keep(alloc: Global, answered: Result<Output, JobFault>, answer: &mut SmAnswer) -> Made
+    ensures { KeepsOver answered answer.new.held result }
+{
+    match answered {
+        Ok(output) => keep_output(alloc, output, answer),
+        Err(fault) => keep_fault(alloc, fault, answer),
+    }
+}
+
+/// Copies a text to the beginning of the room if it fits there, and returns the number that says so. The count is the
+/// text's length in both cases.
+pub(crate) fn put_text(text: &[u8], room: &mut [u8], count: &mut usize) -> u32
+    ensures { PutsText text.now room.old room.new count.new result }
+{
+    if put(text, room, count) { DONE } else { LENGTH }
+}
+
+/// Hands over the text that is held. It stays there.
+pub(crate) fn hand_kept(
+    alloc: Global,
+    answer: &mut SmAnswer,
+    room: &mut [u8],
+    count: &mut usize,
+) -> u32
+    ensures same { answer.new.held ≡ answer.old.held }
+    ensures hands { HandsKept answer.old.held room.old room.new count.new result }
+{
+    *count = 0;
+    let Some(kept) = answer.take(alloc) else {
+        return MISUSE;
+    };
+    let status = put_text(&kept.text, room, count);
+    answer.put(alloc, kept);
+    status
+}

@@ -1,0 +1,67 @@
+//! What a node tells while it stands in a run.
+ghost use Rattle.std.specs.Prelude.{◌≡◌, Some};
+ghost use Rattle.sm_node.specs.Asking.{TellsAwaited, TellsRound};
+
+use crate::held::Held;
+use crate::opaque::SmNode;
+use crate::told::Told;
+use gen_types::GeneralNo;
+use std::alloc::Global;
+
+impl Held {
+    /// Tells the number of the round that began last.
+    fn tell_round(&self, round: &mut u32) -> Told
+        ensures { TellsRound (Some self.now) round.new result }
+    {
+        *round = 0;
+        match self {
+            Held::Running(node) => {
+                *round = u32::from(node.round());
+                Told::Done
+            }
+            Held::Empty | Held::Ended(_) => Told::Misuse,
+        }
+    }
+
+    /// Tells whether frames go to a general and come from it now.
+    fn tell_awaited(&self, from: GeneralNo, awaited: &mut u32) -> Told
+        ensures { TellsAwaited from (Some self.now) awaited.new result }
+    {
+        *awaited = 0;
+        match self {
+            Held::Running(node) => {
+                *awaited = if node.awaits(from) { 1 } else { 0 };
+                Told::Done
+            }
+            Held::Empty | Held::Ended(_) => Told::Misuse,
+        }
+    }
+}
+
+/// Tells the number of the round that began last.
+pub(crate) fn round(alloc: Global, node: &mut SmNode, round: &mut u32) -> Told
+    ensures same { node.new.held ≡ node.old.held }
+    ensures tells { TellsRound node.old.held round.new result }
+{
+    *round = 0;
+    let Some(held) = node.take(alloc) else {
+        return Told::Misuse;
+    };
+    let told = held.tell_round(round);
+    node.put(alloc, held);
+    told
+}
+
+/// Tells whether frames go to a general and come from it now.
+pub(crate) fn awaited(alloc: Global, node: &mut SmNode, from: GeneralNo, awaited: &mut u32) -> Told
+    ensures same { node.new.held ≡ node.old.held }
+    ensures tells { TellsAwaited from node.old.held awaited.new result }
+{
+    *awaited = 0;
+    let Some(held) = node.take(alloc) else {
+        return Told::Misuse;
+    };
+    let told = held.tell_awaited(from, awaited);
+    node.put(alloc, held);
+    told
+}

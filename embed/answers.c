@@ -1,0 +1,167 @@
+/* Answers that the library keeps: what sm_tool writes for the bytes on standard input.
+
+       answers audit [--strict] [--run IDS]
+       answers draw|evidence [--run IDS]
+       answers accuse --general GENERAL [--run IDS]
+       answers show|explain|words|run-ids
+
+   IDS are one to four run ids of 64 hexadecimal digits, with commas between them. `explain` reads the name from
+   standard input, and `run-ids` writes the IDS of a file. The exit status is that of sm_tool, and so is the line of what
+   failed. */
+#include "sm_embed.h"
+#include <stdbool.h>
+#include <stdio.h>
+#include <stdlib.h>
+#include <string.h>
+
+/* What the words ask for. */
+struct job {
+    const char *name;
+    uint32_t general, strict;
+    uint8_t runs[SM_RUNS_MOST * SM_RUN_ID_BYTES];
+    size_t run_count;
+};
+
+/* Some bytes on the heap. */
+struct bytes {
+    uint8_t *at;
+    size_t length;
+};
+
+/* All of standard input; null where memory was refused or a read failed. */
+static struct bytes read_all(void) {
+    struct bytes read = {malloc(4096), 0};
+    for (size_t room = 4096; read.at != NULL;) {
+        size_t more = fread(read.at + read.length, 1, room - read.length, stdin);
+        read.length += more;
+        if (more == 0) return read;
+        if (read.length < room) continue;
+        room *= 2;
+        uint8_t *longer = realloc(read.at, room);
+        if (longer == NULL) free(read.at);
+        read.at = longer;
+    }
+    return read;
+}
+
+/* The value of a hexadecimal digit, or -1. */
+static int digit(char it) {
+    const char *digits = "0123456789abcdef";
+    const char *found = it != '\0' ? strchr(digits, it) : NULL;
+    return found != NULL ? (int)(found - digits) : -1;
+}
+
+/* Whether a word is run ids, which are then the job's. */
+static bool takes_runs(struct job *job, const char *word) {
+    size_t length = strlen(word), count = (length + 1) / 65;
+    if (length % 65 != 64 || count > SM_RUNS_MOST) return false;
+    for (size_t at = 0; at < length; at++) {
+        if (at % 65 == 64) {
+            if (word[at] != ',') return false;
+            continue;
+        }
+        int value = digit(word[at]);
+        size_t place = (at / 65) * SM_RUN_ID_BYTES + (at % 65) / 2;
+        if (value < 0) return false;
+        job->runs[place] = (uint8_t)(at % 65 % 2 == 0 ? 16 * value : job->runs[place] + value);
+    }
+    job->run_count = count;
+    return true;
+}
+
+/* Whether a word is the number of a general, which is then the job's. */
+static bool takes_general(struct job *job, const char *word) {
+    char *end = NULL;
+    unsigned long general = strtoul(word, &end, 10);
+    job->general = (uint32_t)general;
+    return word[0] >= '0' && word[0] <= '9' && *end == '\0' && general < 16;
+}
+
+/* Whether the words ask for a job. */
+static bool is_asked(struct job *job, int words, char **word) {
+    bool has_general = false;
+    job->name = words > 1 ? word[1] : "";
+    for (int at = 2; at < words; at++) {
+        if (strcmp(word[at], "--strict") == 0) {
+            job->strict = 1;
+        } else if (at + 1 < words && strcmp(word[at], "--run") == 0) {
+            if (!takes_runs(job, word[++at])) return false;
+        } else if (at + 1 < words && strcmp(word[at], "--general") == 0) {
+            if (!takes_general(job, word[++at])) return false;
+            has_general = true;
+        } else {
+            return false;
+        }
+    }
+    return has_general == (strcmp(job->name, "accuse") == 0);
+}
+
+/* One call of the library. */
+static uint32_t call(const struct job *job, struct bytes input, sm_answer *answer) {
+    const uint8_t *runs = job->run_count != 0 ? job->runs : NULL;
+    size_t count = job->run_count;
+    if (strcmp(job->name, "audit") == 0) return sm_audit_of(runs, count, job->strict, input.at, input.length, answer);
+    if (strcmp(job->name, "draw") == 0) return sm_draw_of(runs, count, input.at, input.length, answer);
+    if (strcmp(job->name, "evidence") == 0) return sm_evidence_of(runs, count, input.at, input.length, answer);
+    if (strcmp(job->name, "accuse") == 0)
+        return sm_accuse_of(runs, count, job->general, input.at, input.length, answer);
+    if (strcmp(job->name, "show") == 0) return sm_show(input.at, input.length, answer);
+    if (strcmp(job->name, "explain") == 0) return sm_explain(input.at, input.length, answer);
+    if (strcmp(job->name, "words") == 0) return sm_words(input.at, input.length, answer);
+    return SM_MISUSE;
+}
+
+/* Says in a line on standard error what failed, and returns the exit status for it. */
+static int failed(int status, const char *line) {
+    fprintf(stderr, "%s\n", line);
+    return status;
+}
+
+/* The text that an answer holds; null where memory was refused. */
+static struct bytes text_of(sm_answer *answer) {
+    struct bytes text = {NULL, 0};
+    uint32_t status = sm_answer_text(answer, NULL, 0, &text.length);
+    text.at = malloc(text.length != 0 ? text.length : 1);
+    if (text.at != NULL && status == SM_LENGTH) status = sm_answer_text(answer, text.at, text.length, &text.length);
+    return text;
+}
+
+/* Writes what a call made where sm_tool writes it; returns the exit status. */
+static int tell(uint32_t status, sm_answer *answer) {
+    if (status == SM_MISUSE) return failed(SM_MISUSE, "usage: see the first lines of answers.c");
+    if (status == SM_MEMORY) return failed(SM_MEMORY, "memory");
+    struct bytes text = text_of(answer);
+    if (text.at == NULL) return failed(SM_MEMORY, "memory");
+    bool is_line = status == SM_FAULT || status == SM_OTHER;
+    bool is_written = fwrite(text.at, 1, text.length, is_line ? stderr : stdout) == text.length && fflush(stdout) == 0;
+    free(text.at);
+    if (is_line) return failed(SM_FAULT, "");
+    return is_written ? (int)status : failed(5, "write failed");
+}
+
+/* Writes the run ids of a file; returns the exit status. */
+static int tell_runs(struct bytes input) {
+    uint8_t ids[SM_RUNS_MOST * SM_RUN_ID_BYTES];
+    size_t count = 0;
+    uint32_t status = sm_run_id(input.at, input.length, ids, sizeof ids, &count);
+    if (status == SM_MEMORY) return failed(SM_MEMORY, "memory");
+    if (status != SM_OK) return failed(SM_FAULT, "no whole file");
+    for (size_t at = 0; at < count; at++) printf("%s%02x", at != 0 && at % SM_RUN_ID_BYTES == 0 ? "," : "", ids[at]);
+    return printf("\n") == 1 && fflush(stdout) == 0 ? SM_OK : failed(5, "write failed");
+}
+
+int main(int words, char **word) {
+    struct job job = {0};
+    if (!is_asked(&job, words, word)) return failed(SM_MISUSE, "usage: see the first lines of answers.c");
+    struct bytes input = read_all();
+    if (ferror(stdin)) {
+        free(input.at);
+        return failed(5, "read failed");
+    }
+    if (input.at == NULL) return failed(SM_MEMORY, "memory");
+    sm_answer answer = {0};
+    int told = strcmp(job.name, "run-ids") == 0 ? tell_runs(input) : tell(call(&job, input, &answer), &answer);
+    sm_answer_free(&answer);
+    free(input.at);
+    return told;
+}

@@ -1,0 +1,169 @@
+// Judges files by the module. The page runs this in a worker.
+
+// What a call returns; UNASKED is the page's own, where it could not ask.
+const YES = 0, NO = 1, MISUSE = 2, FAULT = 3, MEMORY = 4, LENGTH = 5, OTHER = 7, UNASKED = 9;
+const LONGEST = 1073741824;
+// The line for evidence of another run than the one that is expected.
+const OTHER_LINE = "fault R1";
+// The room for an answer that is handed over at once.
+const ROOM = 256;
+// The bytes of a run id, and of a pointer.
+const ID_BYTES = 32, POINTER_BYTES = 8;
+const NOTHING = new Uint8Array();
+
+const textOf = bytes => new TextDecoder().decode(bytes);
+const linesOf = text => text.split("\n").filter(it => it);
+const hexOf = bytes => [...bytes].map(it => it.toString(16).padStart(2, "0")).join("");
+let compiled;
+
+// A fresh instance of the module, so that nothing is left of the file before.
+async function freshModule(module) {
+  compiled ??= WebAssembly.compile(module);
+  return (await WebAssembly.instantiate(await compiled, {})).exports;
+}
+
+// Puts bytes into the memory of the module, and returns where they are and how many; null if memory is refused.
+function put(of, bytes) {
+  const at = of.room(BigInt(bytes.length) + 1n);
+  if (!at) return null;
+  new Uint8Array(of.memory.buffer).set(bytes, Number(at));
+  return { at, length: BigInt(bytes.length) };
+}
+
+// The bytes that an answer holds; null if memory is refused.
+function heldBy(of, answer) {
+  const count = put(of, new Uint8Array(POINTER_BYTES)), none = put(of, NOTHING);
+  if (!count || !none) return null;
+  of.sm_answer_text(answer.at, none.at, 0n, count.at);
+  const length = new DataView(of.memory.buffer).getBigUint64(Number(count.at), true);
+  const room = of.room(length + 1n);
+  if (!room) return null;
+  of.sm_answer_text(answer.at, room, length, count.at);
+  const bytes = new Uint8Array(of.memory.buffer, Number(room), Number(length)).slice();
+  for (const at of [count.at, none.at, room]) of.give_back(at);
+  return bytes;
+}
+
+// What a call returns, and the bytes of its answer. The input is what `put` returns, and the runs are run ids one after
+// another. Numbers may come before the input.
+function ask(of, call, input, { runs = NOTHING, numbers = [] } = {}) {
+  const short = { end: MEMORY, bytes: NOTHING };
+  const ids = put(of, runs), answer = put(of, new Uint8Array(POINTER_BYTES));
+  if (!input || !ids || !answer) return short;
+  const first = call.endsWith("_of") ? [ids.at, BigInt(runs.length / ID_BYTES)] : [];
+  const end = of[call](...first, ...numbers, input.at, input.length, answer.at);
+  const bytes = end === MEMORY || end === MISUSE ? NOTHING : heldBy(of, answer);
+  of.sm_answer_free(answer.at);
+  for (const at of [ids.at, answer.at]) of.give_back(at);
+  return bytes ? { end, bytes } : short;
+}
+
+// What a call returns that takes room for its text, and the text.
+function handed(of, call, input, length = ROOM) {
+  const room = put(of, new Uint8Array(length)), count = put(of, new Uint8Array(POINTER_BYTES));
+  if (!input || !room || !count) return { end: MEMORY, bytes: NOTHING };
+  const end = of[call](input.at, input.length, room.at, room.length, count.at);
+  const held = Number(new DataView(of.memory.buffer).getBigUint64(Number(count.at), true));
+  const bytes = new Uint8Array(of.memory.buffer, Number(room.at), Math.min(held, length)).slice();
+  for (const { at } of [room, count]) of.give_back(at);
+  return end === LENGTH ? handed(of, call, input, held) : { end, bytes };
+}
+
+// Whether evidence holds that has to be of this run, or of any run if there is none. The run ids are compared here, since
+// `sm_evidence_of` as it is compiled for WebAssembly refuses the evidence's own run.
+function evidenceOf(of, input, runs) {
+  const answer = handed(of, "sm_evidence", input);
+  if (answer.end > NO || !runs.length) return answer;
+  const { end, bytes } = handed(of, "sm_run_id", input);
+  if (end !== YES) return { end, bytes: NOTHING };
+  return hexOf(bytes) === hexOf(runs) ? answer : { end: OTHER, bytes: new TextEncoder().encode(OTHER_LINE) };
+}
+
+// What is told of a text by a call that takes a text: no bytes if memory is refused.
+function told(of, call, text) {
+  const input = put(of, new TextEncoder().encode(text));
+  const { bytes } = ask(of, call, input);
+  if (input) of.give_back(input.at);
+  return textOf(bytes);
+}
+
+// What the first four bytes say that a file is.
+function kindOf(given) {
+  const mark = String.fromCharCode(...given.subarray(0, 4));
+  return { SMB1: "bundle", SMB2: "bundle", SMC2: "campaign", SME1: "evidence", SME2: "evidence" }[mark] ?? "neither";
+}
+
+// The evidence against each general that a text convicts, weighed by the module as a file of evidence would be.
+function evidenceBy(of, input, runs, text) {
+  const convicted = linesOf(text).filter(it => it.startsWith("convicted ")).map(it => Number(it.split(" ")[1]));
+  const generals = [...new Set(convicted)].sort((a, b) => a - b);
+  return generals.map(general => {
+    const { end, bytes } = ask(of, "sm_accuse_of", input, { runs, numbers: [general] }), found = put(of, bytes);
+    return { general, bytes, holds: end === YES && evidenceOf(of, found, NOTHING).end === YES };
+  });
+}
+
+// The picture of a bundle or a campaign; null if memory is refused.
+function pictureOf(of, input, runs) {
+  const { end, bytes } = ask(of, "sm_draw_of", input, { runs });
+  return end === YES ? bytes : null;
+}
+
+// The answer on evidence, or on a file that is neither.
+function weighed(of, kind, input, runs) {
+  const { end, bytes } = evidenceOf(of, input, runs);
+  if (kind === "evidence") return { end, text: textOf(bytes) };
+  const other = ask(of, "sm_audit_of", input, { numbers: [0] });
+  const isShort = end === MEMORY || other.end === MEMORY;
+  return { end: isShort ? MEMORY : FAULT, text: `${textOf(other.bytes)}\n${textOf(bytes)}` };
+}
+
+// The answer on a bundle or a campaign.
+function audited(of, input, runs) {
+  const { end, bytes } = ask(of, "sm_audit_of", input, { runs, numbers: [0] }), text = textOf(bytes);
+  if (end > NO) return { end, text };
+  return { end, text, evidence: evidenceBy(of, input, runs, text), picture: pictureOf(of, input, runs) };
+}
+
+// All that the module says of a file that has to be of these runs; of any runs if there are none.
+async function judged(module, given, runs) {
+  const of = await freshModule(module), kind = kindOf(given), input = put(of, given);
+  if (!input) return { kind, end: MEMORY, text: "", shown: "", words: "" };
+  const isShown = kind === "bundle" || kind === "campaign";
+  const answer = isShown ? audited(of, input, runs) : weighed(of, kind, input, kind === "evidence" ? runs : NOTHING);
+  const { end, bytes } = ask(of, "sm_show", input), shown = kind === "neither" ? "" : textOf(bytes);
+  if (end === MEMORY) return { kind, end, text: "", shown: "", words: "" };
+  const about = /^kind (\d)/m.exec(shown);
+  const claim = about ? told(of, "sm_explain", `K${about[1]}`).split("\n").slice(1).join(" ").trim() : "";
+  const words = told(of, "sm_words", answer.text.endsWith("\n") ? answer.text : `${answer.text}\n`);
+  return { kind, shown, claim, words, ...answer };
+}
+
+// The SHA-256 of bytes in hexadecimal digits; nothing where the browser computes none.
+async function digestOf(bytes) {
+  const subtle = globalThis.crypto?.subtle;
+  return subtle ? hexOf(new Uint8Array(await subtle.digest("SHA-256", bytes))) : "";
+}
+
+// The answer on a file, with its length, its digest and the time that it took. A fault of the browser is an answer too.
+async function answered(module, file, runs) {
+  const from = performance.now(), size = file.size;
+  let answer = { kind: "neither", shown: "", words: "", claim: "" };
+  try {
+    if (size > LONGEST) throw new RangeError("it is longer than the longest input.");
+    const given = new Uint8Array(await file.arrayBuffer());
+    answer = { ...await judged(module, given, runs), digest: await digestOf(given) };
+  } catch (fault) {
+    answer = { ...answer, end: UNASKED, text: `The file could not be read or judged: ${fault.message}` };
+  }
+  return { ...answer, size, took: performance.now() - from };
+}
+
+// Answers the page, in a worker. The first message is the module.
+function beginWorker() {
+  let module;
+  globalThis.addEventListener("message", async ({ data }) => {
+    if (module) globalThis.postMessage(await answered(module, data.file, data.runs));
+    else module = data;
+  });
+}

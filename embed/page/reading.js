@@ -1,0 +1,67 @@
+// Reads what the proved code writes of a file: the text of `show`, the text of the verdict, and the text with words.
+
+// The lines that need words; of others nothing is said.
+const NEED_WORDS = /^(?:verdict|general|N\d|convicted|fault|evidence)/;
+
+const numbersOf = list => (list === "-" ? [] : list.split(",").map(Number));
+
+// The lines of a text with words that need them, each with its sentences.
+function meaningsOf(words) {
+  const found = [];
+  for (const line of linesOf(words)) {
+    if (!line.startsWith("  ")) found.push([line, []]);
+    else if (found.length) found.at(-1)[1].push(line.trim());
+  }
+  return found.filter(it => NEED_WORDS.test(it[0]) && it[1].length).map(([line, said]) => [line, said.join(" ")]);
+}
+
+// What becomes of a run by a line of `show`.
+function addToRun(run, word, fields, line) {
+  if (["generals", "traitors", "diameter", "orders", "choice"].includes(word)) run[word] = Number(fields[0]);
+  if (word === "run") run.id = fields[0];
+  if (word === "root") run.roots.push(fields[1]);
+  if (word === "faulty") run.faulty = numbersOf(fields[0]);
+  if (word === "log") run.logs.push({ general: Number(fields[1]), entries: [], decided: null, length: Number(fields[5]) });
+  if (word === "unreadable") run.logs.at(-1).fault = fields.slice(3).join(" ");
+  if (word === "entry") run.logs.at(-1).entries.push(line);
+  if (word === "entry" && fields[5] === "decide") run.logs.at(-1).decided = Number(fields.at(-1));
+}
+
+// What `show` says of a file: its runs, and of evidence the accused, the kind, the texts with the place of their run, and
+// the entry that departs.
+function readShown(shown) {
+  const file = { runs: [], texts: [], accused: null, kind: null, departs: null };
+  for (const line of linesOf(shown)) {
+    const [word, ...fields] = line.split(" ");
+    if (word === "format" && fields[0] !== "campaign") {
+      file.runs.push({ version: Number(fields[2]), slot: Number(fields[4]), roots: [], faulty: null, logs: [] });
+    } else if (word === "text") {
+      file.texts.push({ name: fields[0], said: fields.slice(1).join(" "), place: file.runs.length - 1 });
+    } else if (word === "accused") {
+      file.accused = Number(fields[0]);
+    } else if (word === "kind") {
+      file.kind = { number: Number(fields[0]), said: fields.slice(1).join(" ") };
+    } else if (word === "departs") {
+      file.departs = Number(fields[1]);
+    } else if (file.runs.length) {
+      addToRun(file.runs.at(-1), word, fields, line);
+    }
+  }
+  return file;
+}
+
+// What the text of a verdict says of each run: the verdict, how many findings there are, and who is convicted by what.
+function readVerdict(text) {
+  const runs = [];
+  const convict = (place, general, how) => { (runs[place].convicted[general] ??= []).push(how); };
+  for (const line of linesOf(text)) {
+    const across = /^convicted (\d+) by (\S+) across (\d+) (\d+)$/.exec(line);
+    const alone = /^convicted (\d+) by (.*)$/.exec(line);
+    if (line.startsWith("run ")) runs.push({ verdict: "", order: null, findings: 0, convicted: {} });
+    else if (across) for (const place of [across[3], across[4]]) convict(Number(place), across[1], `${across[2]} across runs`);
+    else if (alone) convict(runs.length - 1, alone[1], alone[2]);
+    else if (/^N\d/.test(line)) runs.at(-1).findings += 1;
+    else if (line.startsWith("verdict ")) [runs.at(-1).verdict, runs.at(-1).order] = line.split(" ").slice(1);
+  }
+  return runs;
+}

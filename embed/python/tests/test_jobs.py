@@ -1,0 +1,162 @@
+"""The jobs against the reference, on the examples."""
+
+import concurrent.futures
+import unittest
+
+import vamuretu
+
+from .support import ALL, EXAMPLES, answer, needs
+
+# The bundle of a campaign takes the reference long, so its verdict is compared with the stored one.
+SMALL = sorted(path for path in EXAMPLES.iterdir() if path.is_file() and path.stat().st_size < 300_000)
+
+
+def ended(call, *words):
+    """What a call answers, or the line of its fault."""
+    try:
+        return call(*words)
+    except vamuretu.InputFault as told:
+        return told.line
+
+
+def told(words, given):
+    """The same of the reference."""
+    status, wrote, said = answer(tuple(words), given)
+    return said.decode().rstrip("\n") if status == 3 else wrote.decode("latin-1")
+
+
+@needs("sm_embed")
+class Jobs(unittest.TestCase):
+    def test_audit(self):
+        for path in SMALL:
+            with self.subTest(path.name):
+                given = path.read_bytes()
+                self.assertEqual(str(ended(vamuretu.audit, given)), told(["audit"], given))
+
+    def test_draw(self):
+        for path in SMALL:
+            with self.subTest(path.name):
+                given = path.read_bytes()
+                self.assertEqual(ended(vamuretu.draw, given), told(["draw"], given))
+
+    def test_decide(self):
+        for path in SMALL:
+            with self.subTest(path.name):
+                given = path.read_bytes()
+                got = ended(vamuretu.decide, given)
+                text = got if isinstance(got, str) else "".join(f"{it}\n" for it in got)
+                self.assertEqual(text, told(["decide"], given))
+
+    def test_accuse(self):
+        for path in SMALL:
+            for general in (0, 1, 15):
+                with self.subTest(path.name, general=general):
+                    given = path.read_bytes()
+                    got = ended(vamuretu.accuse, general, given)
+                    text = got if isinstance(got, str) else (got or b"").decode("latin-1")
+                    self.assertEqual(text, told(["accuse", "--general", str(general)], given))
+
+    def test_evidence(self):
+        for path in SMALL:
+            with self.subTest(path.name):
+                given = path.read_bytes()
+                got = ended(vamuretu.evidence, given)
+                text = got if isinstance(got, str) else f"evidence {'holds' if got.holds else 'fails'}\n"
+                self.assertEqual(text, told(["evidence"], given))
+
+    def test_series(self):
+        given = (EXAMPLES / "series.bundles").read_bytes()
+        self.assertEqual(str(vamuretu.audit(given)), (EXAMPLES / "series.verdict").read_text(encoding="ascii"))
+
+    def test_parts_of_evidence(self):
+        bundle = (EXAMPLES / "split.bundle").read_bytes()
+        data = vamuretu.accuse(0, bundle)
+        self.assertEqual(data, (EXAMPLES / "split.evidence").read_bytes())
+        told = vamuretu.evidence(bytearray(data))
+        self.assertEqual((told.data, told.accused, told.kind, told.other, told.holds), (data, 0, 2, None, True))
+        self.assertEqual(told.header.run_id, vamuretu.audit(bundle).run_id)
+        parts = told.header.generals, told.header.edges, told.header.rounds
+        self.assertEqual(parts, (3, ((0, 1), (0, 2), (1, 2)), 2))
+        self.assertFalse(vamuretu.evidence(data[:-1] + bytes([data[-1] ^ 1])).holds)
+        self.assertIsNone(vamuretu.accuse(1, bundle))
+
+    def test_known_generals(self):
+        bundle = (EXAMPLES / "split.bundle").read_bytes()
+        for general in range(3):
+            self.assertEqual(vamuretu.accuse(general, bundle, known=True), vamuretu.accuse(general, bundle))
+        for general in (3, 15):
+            self.assertIsNone(vamuretu.accuse(general, bundle))
+            self.assertRaises(vamuretu.Misuse, vamuretu.accuse, general, bundle, known=True)
+
+    def test_runs(self):
+        bundle, series, found = ((EXAMPLES / name).read_bytes() for name in ("split.bundle", "series.bundles", "split.evidence"))
+        own, = vamuretu.run_ids(bundle)
+        self.assertEqual(own, vamuretu.audit(bundle).run_id)
+        self.assertEqual(vamuretu.run_ids(vamuretu.evidence(found).header.data), (own,))
+        self.assertEqual(vamuretu.run_ids(found), (own,))
+        ids = vamuretu.run_ids(series)
+        self.assertEqual(list(ids), [it.run_id for it in vamuretu.audit(series).runs])
+        self.assertRaises(vamuretu.InputFault, vamuretu.run_ids, bundle[:-1])
+        for runs in ([own], [own.upper()], [bytes.fromhex(own)]):
+            self.assertEqual(vamuretu.audit(bundle, runs=runs), vamuretu.audit(bundle))
+            self.assertEqual(vamuretu.draw(bundle, runs=runs), vamuretu.draw(bundle))
+            self.assertEqual(vamuretu.accuse(0, bundle, runs=runs), found)
+            self.assertTrue(vamuretu.evidence(found, run=runs[0]).holds)
+        self.assertEqual(vamuretu.audit(series, runs=ids), vamuretu.audit(series))
+        for runs in (ids, ["0" * 64], [own, own]):
+            for call in (vamuretu.audit, vamuretu.draw, lambda given, **how: vamuretu.accuse(0, given, **how)):
+                with self.assertRaises(vamuretu.OtherRun) as caught:
+                    call(bundle, runs=runs)
+                self.assertEqual(caught.exception.line, "fault R1")
+        self.assertRaises(vamuretu.OtherRun, vamuretu.evidence, found, run=ids[0])
+        self.assertRaises(vamuretu.OtherRun, vamuretu.audit, series, runs=ids[::-1])
+        for runs in ([own] * 5, ["12"], ["x" * 64], [b"12"], own, bytes.fromhex(own), "", b""):
+            self.assertRaises(vamuretu.Misuse, vamuretu.audit, bundle, runs=runs)
+
+    def test_texts(self):
+        for path in SMALL:
+            with self.subTest(path.name):
+                given = path.read_bytes()
+                status, wrote, _ = answer(("show",), given)
+                self.assertEqual(vamuretu.show(given), (status == 0, wrote.decode()))
+                self.assertEqual(vamuretu.words(given), answer(("words",), given)[1])
+        self.assertEqual(vamuretu.explain("K2"), told(["explain", "K2"], b""))
+        self.assertIsNone(vamuretu.explain("nothing of this name"))
+
+    def test_answers(self):
+        found = (EXAMPLES / "split.evidence").read_bytes()
+        self.assertEqual(ended(vamuretu.refute, found, b""), "fault L1")
+        self.assertEqual(ended(vamuretu.refute, b"", b""), "fault V1")
+
+    def test_across_runs(self):
+        front = ["generals 2", "edge 0 1"]
+        behind = ["diameter 1", "orders 2", "choice 0", "order 1", f"seed {'0' * 64}", "slot 0"]
+        texts = [[*front, "traitors 0", *behind, "end"], [*front, "traitors 1", *behind, "script 1", "end"]]
+        bundles = [answer(("run",), "".join(f"{line}\n" for line in lines).encode())[1] for lines in texts]
+        campaign = b"SMC2\2" + b"".join(bundles)
+        verdict = vamuretu.audit(campaign)
+        self.assertEqual(str(verdict), told(["audit"], campaign))
+        self.assertEqual([(it.general, it.runs) for it in verdict.convictions], [(0, (0, 1)), (1, (0, 1))])
+        found = vamuretu.evidence(vamuretu.accuse(0, campaign))
+        self.assertEqual((found.accused, found.kind, found.holds, found.header.slot), (0, 5, True, 0))
+        self.assertEqual([it.run_id for it in verdict.runs], [found.header.run_id, found.other.run_id])
+
+    def test_misuse(self):
+        for general in (-1, 16, 1 << 32, (1 << 32) + 3):
+            with self.subTest(general), self.assertRaises(vamuretu.Misuse):
+                vamuretu.accuse(general, b"")
+        for given in (5, "text", None, [1]):
+            with self.subTest(given), self.assertRaises(TypeError):
+                vamuretu.audit(given)
+
+    def test_threads(self):
+        given = memoryview((EXAMPLES / "split.bundle").read_bytes())
+        with concurrent.futures.ThreadPoolExecutor(4) as pool:
+            verdicts = set(pool.map(lambda _: vamuretu.audit(given), range(8)))
+        self.assertEqual(len(verdicts), 1)
+
+    def test_long_answers(self):
+        text = ALL.scenario()
+        status, bundle, _ = answer(("run",), text)
+        drawn = vamuretu.draw(bundle)
+        self.assertEqual((status, drawn), (0, told(["draw"], bundle)))

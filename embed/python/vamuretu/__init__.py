@@ -1,0 +1,61 @@
+"""Judges runs of signed Byzantine agreement, and runs one node (general) of a run.
+
+The work is done by two shared libraries, libsm_embed.so and libsm_node.so, which are called in this process. README.md
+says where they are looked for, and docs/EMBED.md of the sources what each call does.
+"""
+
+from ._faults import InputFault, LibraryMissing, Misuse, NodeFault, OtherRun
+from ._headers import Header, header, read_header, root
+from ._jobs import Evidence, accuse, audit, decide, draw, evidence, explain, refute, run_ids, show, words
+from ._libraries import use_libraries
+from ._nodes import Node, bundle
+from ._texts import (
+    AcrossConviction,
+    CampaignVerdict,
+    Conviction,
+    Decision,
+    Finding,
+    Judgement,
+    Kind,
+    RunDecision,
+    Verdict,
+    read_decisions,
+    read_verdict,
+)
+
+__all__ = [
+    "AcrossConviction",
+    "CampaignVerdict",
+    "Conviction",
+    "Decision",
+    "Evidence",
+    "Finding",
+    "Header",
+    "InputFault",
+    "Judgement",
+    "Kind",
+    "LibraryMissing",
+    "Misuse",
+    "Node",
+    "NodeFault",
+    "OtherRun",
+    "RunDecision",
+    "Verdict",
+    "accuse",
+    "audit",
+    "bundle",
+    "decide",
+    "draw",
+    "evidence",
+    "explain",
+    "header",
+    "read_decisions",
+    "read_header",
+    "read_verdict",
+    "refute",
+    "root",
+    "run_ids",
+    "show",
+    "use_libraries",
+    "words",
+]

@@ -1,0 +1,170 @@
+"""What sm_tool does over bytes. Threads may call at the same time."""
+
+from __future__ import annotations
+
+from dataclasses import dataclass
+from typing import Iterable, Optional, Tuple, Union
+
+from ._faults import InputFault, Misuse, OtherRun
+from ._headers import Header, after_mark
+from ._libraries import JOBS, Bytes, as_bytes, exactly, held, library, number, written
+from ._texts import Judgement, RunDecision, read_decisions, read_verdict
+
+YES, NO, MISUSE, FAULT, MEMORY = range(5)
+NOBODY, OTHER_RUN = 6, 7
+# Most answers fit into this room: if one does not, the library does the whole work again.
+FIRST_ROOM = 1 << 17
+RUN_ID_BYTES, RUNS_MOST = 32, 4
+MARK_BYTES = 4
+# A run id in bytes, or in 64 hexadecimal digits.
+RunId = Union[str, Bytes]
+# The kind of evidence that has the header of another run.
+ACROSS = 5
+
+
+@dataclass(frozen=True)
+class Evidence:
+    """Evidence in bytes, and what stands in front of its claim: the header of the run, the accused node (general), and
+    the kind, 1 to 5 (docs/FORMATS.md). Kind 5 has the header of another run too. `holds` says whether the claim holds.
+
+    Whose run it is only the header says, so expect the run that you mean, or compare the run id of the header.
+    """
+
+    data: bytes
+    header: Header
+    accused: int
+    kind: int
+    other: Optional[Header]
+    holds: bool
+
+
+def _checked(job: str, status: int, text: bytes) -> Tuple[bool, bytes]:
+    """Whether the answer of a job is a no, and its text."""
+    if status == FAULT:
+        raise InputFault(text.decode("ascii"))
+    if status == OTHER_RUN:
+        raise OtherRun(text.decode("ascii"))
+    if status == MEMORY:
+        raise MemoryError(f"sm_{job}: memory was refused")
+    if status == NOBODY:
+        raise Misuse(f"sm_{job}: the general is none of the run's")
+    if status not in (YES, NO):
+        raise Misuse(f"sm_{job}: the call is not allowed here")
+    return status == NO, text
+
+
+def _answer(job: str, given: Bytes, *general: int, log: Optional[Bytes] = None) -> Tuple[bool, bytes]:
+    """The answer of a job that writes into a room. One job takes a log too."""
+    data, function = as_bytes(given), getattr(library(JOBS), f"sm_{job}")
+    kept = () if log is None else (as_bytes(log), len(as_bytes(log)))
+    return _checked(job, *written(lambda *ends: int(function(*general, data, len(data), *kept, *ends)), FIRST_ROOM))
+
+
+def _made(job: str, given: Bytes, *before: Union[bytes, int]) -> Tuple[bool, bytes]:
+    """The answer of a job that the library keeps until it is read."""
+    data, function = as_bytes(given), getattr(library(JOBS), f"sm_{job}")
+    return _checked(job, *held(JOBS, lambda answer: int(function(*before, data, len(data), answer))))
+
+
+def _run_id(given: RunId) -> bytes:
+    """The bytes of a run id."""
+    try:
+        return exactly(RUN_ID_BYTES, bytes.fromhex(given) if isinstance(given, str) else given, "a run id")
+    except ValueError:
+        raise Misuse(f"{given!r} is no run id") from None
+
+
+def _expected(runs: Iterable[RunId]) -> Tuple[bytes, int]:
+    """The run ids that are expected, one after another, and how many there are."""
+    # A text is no list of run ids: if it is empty, an input of any run would be judged.
+    if isinstance(runs, (str, bytes, bytearray, memoryview)):
+        raise Misuse("runs is a list of run ids, and not one of them")
+    ids = [_run_id(it) for it in runs]
+    if len(ids) > RUNS_MOST:
+        raise Misuse(f"{len(ids)} runs are expected, and not at most {RUNS_MOST}")
+    return b"".join(ids), len(ids)
+
+
+def audit(given: Bytes, *, runs: Iterable[RunId] = ()) -> Judgement:
+    """The verdict on a bundle or a campaign. Its str() is the text that `sm_tool audit` writes.
+
+    With `runs`, the input must be of these runs: of a campaign those of all its runs in their order. If it is of others,
+    OtherRun is raised. Without a run id, and with an empty list, an input of any run is judged.
+    """
+    return read_verdict(_made("audit_of", given, *_expected(runs), 0)[1].decode("ascii"))
+
+
+def draw(given: Bytes, *, runs: Iterable[RunId] = ()) -> str:
+    """The picture of a bundle or a campaign and of the verdict on it, an SVG text. `runs` is as of `audit`."""
+    return _made("draw_of", given, *_expected(runs))[1].decode("ascii")
+
+
+def accuse(general: int, given: Bytes, *, known: bool = False, runs: Iterable[RunId] = ()) -> Optional[bytes]:
+    """The evidence against a node (general) that a bundle or a campaign holds, or None. Misuse for one above 15.
+
+    With `known`, a node that is none of the run's is Misuse too, and not None. `runs` is as of `audit`.
+    """
+    accused = number(general, 16, "general")
+    is_no, data = _made("accuse_of", given, *_expected(runs), accused)
+    if is_no and known:
+        _answer("accuse_known", given, accused)
+    return None if is_no else data
+
+
+def refute(given: Bytes, log: Bytes) -> Optional[str]:
+    """The answer of an accused node (general) to evidence, by the log that the node kept, or None.
+
+    The answer is a line: `forged` and the text of the evidence that the log does not have, or `collision` and two
+    strings of bytes with one hash. A node that followed the algorithm has one to any evidence. InputFault is of the
+    evidence, or else of the log.
+    """
+    is_no, text = _answer("refute", given, log=log)
+    return None if is_no else text.decode("ascii")
+
+
+def evidence(given: Bytes, *, run: Optional[RunId] = None) -> Evidence:
+    """What evidence says, and whether it holds. With `run`, OtherRun is raised if its header is that of another run."""
+    data = as_bytes(given)
+    is_no, _ = _made("evidence_of", data, *_expected(() if run is None else (run,)))
+    of_run = after_mark(data, MARK_BYTES)
+    at = MARK_BYTES + len(of_run.data)
+    other = after_mark(data, at + 2) if data[at + 1] == ACROSS else None
+    return Evidence(data, of_run, data[at], data[at + 1], other, not is_no)
+
+
+def decide(scenario: Bytes) -> Tuple[RunDecision, ...]:
+    """What each node (general) without a script decides in the run of a scenario's text, ascending."""
+    return read_decisions(_answer("decide", scenario)[1].decode("ascii"))
+
+
+def run_ids(given: Bytes) -> Tuple[str, ...]:
+    """The ids of the runs that a file is of, in hexadecimal digits: one of a header, of a bundle or of evidence, and of a
+    campaign those of its runs in their order. InputFault if the input is no whole file of one of these kinds.
+    """
+    data, function = as_bytes(given), library(JOBS).sm_run_id
+    status, ids = written(lambda *ends: int(function(data, len(data), *ends)), RUN_ID_BYTES * RUNS_MOST)
+    if status == FAULT:
+        raise InputFault("the input is no whole header, bundle, campaign or evidence")
+    _checked("run_id", status, ids)
+    return tuple(ids[at : at + RUN_ID_BYTES].hex() for at in range(0, len(ids), RUN_ID_BYTES))
+
+
+def show(given: Bytes) -> Tuple[bool, str]:
+    """Whether a file is a whole bundle, campaign, evidence or header, and what it is, as `sm_tool show` writes it."""
+    is_no, text = _made("show", given)
+    return not is_no, text.decode("ascii")
+
+
+def explain(name: str) -> Optional[str]:
+    """What a name means that stands in an answer, as `sm_tool explain` writes it, or None if it is no name.
+
+    A name is that of a finding, a conviction, a fault or a verdict, as "N8", "K2", "B3 H6" or "agreed", and the line of
+    an InputFault. A whole line of a verdict is none.
+    """
+    is_no, text = _made("explain", name.encode("utf-8"))
+    return None if is_no else text.decode("ascii")
+
+
+def words(text: Bytes) -> bytes:
+    """A text with what each of its lines means behind the line, as `sm_tool words` writes it."""
+    return _made("words", text)[1]

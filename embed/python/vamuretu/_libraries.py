@@ -1,0 +1,180 @@
+"""The two shared libraries: where they are, and how their functions are called."""
+
+from __future__ import annotations
+
+import ctypes
+import os
+import pathlib
+import threading
+from ctypes import POINTER, c_char_p, c_size_t, c_uint32, c_void_p
+from typing import Any, Callable, Dict, List, Optional, Tuple, Union
+
+from ._faults import LibraryMissing, Misuse
+
+VARIABLE = "VAMURETU_LIBRARIES"
+JOBS, NODES = "sm_embed", "sm_node"
+# Of both libraries: the room was too short, and the count says how many bytes are needed.
+SHORT = 5
+# The number of the version that both libraries have to tell, as SM_VERSION_NUMBER of sm_status.h.
+VERSION_NUMBER = 2000
+
+Bytes = Union[bytes, bytearray, memoryview]
+Call = Callable[[Any, int, Any], int]
+
+
+class Numbers(ctypes.Structure):
+    """`sm_numbers`."""
+
+    _names = ("version", "slot", "generals", "traitors", "diameter", "orders", "choice")
+    _fields_ = [(name, ctypes.c_uint8) for name in _names]
+
+
+class LogOf(ctypes.Structure):
+    """`sm_log`."""
+
+    _fields_ = [("general", c_uint32), ("bytes", c_size_t)]
+
+
+# A text that is read is a pointer and a length. One that is written has a count besides. An answer is one pointer.
+_READ: List[Any] = [c_char_p, c_size_t]
+_WRITTEN: List[Any] = [c_char_p, c_size_t, POINTER(c_size_t)]
+_FAULT: List[Any] = [POINTER(c_uint32)]
+_NODE: List[Any] = [c_void_p]
+_ANSWER: List[Any] = [POINTER(c_void_p)]
+_ENDS: Dict[str, Dict[str, List[Any]]] = {
+    JOBS: {
+        "sm_audit": _READ + _WRITTEN,
+        "sm_draw": _READ + _WRITTEN,
+        "sm_accuse": [c_uint32] + _READ + _WRITTEN,
+        "sm_evidence": _READ + _WRITTEN,
+        "sm_decide": _READ + _WRITTEN,
+        "sm_accuse_known": [c_uint32] + _READ + _WRITTEN,
+        "sm_refute": _READ + _READ + _WRITTEN,
+        "sm_run_id": _READ + _WRITTEN,
+        "sm_audit_of": _READ + [c_uint32] + _READ + _ANSWER,
+        "sm_draw_of": _READ + _READ + _ANSWER,
+        "sm_accuse_of": _READ + [c_uint32] + _READ + _ANSWER,
+        "sm_evidence_of": _READ + _READ + _ANSWER,
+        "sm_show": _READ + _ANSWER,
+        "sm_explain": _READ + _ANSWER,
+        "sm_words": _READ + _ANSWER,
+        "sm_answer_text": _ANSWER + _WRITTEN,
+        "sm_answer_free": _ANSWER,
+        "sm_version": [],
+    },
+    NODES: {
+        "sm_root": [c_char_p, c_uint32, c_char_p],
+        "sm_header": [POINTER(Numbers)] + _READ + _READ + _WRITTEN + _FAULT,
+        "sm_node_new": _NODE + _READ + [c_uint32, c_char_p, c_uint32] + _FAULT,
+        "sm_node_begin_round": _NODE,
+        "sm_node_send": _NODE + [c_uint32] + _WRITTEN,
+        "sm_node_hear": _NODE + [c_uint32] + _READ + _FAULT,
+        "sm_node_end_round": _NODE,
+        "sm_node_finish": _NODE,
+        "sm_node_log": _NODE + _WRITTEN,
+        "sm_node_order": _NODE + [POINTER(c_uint32)],
+        "sm_node_free": _NODE,
+        "sm_bundle": _READ + [c_uint32, POINTER(LogOf), c_size_t] + _READ + _WRITTEN + _FAULT,
+        "sm_bundle_parted": _READ + [c_uint32, POINTER(LogOf), c_size_t] + _READ + _WRITTEN + _FAULT,
+        "sm_header_numbers": _READ + [POINTER(Numbers)] + _FAULT,
+        "sm_rounds": _READ + [POINTER(c_uint32)] + _FAULT,
+        "sm_neighbours": _READ + [c_uint32, POINTER(c_uint32)] + _FAULT,
+        "sm_frame_most": _READ + [POINTER(c_size_t)] + _FAULT,
+        "sm_node_round": _NODE + [POINTER(c_uint32)],
+        "sm_node_awaits": _NODE + [c_uint32, POINTER(c_uint32)],
+        "sm_node_version": [],
+    },
+}
+
+# The functions that return nothing.
+_ENDLESS = ("sm_node_free", "sm_answer_free")
+
+_given: Optional[pathlib.Path] = None
+_loaded: Dict[str, ctypes.CDLL] = {}
+_one_at_a_time = threading.Lock()
+
+
+def use_libraries(folder: Union[str, "os.PathLike[str]"]) -> None:
+    """Names the folder of libsm_embed.so and libsm_node.so, before the first call. Misuse once a library is loaded."""
+    global _given
+    with _one_at_a_time:
+        if _loaded:
+            raise Misuse("a library is loaded already")
+        _given = pathlib.Path(folder)
+
+
+def _folder() -> pathlib.Path:
+    """The folder that was named, that of the variable, or the package's own."""
+    named = os.environ.get(VARIABLE)
+    return _given or (pathlib.Path(named) if named else pathlib.Path(__file__).resolve().parent)
+
+
+def _load(name: str) -> ctypes.CDLL:
+    """Loads a library, and says which ends its functions have."""
+    path = _folder() / f"lib{name}.so"
+    try:
+        library = ctypes.CDLL(str(path))
+        for function, ends in _ENDS[name].items():
+            getattr(library, function).argtypes = ends
+            getattr(library, function).restype = None if function in _ENDLESS else c_uint32
+    except (OSError, AttributeError) as told:
+        raise LibraryMissing(f"{told}; name its folder by {VARIABLE} or use_libraries") from told
+    told = library.sm_version() if name == JOBS else library.sm_node_version()
+    if told != VERSION_NUMBER:
+        raise LibraryMissing(f"{path} is of version {told}, and not {VERSION_NUMBER}")
+    return library
+
+
+def library(name: str) -> ctypes.CDLL:
+    """A library, which is loaded by the first call."""
+    if name not in _loaded:
+        with _one_at_a_time:
+            if name not in _loaded:
+                _loaded[name] = _load(name)
+    return _loaded[name]
+
+
+def as_bytes(given: Bytes) -> bytes:
+    """The same bytes as an object that nobody changes during a call."""
+    return given if isinstance(given, bytes) else bytes(memoryview(given))
+
+
+def exactly(length: int, given: Bytes, name: str) -> bytes:
+    """Bytes of a fixed length."""
+    data = as_bytes(given)
+    if len(data) != length:
+        raise Misuse(f"{name} of {len(data)} bytes, and not {length}")
+    return data
+
+
+def number(value: int, below: int, name: str) -> int:
+    """A number that a call takes. Without this a greater one would lose its upper bits."""
+    if not 0 <= value < below:
+        raise Misuse(f"{name} {value} is not 0 to {below - 1}")
+    return value
+
+
+def written(call: Call, length: int) -> Tuple[int, bytes]:
+    """The status of a call, and the bytes that it writes. The call is made again if a room of this length is too
+    short.
+    """
+    count = c_size_t(0)
+    while True:
+        room = ctypes.create_string_buffer(max(length, 1))
+        status = call(room, length, ctypes.byref(count))
+        if status != SHORT:
+            return status, ctypes.string_at(room, count.value)
+        length = count.value
+
+
+def held(name: str, call: Callable[[Any], int]) -> Tuple[int, bytes]:
+    """The status of a call that takes an answer, and the bytes that the answer holds, which is then freed."""
+    answer = c_void_p(None)
+    functions = library(name)
+    try:
+        status = call(ctypes.byref(answer))
+        if not answer.value:
+            return status, b""
+        return status, written(lambda *ends: int(functions.sm_answer_text(ctypes.byref(answer), *ends)), 0)[1]
+    finally:
+        functions.sm_answer_free(ctypes.byref(answer))

@@ -1,0 +1,169 @@
+"""One node (general) of a run, driven over the caller's transport, and the bundle of the logs that were collected."""
+
+from __future__ import annotations
+
+import ctypes
+import os
+import threading
+import warnings
+from types import TracebackType
+from typing import Iterable, List, NoReturn, Optional, Tuple, Type
+
+from ._faults import Misuse
+from ._headers import Header, made, must
+from ._libraries import NODES, Bytes, LogOf, as_bytes, exactly, library, number, written
+
+# In place of an order: the node has none.
+NO_ORDER = 255
+GENERALS, ORDERS = 16, 16
+MOST_WALKS, WALK_BYTES, LOG_FRONT = 120, 17, 5
+FIRST_ROOM = 1 << 12
+
+
+class Node:
+    """A node (general) of a run. The commander, general 0, has a value (order), and no other node has one.
+
+    In version 1 a seed makes one node ever, and in version 2 one in each slot: a second one would sign again, which
+    gives away secrets of its keys. So first put on the disk that the seed, or the slot, is used.
+
+    In each round call begin_round(), then send() and hear() for each neighbour, then end_round(); after the last round
+    finish(). A call in another order is Misuse. After a MemoryError the same call may be made again: nothing is signed
+    twice.
+
+    Any thread may call: a node takes one call at a time. Calls from another process than that which made the node are
+    Misuse. A node is closed by close() or at the end of its `with`.
+    """
+
+    def __init__(self, header: Header, general: int, seed: Bytes, order: Optional[int] = None) -> None:
+        self._node = ctypes.c_void_p(None)
+        self._maker = os.getpid()
+        self._one_at_a_time = threading.Lock()
+        self.header = header
+        self.general = number(general, GENERALS, "general")
+        own = NO_ORDER if order is None else number(order, ORDERS, "order")
+        told, key = ctypes.c_uint32(0), ctypes.create_string_buffer(exactly(32, seed, "a seed"), 32)
+        words = (header.data, len(header.data), self.general, key, own, ctypes.byref(told))
+        try:
+            must(library(NODES).sm_node_new(ctypes.byref(self._node), *words), "sm_node_new", told)
+        finally:
+            ctypes.memset(key, 0, 32)
+
+    def _is_here(self) -> bool:
+        return self._maker == os.getpid()
+
+    def _call(self, name: str, *words: object) -> int:
+        """The status of a call on the node."""
+        if not self._is_here():
+            raise Misuse(f"{name} is called by another process than that which made the node")
+        with self._one_at_a_time:
+            return int(getattr(library(NODES), name)(ctypes.byref(self._node), *words))
+
+    def begin_round(self) -> None:
+        """Begins the next round: the node signs what it has to sign in this round."""
+        must(self._call("sm_node_begin_round"), "sm_node_begin_round")
+
+    def send(self, to: int) -> bytes:
+        """This round's frame to a neighbour, as often as it is asked for."""
+        receiver = number(to, 1 << 32, "general")
+        status, frame = written(lambda *ends: self._call("sm_node_send", receiver, *ends), FIRST_ROOM)
+        must(status, "sm_node_send")
+        return frame
+
+    def hear(self, sender: int, frame: Bytes) -> None:
+        """Takes bytes that came from a neighbour in this round. The sender is the one that the transport knows.
+
+        InputFault has F1 to F8 if they are not this neighbour's frame of this round: nothing of them is kept, and the
+        frame may still come.
+        """
+        data, told = as_bytes(frame), ctypes.c_uint32(0)
+        words = number(sender, 1 << 32, "general"), data, len(data), ctypes.byref(told)
+        must(self._call("sm_node_hear", *words), "sm_node_hear", told)
+
+    def end_round(self) -> None:
+        """Ends the round: a neighbour from which no frame was taken counts as one that sent nothing."""
+        must(self._call("sm_node_end_round"), "sm_node_end_round")
+
+    def round(self) -> int:
+        """The number of the round that began last, 0 before the first. Misuse once the node has ended."""
+        current = ctypes.c_uint32(0)
+        must(self._call("sm_node_round", ctypes.byref(current)), "sm_node_round")
+        return current.value
+
+    def awaits(self, general: int) -> bool:
+        """Whether a frame goes out to a node (general) now and one from it is awaited: a round is open, and it is a
+        neighbour. Misuse once this node has ended.
+        """
+        awaited = ctypes.c_uint32(0)
+        words = number(general, 1 << 32, "general"), ctypes.byref(awaited)
+        must(self._call("sm_node_awaits", *words), "sm_node_awaits")
+        return awaited.value == 1
+
+    def finish(self) -> None:
+        """Ends the node after the last round: its log is sealed, and its keys are gone."""
+        must(self._call("sm_node_finish"), "sm_node_finish")
+
+    def order(self) -> int:
+        """The value (order) that a node which has ended decided."""
+        order = ctypes.c_uint32(0)
+        must(self._call("sm_node_order", ctypes.byref(order)), "sm_node_order")
+        return order.value
+
+    def log(self) -> bytes:
+        """The log of a node that has ended."""
+        status, log = written(lambda *ends: self._call("sm_node_log", *ends), FIRST_ROOM)
+        must(status, "sm_node_log")
+        return log
+
+    def close(self) -> None:
+        """Frees the node, at any time. Then every other call is Misuse."""
+        if not self._is_here():
+            raise Misuse("a node is closed by another process than that which made it")
+        with self._one_at_a_time:
+            library(NODES).sm_node_free(ctypes.byref(self._node))
+
+    def __enter__(self) -> Node:
+        return self
+
+    def __exit__(
+        self, kind: Optional[Type[BaseException]], value: Optional[BaseException], trace: Optional[TracebackType]
+    ) -> None:
+        self.close()
+
+    def __del__(self) -> None:
+        if not getattr(self, "_node", None):
+            return
+        warnings.warn(f"the node of general {self.general} was not closed", ResourceWarning, source=self)
+        # Another process may not free it: then it stays until that process ends.
+        if self._is_here():
+            self.close()
+
+    def __reduce__(self) -> NoReturn:
+        raise TypeError("a node is never copied")
+
+
+def _set_of(generals: Iterable[int]) -> int:
+    """A set of nodes as the library has it: bit g for general g."""
+    members = {number(general, GENERALS, "general") for general in generals}
+    return sum(1 << general for general in members)
+
+
+def bundle(
+    header: Header, faulty: Iterable[int], logs: Iterable[Tuple[int, Bytes]], *, parted: bool = False
+) -> bytes:
+    """The bundle of a run: its header, the nodes (generals) that are held for faulty, and the logs that were
+    collected.
+
+    A log comes with the node that it is said to be of, ascending, and several may be of one node. The walks between
+    the others are found. InputFault has U1, U2, B4, B7, B9 or LONG_LOG. audit() says what the logs are.
+
+    With `parted`, there is no U1 and no U2: a bundle has no walks if two of the others have none of at most d edges.
+    audit() finds that.
+    """
+    given: List[Tuple[int, bytes]] = [(number(general, GENERALS, "general"), as_bytes(log)) for general, log in logs]
+    of = (LogOf * max(len(given), 1))(*((general, len(log)) for general, log in given))
+    size = sum(len(log) for _, log in given)
+    # A copy, so that no log is the object of the header's bytes.
+    whole = ctypes.create_string_buffer(b"".join(log for _, log in given), max(size, 1))
+    words = [header.data, len(header.data), _set_of(faulty), of, len(given), whole, size]
+    room = len(header.data) + size + 8 + MOST_WALKS * WALK_BYTES + LOG_FRONT * len(given)
+    return made("sm_bundle_parted" if parted else "sm_bundle", words, room)

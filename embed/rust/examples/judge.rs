@@ -1,0 +1,46 @@
+//! What `sm_tool` writes for the bytes on standard input, with its status.
+//!
+//!     judge audit|draw|evidence|decide
+//!     judge accuse GENERAL
+use std::io::{Error, Read, Write};
+use std::process::ExitCode;
+use vamuretu::{accuse, audit, decide, draw, evidence, Answer, Fault};
+
+/// The status and the text of a job.
+fn answer(words: &[&str], input: &[u8]) -> Result<(u8, Vec<u8>), Fault> {
+    Ok(match words {
+        ["audit"] => match audit(input)? {
+            Answer::Yes(text) => (0, text.into_bytes()),
+            Answer::No(text) => (1, text.into_bytes()),
+        },
+        ["draw"] => (0, draw(input)?.into_bytes()),
+        ["decide"] => (0, decide(input)?.into_bytes()),
+        ["evidence"] if evidence(input)? => (0, b"evidence holds\n".to_vec()),
+        ["evidence"] => (1, b"evidence fails\n".to_vec()),
+        ["accuse", general] => {
+            let found = accuse(general.parse().map_err(|_| Fault::Misuse)?, input)?;
+            (u8::from(found.is_none()), found.unwrap_or_default())
+        }
+        _ => return Err(Fault::Misuse),
+    })
+}
+
+fn main() -> Result<ExitCode, Error> {
+    let words: Vec<String> = std::env::args().skip(1).collect();
+    let mut input = Vec::new();
+    std::io::stdin().lock().read_to_end(&mut input)?;
+    let answered = answer(&words.iter().map(String::as_str).collect::<Vec<_>>(), &input);
+    let status = match &answered {
+        Ok((status, text)) => {
+            std::io::stdout().lock().write_all(text)?;
+            *status
+        }
+        Err(Fault::Input(_) | Fault::OtherRun) => 3,
+        Err(Fault::Memory) => 4,
+        Err(_) => 2,
+    };
+    if let Err(fault) = answered {
+        eprintln!("{fault}");
+    }
+    Ok(ExitCode::from(status))
+}

@@ -1,0 +1,307 @@
+//! What `sm_tool` does over bytes.
+
+use std::mem::size_of;
+
+use crate::raw::{self, held, written, Job, SmAnswer};
+use crate::Fault;
+
+/// Most answers fit into this room: if one does not, the library does the whole work again.
+const FIRST_ROOM: usize = 1 << 17;
+/// The number of the version that both archives tell, as `SM_VERSION_NUMBER` of `sm_status.h`.
+const VERSION_NUMBER: u32 = 2000;
+
+/// An answer in words, which is a no or not.
+#[derive(Debug, Clone, PartialEq, Eq)]
+pub enum Answer {
+    /// The answer is not a no.
+    Yes(String),
+    /// The answer is a no.
+    No(String),
+}
+
+impl Answer {
+    /// The text of the answer.
+    pub fn text(&self) -> &str {
+        match self {
+            Answer::Yes(text) | Answer::No(text) => text,
+        }
+    }
+
+    /// Whether the answer is a no.
+    pub fn is_no(&self) -> bool {
+        matches!(self, Answer::No(_))
+    }
+}
+
+/// The text of bytes that the library wrote. It writes ASCII.
+fn text_of(bytes: Vec<u8>) -> String {
+    String::from_utf8(bytes).unwrap_or_else(|told| String::from_utf8_lossy(told.as_bytes()).into_owned())
+}
+
+/// The end of a job, by its status and the bytes that it wrote: whether it is a no, and the bytes.
+fn ended((status, bytes): (u32, Vec<u8>)) -> Result<(bool, Vec<u8>), Fault> {
+    match status {
+        0 | 1 => Ok((status == 1, bytes)),
+        3 => Err(Fault::Input(text_of(bytes))),
+        7 => Err(Fault::OtherRun),
+        4 => Err(Fault::Memory),
+        _ => Err(Fault::Misuse),
+    }
+}
+
+/// Does a job that takes bytes alone.
+fn done(job: Job, input: &[u8]) -> Result<(bool, Vec<u8>), Fault> {
+    // SAFETY: the pointers are of pieces of memory of these lengths that do not overlap, and nobody else has the room
+    // and the count.
+    ended(written(FIRST_ROOM, |room, room_bytes, count| unsafe {
+        job(input.as_ptr(), input.len(), room, room_bytes, count)
+    }))
+}
+
+/// The id of a run.
+pub type RunId = [u8; 32];
+
+/// Does a job whose answer the library keeps until it is read.
+fn kept(job: impl FnOnce(*mut SmAnswer) -> u32) -> Result<(bool, Vec<u8>), Fault> {
+    ended(held(job))
+}
+
+/// The verdict on a bundle or a campaign, as `sm_tool audit` writes it. It is a no if and only if the verdict on the
+/// bundle, or on a run of the campaign, is no. The second line of a yes says whether the verdict is `agreed` or
+/// `explained`.
+pub fn audit(input: &[u8]) -> Result<Answer, Fault> {
+    audit_of(&[], false, input)
+}
+
+/// The verdict on a bundle or a campaign of the runs with these ids, in their order; of any if there are none. If it is
+/// asked strictly, `explained` is a no too. [`Fault::OtherRun`] for other runs, [`Fault::Misuse`] for more than four
+/// ids.
+pub fn audit_of(runs: &[RunId], strict: bool, input: &[u8]) -> Result<Answer, Fault> {
+    // SAFETY: the pointers are of pieces of memory of these lengths that do not overlap, and nobody else has the answer.
+    let (is_no, text) = kept(|answer| unsafe {
+        raw::sm_audit_of(runs.as_ptr().cast(), runs.len(), u32::from(strict), input.as_ptr(), input.len(), answer)
+    })?;
+    Ok(if is_no { Answer::No(text_of(text)) } else { Answer::Yes(text_of(text)) })
+}
+
+/// The picture of a bundle or a campaign and of the verdict on it, an SVG text.
+pub fn draw(input: &[u8]) -> Result<String, Fault> {
+    draw_of(&[], input)
+}
+
+/// The picture, as [`draw`], of the runs with these ids. Faults are those of [`audit_of`].
+pub fn draw_of(runs: &[RunId], input: &[u8]) -> Result<String, Fault> {
+    // SAFETY: as in `audit_of`.
+    let (_, text) = kept(|answer| unsafe {
+        raw::sm_draw_of(runs.as_ptr().cast(), runs.len(), input.as_ptr(), input.len(), answer)
+    })?;
+    Ok(text_of(text))
+}
+
+/// What the nodes (generals) decide in the run of a scenario's text, as `sm_tool decide` writes it.
+pub fn decide(scenario: &[u8]) -> Result<String, Fault> {
+    done(raw::sm_decide, scenario).map(|(_, text)| text_of(text))
+}
+
+/// Whether evidence holds.
+pub fn evidence(input: &[u8]) -> Result<bool, Fault> {
+    evidence_of(None, input)
+}
+
+/// Whether evidence holds, which is of the run with this id; of any if there is none. [`Fault::OtherRun`] if its header
+/// is that of another run.
+pub fn evidence_of(run: Option<&RunId>, input: &[u8]) -> Result<bool, Fault> {
+    let runs: &[RunId] = run.map_or(&[], std::slice::from_ref);
+    // SAFETY: as in `audit_of`.
+    let (is_no, _) = kept(|answer| unsafe {
+        raw::sm_evidence_of(runs.as_ptr().cast(), runs.len(), input.as_ptr(), input.len(), answer)
+    })?;
+    Ok(!is_no)
+}
+
+/// The evidence against a node (general) that a bundle or a campaign holds, if there is any. [`Fault::Misuse`] for a
+/// general above 15.
+pub fn accuse(general: u32, input: &[u8]) -> Result<Option<Vec<u8>>, Fault> {
+    accuse_of(&[], general, input)
+}
+
+/// The evidence, as [`accuse`], of the runs with these ids. Faults are those of [`audit_of`] too.
+pub fn accuse_of(runs: &[RunId], general: u32, input: &[u8]) -> Result<Option<Vec<u8>>, Fault> {
+    // SAFETY: as in `audit_of`.
+    let (is_no, bytes) = kept(|answer| unsafe {
+        raw::sm_accuse_of(runs.as_ptr().cast(), runs.len(), general, input.as_ptr(), input.len(), answer)
+    })?;
+    Ok((!is_no).then_some(bytes))
+}
+
+/// The ids of the runs that a file is of: one of a header, of a bundle or of evidence, and of a campaign those of its
+/// runs in their order; `None` if the input is no whole file of one of these kinds.
+pub fn run_ids(input: &[u8]) -> Result<Option<Vec<RunId>>, Fault> {
+    // SAFETY: as in `done`.
+    let (status, ids) = written(4 * size_of::<RunId>(), |room, room_bytes, count| unsafe {
+        raw::sm_run_id(input.as_ptr(), input.len(), room, room_bytes, count)
+    });
+    if status == 3 {
+        return Ok(None);
+    }
+    let (_, ids) = ended((status, ids))?;
+    Ok(Some(ids.chunks_exact(size_of::<RunId>()).filter_map(|id| id.try_into().ok()).collect()))
+}
+
+/// What a file is, line by line, as `sm_tool show` writes it. It is a no if and only if the file is no whole bundle,
+/// campaign, evidence or header.
+pub fn show(input: &[u8]) -> Result<Answer, Fault> {
+    // SAFETY: as in `audit_of`.
+    let (is_no, text) = kept(|answer| unsafe { raw::sm_show(input.as_ptr(), input.len(), answer) })?;
+    Ok(if is_no { Answer::No(text_of(text)) } else { Answer::Yes(text_of(text)) })
+}
+
+/// What a name means that stands in an answer, as `sm_tool explain` writes it, if it is one: that of a fault, a finding,
+/// a kind of conviction or a verdict. Of a line as `fault B3 H6` each name is explained.
+pub fn explain(name: &str) -> Result<Option<String>, Fault> {
+    // SAFETY: as in `audit_of`.
+    let (is_no, text) = kept(|answer| unsafe { raw::sm_explain(name.as_ptr(), name.len(), answer) })?;
+    Ok((!is_no).then(|| text_of(text)))
+}
+
+/// A text with what each of its lines means behind the line, as `sm_tool words` writes it. A line without a line feed
+/// gets nothing.
+pub fn words(text: &[u8]) -> Result<Vec<u8>, Fault> {
+    // SAFETY: as in `audit_of`.
+    kept(|answer| unsafe { raw::sm_words(text.as_ptr(), text.len(), answer) }).map(|(_, bytes)| bytes)
+}
+
+/// The evidence against a node (general), as [`accuse`], but [`Fault::Misuse`] too for one that is none of the run's.
+pub fn accuse_known(general: u32, input: &[u8]) -> Result<Option<Vec<u8>>, Fault> {
+    // SAFETY: as in `done`.
+    let (is_no, bytes) = ended(written(FIRST_ROOM, |room, room_bytes, count| unsafe {
+        raw::sm_accuse_known(general, input.as_ptr(), input.len(), room, room_bytes, count)
+    }))?;
+    Ok((!is_no).then_some(bytes))
+}
+
+/// The answer of an accused node (general) to evidence, by the log that the node kept, if there is one. It is a line:
+/// `forged` and the text of the evidence that the log does not have, or `collision` and two strings of bytes with one
+/// hash. A node that followed the algorithm has an answer to any evidence.
+pub fn refute(evidence: &[u8], log: &[u8]) -> Result<Option<String>, Fault> {
+    // SAFETY: as in `done`.
+    let (is_no, text) = ended(written(FIRST_ROOM, |room, room_bytes, count| unsafe {
+        raw::sm_refute(evidence.as_ptr(), evidence.len(), log.as_ptr(), log.len(), room, room_bytes, count)
+    }))?;
+    Ok((!is_no).then(|| text_of(text)))
+}
+
+/// Whether both archives are of the version of this crate.
+pub fn versions_match() -> bool {
+    // SAFETY: the calls take nothing.
+    let told = unsafe { (raw::sm_version(), raw::sm_node_version()) };
+    told == (VERSION_NUMBER, VERSION_NUMBER)
+}
+
+#[cfg(test)]
+mod tests {
+    use super::*;
+
+    const SPLIT: &[u8] = include_bytes!("../../../examples/split.bundle");
+    const DISPUTED: &[u8] = include_bytes!("../../../examples/disputed.bundle");
+
+    #[test]
+    fn verdicts() {
+        let wanted = include_str!("../../../examples/split.verdict");
+        assert_eq!(audit(SPLIT), Ok(Answer::Yes(wanted.to_owned())));
+        let disputed = audit(DISPUTED).expect("a bundle");
+        assert!(disputed.is_no() && disputed.text() == include_str!("../../../examples/disputed.verdict"));
+        let series = audit(include_bytes!("../../../examples/series.bundles")).expect("a campaign");
+        assert_eq!(series.text(), include_str!("../../../examples/series.verdict"));
+    }
+
+    #[test]
+    fn evidence_of_a_bundle() {
+        let found = accuse(0, SPLIT).expect("a bundle").expect("evidence");
+        assert_eq!(found, include_bytes!("../../../examples/split.evidence"));
+        assert_eq!(evidence(&found), Ok(true));
+        let mut bent = found;
+        *bent.last_mut().expect("a byte") ^= 1;
+        assert_eq!(evidence(&bent), Ok(false));
+        assert_eq!(accuse(1, SPLIT), Ok(None));
+        assert_eq!((accuse(3, SPLIT), accuse_known(3, SPLIT)), (Ok(None), Err(Fault::Misuse)));
+        assert_eq!((accuse_known(0, SPLIT), accuse_known(1, SPLIT)), (accuse(0, SPLIT), Ok(None)));
+        assert_eq!(
+            refute(include_bytes!("../../../examples/split.evidence"), b""),
+            Err(Fault::Input("fault L1".into()))
+        );
+        assert!(versions_match());
+    }
+
+    #[test]
+    fn runs() {
+        let found: &[u8] = include_bytes!("../../../examples/split.evidence");
+        let series = include_bytes!("../../../examples/series.bundles");
+        let own = run_ids(SPLIT).expect("memory").expect("a bundle");
+        assert_eq!((own.len(), run_ids(found)), (1, Ok(Some(own.clone()))));
+        assert_eq!(run_ids(&found[4..4 + 7 + 6 + 96]), Ok(Some(own.clone())));
+        assert_eq!(run_ids(series).map(|ids| ids.map(|it| it.len())), Ok(Some(4)));
+        assert_eq!((run_ids(b""), run_ids(&SPLIT[1..])), (Ok(None), Ok(None)));
+        assert_eq!((audit_of(&own, false, SPLIT), draw_of(&own, SPLIT)), (audit(SPLIT), draw(SPLIT)));
+        assert_eq!((accuse_of(&own, 0, SPLIT), evidence_of(Some(&own[0]), found)), (accuse(0, SPLIT), Ok(true)));
+        for other in [vec![[0; 32]], vec![own[0], own[0]]] {
+            assert_eq!(audit_of(&other, false, SPLIT), Err(Fault::OtherRun));
+            assert_eq!(draw_of(&other, SPLIT), Err(Fault::OtherRun));
+            assert_eq!(accuse_of(&other, 0, SPLIT), Err(Fault::OtherRun));
+        }
+        assert_eq!(evidence_of(Some(&[0; 32]), found), Err(Fault::OtherRun));
+        assert_eq!(audit_of(&[own[0]; 5], false, SPLIT), Err(Fault::Misuse));
+    }
+
+    #[test]
+    fn texts() {
+        let shown = show(SPLIT).expect("memory");
+        assert!(!shown.is_no() && shown.text().starts_with("format bundle version 1 slot 0\nrun 4b555e97"));
+        assert!(show(&SPLIT[1..]).expect("memory").is_no());
+        assert!(explain("K2").expect("memory").is_some_and(|said| said.starts_with("K2\n  ")));
+        assert_eq!((explain("nothing of this name"), words(b"")), (Ok(None), Ok(vec![])));
+        assert!(words(b"verdict no\n").expect("memory").starts_with(b"verdict no\n  "));
+    }
+
+    #[test]
+    fn pictures_and_decisions() {
+        assert_eq!(draw(SPLIT).expect("a bundle"), include_str!("../../../examples/split.svg"));
+        let decided = decide(include_bytes!("../../../examples/late.scenario"));
+        assert_eq!(decided.expect("a scenario"), include_str!("../../../examples/late.decisions"));
+    }
+
+    #[test]
+    fn faults() {
+        assert_eq!(audit(b""), Err(Fault::Input("fault B1".to_owned())));
+        assert_eq!(decide(b""), Err(Fault::Input("fault P1 line 1".to_owned())));
+        assert_eq!(evidence(SPLIT), Err(Fault::Input("fault V2".to_owned())));
+        for general in [16, 256, u32::MAX] {
+            assert_eq!(accuse(general, SPLIT), Err(Fault::Misuse));
+        }
+    }
+
+    #[test]
+    fn statuses_are_those_of_the_header() {
+        let header = include_str!("../../sm_status.h");
+        let names = [
+            "SM_OK = 0",
+            "SM_NO = 1",
+            "SM_MISUSE = 2",
+            "SM_FAULT = 3",
+            "SM_MEMORY = 4",
+            "SM_LENGTH = 5",
+            "SM_NOBODY = 6",
+            "SM_OTHER = 7",
+        ];
+        assert!(names.iter().all(|name| header.contains(name)));
+        assert_eq!((ended((2, vec![])), ended((4, vec![]))), (Err(Fault::Misuse), Err(Fault::Memory)));
+    }
+
+    #[test]
+    fn threads() {
+        std::thread::scope(|scope| {
+            let started: Vec<_> = (0..4).map(|_| scope.spawn(|| audit(SPLIT))).collect();
+            assert!(started.into_iter().all(|it| it.join().expect("no panic") == audit(SPLIT)));
+        });
+    }
+}

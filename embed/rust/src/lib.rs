@@ -1,0 +1,22 @@
+//! Judges runs of signed Byzantine agreement, and runs one node (general) of a run.
+//!
+//! The work is done by two static libraries, whose headers are `sm_embed.h` and `sm_node.h`; `README.md` says how they
+//! are linked. A general is a node, and an order is a value.
+//!
+//! The jobs are what `sm_tool` does over bytes: [`audit`], [`draw`], [`accuse`], [`evidence`], [`decide`], [`show`],
+//! [`explain`] and [`words`]. Some have a twin that takes the run ids that are expected, as [`audit_of`]. Threads may
+//! make them at the same time. A [`Node`] is driven over the caller's transport, by any thread, one call at a
+//! time. A [`Bundle`] of logs is what `audit` judges.
+#![warn(missing_docs)]
+
+mod fault;
+mod header;
+mod jobs;
+mod node;
+mod raw;
+
+pub use fault::{Fault, NodeFault};
+pub use header::{Header, Numbers, Root, Seed, Version};
+pub use jobs::{accuse, accuse_known, accuse_of, audit, audit_of, decide, draw, draw_of, evidence, evidence_of};
+pub use jobs::{explain, refute, run_ids, show, versions_match, words, Answer, RunId};
+pub use node::{Bundle, Node};

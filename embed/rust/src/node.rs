@@ -1,0 +1,186 @@
+//! One node (general) of a run, driven over the caller's transport, and the bundle of the logs that were collected.
+
+use crate::header::{Header, Seed};
+use crate::raw::{self, written, SmLog, SmNode};
+use crate::Fault;
+
+/// Most frames without a chain, and small logs, fit into this room.
+const FIRST_ROOM: usize = 1 << 12;
+/// The most walks of a bundle, the bytes of the longest, and the bytes in front of a log.
+const MOST_WALKS: usize = 120;
+const WALK_BYTES: usize = 17;
+const LOG_FRONT: usize = 5;
+
+/// A node (general) of a run. It is never copied. It may go to another thread, and is freed where it is dropped.
+///
+/// In version 1 a seed makes one node ever, and in version 2 one in each slot: a second one would sign again, which
+/// gives away secrets of its keys. So first put on the disk that the seed, or the slot, is used. This holds in a forked
+/// process too.
+///
+/// In each round call [`begin_round`](Node::begin_round), then [`send`](Node::send) and [`hear`](Node::hear) for each
+/// neighbour, then [`end_round`](Node::end_round); after the last round [`finish`](Node::finish). A call in another
+/// order is [`Fault::Misuse`]. After [`Fault::Memory`] the same call may be made again: nothing is signed twice.
+///
+/// ```
+/// fn needs_send<T: Send>() {}
+/// needs_send::<vamuretu::Node>();
+/// ```
+///
+/// Two threads never call at the same time:
+///
+/// ```compile_fail,E0277
+/// fn needs_sync<T: Sync>() {}
+/// needs_sync::<vamuretu::Node>();
+/// ```
+pub struct Node {
+    // It stays where it is, since an `sm_node` is never copied.
+    place: Box<SmNode>,
+}
+
+// SAFETY: the library proves `Send` of a node. It takes one call at a time, by any thread, which `&mut` keeps.
+unsafe impl Send for Node {}
+
+impl Node {
+    /// Makes a node of a header, its number, its seed and its value (order), which the commander, node 0, has alone.
+    /// [`Fault::Misuse`] for a general or an order above 15.
+    pub fn new(header: &Header, general: u32, seed: &Seed, order: Option<u8>) -> Result<Node, Fault> {
+        let own = match order {
+            Some(order) if u32::from(order) == raw::NO_ORDER => return Err(Fault::Misuse),
+            Some(order) => order.into(),
+            None => raw::NO_ORDER,
+        };
+        let mut node = Node { place: Box::new(SmNode { at: std::ptr::null_mut() }) };
+        let (bytes, mut fault) = (header.as_bytes(), 0);
+        // SAFETY: the pointers are of pieces of memory of these lengths that do not overlap. The place holds no node,
+        // and nobody else has it.
+        let status = unsafe {
+            let (at, seed) = (&mut *node.place, seed.0.as_ptr());
+            raw::sm_node_new(at, bytes.as_ptr(), bytes.len(), general, seed, own, &mut fault)
+        };
+        Fault::of_node(status, fault).map(|()| node)
+    }
+
+    /// Begins the next round: the node signs what it has to sign in this round.
+    pub fn begin_round(&mut self) -> Result<(), Fault> {
+        // SAFETY: the place is the node's own, and the library's calls have left it as it is.
+        Fault::of_node(unsafe { raw::sm_node_begin_round(&mut *self.place) }, 0)
+    }
+
+    /// This round's frame to a neighbour, as often as it is asked for.
+    pub fn send(&mut self, to: u32) -> Result<Vec<u8>, Fault> {
+        // SAFETY: as in `begin_round`, and the room and the count are nobody else's.
+        let (status, frame) = written(FIRST_ROOM, |room, room_bytes, count| unsafe {
+            raw::sm_node_send(&mut *self.place, to, room, room_bytes, count)
+        });
+        Fault::of_node(status, 0).map(|()| frame)
+    }
+
+    /// Takes bytes that came from a neighbour in this round. `from` is the sender that the transport knows. Faults are
+    /// F1 to F8, if they are not this neighbour's frame of this round: nothing of them is kept, and the frame may still
+    /// come. Before a round and after it that is F1. Once the neighbour's frame of this round was taken it is F2, for an
+    /// early frame too. [`Fault::Misuse`] once the node has ended, and for a sender above 15.
+    pub fn hear(&mut self, from: u32, frame: &[u8]) -> Result<(), Fault> {
+        let mut fault = 0;
+        // SAFETY: as in `begin_round`, and the frame and the fault do not overlap the node.
+        let status = unsafe { raw::sm_node_hear(&mut *self.place, from, frame.as_ptr(), frame.len(), &mut fault) };
+        Fault::of_node(status, fault)
+    }
+
+    /// Ends the round: a neighbour from which no frame was taken counts as one that sent nothing.
+    pub fn end_round(&mut self) -> Result<(), Fault> {
+        // SAFETY: as in `begin_round`.
+        Fault::of_node(unsafe { raw::sm_node_end_round(&mut *self.place) }, 0)
+    }
+
+    /// The number of the round that began last, 0 before the first. [`Fault::Misuse`] once the node has ended.
+    pub fn round(&mut self) -> Result<u32, Fault> {
+        let mut round = 0;
+        // SAFETY: as in `order`.
+        let status = unsafe { raw::sm_node_round(&mut *self.place, &mut round) };
+        Fault::of_node(status, 0).map(|()| round)
+    }
+
+    /// Whether a frame goes out to a node (general) now and one from it is awaited: a round is open, and it is a neighbour.
+    /// Whether its frame was taken in this round, [`hear`](Node::hear) has told. [`Fault::Misuse`] once this node has
+    /// ended, and for a general above 15.
+    pub fn awaits(&mut self, general: u32) -> Result<bool, Fault> {
+        let mut awaited = 0;
+        // SAFETY: as in `order`.
+        let status = unsafe { raw::sm_node_awaits(&mut *self.place, general, &mut awaited) };
+        Fault::of_node(status, 0).map(|()| awaited == 1)
+    }
+
+    /// Ends the node after the last round: its log is sealed, and its keys are gone.
+    pub fn finish(&mut self) -> Result<(), Fault> {
+        // SAFETY: as in `begin_round`.
+        Fault::of_node(unsafe { raw::sm_node_finish(&mut *self.place) }, 0)
+    }
+
+    /// The value (order) that a node which has ended decided. `&mut` keeps calls one at a time.
+    pub fn order(&mut self) -> Result<u32, Fault> {
+        let mut order = 0;
+        // SAFETY: as in `begin_round`, and the order is nobody else's.
+        let status = unsafe { raw::sm_node_order(&mut *self.place, &mut order) };
+        Fault::of_node(status, 0).map(|()| order)
+    }
+
+    /// The log of a node that has ended.
+    pub fn log(&mut self) -> Result<Vec<u8>, Fault> {
+        // SAFETY: as in `send`.
+        let (status, log) = written(FIRST_ROOM, |room, room_bytes, count| unsafe {
+            raw::sm_node_log(&mut *self.place, room, room_bytes, count)
+        });
+        Fault::of_node(status, 0).map(|()| log)
+    }
+}
+
+impl Drop for Node {
+    fn drop(&mut self) {
+        // SAFETY: as in `begin_round`; nobody has the node afterwards.
+        unsafe { raw::sm_node_free(&mut *self.place) }
+    }
+}
+
+/// The bundle of a run, as its bytes.
+#[derive(Debug, Clone, PartialEq, Eq)]
+pub struct Bundle(Vec<u8>);
+
+impl Bundle {
+    /// The bundle of a header, the nodes (generals) that are held for faulty, and the logs that were collected. A log
+    /// comes with the node that it is said to be of, ascending, and several may be of one node. The walks between the
+    /// others are found. Faults are U1, U2, B4, B7, B9, or a log that is too long. [`Fault::Misuse`] for a general
+    /// above 15.
+    pub fn new(header: &Header, faulty: &[u32], logs: &[(u32, &[u8])]) -> Result<Bundle, Fault> {
+        Bundle::by(raw::sm_bundle, header, faulty, logs)
+    }
+
+    /// The same bundle, but there is no U1 and no U2: it has no walks if two of the others have none of at most d edges.
+    /// The audit finds that.
+    pub fn parted(header: &Header, faulty: &[u32], logs: &[(u32, &[u8])]) -> Result<Bundle, Fault> {
+        Bundle::by(raw::sm_bundle_parted, header, faulty, logs)
+    }
+
+    /// The bundle that a call makes.
+    fn by(call: raw::Gathering, header: &Header, faulty: &[u32], logs: &[(u32, &[u8])]) -> Result<Bundle, Fault> {
+        let set = faulty
+            .iter()
+            .try_fold(0, |set, &general| if general < 16 { Ok(set | 1 << general) } else { Err(Fault::Misuse) })?;
+        let of: Vec<SmLog> = logs.iter().map(|&(general, log)| SmLog { general, bytes: log.len() }).collect();
+        let whole: Vec<u8> = logs.iter().flat_map(|&(_, log)| log).copied().collect();
+        let (bytes, mut fault) = (header.as_bytes(), 0);
+        let room = bytes.len() + whole.len() + 8 + MOST_WALKS * WALK_BYTES + LOG_FRONT * logs.len();
+        // SAFETY: the pointers are of pieces of memory of these lengths that do not overlap, and nobody else has the
+        // room, the count and the fault.
+        let (status, made) = written(room, |room, room_bytes, count| unsafe {
+            let (logs, all) = (of.as_ptr(), whole.as_ptr());
+            let at = bytes.as_ptr();
+            call(at, bytes.len(), set, logs, of.len(), all, whole.len(), room, room_bytes, count, &mut fault)
+        });
+        Fault::of_node(status, fault).map(|()| Bundle(made))
+    }
+
+    /// The bytes of the bundle, which [`audit`](crate::audit) judges.
+    pub fn as_bytes(&self) -> &[u8] {
+        &self.0
+    }
+}

@@ -1,0 +1,153 @@
+//! Runs of four nodes, whose bundles are those of scenarios, and calls that end otherwise.
+//!
+//! The folder VAMURETU_BUNDLES has what is compared: `all.bundle` and `ring.bundle`, with the logs of those who took
+//! part. `trials/bindings.py` makes it by the program. Without it the runs are judged alone.
+
+use std::collections::BTreeMap;
+use vamuretu::{audit, Bundle, Fault, Header, Node, NodeFault, Numbers, Root, Seed, Version};
+
+/// The seeds of the nodes (generals) of a scenario whose seed is zero (docs/FORMATS.md).
+const SEEDS: [&str; 4] = [
+    "66d70c6db5df5e0dc723644c7f93c8fee5b0eb7d6409bcc2cd5153f38e8678b2",
+    "49aac0d4ee170399312235e300697e7e76d0e0fc57377fda40ad356ccfe5aed9",
+    "47a45e3a94f7e0200b36e9bb1d5879bc5a173b709d905d056400ff7f039001c5",
+    "5832781c75b5c3b49bdbb7acd4d5267a08b8910d4f2cfbe5cce6298ae495ea80",
+];
+const NUMBERS: Numbers =
+    Numbers { version: Version::One, slot: 0, generals: 4, traitors: 1, diameter: 1, orders: 3, choice: 0 };
+const ALL: [(u8, u8); 6] = [(0, 1), (0, 2), (0, 3), (1, 2), (1, 3), (2, 3)];
+const RING: [(u8, u8); 4] = [(1, 0), (1, 2), (3, 2), (0, 3)];
+
+fn seed_of(general: u32) -> Seed {
+    let digits = SEEDS[general as usize];
+    let byte = |at: usize| u8::from_str_radix(&digits[2 * at..2 * at + 2], 16).expect("two digits");
+    Seed(std::array::from_fn(byte))
+}
+
+fn header_of(numbers: &Numbers, edges: &[(u8, u8)]) -> Header {
+    let roots: Vec<Root> = (0..4).map(|g| Root::of(&seed_of(g), numbers.version).expect("a root")).collect();
+    Header::new(numbers, edges, &roots).expect("a header")
+}
+
+fn node_of(header: &Header, general: u32, order: u8) -> Node {
+    Node::new(header, general, &seed_of(general), (general == 0).then_some(order)).expect("a node")
+}
+
+/// The logs of a run in which some nodes never begin, with what their nodes decide.
+fn drive(header: &Header, order: u8, silent: &[u32]) -> Result<Vec<(u32, Vec<u8>, u32)>, Fault> {
+    let loyal = (0..4).filter(|general| !silent.contains(general));
+    let mut nodes: BTreeMap<u32, Node> = loyal.map(|general| (general, node_of(header, general, order))).collect();
+    for _ in 0..header.rounds() {
+        nodes.values_mut().try_for_each(Node::begin_round)?;
+        for (a, b) in header.edges() {
+            for (from, to) in [(a, b), (b, a)] {
+                if nodes.contains_key(&from) && nodes.contains_key(&to) {
+                    let frame = nodes.get_mut(&from).expect("a node").send(to)?;
+                    assert!(frame.len() <= header.longest_frame());
+                    nodes.get_mut(&to).expect("a node").hear(from, &frame)?;
+                }
+            }
+        }
+        nodes.values_mut().try_for_each(Node::end_round)?;
+    }
+    let end = |(general, mut node): (u32, Node)| {
+        node.finish()?;
+        Ok((general, node.log()?, node.order()?))
+    };
+    nodes.into_iter().map(end).collect()
+}
+
+/// The run of a header, whose bundle has to be that of a file, and its verdict `agreed`.
+fn check(name: &str, header: &Header, order: u8, silent: &[u32]) {
+    let ended = drive(header, order, silent).expect("a run");
+    assert!(ended.iter().all(|it| it.2 == u32::from(order)));
+    let logs: Vec<(u32, &[u8])> = ended.iter().map(|(general, log, _)| (*general, log.as_slice())).collect();
+    let bundle = Bundle::new(header, silent, &logs).expect("a bundle");
+    match std::env::var_os("VAMURETU_BUNDLES") {
+        Some(folder) => {
+            let wanted = std::fs::read(std::path::Path::new(&folder).join(name)).expect("the bundle of the scenario");
+            assert!(bundle.as_bytes() == wanted, "{name} is another bundle");
+        }
+        None => println!("{name} is not compared, as VAMURETU_BUNDLES names no folder"),
+    }
+    let verdict = audit(bundle.as_bytes()).expect("a verdict");
+    assert!(!verdict.is_no() && verdict.text().contains(&format!("verdict agreed {order}\n")));
+}
+
+#[test]
+fn all() {
+    check("all.bundle", &header_of(&NUMBERS, &ALL), 2, &[]);
+}
+
+#[test]
+fn ring_in_a_slot() {
+    let numbers = Numbers { version: Version::Two, slot: 1, diameter: 2, orders: 2, ..NUMBERS };
+    check("ring.bundle", &header_of(&numbers, &RING), 1, &[2]);
+}
+
+#[test]
+fn headers() {
+    let header = header_of(&Numbers { version: Version::Two, slot: 1, diameter: 2, orders: 2, ..NUMBERS }, &RING);
+    assert_eq!((header.generals(), header.rounds(), header.longest_frame()), (4, 3, 99_515));
+    assert_eq!(header.edges().collect::<Vec<_>>(), [(0, 1), (0, 3), (1, 2), (2, 3)]);
+    assert_eq!(header.neighbours(0).collect::<Vec<_>>(), [1, 3]);
+    let bytes = header.as_bytes();
+    assert_eq!(Header::read(bytes), Ok(header.clone()));
+    let longer = [bytes, &[0]].concat();
+    for (given, fault) in
+        [(&[][..], NodeFault::H9), (&bytes[..9], NodeFault::H9), (&longer, NodeFault::LeftOver), (&[3], NodeFault::H10)]
+    {
+        assert_eq!(Header::read(given), Err(Fault::Node(fault)));
+    }
+    let roots = [Root([0; 32]); 3];
+    let line = Numbers { generals: 3, traitors: 0, ..NUMBERS };
+    let parted = Header::new(&line, &[(0, 1), (1, 2)], &roots).expect("a header");
+    assert_eq!(Header::read(parted.as_bytes()), Ok(parted.clone()));
+    assert_eq!(Bundle::new(&parted, &[1], &[]), Err(Fault::Node(NodeFault::U1)));
+    assert_eq!(Bundle::new(&parted, &[], &[]), Err(Fault::Node(NodeFault::U2)));
+    for (numbers, edges, fault) in [
+        (Numbers { generals: 1, ..line }, &[][..], NodeFault::H1),
+        (line, &[(0, 0)][..], NodeFault::H2),
+        (Numbers { generals: 4, ..line }, &[(0, 1)][..], NodeFault::H8),
+        (Numbers { version: Version::Two, slot: 4, ..line }, &[(0, 1)][..], NodeFault::H11),
+    ] {
+        assert_eq!(Header::new(&numbers, edges, &roots), Err(Fault::Node(fault)));
+    }
+}
+
+#[test]
+fn calls() {
+    let header = header_of(&NUMBERS, &ALL);
+    let begin = |general, seed, order| Node::new(&header, general, &seed_of(seed), order).err();
+    assert_eq!(begin(0, 0, None), Some(Fault::Node(NodeFault::NoGeneral)));
+    assert_eq!(begin(4, 0, None), Some(Fault::Node(NodeFault::NoGeneral)));
+    assert_eq!(begin(0, 1, Some(1)), Some(Fault::Node(NodeFault::OtherRoot)));
+    for (general, order) in [(16, None), (u32::MAX, None), (0, Some(16)), (1, Some(255))] {
+        assert_eq!(begin(general, 0, order), Some(Fault::Misuse));
+    }
+    let (mut own, mut other) = (node_of(&header, 0, 2), node_of(&header, 1, 2));
+    assert_eq!(own.send(1), Err(Fault::Misuse));
+    assert_eq!(own.log(), Err(Fault::Misuse));
+    assert_eq!(own.order(), Err(Fault::Misuse));
+    assert_eq!(own.finish(), Err(Fault::Misuse));
+    assert_eq!(own.end_round(), Err(Fault::Misuse));
+    assert_eq!(own.hear(1, &[]), Err(Fault::Node(NodeFault::F1)));
+    assert_eq!((own.begin_round(), other.begin_round()), (Ok(()), Ok(())));
+    let frame = own.send(1).expect("a frame");
+    assert_eq!(own.send(1), Ok(frame.clone()));
+    assert_eq!(own.send(4), Err(Fault::Misuse));
+    assert_eq!(other.hear(16, &frame), Err(Fault::Misuse));
+    assert_eq!(other.hear(2, &frame), Err(Fault::Node(NodeFault::F8)));
+    assert_eq!(other.hear(0, &frame[1..]), Err(Fault::Node(NodeFault::F4)));
+    assert_eq!(other.hear(0, &frame), Ok(()));
+    assert_eq!(other.hear(0, &frame), Err(Fault::Node(NodeFault::F2)));
+    for (faulty, logs, fault) in [
+        (&[16][..], &[][..], Fault::Misuse),
+        (&[], &[(16, &b""[..])], Fault::Misuse),
+        (&[4], &[], Fault::Node(NodeFault::B4)),
+        (&[], &[(4, b"")], Fault::Node(NodeFault::B7)),
+        (&[], &[(1, b""), (0, b"")], Fault::Node(NodeFault::B9)),
+    ] {
+        assert_eq!(Bundle::new(&header, faulty, logs), Err(fault));
+    }
+}

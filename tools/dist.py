@@ -1,0 +1,256 @@
+#!/usr/bin/env python3
+"""Makes the archive of a release, and of it a package for Debian; the script `dist` tells the words.
+
+The archive has what git has of the documents, the examples and the reference, and what was proved and built: out/sm_tool,
+out/libsm_embed.a, out/libsm_node.a, and where they are there out/sm_tool-v3, the program for processors with AVX2, and the page
+out/audit.html. tools/proved.py says whether they were proved from the sources that are checked out. The compiler makes the heap and the shared libraries, which nothing proves.
+Dates are that of the commit, or SOURCE_DATE_EPOCH; owners, modes and the order are fixed.
+"""
+import calendar
+import gzip
+import hashlib
+import io
+import os
+import re
+import shutil
+import subprocess
+import sys
+import tarfile
+import tempfile
+import time
+
+import completions
+import debian
+import proved
+from man import TOP, version
+from man3 import FUNCTION, HEADERS, SHARED
+
+OUT = os.path.join(TOP, "out")
+# What was built, with the crate that it is of and its place in the archive.
+BUILT = [("sm_tool", "sm_tool", "bin/sm_tool"), ("libsm_embed.a", "sm_embed", "lib/libsm_embed.a")]
+BUILT += [("libsm_node.a", "sm_node", "lib/libsm_node.a")]
+PAGE = ("audit.html", "sm_embed", "page/audit.html")
+LEVEL_3 = ("sm_tool-v3", "sm_tool", "bin/sm_tool-v3")
+# What the archive has of the repository, at the same place.
+KEPT = ("README.md", "CHANGELOG.md", "INSTALL.md", "SECURITY.md", "LICENSE-MIT", "LICENSE-APACHE", "install.sh")
+FOLDERS = ("docs/", "examples/", "reference/", "embed/")
+LEFT_OUT = ("embed/page/", "embed/vamuretu-config", "reference/.")
+COMPILED = ["-std=c11", "-O2", "-fPIC", "-Wall", "-Wextra", "-Werror"]
+LINKED = ["-shared", "-s", "-Wl,--build-id=none", "-Wl,-z,relro,-z,now"]
+X86_64 = 62
+
+
+class Refused(Exception):
+    """Why there is no archive, in one line."""
+
+
+def run(*words, **how):
+    """What a command writes, whose failure refuses the archive."""
+    try:
+        ran = subprocess.run(words, capture_output=True, check=False, **how)
+    except OSError as why:
+        raise Refused(f"{words[0]} can't be run: {why.strerror}") from why
+    if ran.returncode:
+        said = ran.stderr.decode(errors="replace").strip().splitlines() or ["it says nothing"]
+        raise Refused(f"{words[0]} failed: {said[0][:300]}")
+    return ran.stdout.decode()
+
+
+def read(path):
+    with open(path, "rb") as file:
+        return file.read()
+
+
+def write(path, data):
+    os.makedirs(os.path.dirname(path), exist_ok=True)
+    with open(path, "wb") as file:
+        file.write(data)
+
+
+def commit():
+    """The commit that is checked out, and its date in seconds. Files that git knows may not differ from it."""
+    changed = run("git", "-C", TOP, "status", "--porcelain", "--untracked-files=no").splitlines()
+    if changed:
+        raise Refused(f"{len(changed)} files differ from the commit, the first of them {changed[0][3:]}: commit them first")
+    named, seconds = run("git", "-C", TOP, "log", "-1", "--format=%H %ct").split()
+    return named, int(os.environ.get("SOURCE_DATE_EPOCH") or seconds)
+
+
+def look_over():
+    """Refuses what is missing, or was not proved from the sources of the checkout. Returns what is there."""
+    there = [*BUILT, *(it for it in (LEVEL_3, PAGE) if os.path.exists(os.path.join(OUT, it[0])))]
+    for name, crate, _ in there:
+        wrong = proved.look(TOP, os.path.join(OUT, name), crate)
+        if wrong:
+            raise Refused(f"{wrong.replace(TOP + '/', '')}; ./test proves and builds all of it")
+    for name, crate, _ in there:
+        program = read(os.path.join(OUT, name)) if crate == "sm_tool" else b""
+        if program and (program[:4] != b"\x7fELF" or int.from_bytes(program[18:20], "little") != X86_64):
+            raise Refused(f"out/{name} is no program for x86-64")
+    return there
+
+
+def kept_files():
+    """The files of the repository that the archive has."""
+    names = run("git", "-C", TOP, "ls-files", "-z").split("\0")
+    found = [it for it in names if it in KEPT or it.startswith(FOLDERS) and not it.startswith(LEFT_OUT)]
+    lacking = sorted(set(KEPT) - set(found))
+    if lacking:
+        raise Refused(f"git has no {lacking[0]}")
+    return found
+
+
+def put_pages(tree):
+    """The manual pages."""
+    for name in sorted(os.listdir(os.path.join(TOP, "man"))):
+        section = name.rsplit(".", 1)[1]
+        write(f"{tree}/share/man/man{section}/{name}", read(os.path.join(TOP, "man", name)))
+
+
+def put_libraries(tree):
+    """The heap, and the shared libraries, each with its own heap and with the functions of its header alone to be seen."""
+    short = ".".join(version().split(".")[:2])
+    with tempfile.TemporaryDirectory() as scratch:
+        shutil.copy(os.path.join(TOP, "embed", "heap.c"), scratch)
+        run("cc", *COMPILED, "-c", "heap.c", "-o", "heap.o", cwd=scratch)
+        run("ar", "rcsD", "heap.a", "heap.o", cwd=scratch)
+        write(f"{tree}/lib/libsm_embed_heap.a", read(f"{scratch}/heap.a"))
+        write(f"{tree}/include/{SHARED}.h", read(os.path.join(TOP, "embed", f"{SHARED}.h")))
+        for name in HEADERS:
+            header = read(os.path.join(TOP, "embed", f"{name}.h"))
+            write(f"{tree}/include/{name}.h", header)
+            shared, seen = f"lib{name}.so.{version()}", "; ".join(FUNCTION.findall(header.decode()))
+            write(f"{scratch}/seen", f"{{ global: {seen}; local: *; }};\n".encode())
+            shutil.copy(f"{tree}/lib/lib{name}.a", f"{scratch}/whole.a")
+            soname = f"lib{name}.so.{short}"
+            whole = ["-Wl,--whole-archive", "whole.a", "-Wl,--no-whole-archive", "-Wl,--version-script=seen"]
+            run("cc", *LINKED, f"-Wl,-soname,{soname}", "heap.o", *whole, "-o", "shared", cwd=scratch)
+            write(f"{tree}/lib/{shared}", read(f"{scratch}/shared"))
+            os.symlink(shared, f"{tree}/lib/{soname}")
+            os.symlink(soname, f"{tree}/lib/lib{name}.so")
+
+
+def put_packages(tree):
+    """What CMake and pkg-config read, which name no folder but their own."""
+    puts = {"CMAKE_INSTALL_PREFIX": "${pcfiledir}/../..", "CMAKE_INSTALL_LIBDIR": "lib", "CMAKE_INSTALL_INCLUDEDIR": "include"}
+    puts |= {"PROJECT_VERSION": version(), "SHORT_VERSION": ".".join(version().split(".")[:2])}
+    filled = lambda name: re.sub("@([A-Z_]+)@", lambda it: puts[it[1]], read(os.path.join(TOP, "embed", name)).decode())
+    for name in HEADERS:
+        text = filled(f"{name}.pc.in")
+        write(f"{tree}/lib/pkgconfig/{name}.pc", text.encode())
+        shared = text.replace(f"Name: {name}", f"Name: {name}_shared").replace(f"-l:lib{name}.a -lsm_embed_heap", f"-l{name}")
+        write(f"{tree}/lib/pkgconfig/{name}_shared.pc", shared.encode())
+    config = read(os.path.join(TOP, "embed", "vamuretu-config.cmake"))
+    write(f"{tree}/lib/cmake/vamuretu/vamuretu-config.cmake", config)
+    of_version = filled("vamuretu-config-version.cmake.in")
+    write(f"{tree}/lib/cmake/vamuretu/vamuretu-config-version.cmake", of_version.encode())
+
+
+def glibc_of(tree):
+    """The oldest glibc that has all that the program and the shared libraries ask for."""
+    files = [f"{tree}/bin/sm_tool", *(f"{tree}/lib/lib{name}.so.{version()}" for name in HEADERS)]
+    asked = (it for file in files for it in re.findall(rb"GLIBC_(\d+)\.(\d+)", read(file)))
+    return ".".join(map(str, max((int(it[0]), int(it[1])) for it in asked)))
+
+
+def proved_text(tree, named, seconds, built):
+    """What PROVED says."""
+    told = {place: proved.kept(os.path.join(OUT, name)) for name, _, place in built}
+    kits = {it["kit"] for it in told.values()}
+    if len(kits) > 1:
+        raise Refused("what was built is of several kits")
+    lines = [f"vamuretu {version()} x86_64-linux", f"commit {named}"]
+    lines += [f"date {time.strftime('%Y-%m-%dT%H:%M:%SZ', time.gmtime(seconds))}", f"kit {kits.pop()}"]
+    lines += [f"glibc {glibc_of(tree)} or newer", f"unproved, made by {run('cc', '--version').splitlines()[0]}:"]
+    lines += ["  lib/libsm_embed_heap.a", *(f"  lib/lib{name}.so.{version()}" for name in HEADERS)]
+    for place, of in told.items():
+        lines += ["", place, f"  sha256 {of['digest']}", f"  sources {of['sources']}", f"  gate {of['gate']}"]
+    if PAGE in built:
+        lines += ["  unproved is the step that compiles it for the browser: docs/PAGE.md"]
+    lines += [line for it in (LEVEL_3, PAGE) if it not in built for line in ("", f"{it[2]} is not here: it was not made")]
+    return "\n".join(lines) + "\n"
+
+
+def make_tree(tree):
+    """Puts all that the archive has to a folder. Returns the date in seconds."""
+    named, seconds = commit()
+    built = look_over()
+    for name in kept_files():
+        write(f"{tree}/{name}", read(os.path.join(TOP, name)))
+    for name, _, place in built:
+        write(f"{tree}/{place}", read(os.path.join(OUT, name)))
+    put_pages(tree)
+    for name, text in completions.files().items():
+        write(f"{tree}/{name}", text.encode())
+    put_libraries(tree)
+    put_packages(tree)
+    write(f"{tree}/PROVED", proved_text(tree, named, seconds, built).encode())
+    os.symlink("bin/sm_tool", f"{tree}/sm_tool")
+    names = [name for name in names_of(tree) if not os.path.islink(f"{tree}/{name}")]
+    sums = (f"{hashlib.sha256(read(f'{tree}/{name}')).hexdigest()}  {name}\n" for name in names)
+    write(f"{tree}/SHA256SUMS", "".join(sums).encode())
+    for name in names_of(tree):
+        if not os.path.islink(f"{tree}/{name}"):
+            os.chmod(f"{tree}/{name}", 0o755 if runs(name, read(f"{tree}/{name}")) else 0o644)
+    return seconds
+
+
+def runs(name, data):
+    """Whether a file of the archive can be run."""
+    return name.startswith("bin/") or name == "install.sh" or data[:2] == b"#!" and name.startswith("examples/")
+
+
+def names_of(tree):
+    """All files and links of a folder, sorted by their bytes."""
+    found = []
+    for at, _, names in os.walk(tree):
+        found += [os.path.relpath(os.path.join(at, name), tree) for name in names]
+    return sorted(found, key=os.fsencode)
+
+
+def pack(tree, named, seconds):
+    """The bytes of the archive of a folder."""
+    packed = io.BytesIO()
+    with gzip.GzipFile(filename="", mode="wb", fileobj=packed, mtime=0, compresslevel=9) as zipped:
+        with tarfile.open(mode="w", fileobj=zipped, format=tarfile.GNU_FORMAT) as archive:
+            for name in names_of(tree):
+                it = archive.gettarinfo(f"{tree}/{name}", f"{named}/{name}")
+                it.uid = it.gid = 0
+                it.uname = it.gname = "root"
+                it.mtime = seconds
+                it.mode = 0o777 if it.issym() else it.mode & 0o777
+                archive.addfile(it, io.BytesIO(read(f"{tree}/{name}")) if it.isreg() else None)
+    return packed.getvalue()
+
+
+def make_archive(with_package):
+    """Makes the archive, and the package where it is wanted."""
+    named = f"vamuretu-{version()}-x86_64-linux"
+    with tempfile.TemporaryDirectory() as scratch:
+        tree = f"{scratch}/{named}"
+        seconds = make_tree(tree)
+        made = {f"{named}.tar.gz": pack(tree, named, seconds)}
+        if with_package:
+            made |= debian.package(tree, scratch, version(), seconds, run)
+    for name, data in made.items():
+        write(os.path.join(OUT, name), data)
+        print(f"{hashlib.sha256(data).hexdigest()}  out/{name}")
+
+
+def main():
+    words = sys.argv[1:]
+    try:
+        if words in ([], ["--deb"]):
+            make_archive(bool(words))
+        elif len(words) == 2 and words[0] == "--tree":
+            os.mkdir(words[1])
+            make_tree(words[1])
+        else:
+            return "usage: ./dist [--deb | --tree FOLDER]"
+    except (Refused, OSError) as why:
+        return f"dist: {why}"
+    return None
+
+
+if __name__ == "__main__":
+    sys.exit(main())

@@ -1,0 +1,106 @@
+#!/usr/bin/env python3
+"""Keeps beside what was built of what it was proved from, and says whether that is what the checkout has.
+
+    tools/proved.py keep TREE BUILT CRATE GATE    writes BUILT.proved: the digest of BUILT, the digest of the sources of
+                                                  CRATE in TREE, the kit, and GATE, the last line of the gate that proved it
+    tools/proved.py look TREE BUILT CRATE         says in one line what is wrong, with status 1, or nothing
+
+The sources of a crate are the folders src, specs and proofs of it and of all crates that it stands on, with their lines of
+crates.txt, and the file HANDLES. The scripts `prove` and `test` keep, and `dist` looks.
+"""
+import hashlib
+import os
+import subprocess
+import sys
+
+FOLDERS = ("src", "specs", "proofs")
+
+
+def read(path):
+    with open(path, "rb") as file:
+        return file.read()
+
+
+def digest(data):
+    return hashlib.sha256(data).hexdigest()
+
+
+def rows(tree):
+    """The libraries of each crate by crates.txt."""
+    found = {}
+    for line in read(os.path.join(tree, "crates.txt")).decode().splitlines():
+        head, colon, libraries = line.partition("#")[0].partition(":")
+        if colon and head.split():
+            found[head.split()[0]] = libraries.split()
+    return found
+
+
+def below(tree, crate):
+    """A crate and the crates of the repository that it stands on, sorted, each with all its libraries."""
+    uses, left, seen = rows(tree), [crate], set()
+    while left:
+        name = left.pop()
+        if name in uses and name not in seen:
+            seen.add(name)
+            left += uses[name]
+    return {name: uses[name] for name in sorted(seen)}
+
+
+def files_of(tree, crate):
+    """The source files of one crate by their paths in the tree."""
+    for folder in FOLDERS:
+        for at, folders, names in os.walk(os.path.join(tree, "crates", crate, folder)):
+            folders.sort()
+            yield from (os.path.relpath(os.path.join(at, name), tree) for name in names)
+
+
+def sources(tree, crate):
+    """The digest of the sources of a crate, or None where it is not there."""
+    crates = below(tree, crate)
+    paths = sorted(path for name in crates for path in files_of(tree, name))
+    if not paths:
+        return None
+    lines = [f"{name}: {' '.join(libraries)}" for name, libraries in crates.items()]
+    lines += [f"{digest(read(os.path.join(tree, path)))}  {path}" for path in [*paths, "HANDLES"]]
+    return digest("\n".join(lines).encode())
+
+
+def kept(built):
+    """What is kept beside a built file, by its names."""
+    with open(f"{built}.proved", encoding="utf-8") as file:
+        return dict(line.rstrip("\n").split(" ", 1) for line in file)
+
+
+def keep(tree, built, crate, gate):
+    """Writes what was proved."""
+    kit = subprocess.run(["rt", "version"], capture_output=True, text=True, check=True).stdout.strip()
+    lines = {"digest": digest(read(built)), "sources": sources(tree, crate), "kit": kit, "gate": gate}
+    with open(f"{built}.proved", "w", encoding="utf-8") as file:
+        file.write("".join(f"{name} {value}\n" for name, value in lines.items()))
+
+
+def look(tree, built, crate):
+    """What is wrong with a built file, in one line, or None."""
+    if not os.path.exists(built):
+        return f"{built} is not there"
+    if not os.path.exists(f"{built}.proved"):
+        return f"{built} is not known to be proved: {built}.proved is not there"
+    told = kept(built)
+    if told.get("digest") != digest(read(built)):
+        return f"{built} is not the file that was proved: its digest is another"
+    if told.get("sources") != sources(tree, crate):
+        return f"{built} was proved from other sources than those of the checkout"
+    return None
+
+
+def main():
+    if len(sys.argv) == 6 and sys.argv[1] == "keep":
+        keep(*sys.argv[2:])
+        return None
+    if len(sys.argv) == 5 and sys.argv[1] == "look":
+        return look(*sys.argv[2:])
+    return __doc__
+
+
+if __name__ == "__main__":
+    sys.exit(main())

@@ -1,0 +1,330 @@
+"""Generals as processes over UDP (embed/nodes/datagrams.c), by IPv4 and IPv6 of this machine, through a relay that loses.
+
+Each general has a folder of its own, as on a machine of its own, and its addresses are those of the relay. Of each piece of a
+frame the relay loses up to two of four sendings, and doubles, delays and so reorders the others. One clock is ahead, and one
+behind. Rubbish comes meanwhile: bent copies of what neighbours send, pieces of other rounds and runs, datagrams of nobody, and
+in the name of a general that never begins frames of each length. What is lost and bent follows from a seed and the bytes alone.
+Where the relay could not keep to its times, all run again. The logs and the bundle are those of the scenario, byte for byte.
+Where the relay cuts all links of one general, or one link, the audit finds the messages that were lost and nothing else, and
+agrees with an end of each link listed as faulty. Runs of sixteen go without the relay.
+
+The archive is that of nodes.py; without it, or without a compiler, nothing is tried, and a line says so.
+"""
+import hashlib
+import os
+import selectors
+import shutil
+import socket
+import tempfile
+import threading
+import time
+from typing import NamedTuple
+
+from embed import IsNotBuilt
+from processes import ARCHIVE, FOUR, SIXTEEN, System, TooBusy, Way, build_programs, made_bundle, make_header, run_id_of
+from processes import run_in_time, sanitized, try_system
+from programs import run
+from scenarios import everybody
+
+LOOPBACK = {socket.AF_INET: "127.0.0.1", socket.AF_INET6: "::1"}
+SEED = b"datagrams"
+# By docs/EMBED.md and datagrams.c: what stands before a piece, the most bytes of a datagram, and how often a piece is sent.
+FRONT, MOST, SENDINGS = 47, 1232, 4
+PIECE = MOST - FRONT
+MARK = b"SMD1"
+# One loyal commander, and a general that never begins.
+SILENT = System(4, 1, 2, {0: ["1"]}, {3: []}, silent=(3,))
+ALL = System(4, 1, 2, {0: ["1"]}, {})
+
+
+class Cut(NamedTuple):
+    """Links that are cut, whom each general hears then, what the audit finds, and with whom listed as faulty it agrees."""
+
+    links: list
+    heard: list
+    found: list
+    lists: list
+
+
+OF_ONE = Cut(
+    [{0, 3}, {1, 3}, {2, 3}],
+    ["heard 1,2", "heard 0,2", "heard 0,1", "heard nobody"],
+    [f"N8 from {it} to 3 round {1 + (it > 0)} order 1" for it in range(3)],
+    [3],
+)
+LINK = Cut(
+    [{0, 3}],
+    ["heard 1,2", "heard 0,2,3", "heard 0,1,3", "heard 1,2"],
+    ["N8 from 0 to 3 round 1 order 1"],
+    [0, 3],
+)
+
+
+def bound(family):
+    """A socket at a free port of this machine."""
+    made = socket.socket(family, socket.SOCK_DGRAM)
+    made.setsockopt(socket.SOL_SOCKET, socket.SO_RCVBUF, 1 << 22)
+    made.bind((LOOPBACK[family], 0))
+    return made
+
+
+def free_addresses(families):
+    """Addresses at which nobody is now, one of each of these families."""
+    made = [bound(family) for family in families]
+    names = [it.getsockname() for it in made]
+    for it in made:
+        it.close()
+    return names
+
+
+def front(mark, run_id, number, sender, receiver, length, place):
+    """What stands before a piece."""
+    return mark + run_id + bytes([number, sender, receiver]) + length.to_bytes(4, "big") + place.to_bytes(4, "big")
+
+
+def drawn(*parts):
+    """A number of 256 bits that follows from these bytes and the seed."""
+    return int.from_bytes(hashlib.sha256(b"|".join([SEED, *parts])).digest(), "big")
+
+
+def bent(data, chance):
+    """A datagram like this one that no general may take: a field of its front or its length is another, and so is its piece."""
+    number, sender, receiver = data[36:39]
+    length, place = int.from_bytes(data[39:43], "big"), int.from_bytes(data[43:47], "big")
+    piece, most = bytes(255 - byte for byte in data[FRONT:]), 2**32 - 1
+
+    def of(mark=MARK, run_id=data[4:36], at=(number, sender, receiver), length=length, place=place):
+        return front(mark, run_id, *at, length, place) + piece
+
+    ways = [of(mark=b"SMF1"), of(run_id=bytes(32)), of(run_id=data[4:35] + bytes([data[35] ^ 1]))]
+    ways += [of(at=it) for it in ((number + 1, sender, receiver), (number - 1, sender, receiver), (255, sender, receiver))]
+    ways += [of(at=it) for it in ((number, receiver, receiver), (number, sender, sender), (number, sender, 255))]
+    ways += [of(length=most), of(length=most, place=most), of(length=most - most % PIECE, place=most - most % PIECE - PIECE)]
+    ways += [of(place=length), of(place=place + 1), of(place=length + PIECE - length % PIECE), of(place=most - most % PIECE)]
+    whole = of()
+    lengths = [whole[:-1], whole[:FRONT], whole[: FRONT - 1], b"", MARK, whole + b"\0", whole + bytes(MOST), bytes(65_000)]
+    ways = lengths if chance % 2 else ways
+    return ways[chance // 2 % len(ways)]
+
+
+class Direct(Way):
+    """UDP from process to process, in one folder."""
+
+    ending, clock, length, before = "_udp", time.CLOCK_REALTIME, 1000, 400
+
+    def __init__(self, families):
+        self.families = families
+
+    def open(self, folder, system, length):
+        generals = [general for general in range(system.generals) for _ in self.families]
+        write_places(folder, zip(generals, free_addresses(self.families * system.generals)))
+        return [folder] * system.generals
+
+
+def write_places(folder, places):
+    """The file of addresses."""
+    with open(os.path.join(folder, "addresses"), "w", encoding="ascii") as text:
+        text.writelines(f"{general} {at[0]} {at[1]}\n" for general, at in places)
+
+
+class Relay(Way):
+    """UDP through a relay: each general has a folder of its own, and a socket of the relay in the place of each neighbour.
+
+    `families` has the families of each general's addresses; `is_cut` tells which links carry nothing."""
+
+    ending, clock, length, before = "_udp", time.CLOCK_REALTIME, 1500, 400
+
+    def __init__(self, families, is_cut=lambda sender, receiver: False):
+        self.families, self.is_cut = families, is_cut
+
+    def open(self, folder, system, length):
+        self.system, self.run_id = system, run_id_of(folder)
+        self.longest_wait, self.longest_step, self.is_late = length / 20_000, length / 25_000, False
+        self.own = [dict(zip(it, free_addresses(it))) for it in self.families]
+        self.doors, self.waiting, self.times = {}, [], {}
+        for a, b in everybody(system.generals):
+            both = set(self.families[a]) & set(self.families[b])
+            family = max(both, key=lambda it: it == socket.AF_INET6)
+            self.doors |= {(a, b): bound(family), (b, a): bound(family)}
+        self.strays = {family: bound(family) for family in LOOPBACK}
+        folders = [self.folder_of(folder, general) for general in range(system.generals)]
+        self.ends = threading.Event()
+        self.thread = threading.Thread(target=self.carry)
+        self.thread.start()
+        return folders
+
+    def folder_of(self, folder, general):
+        """The folder of a general, with the header, its own seed alone, and the addresses."""
+        made = os.path.join(folder, f"of{general}")
+        os.mkdir(made)
+        for name in ("header", f"{general}.seed"):
+            shutil.copy(os.path.join(folder, name), made)
+        places = [(general, at) for at in self.own[general].values()]
+        write_places(made, places + [(b, door.getsockname()) for (a, b), door in self.doors.items() if a == general])
+        return made
+
+    def ahead(self, general):
+        """One clock is ahead by a fourteenth of a round, and one behind."""
+        return (0, 0.07, -0.07, 0)[general % 4]
+
+    def was_late(self):
+        return self.is_late
+
+    def carry(self):
+        """Carries datagrams until it is told to end."""
+        asked = selectors.DefaultSelector()
+        for (sender, receiver), door in self.doors.items():
+            door.setblocking(False)
+            asked.register(door, selectors.EVENT_READ, (sender, receiver))
+        last = time.monotonic()
+        while not self.ends.is_set():
+            for key, _ in asked.select(0.002):
+                self.take(key.fileobj, *key.data)
+            now = time.monotonic()
+            self.hand_out(now)
+            self.is_late |= now - last > self.longest_step
+            last = now
+        asked.close()
+
+    def take(self, door, sender, receiver):
+        """Takes what has come from a general for another one, and draws what becomes of it."""
+        for _ in range(100):
+            try:
+                data, at = door.recvfrom(1 << 16)
+            except BlockingIOError:
+                return
+            if at[:2] in [own[:2] for own in self.own[sender].values()] and not self.is_cut(sender, receiver):
+                self.draw(data, sender, receiver)
+
+    def draw(self, data, sender, receiver):
+        """Loses a datagram, or has it wait, perhaps twice, perhaps with rubbish. Half of all sendings go through."""
+        key = (sender, receiver, data)
+        count, gone = self.times.get(key, (0, 0))
+        chance = drawn(bytes([sender, receiver, count]), data)
+        is_lost = chance % 100 < 40 and gone < SENDINGS // 2
+        self.times[key] = (count + 1, gone + is_lost)
+        copies = 0 if is_lost else 2 if chance // 100 % 8 == 0 else 1
+        waits = [chance // 1000 % 997 / 997, chance // 10**6 % 997 / 997]
+        for wait in waits[:copies]:
+            self.put(wait, data, sender, receiver)
+        if chance // 10**9 % 3 == 0:
+            self.put(0, bent(data, chance // 10**10), sender, receiver)
+        if chance // 10**12 % 6 == 0:
+            self.put(0, data[:FRONT] + bytes(len(data) - FRONT), None, receiver)
+        for silent in set(self.system.silent) - {receiver}:
+            self.put(waits[1], self.rubbish(chance // 10**14, silent, receiver), silent, receiver)
+
+    def put(self, wait, data, sender, receiver):
+        """Has a datagram wait for a part of the longest wait."""
+        self.waiting.append((time.monotonic() + wait * self.longest_wait, data, sender, receiver))
+
+    def rubbish(self, chance, sender, receiver):
+        """What a faulty general may send: pieces of its frames, of each length, whole ones too."""
+        length = (chance % 90, 41, PIECE, PIECE + 1, 30_000, 33_000)[chance // 100 % 6]
+        place = chance // 1000 % max(1, -(-length // PIECE)) * PIECE
+        data = (b"SMF1" if chance % 7 else b"SMF2") + self.run_id + bytes([1 + chance % 2, sender, receiver])
+        data += b"\xff" * length
+        given = front(MARK, self.run_id, 1 + chance % 2, sender, receiver, length, place)
+        return given + data[place : min(place + PIECE, length)]
+
+    def hand_out(self, now):
+        """Sends what has waited. What comes back of a socket that is gone is nobody's."""
+        due = [it for it in self.waiting if it[0] <= now]
+        self.waiting = [it for it in self.waiting if it[0] > now]
+        for _, data, sender, receiver in sorted(due, key=lambda it: it[0]):
+            family = self.families[receiver][0] if sender is None else self.doors[receiver, sender].family
+            door = self.strays[family] if sender is None else self.doors[receiver, sender]
+            try:
+                door.sendto(data, self.own[receiver][family])
+            except OSError:
+                continue
+
+    def close(self):
+        self.ends.set()
+        self.thread.join()
+        for made in [*self.doors.values(), *self.strays.values()]:
+            made.close()
+
+
+def cut_wrong(program, made, folder, cut):
+    """None where the audit finds the messages of the links that are cut and nothing else, and agrees with each of the lists."""
+    way = Relay([(socket.AF_INET,)] * 4, lambda sender, receiver: {sender, receiver} in cut.links)
+    of_run, statuses, lines = run_in_time(made, way, folder, ALL)
+    heard = [sorted({line for line in said.splitlines() if line.startswith("heard")}) for said in lines]
+    if any(statuses) or heard != [[line] for line in cut.heard]:
+        return f"the processes ended with {statuses}: {lines}"
+    verdict = run(program, ["audit"], made_bundle(made, of_run, 0, range(4)))
+    found = [line for line in verdict.wrote.decode().splitlines() if line.startswith("N")]
+    if verdict.status != 1 or found != cut.found or b"convicted" in verdict.wrote:
+        return f"the verdict is {verdict}"
+    for listed in cut.lists:
+        generals = [general for general in range(4) if general != listed]
+        verdict = run(program, ["audit"], made_bundle(made, of_run, 1 << listed, generals))
+        if verdict.status or b"verdict agreed 1\n" not in verdict.wrote:
+            return f"with {listed} the verdict is {verdict}"
+    return None
+
+
+def words_wrong(made, folder):
+    """None where wrong files of addresses are refused, with a word about the line."""
+    cases = ["", "0 127.0.0.1\n", "0 localhost 4000\n", "x 127.0.0.1 4000\n", "16 127.0.0.1 4000\n", "0 127.0.0.1 4000"]
+    cases += ["0 127.0.0.1 4000 x\n", "0 127.0.0.1 4000\n0 127.0.0.2 4000\n", "0 127.0.0.1 4000\n1 127.0.0.1 4000\n"]
+    cases += ["0 127.0.0.1 65536\n", "0 127.0.0.1 4000\n1 ::1 4000\n", f"0 {'1' * 130} 4000\n"]
+    cases += ["0 192.0.2.1 4000\n1 192.0.2.2 4000\n2 192.0.2.3 4000\n3 192.0.2.4 4000\n"]
+    for at, text in enumerate(cases):
+        of_case = os.path.join(folder, f"w{at}")
+        shutil.copytree(os.path.join(folder, "words"), of_case)
+        with open(os.path.join(of_case, "addresses"), "w", encoding="ascii") as kept:
+            kept.write(text)
+        program, *words = made["general_udp"]
+        end = run(program, [*words, of_case, "0", "9", "1"])
+        if end.status != 1 or end.wrote or not end.said:
+            return f"{text!r}: {end}"
+    return None
+
+
+def try_built(program, tally, folder):
+    """All trials over the archive."""
+    made, runs = build_programs(folder), os.path.join(folder, "r")
+    os.mkdir(runs)
+    v4, v6 = socket.AF_INET, socket.AF_INET6
+    mixed = [(v4, v6), (v4,), (v6, v4), (v4,)]
+    for name, families in (("IPv4", [(v4,)] * 4), ("IPv6", [(v6,)] * 4), ("both", mixed)):
+        try_system(tally, f"four processes, {name}", program, made, Relay(families), runs, FOUR)
+    try_system(tally, "four processes, sanitized", program, sanitized(made), Relay(mixed), runs, FOUR)
+    try_system(tally, "rubbish, sanitized", program, sanitized(made), Relay(mixed), runs, SILENT)
+    try_system(tally, "slot 2", program, made, Relay(mixed), runs, FOUR._replace(slot=2))
+    for name, families in (("IPv4", (v4,)), ("IPv6", (v6,))):
+        try_system(tally, f"sixteen processes, {name}", program, made, Direct(families), runs, SIXTEEN)
+    for name, cut in (("all links of one are cut", OF_ONE), ("a link is cut", LINK)):
+        try:
+            tally.hold(name, cut_wrong(program, made, runs, cut))
+        except TooBusy:
+            tally.note(f"left out: {name}, since no run kept to the clock")
+    os.mkdir(os.path.join(folder, "words"))
+    make_header(made, os.path.join(folder, "words"), FOUR)
+    tally.hold("wrong addresses", words_wrong(made, folder))
+    tally.count(30)
+
+
+def has_families():
+    """Whether this machine has both families of addresses."""
+    try:
+        free_addresses(LOOPBACK)
+    except OSError:
+        return False
+    return True
+
+
+def trials(program, tally):
+    if not os.path.exists(ARCHIVE) or not shutil.which("cc"):
+        tally.note("left out: cc or crates/sm_node/out/libsm_node.a is not there")
+        return
+    if not has_families():
+        tally.note("left out: this machine has no address 127.0.0.1 or no ::1")
+        return
+    with tempfile.TemporaryDirectory(dir="/tmp") as folder:
+        try:
+            try_built(program, tally, folder)
+        except IsNotBuilt as told:
+            tally.fail(str(told))

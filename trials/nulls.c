@@ -1,0 +1,121 @@
+/* What the headers of both libraries say of null pointers, versions and texts. The status is 0 if all of it is so. Else a
+   line tells the first place that is not. trials/nodes.py builds it over both archives. */
+#include "sm_embed.h"
+#include "sm_node.h"
+#include <stdio.h>
+#include <string.h>
+
+#define WANT(is)                                                                                                       \
+    do {                                                                                                               \
+        if (!(is)) {                                                                                                   \
+            printf("line %d: %s\n", __LINE__, #is);                                                                    \
+            return 1;                                                                                                  \
+        }                                                                                                              \
+    } while (0)
+
+/* Whether a room begins with a line, whose length was told. */
+static int is_line(const uint8_t *room, size_t count, const char *line) {
+    return count == strlen(line) && memcmp(room, line, count) == 0;
+}
+
+/* The jobs take no bytes at null, and no bytes at null that there are. */
+static int jobs(void) {
+    uint8_t room[200] = {0};
+    size_t count = 77;
+    WANT(sm_audit(NULL, 0, room, sizeof room, &count) == SM_FAULT && is_line(room, count, "fault B1"));
+    WANT(sm_audit(NULL, 0, NULL, 0, &count) == SM_LENGTH && count == 8);
+    WANT(sm_audit(NULL, 1, room, sizeof room, &count) == SM_MISUSE && count == 0);
+    WANT(sm_audit(room, 0, NULL, 1, &count) == SM_MISUSE && count == 0);
+    WANT(sm_draw(NULL, 0, room, sizeof room, &count) == SM_FAULT && is_line(room, count, "fault B1"));
+    WANT(sm_draw(NULL, 1, room, sizeof room, &count) == SM_MISUSE && count == 0);
+    WANT(sm_evidence(NULL, 0, room, sizeof room, &count) == SM_FAULT && is_line(room, count, "fault V1"));
+    WANT(sm_evidence(NULL, 1, room, sizeof room, &count) == SM_MISUSE && count == 0);
+    WANT(sm_decide(NULL, 0, room, sizeof room, &count) == SM_FAULT && is_line(room, count, "fault P1 line 1"));
+    WANT(sm_decide(NULL, 1, room, sizeof room, &count) == SM_MISUSE && count == 0);
+    WANT(sm_accuse(0, NULL, 0, NULL, 0, &count) == SM_LENGTH && count == 8);
+    WANT(sm_accuse(16, NULL, 0, NULL, 0, &count) == SM_MISUSE && count == 0);
+    WANT(sm_accuse(0, NULL, 1, room, sizeof room, &count) == SM_MISUSE && count == 0);
+    WANT(sm_accuse_known(0, NULL, 0, room, sizeof room, &count) == SM_FAULT && is_line(room, count, "fault B1"));
+    WANT(sm_accuse_known(16, NULL, 0, NULL, 0, &count) == SM_MISUSE && count == 0);
+    WANT(sm_accuse_known(0, room, 1, NULL, 1, &count) == SM_MISUSE && count == 0);
+    WANT(sm_refute(NULL, 0, NULL, 0, room, sizeof room, &count) == SM_FAULT && is_line(room, count, "fault V1"));
+    WANT(sm_refute(NULL, 1, NULL, 0, room, sizeof room, &count) == SM_MISUSE && count == 0);
+    WANT(sm_refute(NULL, 0, NULL, 1, room, sizeof room, &count) == SM_MISUSE && count == 0);
+    WANT(sm_refute(NULL, 0, NULL, 0, NULL, 1, &count) == SM_MISUSE && count == 0);
+    return 0;
+}
+
+/* So do the calls for answers, which then hold nothing. */
+static int answers(void) {
+    uint8_t room[200] = {0};
+    size_t count = 77;
+    sm_answer answer = {0};
+    WANT(sm_run_id(NULL, 0, room, sizeof room, &count) == SM_FAULT && count == 0);
+    WANT(sm_run_id(NULL, 1, room, sizeof room, &count) == SM_MISUSE && count == 0);
+    WANT(sm_audit_of(NULL, 0, 0, NULL, 0, &answer) == SM_FAULT && answer.at != NULL);
+    WANT(sm_answer_text(&answer, room, sizeof room, &count) == SM_OK && is_line(room, count, "fault B1"));
+    WANT(sm_answer_text(&answer, NULL, 0, &count) == SM_LENGTH && count == 8);
+    WANT(sm_answer_text(&answer, NULL, 1, &count) == SM_MISUSE && count == 0 && answer.at != NULL);
+    WANT(sm_audit_of(NULL, 1, 0, NULL, 0, &answer) == SM_MISUSE && answer.at == NULL);
+    WANT(sm_audit_of(NULL, 0, 0, NULL, 1, &answer) == SM_MISUSE && answer.at == NULL);
+    WANT(sm_draw_of(NULL, 0, NULL, 0, &answer) == SM_FAULT && answer.at != NULL);
+    WANT(sm_draw_of(NULL, 1, NULL, 0, &answer) == SM_MISUSE && answer.at == NULL);
+    WANT(sm_evidence_of(NULL, 0, NULL, 0, &answer) == SM_FAULT && answer.at != NULL);
+    WANT(sm_evidence_of(NULL, 0, NULL, 1, &answer) == SM_MISUSE && answer.at == NULL);
+    WANT(sm_accuse_of(NULL, 0, 0, NULL, 0, &answer) == SM_FAULT && answer.at != NULL);
+    WANT(sm_accuse_of(NULL, 0, 16, NULL, 0, &answer) == SM_MISUSE && answer.at == NULL);
+    WANT(sm_show(NULL, 0, &answer) == SM_NO && answer.at != NULL);
+    WANT(sm_show(NULL, 1, &answer) == SM_MISUSE && answer.at == NULL);
+    WANT(sm_explain(NULL, 0, &answer) == SM_NO && answer.at != NULL);
+    WANT(sm_answer_text(&answer, NULL, 0, &count) == SM_OK && count == 0);
+    WANT(sm_words(NULL, 0, &answer) == SM_OK && answer.at != NULL);
+    sm_answer_free(&answer);
+    WANT(sm_answer_text(&answer, room, sizeof room, &count) == SM_MISUSE && count == 0 && answer.at == NULL);
+    return 0;
+}
+
+/* So do the calls on headers, nodes and bundles. */
+static int nodes(void) {
+    const uint8_t seed[SM_SEED_BYTES] = {0};
+    const sm_numbers numbers = {1, 0, 2, 0, 1, 2, 0};
+    sm_numbers told = numbers;
+    sm_node node = {0};
+    uint32_t fault = 77, number = 77;
+    size_t count = 77;
+    WANT(sm_header(&numbers, NULL, 0, NULL, 0, NULL, 0, &count, &fault) == SM_FAULT && fault == SM_H8 && count == 0);
+    WANT(sm_header(&numbers, NULL, 1, NULL, 0, NULL, 0, &count, &fault) == SM_MISUSE && fault == 0);
+    WANT(sm_header(&numbers, NULL, 0, NULL, 1, NULL, 0, &count, &fault) == SM_MISUSE && fault == 0);
+    WANT(sm_header(&numbers, NULL, 0, NULL, 0, NULL, 1, &count, &fault) == SM_MISUSE && fault == 0);
+    WANT(sm_node_new(&node, NULL, 0, 0, seed, 1, &fault) == SM_FAULT && fault == SM_H9);
+    WANT(sm_node_new(&node, NULL, 1, 0, seed, 1, &fault) == SM_MISUSE && fault == 0);
+    WANT(sm_node_send(&node, 1, NULL, 0, &count) == SM_MISUSE && count == 0);
+    WANT(sm_node_hear(&node, 1, NULL, 0, &fault) == SM_MISUSE && fault == 0);
+    WANT(sm_node_log(&node, NULL, 0, &count) == SM_MISUSE && count == 0);
+    WANT(sm_node_round(&node, &number) == SM_MISUSE && number == 0);
+    WANT(sm_node_awaits(&node, 1, &number) == SM_MISUSE && number == 0);
+    WANT(sm_bundle(NULL, 0, 0, NULL, 0, NULL, 0, NULL, 0, &count, &fault) == SM_FAULT && fault == SM_H9);
+    WANT(sm_bundle(NULL, 0, 0, NULL, 1, NULL, 0, NULL, 0, &count, &fault) == SM_MISUSE && fault == 0);
+    WANT(sm_bundle(NULL, 0, 0, NULL, 0, NULL, 1, NULL, 0, &count, &fault) == SM_MISUSE && fault == 0);
+    WANT(sm_bundle_parted(NULL, 0, 0, NULL, 0, NULL, 0, NULL, 0, &count, &fault) == SM_FAULT && fault == SM_H9);
+    WANT(sm_bundle_parted(NULL, 1, 0, NULL, 0, NULL, 0, NULL, 0, &count, &fault) == SM_MISUSE && fault == 0);
+    WANT(sm_header_numbers(NULL, 0, &told, &fault) == SM_FAULT && fault == SM_H9 && told.orders == 2);
+    WANT(sm_header_numbers(NULL, 1, &told, &fault) == SM_MISUSE && fault == 0 && told.orders == 2);
+    WANT(sm_rounds(NULL, 0, &number, &fault) == SM_FAULT && fault == SM_H9 && number == 0);
+    WANT(sm_rounds(NULL, 1, &number, &fault) == SM_MISUSE && fault == 0);
+    WANT(sm_neighbours(NULL, 0, 0, &number, &fault) == SM_FAULT && fault == SM_H9 && number == 0);
+    WANT(sm_neighbours(NULL, 1, 0, &number, &fault) == SM_MISUSE && fault == 0);
+    WANT(sm_frame_most(NULL, 0, &count, &fault) == SM_FAULT && fault == SM_H9 && count == 0);
+    WANT(sm_frame_most(NULL, 1, &count, &fault) == SM_MISUSE && fault == 0);
+    return 0;
+}
+
+/* Both archives are of the headers' version, and each number has a text. */
+static int texts(void) {
+    WANT(sm_version() == SM_VERSION_NUMBER && sm_node_version() == SM_VERSION_NUMBER);
+    for (uint32_t number = 0; number < 60; number++) WANT(*sm_fault_text(number) && *sm_status_text(number));
+    WANT(strcmp(sm_status_text(SM_YES), sm_status_text(SM_DONE)) == 0 && SM_SHORT == SM_LENGTH);
+    WANT(SM_GENERAL == SM_MISUSE && SM_BAD == SM_FAULT && SM_REFUSED == SM_MEMORY);
+    return 0;
+}
+
+int main(void) { return jobs() || answers() || nodes() || texts(); }

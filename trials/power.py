@@ -1,0 +1,301 @@
+"""A node's process that is killed at each point of its life, and the power that fails there: no node signs a second time.
+
+The process is a commander of embed/nodes/, over Unix sockets and over UDP. It is killed (SIGKILL, by dying.c) before, within and
+behind each call that writes to the disk, waits for the disk, renames, binds or sends. Then the disk is one of three: all is there
+that was written; nothing is there that no fsync waited for; or names are there, and no content that no fsync waited for. On each
+disk the general is started once more, with another order. Either it is refused, or the first process had not said that it is
+ready, and had sent nothing. What both processes sent together has one frame for each round and neighbour. The programs that make
+seeds and headers are killed so too: no seed is replaced, and no header is half of one.
+
+The archive is that of nodes.py; without it, or without a compiler, nothing is tried, and a line says so.
+"""
+import os
+import shutil
+import signal
+import socket
+import subprocess
+import tempfile
+import time
+from typing import NamedTuple
+
+from datagrams import FRONT, free_addresses, write_places
+from embed import WARNINGS, IsNotBuilt, TOP, do
+from processes import ARCHIVE, LATE, MOST_TRIES, System, build_programs, make_header
+from programs import run, side_by_side
+
+# Four generals, of whom the commander alone is a process.
+FOUR = System(4, 2, 3, {}, {})
+# The length of a round at first, in milliseconds. Where a process is late, it is made again with rounds twice as long.
+ROUND = 100
+DISKS = ["all is there", "nothing that was not waited for", "names alone"]
+LOG, NEW = "0.log", "0.log.new"
+
+
+class Life(NamedTuple):
+    """One process: how it ended, what it said, its calls, and what it sent, by round and receiver."""
+
+    status: int
+    said: str
+    calls: list
+    sent: set
+
+
+class Unix:
+    """The sockets of the neighbours, in the folder."""
+
+    program, clock = "general", time.CLOCK_MONOTONIC
+
+    def __init__(self, folder):
+        self.sockets = [socket.socket(socket.AF_UNIX, socket.SOCK_DGRAM) for _ in range(3)]
+        for number, made in enumerate(self.sockets, 1):
+            made.bind(os.path.join(folder, str(number)))
+
+    def frame_of(self, data):
+        """What a datagram has of a frame."""
+        return data[36], data[38], data
+
+    def sent(self):
+        """What has come."""
+        came = set()
+        for made in self.sockets:
+            made.setblocking(False)
+            try:
+                while True:
+                    came.add(self.frame_of(made.recv(1 << 17)))
+            except BlockingIOError:
+                continue
+        return came
+
+    def close(self):
+        for made in self.sockets:
+            made.close()
+
+
+class Udp(Unix):
+    """Their sockets at addresses of this machine. A frame is known by its first pieces, each by its place."""
+
+    program, clock = "general_udp", time.CLOCK_REALTIME
+
+    def __init__(self, folder):
+        self.sockets = [socket.socket(socket.AF_INET6, socket.SOCK_DGRAM) for _ in range(3)]
+        for made in self.sockets:
+            made.bind(("::1", 0))
+            made.setsockopt(socket.SOL_SOCKET, socket.SO_RCVBUF, 1 << 22)
+        own = free_addresses([socket.AF_INET6])
+        write_places(folder, enumerate([*own, *(made.getsockname() for made in self.sockets)]))
+
+    def frame_of(self, data):
+        return data[36], (data[38], data[43:FRONT]), data
+
+
+def live(made, killer, way, folder, order, point, length):
+    """A process of the commander with an order, which is killed at a point, and the neighbours that listen to it."""
+    calls, ear = os.path.join(folder, "calls"), way(folder)
+    given = {**os.environ, "LD_PRELOAD": killer, "CALLS_TO": calls}
+    if point:
+        given |= {"DIE_AT": str(point[0]), "DIE": point[1]}
+    words, pipe = [made[way.program][-1], folder, "0", str(length), order], subprocess.PIPE
+    try:
+        with subprocess.Popen(words, stdin=pipe, stdout=pipe, stderr=subprocess.STDOUT, text=True, env=given) as process:
+            said = process.stdout.readline()
+            if said == "ready\n":
+                said += process.communicate(f"{int(time.clock_gettime(way.clock) * 1000) + 50}\n")[0]
+            else:
+                said += process.communicate()[0]
+        sent = ear.sent()
+    finally:
+        ear.close()
+    lines = open(calls, encoding="ascii").read().splitlines() if os.path.exists(calls) else []
+    return Life(process.returncode, said, [line.split() for line in lines], sent)
+
+
+def live_in_time(made, killer, way, make_folder, order, point=None):
+    """A process in a folder that is made for it, anew with longer rounds where it was late."""
+    for tried in range(MOST_TRIES):
+        life = live(made, killer, way, make_folder(), order, point, ROUND << tried)
+        if life.status != LATE and "in use" not in life.said:
+            break
+    return life
+
+
+def copied(base, folder):
+    """A copy of a folder, in the place of one that is there."""
+    shutil.rmtree(folder, ignore_errors=True)
+    return shutil.copytree(base, folder)
+
+
+class File:
+    """A file: how many bytes were written, and of how many the disk has waited for."""
+
+    def __init__(self):
+        self.written, self.kept = 0, 0
+
+
+def replayed(calls):
+    """The names with their files as they are seen, and as the disk has them for sure."""
+    seen, kept = {}, {}
+    for call, *words in calls:
+        if call == "open":
+            seen.setdefault(words[0], File()).written = 0
+        elif call == "write":
+            seen[words[0]].written += int(words[1])
+        elif call == "rename":
+            seen[words[1]] = seen.pop(words[0])
+        elif call == "unlink":
+            seen.pop(words[0], None)
+        elif call == "fsync" and words[0] == ".":
+            kept = dict(seen)
+        elif call == "fsync":
+            seen[words[0]].kept = seen[words[0]].written
+    return seen, kept
+
+
+def fail_power(folder, base, calls, disk):
+    """Leaves of the files of a process what is on a disk. What the base has was on the disk before."""
+    if disk == 0:
+        return
+    seen, kept = replayed(calls)
+    content = {id(it): open(os.path.join(folder, name), "rb").read() for name, it in seen.items()}
+    for name in seen:
+        os.remove(os.path.join(folder, name))
+        if os.path.exists(os.path.join(base, name)):
+            shutil.copy(os.path.join(base, name), folder)
+    for name, it in (kept if disk == 1 else seen).items():
+        with open(os.open(os.path.join(folder, name), os.O_CREAT | os.O_TRUNC | os.O_WRONLY, 0o600), "wb") as file:
+            file.write(content.get(id(it), b"")[: it.kept])
+
+
+def on_disk(folder, base, calls, disk):
+    """A folder with what is on a disk behind a process in a folder. Of sockets nothing is left where power failed."""
+    made = f"{folder}.{disk}"
+    shutil.rmtree(made, ignore_errors=True)
+    shutil.copytree(folder, made, ignore=shutil.ignore_patterns("calls", *"0123"))
+    if disk == 0 and os.path.exists(os.path.join(folder, "0")):
+        with socket.socket(socket.AF_UNIX, socket.SOCK_DGRAM) as left:
+            left.bind(os.path.join(made, "0"))
+    fail_power(made, base, calls, disk)
+    return made
+
+
+def again_wrong(made, killer, way, base, folder, first, disk):
+    """None where the second process of a general is refused, or the first one had neither sent nor been ready."""
+    is_there = os.path.exists(os.path.join(on_disk(folder, base, first.calls, disk), LOG))
+    second = live_in_time(made, killer, way, lambda: on_disk(folder, base, first.calls, disk), "2")
+    if is_there:
+        is_right = second.status == 1 and LOG in second.said and not second.sent
+    else:
+        is_right = "ready" not in first.said and not first.sent and ["send"] not in first.calls and second.sent
+    texts = {}
+    for number, receiver, data in first.sent | second.sent:
+        texts.setdefault((number, receiver), set()).add(data)
+    if not is_right or max(map(len, texts.values()), default=1) > 1:
+        return f"{first.status} {first.said!r} behind {first.calls}, and then {second.status} {second.said!r}"
+    return None
+
+
+def points_of(calls):
+    """The numbers of the calls at which a process is killed, each with how; of the calls that send the first two, two in the
+    middle, and the last."""
+    sends = [at for at, call in enumerate(calls, 1) if call == ["send"]]
+    kept = {*sends[:2], *sends[len(sends) // 2 : len(sends) // 2 + 2], *sends[-1:]}
+    numbers = [at for at, call in enumerate(calls, 1) if call != ["send"] or at in kept]
+    return [(at, how) for at in numbers for how in ("before", "after", *(["within"] if calls[at - 1][0] == "write" else []))]
+
+
+def lives_wrong(made, killer, way, folder):
+    """None where no point of a general's life lets it sign twice."""
+    base = os.path.join(folder, "base")
+    os.mkdir(base)
+    make_header(made, base, FOUR)
+    whole = live_in_time(made, killer, way, lambda: copied(base, os.path.join(folder, "whole")), "1")
+    if whole.status != 0 or len(whole.sent) < 9 or ["rename", NEW, LOG] not in whole.calls:
+        return f"a whole life: {whole.status} {whole.said!r}, {whole.calls}", 0
+
+    def point_wrong(point):
+        of_point = os.path.join(folder, f"{point[0]}{point[1]}")
+        life = live_in_time(made, killer, way, lambda: copied(base, of_point), "1", point)
+        if life.status != -signal.SIGKILL:
+            return f"{point}: it ended with {life.status}, {life.said!r}"
+        wrongs = [again_wrong(made, killer, way, base, of_point, life, disk) for disk in range(len(DISKS))]
+        return next((f"{point}, {DISKS[disk]}: {wrong}" for disk, wrong in enumerate(wrongs) if wrong), None)
+
+    points = points_of(whole.calls)
+    return next(filter(None, side_by_side(point_wrong, points)), None), len(points)
+
+
+def killed(killer, words, folder, point):
+    """A program that is killed at a point: its status, and its calls."""
+    calls = os.path.join(folder, "calls")
+    given = {**os.environ, "LD_PRELOAD": killer, "CALLS_TO": calls, "DIE_AT": str(point[0]), "DIE": point[1]}
+    end = run(words[0], words[1:], env=given)
+    lines = open(calls, encoding="ascii").read().splitlines() if os.path.exists(calls) else []
+    return end.status, [line.split() for line in lines]
+
+
+def files_wrong(made, killer, folder):
+    """None where keygen and header leave, wherever they are killed, what is whole or what is refused."""
+    base = os.path.join(folder, "base")
+    os.mkdir(base)
+    make_header(made, base, FOUR)
+    roots = [do([*made["header"], "root", base, str(it), "1"]).strip() for it in range(4)]
+    header = [made["header"][-1], "make", None, "1", "0", "4", "2", "1", "3", "0", "0-1,0-2,0-3,1-2,1-3,2-3", *roots]
+    old = open(os.path.join(base, "header"), "rb").read()
+    for kind, words in (("seed", [made["keygen"][-1], None, "5"]), ("header", header)):
+        for at in range(1, 8):
+            for how in ("before", "within", "after"):
+                wrong = file_wrong(made, killer, base, os.path.join(folder, f"{kind}{at}{how}"), kind, words, (at, how), old)
+                if wrong:
+                    return f"{kind}, {(at, how)}: {wrong}"
+    return None
+
+
+def file_wrong(made, killer, base, folder, kind, words, point, old):
+    """None where a seed or a header is as it has to be behind a program that was killed, on each disk."""
+    shutil.copytree(base, folder)
+    status, calls = killed(killer, [folder if it is None else it for it in words], folder, point)
+    if status not in (0, -signal.SIGKILL):
+        return f"status {status}"
+    for disk in range(len(DISKS)):
+        other = on_disk(folder, base, calls, disk)
+        if kind == "header":
+            if open(os.path.join(other, "header"), "rb").read() != old:
+                return f"{DISKS[disk]}: another header"
+            continue
+        path = os.path.join(other, "5.seed")
+        before = open(path, "rb").read() if os.path.exists(path) else None
+        again = run(words[0], [other, "5"])
+        root = run(made["header"][-1], ["root", other, "5", "1"])
+        after = open(path, "rb").read()
+        if before is not None and (after != before or again.status != 1):
+            return f"{DISKS[disk]}: a seed is replaced"
+        if (len(after) == 32) != (root.status == 0):
+            return f"{DISKS[disk]}: {len(after)} bytes of a seed, and {root}"
+    return None
+
+
+def try_built(tally, folder):
+    """All trials over the archive."""
+    made, killer = build_programs(folder), os.path.join(folder, "dying.so")
+    dying = os.path.join(TOP, "trials", "dying.c")
+    do(["cc", "-std=c11", "-O2", *WARNINGS, "-fPIC", "-shared", dying, "-o", killer, "-ldl"])
+    for name, way in (("sockets", Unix), ("UDP", Udp)):
+        of_way = os.path.join(folder, way.program)
+        os.mkdir(of_way)
+        wrong, points = lives_wrong(made, killer, way, of_way)
+        tally.hold(f"each point of a life, {name}", wrong)
+        tally.count(points * (1 + len(DISKS)))
+    of_files = os.path.join(folder, "files")
+    os.mkdir(of_files)
+    tally.hold("seeds and headers", files_wrong(made, killer, of_files))
+
+
+def trials(program, tally):
+    if not os.path.exists(ARCHIVE) or not shutil.which("cc"):
+        tally.note("left out: cc or crates/sm_node/out/libsm_node.a is not there")
+        return
+    # A socket's address is short, so the folder has to be.
+    with tempfile.TemporaryDirectory(dir="/tmp") as folder:
+        try:
+            try_built(tally, folder)
+        except IsNotBuilt as told:
+            tally.fail(str(told))

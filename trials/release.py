@@ -1,0 +1,375 @@
+"""The archive of a release: made twice, installed, used, and taken away.
+
+A repository is made of these sources, with the built program and libraries in out/ as ./test leaves them. Of it two clones are
+made, in which ./dist runs with other masks, time zones and languages: the archives and the packages are the same, byte for byte.
+One is unpacked and installed. The installed program judges examples in an empty environment, programs are built by CMake and
+pkg-config, pages and completions are looked at, and nothing is left behind when it is taken away. What is not proved, changed or
+not committed makes no archive. Without git, a compiler or the two libraries nothing is tried, and a line says so.
+"""
+import hashlib
+import os
+import shlex
+import shutil
+import subprocess
+import sys
+import tempfile
+
+from programs import commands_of, run, spell
+
+TOP = os.path.dirname(os.path.dirname(os.path.abspath(__file__)))
+sys.path.insert(0, os.path.join(TOP, "tools"))
+import completions  # noqa: E402
+import proved  # noqa: E402
+from man3 import pages  # noqa: E402
+
+CRATES = {"sm_tool": "sm_tool", "sm_tool-v3": "sm_tool", "libsm_embed.a": "sm_embed", "libsm_node.a": "sm_node"}
+GATE = "1 passed, 0 failed"
+SECONDS = "1795758936"
+GIT = {"GIT_AUTHOR_NAME": "a", "GIT_AUTHOR_EMAIL": "a@a", "GIT_COMMITTER_NAME": "a", "GIT_COMMITTER_EMAIL": "a@a"}
+GIT |= {"GIT_AUTHOR_DATE": f"{SECONDS} +0000", "GIT_COMMITTER_DATE": f"{SECONDS} +0000"}
+GIT |= {"GIT_CONFIG_GLOBAL": "/dev/null", "GIT_CONFIG_NOSYSTEM": "1"}
+ENV = {**{name: value for name, value in os.environ.items() if not name.startswith("GIT_")}, **GIT}
+CMAKE = """cmake_minimum_required(VERSION 3.16)
+project(uses LANGUAGES C CXX)
+find_package(vamuretu 0.2 REQUIRED)
+foreach(kind "" _shared)
+  add_executable(judge${kind} judge.c)
+  target_link_libraries(judge${kind} PRIVATE vamuretu::sm_embed${kind})
+  add_executable(node${kind} node.c)
+  target_link_libraries(node${kind} PRIVATE vamuretu::sm_node${kind})
+endforeach()
+"""
+# A program of ten lines over both libraries, and what CMake is told of it.
+BOTH = """#include <sm_embed.h>
+#include <sm_node.h>
+#include <stdio.h>
+int main(void) {
+    uint8_t seed[SM_SEED_BYTES] = {0}, root[SM_ROOT_BYTES], room[100];
+    size_t count;
+    if (sm_root(seed, 1, root) != SM_OK || sm_audit(NULL, 0, room, sizeof room, &count) != SM_FAULT) return 1;
+    printf("%.*s\\n", (int)count, (const char *)room);
+    return sm_version() != SM_VERSION_NUMBER || sm_node_version() != SM_VERSION_NUMBER;
+}
+"""
+OF_BOTH = """cmake_minimum_required(VERSION 3.16)
+project(both LANGUAGES C)
+find_package(vamuretu {version} REQUIRED)
+add_executable(both both.c)
+target_link_libraries(both PRIVATE vamuretu::sm_embed{kind} vamuretu::sm_node{kind})
+"""
+
+
+def do(words, **how):
+    """What a command writes, which has to end well."""
+    how = {"env": ENV, **how}
+    told = subprocess.run(words, capture_output=True, check=False, **how)
+    if told.returncode:
+        raise RuntimeError(f"{spell(words)}: {told.stderr.decode(errors='replace')[-600:]}")
+    return told.stdout
+
+
+def read(*path):
+    with open(os.path.join(*path), "rb") as file:
+        return file.read()
+
+
+def write(path, data):
+    with open(path, "wb") as file:
+        file.write(data)
+
+
+def built_files(program):
+    """The built files by their names, or None. The program stands for the one for processors with AVX2 too."""
+    found = {"sm_tool": program, "sm_tool-v3": program}
+    for name, crate in list(CRATES.items())[2:]:
+        places = [os.path.join(TOP, "crates", crate, "out", name), os.path.join(TOP, "out", name)]
+        found[name] = next(filter(os.path.exists, places), None)
+    return found if all(found.values()) else None
+
+
+def make_repository(place, built):
+    """The repository of these sources, with one commit."""
+    top = os.path.join(place, "origin")
+    left_out = shutil.ignore_patterns(".git", "out", "__pycache__")
+    shutil.copytree(TOP, top, symlinks=True, ignore=left_out)
+    do(["git", "init", "-q", top])
+    do(["git", "-C", top, "add", "-A"])
+    do(["git", "-C", top, "commit", "-q", "-m", "all"])
+    return top
+
+
+def clone(place, top, name, built):
+    """A clone with what was built, as ./test leaves it."""
+    made = os.path.join(place, name)
+    do(["git", "clone", "-q", top, made])
+    os.mkdir(os.path.join(made, "out"))
+    for it, path in built.items():
+        kept = os.path.join(made, "out", it)
+        shutil.copy(path, kept)
+        write(f"{kept}.proved", record(made, kept, CRATES[it]).encode())
+    return made
+
+
+def record(top, kept, crate):
+    """What tools/proved.py keeps, of a kit that need not be there."""
+    return f"digest {proved.digest(read(kept))}\nsources {proved.sources(top, crate)}\nkit a-kit logic 0\ngate {GATE}\n"
+
+
+def digests(folder):
+    """The digests of the archives of a folder."""
+    names = [it for it in sorted(os.listdir(folder)) if it.endswith((".gz", ".deb"))]
+    return {name: hashlib.sha256(read(folder, name)).hexdigest() for name in names}
+
+
+def try_twice(place, top, built, tally):
+    """Two clones make the same. Returns the clones."""
+    words = ["./dist", "--deb"] if shutil.which("dpkg-deb") else ["./dist"]
+    clones = [clone(place, top, name, built) for name in ("first", "a second, elsewhere")]
+    others = {"TZ": "Asia/Kolkata", "LC_ALL": "C", "HOME": "/nowhere"}
+    do(words, cwd=clones[0], umask=0o022)
+    do(words, cwd=clones[1], umask=0o077, env={**ENV, **others})
+    made = [digests(os.path.join(it, "out")) for it in clones]
+    wrong = None if made[0] == made[1] and len(made[0]) == len(words) else f"{made}"
+    tally.hold("two clones make the same bytes", wrong)
+    return clones
+
+
+def refused(top, says):
+    """None where ./dist makes nothing and says this in one line."""
+    for name in digests(os.path.join(top, "out")):
+        os.remove(os.path.join(top, "out", name))
+    end = run(os.path.join(top, "dist"), [], env=ENV)
+    well = end.status == 1 and end.said.count(b"\n") == 1 and says in end.said and not digests(os.path.join(top, "out"))
+    return None if well else f"{end}"
+
+
+def try_refused(top, tally):
+    """What makes no archive."""
+    out = os.path.join(top, "out")
+    node, kept = os.path.join(out, "libsm_node.a"), read(out, "libsm_node.a.proved")
+    whole, source = read(node), os.path.join(top, "crates", "sm_embed", "src", "lib.rt")
+    text = read(source)
+    os.rename(node, f"{node}.away")
+    tally.hold("without a library", refused(top, b"out/libsm_node.a is not there"))
+    os.rename(f"{node}.away", node)
+    write(node, whole + b" ")
+    tally.hold("another file than was proved", refused(top, b"out/libsm_node.a is not the file that was proved"))
+    write(node, whole)
+    os.remove(f"{node}.proved")
+    tally.hold("a file that nobody proved", refused(top, b"out/libsm_node.a is not known to be proved"))
+    write(f"{node}.proved", kept)
+    write(source, text + b"\n")
+    tally.hold("a source that is not committed", refused(top, b"crates/sm_embed/src/lib.rt"))
+    do(["git", "-C", top, "commit", "-q", "-a", "-m", "another"])
+    tally.hold("other sources than were proved", refused(top, b"out/libsm_embed.a was proved from other sources"))
+
+
+def unpacked(place, top):
+    """The folder of the archive, unpacked."""
+    name = next(it for it in digests(os.path.join(top, "out")) if it.endswith(".gz"))
+    do(["tar", "-xzf", os.path.join(top, "out", name), "-C", place])
+    return os.path.join(place, name.removesuffix(".tar.gz"))
+
+
+def all_files(folder):
+    return sorted(os.path.relpath(os.path.join(at, name), folder) for at, _, names in os.walk(folder) for name in names)
+
+
+def try_archive(tree, tally):
+    """The archive as it is unpacked."""
+    checked = run("sha256sum", ["-c", "--quiet", "--strict", "SHA256SUMS"], cwd=tree)
+    tally.hold("SHA256SUMS", None if checked.status == 0 else f"{checked}")
+    named = {line[66:] for line in read(tree, "SHA256SUMS").decode().splitlines()}
+    links = {it for it in all_files(tree) if os.path.islink(os.path.join(tree, it))}
+    wrong = named ^ set(all_files(tree)) - links - {"SHA256SUMS"}
+    tally.hold("all files are named there", None if not wrong else f"{sorted(wrong)}")
+    text = read(tree, "PROVED").decode()
+    digest = hashlib.sha256(read(tree, "bin/sm_tool")).hexdigest()
+    lacking = [it for it in (f"gate {GATE}", "kit a-kit", "commit ", digest) if it not in text]
+    tally.hold("PROVED", f"it lacks {lacking}" if lacking else None)
+    answer = run("/bin/sh", ["-c", "./sm_tool audit < examples/split.bundle"], cwd=tree)
+    tally.hold("./sm_tool in the archive", None if answer.wrote == read(tree, "examples/split.verdict") else f"{answer}")
+    words = ["-B", "reference/sm.py", "audit"]
+    answer = run(sys.executable, words, read(tree, "examples/split.bundle"), cwd=tree)
+    tally.hold("the reference in the archive", None if answer.wrote == read(tree, "examples/split.verdict") else f"{answer}")
+
+
+def try_damaged(tree, place, tally):
+    """An archive of which a byte was changed is not installed."""
+    other, prefix = os.path.join(place, "damaged"), os.path.join(place, "no prefix")
+    shutil.copytree(tree, other, symlinks=True)
+    write(os.path.join(other, "README.md"), b"another")
+    end = run(os.path.join(other, "install.sh"), [f"PREFIX={prefix}"])
+    tally.hold("a damaged archive", None if end.status == 1 and not os.path.exists(prefix) else f"{end}")
+
+
+def try_uses(prefix, place, tally):
+    """Programs that are built of what was installed."""
+    told = {**ENV, "PKG_CONFIG_PATH": os.path.join(prefix, "lib", "pkgconfig"), "LD_LIBRARY_PATH": os.path.join(prefix, "lib")}
+    documents, folder = os.path.join(prefix, "share", "doc", "vamuretu"), os.path.join(place, "uses")
+    os.mkdir(folder)
+    for name, source in (("judge.c", "example.c"), ("node.c", "nodes/header.c"), ("files.h", "nodes/files.h")):
+        shutil.copy(os.path.join(documents, "embed", source), os.path.join(folder, name))
+    programs = {}
+    if shutil.which("pkg-config"):
+        for kind in ("", "_shared"):
+            for name, library in (("judge", "sm_embed"), ("node", "sm_node")):
+                flags = shlex.split(do(["pkg-config", "--cflags", "--libs", library + kind], env=told).decode())
+                programs[f"{name}{kind}, pkg-config"] = os.path.join(folder, f"{name}{kind}.built")
+                do(["cc", f"{name}.c", *flags, "-o", programs[f"{name}{kind}, pkg-config"]], cwd=folder)
+    else:
+        tally.note("left out: pkg-config is not there")
+    if shutil.which("cmake"):
+        write(os.path.join(folder, "CMakeLists.txt"), CMAKE.encode())
+        do(["cmake", "-S", folder, "-B", f"{folder}/build", f"-DCMAKE_PREFIX_PATH={prefix}"])
+        do(["cmake", "--build", f"{folder}/build"])
+        programs |= {f"{it}, CMake": f"{folder}/build/{it}" for it in ("judge", "judge_shared", "node", "node_shared")}
+    else:
+        tally.note("left out: cmake is not there")
+    bundle, verdict = read(documents, "examples/split.bundle"), read(documents, "examples/split.verdict")
+    write(os.path.join(folder, "0.seed"), bytes(range(32)))
+    os.chmod(os.path.join(folder, "0.seed"), 0o600)
+    for name, program in programs.items():
+        if name.startswith("judge"):
+            wrong = run(program, ["audit"], bundle, env=told).wrote != verdict
+        else:
+            wrong = len(run(program, ["root", folder, "0", "1"], env=told).wrote) != 65
+        tally.hold(name, "it answers otherwise" if wrong else None)
+
+
+def by_cc(prefix, folder, told):
+    """The program over both libraries by a compiler alone, with the archives and with the shared libraries."""
+    include, lib = os.path.join(prefix, "include"), os.path.join(prefix, "lib")
+    archives = [os.path.join(lib, f"lib{name}.a") for name in ("sm_embed", "sm_node", "sm_embed_heap")]
+    flags = {"cc": archives, "cc, shared": ["-L", lib, "-lsm_embed", "-lsm_node"]}
+    for name, given in flags.items():
+        do(["cc", "-Wall", "-Wextra", "-Werror", "both.c", "-I", include, *given, "-o", f"{name}.built"], cwd=folder, env=told)
+    return {name: os.path.join(folder, f"{name}.built") for name in flags}
+
+
+def by_pkg_config(folder, told):
+    """The same by what pkg-config says."""
+    for kind in ("", "_shared"):
+        words = ["pkg-config", "--cflags", "--libs", f"sm_embed{kind}", f"sm_node{kind}"]
+        do(["cc", "both.c", *shlex.split(do(words, env=told).decode()), "-o", f"by pkg-config{kind}"], cwd=folder, env=told)
+    return {f"pkg-config{kind.replace('_', ', ')}": os.path.join(folder, f"by pkg-config{kind}") for kind in ("", "_shared")}
+
+
+def project_of(folder, name, version, kind):
+    """A project of its own for CMake."""
+    made = os.path.join(folder, name)
+    os.mkdir(made)
+    shutil.copy(os.path.join(folder, "both.c"), made)
+    write(os.path.join(made, "CMakeLists.txt"), OF_BOTH.format(version=version, kind=kind).encode())
+    return made
+
+
+def by_cmake(prefix, folder, told):
+    """The same by find_package."""
+    built = {}
+    for kind in ("", "_shared"):
+        made = project_of(folder, f"cmake{kind}", "0.2", kind)
+        do(["cmake", "-S", made, "-B", f"{made}/build", f"-DCMAKE_PREFIX_PATH={prefix}"], env=told)
+        do(["cmake", "--build", f"{made}/build"], env=told)
+        built[f"CMake{kind.replace('_', ', ')}"] = f"{made}/build/both"
+    return built
+
+
+def versions_wrong(prefix, folder, told):
+    """None where find_package finds no other version than it is asked for."""
+    found = []
+    for version in ("0.1", "0.2.9", "0.3", "1.0"):
+        made = project_of(folder, f"of {version}", version, "")
+        end = run("cmake", ["-S", made, "-B", f"{made}/build", f"-DCMAKE_PREFIX_PATH={prefix}"], env=told)
+        found += [] if end.status and b"vamuretu" in end.said else [version]
+    return f"it finds {found}" if found else None
+
+
+def try_both(prefix, place, tally):
+    """One program over both installed libraries, in each of the ways that INSTALL.md says."""
+    told = {**ENV, "PKG_CONFIG_PATH": os.path.join(prefix, "lib", "pkgconfig"), "LD_LIBRARY_PATH": os.path.join(prefix, "lib")}
+    folder = os.path.join(place, "both")
+    os.mkdir(folder)
+    write(os.path.join(folder, "both.c"), BOTH.encode())
+    programs = by_cc(prefix, folder, told)
+    if shutil.which("pkg-config"):
+        programs |= by_pkg_config(folder, told)
+    if shutil.which("cmake"):
+        programs |= by_cmake(prefix, folder, told)
+        tally.hold("other versions, CMake", versions_wrong(prefix, folder, told))
+    wanted = run(os.path.join(prefix, "bin", "sm_tool"), ["audit"]).said
+    for name, program in programs.items():
+        end = run(program, [], env=told)
+        tally.hold(f"both libraries, {name}", None if (end.status, end.wrote) == (0, wanted) else f"{end}, not {wanted}")
+
+
+def try_words(program, prefix, tally):
+    """Pages of the manual, and completions."""
+    there = all_files(os.path.join(prefix, "share", "man", "man3"))
+    tally.hold("pages of section 3", None if there == sorted(pages()) else f"{there}")
+    words, told = commands_of(program), {*completions.commands()[0], *completions.OTHERS}
+    lacking = {it for it in words if it.isalpha()} ^ told
+    tally.hold("commands that are completed", f"{lacking}" if lacking else None)
+    if shutil.which("bash"):
+        words = 'COMP_WORDS=(sm_tool audit --workers ""); COMP_CWORD=3; _sm_tool; echo "${COMPREPLY[*]}"'
+        end = run("bash", ["-c", f'. "{prefix}/{completions.BASH}"; {words}'])
+        tally.hold("bash", None if end.wrote.decode().split() == [str(it) for it in range(1, 17)] else f"{end}")
+    for shell, file in (("zsh", completions.ZSH), ("fish", completions.FISH)):
+        if shutil.which(shell):
+            end = run(shell, ["-n", os.path.join(prefix, file)])
+            tally.hold(shell, None if end.status == 0 else f"{end}")
+    if shutil.which("fish"):
+        end = run("fish", ["--no-config", "-c", f"source '{prefix}/{completions.FISH}'; complete -C 'sm_tool ac'"])
+        tally.hold("fish completes", None if end.wrote.startswith(b"accuse") else f"{end}")
+
+
+def try_installed(tree, place, tally):
+    """What install.sh puts below a prefix, and takes away."""
+    prefix = os.path.join(place, "a prefix")
+    do([os.path.join(tree, "install.sh"), f"PREFIX={prefix}"], cwd="/", umask=0o077)
+    program = os.path.join(prefix, "bin", "sm_tool")
+    bundle, verdict = read(tree, "examples/split.bundle"), read(tree, "examples/split.verdict")
+    end = run(program, ["audit"], bundle, env={}, cwd="/")
+    tally.hold("the program from anywhere", None if (end.status, end.wrote) == (0, verdict) else f"{end}")
+    open_to_all = [it for it in all_files(prefix) if not os.stat(os.path.join(prefix, it)).st_mode & 0o004]
+    tally.hold("all may read it", f"not {open_to_all[:3]}" if open_to_all else None)
+    try_words(program, prefix, tally)
+    try_uses(prefix, place, tally)
+    try_both(prefix, place, tally)
+    first = all_files(prefix)
+    do([os.path.join(tree, "install.sh"), f"PREFIX={prefix}"])
+    tally.hold("installed again", None if all_files(prefix) == first else "it has other files")
+    write(os.path.join(prefix, "bin", "another"), b"")
+    do(["sh", os.path.join(prefix, "share", "vamuretu", "install.sh"), "uninstall", f"PREFIX={prefix}"])
+    left = all_files(prefix)
+    tally.hold("uninstalled", None if left == ["bin/another"] else f"{left[:3]} are left")
+    root = os.path.join(place, "root")
+    do([os.path.join(tree, "install.sh"), "PREFIX=/usr", f"DESTDIR={root}"])
+    staged = all_files(os.path.join(root, "usr"))
+    tally.hold("DESTDIR", None if staged == sorted([*first, "bin/sm_tool-v3"]) else "it has other files")
+
+
+def try_checkout(top, place, tally):
+    """install.sh in a checkout."""
+    prefix = os.path.join(place, "of a checkout")
+    do([os.path.join(top, "install.sh"), f"PREFIX={prefix}"])
+    tally.hold("from a checkout", None if "bin/sm_tool" in all_files(prefix) else "there is no program")
+
+
+def trials(program, tally):
+    built = built_files(program)
+    lacking = [tool for tool in ("git", "cc", "ar", "tar", "sha256sum") if not shutil.which(tool)]
+    if not built or lacking:
+        tally.note(f"left out: {' '.join(lacking) or 'a library for C'} is not there")
+        return
+    with tempfile.TemporaryDirectory() as place:
+        top = make_repository(place, built)
+        first, second = try_twice(place, top, built, tally)
+        tree = unpacked(place, first)
+        try_archive(tree, tally)
+        try_damaged(tree, place, tally)
+        try_installed(tree, place, tally)
+        try_checkout(second, place, tally)
+        try_refused(first, tally)
+        if not shutil.which("dpkg-deb"):
+            tally.note("left out: the package for Debian, since dpkg-deb is not there")

@@ -1,0 +1,88 @@
+#!/usr/bin/env python3
+"""The way that docs/SYSTEM.md goes: each command there prints what stands there, over nodes as processes (embed/nodes/).
+
+    trials/system.py PROGRAM
+    trials/system.py reference
+
+tries this alone, by a program, or with the reference (reference/sm.py) in the place of the program.
+
+The commands are run one after another by `sh` in a folder of a short name, which has a copy of embed/, the archive of nodes as
+libsm_node.a, and the program as `sm_tool`. The archive is crates/sm_node/out/libsm_node.a, which `rt lib` builds in
+crates/sm_node; without it, or without a compiler, nothing is tried, and a line says so. Where a process can't keep to the clock, all
+is done again with rounds twice as long.
+"""
+import os
+import shutil
+import sys
+import tempfile
+
+from processes import ARCHIVE, MOST_TRIES
+from programs import commands_of
+from tally import Tally
+from walk import TOP, printed_by, shown
+
+DOCUMENT = "SYSTEM.md"
+# The commands that are shown there.
+COMMANDS = {"root", "header", "bundle", "audit", "accuse", "evidence", "show", "answer"}
+# The length of a round in the document, and what a process that is late says.
+ROUND, LATE = " 1000 ", "ends with status 3"
+REFERENCE = '#!/bin/sh\nexec {} -B {} "$@"\n'
+
+
+def fill(place, program):
+    """Puts into a folder what the commands find there."""
+    shutil.copytree(os.path.join(TOP, "embed"), os.path.join(place, "embed"))
+    os.symlink(os.path.abspath(ARCHIVE), os.path.join(place, "libsm_node.a"))
+    os.mkdir(os.path.join(place, "bin"))
+    named = os.path.join(place, "bin", "sm_tool")
+    if program != "reference":
+        os.symlink(program, named)
+        return
+    with open(os.open(named, os.O_CREAT | os.O_WRONLY, 0o755), "w", encoding="utf-8") as script:
+        script.write(REFERENCE.format(sys.executable, os.path.join(os.path.abspath(TOP), "reference", "sm.py")))
+
+
+def ends(program, factor):
+    """Each command of the document with what it printed and what it should print; none if a process was late."""
+    rows = []
+    # A socket's address is short, so the folder has to be.
+    with tempfile.TemporaryDirectory(dir="/tmp") as place:
+        fill(place, program)
+        for command, wanted in shown(DOCUMENT):
+            got = printed_by(command.replace(ROUND, f" {1000 * factor} "), place)
+            if LATE in got:
+                return None
+            rows.append((command, got, wanted))
+    return rows
+
+
+def trials(program, tally):
+    if not os.path.exists(ARCHIVE) or not shutil.which("cc"):
+        tally.note("left out: cc or crates/sm_node/out/libsm_node.a is not there")
+        return
+    if not COMMANDS <= tally.commands:
+        tally.note(f"left out: the program has no {', '.join(sorted(COMMANDS - tally.commands))}")
+        return
+    for tried in range(MOST_TRIES):
+        rows = ends(program, 1 << tried)
+        if rows is None:
+            continue
+        for command, got, wanted in rows:
+            tally.hold(f"{DOCUMENT}, {command}", None if got == wanted else f"{got!r}; it shows: {wanted!r}")
+            tally.count(command.count("sm_tool "))
+        return
+    tally.note("left out: no run kept to the clock, since the machine is too busy")
+
+
+def main():
+    if len(sys.argv) != 2:
+        sys.exit(__doc__)
+    program = sys.argv[1] if sys.argv[1] == "reference" else os.path.abspath(sys.argv[1])
+    tally = Tally("system", COMMANDS if program == "reference" else commands_of(program))
+    trials(program, tally)
+    tally.close()
+    return 1 if tally.failed else 0
+
+
+if __name__ == "__main__":
+    sys.exit(main())
