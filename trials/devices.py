@@ -138,6 +138,8 @@ def by_pipe(program, words, given, folder):
     try:
         return by_shell(program, [*words, pipe], "<&-")
     finally:
+        # A program that did not open the pipe leaves the feeder waiting for a reader: it gets one that reads nothing.
+        os.close(os.open(pipe, os.O_RDONLY | os.O_NONBLOCK))
         feeding.join()
         os.remove(pipe)
 
@@ -147,14 +149,15 @@ def try_files(program, tally):
     with tempfile.TemporaryDirectory() as folder:
         file, missing = os.path.join(folder, "the input"), os.path.join(folder, "missing")
         for words, given in jobs(program, tally.commands):
+            words = [word for word in words if word != "-"]
             with open(file, "wb") as kept:
                 kept.write(given)
-            whole = run(program, words, given)
+            whole = run(program, [*words, "-"], given)
             ends = {
                 "a file": (by_shell(program, [*words, file], "<&-"), whole),
                 "a file before the options": (by_shell(program, [words[0], file, *words[1:]], "<&-"), whole),
                 "a file behind --": (by_shell(program, [*words, "--", file], "<&-"), whole),
-                "standard input by its word": (run(program, [*words, "-"], given), whole),
+                "standard input by its word": (run(program, [words[0], "-", *words[1:]], given), whole),
                 "a named pipe": (by_pipe(program, words, given, folder), whole),
                 "no such file": (run(program, [*words, missing], given), OPEN_FAILED),
                 "a file with an empty name": (run(program, [*words, ""], given), OPEN_FAILED),

@@ -7,6 +7,7 @@ The subjects are the modules that README.md lists; `libraries` stands for those 
 all others. The last line is `N passed, M failed`; the status is 1 where something
 failed.
 """
+import faulthandler
 import importlib
 import os
 import sys
@@ -19,18 +20,23 @@ SUBJECTS = ["scripts", "worked", "walk", "campaigns", "pictures", "prefixes", "v
 SUBJECTS += ["json_texts", "costs", "refusals", "calls", "devices", "load", "archive", "embed", "nodes", "datagrams"]
 SUBJECTS += ["power", "system", "bindings", "page", "release"]
 LIBRARIES = ["embed", "nodes", "datagrams", "power", "system", "bindings", "page", "release"]
+# What no subject takes, in seconds, however busy the machine is: trials that take longer hang.
+MOST_SECONDS = 1800
 GROUPS = {"libraries": LIBRARIES, "program": [subject for subject in SUBJECTS if subject not in LIBRARIES]}
 
 
 def try_subject(subject, program, commands):
-    """The trials of one subject. A run that hangs ends them, and so does an answer that they can do nothing with."""
+    """The trials of one subject. A run that hangs ends them, and so does an answer that they can do nothing with. Trials that hang
+    themselves end all, with what each thread waits for and without the last line."""
     tally = Tally(subject, commands)
+    faulthandler.dump_traceback_later(MOST_SECONDS, exit=True)
     try:
         importlib.import_module(subject).trials(program, tally)
     except Hangs as hangs:
         tally.fail(str(hangs))
     except Exception:
         tally.fail(f"the trials broke off\n{traceback.format_exc()}")
+    faulthandler.cancel_dump_traceback_later()
     tally.close()
     return tally
 
