@@ -3,7 +3,8 @@
        nodes TRAITORS
 
    The commander's order goes round in TRAITORS + 1 rounds, and nobody is a traitor. For general 1 it prints the
-   nanoseconds that his calls take by kind, those of one sm_root, the bytes of his frames in and out and of his log, and
+   nanoseconds that his calls take by kind, those of one sm_node_root, the bytes of his frames in and out and of his log,
+   and
    the most bytes that he held at once. In place of embed/heap.c stands a heap that counts for whom it is. */
 #include "sm_node.h"
 #include <stdbool.h>
@@ -96,12 +97,12 @@ static void make_header(uint8_t traitors) {
     for (int a = 0; a < GENERALS; a++) {
         seeds[a][0] = (uint8_t)a;
         int64_t since = now();
-        if (sm_root(seeds[a], 1, roots + 32 * a) != SM_OK) exit(3);
+        if (sm_node_root(seeds[a], 1, roots + 32 * a) != SM_OK) exit(3);
         if (a == 0) printf("root %lld\n", (long long)(now() - since));
         for (int b = a + 1; b < GENERALS; b++) edges[edge++] = (uint8_t)a, edges[edge++] = (uint8_t)b;
     }
     sm_numbers numbers = {1, 0, GENERALS, traitors, 1, 2, 0};
-    if (sm_header(&numbers, edges, edge / 2, roots, GENERALS, header, sizeof header, &header_bytes, &fault) != SM_OK)
+    if (sm_node_header(&numbers, edges, edge / 2, roots, GENERALS, header, sizeof header, &header_bytes, &fault) != SM_OK)
         exit(3);
 }
 

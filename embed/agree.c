@@ -11,22 +11,32 @@
 #include <string.h>
 #include <sys/random.h>
 
-/* A longer frame or log than a room is SM_LENGTH, with the length that is needed. */
-enum { NODES = 4, EDGES = 6, VALUE = 2, FRAME_ROOM = 100000, LOG_ROOM = 200000 };
+/* No frame of this run is longer than FRAME_ROOM, which sm_node_frame_most tells of any header. */
+enum { NODES = 4, EDGES = 6, VALUE = 2, FRAME_ROOM = 100000 };
 
-/* What the four nodes share. Their logs stand one after another. */
+/* What the four nodes share. Their logs stand one after another, on the heap. */
 struct run {
-    uint8_t header[SM_HEADER_MOST], logs[NODES * LOG_ROOM];
+    uint8_t header[SM_HEADER_MOST], *logs;
     size_t header_bytes, log_bytes;
     sm_log log[NODES];
     sm_node node[NODES];
 };
 
-/* Ends the program if a call was not done, and says why. */
+/* Ends the program if a call was not done, and says why. The fault is 0 if the call tells none. */
 static void must(const char *call, uint32_t status, uint32_t fault) {
     if (status == SM_OK) return;
-    fprintf(stderr, "%s: %s, %s\n", call, sm_status_text(status), sm_fault_text(fault));
+    fprintf(stderr, "%s: %s", call, sm_status_text(status));
+    if (fault != 0) fprintf(stderr, ": %s", sm_node_fault_text(fault));
+    fprintf(stderr, "\n");
     exit(1);
+}
+
+/* Room for so many bytes that a call asked for, instead of an old one whose bytes are kept. */
+static uint8_t *room_for(const char *call, uint32_t status, uint32_t fault, uint8_t *old, size_t length) {
+    if (status != SM_LENGTH) must(call, status, fault);
+    uint8_t *room = realloc(old, length);
+    if (room == NULL) must(call, SM_MEMORY, 0);
+    return room;
 }
 
 /* Makes a header of four nodes, all of which are neighbours, and the nodes. */
@@ -38,9 +48,10 @@ static void make_nodes(struct run *run) {
     /* A seed serves one run, so put on the disk that it is used. */
     if (getrandom(seeds, sizeof seeds, 0) != (ssize_t)sizeof seeds) must("getrandom", SM_MEMORY, 0);
     for (uint32_t me = 0; me < NODES; me++)
-        must("sm_root", sm_root(seeds[me], numbers.version, roots + me * SM_ROOT_BYTES), 0);
-    status = sm_header(&numbers, edges, EDGES, roots, NODES, run->header, SM_HEADER_MOST, &run->header_bytes, &fault);
-    must("sm_header", status, fault);
+        must("sm_node_root", sm_node_root(seeds[me], numbers.version, roots + me * SM_ROOT_BYTES), 0);
+    status =
+        sm_node_header(&numbers, edges, EDGES, roots, NODES, run->header, SM_HEADER_MOST, &run->header_bytes, &fault);
+    must("sm_node_header", status, fault);
     for (uint32_t me = 0; me < NODES; me++) {
         uint32_t order = me == 0 ? VALUE : SM_NO_ORDER;
         status = sm_node_new(&run->node[me], run->header, run->header_bytes, me, seeds[me], order, &fault);
@@ -61,46 +72,74 @@ static void hand_over(struct run *run, uint32_t from, uint32_t to) {
     must("sm_node_hear", sm_node_hear(&run->node[to], from, frame, count, &fault), fault);
 }
 
+/* Ends a node, and keeps its log behind the others. The length of a log is asked for by a room of 0 bytes. */
+static void keep_log(struct run *run, uint32_t me) {
+    sm_node *node = &run->node[me];
+    size_t length, count;
+    must("sm_node_finish", sm_node_finish(node), 0);
+    uint32_t status = sm_node_log(node, NULL, 0, &length);
+    run->logs = room_for("sm_node_log", status, 0, run->logs, run->log_bytes + length);
+    must("sm_node_log", sm_node_log(node, run->logs + run->log_bytes, length, &count), 0);
+    run->log[me] = (sm_log){me, count};
+    run->log_bytes += count;
+    sm_node_free(node);
+}
+
 /* All rounds, and the logs of the nodes. */
 static void play(struct run *run) {
     uint32_t rounds, fault = 0;
-    must("sm_rounds", sm_rounds(run->header, run->header_bytes, &rounds, &fault), fault);
+    must("sm_node_rounds", sm_node_rounds(run->header, run->header_bytes, &rounds, &fault), fault);
     for (; rounds != 0; rounds--) {
         for (uint32_t me = 0; me < NODES; me++) must("sm_node_begin_round", sm_node_begin_round(&run->node[me]), 0);
         for (uint32_t pair = 0; pair < NODES * NODES; pair++) hand_over(run, pair / NODES, pair % NODES);
         for (uint32_t me = 0; me < NODES; me++) must("sm_node_end_round", sm_node_end_round(&run->node[me]), 0);
     }
-    for (uint32_t me = 0; me < NODES; me++) {
-        size_t room = sizeof run->logs - run->log_bytes;
-        run->log[me].general = me;
-        must("sm_node_finish", sm_node_finish(&run->node[me]), 0);
-        must("sm_node_log", sm_node_log(&run->node[me], run->logs + run->log_bytes, room, &run->log[me].bytes), 0);
-        run->log_bytes += run->log[me].bytes;
-        sm_node_free(&run->node[me]);
-    }
+    for (uint32_t me = 0; me < NODES; me++) keep_log(run, me);
 }
 
-/* Prints the verdict on the bundle of the logs, with no node listed as faulty. Returns whether it is `agreed`. */
+/* The bundle of the logs on the heap, with no node listed as faulty. */
+static uint8_t *make_bundle(const struct run *run, size_t *bundle_bytes) {
+    size_t length;
+    uint32_t fault = 0;
+    uint32_t status = sm_node_bundle(run->header, run->header_bytes, 0, run->log, NODES, run->logs, run->log_bytes,
+                                     NULL, 0, &length, &fault);
+    uint8_t *bundle = room_for("sm_node_bundle", status, fault, NULL, length);
+    status = sm_node_bundle(run->header, run->header_bytes, 0, run->log, NODES, run->logs, run->log_bytes, bundle,
+                            length, bundle_bytes, &fault);
+    must("sm_node_bundle", status, fault);
+    return bundle;
+}
+
+/* Prints what an answer holds, and frees it. Returns whether all was printed. */
+static int print_answer(sm_answer *answer) {
+    size_t length, count;
+    uint32_t status = sm_answer_text(answer, NULL, 0, &length);
+    uint8_t *text = room_for("sm_answer_text", status, 0, NULL, length);
+    must("sm_answer_text", sm_answer_text(answer, text, length, &count), 0);
+    sm_answer_free(answer);
+    int is_printed = fwrite(text, 1, count, stdout) == count && fflush(stdout) == 0;
+    free(text);
+    return is_printed;
+}
+
+/* Prints the verdict on the bundle of the logs. Returns whether it is `agreed`. */
 static int judge(const struct run *run) {
-    static uint8_t bundle[NODES * LOG_ROOM + 1000];
-    uint8_t id[SM_RUN_ID_BYTES], text[1000];
-    uint32_t fault = 0, status;
+    uint8_t id[SM_RUN_ID_BYTES];
     size_t bundle_bytes, count;
     sm_answer answer = {0};
+    uint8_t *bundle = make_bundle(run, &bundle_bytes);
     must("sm_run_id", sm_run_id(run->header, run->header_bytes, id, sizeof id, &count), 0);
-    status = sm_bundle(run->header, run->header_bytes, 0, run->log, NODES, run->logs, run->log_bytes, bundle,
-                       sizeof bundle, &bundle_bytes, &fault);
-    must("sm_bundle", status, fault);
-    status = sm_audit_of(id, 1, 1, bundle, bundle_bytes, &answer);
+    uint32_t status = sm_audit_of(id, 1, 1, bundle, bundle_bytes, &answer);
     if (status != SM_NO) must("sm_audit_of", status, 0);
-    must("sm_answer_text", sm_answer_text(&answer, text, sizeof text, &count), 0);
-    sm_answer_free(&answer);
-    return fwrite(text, 1, count, stdout) == count && fflush(stdout) == 0 && status == SM_OK;
+    free(bundle);
+    return print_answer(&answer) && status == SM_OK;
 }
 
 int main(void) {
     static struct run run;
     make_nodes(&run);
     play(&run);
-    return judge(&run) ? 0 : 1;
+    int is_agreed = judge(&run);
+    free(run.logs);
+    return is_agreed ? 0 : 1;
 }

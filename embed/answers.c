@@ -1,13 +1,15 @@
 /* Answers that the library keeps: what sm_tool writes for the bytes on standard input.
 
-       answers audit [--strict] [--run IDS]
-       answers draw|evidence [--run IDS]
+       answers audit [--strict] [--json] [--run IDS]
+       answers evidence [--json] [--run IDS]
+       answers draw [--run IDS]
+       answers decide [--json]
        answers accuse --general GENERAL [--run IDS]
        answers show|explain|words|run-ids
 
    IDS are one to four run ids of 64 hexadecimal digits, with commas between them. `explain` reads the name from
-   standard input, and `run-ids` writes the IDS of a file. The exit status is that of sm_tool, and so is the line of what
-   failed. */
+   standard input, and `run-ids` writes the IDS of a file. The exit status is that of sm_tool, and so is the line of
+   what failed. */
 #include "sm_embed.h"
 #include <stdbool.h>
 #include <stdio.h>
@@ -17,7 +19,7 @@
 /* What the words ask for. */
 struct job {
     const char *name;
-    uint32_t general, strict;
+    uint32_t general, strict, form;
     uint8_t runs[SM_RUNS_MOST * SM_RUN_ID_BYTES];
     size_t run_count;
 };
@@ -84,6 +86,8 @@ static bool is_asked(struct job *job, int words, char **word) {
     for (int at = 2; at < words; at++) {
         if (strcmp(word[at], "--strict") == 0) {
             job->strict = 1;
+        } else if (strcmp(word[at], "--json") == 0) {
+            job->form = SM_JSON;
         } else if (at + 1 < words && strcmp(word[at], "--run") == 0) {
             if (!takes_runs(job, word[++at])) return false;
         } else if (at + 1 < words && strcmp(word[at], "--general") == 0) {
@@ -100,9 +104,12 @@ static bool is_asked(struct job *job, int words, char **word) {
 static uint32_t call(const struct job *job, struct bytes input, sm_answer *answer) {
     const uint8_t *runs = job->run_count != 0 ? job->runs : NULL;
     size_t count = job->run_count;
-    if (strcmp(job->name, "audit") == 0) return sm_audit_of(runs, count, job->strict, input.at, input.length, answer);
+    if (strcmp(job->name, "audit") == 0)
+        return sm_audit_as(runs, count, job->strict, job->form, input.at, input.length, answer);
+    if (strcmp(job->name, "evidence") == 0)
+        return sm_evidence_as(runs, count, job->form, input.at, input.length, answer);
+    if (strcmp(job->name, "decide") == 0) return sm_decide_as(job->form, input.at, input.length, answer);
     if (strcmp(job->name, "draw") == 0) return sm_draw_of(runs, count, input.at, input.length, answer);
-    if (strcmp(job->name, "evidence") == 0) return sm_evidence_of(runs, count, input.at, input.length, answer);
     if (strcmp(job->name, "accuse") == 0)
         return sm_accuse_of(runs, count, job->general, input.at, input.length, answer);
     if (strcmp(job->name, "show") == 0) return sm_show(input.at, input.length, answer);

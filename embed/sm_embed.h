@@ -5,32 +5,38 @@
 
    A function takes the bytes of an input, and either room for a text or an sm_answer. Each function but sm_answer_free
    and sm_version returns one of these numbers. The numbers 0 to 4 are the exit statuses of sm_tool. sm_status.h has
-   them, and what may change between versions.
+   them, and what may change between versions. Of sm_answer_text the text of a no is SM_OK too.
 
      SM_OK       the text is there, and the answer is not a no
      SM_NO       the text is there, and the answer is a no
-     SM_MISUSE   the number of the general is above 15, there are more than four run ids, no text is held, or a pointer
-                 is null though there are bytes
+     SM_MISUSE   the number of the general is above 15, the number of the form is none, there are more than four run
+                 ids, no text is held, or a pointer is null though there are bytes
      SM_FAULT    the input has a fault: the line that sm_tool prints of it is there, without its line feed. Of sm_run_id
                  no line is there
      SM_MEMORY   memory was refused
      SM_LENGTH   the text or the line is longer than the room: call again with room for *count bytes
-     SM_NOBODY   of sm_accuse_known: the general is none of the run's
+     SM_NOBODY   of sm_accuse_known and sm_accuse_known_of: the general is none of the run's
      SM_OTHER    the input is of another run than the one that is expected: the line `fault R1` is there
 
    Of a function that takes room, the text or line stands in front of the room. At SM_OK, SM_NO, SM_FAULT and SM_LENGTH
    *count is its length in bytes, but of sm_run_id 0 at SM_FAULT. No zero byte stands behind it. At SM_MISUSE, SM_MEMORY
    and SM_NOBODY *count is 0. The room behind the text keeps its old content. So does the whole room if no text was
-   written. At SM_LENGTH a further call does the whole work again.
+   written. At SM_LENGTH a further call does the whole work again. Each of these functions but sm_run_id has a twin that
+   puts the text into an sm_answer and works once.
 
-   Of a function that takes an sm_answer, the answer holds the text or line, whatever its length. sm_answer_text writes
-   it into room, as often as it is asked to, and sm_answer_free frees it. At SM_MISUSE and SM_MEMORY nothing is held. An
-   sm_answer is one pointer. The caller sets it to null before the first call, as by `sm_answer answer = {0};`, and does
-   not read, write or copy it afterwards. A call frees what the answer held before, so one answer serves many calls.
+   Of a function that puts its text into an sm_answer, the answer holds the text or line, whatever its length. At
+   SM_MISUSE, SM_MEMORY and SM_NOBODY nothing is held. sm_answer_text writes what is held into room, as often as it is
+   asked to, and changes nothing of it. sm_answer_free frees it. An sm_answer is one pointer. The caller sets it to null
+   before the first call, as by `sm_answer answer = {0};`, and does not read, write or copy it afterwards. A function
+   that puts its text there frees what was held before, so one answer serves many calls.
 
    A function that takes `runs` takes run_count run ids of SM_RUN_ID_BYTES bytes each, one after another, 0 to
    SM_RUNS_MOST of them. The input must be of exactly these runs: a bundle or evidence of one, a campaign of its runs in
    their order. With no run id the input may be of any run.
+
+   A function that takes `form` takes SM_TEXT for lines, or SM_JSON for one line with an object, which is what sm_tool
+   writes by --json. sm_read.h reads the lines of verdicts and of decisions into structs, so that no caller parses
+   these.
 
    A pointer to bytes may be null if their number is 0. If it is null and their number is not 0, the call is SM_MISUSE.
    This is tested by C in this header, before the call of the archive: no proof is about it, and a caller that does not
@@ -62,6 +68,12 @@ extern "C" {
 typedef struct {
     void *at;
 } sm_answer;
+
+/* The forms of an answer. */
+enum sm_form {
+    SM_TEXT = 0, /* lines, each ended by a line feed */
+    SM_JSON = 1  /* one line with a JSON object */
+};
 
 /* The verdict on a bundle or a campaign, as sm_tool audit. The answer is a no if and only if the verdict on the bundle,
    or on a run of the campaign, is no. At SM_OK the text says whether the verdict is `agreed` or `explained`. Returns
@@ -96,10 +108,10 @@ uint32_t sm_accuse_known(uint32_t general, const uint8_t *input, size_t input_by
                          size_t *count) SM_CALL(2, 4, 6);
 
 /* The answer to evidence by the log that the accused kept: a line that names the text of the evidence that the log does
-   not have, so that somebody else signed it, or two strings of bytes with one hash, in hexadecimal digits. If the
-   evidence fails, or if no node that followed the algorithm keeps this log, the answer is `no answer`, which is a no. A
-   fault is that of the evidence, or else that of the log. Returns SM_OK, SM_NO, SM_MISUSE, SM_FAULT, SM_MEMORY or
-   SM_LENGTH. */
+   not have, or two strings of bytes with one hash, in hexadecimal digits. If the evidence fails, or if the log is not one
+   of its run that the accused sealed and that departs nowhere from the algorithm, the answer is `no answer`, which is a
+   no. Evidence across two runs is of the first. A fault is that of the evidence, or else that of the log. Returns SM_OK,
+   SM_NO, SM_MISUSE, SM_FAULT, SM_MEMORY or SM_LENGTH. */
 uint32_t sm_refute(const uint8_t *evidence, size_t evidence_bytes, const uint8_t *log, size_t log_bytes, uint8_t *room,
                    size_t room_bytes, size_t *count) SM_CALL(1, 3, 5, 7);
 
@@ -133,6 +145,30 @@ uint32_t sm_accuse_of(const uint8_t *runs, size_t run_count, uint32_t general, c
 uint32_t sm_evidence_of(const uint8_t *runs, size_t run_count, const uint8_t *input, size_t input_bytes,
                         sm_answer *answer) SM_CALL(1, 3, 5);
 
+/* The evidence against a general, as sm_accuse_of, but a general that is none of the run's is SM_NOBODY, and nothing is
+   held. Runs are compared first. Returns SM_OK, SM_NO, SM_MISUSE, SM_FAULT, SM_MEMORY, SM_NOBODY or SM_OTHER. */
+uint32_t sm_accuse_known_of(const uint8_t *runs, size_t run_count, uint32_t general, const uint8_t *input,
+                            size_t input_bytes, sm_answer *answer) SM_CALL(1, 4, 6);
+
+/* The answer to evidence by the log that the accused kept, as sm_refute. Returns SM_OK, SM_NO, SM_MISUSE, SM_FAULT or
+   SM_MEMORY. */
+uint32_t sm_refute_kept(const uint8_t *evidence, size_t evidence_bytes, const uint8_t *log, size_t log_bytes,
+                        sm_answer *answer) SM_CALL(1, 3, 5);
+
+/* The verdict on a bundle or a campaign, as sm_audit_of, in a form. Returns SM_OK, SM_NO, SM_MISUSE, SM_FAULT,
+   SM_MEMORY or SM_OTHER. */
+uint32_t sm_audit_as(const uint8_t *runs, size_t run_count, uint32_t strict, uint32_t form, const uint8_t *input,
+                     size_t input_bytes, sm_answer *answer) SM_CALL(1, 5, 7);
+
+/* Whether evidence holds, as sm_evidence_of, in a form: SM_JSON also has the run, the accused and the kind. Returns
+   SM_OK, SM_NO, SM_MISUSE, SM_FAULT, SM_MEMORY or SM_OTHER. */
+uint32_t sm_evidence_as(const uint8_t *runs, size_t run_count, uint32_t form, const uint8_t *input, size_t input_bytes,
+                        sm_answer *answer) SM_CALL(1, 4, 6);
+
+/* What the generals decide in the run of a scenario, as sm_decide, in a form. Returns SM_OK, SM_MISUSE, SM_FAULT or
+   SM_MEMORY. */
+uint32_t sm_decide_as(uint32_t form, const uint8_t *input, size_t input_bytes, sm_answer *answer) SM_CALL(2, 4);
+
 /* What a file is, line by line, as sm_tool show: a bundle, a campaign, evidence or a header alone. The answer is a no
    if and only if the file is no whole one of its kind, and the last line of the text is then the fault. Of any
    other file, as a log alone, the text is a fault. Returns SM_OK, SM_NO, SM_MISUSE or SM_MEMORY. */
@@ -148,7 +184,12 @@ uint32_t sm_explain(const uint8_t *input, size_t input_bytes, sm_answer *answer)
 uint32_t sm_words(const uint8_t *input, size_t input_bytes, sm_answer *answer) SM_CALL(1, 3);
 
 /* Writes the text or line that an answer holds. The answer keeps it. If the room has 0 bytes, *count tells the length.
-   SM_MISUSE if nothing is held. Returns SM_OK, SM_MISUSE or SM_LENGTH. */
+
+     SM_OK       the text or line is there, also the text of a no
+     SM_MISUSE   nothing is held, or the room is null though it has bytes
+     SM_LENGTH   the text or line is longer than the room: call again with room for *count bytes
+
+   Returns SM_OK, SM_MISUSE or SM_LENGTH. */
 uint32_t sm_answer_text(sm_answer *answer, uint8_t *room, size_t room_bytes, size_t *count) SM_CALL(1, 2, 4);
 
 /* Frees what an answer holds, so that it holds nothing. An answer that holds nothing stays so. */
@@ -231,6 +272,29 @@ SM_CHECKED_RUNS(draw_of)
 SM_CHECKED_RUNS(evidence_of)
 SM_CHECKED_RUNS_NUMBER(audit_of)
 SM_CHECKED_RUNS_NUMBER(accuse_of)
+SM_CHECKED_RUNS_NUMBER(accuse_known_of)
+SM_CHECKED_RUNS_NUMBER(evidence_as)
+SM_CALL(5) static inline uint32_t sm_checked_refute_kept(const uint8_t *evidence, size_t evidence_bytes,
+                                                         const uint8_t *log, size_t log_bytes, sm_answer *answer) {
+    uint8_t none[2] = {0, 0};
+    if (sm_is_missing(evidence, evidence_bytes)) return sm_no_answer(answer);
+    if (sm_is_missing(log, log_bytes)) return sm_no_answer(answer);
+    return sm_refute_kept(evidence ? evidence : none, evidence_bytes, log ? log : none + 1, log_bytes, answer);
+}
+SM_CALL(7) static inline uint32_t sm_checked_audit_as(const uint8_t *runs, size_t run_count, uint32_t strict,
+                                                      uint32_t form, const uint8_t *input, size_t input_bytes,
+                                                      sm_answer *answer) {
+    uint8_t none[2] = {0, 0};
+    if (sm_is_missing(runs, run_count)) return sm_no_answer(answer);
+    if (sm_is_missing(input, input_bytes)) return sm_no_answer(answer);
+    return sm_audit_as(runs ? runs : none, run_count, strict, form, input ? input : none + 1, input_bytes, answer);
+}
+SM_CALL(4) static inline uint32_t sm_checked_decide_as(uint32_t form, const uint8_t *input, size_t input_bytes,
+                                                       sm_answer *answer) {
+    uint8_t none[1] = {0};
+    if (sm_is_missing(input, input_bytes)) return sm_no_answer(answer);
+    return sm_decide_as(form, input ? input : none, input_bytes, answer);
+}
 SM_CALL(4) static inline uint32_t sm_checked_answer_text(sm_answer *answer, uint8_t *room, size_t room_bytes,
                                                          size_t *count) {
     uint8_t none[1] = {0};
@@ -255,6 +319,11 @@ SM_CALL(4) static inline uint32_t sm_checked_answer_text(sm_answer *answer, uint
 #define sm_draw_of sm_checked_draw_of
 #define sm_accuse_of sm_checked_accuse_of
 #define sm_evidence_of sm_checked_evidence_of
+#define sm_accuse_known_of sm_checked_accuse_known_of
+#define sm_refute_kept sm_checked_refute_kept
+#define sm_audit_as sm_checked_audit_as
+#define sm_evidence_as sm_checked_evidence_as
+#define sm_decide_as sm_checked_decide_as
 #define sm_show sm_checked_show
 #define sm_explain sm_checked_explain
 #define sm_words sm_checked_words

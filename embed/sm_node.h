@@ -12,7 +12,8 @@
    one run. No second node may be made, not even if the first was freed, or its process ended or forked. What a node
    signed is kept nowhere, so a second node would sign again. Two different texts under one key give away secrets of the
    key, and can convict the general. A node that is started anew is out of that run; in version 2 all nodes may use the
-   next slot. A node that exists before a fork is used on one side alone, and on the other side it is freed at most.
+   next slot. Nodes of one seed in different slots may be there at the same time. A node that exists before a fork is
+   used on one side alone, and on the other side it is freed at most.
 
    Each function but sm_node_free and sm_node_version returns one of these numbers. Not every function returns each of
    them. sm_status.h has them, and what may change between versions.
@@ -20,12 +21,13 @@
      SM_OK       it was done
      SM_MISUSE   the call is not allowed here, or a pointer is null though there are bytes, and nothing was changed
      SM_FAULT    the input has a fault, and nothing was changed: *fault is its number
-     SM_MEMORY   memory was refused, and the same call may be made again. After sm_node_begin_round a round may be half
-                 begun, and after sm_node_end_round half ended: the same call continues it, and nothing is signed
-                 twice. Until it is done, sm_node_hear reports SM_F1, and every other call on the node but
-                 sm_node_free, sm_node_round and sm_node_awaits is SM_MISUSE. After all other functions nothing was
-                 changed
+     SM_MEMORY   memory was refused, and the same call may be made again
      SM_LENGTH   the bytes are longer than the room, and nothing was changed: call again with room for *count bytes
+
+   At SM_MEMORY nothing was changed, but by two functions: after sm_node_begin_round a round may be half begun, and
+   after sm_node_end_round half ended. The same call continues it, and nothing is signed twice. Until it is done,
+   sm_node_hear reports SM_F1, and every other call on the node is SM_MISUSE, but sm_node_free and the calls that only
+   tell something, as sm_node_round.
 
    At SM_FAULT alone *fault is not 0. At SM_OK and SM_LENGTH *count is the number of bytes, and else 0. The room behind
    the bytes keeps its old content. So does the whole room if no bytes were written.
@@ -55,8 +57,17 @@
 extern "C" {
 #endif
 
-/* An old name, which the next version does not have. */
+/* Old names, which the next version does not have. */
 #define sm_node_status sm_status
+#define sm_root sm_node_root
+#define sm_header sm_node_header
+#define sm_bundle sm_node_bundle
+#define sm_bundle_parted sm_node_bundle_parted
+#define sm_header_numbers sm_node_header_numbers
+#define sm_rounds sm_node_rounds
+#define sm_neighbours sm_node_neighbours
+#define sm_frame_most sm_node_frame_most
+#define sm_fault_text sm_node_fault_text
 
 /* In place of an order: the general has none. Only general 0, the commander, has one. */
 enum { SM_NO_ORDER = 255 };
@@ -81,7 +92,7 @@ typedef struct {
 } sm_node;
 
 /* The numbers of a header: traitors is m, diameter is d, and a run has m + d rounds. There are `orders` orders, from 0.
-   The numbers may be any values, and sm_header checks them. The slot counts in version 2 alone. */
+   The numbers may be any values, and sm_node_header checks them. The slot counts in version 2 alone. */
 typedef struct {
     uint8_t version, slot, generals, traitors, diameter, orders, choice;
 } sm_numbers;
@@ -96,24 +107,30 @@ typedef struct {
    A seed is 32 secret random bytes of the system's generator, as getrandom gives them: whoever knows the seed can sign
    as the general. The root is no secret. The library does not wipe what it makes of a seed, and the caller wipes the
    seed. Returns SM_OK, SM_MISUSE or SM_MEMORY. */
-uint32_t sm_root(const uint8_t seed[32], uint32_t version, uint8_t root[32]) SM_CALL(1, 3);
+uint32_t sm_node_root(const uint8_t seed[32], uint32_t version, uint8_t root[32]) SM_CALL(1, 3);
 
 /* Writes the bytes of the header of these numbers, edges and roots: at most 8 + 2 * edge_count + 32 * root_count. An
    edge is two bytes, and the edges come in any order and direction. A root is 32 bytes, and the roots come in the order
    of their generals. H1 to H7 are reported first, then H10 for a version other than 1 or 2, then H8 for another number
    of roots, then H11. Returns SM_OK, SM_MISUSE, SM_FAULT, SM_MEMORY or SM_LENGTH. */
-uint32_t sm_header(const sm_numbers *numbers, const uint8_t *edges, size_t edge_count, const uint8_t *roots,
-                   size_t root_count, uint8_t *room, size_t room_bytes, size_t *count, uint32_t *fault)
+uint32_t sm_node_header(const sm_numbers *numbers, const uint8_t *edges, size_t edge_count, const uint8_t *roots,
+                        size_t root_count, uint8_t *room, size_t room_bytes, size_t *count, uint32_t *fault)
     SM_CALL(1, 2, 4, 6, 8, 9);
 
 /* Makes a node of a header's bytes, the number of a general, the general's seed, and the order if the general is the
    commander, else SM_NO_ORDER. SM_MISUSE if a node is there already, the general is above 15, or the order is neither 0
-   to 15 nor SM_NO_ORDER. Returns SM_OK, SM_MISUSE, SM_FAULT or SM_MEMORY. */
+   to 15 nor SM_NO_ORDER. An order that is none of the header's is SM_NO_GENERAL, so 15 always is: the greatest that a
+   header can have is 14. Returns SM_OK, SM_MISUSE, SM_FAULT or SM_MEMORY. */
 uint32_t sm_node_new(sm_node *node, const uint8_t *header, size_t header_bytes, uint32_t general,
                      const uint8_t seed[32], uint32_t order, uint32_t *fault) SM_CALL(1, 2, 5, 7);
 
 /* Begins the next round: the node signs what it has to sign in this round. SM_MISUSE if there is no node, a round is
-   open, or the last round has ended. Returns SM_OK, SM_MISUSE or SM_MEMORY. */
+   open, or the last round has ended.
+
+     SM_MEMORY   memory was refused. The round may be half begun: the same call continues it, and nothing is signed
+                 twice
+
+   Returns SM_OK, SM_MISUSE or SM_MEMORY. */
 uint32_t sm_node_begin_round(sm_node *node) SM_CALL(1);
 
 /* Writes the bytes of this round's frame to a neighbour. The node stays as it was, so the same frame can be asked for
@@ -130,7 +147,11 @@ uint32_t sm_node_hear(sm_node *node, uint32_t from, const uint8_t *bytes, size_t
     SM_CALL(1, 3, 5);
 
 /* Ends the round: a neighbour from which no frame was taken counts as one that sent nothing. SM_MISUSE if no round is
-   open. Returns SM_OK, SM_MISUSE or SM_MEMORY. */
+   open.
+
+     SM_MEMORY   memory was refused. The round may be half ended: the same call continues it
+
+   Returns SM_OK, SM_MISUSE or SM_MEMORY. */
 uint32_t sm_node_end_round(sm_node *node) SM_CALL(1);
 
 /* Ends the node after the last round: its log is sealed, and its ring of keys is closed. SM_MISUSE if there is no node,
@@ -155,45 +176,60 @@ void sm_node_free(sm_node *node);
    they are. Faults of the header are reported first, then SM_U1 and SM_U2, then those of the bundle. SM_MISUSE if the
    set has a general above 15, a general of a log is above 15, or the lengths of the logs do not add up to byte_count.
    Returns SM_OK, SM_MISUSE, SM_FAULT, SM_MEMORY or SM_LENGTH. */
-uint32_t sm_bundle(const uint8_t *header, size_t header_bytes, uint32_t faulty, const sm_log *logs, size_t log_count,
-                   const uint8_t *bytes, size_t byte_count, uint8_t *room, size_t room_bytes, size_t *count,
-                   uint32_t *fault) SM_CALL(1, 4, 6, 8, 10, 11);
+uint32_t sm_node_bundle(const uint8_t *header, size_t header_bytes, uint32_t faulty, const sm_log *logs,
+                        size_t log_count, const uint8_t *bytes, size_t byte_count, uint8_t *room, size_t room_bytes,
+                        size_t *count, uint32_t *fault) SM_CALL(1, 4, 6, 8, 10, 11);
 
-/* Writes the bytes of a bundle, as sm_bundle, but there is no SM_U1 and no SM_U2: if two generals that are not held for
+/* Writes the bytes of a bundle, as sm_node_bundle, but there is no SM_U1 and no SM_U2: if two generals that are not held for
    faulty have no walk of at most d edges, the bundle has no walks. The audit finds that, which is N10, and all else
    that it finds in the logs. Returns SM_OK, SM_MISUSE, SM_FAULT, SM_MEMORY or SM_LENGTH. */
-uint32_t sm_bundle_parted(const uint8_t *header, size_t header_bytes, uint32_t faulty, const sm_log *logs,
-                          size_t log_count, const uint8_t *bytes, size_t byte_count, uint8_t *room, size_t room_bytes,
-                          size_t *count, uint32_t *fault) SM_CALL(1, 4, 6, 8, 10, 11);
+uint32_t sm_node_bundle_parted(const uint8_t *header, size_t header_bytes, uint32_t faulty, const sm_log *logs,
+                               size_t log_count, const uint8_t *bytes, size_t byte_count, uint8_t *room,
+                               size_t room_bytes, size_t *count, uint32_t *fault) SM_CALL(1, 4, 6, 8, 10, 11);
 
 /* Reads the numbers of a header from its bytes. They stay as they were if it is not SM_OK. Returns SM_OK, SM_MISUSE,
    SM_FAULT or SM_MEMORY. */
-uint32_t sm_header_numbers(const uint8_t *header, size_t header_bytes, sm_numbers *numbers, uint32_t *fault)
+uint32_t sm_node_header_numbers(const uint8_t *header, size_t header_bytes, sm_numbers *numbers, uint32_t *fault)
     SM_CALL(1, 3, 4);
 
 /* Tells how many rounds a run of this header has, 1 to 16: m + d. *rounds is 0 if it is not SM_OK. Returns SM_OK,
    SM_MISUSE, SM_FAULT or SM_MEMORY. */
-uint32_t sm_rounds(const uint8_t *header, size_t header_bytes, uint32_t *rounds, uint32_t *fault) SM_CALL(1, 3, 4);
+uint32_t sm_node_rounds(const uint8_t *header, size_t header_bytes, uint32_t *rounds, uint32_t *fault) SM_CALL(1, 3, 4);
 
 /* Tells the neighbours of a general by this header: bit g of the set is that of general g. The set is empty if the
    general is none of the header's, or if it is not SM_OK. SM_MISUSE if the general is above 15. Returns SM_OK,
    SM_MISUSE, SM_FAULT or SM_MEMORY. */
-uint32_t sm_neighbours(const uint8_t *header, size_t header_bytes, uint32_t general, uint32_t *set, uint32_t *fault)
+uint32_t sm_node_neighbours(const uint8_t *header, size_t header_bytes, uint32_t general, uint32_t *set, uint32_t *fault)
     SM_CALL(1, 4, 5);
 
 /* Tells how many bytes a frame has at most, in any round of a run of this header, if its sender follows the algorithm.
    A transport need not carry a longer one. *most is 0 if it is not SM_OK. Returns SM_OK, SM_MISUSE, SM_FAULT or
    SM_MEMORY. */
-uint32_t sm_frame_most(const uint8_t *header, size_t header_bytes, size_t *most, uint32_t *fault) SM_CALL(1, 3, 4);
+uint32_t sm_node_frame_most(const uint8_t *header, size_t header_bytes, size_t *most, uint32_t *fault) SM_CALL(1, 3, 4);
 
-/* Tells the number of the round that began last, 0 before the first. SM_MISUSE if there is no node, or it has ended;
-   then *round is 0. Returns SM_OK or SM_MISUSE. */
+/* Tells the number of the round that began last, 0 before the first. A round that is half begun counts once the node
+   has signed for it: so after SM_MEMORY of sm_node_begin_round it is the new round or the one before. SM_MISUSE if there
+   is no node, or it has ended; then *round is 0. Returns SM_OK or SM_MISUSE. */
 uint32_t sm_node_round(sm_node *node, uint32_t *round) SM_CALL(1, 2);
 
 /* Tells whether a frame goes out to a general now and one from it is awaited, 1 or 0: a round is open, and the general
-   is a neighbour. Whether its frame was taken in this round, sm_node_hear has told. SM_MISUSE if there is no node, it
+   is a neighbour. Whether its frame was taken in this round, sm_node_lacks tells. SM_MISUSE if there is no node, it
    has ended, or the general is above 15; then *awaited is 0. Returns SM_OK or SM_MISUSE. */
 uint32_t sm_node_awaits(sm_node *node, uint32_t general, uint32_t *awaited) SM_CALL(1, 3);
+
+/* Tells whether a frame from a general is still awaited, 1 or 0: a round is open, the general is a neighbour, and no
+   frame of it was taken in this round. SM_MISUSE if there is no node, it has ended, or the general is above 15; then
+   *lacks is 0. Returns SM_OK or SM_MISUSE. */
+uint32_t sm_node_lacks(sm_node *node, uint32_t general, uint32_t *lacks) SM_CALL(1, 3);
+
+/* Tells whether sm_node_end_round may be called, 1 or 0: a round is open, or half ended. It may end at any time, and
+   the generals that sm_node_lacks names then count as having sent nothing. SM_MISUSE if there is no node, or it has
+   ended; then *may is 0. Returns SM_OK or SM_MISUSE. */
+uint32_t sm_node_may_end(sm_node *node, uint32_t *may) SM_CALL(1, 2);
+
+/* Tells whether sm_node_finish may be called, 1 or 0: the last round has ended. SM_MISUSE if there is no node, or it
+   has ended; then *is_over is 0. Returns SM_OK or SM_MISUSE. */
+uint32_t sm_node_is_over(sm_node *node, uint32_t *is_over) SM_CALL(1, 2);
 
 /* The number of the version of the archive, which is SM_VERSION_NUMBER if the header is of the same version. */
 uint32_t sm_node_version(void);
@@ -203,7 +239,7 @@ uint32_t sm_node_version(void);
 #endif
 
 /* A fault in words, by its number. It is never null, and stays as it is. */
-static inline const char *sm_fault_text(uint32_t fault) {
+static inline const char *sm_node_fault_text(uint32_t fault) {
     switch (fault) {
     case SM_H1: return "there are not 2 to 16 generals";
     case SM_H2: return "an edge is none between two of the generals, comes twice, or is out of order";
@@ -246,16 +282,16 @@ static inline const char *sm_fault_text(uint32_t fault) {
 /* Null pointers are tested before the call of the archive. With SM_UNCHECKED the archive is called at once. */
 #ifndef SM_UNCHECKED
 SM_CALL(1, 8, 9)
-static inline uint32_t sm_checked_header(const sm_numbers *numbers, const uint8_t *edges, size_t edge_count,
-                                         const uint8_t *roots, size_t root_count, uint8_t *room, size_t room_bytes,
-                                         size_t *count, uint32_t *fault) {
+static inline uint32_t sm_checked_node_header(const sm_numbers *numbers, const uint8_t *edges, size_t edge_count,
+                                              const uint8_t *roots, size_t root_count, uint8_t *room, size_t room_bytes,
+                                              size_t *count, uint32_t *fault) {
     uint8_t none[3] = {0, 0, 0};
     *count = 0;
     *fault = 0;
     if (sm_is_missing(edges, edge_count) || sm_is_missing(roots, root_count)) return SM_MISUSE;
     if (sm_is_missing(room, room_bytes)) return SM_MISUSE;
-    return sm_header(numbers, edges ? edges : none, edge_count, roots ? roots : none + 1, root_count,
-                     room ? room : none + 2, room_bytes, count, fault);
+    return sm_node_header(numbers, edges ? edges : none, edge_count, roots ? roots : none + 1, root_count,
+                          room ? room : none + 2, room_bytes, count, fault);
 }
 SM_CALL(1, 5, 7)
 static inline uint32_t sm_checked_node_new(sm_node *node, const uint8_t *header, size_t header_bytes, uint32_t general,
@@ -301,54 +337,54 @@ static inline uint32_t sm_checked_node_log(sm_node *node, uint8_t *room, size_t 
         return sm_##name(header ? header : none, header_bytes, faulty, logs ? logs : &nobody, log_count,               \
                          bytes ? bytes : none + 1, byte_count, room ? room : none + 2, room_bytes, count, fault);      \
     }
-SM_CHECKED_BUNDLE(bundle)
-SM_CHECKED_BUNDLE(bundle_parted)
+SM_CHECKED_BUNDLE(node_bundle)
+SM_CHECKED_BUNDLE(node_bundle_parted)
 #undef SM_CHECKED_BUNDLE
 SM_CALL(3, 4)
-static inline uint32_t sm_checked_header_numbers(const uint8_t *header, size_t header_bytes, sm_numbers *numbers,
-                                                 uint32_t *fault) {
+static inline uint32_t sm_checked_node_header_numbers(const uint8_t *header, size_t header_bytes, sm_numbers *numbers,
+                                                      uint32_t *fault) {
     uint8_t none = 0;
     *fault = 0;
     if (sm_is_missing(header, header_bytes)) return SM_MISUSE;
-    return sm_header_numbers(header ? header : &none, header_bytes, numbers, fault);
+    return sm_node_header_numbers(header ? header : &none, header_bytes, numbers, fault);
 }
 SM_CALL(3, 4)
-static inline uint32_t sm_checked_rounds(const uint8_t *header, size_t header_bytes, uint32_t *rounds,
-                                         uint32_t *fault) {
+static inline uint32_t sm_checked_node_rounds(const uint8_t *header, size_t header_bytes, uint32_t *rounds,
+                                              uint32_t *fault) {
     uint8_t none = 0;
     *rounds = 0;
     *fault = 0;
     if (sm_is_missing(header, header_bytes)) return SM_MISUSE;
-    return sm_rounds(header ? header : &none, header_bytes, rounds, fault);
+    return sm_node_rounds(header ? header : &none, header_bytes, rounds, fault);
 }
 SM_CALL(4, 5)
-static inline uint32_t sm_checked_neighbours(const uint8_t *header, size_t header_bytes, uint32_t general,
-                                             uint32_t *set, uint32_t *fault) {
+static inline uint32_t sm_checked_node_neighbours(const uint8_t *header, size_t header_bytes, uint32_t general,
+                                                  uint32_t *set, uint32_t *fault) {
     uint8_t none = 0;
     *set = 0;
     *fault = 0;
     if (sm_is_missing(header, header_bytes)) return SM_MISUSE;
-    return sm_neighbours(header ? header : &none, header_bytes, general, set, fault);
+    return sm_node_neighbours(header ? header : &none, header_bytes, general, set, fault);
 }
 SM_CALL(3, 4)
-static inline uint32_t sm_checked_frame_most(const uint8_t *header, size_t header_bytes, size_t *most,
-                                             uint32_t *fault) {
+static inline uint32_t sm_checked_node_frame_most(const uint8_t *header, size_t header_bytes, size_t *most,
+                                                  uint32_t *fault) {
     uint8_t none = 0;
     *most = 0;
     *fault = 0;
     if (sm_is_missing(header, header_bytes)) return SM_MISUSE;
-    return sm_frame_most(header ? header : &none, header_bytes, most, fault);
+    return sm_node_frame_most(header ? header : &none, header_bytes, most, fault);
 }
-#define sm_header sm_checked_header
+#define sm_node_header sm_checked_node_header
 #define sm_node_new sm_checked_node_new
 #define sm_node_send sm_checked_node_send
 #define sm_node_hear sm_checked_node_hear
 #define sm_node_log sm_checked_node_log
-#define sm_bundle sm_checked_bundle
-#define sm_bundle_parted sm_checked_bundle_parted
-#define sm_header_numbers sm_checked_header_numbers
-#define sm_rounds sm_checked_rounds
-#define sm_neighbours sm_checked_neighbours
-#define sm_frame_most sm_checked_frame_most
+#define sm_node_bundle sm_checked_node_bundle
+#define sm_node_bundle_parted sm_checked_node_bundle_parted
+#define sm_node_header_numbers sm_checked_node_header_numbers
+#define sm_node_rounds sm_checked_node_rounds
+#define sm_node_neighbours sm_checked_node_neighbours
+#define sm_node_frame_most sm_checked_node_frame_most
 #endif
 #endif

@@ -39,7 +39,7 @@ enum { SM_VERSION_NUMBER = 2000 };
 enum sm_status {
     SM_OK = 0,     /* it was done; an answer is not a no */
     SM_NO = 1,     /* it was done, and the answer is a no */
-    SM_MISUSE = 2, /* the call is not allowed here, and nothing was done */
+    SM_MISUSE = 2, /* the call is not allowed here. Nothing was done, but an sm_answer that is to be filled is freed */
     SM_FAULT = 3,  /* the input has a fault, which is told */
     SM_MEMORY = 4, /* memory was refused: the same call may be made again */
     SM_LENGTH = 5, /* what is to be written is longer than the room, and its length is told */

@@ -52,18 +52,31 @@ has_level_3() {
     done
 }
 
-# Builds the program of the copy for processors of the level x86-64-v3 too, as $copy/sm_tool-v3. The libraries are those that
-# the gate has built, which count as built by tools/libraries.py. The toolchain proves the program's own crate anew, and runs
-# what it has built, which an older processor can't: that counts for nothing. The gate's own program stays where it is.
-build_level_3() {
-    built=$copy/tree/crates/sm_tool/out/sm_tool
-    mv "$built" "$copy/sm_tool" || return 1
-    (cd "$copy/tree/crates/sm_tool" && rt run --cpu=x86-64-v3 -- --version) >"$copy/level_3" 2>&1 </dev/null
-    grep -q '^logic=proved .* cpu=x86-64-v3 ' "$copy/level_3" && mv "$built" "$copy/sm_tool-v3"
+# Builds what a crate of the copy has built once more, for processors of the level x86-64-v3, and puts it to $copy. The words are
+# the crate, the file of its out/, the name of what comes of it, and those of rt. The libraries below are those that the gate has
+# built, which count as built by tools/libraries.py. The toolchain proves the crate itself anew. It also runs a program that it has
+# built, which an older processor can't: that counts for nothing. The gate's own file stays where it is.
+build_once_more() {
+    built=$copy/tree/crates/$1/out/$2
+    mv "$built" "$copy/$2" || return 1
+    (cd "$copy/tree/crates/$1" && shift 3 && rt "$@") >"$copy/level_3_$2" 2>&1 </dev/null
+    grep -q '^logic=proved .* cpu=x86-64-v3 ' "$copy/level_3_$2" && mv "$built" "$copy/$3"
     is_built=$?
-    mv "$copy/sm_tool" "$built" || return 1
-    [ "$is_built" -eq 0 ] || tail -n 5 "$copy/level_3" >&2
+    mv "$copy/$2" "$built" || return 1
+    [ "$is_built" -eq 0 ] || tail -n 5 "$copy/level_3_$2" >&2
     return "$is_built"
+}
+
+# The program for processors of level 3, as $copy/sm_tool-v3.
+build_level_3() {
+    build_once_more sm_tool sm_tool sm_tool-v3 run --cpu=x86-64-v3 -- --version
+}
+
+# The two libraries for C for processors of level 3, as $copy/libNAME-v3.a.
+build_libraries_level_3() {
+    for it in sm_embed sm_node; do
+        build_once_more "$it" "lib$it.a" "lib$it-v3.a" lib --cpu=x86-64-v3 || return 1
+    done
 }
 
 # Puts a built file of a crate to out/, and keeps what it was proved from and what the gate said last: ./dist looks at that.

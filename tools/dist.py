@@ -2,7 +2,7 @@
 """Makes the archive of a release, and of it a package for Debian; the script `dist` tells the words.
 
 The archive has what git has of the documents, the examples and the reference, and what was proved and built: out/sm_tool,
-out/libsm_embed.a, out/libsm_node.a, and where they are there out/sm_tool-v3, the program for processors with AVX2, and the page
+out/libsm_embed.a, out/libsm_node.a, and where they are there those for processors with AVX2, as out/sm_tool-v3, and the page
 out/audit.html. tools/proved.py says whether they were proved from the sources that are checked out. The compiler makes the heap and the shared libraries, which nothing proves.
 Dates are that of the commit, or SOURCE_DATE_EPOCH; owners, modes and the order are fixed.
 """
@@ -30,7 +30,9 @@ OUT = os.path.join(TOP, "out")
 BUILT = [("sm_tool", "sm_tool", "bin/sm_tool"), ("libsm_embed.a", "sm_embed", "lib/libsm_embed.a")]
 BUILT += [("libsm_node.a", "sm_node", "lib/libsm_node.a")]
 PAGE = ("audit.html", "sm_embed", "page/audit.html")
-LEVEL_3 = ("sm_tool-v3", "sm_tool", "bin/sm_tool-v3")
+# What is there for processors with AVX2.
+LEVEL_3 = [("sm_tool-v3", "sm_tool", "bin/sm_tool-v3"), ("libsm_embed-v3.a", "sm_embed", "lib/libsm_embed-v3.a")]
+LEVEL_3 += [("libsm_node-v3.a", "sm_node", "lib/libsm_node-v3.a")]
 # What the archive has of the repository, at the same place.
 KEPT = ("README.md", "CHANGELOG.md", "INSTALL.md", "SECURITY.md", "LICENSE-MIT", "LICENSE-APACHE", "install.sh")
 FOLDERS = ("docs/", "examples/", "reference/", "embed/")
@@ -78,7 +80,7 @@ def commit():
 
 def look_over():
     """Refuses what is missing, or was not proved from the sources of the checkout. Returns what is there."""
-    there = [*BUILT, *(it for it in (LEVEL_3, PAGE) if os.path.exists(os.path.join(OUT, it[0])))]
+    there = [*BUILT, *(it for it in [*LEVEL_3, PAGE] if os.path.exists(os.path.join(OUT, it[0])))]
     for name, crate, _ in there:
         wrong = proved.look(TOP, os.path.join(OUT, name), crate)
         if wrong:
@@ -115,7 +117,8 @@ def put_libraries(tree):
         run("cc", *COMPILED, "-c", "heap.c", "-o", "heap.o", cwd=scratch)
         run("ar", "rcsD", "heap.a", "heap.o", cwd=scratch)
         write(f"{tree}/lib/libsm_embed_heap.a", read(f"{scratch}/heap.a"))
-        write(f"{tree}/include/{SHARED}.h", read(os.path.join(TOP, "embed", f"{SHARED}.h")))
+        for name in SHARED:
+            write(f"{tree}/include/{name}.h", read(os.path.join(TOP, "embed", f"{name}.h")))
         for name in HEADERS:
             header = read(os.path.join(TOP, "embed", f"{name}.h"))
             write(f"{tree}/include/{name}.h", header)
@@ -167,7 +170,7 @@ def proved_text(tree, named, seconds, built):
         lines += ["", place, f"  sha256 {of['digest']}", f"  sources {of['sources']}", f"  gate {of['gate']}"]
     if PAGE in built:
         lines += ["  unproved is the step that compiles it for the browser: docs/PAGE.md"]
-    lines += [line for it in (LEVEL_3, PAGE) if it not in built for line in ("", f"{it[2]} is not here: it was not made")]
+    lines += [line for it in [*LEVEL_3, PAGE] if it not in built for line in ("", f"{it[2]} is not here: it was not made")]
     return "\n".join(lines) + "\n"
 
 

@@ -1,12 +1,14 @@
 #!/usr/bin/env python3
-"""Makes the manual pages of section 3, man/*.3, of the comments of embed/sm_embed.h, embed/sm_node.h and embed/sm_status.h.
+"""Makes the manual pages of section 3, man/*.3, of the comments of the headers: embed/sm_embed.h, embed/sm_node.h,
+embed/sm_status.h and embed/sm_read.h.
 
     tools/man3.py            writes them, and takes away pages of functions that are gone
     tools/man3.py --check    only says whether they are those that the headers make; else the status is 1
 
 Each header makes a page of its own name, with its first comment and its types, and a page for each function. In a comment
 there are paragraphs, items that begin with `- `, and rows of a name in capitals and what it stands for. The comment of a
-function ends with `Returns` and the numbers that it can return.
+function ends with `Returns` and the numbers that it can return. What these say stands in the rows of the header, or in rows
+of the function's own. Of the header's row of misuse a page has the parts that fit what the function takes.
 """
 import os
 import re
@@ -14,12 +16,22 @@ import sys
 
 from man import TOP, plain, read, safe, version
 
-# The headers of the libraries, and the one that both include.
+# The headers of the libraries, and those that are C alone: the one that both include, and the reader of answers.
 HEADERS = ["sm_embed", "sm_node"]
-SHARED = "sm_status"
+SHARED = ["sm_status", "sm_read"]
 FOLDER = os.path.join(TOP, "man")
 ROW = re.compile(r"(SM_[A-Z0-9]+) {2,}(.*)")
+# What a part of a row of misuse speaks of, and what a function takes that the part fits.
+OF_PARAMETER = {
+    "the number of the general": "uint32_t general",
+    "the number of the form": "uint32_t form",
+    "run ids": "size_t run_count",
+    "no text is held": "sm_answer *answer, uint8_t *room",
+    "a pointer is null": "size_t ",
+}
 FUNCTION = re.compile(r"^(?:uint32_t|void) (\w+)\(", re.MULTILINE)
+# A function of a header alone, which tells a number in words.
+TELLER = re.compile(r"^static inline const char \*(\w+)\(", re.MULTILINE)
 
 
 def comment_of(block):
@@ -32,7 +44,7 @@ def declared(block):
     """What a block declares, behind its comment, without what is for the compiler alone."""
     said = re.sub(r"\A/\*.*?\*/\n?", "", block, flags=re.DOTALL).strip("\n")
     said = re.sub(r"\s+SM_CALL\([^)]*\)", "", said)
-    return re.sub(r"\Astatic inline (.*?) \{.*", r"\1;", said, flags=re.DOTALL)
+    return re.sub(r"\Astatic inline ", "", re.sub(r"\Astatic inline ([^;]*?) \{.*", r"\1;", said, flags=re.DOTALL))
 
 
 def begins(line):
@@ -102,6 +114,11 @@ def blocks_of(text):
     return first, [block for block in re.split(r"\n{2,}(?=/\*|\w)", inside.strip("\n")) if block.strip()]
 
 
+def tellers_of(text):
+    """The functions of a header that tell a number in words, each with the comment before it."""
+    return re.findall(r"/\*(?:(?!\*/).)*\*/\nstatic inline const char \*\w+\(.*?\n\}", text, re.DOTALL)
+
+
 def page_of_header(header, first, blocks):
     """The page that is called as the header."""
     about, *pieces = pieces_of(comment_of(first))
@@ -120,6 +137,22 @@ def page_of_header(header, first, blocks):
     return [*lines, *last(header)]
 
 
+def misuse_of(row, declaration):
+    """A row of misuse with those of its parts that fit a function. What stands behind `, and` is said of all parts."""
+    said, link, rest = row.partition(", and ")
+    parts = re.split(r", (?:or )?", said)
+    fits = [part for part in parts if all(about not in part or taken in declaration for about, taken in OF_PARAMETER.items())]
+    return ", or ".join(filter(None, [", ".join(fits[:-1]), fits[-1]])) + link + rest
+
+
+def rows_of(pieces, declaration=None):
+    """The rows among pieces of a comment, by their names. The row of misuse has what fits a function, if one is given."""
+    rows = {row[1]: row[2] for row in filter(None, map(ROW.fullmatch, pieces))}
+    if declaration and "SM_MISUSE" in rows:
+        rows["SM_MISUSE"] = misuse_of(rows["SM_MISUSE"], declaration)
+    return rows
+
+
 def page_of_function(header, first, block, name):
     """The page of a function."""
     said, returned = parted(comment_of(block))
@@ -127,34 +160,38 @@ def page_of_function(header, first, block, name):
     lines = [*front(name, header, short(paragraphs[0])), ".SH SYNOPSIS", ".nf", f"#include <{header}.h>", ".PP"]
     lines += [*(safe(plain(line)) for line in declared(block).split("\n")), ".fi", ".SH DESCRIPTION"]
     for piece in paragraphs:
-        lines += shown(piece)
+        lines += shown(piece) if not ROW.fullmatch(piece) else []
     tells_status = declared(block).startswith("uint32_t") and not declared(block).endswith("(void);")
     if tells_status != bool(returned):
         sys.exit(f"man3: the comment of {name} has to end with `Returns` and its numbers, if and only if it returns one")
     if returned:
         lines += [".SH RETURN VALUE", "One of these numbers:"]
-        for row in filter(None, map(ROW.fullmatch, pieces_of(comment_of(first)))):
-            lines += shown(row[0]) if row[1] in returned else []
+        rows = rows_of(pieces_of(comment_of(first)), declared(block)) | rows_of(paragraphs)
+        for name_of in filter(rows.get, sorted(returned, key=list(rows).index)):
+            lines += shown(f"{name_of}  {rows[name_of]}")
     lines += [".SH NOTES", f"What the caller has to keep stands in \\fB{header}\\fR(3)."]
     return [*lines, *last(name, header)]
 
 
 def last(name, header=None):
     """The lines that a page ends with."""
-    others = [it for it in [*HEADERS, SHARED] if it != name and (header is None or it == header)]
+    others = [it for it in [*HEADERS, *SHARED] if it != name and (header is None or it == header)]
     return [".SH SEE ALSO", ", ".join(f"\\fB{it}\\fR(3)" for it in others) + ", \\fBsm_tool\\fR(1), docs/EMBED.md"]
 
 
 def pages():
     """Each page by the name of its file."""
     made = {}
-    for header in [*HEADERS, SHARED]:
+    for header in [*HEADERS, *SHARED]:
         first, blocks = blocks_of(read(os.path.join(TOP, "embed", f"{header}.h")))
         made[f"{header}.3"] = page_of_header(header, first, blocks)
         for block in blocks:
             found = FUNCTION.search(declared(block))
             if found:
                 made[f"{found[1]}.3"] = page_of_function(header, first, block, found[1])
+        for block in filter(TELLER.search, tellers_of(read(os.path.join(TOP, "embed", f"{header}.h")))):
+            name = TELLER.search(block)[1]
+            made[f"{name}.3"] = page_of_function(header, first, block, name)
     # A section begins with a paragraph by itself.
     begun = lambda text: re.sub(r"^(\.SH .*)\n\.PP$", r"\1", text, flags=re.MULTILINE)
     return {name: begun("\n".join(lines)) + "\n" for name, lines in made.items()}

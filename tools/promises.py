@@ -7,6 +7,8 @@ A row of a table `Promise | Definition | Call and clause` names definitions in b
 calls and clauses in backticks beside links to files of `src/`. Each definition has to be declared in the file behind whose link
 it stands. Each name of the last column has to be a function, a type, a clause or a law of a file that is linked there, or a
 definition or a field of a file that is linked in the column before.
+The numbers of lines that the reading order of promise 1 tells of its two tables have to be those of the linked files, to 25
+lines: of lines that are neither comment, import nor blank.
 It prints nothing, and its status is 0, where all is as the rows say.
 """
 import pathlib
@@ -77,8 +79,26 @@ def calls_missing(definitions, cell):
             yield f"`{name}` is no call or clause of {', '.join(LINK.findall(cell))}"
 
 
+def lines_in(table):
+    """How many lines that are neither comment, import nor blank the files of definitions have that a table links."""
+    paths = {path for path in LINK.findall(table) if path.endswith(".antt")}
+    lines = [line.strip() for path in paths for line in (read(path) or "").split("\n")]
+    return sum(bool(line) and not line.startswith(("--", "use ")) for line in lines)
+
+
+def wrong_sizes():
+    """What is wrong with the numbers of lines in the reading order of promise 1."""
+    part = PAGE.read_text(encoding="utf-8").partition("\n### To read promise 1")[2].partition("\n## ")[0]
+    tables = re.split(r"\n\n(?=\|)", part)
+    told = re.findall(r"some (\d+) (?:such )?lines", part)
+    found = [lines_in(table.partition("\n\n")[0]) for table in tables if ".antt)" in table.partition("\n\n")[0]]
+    if len(told) != len(found) or any(abs(int(number) - lines) > 25 for number, lines in zip(told, found)):
+        yield f"{PAGE}: the files of promise 1 have {found} lines, and the page tells {told}"
+
+
 def wrong():
     """What is wrong, a line for each."""
+    yield from wrong_sizes()
     for number, cells in rows():
         found = [f"{len(cells)} cells"]
         if len(cells) == len(HEAD):

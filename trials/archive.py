@@ -111,6 +111,17 @@ class Trial:
         again = self.script("audit_folder.sh", self.folder, "one1", "1")
         self.tally.hold("results that are there", None if again.status == 2 else f"{again}")
 
+    def try_lists(self):
+        """Each bundle has its list, here the empty one, and the junk its fault; without a program there is no line."""
+        end, prefix = self.script("list_folder.sh", self.folder), os.fsencode(self.folder) + b"/"
+        told = sorted(tuple(line.split(b"\t")) for line in end.wrote.splitlines())
+        wanted = sorted((b"fault B2 byte 0" if name == JUNK else b"-", prefix + spelled(name)) for name in self.names)
+        self.tally.hold("the lists", None if (end.status, told) == (0, wanted) else f"{end}")
+        env = {**self.env, "SM_TOOL": "/nowhere/sm_tool"}
+        for status, words, how in [(3, (self.folder,), {"env": env}), (2, (), {}), (2, ("nowhere",), {}), (2, (SCRIPTS,), {})]:
+            end = self.script("list_folder.sh", *words, **how)
+            self.tally.hold(f"the lists of {words}", None if (end.status, end.wrote) == (status, b"") else f"{end}")
+
     def try_shares(self):
         for share in range(3):
             self.script("audit_folder.sh", self.folder, f"shares/{share}", "2", f"{share}/3")
@@ -179,6 +190,7 @@ def trials(program, tally):
     with tempfile.TemporaryDirectory() as place:
         trial = Trial(program, place, tally)
         trial.try_one_machine()
+        trial.try_lists()
         trial.try_shares()
         trial.try_slurm()
         trial.try_kubernetes()

@@ -21,7 +21,7 @@ PYTHON, RUST = os.path.join(EMBED, "python"), os.path.join(EMBED, "rust")
 ARCHIVES = {"sm_embed": JOBS, "sm_node": NODES}
 # Of cargo: nothing is fetched, and nothing is written to the sources.
 OFFLINE = ["--offline", "--locked", "--quiet"]
-WORDS = [["audit"], ["draw"], ["evidence"], ["decide"], *(["accuse", str(general)] for general in (0, 1, 15))]
+WORDS = [["audit"], ["draw"], ["evidence"], ["decide"], *([it, "--json"] for it in ("audit", "evidence", "decide")), *(["accuse", str(general)] for general in (0, 1, 15))]
 
 
 def build_libraries(folder, source_of_heap):
@@ -44,6 +44,10 @@ def example_cases():
 
 def text_of(vamuretu, job, given):
     """The status and the text of an answer of the package."""
+    if job[1:] == ["--json"]:
+        line = {"audit": vamuretu.audit_json, "evidence": vamuretu.evidence_json, "decide": vamuretu.decide_json}[job[0]](given)
+        is_no = '"holds":false' in line or '"verdict":"no"' in line
+        return int(is_no), line.encode()
     if job[0] == "audit":
         verdict = vamuretu.audit(given)
         return int(verdict.is_no), str(verdict).encode()
@@ -138,6 +142,10 @@ def try_rust(tally, folder, cases, wanted):
     given = {**os.environ, "VAMURETU_LIBRARIES": folder, "VAMURETU_BUNDLES": folder, "CARGO_TARGET_DIR": target}
     do(["cargo", "build", *OFFLINE, "--examples"], cwd=RUST, env=given)
     tally.hold("Rust, its tests", tests_wrong(["cargo", "test", *OFFLINE], cwd=RUST, env=given))
+    own = ["cargo", "test", *OFFLINE, "--features", "global-allocator"]
+    tally.hold("Rust, its tests over Rust's heap", tests_wrong(own, cwd=RUST, env=given))
+    pool = {**given, "VAMURETU_HEAP": source("nodes/pool.c")}
+    tally.hold("Rust, its example over a pool", verdict_wrong(["cargo", "run", *OFFLINE, "--example", "agree"], cwd=RUST, env=pool))
     built = os.path.join(target, "debug", "examples")
     tally.hold("Rust, its example", verdict_wrong([os.path.join(built, "agree")]))
     judge = os.path.join(built, "judge")

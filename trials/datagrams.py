@@ -266,7 +266,7 @@ def cut_wrong(program, made, folder, cut):
 
 
 def words_wrong(made, folder):
-    """None where wrong files of addresses are refused, with a word about the line."""
+    """None where wrong files of addresses are refused, with a word about the line, and no log is left."""
     cases = ["", "0 127.0.0.1\n", "0 localhost 4000\n", "x 127.0.0.1 4000\n", "16 127.0.0.1 4000\n", "0 127.0.0.1 4000"]
     cases += ["0 127.0.0.1 4000 x\n", "0 127.0.0.1 4000\n0 127.0.0.2 4000\n", "0 127.0.0.1 4000\n1 127.0.0.1 4000\n"]
     cases += ["0 127.0.0.1 65536\n", "0 127.0.0.1 4000\n1 ::1 4000\n", f"0 {'1' * 130} 4000\n"]
@@ -278,7 +278,7 @@ def words_wrong(made, folder):
             kept.write(text)
         program, *words = made["general_udp"]
         end = run(program, [*words, of_case, "0", "9", "1"])
-        if end.status != 1 or end.wrote or not end.said:
+        if end.status != 1 or end.wrote or not end.said or os.path.exists(os.path.join(of_case, "0.log")):
             return f"{text!r}: {end}"
     return None
 

@@ -3,7 +3,8 @@
    The calls are open, write, fsync, rename, unlink, bind and sendto, counted from 1. DIE_AT is the number of the call,
    and DIE is `before` it, `within` it (of a write half of the bytes are written), or `after` it. The file that CALLS_TO
    names gets a line for each call that was done, with the name of the file in its folder: `open 0.log`, `write
-   0.log.new 100`, `fsync 0.log`, `fsync .` of the folder, `rename 0.log.new 0.log`, `unlink 0`, `bind`, `send`. */
+   0.log.new 100`, `fsync 0.log`, `rename 0.log.new 0.log`, `unlink 0`, `bind`, `send`. The folder with the file that
+   CALLS_TO names has the name `.`, as in `fsync .`, and another folder has the name `..`. */
 #define _GNU_SOURCE
 #include <dlfcn.h>
 #include <fcntl.h>
@@ -30,7 +31,18 @@ static const char *last(const char *path) {
     return cut == NULL ? path : cut + 1;
 }
 
-/* The name of an open file in its folder, or `.` of a folder. */
+/* The name of an open folder: whether it is the one with the file that CALLS_TO names. */
+static const char *folder_name(const struct stat *state) {
+    char path[4096];
+    const char *to = getenv("CALLS_TO");
+    struct stat own;
+    if (to == NULL) return "..";
+    snprintf(path, sizeof path, "%.*s.", (int)(last(to) - to), to);
+    if (stat(path, &own) != 0) _exit(99);
+    return own.st_dev == state->st_dev && own.st_ino == state->st_ino ? "." : "..";
+}
+
+/* The name of an open file in its folder, or of an open folder. */
 static const char *name_of(int file) {
     static char path[4096];
     char link[40];
@@ -39,7 +51,7 @@ static const char *name_of(int file) {
     ssize_t length = readlink(link, path, sizeof path - 1);
     if (length < 0 || fstat(file, &state) != 0) _exit(99);
     path[length] = '\0';
-    return S_ISDIR(state.st_mode) ? "." : last(path);
+    return S_ISDIR(state.st_mode) ? folder_name(&state) : last(path);
 }
 
 /* Whether the process dies so at the call whose number was counted last. */

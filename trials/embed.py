@@ -9,9 +9,11 @@ and memcpy, and that it frees all.
 import ctypes
 import importlib.util
 import os
+import re
 import shutil
 import subprocess
 import tempfile
+import textwrap
 
 from bends import bend_bundle, bend_evidence, bend_text
 from bent import Bases
@@ -35,7 +37,7 @@ HUNDRED = 100
 # What docs/EMBED.md says is enough stack for a call.
 STACK = 1 << 20
 FILLED = b"\xa5"
-OK, GENERAL, FAULT, LENGTH, NOBODY = 0, 2, 3, 5, 6
+OK, GENERAL, FAULT, MEMORY, LENGTH, NOBODY = 0, 2, 3, 4, 5, 6
 
 
 class IsNotBuilt(Exception):
@@ -55,7 +57,7 @@ def source(name):
 
 
 def build_all(folder):
-    """The examples in C and C++ by name, and the shared library."""
+    """The examples in C and C++ by name, the shared library, and the programs of answers that are kept and of typed ones."""
     of_c, of_cpp = ["cc", "-std=c11", "-O2", *WARNINGS], ["c++", "-std=c++17", "-O2", *WARNINGS]
     heap, whole = os.path.join(folder, "heap.o"), ["-Wl,--whole-archive", ARCHIVE, "-Wl,--no-whole-archive"]
     do([*of_c, "-fPIC", "-c", source("heap.c"), "-o", heap])
@@ -65,11 +67,15 @@ def build_all(folder):
         "C++": [*of_cpp, source("example.cpp"), heap, ARCHIVE],
         "answers": [*of_c, source("answers.c"), heap, ARCHIVE],
         "answers, sanitized": [*of_c, *SANITIZERS, source("answers.c"), source("heap.c"), ARCHIVE],
+        "typed": [*of_c, source("typed.c"), heap, ARCHIVE],
+        "typed, sanitized": [*of_c, *SANITIZERS, source("typed.c"), source("heap.c"), ARCHIVE],
         "shared": [*of_c, "-shared", heap, *whole],
     }
     made = {name: os.path.join(folder, f"{number}.built") for number, name in enumerate(builds)}
     side_by_side(lambda name: do([*builds[name], "-o", made[name]]), builds)
-    return made, made.pop("shared"), [made.pop("answers"), made.pop("answers, sanitized")]
+    do([*of_cpp, "-fsyntax-only", "-x", "c++", source("sm_read.h")])
+    twice = lambda name: [made.pop(name), made.pop(f"{name}, sanitized")]
+    return made, made.pop("shared"), twice("answers"), twice("typed")
 
 
 def by_cmake(folder):
@@ -109,7 +115,7 @@ def bent_cases(program):
 
 def words_of(job):
     """The program's words for a job of the library."""
-    return job if len(job) == 1 else [job[0], "--general", job[1]]
+    return job if job[1:] in ([], ["--json"]) else [job[0], "--general", job[1]]
 
 
 def first_wrong(answered, cases, wanted):
@@ -196,7 +202,11 @@ def try_answers(tally, program, shared):
 def kept_cases(program):
     """Cases of answers that are kept: runs that are expected, what is told, and bent files of both."""
     draws, bases = Draws("kept"), Bases(program)
-    yield from pinned_cases(program)
+    pinned = list(pinned_cases(program))
+    yield from pinned
+    yield from (([*words, "--json"], given) for words, given in pinned if words[0] in ("audit", "evidence"))
+    for name in ("late.scenario", "split.scenario", "split.bundle"):
+        yield from ((words, read(name)) for words in (["decide"], ["decide", "--json"]))
     yield from told_cases()
     for _ in range(HUNDRED):
         bundle, evidence = bend_bundle(draws, draws.one_of(bases.bundles)), bend_evidence(draws, draws.one_of(bases.evidence))
@@ -217,6 +227,102 @@ def try_kept(program, tally, answers):
     for bad in (["audit", "--run", "12"], ["audit", "--run", ",".join(["0" * 64] * 5)], ["accuse"], ["accuse", "--general", "16"]):
         end = run(answers[0], bad, read("split.bundle"))
         tally.hold(f"answers, {spell(bad)}", None if (end.status, end.wrote) == (2, b"") else f"{end}")
+
+
+def try_typed(program, tally, typed, cases):
+    """The texts of verdicts and decisions, made anew of what is read of them, with the statuses of the program."""
+    texts = [case for case in cases if case[0][0] in ("audit", "decide")]
+    wanted = side_by_side(lambda case: run(program, case[0], case[1]), texts)
+    tally.count(len(texts))
+    for number, made in enumerate(typed):
+        tally.hold(f"typed, {number}", first_wrong(lambda job, given, it=made: run(it, job, given), texts, wanted))
+
+
+def kept_by(calls, function, *words):
+    """A call for an answer: the number, and the text or None if nothing is held."""
+    answer, count = ctypes.c_void_p(None), ctypes.c_size_t(0)
+    status, own = function(*words, ctypes.byref(answer)), ctypes.byref(answer)
+    text = None
+    if answer.value:
+        calls.sm_answer_text(own, b"", ctypes.c_size_t(0), ctypes.byref(count))
+        room = ctypes.create_string_buffer(max(count.value, 1))
+        calls.sm_answer_text(own, room, count, ctypes.byref(count))
+        text = room.raw[: count.value]
+    calls.sm_answer_free(own)
+    return status, text
+
+
+def try_known(tally, program, shared):
+    """A general that is none of the run's, of runs that are expected, and the answer to evidence that is kept."""
+    calls, bundle = ctypes.CDLL(shared), run(program, ["run"], signed()["split"]).wrote
+    parts, size = Bundle(bundle), ctypes.c_size_t
+    own = bytes.fromhex(runs_of(program, bundle)[0])
+    accuse = lambda call, ids, general: kept_by(calls, call, ids, size(len(ids) // 32), general, *given_as(bundle))
+    for general in range(16):
+        known, any_one = (accuse(it, own, general) for it in (calls.sm_accuse_known_of, calls.sm_accuse_of))
+        wanted = any_one if general < parts.front[4 + 1] else (NOBODY, None)
+        tally.hold(f"known general {general} of a run", None if known == wanted else f"{known[0]}, not {wanted[0]}")
+        tally.hold(f"known general {general} of any run", None if accuse(calls.sm_accuse_known_of, b"", general) == wanted else "")
+        other = accuse(calls.sm_accuse_known_of, b"\1" * 32, general)
+        tally.hold(f"known general {general} of another run", None if other == (7, b"fault R1") else f"{other}")
+    for ids, general in ((own * 5, 0), (own, 16), (own, 2**32 - 1)):
+        got = accuse(calls.sm_accuse_known_of, ids, general)
+        tally.hold(f"known general {general}, {len(ids)} bytes of ids", None if got == (GENERAL, None) else f"{got}")
+    evidence = run(program, ["accuse", "--general", "0"], bundle).wrote
+    for proof, log in ((evidence, b""), (evidence, parts.exhibits[0][1]), (b"", b""), (evidence, parts.exhibits[1][1])):
+        kept = kept_by(calls, calls.sm_refute_kept, *given_as(proof), *given_as(log))
+        wanted = written(calls.sm_refute, *given_as(proof), *given_as(log))
+        tally.hold(f"kept answer by a log of {len(log)} bytes", None if kept == wanted else f"{kept}, not {wanted}")
+
+
+def try_refused_calls(program, tally, folder):
+    """The calls that no example makes, with each allocation refused: number 4 and nothing held, or the whole answer."""
+    made, heap = os.path.join(folder, "refusing.so"), os.path.join(TOP, "trials", "refusing_heap.c")
+    do(["cc", "-std=c11", *WARNINGS, "-fPIC", "-shared", heap, "-Wl,--whole-archive", ARCHIVE, "-Wl,--no-whole-archive", "-o", made])
+    calls, none = ctypes.CDLL(made), (None, ctypes.c_size_t(0))
+    left, blocks = (ctypes.c_long.in_dll(calls, name) for name in ("left", "blocks"))
+    split = run(program, ["run"], signed()["split"]).wrote
+    evidence = run(program, ["accuse", "--general", "0"], split).wrote
+    known = lambda general: kept_by(calls, calls.sm_accuse_known_of, *none, general, *given_as(split))
+    refute = lambda log: kept_by(calls, calls.sm_refute_kept, *given_as(evidence), *given_as(log))
+    asked = {"known 0": lambda: known(0), "known 3": lambda: known(3), "refute": lambda: refute(Bundle(split).exhibits[0][1])}
+    for name, call in {**asked, "refute by no log": lambda: refute(b"")}.items():
+        wanted, got, count = call(), (MEMORY, None), -1
+        while got == (MEMORY, None) and count < 100_000:
+            count += 1
+            left.value = count
+            got = call()
+            left.value = -1
+        well = got == wanted and count > 0 and blocks.value == 0
+        tally.hold(f"{name}, memory", None if well else f"{got[0]} with {count} blocks, {blocks.value} left")
+
+
+def try_forms(tally, shared):
+    """Forms that there are not: misuse, and nothing is held."""
+    calls, split, none = ctypes.CDLL(shared), read("split.bundle"), (None, ctypes.c_size_t(0))
+    asked = {
+        "audit": lambda form: kept_by(calls, calls.sm_audit_as, *none, 0, form, *given_as(split)),
+        "evidence": lambda form: kept_by(calls, calls.sm_evidence_as, *none, form, *given_as(read("split.evidence"))),
+        "decide": lambda form: kept_by(calls, calls.sm_decide_as, form, *given_as(read("split.scenario"))),
+    }
+    for name, call in asked.items():
+        for form in (2, 256, 2**32 - 1):
+            tally.hold(f"{name}, form {form}", None if call(form) == (GENERAL, None) else f"{call(form)}")
+        held = call(1)[1] or b""
+        tally.hold(f"{name} as JSON", None if held.startswith(b"{") and held.endswith(b"}\n") else f"{held[:99]}")
+
+
+def try_document(tally, folder):
+    """The pieces of C that docs/EMBED.md shows, each of which a compiler takes."""
+    with open(os.path.join(TOP, "docs", "EMBED.md"), encoding="utf-8") as file:
+        blocks = re.findall(r"^(?:(?: {4}.*)?\n)+", file.read(), re.M)
+    pieces = [textwrap.dedent(it) for it in blocks if it.lstrip("\n").startswith("    #include")]
+    for number, piece in enumerate(pieces):
+        path = os.path.join(folder, f"piece{number}.c")
+        with open(path, "w", encoding="ascii") as file:
+            file.write(piece)
+        do(["cc", "-std=c11", *WARNINGS, "-I", EMBED, "-c", path, "-o", f"{path}.built"])
+    tally.hold("pieces of C in EMBED", None if len(pieces) > 1 else f"{len(pieces)}")
 
 
 def header_of(bundle):
@@ -302,6 +408,7 @@ def try_refusals(program, tally, folder, example, answers):
     kept = [(["audit", *asked], split), (["audit", "--strict", *asked], split), (["draw", *asked], split), (["show"], split)]
     kept += [(["accuse", "--general", "0", *asked], split), (["evidence", *asked], evidence), (["show"], evidence)]
     kept += [(["audit", "--run", "0" * 64], split), (["audit"], b""), (["explain"], b"K2"), (["words"], read("split.verdict"))]
+    kept += [(["audit", "--json"], split), (["evidence", "--json"], evidence), (["decide", "--json"], signed()["split"])]
     kept += [(["run-ids"], it) for it in (split, evidence, header_of(split))]
     for program_of, job, given in [*((example, *case) for case in cases), *((answers, *case) for case in kept)]:
         whole = run(program_of, job, given)
@@ -313,7 +420,7 @@ def try_refusals(program, tally, folder, example, answers):
 
 def try_built(program, tally, folder):
     """All trials over the archive."""
-    examples, shared, answers = build_all(folder)
+    examples, shared, answers, typed = build_all(folder)
     if shutil.which("cmake") and shutil.which("pkg-config"):
         examples["C, installed"] = by_cmake(folder)
     else:
@@ -341,6 +448,11 @@ def try_built(program, tally, folder):
     try_rooms(library, tally, cases)
     try_answers(tally, program, shared)
     try_kept(program, tally, answers)
+    try_typed(program, tally, typed, [*cases, *bent])
+    try_known(tally, program, shared)
+    try_forms(tally, shared)
+    try_document(tally, folder)
+    try_refused_calls(program, tally, folder)
     try_run_ids(program, tally, shared)
     try_answer(tally, shared)
     try_refusals(program, tally, folder, examples["C"], answers[0])

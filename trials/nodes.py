@@ -34,7 +34,7 @@ int main(void) {
     const uint8_t seed[33] = SEED;
     uint8_t root[32], room[100];
     size_t count;
-    if (sm_audit(seed, 0, room, sizeof room, &count) != SM_FAULT || sm_root(seed, 1, root) != SM_OK) return 1;
+    if (sm_audit(seed, 0, room, sizeof room, &count) != SM_FAULT || sm_node_root(seed, 1, root) != SM_OK) return 1;
     for (int place = 0; place < 32; place++) printf("%02x", root[place]);
     printf("\n%.*s\n", (int)count, (const char *)room);
     return 0;
@@ -205,7 +205,7 @@ class Run:
         roots = b""
         for general in range(2):
             root = ctypes.create_string_buffer(32)
-            self.want(DONE, "sm_root", seed_of(general), version, root)
+            self.want(DONE, "sm_node_root", seed_of(general), version, root)
             roots += root.raw
         return self.header_of(DONE, (version, slot, 2, 0, 1, 2, 0), [(1, 0)], roots)
 
@@ -213,7 +213,7 @@ class Run:
         """The bytes of a header, or none."""
         ends = b"".join(map(bytes, edges))
         sizes = ctypes.c_size_t(len(edges)), ctypes.c_size_t(len(roots) // 32)
-        return self.text(status, "sm_header", bytes(of), ends, sizes[0], roots, sizes[1], tail=True)
+        return self.text(status, "sm_node_header", bytes(of), ends, sizes[0], roots, sizes[1], tail=True)
 
     def do(self, name, *words):
         """The status of a call; where memory is refused it is made again until it is not."""
@@ -269,12 +269,13 @@ class Run:
         self.ask(0, round=0)
         for general in range(2):
             self.want(DONE, "sm_node_begin_round", self.at(general))
-        self.ask(0, round=1, awaits=[1])
+        self.ask(0, round=1, awaits=[1], lacks=[1], may_end=1)
         frames = [self.text(DONE, "sm_node_send", self.at(general), 1 - general) for general in range(2)]
         for general in range(2):
             self.hear(general, frames[1 - general])
-            self.ask(general, round=1, awaits=[1 - general])
+            self.ask(general, round=1, awaits=[1 - general], may_end=1)
             self.want(DONE, "sm_node_end_round", self.at(general))
+            self.ask(general, round=1, is_over=1)
             self.want(DONE, "sm_node_finish", self.at(general))
         logs = [self.text(DONE, "sm_node_log", self.at(general)) for general in range(2)]
         orders = [self.order(general) for general in range(2)]
@@ -291,20 +292,22 @@ class Run:
             self.wrong.append(f"{name} tells {told.value}")
         return told.value
 
-    def ask(self, general, status=DONE, round=0, awaits=()):
-        """A node tells its round, and of which generals it awaits a frame."""
-        told = self.number(status, "sm_node_round", self.at(general))
-        awaited = [it for it in range(16) if self.number(status, "sm_node_awaits", self.at(general), it)]
-        self.number(MISUSE, "sm_node_awaits", self.at(general), 16)
-        if (told, awaited) != (round, list(awaits)):
-            self.wrong.append(f"round {told}, frames of {awaited}")
+    def ask(self, general, status=DONE, round=0, awaits=(), lacks=(), may_end=0, is_over=0):
+        """A node tells its round, of which generals it awaits and lacks a frame, and what may end."""
+        of = self.at(general)
+        told = [self.number(status, f"sm_node_{name}", of) for name in ("round", "may_end", "is_over")]
+        for name in ("awaits", "lacks"):
+            told.append([it for it in range(16) if self.number(status, f"sm_node_{name}", of, it)])
+            self.number(MISUSE, f"sm_node_{name}", of, 16)
+        if told != [round, may_end, is_over, list(awaits), list(lacks)]:
+            self.wrong.append(f"general {general} tells {told}")
 
     def plan(self, status=DONE, general=0):
         """What is told of the header: its numbers, the rounds, the neighbours of a general, and the longest frame."""
         at, told = (self.header, ctypes.c_size_t(len(self.header))), ctypes.create_string_buffer(b"\7" * 7, 7)
-        self.want(status, "sm_header_numbers", *at, told, ctypes.byref(self.fault))
+        self.want(status, "sm_node_header_numbers", *at, told, ctypes.byref(self.fault))
         tell = lambda name, *words, kind=ctypes.c_uint32: self.tell(status, name, *at, *words, kind=kind)
-        return told.raw, tell("sm_rounds"), tell("sm_neighbours", general), tell("sm_frame_most", kind=ctypes.c_size_t)
+        return told.raw, tell("sm_node_rounds"), tell("sm_node_neighbours", general), tell("sm_node_frame_most", kind=ctypes.c_size_t)
 
     def tell(self, status, name, *words, kind):
         """The number that a call on a header tells, which has to answer so."""
@@ -318,7 +321,7 @@ class Run:
         self.want(DONE, "sm_node_order", self.at(general), ctypes.byref(order))
         return order.value
 
-    def bundle(self, status, logs, faulty=0, generals=(0, 1), cut=0, call="sm_bundle"):
+    def bundle(self, status, logs, faulty=0, generals=(0, 1), cut=0, call="sm_node_bundle"):
         """The bytes of a bundle, or none."""
         sizes = b"".join(g.to_bytes(8, "little") + len(log).to_bytes(8, "little") for g, log in zip(generals, logs))
         whole = b"".join(logs)
@@ -418,12 +421,12 @@ def bad_walks(two):
     for faulty, fault in ((2, 31), (0, 32)):
         two.bundle(BAD, [], faulty)
         two.told(fault)
-        made = two.bundle(DONE, [], faulty, call="sm_bundle_parted")
+        made = two.bundle(DONE, [], faulty, call="sm_node_bundle_parted")
         if made != b"SMB1" + two.header + bytes([0, faulty, 0, 0]):
             two.wrong.append(f"a parted bundle {made[4 + len(two.header) :]}")
-    if two.bundle(DONE, [], 4, call="sm_bundle_parted") != two.bundle(DONE, [], 4):
+    if two.bundle(DONE, [], 4, call="sm_node_bundle_parted") != two.bundle(DONE, [], 4):
         two.wrong.append("a bundle that is not parted is another")
-    two.bundle(BAD, [], 8, call="sm_bundle_parted")
+    two.bundle(BAD, [], 8, call="sm_node_bundle_parted")
     two.told(44)
 
 
@@ -434,7 +437,7 @@ def plans(two):
         wanted = bytes([2, 3, 4, 2, 3, 5, 1]), 5, near, 41 + 5 * (6 + 16_577 * 5)
         if two.plan(general=general) != wanted:
             two.wrong.append(f"the plan {two.plan(general=general)}, not {wanted}")
-    two.tell(MISUSE, "sm_neighbours", two.header, ctypes.c_size_t(len(two.header)), 16, kind=ctypes.c_uint32)
+    two.tell(MISUSE, "sm_node_neighbours", two.header, ctypes.c_size_t(len(two.header)), 16, kind=ctypes.c_uint32)
     two.header += b"\0"
     if two.plan(BAD) != (b"\7" * 7, 0, 0, 0):
         two.wrong.append(f"the plan of bytes that are no header {two.plan(BAD)}")
@@ -444,7 +447,7 @@ def plans(two):
 def misuse_wrong(library):
     """None where calls that may not be made answer so."""
     two = Run(library, False)
-    for name, version in (("sm_root", 0), ("sm_root", 3)):
+    for name, version in (("sm_node_root", 0), ("sm_node_root", 3)):
         two.want(MISUSE, name, seed_of(0), version, ctypes.create_string_buffer(32))
     for step in (nothing_there, bad_beginnings, bad_rounds, bad_ends, bad_walks, plans):
         step(two)
@@ -474,10 +477,12 @@ def halves_wrong(library):
         two.text(MISUSE, "sm_node_send", two.at(0), 1)
         two.hear(0, b"", BAD)
         two.told(21)
+        two.ask(0, round=two.number(DONE, "sm_node_round", two.at(0)))
         for name in ("end_round", "finish"):
             two.want(MISUSE, f"sm_node_{name}", two.at(0))
 
     def only_ends():
+        two.ask(1, round=1, may_end=1)
         for name in ("begin_round", "finish"):
             two.want(MISUSE, f"sm_node_{name}", two.at(1))
 

@@ -2,6 +2,7 @@
    line tells the first place that is not. trials/nodes.py builds it over both archives. */
 #include "sm_embed.h"
 #include "sm_node.h"
+#include "sm_read.h"
 #include <stdio.h>
 #include <string.h>
 
@@ -64,6 +65,16 @@ static int answers(void) {
     WANT(sm_evidence_of(NULL, 0, NULL, 1, &answer) == SM_MISUSE && answer.at == NULL);
     WANT(sm_accuse_of(NULL, 0, 0, NULL, 0, &answer) == SM_FAULT && answer.at != NULL);
     WANT(sm_accuse_of(NULL, 0, 16, NULL, 0, &answer) == SM_MISUSE && answer.at == NULL);
+    WANT(sm_accuse_known_of(NULL, 0, 0, NULL, 0, &answer) == SM_FAULT && answer.at != NULL);
+    WANT(sm_accuse_known_of(NULL, 1, 0, NULL, 0, &answer) == SM_MISUSE && answer.at == NULL);
+    WANT(sm_refute_kept(NULL, 0, NULL, 0, &answer) == SM_FAULT && answer.at != NULL);
+    WANT(sm_refute_kept(NULL, 0, NULL, 1, &answer) == SM_MISUSE && answer.at == NULL);
+    WANT(sm_audit_as(NULL, 0, 0, SM_JSON, NULL, 0, &answer) == SM_FAULT && answer.at != NULL);
+    WANT(sm_audit_as(NULL, 0, 0, 2, NULL, 0, &answer) == SM_MISUSE && answer.at == NULL);
+    WANT(sm_evidence_as(NULL, 0, SM_TEXT, NULL, 0, &answer) == SM_FAULT && answer.at != NULL);
+    WANT(sm_evidence_as(NULL, 0, SM_TEXT, NULL, 1, &answer) == SM_MISUSE && answer.at == NULL);
+    WANT(sm_decide_as(SM_JSON, NULL, 0, &answer) == SM_FAULT && answer.at != NULL);
+    WANT(sm_decide_as(SM_JSON, NULL, 1, &answer) == SM_MISUSE && answer.at == NULL);
     WANT(sm_show(NULL, 0, &answer) == SM_NO && answer.at != NULL);
     WANT(sm_show(NULL, 1, &answer) == SM_MISUSE && answer.at == NULL);
     WANT(sm_explain(NULL, 0, &answer) == SM_NO && answer.at != NULL);
@@ -82,10 +93,11 @@ static int nodes(void) {
     sm_node node = {0};
     uint32_t fault = 77, number = 77;
     size_t count = 77;
-    WANT(sm_header(&numbers, NULL, 0, NULL, 0, NULL, 0, &count, &fault) == SM_FAULT && fault == SM_H8 && count == 0);
-    WANT(sm_header(&numbers, NULL, 1, NULL, 0, NULL, 0, &count, &fault) == SM_MISUSE && fault == 0);
-    WANT(sm_header(&numbers, NULL, 0, NULL, 1, NULL, 0, &count, &fault) == SM_MISUSE && fault == 0);
-    WANT(sm_header(&numbers, NULL, 0, NULL, 0, NULL, 1, &count, &fault) == SM_MISUSE && fault == 0);
+    WANT(sm_node_header(&numbers, NULL, 0, NULL, 0, NULL, 0, &count, &fault) == SM_FAULT && fault == SM_H8);
+    WANT(count == 0);
+    WANT(sm_node_header(&numbers, NULL, 1, NULL, 0, NULL, 0, &count, &fault) == SM_MISUSE && fault == 0);
+    WANT(sm_node_header(&numbers, NULL, 0, NULL, 1, NULL, 0, &count, &fault) == SM_MISUSE && fault == 0);
+    WANT(sm_node_header(&numbers, NULL, 0, NULL, 0, NULL, 1, &count, &fault) == SM_MISUSE && fault == 0);
     WANT(sm_node_new(&node, NULL, 0, 0, seed, 1, &fault) == SM_FAULT && fault == SM_H9);
     WANT(sm_node_new(&node, NULL, 1, 0, seed, 1, &fault) == SM_MISUSE && fault == 0);
     WANT(sm_node_send(&node, 1, NULL, 0, &count) == SM_MISUSE && count == 0);
@@ -93,29 +105,46 @@ static int nodes(void) {
     WANT(sm_node_log(&node, NULL, 0, &count) == SM_MISUSE && count == 0);
     WANT(sm_node_round(&node, &number) == SM_MISUSE && number == 0);
     WANT(sm_node_awaits(&node, 1, &number) == SM_MISUSE && number == 0);
-    WANT(sm_bundle(NULL, 0, 0, NULL, 0, NULL, 0, NULL, 0, &count, &fault) == SM_FAULT && fault == SM_H9);
-    WANT(sm_bundle(NULL, 0, 0, NULL, 1, NULL, 0, NULL, 0, &count, &fault) == SM_MISUSE && fault == 0);
-    WANT(sm_bundle(NULL, 0, 0, NULL, 0, NULL, 1, NULL, 0, &count, &fault) == SM_MISUSE && fault == 0);
-    WANT(sm_bundle_parted(NULL, 0, 0, NULL, 0, NULL, 0, NULL, 0, &count, &fault) == SM_FAULT && fault == SM_H9);
-    WANT(sm_bundle_parted(NULL, 1, 0, NULL, 0, NULL, 0, NULL, 0, &count, &fault) == SM_MISUSE && fault == 0);
-    WANT(sm_header_numbers(NULL, 0, &told, &fault) == SM_FAULT && fault == SM_H9 && told.orders == 2);
-    WANT(sm_header_numbers(NULL, 1, &told, &fault) == SM_MISUSE && fault == 0 && told.orders == 2);
-    WANT(sm_rounds(NULL, 0, &number, &fault) == SM_FAULT && fault == SM_H9 && number == 0);
-    WANT(sm_rounds(NULL, 1, &number, &fault) == SM_MISUSE && fault == 0);
-    WANT(sm_neighbours(NULL, 0, 0, &number, &fault) == SM_FAULT && fault == SM_H9 && number == 0);
-    WANT(sm_neighbours(NULL, 1, 0, &number, &fault) == SM_MISUSE && fault == 0);
-    WANT(sm_frame_most(NULL, 0, &count, &fault) == SM_FAULT && fault == SM_H9 && count == 0);
-    WANT(sm_frame_most(NULL, 1, &count, &fault) == SM_MISUSE && fault == 0);
+    WANT(sm_node_lacks(&node, 1, &number) == SM_MISUSE && number == 0);
+    WANT(sm_node_may_end(&node, &number) == SM_MISUSE && number == 0);
+    WANT(sm_node_is_over(&node, &number) == SM_MISUSE && number == 0);
+    WANT(sm_node_bundle(NULL, 0, 0, NULL, 0, NULL, 0, NULL, 0, &count, &fault) == SM_FAULT && fault == SM_H9);
+    WANT(sm_node_bundle(NULL, 0, 0, NULL, 1, NULL, 0, NULL, 0, &count, &fault) == SM_MISUSE && fault == 0);
+    WANT(sm_node_bundle(NULL, 0, 0, NULL, 0, NULL, 1, NULL, 0, &count, &fault) == SM_MISUSE && fault == 0);
+    WANT(sm_node_bundle_parted(NULL, 0, 0, NULL, 0, NULL, 0, NULL, 0, &count, &fault) == SM_FAULT && fault == SM_H9);
+    WANT(sm_node_bundle_parted(NULL, 1, 0, NULL, 0, NULL, 0, NULL, 0, &count, &fault) == SM_MISUSE && fault == 0);
+    WANT(sm_node_header_numbers(NULL, 0, &told, &fault) == SM_FAULT && fault == SM_H9 && told.orders == 2);
+    WANT(sm_node_header_numbers(NULL, 1, &told, &fault) == SM_MISUSE && fault == 0 && told.orders == 2);
+    WANT(sm_node_rounds(NULL, 0, &number, &fault) == SM_FAULT && fault == SM_H9 && number == 0);
+    WANT(sm_node_rounds(NULL, 1, &number, &fault) == SM_MISUSE && fault == 0);
+    WANT(sm_node_neighbours(NULL, 0, 0, &number, &fault) == SM_FAULT && fault == SM_H9 && number == 0);
+    WANT(sm_node_neighbours(NULL, 1, 0, &number, &fault) == SM_MISUSE && fault == 0);
+    WANT(sm_node_frame_most(NULL, 0, &count, &fault) == SM_FAULT && fault == SM_H9 && count == 0);
+    WANT(sm_node_frame_most(NULL, 1, &count, &fault) == SM_MISUSE && fault == 0);
+    return 0;
+}
+
+/* No text is none of a verdict, and no decision, and the old names stand for the new ones. */
+static int names(void) {
+    const uint8_t seed[SM_SEED_BYTES] = {0};
+    uint8_t root[SM_ROOT_BYTES], same[SM_ROOT_BYTES];
+    sm_judgement judgement;
+    sm_run_decision decisions[SM_GENERALS_MOST];
+    uint32_t number = 77, fault = 77;
+    WANT(sm_read_judgement(NULL, 0, &judgement) == SM_FAULT);
+    WANT(sm_read_decisions(NULL, 0, decisions, &number) == SM_OK && number == 0);
+    WANT(sm_root(seed, 1, root) == SM_OK && sm_node_root(seed, 1, same) == SM_OK && memcmp(root, same, sizeof root) == 0);
+    WANT(sm_rounds(NULL, 1, &number, &fault) == SM_MISUSE && sm_fault_text(SM_F1) == sm_node_fault_text(SM_F1));
     return 0;
 }
 
 /* Both archives are of the headers' version, and each number has a text. */
 static int texts(void) {
     WANT(sm_version() == SM_VERSION_NUMBER && sm_node_version() == SM_VERSION_NUMBER);
-    for (uint32_t number = 0; number < 60; number++) WANT(*sm_fault_text(number) && *sm_status_text(number));
+    for (uint32_t number = 0; number < 60; number++) WANT(*sm_node_fault_text(number) && *sm_status_text(number));
     WANT(strcmp(sm_status_text(SM_YES), sm_status_text(SM_DONE)) == 0 && SM_SHORT == SM_LENGTH);
     WANT(SM_GENERAL == SM_MISUSE && SM_BAD == SM_FAULT && SM_REFUSED == SM_MEMORY);
     return 0;
 }
 
-int main(void) { return jobs() || answers() || nodes() || texts(); }
+int main(void) { return jobs() || answers() || nodes() || names() || texts(); }

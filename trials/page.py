@@ -1,7 +1,8 @@
-"""The page (embed/page/) against the program: made anew, asked by Node on bent files, and used in a headless Chromium.
+"""The page (embed/page/) against the program: made anew, asked by Node on bent files, and used in a headless Chromium and in a
+headless Firefox.
 
 The page is made by embed/page/make_page.py of crates/sm_embed/out/libsm_embed.a, which `rt lib` builds in crates/sm_embed.
-Without that archive or without rt nothing is tried; without Node or without Chromium what wants it is left out. A line says
+Without that archive or without rt nothing is tried; without Node or without a browser what wants it is left out. A line says
 so each time.
 """
 import hashlib
@@ -13,13 +14,17 @@ import subprocess
 import sys
 import tempfile
 
-import browser
 from bends import bend_bundle, bend_evidence, bend_bytes
 from bent import Bases
+from browser import BROWSERS, found
+from differs import BUNDLES, Block
 from draws import Draws
+from layout import Bundle, front_length
 from pinned import NO_RUN, answer_of, names, pinned_cases, told_cases
 from programs import run, side_by_side, spell
 from refusals import EXAMPLES
+from several import answer_parts
+from worked import stored
 
 HERE = os.path.dirname(os.path.abspath(__file__))
 TOP = os.path.dirname(HERE)
@@ -30,6 +35,9 @@ ARCHIVE = os.path.join(TOP, "crates", "sm_embed", "out", "libsm_embed.a")
 HUNDRED = 100
 # The hundreds of bent files: what is asked of the module, of evidence or else of bundles.
 HUNDREDS = {"audit": 3, "evidence": 3, "accuse": 1, "draw": 2, "show": 2}
+# So many hundreds of evidence with a log that may answer it, and what is found against a log that doesn't.
+ANSWERS = 2
+AGAINST_LOG = re.compile(rb"^N[467] .*\n", re.M)
 # The jobs whose calls take the runs that are expected.
 PINNED = ["audit", "draw", "accuse"]
 # What the module says of a file of another run, and the program.
@@ -52,6 +60,18 @@ LACKING = {
     "workers": ("window.Worker = undefined;", "Yes, agreed: all generals that aren't held for faulty decided order 0. "
                 "Held for faulty: general 0."),
 }
+# Has the module answer evidence by two strings with one hash.
+COLLISION = """const whole = WebAssembly.instantiate.bind(WebAssembly);
+WebAssembly.instantiate = async (...given) => {
+  const { exports } = await whole(...given);
+  const sm_refute = (evidence, evidenceBytes, log, logBytes, room, roomBytes, count) => {
+    const line = new TextEncoder().encode("collision 0a0b 0c\\n");
+    new Uint8Array(exports.memory.buffer).set(line, Number(room));
+    new DataView(exports.memory.buffer).setBigUint64(Number(count), BigInt(line.length), true);
+    return 0;
+  };
+  return { exports: { ...exports, sm_refute } };
+};"""
 # Has a script run in the page and in its workers too.
 IN_WORKERS = ("const Whole = Blob; window.Blob = class extends Whole { constructor(parts, how) {"
               "super(how?.type === 'text/javascript' ? [%s, ...parts] : parts, how); } };")
@@ -60,6 +80,16 @@ IN_WORKERS = ("const Whole = Blob; window.Blob = class extends Whole { construct
 def read(*path):
     with open(os.path.join(*path), "rb") as it:
         return it.read()
+
+
+def written(folder, files):
+    """Writes files into a folder, and returns their paths."""
+    paths = []
+    for name, data in files.items():
+        paths.append(os.path.join(folder, name))
+        with open(paths[-1], "wb") as it:
+            it.write(data)
+    return paths
 
 
 def spoken(end):
@@ -129,6 +159,8 @@ def call_of(words):
     """The call of the module for the program's words, or the page's own for evidence: its name, the runs that are expected,
     and its numbers.
     """
+    if words[0] == "answer":
+        return ["sm_refute", "-", *words[1:]]
     runs = words[words.index("--run") + 1] if "--run" in words else "-"
     numbers = {"audit": [str(int("--strict" in words))], "accuse": words[2:3]}.get(words[0], [])
     called = "evidenceOf" if words[0] == "evidence" else f"sm_{words[0]}" + ("_of" if words[0] in PINNED else "")
@@ -178,27 +210,67 @@ def first_other(cases, answers, wanted):
     return next((f"{spell(words)}: {got} in place of {want}"[:400] for (words, _), got, want in pairs if got != want), None)
 
 
+def answer_cases(program, number):
+    """A hundred pieces of evidence, each with a log behind it. The word of `answer` is the length of the evidence."""
+    draws = Draws(f"page answer {number}")
+    block = Block("page", number, lambda words, given: run(program, words, given))
+    parts = [answer_parts(draws, block, BUNDLES) for _ in range(HUNDRED)]
+    return [(["answer", str(len(evidence))], evidence + log) for evidence, log in parts]
+
+
+def reply_of(program, words, given):
+    """What the program says of evidence and of a log behind it, with what it finds against a log that answers nothing."""
+    length = int(words[1])
+    with tempfile.TemporaryDirectory() as folder:
+        evidence, log = written(folder, {"evidence": given[:length], "log": given[length:]})
+        end = run(program, ["answer", evidence, log])
+        if end.status != 1:
+            return spoken(end)
+        at = front_length(given)
+        others = [str(general) for general in range(given[4 + given[4]]) if general != given[at]]
+        header = written(folder, {"header": given[4:at]})[0]
+        shown = run(program, ["bundle", "--faulty", ",".join(others), header, f"{given[at]}={log}"]).wrote
+        return 1, end.wrote + b"".join(AGAINST_LOG.findall(run(program, ["audit"], shown).wrote))
+
+
+def answer_to(program, words, given):
+    """What the program says in a case."""
+    return reply_of(program, words, given) if words[0] == "answer" else spoken(answer_of(program, words, given))
+
+
 def try_cases(program, node, page, tally, name, cases):
     """That the module answers each case as the program does."""
-    wanted = side_by_side(lambda case: spoken(answer_of(program, *case)), cases)
+    wanted = side_by_side(lambda case: answer_to(program, *case), cases)
     tally.count(len(cases))
     tally.hold(name, first_other(cases, asked(node, page, cases), wanted))
 
 
 def try_node(program, page, bases, tally):
-    """Eleven hundred bent files, files of which runs are expected, and words."""
+    """Eleven hundred bent files, evidence with logs that may answer it, files of which runs are expected, and words."""
     node = node_words()
     if not node:
         tally.note("no Node with 64-bit memories is there, so the module was not asked about bent files")
         return
     for name, cases in hundreds(bases):
         try_cases(program, node, page, tally, f"{name}, bent", cases)
+    for number in range(ANSWERS):
+        try_cases(program, node, page, tally, f"answer {number}", answer_cases(program, number))
     try_cases(program, node, page, tally, "runs that are expected", list(pinned_cases(program)))
     tally.hold("names", None if len(names()) > 40 else f"only {len(names())}")
     try_cases(program, node, page, tally, "what is told", list(told_cases()))
 
 
-# The browser.
+# The browsers.
+
+
+class Within:
+    """The trials in one browser, whose name stands in front of theirs."""
+
+    def __init__(self, tally, name):
+        self.tally, self.name, self.count = tally, name, tally.count
+
+    def hold(self, name, wrong):
+        self.tally.hold(f"{self.name}, {name}", wrong)
 
 
 def wanted_of(program, given):
@@ -216,27 +288,22 @@ class Given:
     def __init__(self, shown, program, folder, tally):
         self.shown, self.program, self.folder, self.tally, self.count = shown, program, folder, tally, 0
 
-    def put(self, files):
-        """Writes files, and returns their paths."""
-        paths = []
-        for name, data in files.items():
-            paths.append(os.path.join(self.folder, name))
-            with open(paths[-1], "wb") as it:
-                it.write(data)
-        return paths
+    def take(self, give, files):
+        """Gives files to the page in this way. Returns what it shows of each."""
+        give(written(self.folder, files))
+        self.count += len(files)
+        self.shown.wait(f"document.querySelectorAll('article').length >= {self.count}")
+        return self.shown.run("last.then(answers)")[-len(files) :]
 
     def give(self, give, files):
         """Gives files to the page in this way, and holds what it shows of each to the program. Returns what it shows."""
-        give(self.put(files))
-        self.count += len(files)
-        self.shown.wait(f"document.querySelectorAll('article').length >= {self.count}")
-        told = self.shown.run("last.then(answers)")[-len(files) :]
+        told = self.take(give, files)
         wanted = side_by_side(lambda name: wanted_of(self.program, files[name]), files)
         self.tally.count(len(files))
         for name, answer, (end, text) in zip(files, told, wanted):
             got = answer["name"], answer["end"], answer["text"].encode()
             wrong = None if got == (name, end, text) else f"{got} in place of {(name, end, text)}"[:400]
-            self.tally.hold(f"page, {name}", wrong)
+            self.tally.hold(name, wrong)
         return dict(zip(files, told))
 
 
@@ -266,8 +333,8 @@ def named_files(program):
 def try_saved(shown, folder, tally, links):
     """That what the links save is what it should be."""
     saved = os.path.join(folder, "saved")
-    os.makedirs(saved)
-    shown.call("Browser.setDownloadBehavior", behavior="allow", downloadPath=saved)
+    os.makedirs(saved, exist_ok=True)
+    shown.save_to(saved)
     for name, wanted in links.items():
         shown.run(f"document.querySelector('a[download=\"{name}\"]').click()")
         path = os.path.join(saved, name)
@@ -276,7 +343,7 @@ def try_saved(shown, folder, tally, links):
                 break
             shown.run("new Promise(done => { setTimeout(done, 50); })")
         is_right = os.path.exists(path) and read(path) == wanted
-        tally.hold(f"page, saves {name}", None if is_right else "other bytes, or none")
+        tally.hold(f"saves {name}", None if is_right else "other bytes, or none")
 
 
 def try_answers(told, tally):
@@ -287,14 +354,14 @@ def try_answers(told, tally):
     starts |= {"README.md": "Neither", "empty": "Neither", "split.evidence": "The evidence against general 0 holds"}
     starts["bent.evidence"] = "The evidence against general 0 fails"
     for name, start in starts.items():
-        tally.hold(f"page, says of {name}", None if said[name].startswith(start) else said[name])
+        tally.hold(f"says of {name}", None if said[name].startswith(start) else said[name])
     for name, it in told.items():
         wants = re.findall(r"^(?:verdict|general|N|convicted|fault|evidence).*", it["text"], re.M)
-        tally.hold(f"page, meanings of {name}", None if it["meanings"] == wants else f"{it['meanings']}")
+        tally.hold(f"meanings of {name}", None if it["meanings"] == wants else f"{it['meanings']}")
         has_run = it["end"] < 2 and not name.endswith(".evidence")
-        tally.hold(f"page, picture of {name}", None if it["drawn"] == has_run else f"{it['drawn']}")
+        tally.hold(f"picture of {name}", None if it["drawn"] == has_run else f"{it['drawn']}")
     looks = {it["look"] for it in (told["split.bundle"], told["explained.bundle"], told["disputed.bundle"])}
-    tally.hold("page, looks", None if len(looks) == 3 else f"{looks}")
+    tally.hold("looks", None if len(looks) == 3 else f"{looks}")
 
 
 # The table of the generals of examples/split.bundle, and the sides of evidence of each kind that is given.
@@ -315,77 +382,134 @@ def try_facts(program, told, files, tally):
         digest = it["facts"]["SHA-256 of the file"] == hashlib.sha256(files[name]).hexdigest()
         size = it["facts"]["File"] == f"{name}, {len(files[name]):,} bytes"
         made = it["facts"]["By this page"].startswith(f"Vamuretu {version}, compiled by rattle-kit")
-        tally.hold(f"page, facts of {name}", None if digest and size and made else f"{it['facts']}"[:400])
+        tally.hold(f"facts of {name}", None if digest and size and made else f"{it['facts']}"[:400])
     facts = told["split.bundle"]["facts"]
     wanted = {"Run id": read(EXAMPLES, "split.verdict").decode().split()[1], "Generals": "n = 3", "Form": "version 1",
               "Planned for": "m = 1 faulty, d = 1 as the diameter of the rest", "Orders": "q = 2, choice 0"}
-    tally.hold("page, the run", None if {it: facts.get(it) for it in wanted} == wanted else f"{facts}")
+    tally.hold("the run", None if {it: facts.get(it) for it in wanted} == wanted else f"{facts}")
     tables = told["split.bundle"]["tables"]
-    tally.hold("page, the generals", None if tables == [SPLIT] else f"{tables}")
+    tally.hold("the generals", None if tables == [SPLIT] else f"{tables}")
     count = len(told["series.bundles"]["tables"])
-    tally.hold("page, the runs of a campaign", None if count == 4 else f"{count} tables")
+    tally.hold("the runs of a campaign", None if count == 4 else f"{count} tables")
     for name, sides in SIDES.items():
-        tally.hold(f"page, sides of {name}", None if told[name]["sides"] == sides else f"{told[name]['sides']}")
+        tally.hold(f"sides of {name}", None if told[name]["sides"] == sides else f"{told[name]['sides']}")
     departs = told["explained.1.evidence"]["sides"]
-    tally.hold("page, where a log departs", None if departs[1][1].startswith("entry ") else f"{departs}")
+    tally.hold("where a log departs", None if departs[1][1].startswith("entry ") else f"{departs}")
 
 
 def try_expected(shown, given, tally):
     """Files of which a run is expected: their own, another, and what is no run id."""
     split = {"split.bundle": read(EXAMPLES, "split.bundle")}
     own = read(EXAMPLES, "split.verdict").decode().split()[1]
-    said = lambda: shown.run("last.then(answers)")[-1]
     expect = lambda text: shown.run(f"byId('expected').value = {json.dumps(text)}")
     expect(f" {own.upper()} ")
     told = given.give(lambda paths: shown.choose("#file", paths), split)["split.bundle"]
-    tally.hold("page, its own run", None if told["facts"]["Expected run"] == own else f"{told}"[:400])
+    tally.hold("its own run", None if told["facts"]["Expected run"] == own else f"{told}"[:400])
     expect(NO_RUN)
-    shown.choose("#file", given.put(split))
-    given.count += 1
-    shown.wait(f"document.querySelectorAll('article').length >= {given.count}")
-    told = said()
+    told = given.take(lambda paths: shown.choose("#file", paths), split)[0]
     is_right = told["end"] == OTHER_RUN and told["text"] == "fault R1" and "another run" in told["said"]
-    tally.hold("page, another run", None if is_right and told["facts"]["Run id"] == own else f"{told}"[:400])
+    tally.hold("another run", None if is_right and told["facts"]["Run id"] == own else f"{told}"[:400])
     expect("12")
-    shown.choose("#file", given.put(split))
+    shown.choose("#file", written(given.folder, split))
     shown.wait("byId('status').textContent.startsWith('The expected run id is not')")
-    tally.hold("page, no run id", None if len(shown.run("last.then(answers)")) == given.count else "a file was judged")
+    tally.hold("no run id", None if len(shown.run("last.then(answers)")) == given.count else "a file was judged")
     expect("")
 
 
-def try_report(shown, folder, tally):
-    """That a report is one file without a script, with the digest, the text and the picture."""
-    shown.run("[...document.querySelectorAll('article')].find(it => it.querySelector('h2').textContent === 'split.bundle')"
+def try_report(shown, folder, tally, name, wants):
+    """That a report is one file without a script, with what it wants."""
+    shown.run(f"[...document.querySelectorAll('article')].find(it => it.querySelector('h2').textContent === {json.dumps(name)})"
               ".querySelector('button').click()")
-    path = os.path.join(folder, "saved", "split.bundle.report.html")
+    path = os.path.join(folder, "saved", f"{name}.report.html")
     for _ in range(200):
         if os.path.exists(path) and read(path).endswith(b"</html>\n"):
             break
         shown.run("new Promise(done => { setTimeout(done, 50); })")
     text = read(path).decode() if os.path.exists(path) else ""
-    wants = [hashlib.sha256(read(EXAMPLES, "split.bundle")).hexdigest(), read(EXAMPLES, "split.verdict").decode(),
-             "data:image/svg+xml;base64,", "split.bundle.0.evidence", "default-src 'none'"]
-    lacking = [it[:40] for it in wants if it not in text]
-    has_more = re.findall(r"<script|<button|https?:|\btabindex=", text)
-    tally.hold("page, report", f"it lacks {lacking}, and has {has_more}" if lacking or has_more or not text else None)
+    lacking = [it[:40] for it in ["default-src 'none'", *wants] if it not in text]
+    has_more = re.findall(r"<script|<button|<input|https?:|\btabindex=", text)
+    tally.hold(f"report on {name}", f"it lacks {lacking}, and has {has_more}" if lacking or has_more or not text else None)
+
+
+def reply_cases(program):
+    """Evidence, and logs by which the accused may answer, each with how the page's sentence begins: evidence of a stolen key,
+    evidence that the log has, and evidence that fails.
+    """
+    stolen = run(program, ["run"], stored("stolen_key.scenario")).wrote
+    logs, split = dict(Bundle(stolen).exhibits), dict(Bundle(read(EXAMPLES, "split.bundle")).exhibits)
+    held, unsealed = read(EXAMPLES, "split.evidence"), logs[0][:-1] + bytes([logs[0][-1] ^ 1])
+    return {
+        "stolen.evidence": (run(program, ["accuse", "--general", "0"], stolen).wrote, {
+            "own.log": (logs[0], "Answered: by the log, general 0 did not sign"),
+            "other.log": (logs[1], "Not answered: the log is of another run or of another general."),
+            "unsealed.log": (unsealed, "Not answered: the signature at the end of the log does not verify."),
+            "cut.log": (logs[0][:-1], "Not judged: the log has a fault.")}),
+        "held.evidence": (held, {"split.log": (split[0], "Not answered: the log departs from the algorithm.")}),
+        "failing.evidence": (held[:-1] + bytes([held[-1] ^ 1]), {
+            "failing.log": (split[0], "Not answered: the evidence fails, so there is nothing to answer.")}),
+    }
+
+
+def hold_reply(tally, answer, name, data, wanted):
+    """What the page shows of evidence and a log: the files of both names, and what the program answers to them."""
+    (evidence, log), (begins, end, text) = data, wanted
+    got = answer["name"], answer["end"], answer["text"].encode()
+    tally.hold(f"answer of {name}", None if got == (name, end, text) else f"{got} in place of {(name, end, text)}"[:400])
+    tally.hold(f"says of {name}", None if answer["said"].startswith(begins) else answer["said"])
+    facts = {"Evidence": (name.split(" and ")[0], evidence), "Log": (name.split(" and ")[1], log)}
+    for kind, (named, given) in facts.items():
+        is_named = answer["facts"].get(kind) == f"{named}, {len(given):,} bytes"
+        is_hashed = answer["facts"].get(f"SHA-256 of the {kind.lower()}") == hashlib.sha256(given).hexdigest()
+        tally.hold(f"facts of {name}, {kind}", None if is_named and is_hashed else f"{answer['facts']}"[:400])
+    is_explained = text.decode().strip() in answer["meanings"]
+    tally.hold(f"meaning of {name}", None if is_explained else f"{answer['meanings']}")
+
+
+def try_replies(program, shown, given, tally, folder):
+    """Logs of the accused that are dropped or chosen where evidence is shown."""
+    for number, (name, (evidence, logs)) in enumerate(reply_cases(program).items()):
+        told = given.give(lambda paths: shown.choose("#file", paths), {name: evidence})[name]
+        tally.hold(f"asks for the log, {name}", None if "Choose the log of general 0" in told["asks"] else f"{told}"[:400])
+        field = shown.run("document.querySelector('#answers .asking input').id")
+        ways = [lambda paths: shown.choose(f"#{field}", paths), lambda paths: shown.drop(paths, f"[for={field}]")]
+        told = given.take(ways[number % 2], {log: data for log, (data, _) in logs.items()})
+        for answer, (log, (data, begins)) in zip(told, logs.items()):
+            paths = written(folder, {name: evidence, log: data})
+            wanted = begins, *spoken(run(program, ["answer", *paths]))
+            hold_reply(tally, answer, f"{name} and {log}", (evidence, data), wanted)
+        replies = next(it["replies"] for it in shown.run("answers()") if it["name"] == name)
+        wanted = [f"{log}: {answer['said']}" for log, answer in zip(logs, told)]
+        tally.hold(f"answers to {name}", None if replies == wanted else f"{replies}")
+    evidence, logs = reply_cases(program)["stolen.evidence"]
+    digests = [hashlib.sha256(it).hexdigest() for it in (evidence, logs["own.log"][0])]
+    try_report(shown, folder, tally, "stolen.evidence and own.log", [*digests, "forged statement order 0 path 0\n", "Answered: "])
+
+
+def try_collision(shown, page, tally, given):
+    """What the page shows of an answer by two strings with one hash, of which none are known: the module is made to write one."""
+    take_back = shown.run_before(f"{IN_WORKERS % json.dumps(COLLISION)} {COLLISION}")
+    shown.open(page)
+    shown.learn(read(HERE, "page_looks.js").decode())
+    shown.choose("#file", [os.path.join(EXAMPLES, "split.evidence")])
+    shown.wait("document.querySelectorAll('article').length")
+    shown.choose("#answers .asking input", written(given.folder, {"any.log": b"log"}))
+    shown.wait("document.querySelectorAll('article').length >= 2")
+    told = shown.run("last.then(answers)")[-1]
+    sides = [["Hashed for the evidence", "0a0b"], ["Hashed for the log", "0c"]]
+    is_said = told["said"].startswith("Answered: two different strings of bytes have one SHA-256")
+    is_right = is_said and told["sides"][:2] == sides and told["meanings"] == ["collision 0a0b 0c"]
+    tally.hold("collision", None if is_right else f"{told}"[:400])
+    take_back()
 
 
 def try_worker(shown, given, tally):
     """That a worker judges, that the page does something else meanwhile, and that it can be stopped."""
     told = shown.run("meanwhile()")
-    tally.hold("page, meanwhile", None if told["count"] >= 3 and told["byWorker"] else f"{told}")
+    tally.hold("meanwhile", None if told["count"] >= 3 and told["byWorker"] else f"{told}")
     told = shown.run("stopped()")
     wanted = "The file was not judged: it was stopped"
-    tally.hold("page, stopped", None if told["text"] == wanted and told["said"] == "Not judged." else f"{told}"[:400])
+    tally.hold("stopped", None if told["text"] == wanted and told["said"] == "Not judged." else f"{told}"[:400])
     given.count += 2
-
-
-def nameless(shown):
-    """What can have the focus and has no name for a screen reader."""
-    nodes = shown.call("Accessibility.getFullAXTree")["nodes"]
-    kept = lambda it: {part["name"]: part["value"].get("value") for part in it.get("properties", [])}
-    found = [it for it in nodes if not it.get("ignored") and kept(it).get("focusable")]
-    return len(found), [it["role"]["value"] for it in found if not it.get("name", {}).get("value", "").strip()]
 
 
 def try_keys(shown, tally):
@@ -394,31 +518,32 @@ def try_keys(shown, tally):
     wanted = shown.run("document.querySelectorAll('input, button:not([hidden]), a[href], [tabindex]').length")
     way = []
     for _ in range(wanted):
-        shown.press("Tab")
+        shown.press_tab()
         way.append(shown.run("focused()"))
-    tally.hold("page, first by Tab", None if way[0]["id"] == "file" else f"{way[0]}")
+    tally.hold("first by Tab", None if way[0]["id"] == "file" else f"{way[0]}")
     tags = [it["tag"] for it in way]
-    tally.hold("page, all by Tab", None if tags.count("BODY") == 0 and {"A", "BUTTON", "DIV"} <= set(tags) else f"{tags}")
+    tally.hold("all by Tab", None if tags.count("BODY") == 0 and {"A", "BUTTON", "DIV"} <= set(tags) else f"{tags}")
     hidden = [it["label"] for it in way if not it["shows"]]
-    tally.hold("page, shows its focus", f"not at {hidden[:5]}" if hidden else None)
-    count, lacking = nameless(shown)
-    wrong = None if count >= wanted and not lacking else f"{count} of {wanted}, without a name: {lacking}"
-    tally.hold("page, names", wrong)
+    tally.hold("shows its focus", f"not at {hidden[:5]}" if hidden else None)
+    named = shown.focusable()
+    if named is not None:
+        lacking = [role for role, name in named if not name]
+        is_right = len(named) >= wanted and not lacking
+        tally.hold("names", None if is_right else f"{len(named)} of {wanted}, without a name: {lacking}")
     broken = shown.run("brokenRules()")
-    tally.hold("page, rules", f"{broken[:5]}" if broken else None)
+    tally.hold("rules", f"{broken[:5]}" if broken else None)
     alive = shown.run("document.getElementById('status').getAttribute('role')")
-    tally.hold("page, status", None if alive == "status" else f"{alive}")
+    tally.hold("status", None if alive == "status" else f"{alive}")
 
 
 def try_looks(shown, tally):
     """Contrast on light pages and dark ones, and a narrow screen."""
-    for scheme in ("light", "dark"):
-        shown.call("Emulation.setEmulatedMedia", features=[{"name": "prefers-color-scheme", "value": scheme}])
+    for scheme in shown.schemes():
         ratio, tag = shown.run("leastContrast()")
-        tally.hold(f"page, contrast, {scheme}", None if ratio >= CONTRAST else f"{ratio:.2f} at {tag}")
-    shown.call("Emulation.setDeviceMetricsOverride", width=NARROW, height=640, deviceScaleFactor=1, mobile=True)
+        tally.hold(f"contrast, {scheme}", None if ratio >= CONTRAST else f"{ratio:.2f} at {tag}")
+    shown.narrow(NARROW)
     width = shown.run("document.documentElement.scrollWidth")
-    tally.hold("page, narrow", None if width <= NARROW else f"{width} wide")
+    tally.hold("narrow", None if width <= NARROW else f"{width} wide")
 
 
 def try_lacking(shown, page, tally):
@@ -427,56 +552,71 @@ def try_lacking(shown, page, tally):
         in_workers = IN_WORKERS % json.dumps(script.replace("window.", "globalThis."))
         take_back = shown.run_before(f"{in_workers} {script}")
         shown.open(page)
-        shown.run(read(HERE, "page_looks.js").decode())
+        shown.learn(read(HERE, "page_looks.js").decode())
         is_told = shown.run("document.getElementById('lacking').checkVisibility()")
         shown.choose("#file", [os.path.join(EXAMPLES, "split.bundle")])
         shown.wait("document.querySelectorAll('article').length")
         said = shown.run("last.then(answers)")[0]["said"]
         is_right = said == wanted and is_told == (lack == "64-bit memories")
-        tally.hold(f"page, without {lack}", None if is_right else f"{said!r}, {is_told}")
+        tally.hold(f"without {lack}", None if is_right else f"{said!r}, {is_told}")
         take_back()
 
 
 def try_network(shown, page, tally):
     """That nothing but the page was asked for, and that its policy refuses more."""
-    urls = [it["params"]["request"]["url"] for it in shown.events if it["method"] == "Network.requestWillBeSent"]
-    other = [it for it in urls if it != f"file://{page}" and not it.startswith("blob:")]
-    tally.hold("page, no network", None if not other else f"{other[:3]}")
+    other = [it for it in shown.requests() if it != f"file://{page}" and not it.startswith(("blob:", "data:"))]
+    tally.hold("no network", None if not other else f"{other[:3]}")
     told = shown.run("refusals()")
     wanted = {"found": ["connect-src", "frame-src", "img-src", "script-src-elem"], "wasRun": False}
-    tally.hold("page, policy", None if told == wanted else f"{told}")
+    tally.hold("policy", None if told == wanted else f"{told}")
 
 
-def try_browser(program, page, bases, tally, folder):
-    """The page in a browser."""
-    chromium = browser.found()
-    if not chromium:
-        tally.note("no Chromium is there, so the page was not opened")
-        return
-    with browser.Browser(chromium, folder) as shown:
-        shown.open(page)
-        shown.run(read(HERE, "page_looks.js").decode())
-        given, files = Given(shown, program, folder, tally), named_files(program)
-        told = given.give(shown.drop, files)
-        try_answers(told, tally)
-        try_facts(program, told, files, tally)
-        links = {"split.bundle.0.evidence": read(EXAMPLES, "split.evidence")}
-        drawn = [name[:-4] for name in os.listdir(EXAMPLES) if name.endswith(".svg") and f"{name[:-4]}.bundle" in told]
-        links |= {f"{name}.bundle.svg": read(EXAMPLES, f"{name}.svg") for name in drawn}
-        try_saved(shown, folder, tally, links)
-        try_report(shown, folder, tally)
-        try_network(shown, page, tally)
-        try_keys(shown, tally)
-        try_looks(shown, tally)
-        try_expected(shown, given, tally)
-        try_worker(shown, given, tally)
-        draws = Draws("page, browser")
-        jobs = [draws.one_of(["audit", "audit", "evidence"]) for _ in range(IN_BROWSER)]
-        bent = {f"bent {at}": bent_case(draws, bases, job)[1] for at, job in enumerate(jobs)}
-        given.give(lambda paths: shown.choose("#file", paths), bent)
-        faults = [it for it in shown.events if it["method"] == "Runtime.exceptionThrown"]
-        tally.hold("page, no exception", f"{faults[0]['params']}"[:400] if faults else None)
-        try_lacking(shown, page, tally)
+def try_answers_of(program, shown, given, tally, folder):
+    """The files that are named, and what the page says, saves and reports of them."""
+    files = named_files(program)
+    told = given.give(shown.drop, files)
+    try_answers(told, tally)
+    try_facts(program, told, files, tally)
+    links = {"split.bundle.0.evidence": read(EXAMPLES, "split.evidence")}
+    drawn = [name[:-4] for name in os.listdir(EXAMPLES) if name.endswith(".svg") and f"{name[:-4]}.bundle" in told]
+    links |= {f"{name}.bundle.svg": read(EXAMPLES, f"{name}.svg") for name in drawn}
+    try_saved(shown, folder, tally, links)
+    wants = [hashlib.sha256(files["split.bundle"]).hexdigest(), read(EXAMPLES, "split.verdict").decode()]
+    wants += ["data:image/svg+xml;base64,", "split.bundle.0.evidence"]
+    try_report(shown, folder, tally, "split.bundle", wants)
+
+
+def try_page(program, page, bases, tally, folder, shown):
+    """The page in one browser."""
+    shown.open(page)
+    shown.learn(read(HERE, "page_looks.js").decode())
+    given = Given(shown, program, folder, tally)
+    try_answers_of(program, shown, given, tally, folder)
+    try_replies(program, shown, given, tally, folder)
+    try_network(shown, page, tally)
+    try_keys(shown, tally)
+    try_looks(shown, tally)
+    try_expected(shown, given, tally)
+    try_worker(shown, given, tally)
+    draws = Draws("page, browser")
+    jobs = [draws.one_of(["audit", "audit", "evidence"]) for _ in range(IN_BROWSER)]
+    bent = {f"bent {at}": bent_case(draws, bases, job)[1] for at, job in enumerate(jobs)}
+    given.give(lambda paths: shown.choose("#file", paths), bent)
+    faults = shown.faults()
+    tally.hold("no exception", faults[0][:400] if faults else None)
+    try_lacking(shown, page, tally)
+    try_collision(shown, page, tally, given)
+
+
+def try_browsers(program, page, bases, tally):
+    """The page in each browser that is there."""
+    for kind in BROWSERS:
+        there = found(kind)
+        if not there:
+            tally.note(f"no {kind.__name__} is there, so the page was not opened in one")
+            continue
+        with tempfile.TemporaryDirectory() as folder, kind(there, folder) as shown:
+            try_page(program, page, bases, Within(tally, kind.__name__), folder, shown)
 
 
 def trials(program, tally):
@@ -491,4 +631,4 @@ def trials(program, tally):
             bases = Bases(program)
             try_text(page, tally)
             try_node(program, page, bases, tally)
-            try_browser(program, page, bases, tally, folder)
+            try_browsers(program, page, bases, tally)

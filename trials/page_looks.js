@@ -13,6 +13,8 @@ const answers = () => [...document.querySelectorAll("article")].reverse().map(it
   text: it.querySelector("pre").textContent,
   drawn: Boolean(it.querySelector(".picture > div")?.shadowRoot.querySelector("svg > title")),
   saves: [...it.querySelectorAll("a[download]")].map(link => link.download),
+  asks: it.querySelector(".asking .drop")?.textContent ?? "",
+  replies: [...it.querySelectorAll(".reply")].map(reply => reply.textContent),
 }));
 
 // How light a colour is, by the sum of WCAG 2.
@@ -44,8 +46,8 @@ function leastContrast() {
 
 // What has the focus: the element, and whether it shows that it has.
 function focused() {
-  const it = document.activeElement, shown = it.id === "file" ? document.getElementById("drop") : it;
-  const label = it.getAttribute("aria-label") ?? it.textContent.slice(0, 60);
+  const it = document.activeElement, shown = it.type === "file" ? it.labels[0] : it;
+  const label = it.getAttribute("aria-label") ?? shown.textContent.slice(0, 60);
   return { tag: it.tagName, id: it.id, label, shows: parseFloat(getComputedStyle(shown).outlineWidth) >= 2 };
 }
 

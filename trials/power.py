@@ -2,10 +2,12 @@
 
 The process is a commander of embed/nodes/, over Unix sockets and over UDP. It is killed (SIGKILL, by dying.c) before, within and
 behind each call that writes to the disk, waits for the disk, renames, binds or sends. Then the disk is one of three: all is there
-that was written; nothing is there that no fsync waited for; or names are there, and no content that no fsync waited for. On each
-disk the general is started once more, with another order. Either it is refused, or the first process had not said that it is
-ready, and had sent nothing. What both processes sent together has one frame for each round and neighbour. The programs that make
-seeds and headers are killed so too: no seed is replaced, and no header is half of one.
+that was written; nothing is there that no fsync waited for; or names are there, and no content that no fsync waited for. The folder
+counts as made just before the process, as by mkdir. So its own name is one of those for which an fsync of the folder above waits.
+If the folder is gone, it is made anew with what it had before the process. On each disk the general is started once more, with
+another order. Either it is refused, or the first process had not said that it is ready, and had sent nothing. What both processes
+sent together has one frame for each round and neighbour. The programs that make seeds and headers are killed so too: no seed is
+replaced, none is lost when keygen has ended, and no header is half of one.
 
 The archive is that of nodes.py; without it, or without a compiler, nothing is tried, and a line says so.
 """
@@ -132,8 +134,8 @@ class File:
 
 
 def replayed(calls):
-    """The names with their files as they are seen, and as the disk has them for sure."""
-    seen, kept = {}, {}
+    """The names with their files as they are seen, and as the disk has them for sure: none before it has the folder's own name."""
+    seen, kept, has_folder = {}, {}, False
     for call, *words in calls:
         if call == "open":
             seen.setdefault(words[0], File()).written = 0
@@ -143,11 +145,13 @@ def replayed(calls):
             seen[words[1]] = seen.pop(words[0])
         elif call == "unlink":
             seen.pop(words[0], None)
+        elif call == "fsync" and words[0] == "..":
+            has_folder = True
         elif call == "fsync" and words[0] == ".":
             kept = dict(seen)
         elif call == "fsync":
             seen[words[0]].kept = seen[words[0]].written
-    return seen, kept
+    return seen, kept if has_folder else {}
 
 
 def fail_power(folder, base, calls, disk):
@@ -263,6 +267,8 @@ def file_wrong(made, killer, base, folder, kind, words, point, old):
             continue
         path = os.path.join(other, "5.seed")
         before = open(path, "rb").read() if os.path.exists(path) else None
+        if status == 0 and len(before or b"") != 32:
+            return f"{DISKS[disk]}: the seed is lost"
         again = run(words[0], [other, "5"])
         root = run(made["header"][-1], ["root", other, "5", "1"])
         after = open(path, "rb").read()

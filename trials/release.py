@@ -23,6 +23,7 @@ import proved  # noqa: E402
 from man3 import pages  # noqa: E402
 
 CRATES = {"sm_tool": "sm_tool", "sm_tool-v3": "sm_tool", "libsm_embed.a": "sm_embed", "libsm_node.a": "sm_node"}
+CRATES |= {"libsm_embed-v3.a": "sm_embed", "libsm_node-v3.a": "sm_node"}
 GATE = "1 passed, 0 failed"
 SECONDS = "1795758936"
 GIT = {"GIT_AUTHOR_NAME": "a", "GIT_AUTHOR_EMAIL": "a@a", "GIT_COMMITTER_NAME": "a", "GIT_COMMITTER_EMAIL": "a@a"}
@@ -46,7 +47,7 @@ BOTH = """#include <sm_embed.h>
 int main(void) {
     uint8_t seed[SM_SEED_BYTES] = {0}, root[SM_ROOT_BYTES], room[100];
     size_t count;
-    if (sm_root(seed, 1, root) != SM_OK || sm_audit(NULL, 0, room, sizeof room, &count) != SM_FAULT) return 1;
+    if (sm_node_root(seed, 1, root) != SM_OK || sm_audit(NULL, 0, room, sizeof room, &count) != SM_FAULT) return 1;
     printf("%.*s\\n", (int)count, (const char *)room);
     return sm_version() != SM_VERSION_NUMBER || sm_node_version() != SM_VERSION_NUMBER;
 }
@@ -79,10 +80,11 @@ def write(path, data):
 
 
 def built_files(program):
-    """The built files by their names, or None. The program stands for the one for processors with AVX2 too."""
+    """The built files by their names, or None. What is for any processor stands for what is for those with AVX2 too."""
     found = {"sm_tool": program, "sm_tool-v3": program}
     for name, crate in list(CRATES.items())[2:]:
-        places = [os.path.join(TOP, "crates", crate, "out", name), os.path.join(TOP, "out", name)]
+        plain = name.replace("-v3", "")
+        places = [os.path.join(TOP, "crates", crate, "out", plain), os.path.join(TOP, "out", plain)]
         found[name] = next(filter(os.path.exists, places), None)
     return found if all(found.values()) else None
 

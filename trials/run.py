@@ -18,8 +18,8 @@ from tally import Tally
 
 SUBJECTS = ["scripts", "worked", "walk", "campaigns", "pictures", "prefixes", "vectors", "second_answers", "differs"]
 SUBJECTS += ["json_texts", "costs", "refusals", "calls", "devices", "load", "archive", "embed", "nodes", "datagrams"]
-SUBJECTS += ["power", "system", "bindings", "page", "release"]
-LIBRARIES = ["embed", "nodes", "datagrams", "power", "system", "bindings", "page", "release"]
+SUBJECTS += ["shown", "power", "system", "bindings", "page", "release"]
+LIBRARIES = ["embed", "nodes", "datagrams", "shown", "power", "system", "bindings", "page", "release"]
 # What no subject takes, in seconds, however busy the machine is: trials that take longer hang.
 MOST_SECONDS = 1800
 GROUPS = {"libraries": LIBRARIES, "program": [subject for subject in SUBJECTS if subject not in LIBRARIES]}

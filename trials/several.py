@@ -145,13 +145,17 @@ def answering_log(draws, evidence, data):
     return bend_bytes(draws, log) if log and draws.is_one_in(8) else log
 
 
-def answer_case(draws, block, bundles, files):
-    """The words of `answer`."""
+def answer_parts(draws, block, bundles):
+    """Evidence, and a log that may answer it."""
     way = draws.below(8)
     evidence, data = across_evidence(draws, block) if way == 0 else stolen_evidence(draws, block, draws.below(bundles))
     log = answering_log(draws, evidence, data)
-    if evidence and draws.is_one_in(8):
-        evidence = bend_bytes(draws, evidence)
+    return bend_bytes(draws, evidence) if evidence and draws.is_one_in(8) else evidence, log
+
+
+def answer_case(draws, block, bundles, files):
+    """The words of `answer`."""
+    evidence, log = answer_parts(draws, block, bundles)
     names = [files.named(draws, evidence), files.named(draws, log)]
     if draws.is_one_in(30):
         names = draws.one_of([names[:1], [*names, names[0]], names[::-1], []])

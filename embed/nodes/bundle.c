@@ -41,9 +41,9 @@ int main(int count, char **words) {
     struct bytes all = read_logs(words[1], words + 3, count - 3, logs);
     /* Besides the header and the logs: the mark, the set and two counts, the walks, and what stands before each log. */
     struct bytes room = room_of(header.length + all.length + 8 + MOST_WALKS * WALK_BYTES + SM_LOGS_MOST * 5);
-    uint32_t status = sm_bundle(header.at, header.length, faulty, logs, (size_t)(count - 3), all.at, all.length,
+    uint32_t status = sm_node_bundle(header.at, header.length, faulty, logs, (size_t)(count - 3), all.at, all.length,
                                 room.at, room.length, &length, &fault);
-    must_fit(status, fault, "sm_bundle");
+    must_fit(status, fault, "sm_node_bundle");
     if (fwrite(room.at, 1, length, stdout) != length || fflush(stdout) != 0) give_up("standard output");
     free(header.at);
     free(all.at);

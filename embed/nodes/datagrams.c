@@ -8,8 +8,8 @@
 
    A general has at most one address of IPv4 and one of IPv6. Two neighbours use IPv6 if both have it, else IPv4. The
    file is the same at all generals, unless what they reach each other by differs. The moment to begin is one of the
-   system's clock, in milliseconds since 1970. Two clocks may differ by a quarter of a round: a round is open for frames
-   that long before it begins.
+   system's clock, in milliseconds since 1970. Two clocks may differ by nearly a quarter of a round: a round is open for
+   frames that long before it begins.
 
    A datagram is of the neighbour whose address and port it comes from. UDP does not protect these: whoever can send
    with a false address, or change datagrams on the way, can end a run, but not sign. So the network has to be closed,
@@ -22,7 +22,10 @@
 
    A piece has PIECE bytes, and the last of a frame what is left. Numbers are big-endian. What is of another run, round,
    sender or receiver is dropped, and so is what does not fit into the longest frame. A neighbour has one frame of one
-   length at a time here, so memory is bounded. */
+   length at a time here, so memory is bounded.
+
+   Of the kernel each socket asks for a buffer of 4 MiB (SO_RCVBUF). Linux gives no more than net.core.rmem_max, and
+   does not say so. docs/EMBED.md has how long a round has to be, and how to set that number. */
 #include "general.h"
 #include <netdb.h>
 #include <netinet/in.h>

@@ -82,11 +82,14 @@ static inline void write_bytes(const char *path, int flags, mode_t mode, struct 
     if (fsync(file) != 0 || close(file) != 0) give_up(path);
 }
 
-/* Makes a file that must not be there before. When the call returns, a loss of power takes neither the file nor its
-   name away. */
+/* Makes a file that must not be there before. When the call returns, a loss of power takes away neither the file, nor
+   its name, nor the name of the folder, which may be new. The folder above has to be on the disk before. If the folder
+   is reached by a link, the link is the caller's to keep. */
 static inline void make_once(const char *folder, const char *name, mode_t mode, struct bytes all) {
-    char path[100];
+    char path[100], above[100];
     path_in(path, folder, name);
+    path_in(above, folder, "..");
+    sync_folder(above);
     write_bytes(path, O_EXCL, mode, all);
     sync_folder(folder);
 }

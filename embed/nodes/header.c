@@ -14,7 +14,7 @@ enum { MOST_EDGES = 120 };
 static void tell_root(const char *folder, uint32_t general, uint32_t version) {
     uint8_t seed[32], root[32];
     read_seed(folder, general, seed);
-    must(sm_root(seed, version, root), "sm_root");
+    must(sm_node_root(seed, version, root), "sm_node_root");
     explicit_bzero(seed, sizeof seed);
     for (int place = 0; place < 32; place++) printf("%02x", root[place]);
     printf("\n");
@@ -58,8 +58,8 @@ static void make(const char *folder, char **words, int roots) {
     for (int place = 0; place < 7; place++) given[place] = (uint8_t)read_number(words[place], UINT8_MAX);
     sm_numbers numbers = {given[0], given[1], given[2], given[3], given[4], given[5], given[6]};
     uint32_t status =
-        sm_header(&numbers, edges, edge_count, known, (size_t)roots, room, sizeof room, &count, &fault);
-    must_fit(status, fault, "sm_header");
+        sm_node_header(&numbers, edges, edge_count, known, (size_t)roots, room, sizeof room, &count, &fault);
+    must_fit(status, fault, "sm_node_header");
     replace_file(folder, "header", (struct bytes){room, count});
 }
 

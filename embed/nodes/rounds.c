@@ -4,8 +4,11 @@
        PROGRAM FOLDER GENERAL MILLISECONDS and the words of general.c or traitor.c
 
    FOLDER is of one run alone. It has the file header, and GENERAL.seed, 32 secret bytes of mode 600 (keygen.c).
-   sockets.c and datagrams.c say what else is in it, and whom to trust. GENERAL.log is made before the node, is on the
-   disk then, and must not be there before: a general that has begun never begins again, also after a loss of power.
+   sockets.c and datagrams.c say what else is in it, and whom to trust. GENERAL.log is made before the node, and must
+   not be there before. The log, its name and the name of FOLDER are on the disk then: a general that has begun never
+   begins again, also after a loss of power. The folder above FOLDER has to be on the disk before, and readable. A
+   process that ends before round 1, as by a mistake in its words or files, takes the empty log away: it has signed
+   nothing, and may be started again. One that is killed leaves the log.
 
    A round takes MILLISECONDS, at most 1000000, and the same of all generals. The general says `ready`, and reads when
    the first round begins, a number of milliseconds. It says `round R` when it has sent its frames of a round, `heard
@@ -77,12 +80,12 @@ static void run_round(struct general *general, int round) {
 /* Learns the rounds, the neighbours, and how long a frame may be, and makes room for frames. */
 static void know(struct general *general, struct bytes header) {
     uint32_t rounds, fault;
-    uint32_t status = sm_rounds(header.at, header.length, &rounds, &fault);
-    must_fit(status, fault, "sm_rounds");
-    status = sm_neighbours(header.at, header.length, general->me, &general->neighbours, &fault);
-    must_fit(status, fault, "sm_neighbours");
-    status = sm_frame_most(header.at, header.length, &general->longest, &fault);
-    must_fit(status, fault, "sm_frame_most");
+    uint32_t status = sm_node_rounds(header.at, header.length, &rounds, &fault);
+    must_fit(status, fault, "sm_node_rounds");
+    status = sm_node_neighbours(header.at, header.length, general->me, &general->neighbours, &fault);
+    must_fit(status, fault, "sm_node_neighbours");
+    status = sm_node_frame_most(header.at, header.length, &general->longest, &fault);
+    must_fit(status, fault, "sm_node_frame_most");
     general->rounds = (int)rounds;
     for (uint32_t to = 0; to < GENERALS; to++)
         if (general->neighbours >> to & 1) general->out[to] = room_of(general->longest);
@@ -90,6 +93,15 @@ static void know(struct general *general, struct bytes header) {
 
 /* The name of the general's log. */
 static void log_name(const struct general *general, char name[20]) { snprintf(name, 20, "%u.log", general->me); }
+
+/* The path of the empty log while nothing is signed, else an empty text. An end of the process then takes the log away,
+   since the seed is not used. The disk is not waited for: if power fails now, the empty log may come back, and the
+   general is refused. */
+static char unsigned_log[100];
+
+static void take_back(void) {
+    if (unsigned_log[0] != '\0') unlink(unsigned_log);
+}
 
 /* Has the node made, or the nodes. The empty log is on the disk before that, and tells that the seed is used. */
 static void start(struct general *general) {
@@ -100,6 +112,7 @@ static void start(struct general *general) {
     know(general, header);
     log_name(general, name);
     make_once(general->folder, name, 0666, (struct bytes){header.at, 0});
+    path_in(unsigned_log, general->folder, name);
     make_nodes(general, header, seed);
     explicit_bzero(seed, sizeof seed);
     free(header.at);
@@ -113,6 +126,15 @@ static int64_t read_moment(void) {
     int64_t moment = (int64_t)take_number(&end, INT64_MAX / 2);
     if (strcmp(end, "\n") != 0) refuse("not a moment", line);
     return moment - time_of(start_clock) + now();
+}
+
+/* Reads when the run begins. A general that is too late for round 1 ends, and has signed nothing. */
+static void wait_for_beginning(struct general *general) {
+    general->start = read_moment();
+    int64_t latest = general->start + general->length / 2;
+    if (now() >= latest) close_transport(general);
+    be_in_time(latest);
+    unsigned_log[0] = '\0';
 }
 
 /* Writes the log, and says what the general decides. */
@@ -139,10 +161,11 @@ int main(int count, char **words) {
     general.me = read_number(words[2], GENERALS - 1);
     general.length = read_number(words[3], 1000000);
     read_words(count - 4, words + 4);
+    if (atexit(take_back) != 0) give_up("atexit");
     start(&general);
     open_transport(&general);
     say("ready");
-    general.start = read_moment();
+    wait_for_beginning(&general);
     for (int round = 1; round <= general.rounds; round++) run_round(&general, round);
     end(&general);
     return 0;

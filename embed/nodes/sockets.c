@@ -5,6 +5,9 @@
    in the place of another's speaks in the other's name. A general that fills the sockets of others, or does not read
    its own, hinders them.
 
+   A general that can't go on may leave its socket in FOLDER, by the name GENERAL. Take it away before the general is
+   started again.
+
    The moment to begin is one of the monotonic clock. The status is 1 if a frame is longer than a datagram of the system
    may be. */
 #include "general.h"

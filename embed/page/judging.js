@@ -7,8 +7,10 @@ const LONGEST = 1073741824;
 const OTHER_LINE = "fault R1";
 // The room for an answer that is handed over at once.
 const ROOM = 256;
-// The bytes of a run id, and of a pointer.
-const ID_BYTES = 32, POINTER_BYTES = 8;
+// The bytes of a run id, of a root, of a pointer, and of the mark of a file.
+const ID_BYTES = 32, ROOT_BYTES = 32, POINTER_BYTES = 8, MARK_BYTES = 4;
+// The findings that say why a log answers nothing.
+const AGAINST_LOG = /^N[467] /;
 const NOTHING = new Uint8Array();
 
 const textOf = bytes => new TextDecoder().decode(bytes);
@@ -20,6 +22,17 @@ let compiled;
 async function freshModule(module) {
   compiled ??= WebAssembly.compile(module);
   return (await WebAssembly.instantiate(await compiled, {})).exports;
+}
+
+// Parts one after another.
+function joined(parts) {
+  const whole = new Uint8Array(parts.reduce((sum, it) => sum + it.length, 0));
+  let at = 0;
+  for (const part of parts) {
+    whole.set(part, at);
+    at += part.length;
+  }
+  return whole;
 }
 
 // Puts bytes into the memory of the module, and returns where they are and how many; null if memory is refused.
@@ -58,23 +71,23 @@ function ask(of, call, input, { runs = NOTHING, numbers = [] } = {}) {
   return bytes ? { end, bytes } : short;
 }
 
-// What a call returns that takes room for its text, and the text.
-function handed(of, call, input, length = ROOM) {
+// What a call returns that takes inputs and room for its text, and the text.
+function handed(of, call, inputs, length = ROOM) {
   const room = put(of, new Uint8Array(length)), count = put(of, new Uint8Array(POINTER_BYTES));
-  if (!input || !room || !count) return { end: MEMORY, bytes: NOTHING };
-  const end = of[call](input.at, input.length, room.at, room.length, count.at);
+  if (!inputs.every(it => it) || !room || !count) return { end: MEMORY, bytes: NOTHING };
+  const end = of[call](...inputs.flatMap(it => [it.at, it.length]), room.at, room.length, count.at);
   const held = Number(new DataView(of.memory.buffer).getBigUint64(Number(count.at), true));
   const bytes = new Uint8Array(of.memory.buffer, Number(room.at), Math.min(held, length)).slice();
   for (const { at } of [room, count]) of.give_back(at);
-  return end === LENGTH ? handed(of, call, input, held) : { end, bytes };
+  return end === LENGTH ? handed(of, call, inputs, held) : { end, bytes };
 }
 
 // Whether evidence holds that has to be of this run, or of any run if there is none. The run ids are compared here, since
 // `sm_evidence_of` as it is compiled for WebAssembly refuses the evidence's own run.
 function evidenceOf(of, input, runs) {
-  const answer = handed(of, "sm_evidence", input);
+  const answer = handed(of, "sm_evidence", [input]);
   if (answer.end > NO || !runs.length) return answer;
-  const { end, bytes } = handed(of, "sm_run_id", input);
+  const { end, bytes } = handed(of, "sm_run_id", [input]);
   if (end !== YES) return { end, bytes: NOTHING };
   return hexOf(bytes) === hexOf(runs) ? answer : { end: OTHER, bytes: new TextEncoder().encode(OTHER_LINE) };
 }
@@ -125,18 +138,53 @@ function audited(of, input, runs) {
   return { end, text, evidence: evidenceBy(of, input, runs, text), picture: pictureOf(of, input, runs) };
 }
 
+// An answer with what the module says of the file that it is about: what is shown of the file, what evidence claims, and
+// the lines of the answer and those beside it with their words.
+function described(of, input, answer, beside = "") {
+  const { end, bytes } = ask(of, "sm_show", input), shown = answer.kind === "neither" ? "" : textOf(bytes);
+  if (end === MEMORY) return { kind: answer.kind, end, text: "", shown: "", words: "" };
+  const about = /^kind (\d)/m.exec(shown);
+  const claim = about ? told(of, "sm_explain", `K${about[1]}`).split("\n").slice(1).join(" ").trim() : "";
+  const words = told(of, "sm_words", `${answer.text.replace(/\n$/, "")}\n${beside}`);
+  return { ...answer, shown, claim, words };
+}
+
 // All that the module says of a file that has to be of these runs; of any runs if there are none.
 async function judged(module, given, runs) {
   const of = await freshModule(module), kind = kindOf(given), input = put(of, given);
   if (!input) return { kind, end: MEMORY, text: "", shown: "", words: "" };
   const isShown = kind === "bundle" || kind === "campaign";
   const answer = isShown ? audited(of, input, runs) : weighed(of, kind, input, kind === "evidence" ? runs : NOTHING);
-  const { end, bytes } = ask(of, "sm_show", input), shown = kind === "neither" ? "" : textOf(bytes);
-  if (end === MEMORY) return { kind, end, text: "", shown: "", words: "" };
-  const about = /^kind (\d)/m.exec(shown);
-  const claim = about ? told(of, "sm_explain", `K${about[1]}`).split("\n").slice(1).join(" ").trim() : "";
-  const words = told(of, "sm_words", answer.text.endsWith("\n") ? answer.text : `${answer.text}\n`);
-  return { kind, shown, claim, words, ...answer };
+  return described(of, input, { kind, ...answer });
+}
+
+// The bundle that shows a log alone, as that of the accused in the run of evidence: all others are held for faulty.
+function bundleAround(evidence, log) {
+  const version = evidence[MARK_BYTES], count = evidence[MARK_BYTES + version], edges = evidence[MARK_BYTES + 5 + version];
+  const front = MARK_BYTES + 6 + version + 2 * edges + ROOT_BYTES * count, accused = evidence[front];
+  const faulty = (1 << count) - 1 - (1 << accused), parts = new DataView(new ArrayBuffer(9));
+  parts.setUint16(0, faulty);
+  // No walk leads between the rest, which is the accused alone, and one log is shown.
+  parts.setUint8(3, 1);
+  parts.setUint8(4, accused);
+  parts.setUint32(5, log.length);
+  const mark = new TextEncoder().encode(`SMB${version}`);
+  return joined([mark, evidence.subarray(MARK_BYTES, front), new Uint8Array(parts.buffer), log]);
+}
+
+// What an audit finds against a log that answers nothing, though the evidence and the log have no fault.
+function foundAgainst(of, evidence, log) {
+  const input = put(of, bundleAround(evidence, log));
+  const { bytes } = ask(of, "sm_audit_of", input, { numbers: [0] });
+  return linesOf(textOf(bytes)).filter(it => AGAINST_LOG.test(it)).map(it => `${it}\n`).join("");
+}
+
+// All that the module says of evidence and of the log by which the accused answers the evidence.
+async function replied(module, evidence, log) {
+  const of = await freshModule(module), inputs = [put(of, evidence), put(of, log)];
+  const { end, bytes } = handed(of, "sm_refute", inputs), answer = { kind: "reply", end, text: textOf(bytes) };
+  if (end === MEMORY) return answer;
+  return described(of, inputs[0], answer, end === NO ? foundAgainst(of, evidence, log) : "");
 }
 
 // The SHA-256 of bytes in hexadecimal digits; nothing where the browser computes none.
@@ -145,25 +193,36 @@ async function digestOf(bytes) {
   return subtle ? hexOf(new Uint8Array(await subtle.digest("SHA-256", bytes))) : "";
 }
 
-// The answer on a file, with its length, its digest and the time that it took. A fault of the browser is an answer too.
-async function answered(module, file, runs) {
-  const from = performance.now(), size = file.size;
-  let answer = { kind: "neither", shown: "", words: "", claim: "" };
+// The bytes of a file, with what is told of the file itself.
+async function readWhole(file) {
+  if (file.size > LONGEST) throw new RangeError("it is longer than the longest input.");
+  const bytes = new Uint8Array(await file.arrayBuffer());
+  return { bytes, digest: await digestOf(bytes) };
+}
+
+// An answer that says nothing, on a file, or on evidence with a log.
+const noAnswer = ({ log }) => ({ kind: log ? "reply" : "neither", end: UNASKED, shown: "", words: "", claim: "" });
+
+// The answer on what is given, with the files and the time that it took. A fault of the browser is an answer too. What is
+// given is a file with the runs that are expected, or evidence with the log of the accused.
+async function answered(module, given) {
+  const from = performance.now();
+  let answer = noAnswer(given);
   try {
-    if (size > LONGEST) throw new RangeError("it is longer than the longest input.");
-    const given = new Uint8Array(await file.arrayBuffer());
-    answer = { ...await judged(module, given, runs), digest: await digestOf(given) };
+    const [one, log] = await Promise.all([given.file, given.log].filter(it => it).map(readWhole));
+    const said = log ? replied(module, one.bytes, log.bytes) : judged(module, one.bytes, given.runs);
+    answer = { ...answer, ...await said, digest: one.digest, logDigest: log?.digest };
   } catch (fault) {
-    answer = { ...answer, end: UNASKED, text: `The file could not be read or judged: ${fault.message}` };
+    answer = { ...answer, text: `The file could not be read or judged: ${fault.message}` };
   }
-  return { ...answer, size, took: performance.now() - from };
+  return { ...answer, took: performance.now() - from };
 }
 
 // Answers the page, in a worker. The first message is the module.
 function beginWorker() {
   let module;
   globalThis.addEventListener("message", async ({ data }) => {
-    if (module) globalThis.postMessage(await answered(module, data.file, data.runs));
+    if (module) globalThis.postMessage(await answered(module, data));
     else module = data;
   });
 }

@@ -11,7 +11,13 @@ const LACKING = "This browser has no 64-bit memories for WebAssembly, so this pa
 const NO_RUN_ID = "The expected run id is not 64 hexadecimal digits, nor two to four of these with commas between them. "
   + "No file was judged.";
 // The names of the answers in the page's style: agreed, explained, a no, and all else.
-const LOOKS = { agreed: "yes", holds: "yes", explained: "part", no: "no", fails: "no" };
+const LOOKS = { agreed: "yes", holds: "yes", answered: "yes", explained: "part", no: "no", fails: "no", unanswered: "no" };
+// Why a log answers nothing, by what is found against the log.
+const REASONS = {
+  N4: "the log is of another run or of another general",
+  N6: "the signature at the end of the log does not verify",
+  N7: "the log departs from the algorithm",
+};
 
 const byId = id => document.getElementById(id);
 const bytesOf = text => Uint8Array.from(atob(text), it => it.charCodeAt(0));
@@ -32,20 +38,22 @@ function generalsIn(numbers) {
   return `generals ${numbers.slice(0, -1).join(", ")} and ${numbers.at(-1)}`;
 }
 
-// What an answer comes to: agreed, explained, no, holds or fails; nothing where nothing was judged.
+// What an answer comes to: agreed, explained, no, holds, fails, answered or unanswered; nothing where nothing was judged.
 function outcomeOf({ kind, end, verdicts }) {
   if (end > NO) return "";
+  if (kind === "reply") return end === YES ? "answered" : "unanswered";
   if (kind === "evidence") return end === YES ? "holds" : "fails";
   if (end === NO) return "no";
   return verdicts.every(it => it.verdict === "agreed") ? "agreed" : "explained";
 }
 
 // The sentence for a file that nothing was judged of.
-function unjudged({ kind, end }) {
+function unjudged({ kind, end, text }) {
   if (end === UNASKED) return "Not judged.";
   if (end === MEMORY) return "Not judged: memory was refused.";
   if (end === OTHER) return `Not judged: the ${kind} is of another run than the one that you expect.`;
   if (kind === "neither") return "Neither a bundle, nor a campaign, nor evidence.";
+  if (kind === "reply") return `Not judged: the ${text.startsWith("fault V") ? "evidence" : "log"} has a fault.`;
   return `Not judged: the ${kind} has a fault.`;
 }
 
@@ -69,9 +77,29 @@ function campaignHeadline(outcome, { verdicts }) {
     + "is planned for, so the others may have decided different orders.";
 }
 
+// Why a log answers nothing.
+function reasonOf({ file, words }) {
+  if (!file.holds) return "the evidence fails, so there is nothing to answer";
+  const found = Object.keys(REASONS).filter(it => new RegExp(`^${it} `, "m").test(words));
+  const other = `the log is none that general ${file.accused} could have kept by following the algorithm`;
+  return found.map(it => REASONS[it]).join(", and ") || other;
+}
+
+// The sentence for a log by which the accused answers evidence.
+function replyHeadline(outcome, answer) {
+  const general = `general ${answer.file.accused}`;
+  if (outcome === "unanswered") return `Not answered: ${reasonOf(answer)}.`;
+  if (answer.text.startsWith("collision ")) {
+    return "Answered: two different strings of bytes have one SHA-256, so SHA-256 is broken. The strings stand below.";
+  }
+  return `Answered: by the log, ${general} did not sign a text of the evidence. If the log is right, somebody else knows `
+    + `the keys of ${general}, or SHA-256 is broken. The text stands below.`;
+}
+
 // The answer in one sentence.
 function headline(outcome, answer) {
   if (!outcome) return unjudged(answer);
+  if (answer.kind === "reply") return replyHeadline(outcome, answer);
   if (answer.kind === "evidence") return `The evidence against general ${answer.file.accused} ${outcome}.`;
   return answer.kind === "campaign" ? campaignHeadline(outcome, answer) : bundleHeadline(outcome, answer);
 }
@@ -106,15 +134,21 @@ function framed(kind, label, held) {
   return box;
 }
 
+// The file or the files that were judged, each with its SHA-256.
+function givenFacts({ file, log }, { digest, logDigest }) {
+  const facts = (name, it, sum) => [[name, `${it.name}, ${spell(it.size)} bytes`],
+    [`SHA-256 of the ${name.toLowerCase()}`, sum || "not computed here"]];
+  return log ? [...facts("Evidence", file, digest), ...facts("Log", log, logDigest)] : facts("File", file, digest);
+}
+
 // What was judged, by what, and when.
-function fileFacts(name, { size, digest, took }, expected) {
+function fileFacts(given, answer) {
   const { version, kit, digest: module } = document.body.dataset;
   const when = new Date().toISOString().replace("T", " ").slice(0, 16);
   return factsOf([
-    ["File", `${name}, ${spell(size)} bytes`],
-    ["SHA-256 of the file", digest || "not computed here"],
-    ["Expected run", expected || "any: no run id was given, so compare the run id below with one that you know"],
-    ["Judged", `${when} UTC, in ${took.toFixed(0)} ms`],
+    ...givenFacts(given, answer),
+    ["Expected run", given.expected || "any: no run id was given, so compare the run id below with one that you know"],
+    ["Judged", `${when} UTC, in ${answer.took.toFixed(0)} ms`],
     ["By this page", `Vamuretu ${version}, compiled by ${kit}`],
     ["SHA-256 of its module", module],
   ]);
@@ -154,13 +188,16 @@ function generalsTable(run, verdict, label) {
 function runsIn({ kind, file, verdicts }) {
   const alone = file.runs.length === 1;
   return file.runs.filter(it => it.id).flatMap((run, place) => {
-    const name = alone ? "The run" : kind === "evidence" ? `Run of the ${place ? "second" : "first"} text` : `Run ${place}`;
+    const name = alone ? "The run" : isAboutEvidence(kind) ? `Run of the ${place ? "second" : "first"} text` : `Run ${place}`;
     const said = verdicts[place] ? `${name}: ${verdicts[place].verdict}` : name;
     const label = alone ? "The generals" : `The generals of run ${place}`;
     const table = run.faulty ? [generalsTable(run, verdicts[place], label)] : [];
     return [made("h3", "", said), runFacts(run), ...table];
   });
 }
+
+// Whether an answer is on evidence, or on a log that answers evidence.
+const isAboutEvidence = kind => kind === "evidence" || kind === "reply";
 
 // What stands on one side of evidence.
 const sideOf = (name, ...said) => made("section", "side", made("h4", "", name), ...said.map(it => made("p", "long", it)));
@@ -179,9 +216,41 @@ function sidesOf({ texts, runs, departs, kind }) {
 
 // Who is accused by evidence, by what, with both sides.
 function accusedIn({ kind, file, claim }) {
-  if (kind !== "evidence" || !file.kind) return [];
+  if (!isAboutEvidence(kind) || !file.kind) return [];
   const said = `It claims of general ${file.accused}, whose root is ${file.runs[0].roots[file.accused]}: ${claim}`;
   return [made("h3", "", "What is claimed"), made("p", "long", said), made("div", "sides", ...sidesOf(file))];
+}
+
+// The two strings that have one hash.
+function collisionIn({ kind, text }) {
+  const [word, first, second] = text.trim().split(" ");
+  if (kind !== "reply" || word !== "collision") return [];
+  const sides = made("div", "sides", sideOf("Hashed for the evidence", first), sideOf("Hashed for the log", second));
+  return [made("h3", "", "Two strings with one SHA-256"), sides];
+}
+
+// How far a log that answers evidence goes.
+function worthOf({ kind, file, end }) {
+  if (kind !== "reply" || end !== YES) return [];
+  const said = `An answer clears nobody. If general ${file.accused} did not follow the algorithm, the log may lack what `
+    + `general ${file.accused} signed. So the answer leads to the question who has the keys of general ${file.accused}.`;
+  return [made("p", "", said)];
+}
+
+// Where the log is given by which the accused answers evidence, and where the answers are listed.
+function replyPlace(given, { kind, end, file }, described) {
+  if (kind !== "evidence" || end > NO) return [];
+  const name = `general ${file.accused}`, field = made("input", "file"), replies = made("div", "");
+  const words = [made("strong", "", `Choose the log of ${name}`), " ", made("span", "", "or drop the log here")];
+  const label = made("label", "drop", ...words);
+  Object.assign(field, { type: "file", multiple: true, id: `log-${described}` });
+  field.setAttribute("aria-describedby", described);
+  label.htmlFor = field.id;
+  const place = made("div", "asking", field, label), takeLogs = logs => takeAgainst({ ...given, replies }, logs);
+  field.addEventListener("change", () => { takeLogs(field.files); field.value = ""; });
+  place.addEventListener("drop", it => { it.stopPropagation(); dropped(it, takeLogs); });
+  const said = `If ${name} followed the algorithm, the log that ${name} kept of this run answers the evidence.`;
+  return [made("h3", "", "What the accused answers"), made("p", "", said), replies, place];
 }
 
 // The lines of a text that need words, each with what it means.
@@ -224,17 +293,26 @@ function pictured(picture, name) {
 // What the text of the answer is.
 const textIn = (text, name) => [made("h3", "", "The text"), framed("frame", `Text of the answer on ${name}`, made("pre", "", text))];
 
-// Shows an answer above those before it.
-function show(name, told, expected) {
+// What stands of an answer below its sentence.
+function partsOf(given, answer, described) {
+  const name = titleOf(given);
+  return [fileFacts(given, answer), ...collisionIn(answer), ...worthOf(answer), ...accusedIn(answer),
+    ...replyPlace(given, answer, described), ...runsIn(answer), ...explained(answer.words), ...offered(answer.evidence, name),
+    ...pictured(answer.picture, name), ...textIn(answer.text, name)];
+}
+
+// Shows an answer above those before it, and returns its sentence.
+function show(given, told) {
   const answer = { ...told, file: readShown(told.shown), verdicts: told.end > NO ? [] : readVerdict(told.text) };
-  const outcome = outcomeOf(answer), said = headline(outcome, answer), head = made("h2", "", name);
+  const outcome = outcomeOf(answer), said = headline(outcome, answer), head = made("h2", "", titleOf(given));
   head.id = `answer${byId("answers").childElementCount}`;
-  const it = made("article", LOOKS[outcome] ?? "none", head, made("p", "answer", said), buttonsOf(name, answer),
-    fileFacts(name, answer, expected), ...accusedIn(answer), ...runsIn(answer), ...explained(answer.words),
-    ...offered(answer.evidence, name), ...pictured(answer.picture, name), ...textIn(answer.text, name));
+  const it = made("article", LOOKS[outcome] ?? "none", head, made("p", "answer", said),
+    buttonsOf(titleOf(given), answer), ...partsOf(given, answer, head.id));
   it.setAttribute("aria-labelledby", head.id);
   it.dataset.end = answer.end;
   byId("answers").prepend(it);
+  given.replies?.append(made("p", "reply long", made("strong", "", given.log.name), `: ${said}`));
+  if (given.replies) it.scrollIntoView();
   return said;
 }
 
@@ -260,17 +338,17 @@ class Judge {
   // Goes on without a worker, which the browser does not start.
   async goOn() {
     Object.assign(this, { worker: null, isBroken: true });
-    if (this.settle) this.end(await answered(this.module, this.file, this.runs));
+    if (this.settle) this.end(await answered(this.module, this.given));
   }
 
-  // The answer on a file.
-  async ask(file, runs) {
+  // The answer on what is given: a file with the runs that are expected, or evidence with a log.
+  async ask({ file, log, runs }) {
+    Object.assign(this, { from: performance.now(), given: { file, log, runs } });
     if (!this.worker && !this.isBroken) this.begin();
-    if (!this.worker) return answered(this.module, file, runs);
-    Object.assign(this, { from: performance.now(), file, runs });
+    if (!this.worker) return answered(this.module, this.given);
     return new Promise(done => {
       this.settle = done;
-      this.worker.postMessage({ file, runs });
+      this.worker.postMessage(this.given);
     });
   }
 
@@ -285,8 +363,7 @@ class Judge {
     if (!this.settle) return;
     this.worker?.terminate();
     this.worker = null;
-    const none = { kind: "neither", shown: "", words: "", claim: "", end: UNASKED, size: this.file.size };
-    this.end({ ...none, text: `The file was not judged: ${why}`, took: performance.now() - this.from });
+    this.end({ ...noAnswer(this.given), text: `The file was not judged: ${why}`, took: performance.now() - this.from });
   }
 }
 
@@ -297,24 +374,45 @@ function expectedRuns(text) {
   return Uint8Array.from(text.replaceAll(",", "").match(/../g), it => parseInt(it, 16));
 }
 
-// Judges files one after another, behind those that were given before.
+// What is given has the name of its file, or those of the evidence and of the log.
+const titleOf = ({ file, log }) => (log ? `${file.name} and ${log.name}` : file.name);
+
+// Judges what is given, one after another, behind what was given before.
 let last = Promise.resolve(), judge;
-function take(files) {
-  const given = [...files], text = byId("expected").value.replace(/\s/g, "").toLowerCase(), runs = expectedRuns(text);
-  byId("expected").setAttribute("aria-invalid", runs ? "false" : "true");
-  if (!runs) {
-    byId("status").textContent = NO_RUN_ID;
-    return;
-  }
+function judgeAll(all) {
   last = last.then(async () => {
-    for (const file of given) {
-      byId("status").textContent = `Judging ${file.name} …`;
+    for (const given of all) {
+      byId("status").textContent = `Judging ${titleOf(given)} …`;
       byId("stop").hidden = false;
-      const answer = await judge.ask(file, runs);
+      const answer = await judge.ask(given);
       byId("stop").hidden = true;
-      byId("status").textContent = `${file.name}: ${show(file.name, answer, text)}`;
+      byId("status").textContent = `${titleOf(given)}: ${show(given, answer)}`;
     }
   });
+}
+
+// Takes files that are of the runs in the field.
+function take(files) {
+  const expected = byId("expected").value.replace(/\s/g, "").toLowerCase(), runs = expectedRuns(expected);
+  byId("expected").setAttribute("aria-invalid", runs ? "false" : "true");
+  if (runs) judgeAll([...files].map(file => ({ file, runs, expected })));
+  else byId("status").textContent = NO_RUN_ID;
+}
+
+// Takes logs by which the accused answers evidence.
+const takeAgainst = (evidence, logs) => judgeAll([...logs].map(log => ({ ...evidence, log })));
+
+// Shows over which place files are dragged; over none without a place.
+function markOver(place) {
+  for (const it of document.querySelectorAll(".drop.over")) it.classList.remove("over");
+  place?.classList.add("over");
+}
+
+// Takes what is dropped.
+function dropped(event, takeFiles) {
+  event.preventDefault();
+  markOver(null);
+  takeFiles(event.dataTransfer.files);
 }
 
 // Makes the page take files.
@@ -324,14 +422,16 @@ function begin() {
     byId("lacking").hidden = false;
   }
   judge = new Judge(document.currentScript.textContent, bytesOf(byId("module").textContent));
-  const drop = byId("drop");
   byId("file").addEventListener("change", it => { take(it.target.files); it.target.value = ""; });
   byId("stop").addEventListener("click", () => judge.stop("it was stopped"));
   for (const name of ["dragenter", "dragover"]) {
-    document.addEventListener(name, it => { it.preventDefault(); drop.className = "over"; });
+    document.addEventListener(name, it => {
+      it.preventDefault();
+      markOver(it.target.closest?.(".asking")?.querySelector(".drop") ?? byId("drop"));
+    });
   }
-  document.addEventListener("dragleave", it => { if (!it.relatedTarget) drop.className = ""; });
-  document.addEventListener("drop", it => { it.preventDefault(); drop.className = ""; take(it.dataTransfer.files); });
+  document.addEventListener("dragleave", it => { if (!it.relatedTarget) markOver(null); });
+  document.addEventListener("drop", it => dropped(it, take));
 }
 
 // The same script is that of the page and that of its worker.

@@ -1,7 +1,7 @@
 // Reads what the proved code writes of a file: the text of `show`, the text of the verdict, and the text with words.
 
 // The lines that need words; of others nothing is said.
-const NEED_WORDS = /^(?:verdict|general|N\d|convicted|fault|evidence)/;
+const NEED_WORDS = /^(?:verdict|general|N\d|convicted|fault|evidence|forged|collision|no answer)/;
 
 const numbersOf = list => (list === "-" ? [] : list.split(",").map(Number));
 
@@ -27,10 +27,10 @@ function addToRun(run, word, fields, line) {
   if (word === "entry" && fields[5] === "decide") run.logs.at(-1).decided = Number(fields.at(-1));
 }
 
-// What `show` says of a file: its runs, and of evidence the accused, the kind, the texts with the place of their run, and
-// the entry that departs.
+// What `show` says of a file: its runs, and of evidence the accused, the kind, the texts with the place of their run, the
+// entry that departs, and whether the evidence holds.
 function readShown(shown) {
-  const file = { runs: [], texts: [], accused: null, kind: null, departs: null };
+  const file = { runs: [], texts: [], accused: null, kind: null, departs: null, holds: null };
   for (const line of linesOf(shown)) {
     const [word, ...fields] = line.split(" ");
     if (word === "format" && fields[0] !== "campaign") {
@@ -43,6 +43,8 @@ function readShown(shown) {
       file.kind = { number: Number(fields[0]), said: fields.slice(1).join(" ") };
     } else if (word === "departs") {
       file.departs = Number(fields[1]);
+    } else if (word === "evidence") {
+      file.holds = fields[0] === "holds";
     } else if (file.runs.length) {
       addToRun(file.runs.at(-1), word, fields, line);
     }

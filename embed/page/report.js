@@ -27,7 +27,7 @@ function marked(tag, given) {
 // The report as a text: the answer without what can be pressed, and with the picture as an image.
 function reportOf(article, name, picture) {
   const copy = article.cloneNode(true), paper = document.implementation.createHTMLDocument(`Report on ${name}`);
-  for (const it of copy.querySelectorAll(".buttons")) it.remove();
+  for (const it of copy.querySelectorAll(".buttons, .asking")) it.remove();
   for (const it of copy.querySelectorAll("a[download]")) it.replaceWith(`${it.download} ${/\(.*\)$/.exec(it.textContent)}`);
   for (const it of copy.querySelectorAll("[tabindex]")) it.removeAttribute("tabindex");
   if (picture) copy.querySelector(".picture").replaceChildren(imageOf(picture, name));

@@ -2,7 +2,8 @@
 //!
 //! The archives are in the folder that VAMURETU_LIBRARIES names. Without it they are where `rt lib` leaves them, in the
 //! lib/ of an unpacked release, or in the out/ that ./test leaves. The heap is ../heap.c, compiled by `cc` and put into
-//! an archive by `ar`; the variables CC and AR name others.
+//! an archive by `ar`; the variables CC and AR name others. The variable VAMURETU_HEAP names another file of C in place
+//! of ../heap.c. With the feature `global-allocator` the heap is src/heap.rs, and no C is compiled.
 
 use std::env;
 use std::path::{Path, PathBuf};
@@ -46,6 +47,9 @@ fn link(name: &str, embed: &Path) {
 fn link_heap(embed: &Path, out: &str) {
     let (source, object, archive) = (embed.join("heap.c"), format!("{out}/heap.o"), format!("{out}/libsm_heap.a"));
     let source = source.to_str().expect("a path that is UTF-8");
+    println!("cargo:rerun-if-env-changed=VAMURETU_HEAP");
+    let named = env::var("VAMURETU_HEAP").ok().filter(|named| !named.is_empty());
+    let source = named.as_deref().unwrap_or(source);
     run("CC", "cc", &["-std=c11", "-O2", "-fPIC", "-c", source, "-o", &object]);
     run("AR", "ar", &["crs", &archive, &object]);
     println!("cargo:rustc-link-search=native={out}");
@@ -59,5 +63,7 @@ fn main() {
     for name in LIBRARIES {
         link(name, &embed);
     }
-    link_heap(&embed, &env::var("OUT_DIR").expect("cargo sets this"));
+    if env::var_os("CARGO_FEATURE_GLOBAL_ALLOCATOR").is_none() {
+        link_heap(&embed, &env::var("OUT_DIR").expect("cargo sets this"));
+    }
 }

@@ -17,13 +17,13 @@ Collision = Tuple[bytes, bytes]
 
 
 def is_own(log: Log, header: Header, general: int) -> bool:
-    """Whether a log is one of a run that a general could have kept by following, and sealed (FORMATS.md#answer-text)."""
+    """Whether a log is an own log of a general in a run (FORMATS.md#answer-text)."""
     of_run = log.run_id == header.run_id and log.general == general and log.sealed(header, general)
     return of_run and departs(header.network, general, log.entries) is None
 
 
 def own_log(data: bytes, header: Header, general: int) -> Optional[Log]:
-    """The log that a general could have kept of a run by following, and sealed; none for other bytes."""
+    """The own log of a general in a run that bytes are; none for other bytes (FORMATS.md#answer-text)."""
     try:
         log = read_log(data, header)
     except Fault:

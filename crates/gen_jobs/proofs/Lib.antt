@@ -12,5 +12,6 @@ pub mod Held
 pub mod JudgedRuns
 pub mod Known
 pub mod Named
+pub mod Reading
 pub mod RunsOf
 pub mod Shown

@@ -123,6 +123,10 @@ AuditsAs form strict shown text negative =
 abbrev pub IsAuditedAs : AskedRuns → Bool → List ℕ → List ℕ → Bool → Type 0
 IsAuditedAs asked strict input text negative = Shows asked (AuditsAs Text strict) input text negative
 
+-- the same in a form
+abbrev pub IsAuditedIn : Form → AskedRuns → Bool → List ℕ → List ℕ → Bool → Type 0
+IsAuditedIn form asked strict input text negative = Shows asked (AuditsAs form strict) input text negative
+
 -- the same in a form, with the generals that are asked for held for faulty
 abbrev pub IsAuditedBy : Asked → Form → Bool → List ℕ → List ℕ → Bool → Type 0
 IsAuditedBy asked form strict input text negative =

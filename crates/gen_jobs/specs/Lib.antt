@@ -11,6 +11,7 @@ pub mod Decide
 pub mod Drawing
 pub mod Ends
 pub mod Failing
+pub mod FaultLines
 pub mod Faulty
 pub mod Holding
 pub mod Jobs

@@ -4,11 +4,10 @@
 //! thread anyway.
 ghost use Rattle.std.specs.Prelude.{◌≡◌, false, IfErr, IfOk};
 ghost use Rattle.gen_jobs.specs.AskedRuns.{AreAsked, run_ids};
-ghost use Rattle.gen_jobs.specs.Asking.{AccusesAll, AuditsAs, DrawsAll, IsAccusedOf, IsAuditedAs, IsDrawnOf, IsShowFault, IsWantOrOthers};
+ghost use Rattle.gen_jobs.specs.Asking.{AccusesAll, AuditsAs, DrawsAll, IsAccusedOf, IsAuditedAs, IsAuditedIn, IsDrawnOf, IsShowFault, IsWantOrOthers};
 ghost use Rattle.gen_jobs.specs.Accusing.{AccusesRuns, IsAccused};
 ghost use Rattle.gen_jobs.specs.Audit.{AuditsShown, IsAudited, IsAuditFault};
 ghost use Rattle.gen_jobs.specs.Drawing.{DrawsForm, IsDrawn};
-ghost use Rattle.gen_jobs.specs.declared.forms.Form.TheVariants.{Text};
 
 use crate::accusing::evidence_by;
 use crate::asked_runs::{AskedRuns, check_runs};
@@ -21,13 +20,13 @@ use gen_campaign::{CampaignBundle, audit_campaign_in_place, read_campaign};
 use gen_types::GeneralNo;
 use std::alloc::{AllocError, Global};
 
-/// Returns the text of the verdict on a bundle or a campaign, and whether it is a no on some run.
-fn audit_shown(alloc: Global, campaign: &CampaignBundle) -> Result<Output, AllocError>
+/// Returns the verdict on a bundle or a campaign in this form, and whether it is a no on some run.
+fn audit_shown(alloc: Global, form: Form, campaign: &CampaignBundle) -> Result<Output, AllocError>
     ensures { IfOk result (λ o.
-        AuditsShown Text campaign.now.alone campaign.now.bundles o.text.items o.negative) }
+        AuditsShown form campaign.now.alone campaign.now.bundles o.text.items o.negative) }
 {
     let verdict = audit_campaign_in_place(alloc, campaign)?;
-    output_by(alloc, Form::Text, campaign, &verdict)
+    output_by(alloc, form, campaign, &verdict)
 }
 
 /// Returns the picture of a bundle or a campaign and of the judgement on it.
@@ -62,7 +61,7 @@ pub fn audit_in_place(alloc: Global, input: &[u8]) -> Result<Output, JobFault>
     ensures fault { IfErr result (IsAuditFault input.now) }
 {
     let campaign = read_campaign(alloc, input)?;
-    Ok(audit_shown(alloc, &campaign)?)
+    Ok(audit_shown(alloc, Form::Text, &campaign)?)
 }
 
 /// Returns what `draw` returns for the input, but works in the caller's thread.
@@ -91,21 +90,22 @@ pub fn accuse_in_place(alloc: Global, general: GeneralNo, input: &[u8]) -> Resul
     Ok(accuse_shown(alloc, general, &campaign)?)
 }
 
-/// Returns the text of the verdict on a bundle or a campaign of the runs that are asked for, and whether it counts as a
-/// no.
+/// Returns the verdict on a bundle or a campaign of the runs that are asked for, in this form, and whether it counts as
+/// a no.
 #[tactic(auto, using(crate::proofs::AskedFaults::others_or_wants))]
 fn audit_shown_of(
     alloc: Global,
+    form: Form,
     asked: AskedRuns,
     strict: bool,
     campaign: &CampaignBundle,
 ) -> Result<Output, JobFault>
     ensures answer { IfOk result (λ o. AreAsked asked (run_ids campaign.now.bundles)
-        × AuditsAs Text strict campaign.now o.text.items o.negative) }
+        × AuditsAs form strict campaign.now o.text.items o.negative) }
     ensures fault { IfErr result (IsWantOrOthers asked (run_ids campaign.now.bundles)) }
 {
     check_runs(alloc, asked, campaign.bundles())?;
-    let output = audit_shown(alloc, campaign)?;
+    let output = audit_shown(alloc, form, campaign)?;
     Ok(counted(output, strict, have_few(campaign.bundles())))
 }
 
@@ -141,12 +141,32 @@ fn accuse_shown_of(
     Ok(accuse_shown(alloc, general, campaign)?)
 }
 
-/// Returns what `audit_as_asked` returns for the input, but works in the caller's thread.
+/// Returns what `audit_as_asked` returns for the input in this form if no set is asked for, but works in the caller's
+/// thread.
 ///
 /// # Errors
 ///
 /// Those of `audit_as_asked`, without `Thread`.
 #[tactic(auto, using(crate::proofs::AskedFaults::are_show_faults))]
+pub fn audit_form_in_place(
+    alloc: Global,
+    form: Form,
+    asked: AskedRuns,
+    strict: bool,
+    input: &[u8],
+) -> Result<Output, JobFault>
+    ensures answer { IfOk result (λ o. IsAuditedIn form asked strict input.now o.text.items o.negative) }
+    ensures fault { IfErr result (IsShowFault asked input.now) }
+{
+    let campaign = read_campaign(alloc, input)?;
+    audit_shown_of(alloc, form, asked, strict, &campaign)
+}
+
+/// Returns what `audit_as_asked` returns for the input as text, but works in the caller's thread.
+///
+/// # Errors
+///
+/// Those of `audit_as_asked`, without `Thread`.
 pub fn audit_asked_in_place(
     alloc: Global,
     asked: AskedRuns,
@@ -156,8 +176,7 @@ pub fn audit_asked_in_place(
     ensures answer { IfOk result (λ o. IsAuditedAs asked strict input.now o.text.items o.negative) }
     ensures fault { IfErr result (IsShowFault asked input.now) }
 {
-    let campaign = read_campaign(alloc, input)?;
-    audit_shown_of(alloc, asked, strict, &campaign)
+    audit_form_in_place(alloc, Form::Text, asked, strict, input)
 }
 
 /// Returns what `draw_as_asked` returns for the input, but works in the caller's thread.

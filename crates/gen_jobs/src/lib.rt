@@ -21,6 +21,7 @@ mod counting;
 mod deciding;
 mod drawing;
 mod ends;
+mod fault_lines;
 mod faulty;
 mod forms;
 mod gates;
@@ -48,11 +49,12 @@ pub use checking::{evidence, evidence_as_asked, evidence_engine, evidence_in};
 pub use deciding::{decide, decide_engine, decide_in};
 pub use drawing::{draw, draw_as_asked, draw_engine, draw_taken};
 pub use ends::{JobEnd, JobFault, Output};
+pub use fault_lines::job_fault_line;
 pub use faulty::{Faulty, read_faulty};
 pub use forms::Form;
 pub use in_place::{
-    accuse_asked_in_place, accuse_in_place, audit_asked_in_place, audit_in_place,
-    draw_asked_in_place, draw_in_place,
+    accuse_asked_in_place, accuse_in_place, audit_asked_in_place, audit_form_in_place,
+    audit_in_place, draw_asked_in_place, draw_in_place,
 };
 pub use jobs::{Job, do_job};
 pub use joining::{answer, join_in_pieces};

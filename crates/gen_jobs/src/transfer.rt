@@ -8,41 +8,25 @@ use std::alloc::Global;
 use std::io::{ErrorKind, Read, Write};
 
 /// The greatest number of bytes of an input: 2^30.
-const MOST_BYTES: usize = 1_073_741_824;
+const MOST_BYTES: u64 = 1_073_741_824;
 
-/// The greatest number of calls of `read` for an input, including the one that finds its end: 2^32.
-const MOST_READS: u64 = 4_294_967_296;
-
-/// Returns all that the reader gives to its end: at most 1,073,741,824 bytes, by at most 4,294,967,296 calls of `read`.
-/// An interrupted read is tried again.
+/// Returns all that the reader gives to its end: at most 1,073,741,824 bytes. An interrupted read is tried again.
 ///
 /// # Errors
 ///
-/// `Read` if a read fails or the input is past either limit; `Memory` if memory is refused.
+/// `Read` if a read fails or the input is past the limit; `Memory` if memory is refused.
 pub fn read_all<R: Read>(alloc: Global, reader: &mut R) -> Result<Vec<u8>, JobFault>
     ensures whole { IfOk result (λ v. IfSome (R.remaining reader.old) (λ input. v.items ≡ input)) }
     ensures short { IfOk result (λ v. length v.items ≤ 1073741824) }
     ensures fault { IfErr result IsReadFault }
 {
     let mut all = Vec::new(alloc);
-    let mut buffer = [0u8; 65_536];
-    for _ in 0..MOST_READS {
-        let count = match reader.read(&mut buffer) {
-            Ok(count) => count,
-            Err(e) if e.kind() == ErrorKind::Interrupted => continue,
-            Err(_) => return Err(JobFault::Read),
-        };
-        if count == 0 {
-            return Ok(all);
-        }
-        if count > MOST_BYTES - all.len() {
-            return Err(JobFault::Read);
-        }
-        if all.extend_from_slice(&buffer[..count]).is_err() {
-            return Err(JobFault::Memory);
-        }
+    // One byte more than the limit tells whether the input is past it.
+    match reader.take(MOST_BYTES + 1).read_to_end(&mut all) {
+        Ok(_) if all.len() as u64 <= MOST_BYTES => Ok(all),
+        Err(e) if e.kind() == ErrorKind::OutOfMemory => Err(JobFault::Memory),
+        _ => Err(JobFault::Read),
     }
-    Err(JobFault::Read)
 }
 
 /// Writes the whole output, and returns how the job ends: Done, Negative if the output says no, or with the fault

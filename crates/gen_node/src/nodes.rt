@@ -236,6 +236,14 @@ impl Node {
         }
     }
 
+    /// Whether a frame from a general is still awaited: a round is open, the general is a neighbour, and no frame of it
+    /// was taken in this round.
+    pub fn is_awaited(&self, from: GeneralNo) -> bool
+        ensures { result ≡ nodes.is_awaited self.now from }
+    {
+        self.awaits(from) && !is_held(self.inbox.as_slice(), from)
+    }
+
     /// Begins the next round, of which there must be one: the node signs what it has to sign in it, and makes the
     /// frames for its neighbours.
     ///

@@ -2,5 +2,6 @@ pub mod CommandLine
 pub mod Commands
 pub mod Jobs
 pub mod Refusal
+pub mod Several
 pub mod Sources
 pub mod Tool

@@ -1,4 +1,9 @@
 //! The words of the commands that have several files: `bundle` with a header and logs, `answer` with evidence and a log.
+ghost use Rattle.std.specs.Prelude.{◌≡◌, ◌∷◌, codes, ◌≢◌, IfErr, IfOk, MatchOption, MatchResult, Some, None, map, nat_le, option_map};
+ghost use Rattle.clap.specs.Simple.{subcommand_rows_of};
+ghost use Rattle.clap.specs.Words.{first_of, found_of, rows_of};
+ghost use Rattle.gen_program.specs.declared.words.WordsFault.TheVariants.{Memory};
+ghost use Rattle.gen_program.specs.Several.{AreNamed, AsksSeveral, HasSeveralFault, IsAnswerFault, IsBundleFault, IsSaid, IsSaidBy, IsSeveral, IsSeveralFault, IsSeveralFaultOf, NamesNone, file_named, general_named, is_standard, log_words, set_given, standards};
 
 use crate::words::{WordsFault, general_of, matches_of};
 use clap::ArgMatches;
@@ -32,88 +37,124 @@ pub enum Several<'a> {
     },
 }
 
+/// The general and the file of each log, in the order of the words that name them.
+#[derive(Drop)]
+struct NamedLogs<'a> {
+    generals: Vec<GeneralNo>,
+    files: Vec<&'a str>,
+}
+
 /// Returns the general and the file of a log that a word names, `G=LOG`: the number of a general, and behind the first
 /// equals sign a file.
-fn log_named(word: &str) -> Option<(GeneralNo, &str)> {
+#[tactic(auto, unfolding(crate::specs::Several::general_named))]
+fn log_named(word: &str) -> Option<(GeneralNo, &str)>
+    ensures { MatchOption result (general_named word.now ≡ None)
+        (λ p. (general_named word.now ≡ Some p.0) × (file_named word.now ≡ Some p.1.now)) }
+{
     let (number, file) = word.split_once('=')?;
     Some((general_of(Some(number))?, file))
 }
 
-/// Returns the general of each log that words name, if each of them names one.
-fn generals_named(alloc: Global, words: &[&str]) -> Result<Option<Vec<GeneralNo>>, AllocError> {
+/// Returns the general and the file of each log that words name, if each of them names one.
+fn logs_named<'a>(alloc: Global, words: &[&'a str]) -> Result<Option<NamedLogs<'a>>, AllocError>
+    ensures { IfOk result (λ named. MatchOption named (NamesNone (map (λ w. w.now) words.now))
+        (λ n. AreNamed (map (λ w. w.now) words.now) n.generals.items (map (λ f. f.now) n.files.items))) }
+{
     let mut generals = Vec::with_capacity(alloc, words.len())?;
+    let mut files = Vec::with_capacity(alloc, words.len())?;
     for word in words {
-        let Some((general, _)) = log_named(*word) else {
+        let Some((general, file)) = log_named(*word) else {
             return Ok(None);
         };
         generals.push(general)?;
+        files.push(file)?;
     }
-    Ok(Some(generals))
-}
-
-/// Returns the file of each log that words name. A word that names none is passed over.
-fn files_named<'a>(alloc: Global, words: &[&'a str]) -> Result<Vec<&'a str>, AllocError> {
-    let mut files = Vec::with_capacity(alloc, words.len())?;
-    for word in words {
-        if let Some((_, file)) = log_named(*word) {
-            files.push(file)?;
-        }
-    }
-    Ok(files)
+    Ok(Some(NamedLogs { generals, files }))
 }
 
 /// Returns the generals that are held for faulty: nobody without a text, and else those that the text spells, if it spells
 /// some.
-fn set_given(alloc: Global, text: Option<&str>) -> Result<Option<GeneralSet>, AllocError> {
+fn set_given(alloc: Global, text: Option<&str>) -> Result<Option<GeneralSet>, AllocError>
+    ensures { IfOk result (λ set. set ≡ set_given (option_map (λ t. t.now) text.entry)) }
+{
     match text {
         Some(text) => read_faulty(alloc, text.as_bytes()),
         None => Ok(Some(GeneralSet::new())),
     }
 }
 
-/// Whether standard input stands at most once among the names of the header's file and the files of logs.
-fn read_once(header: &str, logs: &[&str]) -> bool {
-    let mut is_read = header == STANDARD;
-    for log in logs {
-        let is_standard = *log == STANDARD;
-        if is_read && is_standard {
-            return false;
+/// Whether a name stands for standard input.
+fn is_standard(name: &str) -> bool
+    ensures { result ≡ is_standard name.now }
+{
+    name == STANDARD
+}
+
+/// Whether standard input stands at most once among a first name and others.
+fn read_once(first: &str, others: &[&str]) -> bool
+    ensures { result ≡ nat_le (standards (first.now ∷ map (λ o. o.now) others.now)) 1 }
+{
+    let mut count = usize::from(is_standard(first));
+    for other in others {
+        if is_standard(*other) {
+            count += 1;
         }
-        is_read = is_read || is_standard;
     }
-    true
+    count <= 1
+}
+
+/// Returns the first text of an argument.
+fn text_of<'a>(inner: &ArgMatches<'a>, name: &str) -> Option<&'a str>
+    ensures { option_map (λ t. t.now) result ≡ first_of name.now (rows_of (found_of inner.now)) }
+{
+    inner.get_str(name)
+}
+
+/// Returns the general and the file of each log that the words behind the header name, if each of them names one.
+fn named_in<'a>(alloc: Global, inner: &ArgMatches<'a>) -> Result<Option<NamedLogs<'a>>, AllocError>
+    ensures { IfOk result (λ named. MatchOption named (NamesNone (log_words (rows_of (found_of inner.now))))
+        (λ n. AreNamed (log_words (rows_of (found_of inner.now))) n.generals.items (map (λ f. f.now) n.files.items))) }
+{
+    match inner.get_strs("log") {
+        Some(words) => logs_named(alloc, words),
+        None => logs_named(alloc, &[]),
+    }
 }
 
 /// Returns what the arguments of the command `bundle` say.
-fn bundle_said<'a>(alloc: Global, inner: &ArgMatches<'a>) -> Result<Several<'a>, WordsFault> {
-    let Some(header) = inner.get_str("file") else {
+fn bundle_said<'a>(alloc: Global, inner: &ArgMatches<'a>) -> Result<Several<'a>, WordsFault>
+    ensures said { IfOk result (λ s. IsSeveral (codes "bundle", rows_of (found_of inner.now)) s) }
+    ensures fault { IfErr result (IsBundleFault (rows_of (found_of inner.now))) }
+{
+    let Some(header) = text_of(inner, "file") else {
         return Err(WordsFault::NoCommand);
     };
-    let Some(faulty) = set_given(alloc, inner.get_str("faulty"))? else {
+    let Some(faulty) = set_given(alloc, text_of(inner, "faulty"))? else {
         return Err(WordsFault::BadFaulty);
     };
-    let words = inner.get_strs("log").unwrap_or(&[]);
-    let Some(generals) = generals_named(alloc, words)? else {
+    let Some(named) = named_in(alloc, inner)? else {
         return Err(WordsFault::BadLog);
     };
-    let logs = files_named(alloc, words)?;
-    if !read_once(header, &logs) {
+    if !read_once(header, &named.files) {
         return Err(WordsFault::TwoStandard);
     }
     Ok(Several::Bundle {
         faulty,
         header,
-        generals,
-        logs,
+        generals: named.generals,
+        logs: named.files,
     })
 }
 
 /// Returns what the arguments of the command `answer` say.
-fn answer_said<'a>(inner: &ArgMatches<'a>) -> Result<Several<'a>, WordsFault> {
-    let (Some(evidence), Some(log)) = (inner.get_str("file"), inner.get_str("log")) else {
+fn answer_said<'a>(inner: &ArgMatches<'a>) -> Result<Several<'a>, WordsFault>
+    ensures said { IfOk result (λ s. IsSeveral (codes "answer", rows_of (found_of inner.now)) s) }
+    ensures fault { IfErr result (IsAnswerFault (rows_of (found_of inner.now))) }
+{
+    let (Some(evidence), Some(log)) = (text_of(inner, "file"), text_of(inner, "log")) else {
         return Err(WordsFault::NoCommand);
     };
-    if evidence == STANDARD && log == STANDARD {
+    if !read_once(evidence, &[log]) {
         return Err(WordsFault::TwoStandard);
     }
     Ok(Several::Answer { evidence, log })
@@ -124,11 +165,36 @@ fn said_by<'a>(
     alloc: Global,
     name: &str,
     inner: &ArgMatches<'a>,
-) -> Result<Option<Several<'a>>, WordsFault> {
+) -> Result<Option<Several<'a>>, WordsFault>
+    ensures said { IfOk result (IsSaid (name.now, rows_of (found_of inner.now))) }
+    ensures fault { IfErr result (IsSeveralFault (name.now, rows_of (found_of inner.now))) }
+{
     match name {
         "bundle" => Ok(Some(bundle_said(alloc, inner)?)),
         "answer" => Ok(Some(answer_said(inner)?)),
         _ => Ok(None),
+    }
+}
+
+/// Returns what is answered if the command line has a fault at the words: that fault if memory was refused, and else
+/// that they ask for nothing here.
+fn without_matches<'a>(fault: WordsFault) -> Result<Option<Several<'a>>, WordsFault>
+    ensures { MatchResult result (λ said. (said ≡ None) × (fault ≢ Memory)) (λ f. f ≡ Memory) }
+{
+    match fault {
+        WordsFault::Memory => Err(WordsFault::Memory),
+        _ => Ok(None),
+    }
+}
+
+/// Returns what the command says that the command line found; None if it has one file, or if none was found.
+fn said_in<'a>(alloc: Global, matches: &ArgMatches<'a>) -> Result<Option<Several<'a>>, WordsFault>
+    ensures said { IfOk result (IsSaidBy (subcommand_rows_of matches.now)) }
+    ensures fault { IfErr result (HasSeveralFault (subcommand_rows_of matches.now)) }
+{
+    match matches.subcommand() {
+        Some((name, inner)) => said_by(alloc, name, inner),
+        None => Ok(None),
     }
 }
 
@@ -143,14 +209,12 @@ fn said_by<'a>(
 pub fn read_several<'a>(
     alloc: Global,
     words: &'a [&'a str],
-) -> Result<Option<Several<'a>>, WordsFault> {
-    let matches = match matches_of(alloc, words) {
-        Ok(matches) => matches,
-        Err(WordsFault::Memory) => return Err(WordsFault::Memory),
-        Err(_) => return Ok(None),
-    };
-    match matches.subcommand() {
-        Some((name, inner)) => said_by(alloc, name, inner),
-        None => Ok(None),
+) -> Result<Option<Several<'a>>, WordsFault>
+    ensures said { IfOk result (AsksSeveral (map (λ w. w.now) words.now)) }
+    ensures fault { IfErr result (IsSeveralFaultOf (map (λ w. w.now) words.now)) }
+{
+    match matches_of(alloc, words) {
+        Ok(matches) => said_in(alloc, &matches),
+        Err(fault) => without_matches(fault),
     }
 }

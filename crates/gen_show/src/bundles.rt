@@ -13,7 +13,7 @@ use gen_walks::Walk;
 use std::alloc::{AllocError, Global};
 
 /// The bytes before the log of an exhibit.
-const EXHIBIT_FRONT: usize = 5;
+pub const EXHIBIT_FRONT: usize = 5;
 
 /// Appends the line of a walk.
 #[tactic(auto, unfolding(crate::specs::BundleText::walk_line))]
@@ -54,7 +54,7 @@ fn push_claimed(out: &mut String, bundle: &Bundle) -> Result<(), AllocError>
 }
 
 /// Returns the number of bytes of an exhibit.
-fn exhibit_bytes(exhibit: &Exhibit) -> usize
+pub fn exhibit_bytes(exhibit: &Exhibit) -> usize
     requires { exhibit_length exhibit.now < 2 ^ 64 }
     ensures { result ≡ exhibit_length exhibit.now }
 {
@@ -108,8 +108,12 @@ fn push_exhibits(
 }
 
 /// Returns how many bytes of a bundle stand before its exhibits.
+///
+/// # Errors
+///
+/// `AllocError` if memory is refused.
 #[tactic(auto, unfolding(crate::specs::BundleText::bundle_front_length), using(crate::proofs::BundleLengths::front_has))]
-fn front_length(alloc: Global, bundle: &Bundle) -> Result<usize, AllocError>
+pub fn bundle_front_length(alloc: Global, bundle: &Bundle) -> Result<usize, AllocError>
     ensures { IfOk result (λ count. count ≡ bundle_front_length bundle.now) }
 {
     let front = bundle_front(alloc, bundle)?;
@@ -132,7 +136,7 @@ pub fn push_bundle(
     let header = bundle.header();
     push_bundle_header(alloc, out, bundle)?;
     push_claimed(out, bundle)?;
-    let start = at + front_length(alloc, bundle)?;
+    let start = at + bundle_front_length(alloc, bundle)?;
     let end = push_exhibits(alloc, out, header, start, bundle.exhibits())?;
     out.push_str("end\n")?;
     Ok(end)

@@ -10,7 +10,7 @@ use gen_campaign::CampaignBundle;
 use std::alloc::{AllocError, Global};
 
 /// The bytes before the first bundle of several runs.
-const FRONT_BYTES: usize = 5;
+pub const CAMPAIGN_FRONT: usize = 5;
 
 /// Appends the name of the format of several runs.
 #[tactic(auto, unfolding(crate::specs::CampaignText::campaign_name))]
@@ -38,7 +38,7 @@ fn push_several(alloc: Global, out: &mut String, bundles: &[Bundle]) -> Result<(
         (string_bytes out.new ≡ string_bytes out.old ++ several_lines bundles.now) }
 {
     push_campaign_line(out, bundles.len())?;
-    push_runs(alloc, out, FRONT_BYTES, bundles)?;
+    push_runs(alloc, out, CAMPAIGN_FRONT, bundles)?;
     out.push_str("end campaign\n")
 }
 

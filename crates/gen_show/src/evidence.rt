@@ -18,7 +18,7 @@ use gen_types::{GeneralNo, OrderNo, Path};
 use std::alloc::{AllocError, Global};
 
 /// The bytes before the log of a claim, beside those of the header.
-const LOG_FRONT: usize = 10;
+const CLAIM_FRONT: usize = 10;
 
 /// Appends what the head of a log says.
 #[tactic(auto, unfolding(crate::specs::EvidenceText::head_said))]
@@ -118,6 +118,20 @@ fn header_length(alloc: Global, header: &Header) -> Result<usize, AllocError>
     Ok(bytes.len())
 }
 
+/// Returns the byte of evidence at which the log of its claim begins. The log ends before byte 2^64.
+///
+/// # Errors
+///
+/// `AllocError` if memory is refused.
+pub fn claim_log_at(alloc: Global, header: &Header, log: &[u8]) -> Result<usize, AllocError>
+    requires { claim_log_at header.now + length log.now < 2 ^ 64 }
+    ensures { IfOk result (λ at. at ≡ claim_log_at header.now) }
+{
+    // The log ends behind the byte that is returned.
+    let _count = log.len();
+    Ok(header_length(alloc, header)? + CLAIM_FRONT)
+}
+
 /// Appends the lines of a log of the accused that a claim shows.
 fn push_claim_log(
     alloc: Global,
@@ -130,7 +144,7 @@ fn push_claim_log(
     ensures { OnOk result (string_bytes out.new ≡ string_bytes out.old
         ++ log_lines header.now accused (claim_log_at header.now) log.now) }
 {
-    let at = header_length(alloc, header)? + LOG_FRONT;
+    let at = claim_log_at(alloc, header, log)?;
     push_log(alloc, out, header, accused, at, log)
 }
 

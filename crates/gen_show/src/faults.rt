@@ -26,7 +26,11 @@ fn header_rule(fault: HeaderFault) -> u8
     }
 }
 
-/// Appends the name of a header's fault.
+/// Appends the name of a header's fault, as `H9`.
+///
+/// # Errors
+///
+/// `AllocError` if memory is refused; then what stands in `out` isn't said.
 #[tactic(auto, unfolding(crate::specs::FaultText::header_fault_name))]
 pub fn push_header_fault(out: &mut String, fault: HeaderFault) -> Result<(), AllocError>
     ensures { OnOk result
@@ -37,6 +41,10 @@ pub fn push_header_fault(out: &mut String, fault: HeaderFault) -> Result<(), All
 }
 
 /// Appends the name of a log's fault, and, if that is a chain's fault, the name of the chain's fault behind it.
+///
+/// # Errors
+///
+/// `AllocError` if memory is refused; then what stands in `out` isn't said.
 pub fn push_log_fault(out: &mut String, fault: LogFault) -> Result<(), AllocError>
     ensures { OnOk result (string_bytes out.new ≡ string_bytes out.old ++ log_fault_name fault) }
 {

@@ -40,7 +40,11 @@ fn push_run_fault(out: &mut String, place: u8, fault: BundleFault) -> Result<(),
     push_bundle_fault(out, fault)
 }
 
-/// Appends the name of a campaign's fault.
+/// Appends the name of a campaign's fault, as `M3 run 1 B7`; that of a bundle that stands alone is the bundle's.
+///
+/// # Errors
+///
+/// `AllocError` if memory is refused; then what stands in `out` isn't said.
 pub fn push_campaign_fault(out: &mut String, fault: CampaignFault) -> Result<(), AllocError>
     ensures { OnOk result
         (string_bytes out.new ≡ string_bytes out.old ++ campaign_fault_name fault) }
@@ -55,7 +59,11 @@ pub fn push_campaign_fault(out: &mut String, fault: CampaignFault) -> Result<(),
     }
 }
 
-/// Appends the name of the fault of evidence.
+/// Appends the name of the fault of evidence, as `V3 H9`.
+///
+/// # Errors
+///
+/// `AllocError` if memory is refused; then what stands in `out` isn't said.
 pub fn push_evidence_fault(out: &mut String, fault: EvidenceFault) -> Result<(), AllocError>
     ensures { OnOk result
         (string_bytes out.new ≡ string_bytes out.old ++ evidence_fault_name fault) }

@@ -9,7 +9,7 @@ use gen_types::GeneralNo;
 use std::alloc::{AllocError, Global};
 
 /// Returns the number of a version.
-fn version_number(version: Version) -> u8
+pub fn version_number(version: Version) -> u8
     ensures { result ≡ version_number version }
 {
     match version {

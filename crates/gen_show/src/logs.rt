@@ -12,7 +12,7 @@ use gen_types::{GeneralNo, ReadError};
 use std::alloc::{AllocError, Global};
 
 /// The bytes before the entries of a log.
-const FRONT_BYTES: usize = 40;
+pub const LOG_FRONT: usize = 40;
 
 /// Appends the first line of what is shown as the log of a general.
 #[tactic(auto, unfolding(crate::specs::LogText::log_line))]
@@ -92,7 +92,7 @@ fn push_read(
     // The entries end within the bytes.
     let _count = bytes.len();
     push_says(alloc, out, general, log)?;
-    let end = push_entries(out, general, at + FRONT_BYTES, log.entries())?;
+    let end = push_entries(out, general, at + LOG_FRONT, log.entries())?;
     push_head(out, general, end)
 }
 

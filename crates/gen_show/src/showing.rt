@@ -33,7 +33,11 @@ pub struct Shown {
 }
 
 /// Returns the number of bytes of a mark and a header.
-fn front_length(alloc: Global, marks: Marks, header: &Header) -> Result<usize, AllocError>
+///
+/// # Errors
+///
+/// `AllocError` if memory is refused.
+pub fn front_length(alloc: Global, marks: Marks, header: &Header) -> Result<usize, AllocError>
     ensures { IfOk result (λ count. count ≡ length (front_spelling marks header.now)) }
 {
     let front = front_bytes(alloc, marks, header)?;

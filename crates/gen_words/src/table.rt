@@ -13,12 +13,12 @@ end|end|The text on this run ends here.\n\
 campaign N|campaign N|The text has the verdicts on N runs, counted from 0.\n\
 end campaign|end campaign|The text on the campaign ends here.\n\
 general G set S decides V|general G set S decides V|In this scenario, general G accepts the orders S and decides order V.\n\
-holds|evidence holds|The claim is so, and each of its signatures verifies: the accused signed this, or somebody else has the keys of the accused.\n\
+holds|evidence holds|The claim is so, and the signatures of its texts and of the head of a log in it verify: the accused signed this, or somebody else has the keys of the accused.\n\
 fails|evidence fails|The claim is not so, or one of its signatures does not verify: nothing is shown against the accused.\n\
 forged statement|forged statement order V path P|The evidence has the statement of order V with the path P, signed with keys of the accused, and the log of the accused does not have it.\n\
 forged head|forged head entries N link L|The evidence has the head of a log of N entries with the last link L, signed with keys of the accused, and the log of the accused is another.\n\
 collision|collision A B|These are two different strings of bytes with one hash: A and B.\n\
-no answer|no answer|The evidence fails, or no general that followed the algorithm keeps this log.\n\
+no answer|no answer|The evidence fails, or the log is not one of the evidence's run (of two runs the first) that the accused sealed and that departs nowhere from the algorithm.\n\
 K1|K1|Two different texts are signed under one leaf.\n\
 K2|K2|Two orders of the commander are signed.\n\
 K3|K3|A sealed log has no SIGN of a statement that is signed.\n\

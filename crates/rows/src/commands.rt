@@ -4,7 +4,7 @@ use crate::names::Refused;
 use crate::rows::Row;
 use crate::texts::Answer;
 use clap::error::ErrorKind;
-use gen_jobs::{Job, JobEnd, Telling};
+use gen_jobs::{Job, JobEnd, Telling, job_fault_line};
 use gen_net::Version;
 use gen_program::{Several, WordsFault, read_several, read_words};
 use std::alloc::Global;
@@ -136,19 +136,30 @@ fn tell_command<R: AllocGlobal + Threads + Wait + Sync>(
     let said = row.word()?;
     let mut bytes = row.rest()?.to_vec(rt.alloc())?;
     match do_all(rt, form, said, &mut bytes)? {
-        Some(end) => tell_end(end, bytes.as_slice(), answer),
-        None => answer.word("2"),
+        Some(end) => tell_end(rt.alloc(), form, end, bytes.as_slice(), answer),
+        None => {
+            answer.word("2");
+            Ok(())
+        }
     }
-    Ok(())
 }
 
-/// Tells how a job ended, and what it wrote if it didn't fail.
-fn tell_end(end: JobEnd, written: &[u8], answer: &mut Answer) {
+/// Tells how a job ended, and what it wrote if it didn't fail. By an engine a fault is told by its own text, and in the
+/// other forms by its line.
+fn tell_end(
+    alloc: Global,
+    form: Form,
+    end: JobEnd,
+    written: &[u8],
+    answer: &mut Answer,
+) -> Result<(), Refused> {
     answer.show(end.status());
-    match end.fault() {
-        Some(fault) => answer.show(fault),
-        None => answer.output(written),
+    match (end.fault(), form) {
+        (None, _) => answer.output(written),
+        (Some(fault), Form::Engine) => answer.show(fault),
+        (Some(fault), _) => answer.show(job_fault_line(alloc, fault)?),
     }
+    Ok(())
 }
 
 /// Does commands until one fails, each on what the one before wrote. Returns how the last one ended, or nothing where its

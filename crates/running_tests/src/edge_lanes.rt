@@ -4,7 +4,7 @@ ghost use Rattle.gen_scenario.specs.Rows.{rows_of};
 ghost use Rattle.gen_edge.specs.Frames.{edge_frames};
 ghost use Rattle.gen_edge.specs.Ends.{IsPutPassOf, IsTakePassOf, edge_capacity, put_view};
 
-use crate::edge_frames::{Shape, are_left, put_last_told, put_next, take_shape, take_told};
+use crate::edge_frames::{Shape, are_left, put_last_told, put_next, take_told};
 use gen_edge::{Edge, PutPass, TakePass};
 use gen_types::GeneralNo;
 use gen_world::{Scenario, WorldRun, run_world};
@@ -41,19 +41,6 @@ pub(crate) struct Lane {
     ghost frames: { (put_view put).frames ≡ edge_frames course.scenario way.0 way.1 },
 }
 
-/// What is tried on a lane, and what it answers.
-#[derive(Drop)]
-pub(crate) enum Step {
-    /// The next frame is put. Whether there was room.
-    Put(bool),
-    /// Both are told how far the other is, and the last word is put where there is room. Whether there was.
-    End(bool),
-    /// Something is taken, if it is there.
-    Take(Option<Shape>),
-    /// Both are told, and something is taken where the taker knows of it.
-    Tell(Option<Shape>),
-}
-
 impl Lane {
     /// The lane from one general of a scenario to another, which holds so many frames.
     pub(crate) fn new(
@@ -77,7 +64,7 @@ impl Lane {
     }
 
     /// Tries to put the next frame. Whether it was put.
-    fn put_next<R: Wait>(&mut self, rt: &R, alloc: Global) -> Result<bool, AllocError> {
+    pub(crate) fn put_next<R: Wait>(&mut self, rt: &R, alloc: Global) -> Result<bool, AllocError> {
         put_next(
             rt,
             alloc,
@@ -90,45 +77,13 @@ impl Lane {
     }
 
     /// Tells both, and puts the last word where there is room. Whether it was put.
-    fn put_last_told<R: Wait>(&mut self, rt: &R) -> bool {
+    pub(crate) fn put_last_told<R: Wait>(&mut self, rt: &R) -> bool {
         put_last_told(rt, &self.edge, self.capacity, &mut self.put, &mut self.take)
     }
 
     /// Tells both, and takes what is known.
-    fn take_told<R: Wait>(&mut self, rt: &R) -> Option<Shape> {
+    pub(crate) fn take_told<R: Wait>(&mut self, rt: &R) -> Option<Shape> {
         take_told(rt, &self.edge, &mut self.put, &mut self.take)
-    }
-
-    /// Tries a step. Whether it answers as it says.
-    fn answers<R: Wait>(&mut self, rt: &R, alloc: Global, step: &Step) -> Result<bool, AllocError> {
-        match step {
-            Step::Put(wanted) => Ok(self.put_next(rt, alloc)? == *wanted),
-            Step::End(wanted) => Ok(self.put_last_told(rt) == *wanted),
-            Step::Take(wanted) => Ok(take_shape(rt, &self.edge, &mut self.take) == *wanted),
-            Step::Tell(wanted) => Ok(self.take_told(rt) == *wanted),
-        }
-    }
-
-    /// Tries one step after the other. Whether each answers as it says.
-    pub(crate) fn answers_all<R: Wait>(
-        &mut self,
-        rt: &R,
-        alloc: Global,
-        steps: &[Step],
-    ) -> Result<bool, AllocError> {
-        let mut alike = true;
-        for step in steps {
-            alike = self.answers(rt, alloc, step)? && alike;
-        }
-        Ok(alike)
-    }
-
-    /// How many frames were put and taken, and whether the last word was.
-    pub(crate) fn counts(&self) -> [(u8, bool); 2] {
-        [
-            (self.put.put(), self.put.has_ended()),
-            (self.take.taken(), self.take.has_ended()),
-        ]
     }
 
     /// Whether this is left in the end.

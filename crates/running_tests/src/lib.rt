@@ -1,13 +1,9 @@
-//! This crate has the tests of runs: in one thread (`gen_world`), by a machine (`gen_async`), by threads
-//! over edges (`gen_edge`, `gen_threads`), and by nodes that hand each other frames (`gen_node`).
+//! This crate has the tests of runs that are no rows and that no clause says: by a machine (`gen_async`), by
+//! threads over edges (`gen_edge`, `gen_threads`), and by nodes that hand each other frames (`gen_node`).
 #![tactic(auto)]
 
 #[cfg(test)]
-mod async_logs;
-#[cfg(test)]
-mod async_machine;
-#[cfg(test)]
-mod async_order;
+mod counting;
 #[cfg(test)]
 mod driving;
 #[cfg(test)]
@@ -31,16 +27,10 @@ mod limits;
 #[cfg(test)]
 mod logs_of_runs;
 #[cfg(test)]
+mod machine;
+#[cfg(test)]
 mod own_threads;
 #[cfg(test)]
 mod refusals;
 #[cfg(test)]
 mod scenarios;
-#[cfg(test)]
-mod trees;
-#[cfg(test)]
-mod world_counting;
-#[cfg(test)]
-mod world_recording;
-#[cfg(test)]
-mod world_runs;

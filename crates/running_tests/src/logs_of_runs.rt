@@ -1,6 +1,6 @@
-//! Runs in threads: their logs, that generals run at once and wait for each other's frames, and how many
-//! frames an edge holds.
-use crate::gates::{FEW, MANY, Meeting, Open, Watch};
+//! Runs in threads: that generals run at once and wait for each other's frames, and how many frames an edge
+//! holds.
+use crate::gates::{FEW, MANY, Meeting, Watch};
 use crate::scenarios::{are_same, line, logs_of_run, pair};
 use gen_threads::{Gate, run_threads};
 use gen_world::Scenario;
@@ -23,25 +23,6 @@ fn runs_alike<R: Threads + Wait + Sync, G: Gate + Sync>(
     let logs = run_threads(rt, alloc, scenario, capacity, gate)?;
     let wanted = logs_of_run(alloc, scenario)?;
     Ok(are_same(logs.as_slice(), wanted.as_slice()))
-}
-
-#[test]
-fn logs_are_those_of_the_run(rt: HostRuntime) -> Result<(), Fail> {
-    let stage = pair(rt.alloc())?;
-    let scenario = &stage.scenario;
-    for capacity in [1, 2, 16, 17, 1000] {
-        assert!(rt; runs_alike(&rt, rt.alloc(), scenario, capacity, &Open)?);
-    }
-    Ok(())
-}
-
-#[test]
-fn logs_of_a_line_are_those_of_the_run(rt: HostRuntime) -> Result<(), Fail> {
-    let stage = line(rt.alloc())?;
-    let scenario = &stage.scenario;
-    assert!(rt; runs_alike(&rt, rt.alloc(), scenario, 1, &Open)?);
-    assert!(rt; runs_alike(&rt, rt.alloc(), scenario, 16, &Open)?);
-    Ok(())
 }
 
 #[test]

@@ -3,8 +3,8 @@ ghost use Rattle.std.specs.Prelude.{All, IfOk};
 ghost use Rattle.gen_threads.specs.Edges.{AllHavePasses};
 ghost use Rattle.running_tests.specs.Seats.{MayTakeSeat};
 
-use crate::gates::{FEW, Meeting, Open, Watch};
-use crate::scenarios::{Stage, is_same, line, logs_of_run, pair, pair_in_slot, stage_of};
+use crate::gates::{FEW, Watch};
+use crate::scenarios::{is_same, line, logs_of_run};
 use gen_log::SealedLog;
 use gen_threads::{Edges, Gate, GeneralEnd, Passes, RunPart, run_general};
 use gen_types::GeneralNo;
@@ -127,24 +127,6 @@ fn end_alike<R: Threads + Wait + Sync, G: Gate + Sync>(
     )
 }
 
-#[test]
-fn neighbours_meet_in_threads_of_their_own(rt: HostRuntime) -> Result<(), Fail> {
-    let stage = pair(rt.alloc())?;
-    let scenario = &stage.scenario;
-    let gate = Meeting::new();
-    assert!(rt; end_alike(&rt, rt.alloc(), scenario, &gate)? && gate.has_met());
-    Ok(())
-}
-
-#[test]
-fn neighbours_wait_in_threads_of_their_own(rt: HostRuntime) -> Result<(), Fail> {
-    let stage = stage_of(rt.alloc(), 2, &[(0, 1)], (2, 1))?;
-    let scenario = &stage.scenario;
-    let gate = Watch::new((0, 2), (1, 3), FEW);
-    assert!(rt; end_alike(&rt, rt.alloc(), scenario, &gate)? && gate.has_waited());
-    Ok(())
-}
-
 /// General 1 waits for the frame that general 0 puts in round 2, and generals 2 and 3 wait with it.
 #[test]
 fn a_line_waits_in_threads_of_its_own(rt: HostRuntime) -> Result<(), Fail> {
@@ -152,29 +134,5 @@ fn a_line_waits_in_threads_of_its_own(rt: HostRuntime) -> Result<(), Fail> {
     let scenario = &stage.scenario;
     let gate = Watch::new((0, 2), (1, 3), FEW);
     assert!(rt; end_alike(&rt, rt.alloc(), scenario, &gate)? && gate.has_waited());
-    Ok(())
-}
-
-/// Whether these leaves were taken from a general's ring, which is closed, and no others.
-fn has_taken(ended: &mut Ended, leaves: &[u8]) -> bool {
-    let Ok(end) = ended else {
-        return false;
-    };
-    let Some(ring) = end.ring.take() else {
-        return false;
-    };
-    let taken = ring.close();
-    taken.len() == leaves.len() && leaves.iter().all(|leaf| taken.contains(*leaf))
-}
-
-/// In slot 1 order 1 has leaf 17, and the head of a log has leaf 31.
-#[test]
-fn leaves_of_a_pair_in_slot_1(rt: HostRuntime) -> Result<(), Fail> {
-    let stage = Stage {
-        scenario: pair_in_slot(rt.alloc(), 1)?,
-    };
-    let mut ends = ends_of(&rt, rt.alloc(), &stage.scenario, &Open)?;
-    assert!(rt; ends.len() == 2);
-    assert!(rt; has_taken(&mut ends[0], &[17, 31]) && has_taken(&mut ends[1], &[31]));
     Ok(())
 }

@@ -1,10 +1,9 @@
 //! Scenarios that are run, and logs that are compared.
 use gen_log::SealedLog;
-use gen_net::{HeaderFault, Net};
+use gen_net::Net;
 use gen_report::{ScenarioText, read_scenario};
-use gen_script::Script;
-use gen_types::{GeneralNo, OrderNo, ReadError};
-use gen_world::{Part, Scenario, WorldRun, run_world};
+use gen_types::OrderNo;
+use gen_world::{Scenario, WorldRun, run_world};
 use std::alloc::{AllocError, Global};
 use std::test::Fail;
 
@@ -15,6 +14,28 @@ pub(crate) const TWO_SCRIPTS: &[u8] = b"\
     diameter 1\norders 2\nchoice 0\norder 1\n\
     seed 0000000000000000000000000000000000000000000000000000000000000000\nscript 0\n\
     make 1 1 1 0\ntwohead\nscript 1\nmake 2 2 1 0,1\ntwohead\nend\n";
+
+/// The largest scenario: 16 generals, all neighbours, with as many traitors, as long walks and as many orders
+/// as there can be, and the last order.
+pub(crate) const LARGEST: &[u8] = b"\
+    generals 16\n\
+    edge 0 1\nedge 0 2\nedge 0 3\nedge 0 4\nedge 0 5\nedge 0 6\nedge 0 7\nedge 0 8\nedge 0 9\n\
+    edge 0 10\nedge 0 11\nedge 0 12\nedge 0 13\nedge 0 14\nedge 0 15\nedge 1 2\nedge 1 3\n\
+    edge 1 4\nedge 1 5\nedge 1 6\nedge 1 7\nedge 1 8\nedge 1 9\nedge 1 10\nedge 1 11\nedge 1 12\n\
+    edge 1 13\nedge 1 14\nedge 1 15\nedge 2 3\nedge 2 4\nedge 2 5\nedge 2 6\nedge 2 7\nedge 2 8\n\
+    edge 2 9\nedge 2 10\nedge 2 11\nedge 2 12\nedge 2 13\nedge 2 14\nedge 2 15\nedge 3 4\n\
+    edge 3 5\nedge 3 6\nedge 3 7\nedge 3 8\nedge 3 9\nedge 3 10\nedge 3 11\nedge 3 12\nedge 3 13\n\
+    edge 3 14\nedge 3 15\nedge 4 5\nedge 4 6\nedge 4 7\nedge 4 8\nedge 4 9\nedge 4 10\nedge 4 11\n\
+    edge 4 12\nedge 4 13\nedge 4 14\nedge 4 15\nedge 5 6\nedge 5 7\nedge 5 8\nedge 5 9\n\
+    edge 5 10\nedge 5 11\nedge 5 12\nedge 5 13\nedge 5 14\nedge 5 15\nedge 6 7\nedge 6 8\n\
+    edge 6 9\nedge 6 10\nedge 6 11\nedge 6 12\nedge 6 13\nedge 6 14\nedge 6 15\nedge 7 8\n\
+    edge 7 9\nedge 7 10\nedge 7 11\nedge 7 12\nedge 7 13\nedge 7 14\nedge 7 15\nedge 8 9\n\
+    edge 8 10\nedge 8 11\nedge 8 12\nedge 8 13\nedge 8 14\nedge 8 15\nedge 9 10\nedge 9 11\n\
+    edge 9 12\nedge 9 13\nedge 9 14\nedge 9 15\nedge 10 11\nedge 10 12\nedge 10 13\nedge 10 14\n\
+    edge 10 15\nedge 11 12\nedge 11 13\nedge 11 14\nedge 11 15\nedge 12 13\nedge 12 14\n\
+    edge 12 15\nedge 13 14\nedge 13 15\nedge 14 15\n\
+    traitors 8\ndiameter 8\norders 15\nchoice 1\norder 14\n\
+    seed 0000000000000000000000000000000000000000000000000000000000000000\nend\n";
 
 /// A scenario. One call lets it go, where else each way out of a test would let go each of its parts.
 pub(crate) struct Stage {
@@ -77,12 +98,7 @@ pub(crate) fn without_scripts(
 }
 
 /// The same, which one call lets go.
-pub(crate) fn stage_of(
-    alloc: Global,
-    n: u8,
-    edges: &[(u8, u8)],
-    (m, d): (u8, u8),
-) -> Result<Stage, Fail> {
+fn stage_of(alloc: Global, n: u8, edges: &[(u8, u8)], (m, d): (u8, u8)) -> Result<Stage, Fail> {
     let scenario = without_scripts(alloc, n, edges, (m, d))?;
     Ok(Stage { scenario })
 }
@@ -97,23 +113,6 @@ pub(crate) fn line(alloc: Global) -> Result<Stage, Fail> {
     stage_of(alloc, 4, &[(0, 1), (1, 2), (2, 3)], (0, 3))
 }
 
-/// Two generals who are neighbours, in the run of this slot of the four that their trees serve.
-#[tactic(auto, using(gen_scenario::proofs::ScriptPairs::no_scripts))]
-pub(crate) fn pair_in_slot(alloc: Global, slot: u8) -> Result<Scenario, ReadError<HeaderFault>> {
-    let net = Net::new(alloc, 2, &[(0, 1)], 0, 1, 2, 0)?;
-    let _few = net.generals();
-    let scripts: Vec<Script> = Vec::new(alloc);
-    Scenario::new_in_slot(alloc, net, slot, OrderNo::at(1), &[0; 32], scripts)
-}
-
-/// What a general of the scenario knows.
-pub(crate) fn part_of(alloc: Global, scenario: &Scenario, general: u8) -> Result<Part, Fail> {
-    if general >= scenario.header().net().generals() {
-        return Err("no general".into());
-    }
-    Ok(scenario.part(alloc, GeneralNo::at(general))?)
-}
-
 /// Whether two logs are the same general's and have the same bytes.
 pub(crate) fn is_same(log: &SealedLog, other: &SealedLog) -> bool {
     log.general() == other.general() && log.bytes() == other.bytes()
@@ -126,43 +125,4 @@ pub(crate) fn are_same(logs: &[SealedLog], others: &[SealedLog]) -> bool {
             .iter()
             .zip(others)
             .all(|(log, other)| is_same(log, other))
-}
-
-/// Of a general: whether the lines of a script are known, whether the order is, and how many trees are.
-fn known_to(alloc: Global, scenario: &Scenario, general: u8) -> Result<(bool, bool, usize), Fail> {
-    let part = part_of(alloc, scenario, general)?;
-    Ok((
-        part.lines().is_some(),
-        part.own().is_some(),
-        part.trees().len(),
-    ))
-}
-
-#[test]
-fn what_each_general_knows(rt: HostRuntime) -> Result<(), Fail> {
-    let alloc = rt.alloc();
-    let stage = scenario_of(alloc, TWO_SCRIPTS)?;
-    let scenario = &stage.scenario;
-    assert!(rt; known_to(alloc, scenario, 0)? == (true, true, 2));
-    assert!(rt; known_to(alloc, scenario, 1)? == (true, false, 2));
-    assert!(rt; known_to(alloc, scenario, 2)? == (false, false, 0));
-    assert!(rt; scenario.has_script(GeneralNo::at(1)) && scenario.scripted().len() == 2);
-    Ok(())
-}
-
-/// The slot that the pair's header has, None if this is no slot.
-fn slot_of(alloc: Global, slot: u8) -> Result<Option<u8>, Fail> {
-    match pair_in_slot(alloc, slot) {
-        Ok(scenario) => Ok(Some(scenario.header().slot())),
-        Err(ReadError::Fault(HeaderFault::SlotRange)) => Ok(None),
-        Err(_) => Err("another fault".into()),
-    }
-}
-
-#[test]
-fn slots_of_scenarios(rt: HostRuntime) -> Result<(), Fail> {
-    let alloc = rt.alloc();
-    assert!(rt; slot_of(alloc, 0)? == Some(0) && slot_of(alloc, 3)? == Some(3));
-    assert!(rt; slot_of(alloc, 4)?.is_none() && slot_of(alloc, 255)?.is_none());
-    Ok(())
 }

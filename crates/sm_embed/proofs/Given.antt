@@ -3,12 +3,16 @@ use Rattle.std.proofs.Common.{◌≡◌, ℕ, Bool, List, Option, Some, None, Re
 use Rattle.std.specs.Prelude.{IfOk, IfErr}
 use Rattle.gen_jobs.specs.declared.ends.JobFault.{JobFault}
 use Rattle.gen_jobs.specs.declared.ends.Output.{Output}
+use Rattle.gen_jobs.specs.declared.ends.JobFault.TheVariants as faults
+use Rattle.gen_jobs.specs.declared.asked_runs.AskedRuns.{AskedRuns}
+use Rattle.gen_jobs.specs.Asking.{IsShowFault}
 use Rattle.gen_jobs.specs.Audit.{IsAuditFault}
 use Rattle.gen_answer.specs.Answering.{IsAnswered, IsAnswerFault}
 use Rattle.gen_answer.specs.declared.answers.AnswerFault.{AnswerFault}
 use Rattle.gen_answer.specs.declared.answers.AnswerText.{AnswerText}
 use Rattle.sm_embed.specs.Handing.{Hands, HandsOver, IsHanded}
 use Rattle.sm_embed.specs.Knowing.{AccusesKnown, HandsKnown, IsAccusedKnown, TellsKnown, status_of_known}
+use Rattle.sm_embed.specs.Knowing.{IsAccusedKnownOf, IsMadeKnown, KeepsKnown, MakesKnown, TellsKnownOf, status_of_made_known}
 use Rattle.sm_embed.specs.Making.{IsMade, KeepsOver, Makes, status_of_made}
 use Rattle.sm_embed.specs.Refuting.{HandsReply, IsReplied, Replies, status_of_replied}
 use Rattle.sm_embed.specs.declared.kept.Kept.{Kept}
@@ -81,3 +85,31 @@ makes A F (Err fault) held made.Nothing a f over = over
 -- and the number says so
 pub is_made : (A : List ℕ → Bool → Type 0) (F : JobFault → Type 0) (answered : Result Output JobFault) (held : Option Kept) (status : ℕ) (m : Made) → status ≡ status_of_made m → IfOk answered (λ o. A o.text.items o.negative) → IfErr answered F → KeepsOver answered held m → IsMade A F held status
 is_made A F answered held status m is a f over = (m, is, makes A F answered held m a f over)
+
+-- ---- a general that may be no run's, of the runs that are asked for
+
+-- a fault of an input that should be a bundle or a campaign is one too if runs are asked for
+pub is_show_fault : (asked : AskedRuns) (input : List ℕ) (f : JobFault) → IsAuditFault input f → IsShowFault asked input f
+is_show_fault asked input faults.Memory h = h
+is_show_fault asked input faults.OtherRun h = absurd h
+is_show_fault asked input faults.Thread h = h
+is_show_fault asked input faults.Read h = absurd h
+is_show_fault asked input faults.Write h = absurd h
+is_show_fault asked input faults.Open h = absurd h
+is_show_fault asked input (faults.Scenario f) h = absurd h
+is_show_fault asked input (faults.Campaign f) h = h
+is_show_fault asked input (faults.Evidence f) h = absurd h
+is_show_fault asked input (faults.Log f) h = absurd h
+is_show_fault asked input (faults.Seed f) h = absurd h
+
+makes_known : (asked : AskedRuns) (general : ℕ) (input : List ℕ) (answered : Result (Option Output) JobFault) (held : Option Kept) (m : Option Made) → IfOk answered (TellsKnownOf asked general input) → IfErr answered (IsShowFault asked input) → KeepsKnown answered held m → MakesKnown asked general input held m
+makes_known asked general input (Ok None) held None a f over = (over, a)
+makes_known asked general input (Ok None) held (Some m) a f over = absurd over
+makes_known asked general input (Ok (Some o)) held None a f over = absurd over
+makes_known asked general input (Ok (Some o)) held (Some m) a f over = makes (IsAccusedKnownOf asked general input) (IsShowFault asked input) (Ok o) held m a f over
+makes_known asked general input (Err fault) held None a f over = absurd over
+makes_known asked general input (Err fault) held (Some m) a f over = makes (IsAccusedKnownOf asked general input) (IsShowFault asked input) (Err fault) held m a f over
+
+-- and the number says so
+pub is_made_known : (asked : AskedRuns) (general : ℕ) (input : List ℕ) (answered : Result (Option Output) JobFault) (held : Option Kept) (status : ℕ) (m : Option Made) → status ≡ status_of_made_known m → IfOk answered (TellsKnownOf asked general input) → IfErr answered (IsShowFault asked input) → KeepsKnown answered held m → IsMadeKnown general input asked held status
+is_made_known asked general input answered held status m is a f over = (m, is, makes_known asked general input answered held m a f over)

@@ -3,6 +3,7 @@ use Rattle.std.specs.Prelude.{ℕ, ◌≡◌, ◌<◌, ◌⊎◌, ◌++◌, Bool
 use Rattle.gen_jobs.specs.declared.ends.JobFault.{JobFault}
 use Rattle.gen_jobs.specs.declared.ends.Output.{Output}
 use Rattle.gen_jobs.specs.Ends.{fault_status}
+use Rattle.gen_jobs.specs.FaultLines.{job_fault_line}
 use Rattle.sm_embed.specs.Statuses.{status_of_handed}
 use Rattle.sm_embed.specs.declared.handed.Handed.{Handed}
 use Rattle.sm_embed.specs.declared.handed.Handed.TheVariants.{Yes, No, Line, Nothing, Length}
@@ -43,9 +44,9 @@ abbrev pub HandsFault : JobFault → List ℕ → List ℕ → ℕ → Handed �
 HandsFault fault old new count Yes = ⊥
 HandsFault fault old new count No = ⊥
 HandsFault fault old new count (Line f) =
-    (f ≡ fault) × IsOfInput f × ((line : List ℕ) × Fits line old new count)
+    (f ≡ fault) × IsOfInput f × Fits (job_fault_line f) old new count
 HandsFault fault old new count Nothing = IsUntouched old new count
-HandsFault fault old new count Length = IsOfInput fault × ((line : List ℕ) × IsTooLong line old new count)
+HandsFault fault old new count Length = IsOfInput fault × IsTooLong (job_fault_line fault) old new count
 
 -- the answer was handed over, or the fault in its place
 abbrev pub HandsOver : Result Output JobFault → List ℕ → List ℕ → ℕ → Handed → Type 0
@@ -60,11 +61,11 @@ abbrev pub Hands : (List ℕ → Bool → Type 0) → (JobFault → Type 0) → 
 Hands IsAnswer IsFault old new count Yes = (text : List ℕ) × IsAnswer text false × Fits text old new count
 Hands IsAnswer IsFault old new count No = (text : List ℕ) × IsAnswer text true × Fits text old new count
 Hands IsAnswer IsFault old new count (Line f) =
-    IsFault f × IsOfInput f × ((line : List ℕ) × Fits line old new count)
+    IsFault f × IsOfInput f × Fits (job_fault_line f) old new count
 Hands IsAnswer IsFault old new count Nothing = IsUntouched old new count
 Hands IsAnswer IsFault old new count Length =
     ((text : List ℕ) × (negative : Bool) × IsAnswer text negative × IsTooLong text old new count)
-    ⊎ ((f : JobFault) × IsFault f × IsOfInput f × ((line : List ℕ) × IsTooLong line old new count))
+    ⊎ ((f : JobFault) × IsFault f × IsOfInput f × IsTooLong (job_fault_line f) old new count)
 
 -- the returned number is the one for what was handed
 abbrev pub IsHanded : (List ℕ → Bool → Type 0) → (JobFault → Type 0) → List ℕ → List ℕ → ℕ → ℕ → Type 0

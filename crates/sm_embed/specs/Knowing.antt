@@ -5,12 +5,17 @@ use Rattle.gen_types.specs.Spelled.{Spells}
 use Rattle.gen_campaign.specs.Campaign.{CampaignBundle, IsCampaign}
 use Rattle.gen_campaign.specs.CampaignSpelling.{campaign_spelling}
 use Rattle.gen_jobs.specs.Accusing.{IsAccused}
+use Rattle.gen_jobs.specs.Asking.{IsAccusedOf, IsShowFault}
 use Rattle.gen_jobs.specs.Audit.{IsAuditFault}
+use Rattle.gen_jobs.specs.declared.asked_runs.AskedRuns.{AskedRuns}
 use Rattle.gen_jobs.specs.declared.ends.JobFault.{JobFault}
 use Rattle.gen_jobs.specs.declared.ends.Output.{Output}
 use Rattle.sm_embed.specs.Handing.{HandsAnswer, HandsFault, IsHanded, IsUntouched}
+use Rattle.sm_embed.specs.Making.{IsMisuse, KeepsAnswer, KeepsFault, Makes, status_of_made}
 use Rattle.sm_embed.specs.Statuses.{status_of_handed}
 use Rattle.sm_embed.specs.declared.handed.Handed.{Handed}
+use Rattle.sm_embed.specs.declared.kept.Kept.{Kept}
+use Rattle.sm_embed.specs.declared.made.Made.{Made}
 
 -- the number is that of a general of some run that is shown
 abbrev pub is_known : ℕ → CampaignBundle → Bool
@@ -53,3 +58,54 @@ abbrev pub AccusesKnown : ℕ → List ℕ → List ℕ → List ℕ → ℕ →
 AccusesKnown general input old new count status =
     ((status ≡ 6) × IsUntouched old new count × Knows general input false)
     ⊎ IsHanded (IsAccusedKnown general input) (IsAuditFault input) old new count status
+
+-- ---- the same for an answer that is kept, of the runs that are asked for
+
+-- the text is the evidence against a general of a run, and the input is of the runs that are asked for
+abbrev pub IsAccusedKnownOf : AskedRuns → ℕ → List ℕ → List ℕ → Bool → Type 0
+IsAccusedKnownOf asked general input text negative =
+    IsAccusedOf asked general input text negative × Knows general input true
+
+-- the general is no run's, and the input is of the runs that are asked for: it has an answer if it is asked
+-- without the test
+abbrev pub IsNobodyOf : AskedRuns → ℕ → List ℕ → Type 0
+IsNobodyOf asked general input =
+    ((text : List ℕ) × (negative : Bool) × IsAccusedOf asked general input text negative)
+    × Knows general input false
+
+-- an answer about a general of a run; or there is none, because the general is no run's
+abbrev pub TellsKnownOf : AskedRuns → ℕ → List ℕ → Option Output → Type 0
+TellsKnownOf asked general input None = IsNobodyOf asked general input
+TellsKnownOf asked general input (Some o) =
+    IsAccusedKnownOf asked general input o.text.items o.negative
+
+-- the answer is held, or the line of the fault in its place; or nothing is, because the general is no run's
+abbrev pub KeepsKnown : Result (Option Output) JobFault → Option Kept → Option Made → Type 0
+KeepsKnown (Ok None) held None = held ≡ None
+KeepsKnown (Ok None) held (Some made) = ⊥
+KeepsKnown (Ok (Some o)) held None = ⊥
+KeepsKnown (Ok (Some o)) held (Some made) = KeepsAnswer o.text.items o.negative held made
+KeepsKnown (Err fault) held None = ⊥
+KeepsKnown (Err fault) held (Some made) = KeepsFault fault held made
+
+-- the number for what was made; 6 for a general that is no run's
+abbrev pub status_of_made_known : Option Made → ℕ
+status_of_made_known None = 6
+status_of_made_known (Some made) = status_of_made made
+
+-- what is made of the evidence against a general of a run, of the runs that are asked for; or nothing is
+-- held, because the general is no run's
+abbrev pub MakesKnown : AskedRuns → ℕ → List ℕ → Option Kept → Option Made → Type 0
+MakesKnown asked general input held None = (held ≡ None) × IsNobodyOf asked general input
+MakesKnown asked general input held (Some made) =
+    Makes (IsAccusedKnownOf asked general input) (IsShowFault asked input) held made
+
+-- the returned number is the one for what was made
+abbrev pub IsMadeKnown : ℕ → List ℕ → AskedRuns → Option Kept → ℕ → Type 0
+IsMadeKnown general input asked held status =
+    (made : Option Made) × (status ≡ status_of_made_known made) × MakesKnown asked general input held made
+
+-- runs are asked for: more than four are misuse
+abbrev pub MakesKnownIf : ℕ → List ℕ → Option AskedRuns → Option Kept → ℕ → Type 0
+MakesKnownIf general input None held status = IsMisuse held status
+MakesKnownIf general input (Some asked) held status = IsMadeKnown general input asked held status

@@ -1,12 +1,16 @@
 -- What a call makes of an answer that a caller in another language holds.
-use Rattle.std.specs.Prelude.{ℕ, ◌≡◌, ◌==◌, not, Bool, true, false, List, [], ◌∷◌, Option, Some, None, Result, Ok, Err}
+use Rattle.std.specs.Prelude.{ℕ, ◌≡◌, ◌==◌, not, if◌then◌else◌, Bool, true, false, List, [], ◌∷◌}
+use Rattle.std.specs.Prelude.{Option, Some, None, Result, Ok, Err}
 use Rattle.gen_jobs.specs.AskedRuns.{few_runs}
 use Rattle.gen_jobs.specs.Ends.{fault_status}
+use Rattle.gen_jobs.specs.FaultLines.{job_fault_line}
 use Rattle.gen_jobs.specs.declared.asked_runs.AskedRuns.{AskedRuns}
 use Rattle.gen_jobs.specs.declared.asked_runs.AskedRuns.TheVariants.{Any}
 use Rattle.gen_jobs.specs.declared.ends.JobFault.{JobFault}
 use Rattle.gen_jobs.specs.declared.ends.JobFault.TheVariants as faults
 use Rattle.gen_jobs.specs.declared.ends.Output.{Output}
+use Rattle.gen_jobs.specs.declared.forms.Form.{Form}
+use Rattle.gen_jobs.specs.declared.forms.Form.TheVariants.{Text, Json}
 use Rattle.sm_embed.specs.Handing.{IsOfInput, IsUntouched, PutsText}
 use Rattle.sm_embed.specs.declared.kept.Kept.{Kept}
 use Rattle.sm_embed.specs.declared.made.Made.{Made}
@@ -20,6 +24,10 @@ asked_in (id ∷ ids) = few_runs (id ∷ ids)
 -- whether a number asks strictly
 abbrev pub is_strict : ℕ → Bool
 is_strict number = not (number == 0)
+
+-- the form with this number: text for 0, JSON for 1, and None for any other
+abbrev pub form_in : ℕ → Option Form
+form_in number = if number == 0 then Some Text else if number == 1 then Some Json else None
 
 -- the number for the line of a fault: the program's exit status, and 7 for an input of another run
 abbrev pub line_status : JobFault → ℕ
@@ -49,7 +57,7 @@ KeepsAnswer text negative held Nothing = held ≡ None
 abbrev pub KeepsFault : JobFault → Option Kept → Made → Type 0
 KeepsFault fault held Yes = ⊥
 KeepsFault fault held No = ⊥
-KeepsFault fault held (Line f) = (f ≡ fault) × IsOfInput f × ((line : List ℕ) × Keeps held line)
+KeepsFault fault held (Line f) = (f ≡ fault) × IsOfInput f × Keeps held (job_fault_line f)
 KeepsFault fault held Nothing = held ≡ None
 
 -- the answer is held, or the line of the fault in its place
@@ -62,7 +70,7 @@ KeepsOver (Err fault) held made = KeepsFault fault held made
 abbrev pub Makes : (List ℕ → Bool → Type 0) → (JobFault → Type 0) → Option Kept → Made → Type 0
 Makes IsAnswer IsFault held Yes = (text : List ℕ) × IsAnswer text false × Keeps held text
 Makes IsAnswer IsFault held No = (text : List ℕ) × IsAnswer text true × Keeps held text
-Makes IsAnswer IsFault held (Line f) = IsFault f × IsOfInput f × ((line : List ℕ) × Keeps held line)
+Makes IsAnswer IsFault held (Line f) = IsFault f × IsOfInput f × Keeps held (job_fault_line f)
 Makes IsAnswer IsFault held Nothing = held ≡ None
 
 -- the returned number is the one for what was made
@@ -81,6 +89,11 @@ abbrev pub MakesIf :
     → ℕ → Type 0
 MakesIf IsAnswer IsFault None held status = IsMisuse held status
 MakesIf IsAnswer IsFault (Some asked) held status = IsMade (IsAnswer asked) (IsFault asked) held status
+
+-- A form is asked for. A number that is no form's is misuse; else what is made is this for the form.
+abbrev pub MakesIn : (Form → Option Kept → ℕ → Type 0) → Option Form → Option Kept → ℕ → Type 0
+MakesIn MakesAs None held status = IsMisuse held status
+MakesIn MakesAs (Some form) held status = MakesAs form held status
 
 -- the room has the text that is held, or its length alone is told; if nothing is held, that is misuse
 abbrev pub HandsKept : Option Kept → List ℕ → List ℕ → ℕ → ℕ → Type 0

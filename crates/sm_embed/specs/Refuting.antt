@@ -4,6 +4,8 @@ use Rattle.gen_answer.specs.Answering.{IsAnswered, IsAnswerFault}
 use Rattle.gen_answer.specs.declared.answers.AnswerFault.{AnswerFault}
 use Rattle.gen_answer.specs.declared.answers.AnswerFault.TheVariants as faults
 use Rattle.gen_answer.specs.declared.answers.AnswerText.{AnswerText}
+use Rattle.gen_jobs.specs.Failing.{answer_failure}
+use Rattle.gen_jobs.specs.FaultLines.{job_fault_line}
 use Rattle.sm_embed.specs.Handing.{Fits, IsTooLong, IsUntouched}
 use Rattle.sm_embed.specs.declared.replied.Replied.{Replied}
 use Rattle.sm_embed.specs.declared.replied.Replied.TheVariants.{Yes, No, Line, Nothing, Length}
@@ -13,6 +15,10 @@ abbrev pub IsOfText : AnswerFault → Type 0
 IsOfText faults.Memory = ⊥
 IsOfText (faults.Evidence f) = Unit {0}
 IsOfText (faults.Log f) = Unit {0}
+
+-- the line of a fault
+abbrev pub line_of : AnswerFault → List ℕ
+line_of f = job_fault_line (answer_failure f)
 
 -- the text was handed; or it is longer than the room, and its length alone was handed
 abbrev pub HandsText : List ℕ → Bool → List ℕ → List ℕ → ℕ → Replied → Type 0
@@ -26,9 +32,9 @@ HandsText text negative old new count Length = IsTooLong text old new count
 abbrev pub HandsLine : AnswerFault → List ℕ → List ℕ → ℕ → Replied → Type 0
 HandsLine fault old new count Yes = ⊥
 HandsLine fault old new count No = ⊥
-HandsLine fault old new count Line = IsOfText fault × ((line : List ℕ) × Fits line old new count)
+HandsLine fault old new count Line = IsOfText fault × Fits (line_of fault) old new count
 HandsLine fault old new count Nothing = IsUntouched old new count
-HandsLine fault old new count Length = IsOfText fault × ((line : List ℕ) × IsTooLong line old new count)
+HandsLine fault old new count Length = IsOfText fault × IsTooLong (line_of fault) old new count
 
 -- the answer was handed over, or the fault in its place
 abbrev pub HandsReply : Result AnswerText AnswerFault → List ℕ → List ℕ → ℕ → Replied → Type 0
@@ -43,14 +49,13 @@ Replies evidence log old new count Yes =
 Replies evidence log old new count No =
     (text : List ℕ) × IsAnswered evidence log text true × Fits text old new count
 Replies evidence log old new count Line =
-    (f : AnswerFault) × IsAnswerFault evidence log f × IsOfText f
-    × ((line : List ℕ) × Fits line old new count)
+    (f : AnswerFault) × IsAnswerFault evidence log f × IsOfText f × Fits (line_of f) old new count
 Replies evidence log old new count Nothing = IsUntouched old new count
 Replies evidence log old new count Length =
     ((text : List ℕ) × (negative : Bool) × IsAnswered evidence log text negative
     × IsTooLong text old new count)
     ⊎ ((f : AnswerFault) × IsAnswerFault evidence log f × IsOfText f
-    × ((line : List ℕ) × IsTooLong line old new count))
+    × IsTooLong (line_of f) old new count)
 
 -- the number for what was handed
 abbrev pub status_of_replied : Replied → ℕ

@@ -3,7 +3,7 @@ ghost use Rattle.std.specs.Prelude.{◌≡◌, true, false};
 ghost use Rattle.sm_embed.specs.Handing.{Fits, HandsAnswer, HandsFault, HandsOver, IsOfInput, IsTooLong};
 
 use crate::handed::Handed;
-use gen_jobs::{JobFault, Output};
+use gen_jobs::{JobFault, Output, job_fault_line};
 use std::alloc::Global;
 
 /// Copies a text to the beginning of the room if it fits there, and returns whether it does. The count is the text's
@@ -40,7 +40,7 @@ fn hand_line(alloc: Global, fault: JobFault, room: &mut [u8], count: &mut usize)
     requires { IsOfInput fault }
     ensures { HandsFault fault room.old room.new count.new result }
 {
-    match fault.to_string(alloc) {
+    match job_fault_line(alloc, fault) {
         Ok(line) => {
             if put(line.as_bytes(), room, count) {
                 Handed::Line(fault)

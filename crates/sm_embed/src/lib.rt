@@ -14,15 +14,16 @@
 //!
 //! Some functions take an answer in place of the room: one pointer, which owns what is held, and is null if nothing is.
 //! What was held before is dropped. The text is held whatever its length, and is handed over by `sm_answer_text` as often
-//! as it is asked for. Their numbers are 0 to 4, and 7.
+//! as it is asked for. Their numbers are 0 to 4, 6 and 7.
 //!
 //! | number | what the answer holds |
 //! |---|---|
 //! | 0 | the text that the program writes, which doesn't say no |
 //! | 1 | the text that the program writes, which says no |
-//! | 2 | nothing: the number of a general is above 15, or more than four runs are asked for |
+//! | 2 | nothing: the number of a general is above 15, that of a form is above 1, or more than four runs are asked for |
 //! | 3 | the line that names the input's fault, as the program writes it, without its LF |
 //! | 4 | nothing: memory was refused |
+//! | 6 | nothing: the general is none of the run's (`sm_accuse_known_of` alone) |
 //! | 7 | the line that says that the input is of another run than the one that is asked for |
 //!
 //! No function keeps anything outside the answer that it was handed, starts a thread, waits for one, prints, or ends the
@@ -30,17 +31,20 @@
 #![tactic(auto)]
 
 ghost use Rattle.std.specs.Prelude.{ℕ, ◌≡◌, ◌<◌, ◌≤◌, None};
+ghost use Rattle.gen_answer.specs.Answering.{IsAnswered};
 ghost use Rattle.gen_jobs.specs.Accusing.{IsAccused};
-ghost use Rattle.gen_jobs.specs.Asking.{IsAccusedOf, IsAuditedAs, IsCheckedOf, IsDrawnOf, IsEvidenceFaultOf, IsShowFault};
+ghost use Rattle.gen_jobs.specs.Asking.{IsAccusedOf, IsAuditedAs, IsAuditedIn, IsCheckedIn, IsCheckedOf};
+ghost use Rattle.gen_jobs.specs.Asking.{IsDrawnOf, IsEvidenceFaultOf, IsShowFault};
 ghost use Rattle.gen_jobs.specs.Audit.{IsAudited, IsAuditFault};
 ghost use Rattle.gen_jobs.specs.Checking.{IsChecked, IsEvidenceFault};
-ghost use Rattle.gen_jobs.specs.Decide.{IsDecided, IsDecideFault};
+ghost use Rattle.gen_jobs.specs.Decide.{IsDecided, IsDecidedIn, IsDecideFault};
 ghost use Rattle.gen_jobs.specs.Drawing.{IsDrawn};
+ghost use Rattle.gen_jobs.specs.Joining.{IsReplyFault};
 ghost use Rattle.gen_jobs.specs.Telling.{IsMemory, IsTold};
 ghost use Rattle.gen_jobs.specs.declared.telling.Telling.TheVariants as tellings;
 ghost use Rattle.sm_embed.specs.Handing.{IsHanded, IsUntouched};
-ghost use Rattle.sm_embed.specs.Knowing.{AccusesKnown};
-ghost use Rattle.sm_embed.specs.Making.{HandsKept, IsMade, IsMisuse, MakesIf, asked_in, is_strict};
+ghost use Rattle.sm_embed.specs.Knowing.{AccusesKnown, MakesKnownIf};
+ghost use Rattle.sm_embed.specs.Making.{HandsKept, IsMade, IsMisuse, MakesIf, MakesIn, asked_in, form_in, is_strict};
 ghost use Rattle.sm_embed.specs.Refuting.{IsReplied};
 ghost use Rattle.sm_embed.specs.Runs.{TellsRuns};
 
@@ -57,15 +61,18 @@ mod replying;
 mod runs;
 
 use crate::handing::hand;
-use crate::knowing::{accuse_known, hand_known, status_of_known};
-use crate::making::{asked_in, hand_kept, keep};
+use crate::knowing::{
+    accuse_known, accuse_known_of, hand_known, keep_known, status_of_known, status_of_made_known,
+};
+use crate::making::{asked_in, form_in, hand_kept, keep};
 use crate::opaque::SmAnswer;
 use crate::replying::hand_reply;
 use crate::runs::tell_runs;
 use gen_answer::answer;
 use gen_jobs::{
-    Telling, accuse_asked_in_place, accuse_in_place, audit_asked_in_place, audit_in_place, decide,
-    draw_asked_in_place, draw_in_place, evidence, evidence_as_asked, tell,
+    Telling, accuse_asked_in_place, accuse_in_place, audit_asked_in_place, audit_form_in_place,
+    audit_in_place, decide, decide_in, draw_asked_in_place, draw_in_place, evidence,
+    evidence_as_asked, evidence_in, tell,
 };
 use gen_types::GeneralNo;
 use std::alloc::Global;
@@ -331,4 +338,111 @@ pub extern "C" fn sm_answer_free(alloc: Global, answer: &mut SmAnswer)
     ensures { answer.new.held ≡ None }
 {
     answer.clear(alloc)
+}
+
+/// Makes the answer of the evidence that the bundle or the campaign in the input holds against a general, as
+/// `sm_accuse_of` does, but returns 6, and nothing is held, if the general is no run's.
+#[unsafe(no_mangle)]
+pub extern "C" fn sm_accuse_known_of(
+    alloc: Global,
+    runs: &[[u8; 32]],
+    general: u32,
+    input: &[u8],
+    answer: &mut SmAnswer,
+) -> u32
+    ensures general { general < 16 →
+        MakesKnownIf general input.now (asked_in runs.now) answer.new.held result }
+    // The number is 16 or more, so it is no general's.
+    ensures nobody { 16 ≤ general → IsMisuse answer.new.held result }
+{
+    answer.clear(alloc);
+    if general >= 16 {
+        return 2;
+    }
+    let Some(asked) = asked_in(runs) else {
+        return 2;
+    };
+    let accused = GeneralNo::at(general as u8);
+    let answered = accuse_known_of(alloc, asked, accused, input);
+    status_of_made_known(keep_known(alloc, answered, answer))
+}
+
+/// Makes the answer of what answers evidence by a log of the accused, as the command `answer` writes it: the text of
+/// the evidence that the log doesn't have, or two strings of bytes with one hash. It says no if there is no answer.
+#[unsafe(no_mangle)]
+pub extern "C" fn sm_refute_kept(
+    alloc: Global,
+    evidence: &[u8],
+    log: &[u8],
+    answer: &mut SmAnswer,
+) -> u32
+    ensures { IsMade (IsAnswered evidence.now log.now) (IsReplyFault evidence.now log.now)
+        answer.new.held result }
+{
+    answer.clear(alloc);
+    keep(alloc, gen_jobs::answer(alloc, evidence, log), answer).status()
+}
+
+/// Makes the answer of the verdict on the bundle or the campaign that the input spells, in a form: 0 for text, as
+/// `sm_audit_of` makes it, and 1 for JSON, as the command `audit --json` writes it. Another form is misuse.
+#[unsafe(no_mangle)]
+pub extern "C" fn sm_audit_as(
+    alloc: Global,
+    runs: &[[u8; 32]],
+    strict: u32,
+    form: u32,
+    input: &[u8],
+    answer: &mut SmAnswer,
+) -> u32
+    ensures { MakesIn (λ told. MakesIf (λ asked. IsAuditedIn told asked (is_strict strict) input.now)
+        (λ asked. IsShowFault asked input.now) (asked_in runs.now)) (form_in form) answer.new.held result }
+{
+    answer.clear(alloc);
+    let Some(told) = form_in(form) else {
+        return 2;
+    };
+    let Some(asked) = asked_in(runs) else {
+        return 2;
+    };
+    let answered = audit_form_in_place(alloc, told, asked, strict != 0, input);
+    keep(alloc, answered, answer).status()
+}
+
+/// Makes the answer of whether the evidence that the input spells holds, in a form: 0 for text, as `sm_evidence_of`
+/// makes it, and 1 for JSON, as the command `evidence --json` writes it. Another form is misuse.
+#[unsafe(no_mangle)]
+pub extern "C" fn sm_evidence_as(
+    alloc: Global,
+    runs: &[[u8; 32]],
+    form: u32,
+    input: &[u8],
+    answer: &mut SmAnswer,
+) -> u32
+    ensures { MakesIn (λ told. MakesIf (λ asked. IsCheckedIn told asked input.now)
+        (λ asked. IsEvidenceFaultOf asked input.now) (asked_in runs.now)) (form_in form)
+        answer.new.held result }
+{
+    answer.clear(alloc);
+    let Some(told) = form_in(form) else {
+        return 2;
+    };
+    let Some(asked) = asked_in(runs) else {
+        return 2;
+    };
+    keep(alloc, evidence_in(alloc, told, asked, input), answer).status()
+}
+
+/// Makes the answer of what each general without a script decides in the run of the scenario that the input spells, in
+/// a form: 0 for text, as `sm_decide` hands it over, and 1 for JSON, as the command `decide --json` writes it. Another
+/// form is misuse. The answer never says no.
+#[unsafe(no_mangle)]
+pub extern "C" fn sm_decide_as(alloc: Global, form: u32, input: &[u8], answer: &mut SmAnswer) -> u32
+    ensures { MakesIn (λ told. IsMade (IsDecidedIn told input.now) (IsDecideFault input.now))
+        (form_in form) answer.new.held result }
+{
+    answer.clear(alloc);
+    let Some(told) = form_in(form) else {
+        return 2;
+    };
+    keep(alloc, decide_in(alloc, told, input), answer).status()
 }

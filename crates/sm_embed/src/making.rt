@@ -1,13 +1,13 @@
 //! Keeps an answer for a caller in another language.
 ghost use Rattle.std.specs.Prelude.{◌≡◌, false, None, true};
 ghost use Rattle.sm_embed.specs.Handing.{IsOfInput, PutsText};
-ghost use Rattle.sm_embed.specs.Making.{HandsKept, Keeps, KeepsAnswer, KeepsFault, KeepsOver, asked_in};
+ghost use Rattle.sm_embed.specs.Making.{HandsKept, Keeps, KeepsAnswer, KeepsFault, KeepsOver, asked_in, form_in};
 
 use crate::handing::put;
 use crate::kept::Kept;
 use crate::made::Made;
 use crate::opaque::SmAnswer;
-use gen_jobs::{AskedRuns, JobFault, Output};
+use gen_jobs::{AskedRuns, Form, JobFault, Output, job_fault_line};
 use std::alloc::Global;
 
 /// The numbers that say that a text was put into the room, that nothing is held, and that the room is too short.
@@ -31,6 +31,19 @@ pub(crate) fn asked_in(runs: &[[u8; 32]]) -> Option<AskedRuns>
     }
 }
 
+/// Returns the form with this number: text for 0, JSON for 1, and None for any other.
+pub(crate) fn form_in(number: u32) -> Option<Form>
+    ensures { result ≡ form_in number }
+{
+    if number == 0 {
+        Some(Form::Text)
+    } else if number == 1 {
+        Some(Form::Json)
+    } else {
+        None
+    }
+}
+
 /// Keeps a text, and returns whether memory was there for it. What was held before is dropped.
 fn keep_text(alloc: Global, text: Vec<u8>, answer: &mut SmAnswer) -> bool
     ensures kept { result ≡ true → Keeps answer.new.held text.items }
@@ -49,7 +62,7 @@ fn keep_text(alloc: Global, text: Vec<u8>, answer: &mut SmAnswer) -> bool
 }
 
 /// Keeps the text of an output.
-fn keep_output(alloc: Global, output: Output, answer: &mut SmAnswer) -> Made
+pub(crate) fn keep_output(alloc: Global, output: Output, answer: &mut SmAnswer) -> Made
     ensures { KeepsAnswer output.text.items output.negative answer.new.held result }
 {
     let Output { text, negative } = output;
@@ -64,7 +77,7 @@ fn keep_line(alloc: Global, fault: JobFault, answer: &mut SmAnswer) -> Made
     requires { IsOfInput fault }
     ensures { KeepsFault fault answer.new.held result }
 {
-    match fault.to_string(alloc) {
+    match job_fault_line(alloc, fault) {
         Ok(line) => {
             if keep_text(alloc, line.into_bytes(), answer) {
                 Made::Line(fault)
@@ -80,7 +93,7 @@ fn keep_line(alloc: Global, fault: JobFault, answer: &mut SmAnswer) -> Made
 }
 
 /// Keeps the line that names an input's fault; nothing for any other fault.
-fn keep_fault(alloc: Global, fault: JobFault, answer: &mut SmAnswer) -> Made
+pub(crate) fn keep_fault(alloc: Global, fault: JobFault, answer: &mut SmAnswer) -> Made
     ensures { KeepsFault fault answer.new.held result }
 {
     match fault {

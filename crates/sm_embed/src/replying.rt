@@ -4,6 +4,7 @@ ghost use Rattle.sm_embed.specs.Refuting.{HandsLine, HandsReply, HandsText, IsOf
 use crate::handing::put;
 use crate::replied::Replied;
 use gen_answer::{AnswerFault, AnswerText};
+use gen_jobs::{JobFault, job_fault_line};
 use std::alloc::Global;
 
 /// Hands over the text of an answer.
@@ -25,7 +26,7 @@ fn hand_line(alloc: Global, fault: AnswerFault, room: &mut [u8], count: &mut usi
     requires { IsOfText fault }
     ensures { HandsLine fault room.old room.new count.new result }
 {
-    match fault.to_string(alloc) {
+    match job_fault_line(alloc, JobFault::from(fault)) {
         Ok(line) => {
             if put(line.as_bytes(), room, count) {
                 Replied::Line

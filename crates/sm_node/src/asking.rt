@@ -1,6 +1,6 @@
 //! What a node tells while it stands in a run.
 ghost use Rattle.std.specs.Prelude.{◌≡◌, Some};
-ghost use Rattle.sm_node.specs.Asking.{TellsAwaited, TellsRound};
+ghost use Rattle.sm_node.specs.Asking.{TellsAwaited, TellsLacking, TellsMayEnd, TellsOver, TellsRound};
 
 use crate::held::Held;
 use crate::opaque::SmNode;
@@ -36,6 +36,48 @@ impl Held {
             Held::Empty | Held::Ended(_) => Told::Misuse,
         }
     }
+
+    /// Tells whether a frame from a general is still awaited.
+    fn tell_lacking(&self, from: GeneralNo, lacking: &mut u32) -> Told
+        ensures { TellsLacking from (Some self.now) lacking.new result }
+    {
+        *lacking = 0;
+        match self {
+            Held::Running(node) => {
+                *lacking = if node.is_awaited(from) { 1 } else { 0 };
+                Told::Done
+            }
+            Held::Empty | Held::Ended(_) => Told::Misuse,
+        }
+    }
+
+    /// Tells whether a round is open.
+    fn tell_may_end(&self, may: &mut u32) -> Told
+        ensures { TellsMayEnd (Some self.now) may.new result }
+    {
+        *may = 0;
+        match self {
+            Held::Running(node) => {
+                *may = if node.may_end() { 1 } else { 0 };
+                Told::Done
+            }
+            Held::Empty | Held::Ended(_) => Told::Misuse,
+        }
+    }
+
+    /// Tells whether the last round has ended.
+    fn tell_over(&self, over: &mut u32) -> Told
+        ensures { TellsOver (Some self.now) over.new result }
+    {
+        *over = 0;
+        match self {
+            Held::Running(node) => {
+                *over = if node.is_over() { 1 } else { 0 };
+                Told::Done
+            }
+            Held::Empty | Held::Ended(_) => Told::Misuse,
+        }
+    }
 }
 
 /// Tells the number of the round that began last.
@@ -62,6 +104,48 @@ pub(crate) fn awaited(alloc: Global, node: &mut SmNode, from: GeneralNo, awaited
         return Told::Misuse;
     };
     let told = held.tell_awaited(from, awaited);
+    node.put(alloc, held);
+    told
+}
+
+/// Tells whether a frame from a general is still awaited.
+pub(crate) fn lacking(alloc: Global, node: &mut SmNode, from: GeneralNo, whether: &mut u32) -> Told
+    ensures same { node.new.held ≡ node.old.held }
+    ensures tells { TellsLacking from node.old.held whether.new result }
+{
+    *whether = 0;
+    let Some(held) = node.take(alloc) else {
+        return Told::Misuse;
+    };
+    let told = held.tell_lacking(from, whether);
+    node.put(alloc, held);
+    told
+}
+
+/// Tells whether a round is open.
+pub(crate) fn may_end(alloc: Global, node: &mut SmNode, whether: &mut u32) -> Told
+    ensures same { node.new.held ≡ node.old.held }
+    ensures tells { TellsMayEnd node.old.held whether.new result }
+{
+    *whether = 0;
+    let Some(held) = node.take(alloc) else {
+        return Told::Misuse;
+    };
+    let told = held.tell_may_end(whether);
+    node.put(alloc, held);
+    told
+}
+
+/// Tells whether the last round has ended.
+pub(crate) fn over(alloc: Global, node: &mut SmNode, whether: &mut u32) -> Told
+    ensures same { node.new.held ≡ node.old.held }
+    ensures tells { TellsOver node.old.held whether.new result }
+{
+    *whether = 0;
+    let Some(held) = node.take(alloc) else {
+        return Told::Misuse;
+    };
+    let told = held.tell_over(whether);
     node.put(alloc, held);
     told
 }

@@ -16,7 +16,7 @@
 #![tactic(auto)]
 
 ghost use Rattle.std.specs.Prelude.{◌≡◌, ◌<◌, ◌≤◌, None};
-ghost use Rattle.sm_node.specs.Asking.{TellsAwaited, TellsRound};
+ghost use Rattle.sm_node.specs.Asking.{TellsAwaited, TellsLacking, TellsMayEnd, TellsOver, TellsRound};
 ghost use Rattle.sm_node.specs.Bundles.{HandsBundle, logs_in};
 ghost use Rattle.sm_node.specs.Driving.{Begins, Ends, Finishes, HandsLog, Hears, Sends, TellsOrder};
 ghost use Rattle.sm_node.specs.Handing.{IsUntouched};
@@ -41,7 +41,7 @@ mod plans;
 mod starting;
 mod told;
 
-use crate::asking::{awaited, round};
+use crate::asking::{awaited, lacking, may_end, over, round};
 use crate::bundles::{SmLog, hand_bundle};
 use crate::driving::{begin_round, end_round, finish, free, hear, log, order, send};
 use crate::headers::{SmNumbers, make_header};
@@ -54,7 +54,12 @@ use std::alloc::Global;
 
 /// Writes the root of the tree of keys that a seed makes, for headers of version 1 or 2. Any other version is misuse.
 #[unsafe(no_mangle)]
-pub extern "C" fn sm_root(alloc: Global, seed: &[u8; 32], version: u32, root: &mut [u8; 32]) -> u32
+pub extern "C" fn sm_node_root(
+    alloc: Global,
+    seed: &[u8; 32],
+    version: u32,
+    root: &mut [u8; 32],
+) -> u32
     ensures { IsTold (WritesRoot seed.now version root.old root.new) result }
 {
     write_root(alloc, seed, version, root).status()
@@ -63,7 +68,7 @@ pub extern "C" fn sm_root(alloc: Global, seed: &[u8; 32], version: u32, root: &m
 /// Hands out the bytes of the header of these numbers, edges and roots. The edges come in any order and direction, the
 /// roots in the order of their generals.
 #[unsafe(no_mangle)]
-pub extern "C" fn sm_header(
+pub extern "C" fn sm_node_header(
     alloc: Global,
     numbers: &SmNumbers,
     edges: &[[u8; 2]],
@@ -198,7 +203,7 @@ pub extern "C" fn sm_node_free(alloc: Global, node: &mut SmNode)
 /// in `bytes`, in ascending order of their generals. It is misuse if the set has a general above 15, or if `bytes` are
 /// not exactly these logs.
 #[unsafe(no_mangle)]
-pub extern "C" fn sm_bundle(
+pub extern "C" fn sm_node_bundle(
     alloc: Global,
     header: &[u8],
     faulty: u32,
@@ -214,10 +219,10 @@ pub extern "C" fn sm_bundle(
     hand_bundle(alloc, header, faulty, logs, bytes, room, count, fault).status()
 }
 
-/// Hands out the bytes of the bundle of a run, as `sm_bundle` does, but if two generals that aren't held for faulty have
+/// Hands out the bytes of the bundle of a run, as `sm_node_bundle` does, but if two generals that aren't held for faulty have
 /// no short walk, the bundle has no walks. The audit then finds that.
 #[unsafe(no_mangle)]
-pub extern "C" fn sm_bundle_parted(
+pub extern "C" fn sm_node_bundle_parted(
     alloc: Global,
     header: &[u8],
     faulty: u32,
@@ -244,7 +249,7 @@ pub extern "C" fn sm_node_version() -> u32
 
 /// Tells the numbers of the header that the bytes are.
 #[unsafe(no_mangle)]
-pub extern "C" fn sm_header_numbers(
+pub extern "C" fn sm_node_header_numbers(
     alloc: Global,
     header: &[u8],
     numbers: &mut SmNumbers,
@@ -257,7 +262,12 @@ pub extern "C" fn sm_header_numbers(
 
 /// Tells the number of rounds of a run of the header that the bytes are.
 #[unsafe(no_mangle)]
-pub extern "C" fn sm_rounds(alloc: Global, header: &[u8], rounds: &mut u32, fault: &mut u32) -> u32
+pub extern "C" fn sm_node_rounds(
+    alloc: Global,
+    header: &[u8],
+    rounds: &mut u32,
+    fault: &mut u32,
+) -> u32
     ensures { IsTold (TellsRounds header.now rounds.new fault.new) result }
 {
     tell_rounds(alloc, header, rounds, fault).status()
@@ -265,7 +275,7 @@ pub extern "C" fn sm_rounds(alloc: Global, header: &[u8], rounds: &mut u32, faul
 
 /// Tells the most bytes of a frame of a node that follows the algorithm, in a run of the header that the bytes are.
 #[unsafe(no_mangle)]
-pub extern "C" fn sm_frame_most(
+pub extern "C" fn sm_node_frame_most(
     alloc: Global,
     header: &[u8],
     most: &mut usize,
@@ -279,7 +289,7 @@ pub extern "C" fn sm_frame_most(
 /// Tells the set of the neighbours of a general, bit g for general g, by the header that the bytes are. It is empty for
 /// a number that is no general's of the header.
 #[unsafe(no_mangle)]
-pub extern "C" fn sm_neighbours(
+pub extern "C" fn sm_node_neighbours(
     alloc: Global,
     header: &[u8],
     general: u32,
@@ -327,4 +337,43 @@ pub extern "C" fn sm_node_awaits(
         return 2;
     }
     awaited(alloc, node, GeneralNo::at(from as u8), whether).status()
+}
+
+/// Tells whether a frame from a general is still awaited, 1 or 0: a round is open, the general is a neighbour, and no
+/// frame of it was taken in this round.
+#[unsafe(no_mangle)]
+pub extern "C" fn sm_node_lacks(
+    alloc: Global,
+    node: &mut SmNode,
+    from: u32,
+    whether: &mut u32,
+) -> u32
+    ensures same { node.new.held ≡ node.old.held }
+    ensures general { from < 16 → IsTold (TellsLacking from node.old.held whether.new) result }
+    // The number is 16 or more, so it is no general's.
+    ensures nobody { 16 ≤ from → (result ≡ 2) × (whether.new ≡ 0) }
+{
+    if from >= 16 {
+        *whether = 0;
+        return 2;
+    }
+    lacking(alloc, node, GeneralNo::at(from as u8), whether).status()
+}
+
+/// Tells whether `sm_node_end_round` may be called, 1 or 0: a round is open, or half ended.
+#[unsafe(no_mangle)]
+pub extern "C" fn sm_node_may_end(alloc: Global, node: &mut SmNode, whether: &mut u32) -> u32
+    ensures same { node.new.held ≡ node.old.held }
+    ensures tells { IsTold (TellsMayEnd node.old.held whether.new) result }
+{
+    may_end(alloc, node, whether).status()
+}
+
+/// Tells whether `sm_node_finish` may be called, 1 or 0: the last round has ended.
+#[unsafe(no_mangle)]
+pub extern "C" fn sm_node_is_over(alloc: Global, node: &mut SmNode, whether: &mut u32) -> u32
+    ensures same { node.new.held ≡ node.old.held }
+    ensures tells { IsTold (TellsOver node.old.held whether.new) result }
+{
+    over(alloc, node, whether).status()
 }

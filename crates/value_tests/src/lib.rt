@@ -1,18 +1,11 @@
-//! This crate has the tests of the crates of values and texts: `gen_types`, `gen_net`, `gen_walks`,
-//! `gen_script` and `gen_core`. Their calls on worked inputs, with each fault, are rows of the crate `rows`.
+//! This crate has the tests of the crates of values and texts, `gen_types`, `gen_net`, `gen_walks`,
+//! `gen_script` and `gen_core`, that are no rows and that no clause says: the texts of faults, copies of
+//! walks, and the laws.
 #![tactic(auto)]
 
 #[cfg(test)]
-mod algorithm;
+mod laws;
 #[cfg(test)]
-mod headers;
-#[cfg(test)]
-mod made;
-#[cfg(test)]
-mod script;
-#[cfg(test)]
-mod types;
-#[cfg(test)]
-mod unlike;
+mod texts;
 #[cfg(test)]
 mod walks;

@@ -1,21 +1,15 @@
-//! That walks are a proof and are copied, the levels of a row, and the text of a fault.
-use crate::made::net_of;
+//! That walks are a proof, and are copied.
 use gen_net::Net;
-use gen_types::{GeneralNo, GeneralSet};
+use gen_types::GeneralSet;
 use gen_walks::*;
 use std::alloc::AllocError;
 use std::test::Fail;
 
 const RING: [(u8, u8); 6] = [(0, 1), (1, 2), (2, 3), (3, 4), (4, 5), (5, 0)];
 
-/// All generals of the ring but 3.
-fn rest() -> GeneralSet {
-    GeneralSet::from_bits(0b11_0111)
-}
-
-/// Whether walks are a proof for the ring.
-fn is_proof(net: &Net, walks: &Walks) -> bool {
-    match check_walks(net, &rest(), walks) {
+/// Whether walks are a proof for a set.
+fn is_proof(net: &Net, rest: &GeneralSet, walks: &Walks) -> bool {
+    match check_walks(net, rest, walks) {
         Ok(proof) => {
             proof.bounds();
             true
@@ -34,26 +28,16 @@ fn are_copied(walks: &Walks, count: usize) -> Result<bool, AllocError> {
     Ok(is_copied && copied.generals() == last.generals() && copy.as_slice().len() == count)
 }
 
+/// All generals of the ring but 3.
 #[test]
 fn walks_are_a_proof(rt: HostRuntime) -> Result<(), Fail> {
-    let net = net_of(rt.alloc(), [6, 1, 4, 2], &RING)?;
-    let Ok(walks) = make_walks(rt.alloc(), &net, &rest()) else {
+    let rest = GeneralSet::from_bits(0b11_0111);
+    let Ok(net) = Net::new(rt.alloc(), 6, &RING, 1, 4, 2, 0) else {
+        return Err("no net".into());
+    };
+    let Ok(walks) = make_walks(rt.alloc(), &net, &rest) else {
         return Err("no walks".into());
     };
-    assert!(rt; is_proof(&net, &walks) && are_copied(&walks, 10)?);
-    Ok(())
-}
-
-#[test]
-fn levels_are_read(rt: HostRuntime) {
-    assert!(rt; LevelRow::new([7; 16]).level(GeneralNo::commander()) == 7);
-    assert!(rt; LevelRow::new([7; 16]) != LevelRow::new([UNREACHED; 16]));
-}
-
-#[test]
-fn refused_memory_is_shown(rt: HostRuntime) -> Result<(), Fail> {
-    let memory = WalkFault::Memory;
-    let shown = format!(in rt.alloc(); "{memory}")?;
-    assert!(rt; shown.as_str() == "memory");
+    assert!(rt; is_proof(&net, &rest, &walks) && are_copied(&walks, 10)?);
     Ok(())
 }

@@ -18,3 +18,8 @@ class Numbers(unittest.TestCase):
             number = int(given) if given else number + 1
             numbers[name[3:]] = number
         self.assertEqual(numbers, {it.name: it.value for it in NodeFault})
+
+    def test_texts(self):
+        text = (TOP / "embed" / "sm_node.h").read_text(encoding="ascii")
+        texts = dict(re.findall(r'case SM_(\w+): return "(.*)";', text))
+        self.assertEqual(texts, {it.name: it.text for it in NodeFault})

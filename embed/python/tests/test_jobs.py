@@ -64,6 +64,20 @@ class Jobs(unittest.TestCase):
                 text = got if isinstance(got, str) else f"evidence {'holds' if got.holds else 'fails'}\n"
                 self.assertEqual(text, told(["evidence"], given))
 
+    def test_json(self):
+        calls = {"audit": vamuretu.audit_json, "evidence": vamuretu.evidence_json, "decide": vamuretu.decide_json}
+        for path in SMALL:
+            for name, call in calls.items():
+                with self.subTest(path.name, job=name):
+                    given = path.read_bytes()
+                    self.assertEqual(ended(call, given), told([name, "--json"], given))
+        found, bundle = ((EXAMPLES / name).read_bytes() for name in ("split.evidence", "split.bundle"))
+        own, = vamuretu.run_ids(bundle)
+        self.assertEqual(vamuretu.audit_json(bundle, runs=[own]), vamuretu.audit_json(bundle))
+        self.assertEqual(vamuretu.evidence_json(found, run=own), vamuretu.evidence_json(found))
+        self.assertRaises(vamuretu.OtherRun, vamuretu.audit_json, bundle, runs=["0" * 64])
+        self.assertRaises(vamuretu.OtherRun, vamuretu.evidence_json, found, run="0" * 64)
+
     def test_series(self):
         given = (EXAMPLES / "series.bundles").read_bytes()
         self.assertEqual(str(vamuretu.audit(given)), (EXAMPLES / "series.verdict").read_text(encoding="ascii"))
@@ -87,6 +101,9 @@ class Jobs(unittest.TestCase):
         for general in (3, 15):
             self.assertIsNone(vamuretu.accuse(general, bundle))
             self.assertRaises(vamuretu.Misuse, vamuretu.accuse, general, bundle, known=True)
+            own = vamuretu.run_ids(bundle)
+            self.assertRaises(vamuretu.Misuse, vamuretu.accuse, general, bundle, known=True, runs=own)
+            self.assertRaises(vamuretu.OtherRun, vamuretu.accuse, general, bundle, known=True, runs=["0" * 64])
 
     def test_runs(self):
         bundle, series, found = ((EXAMPLES / name).read_bytes() for name in ("split.bundle", "series.bundles", "split.evidence"))
@@ -110,7 +127,9 @@ class Jobs(unittest.TestCase):
                 self.assertEqual(caught.exception.line, "fault R1")
         self.assertRaises(vamuretu.OtherRun, vamuretu.evidence, found, run=ids[0])
         self.assertRaises(vamuretu.OtherRun, vamuretu.audit, series, runs=ids[::-1])
-        for runs in ([own] * 5, ["12"], ["x" * 64], [b"12"], own, bytes.fromhex(own), "", b""):
+        self.assertRaises(vamuretu.Misuse, vamuretu.draw, bundle, runs=iter([]))
+        self.assertRaises(vamuretu.Misuse, vamuretu.accuse, 0, bundle, runs=())
+        for runs in ([], [own] * 5, ["12"], ["x" * 64], [b"12"], own, bytes.fromhex(own), "", b""):
             self.assertRaises(vamuretu.Misuse, vamuretu.audit, bundle, runs=runs)
 
     def test_texts(self):

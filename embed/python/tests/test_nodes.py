@@ -167,6 +167,29 @@ class Calls(unittest.TestCase):
         self.assertRaises(Misuse, node.round)
         self.assertRaises(Misuse, node.awaits, 1)
 
+    def test_what_is_lacking(self):
+        node, other = self.nodes
+        asked = lambda: ([it for it in range(16) if node.lacks(it)], node.may_end(), node.is_over())
+        self.assertEqual(asked(), ([], False, False))
+        for it in self.nodes:
+            it.begin_round()
+        self.assertEqual(asked(), ([1, 2, 3], True, False))
+        node.hear(1, other.send(0))
+        self.assertEqual(asked(), ([2, 3], True, False))
+        node.end_round()
+        self.assertEqual(asked(), ([], False, False))
+        node.begin_round()
+        node.end_round()
+        self.assertEqual(asked(), ([], False, True))
+        for general in (16, 1 << 32, -1):
+            self.assertRaises(Misuse, node.lacks, general)
+        node.finish()
+        for call in (lambda: node.lacks(1), node.may_end, node.is_over):
+            self.assertRaises(Misuse, call)
+
+    def test_version(self):
+        self.assertRegex(vamuretu.version(), r"\A0\.[0-9]+\.[0-9]+\Z")
+
     def test_closed(self):
         node = self.nodes[0]
         node.close()

@@ -6,8 +6,9 @@ says where they are looked for, and docs/EMBED.md of the sources what each call 
 
 from ._faults import InputFault, LibraryMissing, Misuse, NodeFault, OtherRun
 from ._headers import Header, header, read_header, root
-from ._jobs import Evidence, accuse, audit, decide, draw, evidence, explain, refute, run_ids, show, words
-from ._libraries import use_libraries
+from ._jobs import Evidence, accuse, audit, audit_json, decide, decide_json, draw, evidence, evidence_json, explain
+from ._jobs import refute, run_ids, show, words
+from ._libraries import use_libraries, version
 from ._nodes import Node, bundle
 from ._texts import (
     AcrossConviction,
@@ -43,10 +44,13 @@ __all__ = [
     "Verdict",
     "accuse",
     "audit",
+    "audit_json",
     "bundle",
     "decide",
+    "decide_json",
     "draw",
     "evidence",
+    "evidence_json",
     "explain",
     "header",
     "read_decisions",
@@ -57,5 +61,6 @@ __all__ = [
     "run_ids",
     "show",
     "use_libraries",
+    "version",
     "words",
 ]

@@ -50,12 +50,56 @@ class NodeFault(enum.IntEnum):
     LONG_LOG = 50
     """A log has 2^32 bytes or more."""
 
+    @property
+    def text(self) -> str:
+        """The fault in words, as `sm_node_fault_text` of sm_node.h."""
+        return _TEXTS[self]
+
+
+_TEXTS = {
+    NodeFault.H1: "there are not 2 to 16 generals",
+    NodeFault.H2: "an edge is none between two of the generals, comes twice, or is out of order",
+    NodeFault.H3: "m is above 8",
+    NodeFault.H4: "d is not 1 to 15",
+    NodeFault.H5: "there are more than 16 rounds",
+    NodeFault.H6: "there are not 2 to 15 orders",
+    NodeFault.H7: "the choice is not 0 or 1",
+    NodeFault.H8: "there is not one root for each general",
+    NodeFault.H9: "the bytes end before the header does",
+    NodeFault.H10: "the version is none of those that there are",
+    NodeFault.H11: "the slot is above 3",
+    NodeFault.LEFT_OVER: "bytes are left over behind the header",
+    NodeFault.NO_GENERAL: "the number is none of the header's generals, or the order does not fit the general",
+    NodeFault.OTHER_ROOT: "the header has another root for the general than that of the seed's keys",
+    NodeFault.F1: "no frame of this general is awaited",
+    NodeFault.F2: "the frame of this general was taken before",
+    NodeFault.F3: "the bytes end before the frame does",
+    NodeFault.F4: "the first four bytes are not SMF1",
+    NodeFault.F5: "bytes are left over behind the frame",
+    NodeFault.F6: "the frame is of another run",
+    NodeFault.F7: "the frame is of another round",
+    NodeFault.F8: "the frame has another sender or receiver",
+    NodeFault.U1: "two generals that are not held for faulty have no walk",
+    NodeFault.U2: "two generals that are not held for faulty have no walk of at most d edges",
+    NodeFault.B1: "the bytes end before the bundle does",
+    NodeFault.B2: "the first four bytes are neither SMB1 nor SMB2",
+    NodeFault.B3: "the header of the bundle breaks a rule",
+    NodeFault.B4: "a general is held for faulty that the header does not have",
+    NodeFault.B5: "there are more than 120 walks, or a walk has not 2 to 16 generals",
+    NodeFault.B6: "a walk is none between two generals, or stands out of order",
+    NodeFault.B7: "there are more than 64 logs, or a log is of a general that the header does not have",
+    NodeFault.B8: "bytes are left over behind the bundle",
+    NodeFault.B9: "the logs are not in the order of their generals",
+    NodeFault.LONG_LOG: "a log has 2^32 bytes or more",
+}
+
 
 class InputFault(ValueError):
     """What was handed in has a fault, and nothing was changed.
 
     `line` is what sm_tool prints of the fault, as `fault B3 H6`. A call on nodes, headers or bundles has a `number`
-    too, and the line is made of its name. That of run_ids() is none of sm_tool's: show() tells the fault.
+    too, whose `text` is the fault in words, and the line is made of its name. That of run_ids() is none of sm_tool's:
+    show() tells the fault.
     """
 
     def __init__(self, line: str, number: Optional[NodeFault] = None) -> None:

@@ -84,7 +84,7 @@ def must(status: int, call: str, told: Optional[ctypes.c_uint32] = None) -> None
 
 
 def made(name: str, words: Sequence[object], room: int) -> bytes:
-    """The bytes that a call makes which has no node, sm_header or sm_bundle."""
+    """The bytes that a call makes which has no node, sm_node_header or sm_node_bundle."""
     told = ctypes.c_uint32(0)
     function = getattr(library(NODES), name)
     call: Call = lambda *ends: int(function(*words, *ends, ctypes.byref(told)))
@@ -99,8 +99,8 @@ def root(seed: Bytes, version: int) -> bytes:
     A seed is 32 secret bytes, as of secrets.token_bytes(32).
     """
     made_root = ctypes.create_string_buffer(ROOT_BYTES)
-    function = library(NODES).sm_root
-    must(function(exactly(32, seed, "a seed"), number(version, 1 << 32, "version"), made_root), "sm_root")
+    function = library(NODES).sm_node_root
+    must(function(exactly(32, seed, "a seed"), number(version, 1 << 32, "version"), made_root), "sm_node_root")
     return made_root.raw
 
 
@@ -124,12 +124,12 @@ def header(
     ends = [number(end, 256, "an end of an edge") for a, b in edges for end in (a, b)]
     keys = [exactly(ROOT_BYTES, it, "a root") for it in roots]
     words = [ctypes.byref(Numbers(*told)), bytes(ends), len(ends) // 2, b"".join(keys), len(keys)]
-    return after_mark(made("sm_header", words, 8 + len(ends) + ROOT_BYTES * len(keys)), 0)
+    return after_mark(made("sm_node_header", words, 8 + len(ends) + ROOT_BYTES * len(keys)), 0)
 
 
 def read_header(data: Bytes) -> Header:
     """The header that bytes spell. InputFault has H1 to H7, H9 to H11, or LEFT_OVER."""
     given, told, numbers = as_bytes(data), ctypes.c_uint32(0), Numbers()
-    status = library(NODES).sm_header_numbers(given, len(given), ctypes.byref(numbers), ctypes.byref(told))
-    must(status, "sm_header_numbers", told)
+    status = library(NODES).sm_node_header_numbers(given, len(given), ctypes.byref(numbers), ctypes.byref(told))
+    must(status, "sm_node_header_numbers", told)
     return after_mark(given, 0)

@@ -12,8 +12,8 @@ from ._texts import Judgement, RunDecision, read_decisions, read_verdict
 
 YES, NO, MISUSE, FAULT, MEMORY = range(5)
 NOBODY, OTHER_RUN = 6, 7
-# Most answers fit into this room: if one does not, the library does the whole work again.
-FIRST_ROOM = 1 << 17
+# The forms of an answer.
+TEXT, JSON = 0, 1
 RUN_ID_BYTES, RUNS_MOST = 32, 4
 MARK_BYTES = 4
 # A run id in bytes, or in 64 hexadecimal digits.
@@ -53,17 +53,11 @@ def _checked(job: str, status: int, text: bytes) -> Tuple[bool, bytes]:
     return status == NO, text
 
 
-def _answer(job: str, given: Bytes, *general: int, log: Optional[Bytes] = None) -> Tuple[bool, bytes]:
-    """The answer of a job that writes into a room. One job takes a log too."""
+def _made(job: str, given: Bytes, *before: Union[bytes, int], log: Optional[Bytes] = None) -> Tuple[bool, bytes]:
+    """The answer of a job that the library keeps until it is read. One job takes a log too."""
     data, function = as_bytes(given), getattr(library(JOBS), f"sm_{job}")
-    kept = () if log is None else (as_bytes(log), len(as_bytes(log)))
-    return _checked(job, *written(lambda *ends: int(function(*general, data, len(data), *kept, *ends)), FIRST_ROOM))
-
-
-def _made(job: str, given: Bytes, *before: Union[bytes, int]) -> Tuple[bool, bytes]:
-    """The answer of a job that the library keeps until it is read."""
-    data, function = as_bytes(given), getattr(library(JOBS), f"sm_{job}")
-    return _checked(job, *held(JOBS, lambda answer: int(function(*before, data, len(data), answer))))
+    behind = () if log is None else (as_bytes(log), len(as_bytes(log)))
+    return _checked(job, *held(JOBS, lambda answer: int(function(*before, data, len(data), *behind, answer))))
 
 
 def _run_id(given: RunId) -> bytes:
@@ -74,40 +68,47 @@ def _run_id(given: RunId) -> bytes:
         raise Misuse(f"{given!r} is no run id") from None
 
 
-def _expected(runs: Iterable[RunId]) -> Tuple[bytes, int]:
-    """The run ids that are expected, one after another, and how many there are."""
-    # A text is no list of run ids: if it is empty, an input of any run would be judged.
+def _expected(runs: Optional[Iterable[RunId]]) -> Tuple[bytes, int]:
+    """The run ids that are expected, one after another, and how many there are: of None none, so any run is taken."""
+    if runs is None:
+        return b"", 0
+    # A text is no list of run ids. The library takes any run for an empty list, which a caller may have by mistake.
     if isinstance(runs, (str, bytes, bytearray, memoryview)):
         raise Misuse("runs is a list of run ids, and not one of them")
     ids = [_run_id(it) for it in runs]
-    if len(ids) > RUNS_MOST:
-        raise Misuse(f"{len(ids)} runs are expected, and not at most {RUNS_MOST}")
+    if not 1 <= len(ids) <= RUNS_MOST:
+        raise Misuse(f"{len(ids)} runs are expected, and not 1 to {RUNS_MOST}: for any run leave runs out")
     return b"".join(ids), len(ids)
 
 
-def audit(given: Bytes, *, runs: Iterable[RunId] = ()) -> Judgement:
+def audit(given: Bytes, *, runs: Optional[Iterable[RunId]] = None) -> Judgement:
     """The verdict on a bundle or a campaign. Its str() is the text that `sm_tool audit` writes.
 
     With `runs`, the input must be of these runs: of a campaign those of all its runs in their order. If it is of others,
-    OtherRun is raised. Without a run id, and with an empty list, an input of any run is judged.
+    OtherRun is raised. Without `runs` an input of any run is judged, and an empty list is Misuse.
     """
     return read_verdict(_made("audit_of", given, *_expected(runs), 0)[1].decode("ascii"))
 
 
-def draw(given: Bytes, *, runs: Iterable[RunId] = ()) -> str:
+def audit_json(given: Bytes, *, runs: Optional[Iterable[RunId]] = None) -> str:
+    """The verdict as one line with a JSON object, as `sm_tool audit --json` writes it. `runs` is as of `audit`."""
+    return _made("audit_as", given, *_expected(runs), 0, JSON)[1].decode("ascii")
+
+
+def draw(given: Bytes, *, runs: Optional[Iterable[RunId]] = None) -> str:
     """The picture of a bundle or a campaign and of the verdict on it, an SVG text. `runs` is as of `audit`."""
     return _made("draw_of", given, *_expected(runs))[1].decode("ascii")
 
 
-def accuse(general: int, given: Bytes, *, known: bool = False, runs: Iterable[RunId] = ()) -> Optional[bytes]:
+def accuse(
+    general: int, given: Bytes, *, known: bool = False, runs: Optional[Iterable[RunId]] = None
+) -> Optional[bytes]:
     """The evidence against a node (general) that a bundle or a campaign holds, or None. Misuse for one above 15.
 
     With `known`, a node that is none of the run's is Misuse too, and not None. `runs` is as of `audit`.
     """
     accused = number(general, 16, "general")
-    is_no, data = _made("accuse_of", given, *_expected(runs), accused)
-    if is_no and known:
-        _answer("accuse_known", given, accused)
+    is_no, data = _made("accuse_known_of" if known else "accuse_of", given, *_expected(runs), accused)
     return None if is_no else data
 
 
@@ -118,23 +119,36 @@ def refute(given: Bytes, log: Bytes) -> Optional[str]:
     strings of bytes with one hash. A node that followed the algorithm has one to any evidence. InputFault is of the
     evidence, or else of the log.
     """
-    is_no, text = _answer("refute", given, log=log)
+    is_no, text = _made("refute_kept", given, log=log)
     return None if is_no else text.decode("ascii")
 
 
 def evidence(given: Bytes, *, run: Optional[RunId] = None) -> Evidence:
     """What evidence says, and whether it holds. With `run`, OtherRun is raised if its header is that of another run."""
     data = as_bytes(given)
-    is_no, _ = _made("evidence_of", data, *_expected(() if run is None else (run,)))
+    is_no, _ = _made("evidence_of", data, *_expected(None if run is None else (run,)))
     of_run = after_mark(data, MARK_BYTES)
     at = MARK_BYTES + len(of_run.data)
     other = after_mark(data, at + 2) if data[at + 1] == ACROSS else None
     return Evidence(data, of_run, data[at], data[at + 1], other, not is_no)
 
 
+def evidence_json(given: Bytes, *, run: Optional[RunId] = None) -> str:
+    """What evidence says, and whether it holds, as one line with a JSON object, as `sm_tool evidence --json` writes it.
+    `run` is as of `evidence`.
+    """
+    expected = _expected(None if run is None else (run,))
+    return _made("evidence_as", given, *expected, JSON)[1].decode("ascii")
+
+
 def decide(scenario: Bytes) -> Tuple[RunDecision, ...]:
     """What each node (general) without a script decides in the run of a scenario's text, ascending."""
-    return read_decisions(_answer("decide", scenario)[1].decode("ascii"))
+    return read_decisions(_made("decide_as", scenario, TEXT)[1].decode("ascii"))
+
+
+def decide_json(scenario: Bytes) -> str:
+    """The same as one line with a JSON object, as `sm_tool decide --json` writes it."""
+    return _made("decide_as", scenario, JSON)[1].decode("ascii")
 
 
 def run_ids(given: Bytes) -> Tuple[str, ...]:

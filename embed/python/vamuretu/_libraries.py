@@ -55,6 +55,11 @@ _ENDS: Dict[str, Dict[str, List[Any]]] = {
         "sm_draw_of": _READ + _READ + _ANSWER,
         "sm_accuse_of": _READ + [c_uint32] + _READ + _ANSWER,
         "sm_evidence_of": _READ + _READ + _ANSWER,
+        "sm_accuse_known_of": _READ + [c_uint32] + _READ + _ANSWER,
+        "sm_refute_kept": _READ + _READ + _ANSWER,
+        "sm_audit_as": _READ + [c_uint32, c_uint32] + _READ + _ANSWER,
+        "sm_evidence_as": _READ + [c_uint32] + _READ + _ANSWER,
+        "sm_decide_as": [c_uint32] + _READ + _ANSWER,
         "sm_show": _READ + _ANSWER,
         "sm_explain": _READ + _ANSWER,
         "sm_words": _READ + _ANSWER,
@@ -63,8 +68,8 @@ _ENDS: Dict[str, Dict[str, List[Any]]] = {
         "sm_version": [],
     },
     NODES: {
-        "sm_root": [c_char_p, c_uint32, c_char_p],
-        "sm_header": [POINTER(Numbers)] + _READ + _READ + _WRITTEN + _FAULT,
+        "sm_node_root": [c_char_p, c_uint32, c_char_p],
+        "sm_node_header": [POINTER(Numbers)] + _READ + _READ + _WRITTEN + _FAULT,
         "sm_node_new": _NODE + _READ + [c_uint32, c_char_p, c_uint32] + _FAULT,
         "sm_node_begin_round": _NODE,
         "sm_node_send": _NODE + [c_uint32] + _WRITTEN,
@@ -74,14 +79,17 @@ _ENDS: Dict[str, Dict[str, List[Any]]] = {
         "sm_node_log": _NODE + _WRITTEN,
         "sm_node_order": _NODE + [POINTER(c_uint32)],
         "sm_node_free": _NODE,
-        "sm_bundle": _READ + [c_uint32, POINTER(LogOf), c_size_t] + _READ + _WRITTEN + _FAULT,
-        "sm_bundle_parted": _READ + [c_uint32, POINTER(LogOf), c_size_t] + _READ + _WRITTEN + _FAULT,
-        "sm_header_numbers": _READ + [POINTER(Numbers)] + _FAULT,
-        "sm_rounds": _READ + [POINTER(c_uint32)] + _FAULT,
-        "sm_neighbours": _READ + [c_uint32, POINTER(c_uint32)] + _FAULT,
-        "sm_frame_most": _READ + [POINTER(c_size_t)] + _FAULT,
+        "sm_node_bundle": _READ + [c_uint32, POINTER(LogOf), c_size_t] + _READ + _WRITTEN + _FAULT,
+        "sm_node_bundle_parted": _READ + [c_uint32, POINTER(LogOf), c_size_t] + _READ + _WRITTEN + _FAULT,
+        "sm_node_header_numbers": _READ + [POINTER(Numbers)] + _FAULT,
+        "sm_node_rounds": _READ + [POINTER(c_uint32)] + _FAULT,
+        "sm_node_neighbours": _READ + [c_uint32, POINTER(c_uint32)] + _FAULT,
+        "sm_node_frame_most": _READ + [POINTER(c_size_t)] + _FAULT,
         "sm_node_round": _NODE + [POINTER(c_uint32)],
         "sm_node_awaits": _NODE + [c_uint32, POINTER(c_uint32)],
+        "sm_node_lacks": _NODE + [c_uint32, POINTER(c_uint32)],
+        "sm_node_may_end": _NODE + [POINTER(c_uint32)],
+        "sm_node_is_over": _NODE + [POINTER(c_uint32)],
         "sm_node_version": [],
     },
 }
@@ -132,6 +140,13 @@ def library(name: str) -> ctypes.CDLL:
             if name not in _loaded:
                 _loaded[name] = _load(name)
     return _loaded[name]
+
+
+def version() -> str:
+    """The version of the libraries, as "0.2.0". Both are loaded, and each has to tell the version of this package."""
+    told = {int(library(JOBS).sm_version()), int(library(NODES).sm_node_version())}
+    (both,) = told
+    return f"{both // 1_000_000}.{both // 1_000 % 1_000}.{both % 1_000}"
 
 
 def as_bytes(given: Bytes) -> bytes:

@@ -89,14 +89,31 @@ class Node:
         must(self._call("sm_node_round", ctypes.byref(current)), "sm_node_round")
         return current.value
 
+    def _tells(self, name: str, *words: int) -> bool:
+        """Whether a call on the node tells a yes."""
+        told = ctypes.c_uint32(0)
+        must(self._call(name, *words, ctypes.byref(told)), name)
+        return told.value == 1
+
     def awaits(self, general: int) -> bool:
         """Whether a frame goes out to a node (general) now and one from it is awaited: a round is open, and it is a
         neighbour. Misuse once this node has ended.
         """
-        awaited = ctypes.c_uint32(0)
-        words = number(general, 1 << 32, "general"), ctypes.byref(awaited)
-        must(self._call("sm_node_awaits", *words), "sm_node_awaits")
-        return awaited.value == 1
+        return self._tells("sm_node_awaits", number(general, 1 << 32, "general"))
+
+    def lacks(self, general: int) -> bool:
+        """Whether a frame from a node (general) is still awaited: a round is open, it is a neighbour, and no frame of it
+        was taken in this round. Misuse once this node has ended.
+        """
+        return self._tells("sm_node_lacks", number(general, 1 << 32, "general"))
+
+    def may_end(self) -> bool:
+        """Whether end_round() may be called: a round is open, or half ended. Misuse once this node has ended."""
+        return self._tells("sm_node_may_end")
+
+    def is_over(self) -> bool:
+        """Whether finish() may be called: the last round has ended. Misuse once this node has ended."""
+        return self._tells("sm_node_is_over")
 
     def finish(self) -> None:
         """Ends the node after the last round: its log is sealed, and its keys are gone."""
@@ -166,4 +183,4 @@ def bundle(
     whole = ctypes.create_string_buffer(b"".join(log for _, log in given), max(size, 1))
     words = [header.data, len(header.data), _set_of(faulty), of, len(given), whole, size]
     room = len(header.data) + size + 8 + MOST_WALKS * WALK_BYTES + LOG_FRONT * len(given)
-    return made("sm_bundle_parted" if parted else "sm_bundle", words, room)
+    return made("sm_node_bundle_parted" if parted else "sm_node_bundle", words, room)

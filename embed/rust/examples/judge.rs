@@ -1,10 +1,11 @@
 //! What `sm_tool` writes for the bytes on standard input, with its status.
 //!
-//!     judge audit|draw|evidence|decide
+//!     judge audit|evidence|decide [--json]
+//!     judge draw
 //!     judge accuse GENERAL
 use std::io::{Error, Read, Write};
 use std::process::ExitCode;
-use vamuretu::{accuse, audit, decide, draw, evidence, Answer, Fault};
+use vamuretu::{accuse, audit, audit_json, decide, decide_json, draw, evidence, evidence_json, Answer, Fault};
 
 /// The status and the text of a job.
 fn answer(words: &[&str], input: &[u8]) -> Result<(u8, Vec<u8>), Fault> {
@@ -13,6 +14,9 @@ fn answer(words: &[&str], input: &[u8]) -> Result<(u8, Vec<u8>), Fault> {
             Answer::Yes(text) => (0, text.into_bytes()),
             Answer::No(text) => (1, text.into_bytes()),
         },
+        ["audit", "--json"] => (u8::from(audit(input)?.is_no()), audit_json(&[], input)?.into_bytes()),
+        ["evidence", "--json"] => (u8::from(!evidence(input)?), evidence_json(None, input)?.into_bytes()),
+        ["decide", "--json"] => (0, decide_json(input)?.into_bytes()),
         ["draw"] => (0, draw(input)?.into_bytes()),
         ["decide"] => (0, decide(input)?.into_bytes()),
         ["evidence"] if evidence(input)? => (0, b"evidence holds\n".to_vec()),

@@ -50,7 +50,7 @@ impl Root {
     pub fn of(seed: &Seed, version: Version) -> Result<Root, Fault> {
         let mut root = [0; 32];
         // SAFETY: both point to 32 bytes, and do not overlap.
-        let status = unsafe { raw::sm_root(seed.0.as_ptr(), version.number().into(), root.as_mut_ptr()) };
+        let status = unsafe { raw::sm_node_root(seed.0.as_ptr(), version.number().into(), root.as_mut_ptr()) };
         Fault::of_node(status, 0).map(|()| Root(root))
     }
 }
@@ -98,7 +98,7 @@ impl Header {
         // room, the count and the fault.
         let (status, bytes) = written(8 + ends.len() + keys.len(), |room, room_bytes, count| unsafe {
             let (ends_at, keys_at) = (ends.as_ptr(), keys.as_ptr());
-            raw::sm_header(&given, ends_at, edges.len(), keys_at, roots.len(), room, room_bytes, count, &mut fault)
+            raw::sm_node_header(&given, ends_at, edges.len(), keys_at, roots.len(), room, room_bytes, count, &mut fault)
         });
         Fault::of_node(status, fault).map(|()| Header(bytes))
     }
@@ -109,7 +109,7 @@ impl Header {
             SmNumbers { version: 0, slot: 0, generals: 0, traitors: 0, diameter: 0, orders: 0, choice: 0 };
         let mut fault = 0;
         // SAFETY: as in `new`.
-        let status = unsafe { raw::sm_header_numbers(bytes.as_ptr(), bytes.len(), &mut numbers, &mut fault) };
+        let status = unsafe { raw::sm_node_header_numbers(bytes.as_ptr(), bytes.len(), &mut numbers, &mut fault) };
         Fault::of_node(status, fault).map(|()| Header(bytes.to_vec()))
     }
 

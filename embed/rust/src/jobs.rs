@@ -2,11 +2,13 @@
 
 use std::mem::size_of;
 
-use crate::raw::{self, held, written, Job, SmAnswer};
+use crate::raw::{self, held, written, SmAnswer};
+use crate::texts::{read_decisions, Judgement, RunDecision};
 use crate::Fault;
 
-/// Most answers fit into this room: if one does not, the library does the whole work again.
-const FIRST_ROOM: usize = 1 << 17;
+/// The forms of an answer.
+const TEXT: u32 = 0;
+const JSON: u32 = 1;
 /// The number of the version that both archives tell, as `SM_VERSION_NUMBER` of `sm_status.h`.
 const VERSION_NUMBER: u32 = 2000;
 
@@ -49,15 +51,6 @@ fn ended((status, bytes): (u32, Vec<u8>)) -> Result<(bool, Vec<u8>), Fault> {
     }
 }
 
-/// Does a job that takes bytes alone.
-fn done(job: Job, input: &[u8]) -> Result<(bool, Vec<u8>), Fault> {
-    // SAFETY: the pointers are of pieces of memory of these lengths that do not overlap, and nobody else has the room
-    // and the count.
-    ended(written(FIRST_ROOM, |room, room_bytes, count| unsafe {
-        job(input.as_ptr(), input.len(), room, room_bytes, count)
-    }))
-}
-
 /// The id of a run.
 pub type RunId = [u8; 32];
 
@@ -84,6 +77,21 @@ pub fn audit_of(runs: &[RunId], strict: bool, input: &[u8]) -> Result<Answer, Fa
     Ok(if is_no { Answer::No(text_of(text)) } else { Answer::Yes(text_of(text)) })
 }
 
+/// The verdict on a bundle or a campaign of the runs with these ids, in its parts. `runs` is as of [`audit_of`].
+/// [`Fault::Misuse`] too if the text of the verdict does not read, which the library never writes.
+pub fn judge(runs: &[RunId], input: &[u8]) -> Result<Judgement, Fault> {
+    Judgement::read(audit_of(runs, false, input)?.text()).ok_or(Fault::Misuse)
+}
+
+/// The verdict as one line with a JSON object, as `sm_tool audit --json` writes it. `runs` is as of [`audit_of`].
+pub fn audit_json(runs: &[RunId], input: &[u8]) -> Result<String, Fault> {
+    // SAFETY: as in `audit_of`.
+    let (_, text) = kept(|answer| unsafe {
+        raw::sm_audit_as(runs.as_ptr().cast(), runs.len(), 0, JSON, input.as_ptr(), input.len(), answer)
+    })?;
+    Ok(text_of(text))
+}
+
 /// The picture of a bundle or a campaign and of the verdict on it, an SVG text.
 pub fn draw(input: &[u8]) -> Result<String, Fault> {
     draw_of(&[], input)
@@ -100,7 +108,24 @@ pub fn draw_of(runs: &[RunId], input: &[u8]) -> Result<String, Fault> {
 
 /// What the nodes (generals) decide in the run of a scenario's text, as `sm_tool decide` writes it.
 pub fn decide(scenario: &[u8]) -> Result<String, Fault> {
-    done(raw::sm_decide, scenario).map(|(_, text)| text_of(text))
+    decide_as(TEXT, scenario)
+}
+
+/// The same as one line with a JSON object, as `sm_tool decide --json` writes it.
+pub fn decide_json(scenario: &[u8]) -> Result<String, Fault> {
+    decide_as(JSON, scenario)
+}
+
+/// The same in its parts. [`Fault::Misuse`] if the text does not read, which the library never writes.
+pub fn decisions(scenario: &[u8]) -> Result<Vec<RunDecision>, Fault> {
+    read_decisions(&decide(scenario)?).ok_or(Fault::Misuse)
+}
+
+/// The decisions in a form.
+fn decide_as(form: u32, scenario: &[u8]) -> Result<String, Fault> {
+    // SAFETY: as in `audit_of`.
+    let (_, text) = kept(|answer| unsafe { raw::sm_decide_as(form, scenario.as_ptr(), scenario.len(), answer) })?;
+    Ok(text_of(text))
 }
 
 /// Whether evidence holds.
@@ -117,6 +142,17 @@ pub fn evidence_of(run: Option<&RunId>, input: &[u8]) -> Result<bool, Fault> {
         raw::sm_evidence_of(runs.as_ptr().cast(), runs.len(), input.as_ptr(), input.len(), answer)
     })?;
     Ok(!is_no)
+}
+
+/// What evidence says, and whether it holds, as one line with a JSON object, as `sm_tool evidence --json` writes it.
+/// `run` is as of [`evidence_of`].
+pub fn evidence_json(run: Option<&RunId>, input: &[u8]) -> Result<String, Fault> {
+    let runs: &[RunId] = run.map_or(&[], std::slice::from_ref);
+    // SAFETY: as in `audit_of`.
+    let (_, text) = kept(|answer| unsafe {
+        raw::sm_evidence_as(runs.as_ptr().cast(), runs.len(), JSON, input.as_ptr(), input.len(), answer)
+    })?;
+    Ok(text_of(text))
 }
 
 /// The evidence against a node (general) that a bundle or a campaign holds, if there is any. [`Fault::Misuse`] for a
@@ -137,7 +173,8 @@ pub fn accuse_of(runs: &[RunId], general: u32, input: &[u8]) -> Result<Option<Ve
 /// The ids of the runs that a file is of: one of a header, of a bundle or of evidence, and of a campaign those of its
 /// runs in their order; `None` if the input is no whole file of one of these kinds.
 pub fn run_ids(input: &[u8]) -> Result<Option<Vec<RunId>>, Fault> {
-    // SAFETY: as in `done`.
+    // SAFETY: the pointers are of pieces of memory of these lengths that do not overlap, and nobody else has the room
+    // and the count.
     let (status, ids) = written(4 * size_of::<RunId>(), |room, room_bytes, count| unsafe {
         raw::sm_run_id(input.as_ptr(), input.len(), room, room_bytes, count)
     });
@@ -173,10 +210,15 @@ pub fn words(text: &[u8]) -> Result<Vec<u8>, Fault> {
 
 /// The evidence against a node (general), as [`accuse`], but [`Fault::Misuse`] too for one that is none of the run's.
 pub fn accuse_known(general: u32, input: &[u8]) -> Result<Option<Vec<u8>>, Fault> {
-    // SAFETY: as in `done`.
-    let (is_no, bytes) = ended(written(FIRST_ROOM, |room, room_bytes, count| unsafe {
-        raw::sm_accuse_known(general, input.as_ptr(), input.len(), room, room_bytes, count)
-    }))?;
+    accuse_known_of(&[], general, input)
+}
+
+/// The evidence, as [`accuse_known`], of the runs with these ids. Faults are those of [`audit_of`] too.
+pub fn accuse_known_of(runs: &[RunId], general: u32, input: &[u8]) -> Result<Option<Vec<u8>>, Fault> {
+    // SAFETY: as in `audit_of`.
+    let (is_no, bytes) = kept(|answer| unsafe {
+        raw::sm_accuse_known_of(runs.as_ptr().cast(), runs.len(), general, input.as_ptr(), input.len(), answer)
+    })?;
     Ok((!is_no).then_some(bytes))
 }
 
@@ -184,11 +226,19 @@ pub fn accuse_known(general: u32, input: &[u8]) -> Result<Option<Vec<u8>>, Fault
 /// `forged` and the text of the evidence that the log does not have, or `collision` and two strings of bytes with one
 /// hash. A node that followed the algorithm has an answer to any evidence.
 pub fn refute(evidence: &[u8], log: &[u8]) -> Result<Option<String>, Fault> {
-    // SAFETY: as in `done`.
-    let (is_no, text) = ended(written(FIRST_ROOM, |room, room_bytes, count| unsafe {
-        raw::sm_refute(evidence.as_ptr(), evidence.len(), log.as_ptr(), log.len(), room, room_bytes, count)
-    }))?;
+    // SAFETY: as in `audit_of`.
+    let (is_no, text) = kept(|answer| unsafe {
+        raw::sm_refute_kept(evidence.as_ptr(), evidence.len(), log.as_ptr(), log.len(), answer)
+    })?;
     Ok((!is_no).then(|| text_of(text)))
+}
+
+/// The version of the archives, as `0.2.0`: that of `sm_embed`, which is that of both if
+/// [`versions_match`].
+pub fn version() -> String {
+    // SAFETY: the call takes nothing.
+    let told = unsafe { raw::sm_version() };
+    format!("{}.{}.{}", told / 1_000_000, told / 1_000 % 1_000, told % 1_000)
 }
 
 /// Whether both archives are of the version of this crate.
@@ -230,7 +280,7 @@ mod tests {
             refute(include_bytes!("../../../examples/split.evidence"), b""),
             Err(Fault::Input("fault L1".into()))
         );
-        assert!(versions_match());
+        assert_eq!((versions_match(), version()), (true, env!("CARGO_PKG_VERSION").to_owned()));
     }
 
     #[test]
@@ -251,6 +301,27 @@ mod tests {
         }
         assert_eq!(evidence_of(Some(&[0; 32]), found), Err(Fault::OtherRun));
         assert_eq!(audit_of(&[own[0]; 5], false, SPLIT), Err(Fault::Misuse));
+        assert_eq!((accuse_known_of(&own, 0, SPLIT), accuse_known_of(&own, 1, SPLIT)), (accuse(0, SPLIT), Ok(None)));
+        assert_eq!(accuse_known_of(&own, 3, SPLIT), Err(Fault::Misuse));
+        assert_eq!(accuse_known_of(&[[0; 32]], 3, SPLIT), Err(Fault::OtherRun));
+    }
+
+    #[test]
+    fn parts_and_json() {
+        for given in [SPLIT, DISPUTED, include_bytes!("../../../examples/series.bundles")] {
+            assert_eq!(judge(&[], given).expect("a verdict").to_string(), audit(given).expect("a verdict").text());
+        }
+        let late = include_bytes!("../../../examples/late.scenario");
+        let lines: Vec<String> = decisions(late).expect("a scenario").iter().map(|it| format!("{it}\n")).collect();
+        assert_eq!(lines.concat(), decide(late).expect("a scenario"));
+        let found: &[u8] = include_bytes!("../../../examples/split.evidence");
+        let own = run_ids(SPLIT).expect("memory").expect("a bundle");
+        for line in [audit_json(&own, SPLIT), evidence_json(own.first(), found), decide_json(late)] {
+            let line = line.expect("an answer");
+            assert!(line.starts_with('{') && line.ends_with("}\n") && line.matches('\n').count() == 1);
+        }
+        assert_eq!(audit_json(&[[0; 32]], SPLIT), Err(Fault::OtherRun));
+        assert_eq!(evidence_json(Some(&[0; 32]), found), Err(Fault::OtherRun));
     }
 
     #[test]

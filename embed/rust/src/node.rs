@@ -101,13 +101,40 @@ impl Node {
     }
 
     /// Whether a frame goes out to a node (general) now and one from it is awaited: a round is open, and it is a neighbour.
-    /// Whether its frame was taken in this round, [`hear`](Node::hear) has told. [`Fault::Misuse`] once this node has
+    /// Whether its frame was taken in this round, [`lacks`](Node::lacks) tells. [`Fault::Misuse`] once this node has
     /// ended, and for a general above 15.
     pub fn awaits(&mut self, general: u32) -> Result<bool, Fault> {
         let mut awaited = 0;
         // SAFETY: as in `order`.
         let status = unsafe { raw::sm_node_awaits(&mut *self.place, general, &mut awaited) };
         Fault::of_node(status, 0).map(|()| awaited == 1)
+    }
+
+    /// Whether a frame from a node (general) is still awaited: a round is open, it is a neighbour, and no frame of it was
+    /// taken in this round. [`Fault::Misuse`] as of [`awaits`](Node::awaits).
+    pub fn lacks(&mut self, general: u32) -> Result<bool, Fault> {
+        let mut lacks = 0;
+        // SAFETY: as in `order`.
+        let status = unsafe { raw::sm_node_lacks(&mut *self.place, general, &mut lacks) };
+        Fault::of_node(status, 0).map(|()| lacks == 1)
+    }
+
+    /// Whether [`end_round`](Node::end_round) may be called: a round is open, or half ended. [`Fault::Misuse`] once this
+    /// node has ended.
+    pub fn may_end(&mut self) -> Result<bool, Fault> {
+        let mut may = 0;
+        // SAFETY: as in `order`.
+        let status = unsafe { raw::sm_node_may_end(&mut *self.place, &mut may) };
+        Fault::of_node(status, 0).map(|()| may == 1)
+    }
+
+    /// Whether [`finish`](Node::finish) may be called: the last round has ended. [`Fault::Misuse`] once this node has
+    /// ended.
+    pub fn is_over(&mut self) -> Result<bool, Fault> {
+        let mut is_over = 0;
+        // SAFETY: as in `order`.
+        let status = unsafe { raw::sm_node_is_over(&mut *self.place, &mut is_over) };
+        Fault::of_node(status, 0).map(|()| is_over == 1)
     }
 
     /// Ends the node after the last round: its log is sealed, and its keys are gone.
@@ -151,13 +178,13 @@ impl Bundle {
     /// others are found. Faults are U1, U2, B4, B7, B9, or a log that is too long. [`Fault::Misuse`] for a general
     /// above 15.
     pub fn new(header: &Header, faulty: &[u32], logs: &[(u32, &[u8])]) -> Result<Bundle, Fault> {
-        Bundle::by(raw::sm_bundle, header, faulty, logs)
+        Bundle::by(raw::sm_node_bundle, header, faulty, logs)
     }
 
     /// The same bundle, but there is no U1 and no U2: it has no walks if two of the others have none of at most d edges.
     /// The audit finds that.
     pub fn parted(header: &Header, faulty: &[u32], logs: &[(u32, &[u8])]) -> Result<Bundle, Fault> {
-        Bundle::by(raw::sm_bundle_parted, header, faulty, logs)
+        Bundle::by(raw::sm_node_bundle_parted, header, faulty, logs)
     }
 
     /// The bundle that a call makes.

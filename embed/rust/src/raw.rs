@@ -38,28 +38,7 @@ pub struct SmLog {
     pub bytes: usize,
 }
 
-/// A job: input and its length, room and its length, count.
-pub type Job = unsafe extern "C" fn(*const u8, usize, *mut u8, usize, *mut usize) -> u32;
-
 extern "C" {
-    pub fn sm_decide(input: *const u8, input_bytes: usize, room: *mut u8, room_bytes: usize, count: *mut usize) -> u32;
-    pub fn sm_accuse_known(
-        general: u32,
-        input: *const u8,
-        input_bytes: usize,
-        room: *mut u8,
-        room_bytes: usize,
-        count: *mut usize,
-    ) -> u32;
-    pub fn sm_refute(
-        evidence: *const u8,
-        evidence_bytes: usize,
-        log: *const u8,
-        log_bytes: usize,
-        room: *mut u8,
-        room_bytes: usize,
-        count: *mut usize,
-    ) -> u32;
     pub fn sm_run_id(input: *const u8, input_bytes: usize, room: *mut u8, room_bytes: usize, count: *mut usize) -> u32;
     pub fn sm_audit_of(
         runs: *const u8,
@@ -91,6 +70,39 @@ extern "C" {
         input_bytes: usize,
         answer: *mut SmAnswer,
     ) -> u32;
+    pub fn sm_accuse_known_of(
+        runs: *const u8,
+        run_count: usize,
+        general: u32,
+        input: *const u8,
+        input_bytes: usize,
+        answer: *mut SmAnswer,
+    ) -> u32;
+    pub fn sm_refute_kept(
+        evidence: *const u8,
+        evidence_bytes: usize,
+        log: *const u8,
+        log_bytes: usize,
+        answer: *mut SmAnswer,
+    ) -> u32;
+    pub fn sm_audit_as(
+        runs: *const u8,
+        run_count: usize,
+        strict: u32,
+        form: u32,
+        input: *const u8,
+        input_bytes: usize,
+        answer: *mut SmAnswer,
+    ) -> u32;
+    pub fn sm_evidence_as(
+        runs: *const u8,
+        run_count: usize,
+        form: u32,
+        input: *const u8,
+        input_bytes: usize,
+        answer: *mut SmAnswer,
+    ) -> u32;
+    pub fn sm_decide_as(form: u32, input: *const u8, input_bytes: usize, answer: *mut SmAnswer) -> u32;
     pub fn sm_show(input: *const u8, input_bytes: usize, answer: *mut SmAnswer) -> u32;
     pub fn sm_explain(input: *const u8, input_bytes: usize, answer: *mut SmAnswer) -> u32;
     pub fn sm_words(input: *const u8, input_bytes: usize, answer: *mut SmAnswer) -> u32;
@@ -98,8 +110,8 @@ extern "C" {
     pub fn sm_answer_free(answer: *mut SmAnswer);
     pub fn sm_version() -> u32;
 
-    pub fn sm_root(seed: *const u8, version: u32, root: *mut u8) -> u32;
-    pub fn sm_header(
+    pub fn sm_node_root(seed: *const u8, version: u32, root: *mut u8) -> u32;
+    pub fn sm_node_header(
         numbers: *const SmNumbers,
         edges: *const u8,
         edge_count: usize,
@@ -129,9 +141,17 @@ extern "C" {
     pub fn sm_node_free(node: *mut SmNode);
     pub fn sm_node_round(node: *mut SmNode, round: *mut u32) -> u32;
     pub fn sm_node_awaits(node: *mut SmNode, general: u32, awaited: *mut u32) -> u32;
+    pub fn sm_node_lacks(node: *mut SmNode, general: u32, lacks: *mut u32) -> u32;
+    pub fn sm_node_may_end(node: *mut SmNode, may: *mut u32) -> u32;
+    pub fn sm_node_is_over(node: *mut SmNode, is_over: *mut u32) -> u32;
     pub fn sm_node_version() -> u32;
-    pub fn sm_header_numbers(header: *const u8, header_bytes: usize, numbers: *mut SmNumbers, fault: *mut u32) -> u32;
-    pub fn sm_bundle_parted(
+    pub fn sm_node_header_numbers(
+        header: *const u8,
+        header_bytes: usize,
+        numbers: *mut SmNumbers,
+        fault: *mut u32,
+    ) -> u32;
+    pub fn sm_node_bundle_parted(
         header: *const u8,
         header_bytes: usize,
         faulty: u32,
@@ -144,7 +164,7 @@ extern "C" {
         count: *mut usize,
         fault: *mut u32,
     ) -> u32;
-    pub fn sm_bundle(
+    pub fn sm_node_bundle(
         header: *const u8,
         header_bytes: usize,
         faulty: u32,

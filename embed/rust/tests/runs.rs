@@ -132,14 +132,18 @@ fn calls() {
     assert_eq!(own.finish(), Err(Fault::Misuse));
     assert_eq!(own.end_round(), Err(Fault::Misuse));
     assert_eq!(own.hear(1, &[]), Err(Fault::Node(NodeFault::F1)));
+    let asked = |node: &mut Node| (node.round(), node.lacks(1), node.may_end(), node.is_over());
+    assert_eq!(asked(&mut own), (Ok(0), Ok(false), Ok(false), Ok(false)));
     assert_eq!((own.begin_round(), other.begin_round()), (Ok(()), Ok(())));
+    assert_eq!(asked(&mut own), (Ok(1), Ok(true), Ok(true), Ok(false)));
+    assert_eq!(own.lacks(16), Err(Fault::Misuse));
     let frame = own.send(1).expect("a frame");
     assert_eq!(own.send(1), Ok(frame.clone()));
     assert_eq!(own.send(4), Err(Fault::Misuse));
     assert_eq!(other.hear(16, &frame), Err(Fault::Misuse));
     assert_eq!(other.hear(2, &frame), Err(Fault::Node(NodeFault::F8)));
     assert_eq!(other.hear(0, &frame[1..]), Err(Fault::Node(NodeFault::F4)));
-    assert_eq!(other.hear(0, &frame), Ok(()));
+    assert_eq!((other.lacks(0), other.hear(0, &frame), other.lacks(0)), (Ok(true), Ok(()), Ok(false)));
     assert_eq!(other.hear(0, &frame), Err(Fault::Node(NodeFault::F2)));
     for (faulty, logs, fault) in [
         (&[16][..], &[][..], Fault::Misuse),

@@ -1,0 +1,111 @@
+//! The line of the fault of a job.
+ghost use Rattle.std.specs.Prelude.{◌≡◌, ◌++◌, IfOk, OnOk, string_bytes};
+ghost use Rattle.gen_jobs.specs.FaultLines.{job_fault_line, line_fault_name, script_fault_name, text_fault_line};
+
+use crate::ends::JobFault;
+use gen_net::HeaderFault;
+use gen_report::{LineFault, ScenarioFault};
+use gen_script::ScriptFault;
+use gen_show::{push_campaign_fault, push_evidence_fault, push_header_fault, push_log_fault};
+use std::alloc::{AllocError, Global};
+
+/// Appends the name of the fault of a script's line.
+fn push_script_fault(out: &mut String, fault: ScriptFault) -> Result<(), AllocError>
+    ensures { OnOk result
+        (string_bytes out.new ≡ string_bytes out.old ++ script_fault_name fault) }
+{
+    match fault {
+        ScriptFault::Shape => out.push_str("S1"),
+        ScriptFault::Number => out.push_str("S2"),
+        ScriptFault::BadRound => out.push_str("S3"),
+        ScriptFault::NoNeighbour => out.push_str("S4"),
+        ScriptFault::BadOrder => out.push_str("S5"),
+        ScriptFault::BadPath => out.push_str("S6"),
+    }
+}
+
+/// Appends the name of the fault of a line of a text, and, if that is a header's fault or a script's, the name of this
+/// one behind it.
+fn push_line_fault(out: &mut String, fault: LineFault) -> Result<(), AllocError>
+    ensures { OnOk result
+        (string_bytes out.new ≡ string_bytes out.old ++ line_fault_name fault) }
+{
+    match fault {
+        LineFault::Unfinished => out.push_str("P1"),
+        LineFault::Shape => out.push_str("P2"),
+        LineFault::Number => out.push_str("P3"),
+        LineFault::Network(inner) => {
+            out.push_str("P4 ")?;
+            push_header_fault(out, inner)
+        }
+        LineFault::UnknownOrder => out.push_str("P5"),
+        LineFault::BadSeed => out.push_str("P6"),
+        LineFault::Unseeded => out.push_str("P7"),
+        LineFault::BadTraitor => out.push_str("P8"),
+        LineFault::Script(inner) => {
+            out.push_str("P9 ")?;
+            push_script_fault(out, inner)
+        }
+        LineFault::Extra => out.push_str("P10"),
+        LineFault::TooLong => out.push_str("P11"),
+        LineFault::Foreign => out.push_str("P12"),
+        LineFault::SlotRange => out.push_str("P13"),
+        LineFault::RunCount => out.push_str("P14"),
+        LineFault::Unlike => out.push_str("P15"),
+    }
+}
+
+/// Appends the line of the fault of a text.
+#[tactic(auto, unfolding(crate::specs::FaultLines::text_fault_line))]
+fn push_text_fault(out: &mut String, fault: ScenarioFault) -> Result<(), AllocError>
+    ensures { OnOk result
+        (string_bytes out.new ≡ string_bytes out.old ++ text_fault_line fault) }
+{
+    out.push_str("fault ")?;
+    push_line_fault(out, fault.kind)?;
+    let line = fault.line;
+    write!(out, " line {line}")
+}
+
+/// Appends the line of a fault.
+fn push_job_fault(out: &mut String, fault: JobFault) -> Result<(), AllocError>
+    ensures { OnOk result
+        (string_bytes out.new ≡ string_bytes out.old ++ job_fault_line fault) }
+{
+    match fault {
+        JobFault::Scenario(inner) => push_text_fault(out, inner),
+        JobFault::Campaign(inner) => {
+            out.push_str("fault ")?;
+            push_campaign_fault(out, inner)
+        }
+        JobFault::Evidence(inner) => {
+            out.push_str("fault ")?;
+            push_evidence_fault(out, inner)
+        }
+        JobFault::Log(inner) => {
+            out.push_str("fault ")?;
+            push_log_fault(out, inner)
+        }
+        JobFault::Seed(_) => out.push_str("fault G1"),
+        JobFault::OtherRun => out.push_str("fault R1"),
+        JobFault::Memory => out.push_str("memory"),
+        JobFault::Thread => out.push_str("thread"),
+        JobFault::Open => out.push_str("open failed"),
+        JobFault::Read => out.push_str("read failed"),
+        JobFault::Write => out.push_str("write failed"),
+    }
+}
+
+/// Returns the line of a fault, without a line feed. It is the text of the fault, which the program writes to standard
+/// error.
+///
+/// # Errors
+///
+/// `AllocError` where memory is refused.
+pub fn job_fault_line(alloc: Global, fault: JobFault) -> Result<String, AllocError>
+    ensures { IfOk result (λ line. string_bytes line ≡ job_fault_line fault) }
+{
+    let mut line = String::new(alloc);
+    push_job_fault(&mut line, fault)?;
+    Ok(line)
+}

@@ -1,0 +1,112 @@
+//! Two generals, a line of four, a ring of six in which one sends nothing, and the largest run, by the
+//! machine: so many acts move, and the logs are those of the run.
+use crate::scenarios::{LARGEST, are_same, logs_of_run, scenario_of};
+use gen_async::Machine;
+use gen_log::SealedLog;
+use gen_world::Scenario;
+use std::alloc::{AllocError, Global};
+use std::test::Fail;
+
+/// A machine that is closed where it is dropped.
+struct Held {
+    machine: Machine,
+}
+
+impl Drop for Held {
+    fn drop(self) {
+        let Held { machine } = self;
+        machine.close();
+    }
+}
+
+impl Held {
+    /// The logs of a machine that has ended, none where somebody can still act.
+    fn into_logs(self, alloc: Global) -> Result<Vec<SealedLog>, AllocError> {
+        let Held { machine } = self;
+        if machine.capacity() == 0 || machine.mover().is_some() {
+            machine.close();
+            return Ok(Vec::new(alloc));
+        }
+        machine.finish(alloc)
+    }
+}
+
+/// Lets whoever can act until nobody can, and at most so often, and returns how many acts moved.
+fn moves_to_the_end(alloc: Global, machine: &mut Machine, most: u32) -> Result<u32, AllocError> {
+    for moved in 0..most {
+        match machine.mover() {
+            Some(me) if me.get() < machine.generals() => machine.run_acts(alloc, &[me])?,
+            _ => return Ok(moved),
+        }
+    }
+    Ok(most)
+}
+
+/// A scenario's text, and how many acts move in its run: four for each edge and round.
+type Row<'a> = (&'a [u8], u32);
+
+/// Two generals and one round.
+const PAIR: Row<'_> = (
+    b"\
+    generals 2\nedge 0 1\ntraitors 0\ndiameter 1\norders 2\nchoice 0\norder 1\n\
+    seed 0000000000000000000000000000000000000000000000000000000000000000\nend\n",
+    4,
+);
+
+/// Four generals in a line, and three rounds.
+const LINE: Row<'_> = (
+    b"\
+    generals 4\nedge 0 1\nedge 1 2\nedge 2 3\ntraitors 0\ndiameter 3\norders 2\nchoice 0\norder 1\n\
+    seed 0000000000000000000000000000000000000000000000000000000000000000\nend\n",
+    36,
+);
+
+/// The ring with order 1 and five rounds, in which general 3 sends nothing.
+const RING: Row<'_> = (
+    b"\
+    generals 6\nedge 0 1\nedge 1 2\nedge 2 3\nedge 3 4\nedge 4 5\nedge 0 5\ntraitors 1\n\
+    diameter 4\norders 2\nchoice 0\norder 1\n\
+    seed 0000000000000000000000000000000000000000000000000000000000000000\nscript 3\nend\n",
+    120,
+);
+
+/// Whether so many acts move at this capacity, and the logs are these.
+fn is_the_same(
+    alloc: Global,
+    scenario: &Scenario,
+    capacity: usize,
+    acts: u32,
+    wanted: &[SealedLog],
+) -> Result<bool, AllocError> {
+    let machine = Machine::new(alloc, scenario, capacity)?;
+    let mut held = Held { machine };
+    let moved = moves_to_the_end(alloc, &mut held.machine, 8_000)?;
+    let logs = held.into_logs(alloc)?;
+    Ok(moved == acts && are_same(logs.as_slice(), wanted))
+}
+
+/// Whether this holds of a row at these capacities, with the logs of its run.
+fn is_the_run(alloc: Global, (text, acts): Row<'_>, capacities: &[usize]) -> Result<bool, Fail> {
+    let stage = scenario_of(alloc, text)?;
+    let scenario = &stage.scenario;
+    let logs = logs_of_run(alloc, scenario)?;
+    let mut same = true;
+    for capacity in capacities {
+        same = is_the_same(alloc, scenario, *capacity, acts, logs.as_slice())? && same;
+    }
+    Ok(same)
+}
+
+#[test]
+fn the_logs_of_the_machine_are_those_of_the_run(rt: HostRuntime) -> Result<(), Fail> {
+    assert!(rt; is_the_run(rt.alloc(), PAIR, &[1, 2, 16])?);
+    assert!(rt; is_the_run(rt.alloc(), LINE, &[1, 2, 16])?);
+    assert!(rt; is_the_run(rt.alloc(), RING, &[1, 2, 16])?);
+    Ok(())
+}
+
+#[test]
+fn the_machine_ends_the_largest_run(rt: HostRuntime) -> Result<(), Fail> {
+    assert!(rt; is_the_run(rt.alloc(), (LARGEST, 7_680), &[1])?);
+    Ok(())
+}
