@@ -323,7 +323,7 @@ TAKES = {
 }
 FLAGS = {
     "decide": ["json"], "run": ["print-run"], "judge": ["strict", "json"], "campaign": ["print-run"],
-    "audit": ["strict", "json"], "evidence": ["json"], "root": ["tall"], "header": ["print-run"],
+    "audit": ["strict", "json"], "evidence": ["json"], "show": ["json"], "root": ["tall"], "header": ["print-run"],
 }
 WANT_RUNS = ["audit", "draw", "accuse", "evidence", "show"]
 WANT_LIST = ["audit", "draw", "bundle"]

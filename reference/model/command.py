@@ -7,7 +7,7 @@ import re
 from dataclasses import dataclass, field
 from typing import Callable, Dict, List, Optional, Sequence, Tuple
 
-from . import json_text
+from . import json_text, show_json
 from .answering import answer_line
 from .audit import Judgement, judge
 from .bundle import (CAMPAIGN_MARK, Bundle, Exhibit, hold_all, read_bundle, read_campaign, run_bundle,
@@ -36,7 +36,7 @@ RANGES = {"capacity": (1, 16), "workers": (1, 16), "general": (0, 15), "slot": (
 TAKES = {
     "decide": ("json",), "run": ("print-run",), "judge": ("strict", "json"), "campaign": ("print-run",),
     "audit": ("run", "faulty", "strict", "json"), "draw": ("run", "faulty"), "accuse": ("run",),
-    "evidence": ("run", "json"), "show": ("run",), "root": ("tall",), "header": ("print-run",),
+    "evidence": ("run", "json"), "show": ("run", "json"), "root": ("tall",), "header": ("print-run",),
     "bundle": ("faulty",),
 }
 FLAGS = ("strict", "print-run", "json", "tall")
@@ -343,10 +343,12 @@ def accuse_general(given: bytes, job: Job) -> Tuple[int, bytes]:
 
 
 def show(given: bytes, job: Job) -> Tuple[int, bytes]:
-    """The command show (FORMATS.md#shown-text). What is not whole is of no run that is asked for."""
+    """The command show (FORMATS.md#shown-text, FORMATS.md#the-shown-file). What is not whole is of no run that is asked for."""
     lines, is_whole = shown_lines(given)
     if job.runs is not None:
         _check_runs(job.runs, shown_runs(given) if is_whole else [])
+    if "json" in job.flags:
+        return show_json.show(given)
     return 0 if is_whole else 1, "".join(f"{line}\n" for line in lines).encode("ascii")
 
 

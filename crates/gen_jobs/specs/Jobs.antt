@@ -5,7 +5,7 @@ use Rattle.gen_jobs.specs.Campaigning.{IsCampaignFault, IsCampaignRun}
 use Rattle.gen_jobs.specs.Decide.{IsDecidedIn, IsDecideFault}
 use Rattle.gen_jobs.specs.Preparing.{IsHeaderFault, IsHeaderOf, IsRoot, IsRootFault}
 use Rattle.gen_jobs.specs.Run.{IsRun, IsRunFault}
-use Rattle.gen_jobs.specs.Showing.{IsShownFault, IsShownOf}
+use Rattle.gen_jobs.specs.Showing.{IsShownFault, IsShownIn}
 use Rattle.gen_jobs.specs.Telling.{IsMemory, IsTold}
 use Rattle.gen_jobs.specs.declared.ends.JobFault.{JobFault}
 use Rattle.gen_jobs.specs.declared.jobs.Job.{Job}
@@ -22,7 +22,7 @@ JobAnswers (jobs.Audit w asked strict form) input text negative =
 JobAnswers (jobs.Draw w asked) input text negative = IsDrawnBy asked input text negative
 JobAnswers (jobs.Accuse g asked) input text negative = IsAccusedOf asked g input text negative
 JobAnswers (jobs.Evidence asked form) input text negative = IsCheckedIn form asked input text negative
-JobAnswers (jobs.Show asked) input text negative = IsShownOf asked input text negative
+JobAnswers (jobs.Show asked form) input text negative = IsShownIn form asked input text negative
 JobAnswers (jobs.Root height) input text negative = IsRoot height input text negative
 JobAnswers (jobs.Header version) input text negative = IsHeaderOf version input text negative
 JobAnswers (jobs.Tell what) input text negative = IsTold what input text negative
@@ -37,7 +37,7 @@ JobFails (jobs.Audit w asked strict form) input fault = IsHeldFault asked input 
 JobFails (jobs.Draw w asked) input fault = IsHeldFault asked input fault
 JobFails (jobs.Accuse g asked) input fault = IsShowFault asked input fault
 JobFails (jobs.Evidence asked form) input fault = IsEvidenceFaultOf asked input fault
-JobFails (jobs.Show asked) input fault = IsShownFault asked input fault
+JobFails (jobs.Show asked form) input fault = IsShownFault asked input fault
 JobFails (jobs.Root height) input fault = IsRootFault height input fault
 JobFails (jobs.Header version) input fault = IsHeaderFault version input fault
 JobFails (jobs.Tell what) input fault = IsMemory fault

@@ -2,17 +2,25 @@
 -- mean.
 use Rattle.std.specs.Prelude.{ℕ, ◌≡◌, Bool, true, false, not, List, [], Option, Some, None}
 use Rattle.gen_show.specs.Showing.{IsTextAs, file_kind, is_whole_as}
+use Rattle.gen_show_json.specs.ShowingLines.{IsJsonAs}
 use Rattle.gen_words.specs.Table.{words}
 use Rattle.gen_words.specs.Worded.{explained, worded}
 use Rattle.gen_jobs.specs.declared.ends.JobFault.{JobFault}
 use Rattle.gen_jobs.specs.declared.ends.JobFault.TheVariants as faults
+use Rattle.gen_jobs.specs.declared.forms.Form.{Form}
+use Rattle.gen_jobs.specs.declared.forms.Form.TheVariants.{Text, Json}
 use Rattle.gen_jobs.specs.declared.telling.Telling.{Telling}
 use Rattle.gen_jobs.specs.declared.telling.Telling.TheVariants as tellings
 
--- the text says line by line what the bytes are, and says no if they are no whole file of their kind
-abbrev pub TellsFile : List ℕ → List ℕ → Bool → Type 0
-TellsFile input text negative =
-    IsTextAs (file_kind input) input text × (negative ≡ not (is_whole_as (file_kind input) input))
+-- the text says in a form, line by line, what the bytes are
+abbrev pub SaysFile : Form → List ℕ → List ℕ → Type 0
+SaysFile Text input text = IsTextAs (file_kind input) input text
+SaysFile Json input text = IsJsonAs (file_kind input) input text
+
+-- so it does, and says no if the bytes are no whole file of their kind
+abbrev pub TellsFile : Form → List ℕ → List ℕ → Bool → Type 0
+TellsFile form input text negative =
+    SaysFile form input text × (negative ≡ not (is_whole_as (file_kind input) input))
 
 -- the text is what was found; or nothing was found, there is no text, and that says no
 abbrev pub TellsFound : Option (List ℕ) → List ℕ → Bool → Type 0
@@ -21,7 +29,7 @@ TellsFound None text negative = (text ≡ []) × (negative ≡ true)
 
 -- what is told of an input: what the file is, what the name means, or the text with what its lines mean
 abbrev pub IsTold : Telling → List ℕ → List ℕ → Bool → Type 0
-IsTold tellings.File input text negative = TellsFile input text negative
+IsTold tellings.File input text negative = TellsFile Text input text negative
 IsTold tellings.Name input text negative = TellsFound (explained words input) text negative
 IsTold tellings.Text input text negative = (text ≡ worded words input) × (negative ≡ false)
 

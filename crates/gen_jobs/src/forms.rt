@@ -5,6 +5,6 @@
 pub enum Form {
     /// Lines of text.
     Text,
-    /// One line with a JSON object.
+    /// One line with a JSON object; of what is shown a line for each object.
     Json,
 }

@@ -94,6 +94,8 @@ pub enum Job {
     Show {
         /// The runs that it must be of.
         asked: AskedRuns,
+        /// The form of the answer.
+        form: Form,
     },
     /// Reads a seed, and writes the root of its tree of keys.
     Root {
@@ -162,7 +164,7 @@ pub fn do_job<T: Threads + Wait + Sync, R: Read, W: Write>(
             )
         }
         Job::Evidence { asked, form } => evidence_engine(alloc, form, asked, reader, writer),
-        Job::Show { asked } => show_engine(alloc, asked, reader, writer),
+        Job::Show { asked, form } => show_engine(alloc, form, asked, reader, writer),
         Job::Root { height } => root_engine(alloc, height, reader, writer),
         Job::Header { version } => header_engine(alloc, version, reader, writer),
         Job::Tell { what } => tell_engine(alloc, what, reader, writer),

@@ -62,6 +62,6 @@ pub use judging::{judge, judge_as_asked, judge_engine};
 pub use naming::{name_file, name_runs};
 pub use preparing::{header, header_engine, root, root_engine};
 pub use running::{run, run_engine, run_in_pieces};
-pub use showing::{show_as_asked, show_engine};
+pub use showing::{show_as_asked, show_engine, show_in};
 pub use telling::{Telling, tell, tell_engine};
 pub use transfer::{deliver, read_all, write_output};

@@ -6,10 +6,11 @@ ghost use Rattle.gen_show.specs.Showing.{file_kind};
 ghost use Rattle.gen_show.specs.declared.kinds.FileKind.TheVariants as kinds;
 ghost use Rattle.gen_jobs.specs.Answering.{Answers};
 ghost use Rattle.gen_jobs.specs.Ends.{IsTaken, KeepsUntilWhole};
-ghost use Rattle.gen_jobs.specs.Showing.{AreAny, AreAskedOf, IsFileOf, IsShownFault, IsShownOf, runs_as};
+ghost use Rattle.gen_jobs.specs.Showing.{AreAny, AreAskedOf, IsFileOf, IsShownFault, IsShownIn, IsShownOf, runs_as};
 
 use crate::asked_runs::{AskedRuns, run_ids};
 use crate::ends::{JobEnd, JobFault, Output};
+use crate::forms::Form;
 use crate::telling::tell_file;
 use crate::transfer::{deliver, read_all};
 use gen_campaign::read_campaign;
@@ -116,8 +117,30 @@ fn is_file_of(alloc: Global, asked: AskedRuns, input: &[u8]) -> Result<bool, All
     Ok(are_asked(asked, runs))
 }
 
-/// Returns what a file is, line by line. The output says no if it is no whole bundle, campaign, evidence or header. If
-/// runs are asked for, it must be whole and of these runs.
+/// Returns in this form what a file is, line by line. The output says no if it is no whole bundle, campaign, evidence or
+/// header. If runs are asked for, it must be whole and of these runs.
+///
+/// # Errors
+///
+/// `OtherRun` if runs are asked for, and the file is not whole or of other runs; `Memory` if memory is refused.
+pub fn show_in(
+    alloc: Global,
+    form: Form,
+    asked: AskedRuns,
+    input: &[u8],
+) -> Result<Output, JobFault>
+    ensures answer { IfOk result (λ o. IsShownIn form asked input.now o.text.items o.negative) }
+    ensures fault { IfErr result (IsShownFault asked input.now) }
+{
+    if is_file_of(alloc, asked, input)? {
+        Ok(tell_file(alloc, form, input)?)
+    } else {
+        Err(JobFault::OtherRun)
+    }
+}
+
+/// Returns what a file is, as lines of text. The output says no if it is no whole bundle, campaign, evidence or header.
+/// If runs are asked for, it must be whole and of these runs.
 ///
 /// # Errors
 ///
@@ -126,27 +149,24 @@ pub fn show_as_asked(alloc: Global, asked: AskedRuns, input: &[u8]) -> Result<Ou
     ensures answer { IfOk result (λ o. IsShownOf asked input.now o.text.items o.negative) }
     ensures fault { IfErr result (IsShownFault asked input.now) }
 {
-    if is_file_of(alloc, asked, input)? {
-        Ok(tell_file(alloc, input)?)
-    } else {
-        Err(JobFault::OtherRun)
-    }
+    show_in(alloc, Form::Text, asked, input)
 }
 
-/// Reads a file to its end, and writes line by line what it is; nothing if runs are asked for, and the file is not whole
-/// or of other runs. The end is negative if the file is not whole.
+/// Reads a file to its end, and writes in this form, line by line, what it is; nothing if runs are asked for, and the
+/// file is not whole or of other runs. The end is negative if the file is not whole.
 ///
 /// Nothing is written before the output is whole. If a read, a write or memory fails, the job ends with that fault.
 #[tactic(auto, using(crate::proofs::Delivering::output_engine))]
 pub fn show_engine<R: Read, W: Write>(
     alloc: Global,
+    form: Form,
     asked: AskedRuns,
     reader: &mut R,
     writer: &mut W,
 ) -> JobEnd
     // What is written says what was read is.
     ensures answers { IfSome (R.remaining reader.old) (λ input.
-        Answers (IsShownOf asked input) (IsShownFault asked input)
+        Answers (IsShownIn form asked input) (IsShownFault asked input)
         (W.contents writer.old) (W.contents writer.new) result) }
     // What was read is within the limit.
     ensures taken { IfSome (R.remaining reader.old) (λ input. IsTaken input result) }
@@ -154,7 +174,7 @@ pub fn show_engine<R: Read, W: Write>(
     ensures late { KeepsUntilWhole (W.contents writer.old) (W.contents writer.new) result }
 {
     match read_all(alloc, reader) {
-        Ok(input) => deliver(writer, show_as_asked(alloc, asked, &input)),
+        Ok(input) => deliver(writer, show_in(alloc, form, asked, &input)),
         Err(fault) => JobEnd::Failed(fault),
     }
 }

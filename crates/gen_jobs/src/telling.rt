@@ -1,13 +1,16 @@
 //! The job that tells: what a file is, what a name means, or what the lines of a text mean.
-ghost use Rattle.std.specs.Prelude.{IfErr, IfOk, IfSome};
+ghost use Rattle.std.specs.Prelude.{◌≡◌, IfErr, IfOk, IfSome};
 ghost use Rattle.gen_jobs.specs.Answering.{Answers};
 ghost use Rattle.gen_jobs.specs.Ends.{IsTaken, KeepsUntilWhole};
-ghost use Rattle.gen_jobs.specs.Telling.{IsMemory, IsTold, TellsFile, TellsFound};
+ghost use Rattle.gen_jobs.specs.Telling.{IsMemory, IsTold, SaysFile, TellsFile, TellsFound};
+ghost use Rattle.gen_show.specs.Showing.{file_kind, is_whole_as};
 ghost use Rattle.gen_words.specs.Table.{words};
 ghost use Rattle.gen_words.specs.Worded.{explained};
 
 use crate::ends::{JobEnd, JobFault, Output};
+use crate::forms::Form;
 use crate::transfer::{deliver, read_all};
+use gen_show::Shown;
 use std::alloc::{AllocError, Global};
 use std::io::{Read, Write};
 
@@ -22,11 +25,22 @@ pub enum Telling {
     Text,
 }
 
-/// Returns what a file is, and says no if it is no whole file of its kind.
-pub(crate) fn tell_file(alloc: Global, input: &[u8]) -> Result<Output, AllocError>
-    ensures { IfOk result (λ o. TellsFile input.now o.text.items o.negative) }
+/// Returns in this form what a file is, and whether it is a whole file of its kind.
+fn shown_in(alloc: Global, form: Form, input: &[u8]) -> Result<Shown, AllocError>
+    ensures text { IfOk result (λ s. SaysFile form input.now s.text.items) }
+    ensures whole { IfOk result (λ s. s.whole ≡ is_whole_as (file_kind input.now) input.now) }
 {
-    let shown = gen_show::show(alloc, input)?;
+    match form {
+        Form::Text => gen_show::show(alloc, input),
+        Form::Json => gen_show_json::show_json(alloc, input),
+    }
+}
+
+/// Returns in this form what a file is, and says no if it is no whole file of its kind.
+pub(crate) fn tell_file(alloc: Global, form: Form, input: &[u8]) -> Result<Output, AllocError>
+    ensures { IfOk result (λ o. TellsFile form input.now o.text.items o.negative) }
+{
+    let shown = shown_in(alloc, form, input)?;
     let negative = !shown.whole;
     Ok(Output {
         text: shown.text,
@@ -61,7 +75,7 @@ pub fn tell(alloc: Global, what: Telling, input: &[u8]) -> Result<Output, JobFau
     ensures fault { IfErr result IsMemory }
 {
     match what {
-        Telling::File => Ok(tell_file(alloc, input)?),
+        Telling::File => Ok(tell_file(alloc, Form::Text, input)?),
         Telling::Name => Ok(tell_name(alloc, input)?),
         Telling::Text => Ok(Output {
             text: gen_words::with_words(alloc, input)?,

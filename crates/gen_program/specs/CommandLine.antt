@@ -105,7 +105,7 @@ abbrev pub evidence : App
 evidence = with_rule (with_rule (with_rule (new_app (codes "evidence")) asked) json) file
 
 abbrev pub show : App
-show = with_rule (with_rule (new_app (codes "show")) asked) file
+show = with_rule (with_rule (with_rule (new_app (codes "show")) asked) json) file
 
 abbrev pub root : App
 root = with_rule (with_rule (new_app (codes "root")) tall) file

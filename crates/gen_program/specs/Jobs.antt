@@ -109,7 +109,7 @@ job_preparing name choices =
 unfoldable pub job_showing : Text → Choices → Option Job
 job_showing name choices =
     if bytes_eq name (codes "evidence") then option_map (λ r. jobs.Evidence r choices.form) choices.runs
-    else if bytes_eq name (codes "show") then option_map (λ r. jobs.Show r) choices.runs
+    else if bytes_eq name (codes "show") then option_map (λ r. jobs.Show r choices.form) choices.runs
     else job_preparing name choices
 
 -- the job `accuse`, if the text is a number from 0 to 15, or one of the others

@@ -97,14 +97,19 @@ fn faulty_option<'a>(alloc: Global) -> Arg<'a>
         .action(ArgAction::Set)
 }
 
-/// Returns the flag `--json`: whether the answer is JSON.
-fn json_flag<'a>(alloc: Global) -> Arg<'a>
+/// What the help says of `--json` where the answer is one object, and where it has several.
+const ONE_OBJECT: &str = "Answers with a JSON object in one line";
+
+const OBJECT_IN_EACH_LINE: &str = "Answers with a JSON object in each line";
+
+/// Returns the flag `--json`, of which the help says this: whether the answer is JSON.
+fn json_flag<'a>(alloc: Global, help: &'a str) -> Arg<'a>
     ensures rule { rule_of result ≡ lines.json }
     ensures local { result.global ≡ false }
 {
     Arg::new(alloc, "json")
         .long("json")
-        .help("Answers with a JSON object in one line")
+        .help(help)
         .action(ArgAction::SetTrue)
 }
 
@@ -242,7 +247,7 @@ fn with_verdict<'a>(alloc: Global, command: Command<'a>) -> Result<Command<'a>, 
 {
     command
         .arg(strict_flag(alloc))?
-        .arg(json_flag(alloc))?
+        .arg(json_flag(alloc, ONE_OBJECT))?
         .arg(file_argument(alloc))
 }
 
@@ -253,7 +258,7 @@ fn decide_command<'a>(alloc: Global) -> Result<Command<'a>, AllocError>
 {
     let about = "Reads a scenario and prints what each general decides";
     plain_command(alloc, "decide", about)
-        .arg(json_flag(alloc))?
+        .arg(json_flag(alloc, ONE_OBJECT))?
         .arg(file_argument(alloc))
 }
 
@@ -333,7 +338,7 @@ fn evidence_command<'a>(alloc: Global) -> Result<Command<'a>, AllocError>
     let about = "Reads evidence and prints whether it holds";
     plain_command(alloc, "evidence", about)
         .arg(asked_option(alloc))?
-        .arg(json_flag(alloc))?
+        .arg(json_flag(alloc, ONE_OBJECT))?
         .arg(file_argument(alloc))
 }
 
@@ -346,6 +351,7 @@ fn show_command<'a>(alloc: Global) -> Result<Command<'a>, AllocError>
         "Reads a bundle, a campaign, evidence or a header, and prints what it says, a line for each fact";
     plain_command(alloc, "show", about)
         .arg(asked_option(alloc))?
+        .arg(json_flag(alloc, OBJECT_IN_EACH_LINE))?
         .arg(file_argument(alloc))
 }
 

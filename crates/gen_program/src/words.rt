@@ -299,6 +299,7 @@ fn job_showing(name: &str, choices: &Choices) -> Option<Job>
         }),
         "show" => Some(Job::Show {
             asked: choices.runs?,
+            form: choices.form,
         }),
         _ => job_preparing(name, choices),
     }

@@ -189,7 +189,9 @@ fn jobs_of_bundles(rt: HostRuntime) -> Result<(), Fail> {
     let evidence = evidence_in(&rt, rt.alloc(), &bundle)?;
     let (asked, form) = (AskedRuns::Any, Form::Text);
     assert!(rt; minds_slips(&rt, rt.alloc(), &Job::Evidence { asked, form }, &evidence));
-    assert!(rt; minds_slips(&rt, rt.alloc(), &Job::Show { asked }, &evidence));
+    assert!(rt; minds_slips(&rt, rt.alloc(), &Job::Show { asked, form }, &evidence));
+    let form = Form::Json;
+    assert!(rt; minds_slips(&rt, rt.alloc(), &Job::Show { asked, form }, &evidence));
     Ok(())
 }
 

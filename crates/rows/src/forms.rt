@@ -8,7 +8,7 @@ use gen_jobs::{
     accuse_as_asked, accuse_asked_in_place, accuse_in_place, audit, audit_as_asked,
     audit_asked_in_place, audit_in_place, campaign, decide, decide_in, deliver, do_job, draw,
     draw_as_asked, draw_asked_in_place, draw_in_place, evidence, evidence_as_asked, evidence_in,
-    header, judge, judge_as_asked, root, run, show_as_asked, tell,
+    header, judge, judge_as_asked, root, run, show_as_asked, show_in, tell,
 };
 use gen_types::GeneralNo;
 use std::alloc::Global;
@@ -124,6 +124,19 @@ fn checked(
     }
 }
 
+/// Returns what the calls of `show` over bytes give.
+fn shown(
+    alloc: Global,
+    asked: AskedRuns,
+    form: Answering,
+    input: &[u8],
+) -> Result<Output, JobFault> {
+    match form {
+        Answering::Text => show_as_asked(alloc, asked, input),
+        Answering::Json => show_in(alloc, form, asked, input),
+    }
+}
+
 /// Returns what the calls of `judge` over bytes give.
 fn judged<R: Threads + Wait + Sync>(
     rt: &R,
@@ -171,7 +184,7 @@ fn by_bytes<R: Threads + Wait + Sync>(
         Job::Draw { workers, asked } => drawn(rt, alloc, workers, &asked, input),
         Job::Accuse { general, asked } => by_three(rt, alloc, general, asked, input),
         Job::Evidence { asked, form } => checked(alloc, asked, form, input),
-        Job::Show { asked } => show_as_asked(alloc, asked, input),
+        Job::Show { asked, form } => shown(alloc, asked, form, input),
         Job::Root { height } => root(alloc, height, input),
         Job::Header { version } => header(alloc, version, input),
         Job::Tell { what } => tell(alloc, what, input),

@@ -116,8 +116,8 @@ def refute(given: Bytes, log: Bytes) -> Optional[str]:
     """The answer of an accused node (general) to evidence, by the log that the node kept, or None.
 
     The answer is a line: `forged` and the text of the evidence that the log does not have, or `collision` and two
-    strings of bytes with one hash. A node that followed the algorithm has one to any evidence. InputFault is of the
-    evidence, or else of the log.
+    strings of bytes with one hash. A node that followed the algorithm has one to evidence of a run by its log of that
+    run, and to evidence across two runs by its log of the first. InputFault is of the evidence, or else of the log.
     """
     is_no, text = _made("refute_kept", given, log=log)
     return None if is_no else text.decode("ascii")

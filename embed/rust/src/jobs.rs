@@ -224,7 +224,8 @@ pub fn accuse_known_of(runs: &[RunId], general: u32, input: &[u8]) -> Result<Opt
 
 /// The answer of an accused node (general) to evidence, by the log that the node kept, if there is one. It is a line:
 /// `forged` and the text of the evidence that the log does not have, or `collision` and two strings of bytes with one
-/// hash. A node that followed the algorithm has an answer to any evidence.
+/// hash. A node that followed the algorithm has an answer to evidence of a run by its log of that run, and to evidence
+/// across two runs by its log of the first.
 pub fn refute(evidence: &[u8], log: &[u8]) -> Result<Option<String>, Fault> {
     // SAFETY: as in `audit_of`.
     let (is_no, text) = kept(|answer| unsafe {

@@ -1,10 +1,10 @@
 use Rattle.std.proofs.Common.{◌≡◌}
 use Rattle.std.specs.Prelude.{IfSome}
-use Rattle.gen_jobs.specs.Showing.{IsShownFault, IsShownOf}
+use Rattle.gen_jobs.specs.Showing.{IsShownFault, IsShownIn}
 use Rattle.gen_jobs.proofs.Delivering.{answered}
 use Rattle.gen_jobs.proofs.showing.show_engine.Goals as goal
 
 pub returns-in-Ok-clause-answers : goal.returns-in-Ok-clause-answers
 returns-in-Ok-clause-answers g c =
     let whole : IfSome (g.R.Read.remaining c.args.reader.now) (λ input. c.deref.result.now ≡ input) = rw c.deref.ensures.value c.in-Ok.ensures.whole in
-    answered (IsShownOf c.args.asked) (IsShownFault c.args.asked) (g.R.Read.remaining c.args.reader.now) (g.W.Write.contents c.args.writer.now) (g.W.Write.contents c.deliver.new.writer) c.deref.result.now c.show_as_asked.result c.deliver.result (λ never. never) whole c.show_as_asked.ensures.answer c.show_as_asked.ensures.fault c.deliver.ensures
+    answered (IsShownIn c.args.form c.args.asked) (IsShownFault c.args.asked) (g.R.Read.remaining c.args.reader.now) (g.W.Write.contents c.args.writer.now) (g.W.Write.contents c.deliver.new.writer) c.deref.result.now c.show_in.result c.deliver.result (λ never. never) whole c.show_in.ensures.answer c.show_in.ensures.fault c.deliver.ensures
