@@ -5,7 +5,8 @@
        answers draw [--run IDS]
        answers decide [--json]
        answers accuse --general GENERAL [--run IDS]
-       answers show|explain|words|run-ids
+       answers show [--json] [--run IDS]
+       answers explain|words|run-ids
 
    IDS are one to four run ids of 64 hexadecimal digits, with commas between them. `explain` reads the name from
    standard input, and `run-ids` writes the IDS of a file. The exit status is that of sm_tool, and so is the line of
@@ -112,7 +113,10 @@ static uint32_t call(const struct job *job, struct bytes input, sm_answer *answe
     if (strcmp(job->name, "draw") == 0) return sm_draw_of(runs, count, input.at, input.length, answer);
     if (strcmp(job->name, "accuse") == 0)
         return sm_accuse_of(runs, count, job->general, input.at, input.length, answer);
-    if (strcmp(job->name, "show") == 0) return sm_show(input.at, input.length, answer);
+    if (strcmp(job->name, "show") == 0) {
+        if (count == 0 && job->form == SM_TEXT) return sm_show(input.at, input.length, answer);
+        return sm_show_as(runs, count, job->form, input.at, input.length, answer);
+    }
     if (strcmp(job->name, "explain") == 0) return sm_explain(input.at, input.length, answer);
     if (strcmp(job->name, "words") == 0) return sm_words(input.at, input.length, answer);
     return SM_MISUSE;

@@ -35,8 +35,8 @@
    their order. With no run id the input may be of any run.
 
    A function that takes `form` takes SM_TEXT for lines, or SM_JSON for one line with an object, which is what sm_tool
-   writes by --json. sm_read.h reads the lines of verdicts and of decisions into structs, so that no caller parses
-   these.
+   writes by --json. Of sm_show_as SM_JSON is a line for each object. sm_read.h reads the lines of verdicts and of
+   decisions into structs, so that no caller parses these.
 
    A pointer to bytes may be null if their number is 0. If it is null and their number is not 0, the call is SM_MISUSE.
    This is tested by C in this header, before the call of the archive: no proof is about it, and a caller that does not
@@ -72,7 +72,7 @@ typedef struct {
 /* The forms of an answer. */
 enum sm_form {
     SM_TEXT = 0, /* lines, each ended by a line feed */
-    SM_JSON = 1  /* one line with a JSON object */
+    SM_JSON = 1  /* one line with a JSON object; of sm_show_as a line for each object */
 };
 
 /* The verdict on a bundle or a campaign, as sm_tool audit. The answer is a no if and only if the verdict on the bundle,
@@ -174,6 +174,12 @@ uint32_t sm_decide_as(uint32_t form, const uint8_t *input, size_t input_bytes, s
    other file, as a log alone, the text is a fault. Returns SM_OK, SM_NO, SM_MISUSE or SM_MEMORY. */
 uint32_t sm_show(const uint8_t *input, size_t input_bytes, sm_answer *answer) SM_CALL(1, 3);
 
+/* What a file of the runs that are expected is, as sm_tool show --run, in a form: SM_JSON is a line for each object, as
+   by --json. With run ids a file that is not whole is SM_OTHER too, as nothing says of which run it is. Without them the
+   answer is that of sm_show. Returns SM_OK, SM_NO, SM_MISUSE, SM_MEMORY or SM_OTHER. */
+uint32_t sm_show_as(const uint8_t *runs, size_t run_count, uint32_t form, const uint8_t *input, size_t input_bytes,
+                    sm_answer *answer) SM_CALL(1, 4, 6);
+
 /* What a name means, as sm_tool explain: that of a fault, a finding, a kind of conviction, a verdict or a status, as
    `H3`, `N8`, `K2`, `agreed` or `status 1`, without a line feed. docs/WORDS.md has the names. The answer is a no of 0
    bytes if and only if it is no such name. Returns SM_OK, SM_NO, SM_MISUSE or SM_MEMORY. */
@@ -274,6 +280,7 @@ SM_CHECKED_RUNS_NUMBER(audit_of)
 SM_CHECKED_RUNS_NUMBER(accuse_of)
 SM_CHECKED_RUNS_NUMBER(accuse_known_of)
 SM_CHECKED_RUNS_NUMBER(evidence_as)
+SM_CHECKED_RUNS_NUMBER(show_as)
 SM_CALL(5) static inline uint32_t sm_checked_refute_kept(const uint8_t *evidence, size_t evidence_bytes,
                                                          const uint8_t *log, size_t log_bytes, sm_answer *answer) {
     uint8_t none[2] = {0, 0};
@@ -325,6 +332,7 @@ SM_CALL(4) static inline uint32_t sm_checked_answer_text(sm_answer *answer, uint
 #define sm_evidence_as sm_checked_evidence_as
 #define sm_decide_as sm_checked_decide_as
 #define sm_show sm_checked_show
+#define sm_show_as sm_checked_show_as
 #define sm_explain sm_checked_explain
 #define sm_words sm_checked_words
 #define sm_answer_text sm_checked_answer_text

@@ -9,8 +9,10 @@
    takes it away. An sm_node is never copied.
 
    In version 1, one seed makes one node ever, for one run. In version 2, one seed makes one node ever in each slot, for
-   one run. No second node may be made, not even if the first was freed, or its process ended or forked. What a node
-   signed is kept nowhere, so a second node would sign again. Two different texts under one key give away secrets of the
+   one run. A node on which sm_node_begin_round was never called has signed nothing. A second node of the seed and slot
+   may be made if and only if each node before was such a node and is gone. Otherwise no second node may be made, not
+   even if the first was freed, or its process ended or forked. What a node signed is kept nowhere, so a second node
+   would sign again. Two different texts under one key give away secrets of the
    key, and can convict the general. A node that is started anew is out of that run; in version 2 all nodes may use the
    next slot. Nodes of one seed in different slots may be there at the same time. A node that exists before a fork is
    used on one side alone, and on the other side it is freed at most.

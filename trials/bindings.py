@@ -21,7 +21,7 @@ PYTHON, RUST = os.path.join(EMBED, "python"), os.path.join(EMBED, "rust")
 ARCHIVES = {"sm_embed": JOBS, "sm_node": NODES}
 # Of cargo: nothing is fetched, and nothing is written to the sources.
 OFFLINE = ["--offline", "--locked", "--quiet"]
-WORDS = [["audit"], ["draw"], ["evidence"], ["decide"], *([it, "--json"] for it in ("audit", "evidence", "decide")), *(["accuse", str(general)] for general in (0, 1, 15))]
+WORDS = [["audit"], ["draw"], ["evidence"], ["decide"], ["show"], *([it, "--json"] for it in ("audit", "evidence", "decide", "show")), *(["accuse", str(general)] for general in (0, 1, 15))]
 
 
 def build_libraries(folder, source_of_heap):
@@ -44,6 +44,9 @@ def example_cases():
 
 def text_of(vamuretu, job, given):
     """The status and the text of an answer of the package."""
+    if job[0] == "show":
+        is_whole, lines = (vamuretu.show_json if job[1:] else vamuretu.show)(given)
+        return int(not is_whole), lines.encode()
     if job[1:] == ["--json"]:
         line = {"audit": vamuretu.audit_json, "evidence": vamuretu.evidence_json, "decide": vamuretu.decide_json}[job[0]](given)
         is_no = '"holds":false' in line or '"verdict":"no"' in line

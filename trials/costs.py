@@ -10,14 +10,18 @@ from typing import NamedTuple
 
 from layout import front_length
 from programs import count_cores, run, spell
-from scenarios import chain, scenario, sixteen
+from scenarios import chain, scenario, signed, sixteen
 
 HERE = os.path.dirname(os.path.abspath(__file__))
 WORKERS = [1, 2, 5, 16]
 CAPACITIES = 1, 16
 MIB = 1 << 20
+# Bytes of a word of the machine. What runs in threads takes is not the same each time, by some thousand bytes.
+WORD = 8
 # An input of so many logs of so many bytes, and the most that its audit may have of memory: half as much again.
 LOGS, LOG_BYTES = 64, 2 * MIB
+# Bytes that a board takes at least for the signatures that one of two bundles of two logs has more than the other.
+LEAST_AT_BOARD = 512
 
 
 class Asked(NamedTuple):
@@ -87,11 +91,12 @@ def try_trees(counter, text, campaign):
 
 
 def try_capacity(counter, text, campaign):
-    """An edge of a larger capacity takes more memory."""
-    for command, given in (("run", text), ("judge", text), ("campaign", campaign)):
+    """An edge of a larger capacity takes more memory: a word of the machine at least for each frame more that it holds."""
+    for command, given, ends in (("run", text, 16 * 15), ("judge", text, 16 * 15), ("campaign", campaign, 2 * 3)):
         small, large = (counter.asked([command, "--capacity", str(it)], given).allocated for it in CAPACITIES)
-        name = f"memory of {command} --capacity {CAPACITIES[1]}"
-        counter.tally.hold(name, None if large > small else f"{large} bytes, and {small} with --capacity {CAPACITIES[0]}")
+        least, name = WORD * ends * (CAPACITIES[1] - CAPACITIES[0]), f"memory of {command} --capacity {CAPACITIES[1]}"
+        more = large - small
+        counter.tally.hold(name, None if more >= least else f"{more} bytes more than with --capacity {CAPACITIES[0]}, not {least}")
 
 
 def try_peak(counter, bundle):
@@ -103,6 +108,20 @@ def try_peak(counter, bundle):
     for words in (["audit"], ["audit", "--workers", "16"], ["accuse", "--general", "0"]):
         peak = counter.asked(words, long_bundle).peak
         counter.tally.hold(f"memory of {spell(words)}", None if peak < most else f"{peak} KiB, at most {most}")
+
+
+def more_for_a_second(counter, bundle):
+    """How many bytes an audit by two workers takes more than one by one worker. On one core this is the same each time."""
+    alone, two = (counter.asked(["audit", "--workers", str(it)], bundle, cores=1).allocated for it in (1, 2))
+    return two - alone
+
+
+def try_board(counter, few, many):
+    """Workers leave what they verified at a board. So where there is more to verify, a second worker takes more memory, though
+    it has one log in either case. If workers share nothing, it takes as much."""
+    more = more_for_a_second(counter, many) - more_for_a_second(counter, few)
+    wanted = None if more >= LEAST_AT_BOARD else f"{more} bytes more where more is verified, not {LEAST_AT_BOARD}"
+    counter.tally.hold("memory of the board of two workers", wanted)
 
 
 def trials(program, tally):
@@ -118,3 +137,5 @@ def trials(program, tally):
         try_trees(counter, text, campaign)
         try_capacity(counter, text, campaign)
         try_peak(counter, bundle)
+        texts = signed()
+        try_board(counter, *(run(program, ["run"], texts[name]).wrote for name in ("pair", "none_left")))

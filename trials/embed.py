@@ -21,7 +21,7 @@ from campaigns import bytes_of, pair
 from devices import READ_FAILED, WRITE_FAILED, by_shell
 from draws import Draws
 from layout import Bundle
-from pinned import answer_of, pinned_cases, read, runs_of, told_cases
+from pinned import FILES, answer_of, lists_of, pinned_cases, read, runs_of, told_cases
 from programs import End, differs, run, side_by_side, spell
 from refusals import EXAMPLES, OF_MEMORY, build as build_refusing, count_up, refused
 from scenarios import signed, sixteen
@@ -199,6 +199,20 @@ def try_answers(tally, program, shared):
         tally.hold(f"answer by a log of {len(log)} bytes", None if got == wanted else f"{got}, not {wanted}")
 
 
+def shown_cases(program):
+    """Files that are shown as text and as JSON, of which runs are expected or none; and files that are not whole."""
+    for name in FILES:
+        given = read(name)
+        own = ["--run", ",".join(runs_of(program, given))]
+        for asked in ([], *(["--run", ",".join(ids)] for ids in lists_of(runs_of(program, given)))):
+            yield from ((["show", *asked, *form], given) for form in ([], ["--json"]))
+        for bent in (given[:-1], given + b"\0", b""):
+            yield from ((["show", *asked, "--json"], bent) for asked in ([], own))
+    header = header_of(read("split.bundle"))
+    own = ["--run", ",".join(runs_of(program, header))]
+    yield from ((["show", *asked, *form], header) for asked in ([], own) for form in ([], ["--json"]))
+
+
 def kept_cases(program):
     """Cases of answers that are kept: runs that are expected, what is told, and bent files of both."""
     draws, bases = Draws("kept"), Bases(program)
@@ -208,10 +222,12 @@ def kept_cases(program):
     for name in ("late.scenario", "split.scenario", "split.bundle"):
         yield from ((words, read(name)) for words in (["decide"], ["decide", "--json"]))
     yield from told_cases()
+    yield from shown_cases(program)
+    yield from (([*words, "--json"], given) for words, given in told_cases() if words == ["show"])
     for _ in range(HUNDRED):
         bundle, evidence = bend_bundle(draws, draws.one_of(bases.bundles)), bend_evidence(draws, draws.one_of(bases.evidence))
-        yield draws.one_of([["audit"], ["draw"], ["show"], ["accuse", "--general", str(draws.below(6))]]), bundle
-        yield draws.one_of([["evidence"], ["show"]]), evidence
+        yield draws.one_of([["audit"], ["draw"], ["show"], ["show", "--json"], ["accuse", "--general", str(draws.below(6))]]), bundle
+        yield draws.one_of([["evidence"], ["show"], ["show", "--json"]]), evidence
 
 
 def try_kept(program, tally, answers):
@@ -304,6 +320,7 @@ def try_forms(tally, shared):
         "audit": lambda form: kept_by(calls, calls.sm_audit_as, *none, 0, form, *given_as(split)),
         "evidence": lambda form: kept_by(calls, calls.sm_evidence_as, *none, form, *given_as(read("split.evidence"))),
         "decide": lambda form: kept_by(calls, calls.sm_decide_as, form, *given_as(read("split.scenario"))),
+        "show": lambda form: kept_by(calls, calls.sm_show_as, *none, form, *given_as(split)),
     }
     for name, call in asked.items():
         for form in (2, 256, 2**32 - 1):
@@ -409,6 +426,7 @@ def try_refusals(program, tally, folder, example, answers):
     kept += [(["accuse", "--general", "0", *asked], split), (["evidence", *asked], evidence), (["show"], evidence)]
     kept += [(["audit", "--run", "0" * 64], split), (["audit"], b""), (["explain"], b"K2"), (["words"], read("split.verdict"))]
     kept += [(["audit", "--json"], split), (["evidence", "--json"], evidence), (["decide", "--json"], signed()["split"])]
+    kept += [(["show", "--json", *asked], split), (["show", "--json"], evidence), (["show", "--run", "0" * 64], split)]
     kept += [(["run-ids"], it) for it in (split, evidence, header_of(split))]
     for program_of, job, given in [*((example, *case) for case in cases), *((answers, *case) for case in kept)]:
         whole = run(program_of, job, given)

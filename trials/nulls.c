@@ -77,6 +77,10 @@ static int answers(void) {
     WANT(sm_decide_as(SM_JSON, NULL, 1, &answer) == SM_MISUSE && answer.at == NULL);
     WANT(sm_show(NULL, 0, &answer) == SM_NO && answer.at != NULL);
     WANT(sm_show(NULL, 1, &answer) == SM_MISUSE && answer.at == NULL);
+    WANT(sm_show_as(NULL, 0, SM_JSON, NULL, 0, &answer) == SM_NO && answer.at != NULL);
+    WANT(sm_show_as(NULL, 0, 2, NULL, 0, &answer) == SM_MISUSE && answer.at == NULL);
+    WANT(sm_show_as(NULL, 1, SM_TEXT, NULL, 0, &answer) == SM_MISUSE && answer.at == NULL);
+    WANT(sm_show_as(NULL, 0, SM_TEXT, NULL, 1, &answer) == SM_MISUSE && answer.at == NULL);
     WANT(sm_explain(NULL, 0, &answer) == SM_NO && answer.at != NULL);
     WANT(sm_answer_text(&answer, NULL, 0, &count) == SM_OK && count == 0);
     WANT(sm_words(NULL, 0, &answer) == SM_OK && answer.at != NULL);

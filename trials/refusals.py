@@ -9,6 +9,7 @@ import os
 import shutil
 import subprocess
 import tempfile
+from typing import NamedTuple
 
 from layout import MARK, Bundle
 from programs import End, count_cores, run, shown, side_by_side, spell
@@ -27,6 +28,13 @@ AT_ONCE = 4
 MOST = 1_000_000
 
 
+class Refused(NamedTuple):
+    """The first call that was refused: whose it was, the program's first thread or another, and which call of that thread."""
+
+    thread: str
+    number: int
+
+
 def build(folder):
     """The library, built in a folder."""
     library = os.path.join(folder, "refuse.so")
@@ -36,7 +44,13 @@ def build(folder):
 
 
 def refused(program, library, words, given, kind, number, after, within=False):
-    """How a run ended in which a call was refused, and whether one was: within its first two lines alone, if so asked."""
+    """How a run ended in which a call was refused, and which one was, or None: within its first two lines alone, if so asked."""
+    end, told = told_by(program, library, words, given, kind, number, after, within)
+    return end, next((Refused(line[0], int(line[1])) for line in told if line[0] != "start"), None)
+
+
+def told_by(program, library, words, given, kind, number, after, within=False):
+    """How a run ended in which a call was refused, and what the library told of it: the words of each line."""
     reader, writer = os.pipe()
     told = {"REFUSE": kind, "REFUSE_AT": str(number), "REFUSE_TELL": str(writer), "LD_PRELOAD": library}
     told |= {"REFUSE_ALL": "1"} if after else {}
@@ -45,9 +59,9 @@ def refused(program, library, words, given, kind, number, after, within=False):
         end = run(program, words, given, env={**os.environ, **told}, pass_fds=[writer])
     finally:
         os.close(writer)
-        was_refused = os.read(reader, 1) == b"r"
-        os.close(reader)
-    return end, was_refused
+        with os.fdopen(reader) as lines:
+            said = [line.split() for line in lines]
+    return end, said
 
 
 def numbers(is_sampled):

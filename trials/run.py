@@ -17,9 +17,9 @@ from programs import Hangs, commands_of
 from tally import Tally
 
 SUBJECTS = ["scripts", "worked", "walk", "campaigns", "pictures", "prefixes", "vectors", "second_answers", "differs"]
-SUBJECTS += ["json_texts", "costs", "refusals", "calls", "devices", "load", "archive", "embed", "nodes", "datagrams"]
-SUBJECTS += ["shown", "power", "system", "bindings", "page", "release"]
-LIBRARIES = ["embed", "nodes", "datagrams", "shown", "power", "system", "bindings", "page", "release"]
+SUBJECTS += ["json_texts", "costs", "refusals", "slips", "calls", "devices", "load", "archive", "embed", "nodes"]
+SUBJECTS += ["node_calls", "datagrams", "shown", "power", "system", "bindings", "page", "release"]
+LIBRARIES = ["embed", "nodes", "node_calls", "datagrams", "shown", "power", "system", "bindings", "page", "release"]
 # What no subject takes, in seconds, however busy the machine is: trials that take longer hang.
 MOST_SECONDS = 1800
 GROUPS = {"libraries": LIBRARIES, "program": [subject for subject in SUBJECTS if subject not in LIBRARIES]}

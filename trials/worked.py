@@ -5,9 +5,10 @@ digests of that bundle and that verdict, and of those of the scenarios of scenar
 """
 import hashlib
 import os
+import re
 
 from layout import Bundle, Log
-from programs import End, differs, fault, run
+from programs import End, differs, fault, run, spell
 from scenarios import chain, scenario, signed, sixteen
 
 CASES = os.path.join(os.path.dirname(os.path.abspath(__file__)), "cases")
@@ -148,6 +149,22 @@ def try_bytes(program, tally):
     for name, data, wanted in ends:
         tally.hold(f"evidence, {name}", differs(run(program, ["evidence"], data), wanted))
     tally.count(len(CHANGED) + 11)
+    try_other_keys(program, tally, split)
+
+
+def try_other_keys(program, tally, split):
+    """Evidence of the same network under roots of somebody else holds, and is refused where the run is asked for."""
+    text = signed()["split"]
+    bundles = [run(program, ["run"], it).wrote for it in (text, re.sub(rb"seed \w{64}", b"seed " + b"1" * 64, text))]
+    strange = run(program, ["accuse", "--general", "0"], bundles[1]).wrote
+    own = ["--run", run(program, ["audit"], bundles[0]).wrote.split()[1].decode()]
+    holds = End(0, b"evidence holds\n", b"")
+    cases = [([], strange, holds), (own, split, holds), (own, strange, fault("fault R1"))]
+    for asked, given, wanted in cases:
+        name = f"evidence of {'other' if given == strange else 'these'} keys, {spell(asked)}"
+        tally.hold(name, differs(run(program, ["evidence", *asked], given), wanted))
+    tally.hold("show, other keys", differs(run(program, ["show", *own], strange), fault("fault R1")))
+    tally.count(len(cases) + 1)
 
 
 def try_texts(program, tally):

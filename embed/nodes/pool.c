@@ -3,7 +3,8 @@
    library is SM_MEMORY then, and may be made again.
 
    SM_POOL_BYTES is the size. sm_pool_most tells the most bytes that were taken at one time, with 16 bytes for each
-   block. So a program is run once with a large pool, and planned by what this says. */
+   block. A run of correct nodes takes less than faulty neighbours can cause. So run a program once with a large pool,
+   in which faulty neighbours send every value in every round, and plan by what this says. */
 #include <stdalign.h>
 #include <stdatomic.h>
 #include <stdbool.h>

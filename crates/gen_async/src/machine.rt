@@ -23,9 +23,16 @@ use gen_log::{Entry, SealedLog};
 use gen_scenario::Scenario;
 use gen_script::Parcel;
 use gen_types::GeneralNo;
+use gen_types::limits::MOST_GENERALS;
 use std::alloc::{AllocError, Global};
 use std::collections::VecDeque;
 use std::marker::Model;
+
+/// The number of queues of a sender, one to each general of the largest network.
+const GENERALS: usize = MOST_GENERALS as usize;
+
+/// The number of queues of all senders.
+const QUEUES: usize = GENERALS * GENERALS;
 
 /// The generals of a scenario, which put frames on queues and take them off, one act at a time, in any order.
 ///
@@ -68,15 +75,15 @@ fn spot(from: GeneralNo, to: GeneralNo) -> usize
     ensures value { result ≡ from * 16 + to }
     ensures below { result < 256 }
 {
-    index_of(from) * 16 + index_of(to)
+    index_of(from) * GENERALS + index_of(to)
 }
 
 /// Makes all 256 queues, empty.
 fn empty_queues(alloc: Global) -> Result<Vec<VecDeque<Frame>>, AllocError>
     ensures { IfOk result (λ queues. map (λ queue. queue.items) queues.items ≡ replicate 256 []) }
 {
-    let mut queues = Vec::with_capacity(alloc, 256)?;
-    'queues: for _ in 0..256usize {
+    let mut queues = Vec::with_capacity(alloc, QUEUES)?;
+    'queues: for _ in 0..QUEUES {
         queues.push(VecDeque::new(alloc))?;
     }
     Ok(queues)

@@ -11,9 +11,9 @@ use Rattle.gen_match.specs.declared.finding.Finding.{Finding}
 use Rattle.gen_match.specs.declared.finding.Finding.TheVariants.{Missing, Several, Unreadable, Foreign, Unsigned, Unsealed, Departs, Unmatched, Underivable, Unjoined, Nobody}
 use Rattle.gen_match.specs.Matching.{Logs, FindsUnmatched, FindsUnderivable, IsUnmatched, IsUnderivable}
 use Rattle.gen_match.specs.Reports.{told_logs}
-use Rattle.gen_audit.specs.Bundle.{Bundle, exhibits_of, logs_of}
+use Rattle.gen_audit.specs.Bundle.{Bundle, IsOfRest, exhibits_of, logs_of}
 use Rattle.gen_audit.specs.Collecting.{Adds, amount_found, shown_found, FindsRead, FindsBetween, FindsPair, FindsEmpty}
-use Rattle.gen_audit.specs.Findings.{IsOfRest, IsFinding}
+use Rattle.gen_audit.specs.Findings.{IsFinding}
 use Rattle.gen_audit.specs.LocalFindings.{IsLocal, IsReported}
 use Rattle.gen_audit.specs.Telling.{AreReports}
 use Rattle.gen_audit.proofs.LocalFinds.{reports_find_local, back}

@@ -39,7 +39,7 @@ to_logs : (net : Network) (faulty : List ℕ) (logs : Logs) (v : ℕ) (path : Li
 to_logs net faulty logs v path d = record {
   front = d.front;
   last = d.last;
-  forged = d.forged;
+  after = d.after;
   parts = d.parts;
   last_loyal = d.last_loyal;
   nobody_after = d.nobody_after;
@@ -82,7 +82,7 @@ module _ (net : Network) (faulty : List ℕ) (logs : Logs) where
           path = path;
           round = refl;
           received = logged_of logs b (Received a v path) h;
-          forged = λ d. none (elim d [ inl nobody ↦ inl nobody | inr r ↦ inr (from_logs r) ]);
+          not_derivable = λ d. none (elim d [ inl nobody ↦ inl nobody | inr r ↦ inr (from_logs r) ]);
         }))
       ];
     }
@@ -91,7 +91,7 @@ module _ (net : Network) (faulty : List ℕ) (logs : Logs) where
         from_logs {v} d = record {
           front = d.front;
           last = d.last;
-          forged = d.forged;
+          after = d.after;
           parts = d.parts;
           last_loyal = d.last_loyal;
           nobody_after = d.nobody_after;
@@ -134,7 +134,7 @@ module _ (net : Network) (faulty : List ℕ) (logs : Logs) where
         | inl s ↦ s.1 (filled_logged logs b (Received a v u.path) u.to_log ((fits.edges a b v u.path u.from_rest u.to_rest).0 (logged_filled logs a (Sent b v u.path) s.0)))
         | inr r ↦ r.1 (filled_logged logs a (Sent b v u.path) u.from_log ((fits.edges a b v u.path u.from_rest u.to_rest).1 (logged_filled logs b (Received a v u.path) r.0)))
       ];
-      derivable = λ a b l v u. u.forged (elim (fits.derived a b v u.path u.from_faulty u.to_rest (logged_filled logs b (Received a v u.path) u.received)) [
+      derivable = λ a b l v u. u.not_derivable (elim (fits.derived a b v u.path u.from_faulty u.to_rest (logged_filled logs b (Received a v u.path) u.received)) [
         | inl nobody ↦ inl nobody
         | inr d ↦ inr (to_logs net faulty logs v u.path d)
       ]);

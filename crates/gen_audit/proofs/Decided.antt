@@ -21,9 +21,8 @@ use Rattle.gen_scenario.specs.declared.scenario.Decision.{Decision}
 use Rattle.gen_scenario.proofs.Having.{in_filtered, in_mapped}
 use Rattle.gen_match.specs.Matching.{Logged}
 use Rattle.gen_match.specs.Reports.{entries_told, sole_told, reports_of}
-use Rattle.gen_audit.specs.Bundle.{Bundle, IsBundle, logs_of}
+use Rattle.gen_audit.specs.Bundle.{Bundle, IsBundle, IsOfRest, logs_of}
 use Rattle.gen_audit.specs.Collecting.{DecidesIn, IsOwnOf}
-use Rattle.gen_audit.specs.Findings.{IsOfRest}
 use Rattle.gen_audit.specs.Supported.{IsClean, IsSupported, HasFew, AgreeOn}
 use Rattle.gen_audit.specs.Telling.{AreReports}
 use Rattle.gen_audit.specs.Verdict.{IsDecision, AreDecisions}

@@ -9,8 +9,7 @@ use Rattle.gen_net.specs.Log.{Decided, IsEntry}
 use Rattle.gen_core.proofs.OrderedLists.{AllPairs-head, AllPairs-tail, AllPairs-cons}
 use Rattle.gen_scenario.specs.declared.scenario.Decision.{Decision}
 use Rattle.gen_match.specs.Matching.{Logged}
-use Rattle.gen_audit.specs.Bundle.{Bundle, logs_of}
-use Rattle.gen_audit.specs.Findings.{IsOfRest}
+use Rattle.gen_audit.specs.Bundle.{Bundle, IsOfRest, logs_of}
 use Rattle.gen_audit.specs.Supported.{IsClean, IsSupported}
 use Rattle.gen_audit.specs.declared.verdicts.Verdict.TheVariants.{Agreed, Explained, No}
 use Rattle.gen_audit.specs.Verdict.{IsDecision, AreDecisions, EachDecidedOnce, VerdictExists}

@@ -176,7 +176,7 @@ module _ (net : Network) (faulty : List ℕ) (logs : ℕ → List LogEntry) (v :
   derivation_of front last forged parts loyal nobody g from_rest (Sent to order source) h s = record {
     front = front;
     last = last;
-    forged = forged;
+    after = forged;
     parts = parts ∙ sym (append_assoc front (last ∷ []) forged);
     last_loyal = loyal;
     nobody_after = nobody;
@@ -204,8 +204,8 @@ module _ (net : Network) (faulty : List ℕ) (logs : ℕ → List LogEntry) (v :
         | inr d ↦ none (record {
           front = d.front;
           here = d.last;
-          behind = d.forged;
-          parts = d.parts ∙ append_assoc d.front (d.last ∷ []) d.forged;
+          behind = d.after;
+          parts = d.parts ∙ append_assoc d.front (d.last ∷ []) d.after;
           holds = (d.last_loyal, d.nobody_after, (d.from, (d.from_rest, (Sent d.to v d.source, d.sent, (refl, d.to_faulty, d.earlier, d.begun)))));
         })
       ])

@@ -27,10 +27,10 @@ pub record RunExists (net : Network) (faulty : List ℕ) (logs : ℕ → List Lo
 pub record LogDerivation (net : Network) (faulty : List ℕ) (logs : ℕ → List LogEntry) (order : ℕ) (path : List ℕ) : Type 0 where
   pub front : List ℕ
   pub last : ℕ
-  pub forged : List ℕ
-  pub parts : path ≡ (front ++ last ∷ []) ++ forged
+  pub after : List ℕ
+  pub parts : path ≡ (front ++ last ∷ []) ++ after
   pub last_loyal : IsLoyal net faulty last
-  pub nobody_after : All (λ g. IsLoyal net faulty g → ⊥) forged
+  pub nobody_after : All (λ g. IsLoyal net faulty g → ⊥) after
   pub from : ℕ
   pub to : ℕ
   pub source : List ℕ
@@ -207,7 +207,7 @@ module _ (net : Network) (faulty : List ℕ) (logs : ℕ → List LogEntry) wher
         | inr d ↦ inr (record {
           front = d.front;
           last = d.last;
-          forged = d.forged;
+          after = d.after;
           parts = d.parts;
           last_loyal = d.last_loyal;
           nobody_after = d.nobody_after;
@@ -242,7 +242,7 @@ module _ (net : Network) (faulty : List ℕ) (logs : ℕ → List LogEntry) wher
       | inr d ↦ inr (record {
         front = d.front;
         last = d.last;
-        forged = d.forged;
+        after = d.after;
         parts = d.parts;
         last_loyal = d.last_loyal;
         nobody_after = d.nobody_after;

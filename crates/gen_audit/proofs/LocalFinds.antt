@@ -21,8 +21,8 @@ use Rattle.gen_log.specs.Writing.{LogBytes}
 use Rattle.gen_scenario.proofs.Having.{in_filtered, in_mapped}
 use Rattle.gen_match.specs.declared.finding.Finding.{Finding}
 use Rattle.gen_match.specs.declared.finding.Finding.TheVariants.{Missing, Several, Unreadable, Foreign, Unsigned, Unsealed, Departs, Unmatched, Underivable, Unjoined, Nobody}
-use Rattle.gen_audit.specs.Bundle.{Bundle, exhibits_of}
-use Rattle.gen_audit.specs.Findings.{IsOfRest, FailsAt, IsFinding}
+use Rattle.gen_audit.specs.Bundle.{Bundle, IsOfRest, exhibits_of}
+use Rattle.gen_audit.specs.Findings.{FailsAt, IsFinding}
 use Rattle.gen_audit.specs.Telling.{AreReports}
 use Rattle.gen_audit.specs.LocalFindings.{unsigned_at, unless_sealed, departs_at, finds, IsLocal, IsReported, ReportsFindLocal}
 use Rattle.gen_audit.proofs.FirstUnsigned.{unsigned_fails, fails_unsigned}
@@ -63,7 +63,7 @@ module _ (h : RunHeader) (g : ℕ) where
   own_told found is f c = elim (Contains-append_cases (unsigned_at g found.unsigned) (unless_sealed g found.sealed ++ departs_at g found.departure) f c) [
     | inl u ↦
         let r = in_unsigned g found.unsigned f u in
-        let fails = unsigned_fails h 0 found.log.entries r.0 is.log_of_run.entries (sym is.unsigned ∙ r.1) in
+        let fails = unsigned_fails h 0 found.log.entries r.0 is.fits_run.entries (sym is.unsigned ∙ r.1) in
         let index : fails.0 ≡ r.0 = omega (arith, fails.1) in
         subst (IsOne h g (Ok found.log)) (sym r.2) (refl, (found.log, refl, is.says, subst (FailsAt h found.log.entries) index fails.2))
     | inr more ↦ elim (Contains-append_cases (unless_sealed g found.sealed) (departs_at g found.departure) f more) [
@@ -106,7 +106,7 @@ module _ (h : RunHeader) (g : ℕ) where
   reported read reading is (Unsigned k p) one =
       let own = own_of one.1.0 reading (subst (λ r. IsReading h g r reading) one.1.1 is) one.1.2 in
       let fails = subst (λ (l : RunLog). FailsAt h l.entries p) (sym own.2) one.1.3 in
-      let at : own.0.unsigned ≡ Some p = own.3.unsigned ∙ fails_unsigned h own.0.log.entries p own.3.log_of_run.entries fails in
+      let at : own.0.unsigned ≡ Some p = own.3.unsigned ∙ fails_unsigned h own.0.log.entries p own.3.fits_run.entries fails in
       let here : Contains (unsigned_at g own.0.unsigned) (Unsigned g p) = subst (λ o. Contains (unsigned_at g o) (Unsigned g p)) (sym at) (Contains_here (Unsigned g p) []) in
       let all = Contains-append_left (unsigned_at g own.0.unsigned) (unless_sealed g own.0.sealed ++ departs_at g own.0.departure) (Unsigned g p) here in
       subst (λ x. Contains (finds g reading) (Unsigned x p)) (sym one.0) (subst (λ r. Contains (finds g r) (Unsigned g p)) (sym own.1) all)

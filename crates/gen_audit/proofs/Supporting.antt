@@ -155,7 +155,7 @@ module _ (b : Bundle) where
             sole = s.1;
             log = r.0;
             reads = r.1;
-            verifies = record { log_of_run = is_log; says = own; entries = signed; head = head };
+            verifies = record { fits_run = is_log; says = own; entries = signed; head = head };
           };
           own = own;
           follows = follows;

@@ -12,7 +12,7 @@ use Rattle.gen_chain.specs.declared.statements.Statement.{Statement}
 use Rattle.gen_chain.specs.Chain.{Chain, signed_path}
 use Rattle.gen_chain.specs.Leaves.{leaf_of_order, leaf_of_head}
 use Rattle.gen_chain.specs.Texts.{statement_digest, head_digest}
-use Rattle.gen_chain.specs.Verifying.{HasSigned, HasSignedBehind, AreSigned, ChainVerifies}
+use Rattle.gen_chain.specs.Verifying.{HasSigned, HasSignedBehind, EachHasSigned, ChainVerifies}
 use Rattle.gen_log.specs.declared.entries.Entry.{Entry}
 use Rattle.gen_log.specs.declared.entries.Entry.TheVariants.{Start, Sign, Send, Recv, Decide}
 use Rattle.gen_log.specs.Log.{RunLog}
@@ -26,12 +26,12 @@ less a b = elim (cases_lt a b) [ inl l ↦ inl l | inr m ↦ inr (λ l. omega ar
 
 verifies : (root : List ℕ) (height : TreeHeight) (leaf : ℕ) (digest signature : List ℕ) → Dec (Verifies root height leaf digest signature)
 verifies root height leaf digest signature = elim (cases_eq (length signature) (signature_length height)) [
-  | inr other ↦ inr (λ v. other v.siblings)
+  | inr other ↦ inr (λ v. other v.one_each)
   | inl siblings ↦ elim (less leaf (leaves_of height)) [
     | inr other ↦ inr (λ v. other v.below)
     | inl below ↦ elim (same_path (implied_root height leaf digest signature) root) [
       | inr other ↦ inr (λ v. other v.leads)
-      | inl leads ↦ inl (record { siblings = siblings; below = below; leads = leads })
+      | inl leads ↦ inl (record { one_each = siblings; below = below; leads = leads })
     ]
   ]
 ]
@@ -43,7 +43,7 @@ has_signed : (h : RunHeader) (g : ℕ) (statement : Statement) (signature : List
 has_signed h g statement signature = both (g < h.network.generals) (Verifies (root_of h g) (height_of h) (leaf_of_order h statement.order) (statement_digest h statement) signature)
     (less g h.network.generals) (verifies (root_of h g) (height_of h) (leaf_of_order h statement.order) (statement_digest h statement) signature)
 
-are_signed : (h : RunHeader) (order : ℕ) (signers : List Signer) → Dec (AreSigned h order signers)
+are_signed : (h : RunHeader) (order : ℕ) (signers : List Signer) → Dec (EachHasSigned h order signers)
 are_signed h order signers = elim (some_position Unsigned (λ front s back. not_dec (HasSignedBehind h order front s) (signs front s)) signers) [
   | inl p ↦ inr (λ all. p.holds (all p.front p.behind p.here p.parts))
   | inr none ↦ inl (λ front back s parts. elim (signs front s) [
@@ -59,7 +59,7 @@ are_signed h order signers = elim (some_position Unsigned (λ front s back. not_
     signs front s = has_signed h s.general (record { order = order; path = signed_path front ++ s.general ∷ [] }) s.signature
 
 chain_verifies : (h : RunHeader) (c : Chain) → Dec (ChainVerifies h c)
-chain_verifies h c = both (c.order < h.network.orders) (AreSigned h c.order c.signers) (less c.order h.network.orders) (are_signed h c.order c.signers)
+chain_verifies h c = both (c.order < h.network.orders) (EachHasSigned h c.order c.signers) (less c.order h.network.orders) (are_signed h c.order c.signers)
 
 abbrev Last : RunHeader → ℕ → List ℕ → List ℕ → List ℕ → ℕ → List ℕ → Type 0
 Last h order path signature front last behind = (behind ≡ []) × HasSigned h last (record { order = order; path = path }) signature

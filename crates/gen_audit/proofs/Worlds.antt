@@ -92,7 +92,7 @@ module _ (s : Scenario) (walks : List (List ℕ)) (fine : IsAcceptable s walks) 
       let x : LogBytes = log_bytes g log in
       let has : Contains (worlds.logs_of s g) log = subst (λ logs. Contains logs log) (sym k.1) (Contains_here log []) in
       let verified : LogVerifies (header_of s) g log = all_verify s fine.scenario g loyal.0 log has in
-      let spelled : Spells (IsLog (header_of s)) log_spelling (log_spelling log) log = record { fits = verified.log_of_run; spelled = refl } in
+      let spelled : Spells (IsLog (header_of s)) log_spelling (log_spelling log) log = record { fits = verified.fits_run; spelled = refl } in
       record {
         exhibit = x;
         sole = his_in s g 0 s.net.generals (omega arith) (omega (arith, loyal.0)) ∙ ap (map (log_bytes g)) k.1;

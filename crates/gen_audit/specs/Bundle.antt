@@ -2,6 +2,7 @@
 use Rattle.std.specs.Prelude.{ℕ, ◌==◌, if◌then◌else◌, List, [], ◌∷◌, filter, Contains, Option, Some, None, Result, Ok, Err}
 use Rattle.gen_net.specs.Header.{RunHeader, IsHeader}
 use Rattle.gen_net.specs.Log.{LogEntry}
+use Rattle.gen_net.specs.Network.{IsLoyal}
 use Rattle.gen_log.specs.declared.fault.LogFault.{LogFault}
 use Rattle.gen_log.specs.Fields.{AreBelow}
 use Rattle.gen_log.specs.Log.{RunLog}
@@ -27,6 +28,10 @@ pub record IsBundle (b : Bundle) : Type 0 where
   pub walks : AreListedWalks b.header.network.generals b.walks
   pub exhibits : AreExhibits b.header.network.generals b.exhibits
   pub bytes : (x : LogBytes) → Contains b.exhibits x → AreBelow 256 x.bytes
+
+-- g is of the rest
+abbrev pub IsOfRest : Bundle → ℕ → Type 0
+IsOfRest b g = IsLoyal b.header.network b.faulty g
 
 -- the exhibits of a general
 abbrev pub exhibits_of : List LogBytes → ℕ → List LogBytes

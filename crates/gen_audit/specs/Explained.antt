@@ -37,7 +37,7 @@ ExplainedFindsNothing =
     (net : Network) (faulty : List ℕ) (logs : Logs) → IsExplained net faulty logs
     → NothingFound net faulty logs
 
--- such logs exist: in every run for the faulty generals, the rest keep logs that the run explains
+-- such logs exist: if there is a signed run for the faulty generals, there are logs that some run explains
 abbrev pub RunsHaveLogs : Type 0
 RunsHaveLogs =
     (net : Network) (faulty : List ℕ) (run : Run) (conducts : ℕ → Conduct)

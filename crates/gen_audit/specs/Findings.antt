@@ -2,7 +2,6 @@
 use Rattle.std.specs.Prelude.{ℕ, ◌≡◌, List, [], ◌∷◌, ◌++◌, length, Contains, Ok, Err}
 use Rattle.std.specs.List.{AllByRecursion}
 use Rattle.gen_types.specs.Ascending.{IsListOf}
-use Rattle.gen_net.specs.Network.{IsLoyal}
 use Rattle.gen_net.specs.Header.{RunHeader}
 use Rattle.gen_net.specs.Departs.{DepartsAt}
 use Rattle.gen_walks.specs.Walks.{Bridges, IsLeastBadPair}
@@ -16,11 +15,7 @@ use Rattle.gen_log.specs.Writing.{LogBytes}
 use Rattle.gen_match.specs.declared.finding.Finding.{Finding}
 use Rattle.gen_match.specs.declared.finding.Finding.TheVariants.{Missing, Several, Unreadable, Foreign, Unsigned, Unsealed, Departs, Unmatched, Underivable, Unjoined, Nobody}
 use Rattle.gen_match.specs.Matching.{IsUnmatched, IsUnderivable}
-use Rattle.gen_audit.specs.Bundle.{Bundle, exhibits_of, logs_of}
-
--- g is of the rest
-abbrev pub IsOfRest : Bundle → ℕ → Type 0
-IsOfRest b g = IsLoyal b.header.network b.faulty g
+use Rattle.gen_audit.specs.Bundle.{Bundle, IsOfRest, exhibits_of, logs_of}
 
 -- g is of the rest, and one of g's exhibits reads to this log; and such a log says that it is g's of this run
 pub record Shows (b : Bundle) (g : ℕ) (log : RunLog) : Type 0 where

@@ -5,8 +5,8 @@ use Rattle.gen_local.specs.declared.reading.Reading.TheVariants as readings
 use Rattle.gen_local.specs.Report.{LocalReport}
 use Rattle.gen_match.specs.declared.finding.Finding.{Finding}
 use Rattle.gen_match.specs.declared.finding.Finding.TheVariants.{Unreadable, Foreign, Unsigned, Unsealed, Departs}
-use Rattle.gen_audit.specs.Bundle.{Bundle}
-use Rattle.gen_audit.specs.Findings.{IsOfRest, IsFinding}
+use Rattle.gen_audit.specs.Bundle.{Bundle, IsOfRest}
+use Rattle.gen_audit.specs.Findings.{IsFinding}
 use Rattle.gen_audit.specs.Telling.{AreReports}
 
 -- ---- what the reading of a general's exhibit finds, in the order of findings

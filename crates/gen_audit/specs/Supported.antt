@@ -13,9 +13,9 @@ use Rattle.gen_log.specs.Verifying.{LogVerifies}
 use Rattle.gen_log.specs.Writing.{LogBytes}
 use Rattle.gen_match.specs.declared.finding.Finding.{Finding}
 use Rattle.gen_audit.specs.Agreement.{AgreesOn}
-use Rattle.gen_audit.specs.Bundle.{Bundle, IsBundle, exhibits_of, logs_of}
+use Rattle.gen_audit.specs.Bundle.{Bundle, IsBundle, IsOfRest, exhibits_of, logs_of}
 use Rattle.gen_audit.specs.Explained.{IsExplained}
-use Rattle.gen_audit.specs.Findings.{IsOfRest, IsFinding}
+use Rattle.gen_audit.specs.Findings.{IsFinding}
 
 -- a general has one exhibit, its bytes read as a log, and the log verifies
 pub record HasSoleLog (b : Bundle) (g : ℕ) : Type 0 where

@@ -7,8 +7,8 @@ use Rattle.gen_match.specs.Findings.{AreFindings}
 use Rattle.gen_match.specs.Matching.{Logged}
 use Rattle.gen_audit.specs.declared.verdicts.Verdict.{Verdict}
 use Rattle.gen_audit.specs.declared.verdicts.Verdict.TheVariants.{Agreed, Explained, No}
-use Rattle.gen_audit.specs.Bundle.{Bundle, IsBundle, logs_of}
-use Rattle.gen_audit.specs.Findings.{IsOfRest, IsFinding}
+use Rattle.gen_audit.specs.Bundle.{Bundle, IsBundle, IsOfRest, logs_of}
+use Rattle.gen_audit.specs.Findings.{IsFinding}
 use Rattle.gen_audit.specs.Supported.{IsClean, IsSupported, HasFew, AgreeOn}
 
 -- this is what a general of the rest decided, as the DECIDE of its log says

@@ -3,10 +3,9 @@ ghost use Rattle.std.specs.Prelude.{◌≡◌, IfErr, IfOk, IfSome, IfNone, map}
 ghost use Rattle.gen_types.specs.Ascending.{IsListOf};
 ghost use Rattle.gen_convict.specs.Convictions.{AreConvictions, AreEvidence, ConvictsWhereHeld};
 ghost use Rattle.gen_convict.specs.Evidence.{told_of};
-ghost use Rattle.gen_audit.specs.Bundle.{IsBundle};
+ghost use Rattle.gen_audit.specs.Bundle.{IsBundle, IsOfRest};
 ghost use Rattle.gen_audit.specs.Collecting.{DecidesIn, IsOwnOf};
 ghost use Rattle.gen_audit.specs.Faults.{IsFaultBy};
-ghost use Rattle.gen_audit.specs.Findings.{IsOfRest};
 ghost use Rattle.gen_audit.specs.Headline.{Headline};
 ghost use Rattle.gen_audit.specs.Supported.{AgreeOn, HasFew, IsClean};
 ghost use Rattle.gen_audit.specs.Telling.{AreReports};

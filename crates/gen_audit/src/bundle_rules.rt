@@ -9,17 +9,18 @@ ghost use Rattle.gen_audit.specs.BundleParts as parts;
 
 use crate::bundle_fault::BundleFault;
 use gen_local::Exhibit;
+use gen_types::limits::{MOST_EDGES, MOST_GENERALS};
 use gen_types::{GeneralNo, GeneralSet};
 use gen_walks::Walk;
 
-/// The most walks of a bundle.
-pub const MOST_WALKS: usize = 120;
+/// The most walks of a bundle: one for each pair of generals.
+pub const MOST_WALKS: usize = MOST_EDGES;
 
 /// The fewest generals of a walk.
 const FEWEST_IN_WALK: usize = 2;
 
-/// The most generals of a walk.
-const MOST_IN_WALK: usize = 16;
+/// The most generals of a walk: each once.
+const MOST_IN_WALK: usize = MOST_GENERALS as usize;
 
 /// The most exhibits of a bundle.
 pub const MOST_EXHIBITS: usize = 64;

@@ -2,10 +2,11 @@
 ghost use Rattle.std.specs.Prelude.{◌≡◌};
 ghost use Rattle.gen_audit.specs.Counts.{count_of, IsCount};
 
+use gen_types::limits::MOST_GENERALS;
 use std::marker::Model;
 
-/// The greatest number of workers.
-const MOST_WORKERS: usize = 16;
+/// The greatest number of workers: one for each general.
+const MOST_WORKERS: usize = MOST_GENERALS as usize;
 
 /// A number of workers, 1 to 16. A contract sees the number.
 #[derive(Clone, Copy, Debug, PartialEq, Eq)]

@@ -5,9 +5,9 @@ ghost use Rattle.gen_types.specs.Ascending.{IsListOf};
 ghost use Rattle.gen_match.specs.declared.finding.Finding.{Finding};
 ghost use Rattle.gen_match.specs.Findings.{AreFindings};
 ghost use Rattle.gen_match.specs.Reports.{AreUnder, told_logs};
-ghost use Rattle.gen_audit.specs.Bundle.{exhibits_of};
+ghost use Rattle.gen_audit.specs.Bundle.{IsOfRest, exhibits_of};
 ghost use Rattle.gen_audit.specs.Collecting.{Adds, amount_found, shown_found, FindsIn, FindsRead, FindsBetween, FindsPair, FindsEmpty};
-ghost use Rattle.gen_audit.specs.Findings.{IsOfRest, IsFinding};
+ghost use Rattle.gen_audit.specs.Findings.{IsFinding};
 ghost use Rattle.gen_audit.specs.LocalFindings.{finds, unsigned_at, unless_sealed, departs_at};
 ghost use Rattle.gen_audit.specs.Telling.{AreReports};
 

@@ -29,7 +29,7 @@ pub fn few_faulty_agree()
     ensures { FewFaultyAgree }
 {}
 
-/// States that in every run for the faulty generals the rest keep logs, which that run explains.
+/// States that where a signed run for the faulty generals exists, logs exist that some run explains.
 pub fn runs_have_logs()
     ensures { RunsHaveLogs }
 {}

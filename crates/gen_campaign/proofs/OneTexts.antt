@@ -34,7 +34,7 @@ in_run : (s : Scenario) (g leaf : ℕ) (text : Option Statement) → IsScenario 
 in_run s g leaf None ok low signs = (15, omega arith, signs.stands)
 in_run s g leaf (Some x) ok low signs =
     let verifies = all_verify s ok g low signs.log signs.his in
-    let fits = all_at (IsEntryOf (header_of s)) signs.log.entries (Sign x.order x.path signs.stands.0.0) verifies.log_of_run.entries signs.stands.0.1 in
+    let fits = all_at (IsEntryOf (header_of s)) signs.log.entries (Sign x.order x.path signs.stands.0.0) verifies.fits_run.entries signs.stands.0.1 in
     (x.order, omega (arith, fits.0, ok.network.ranges.few_orders), signs.stands.1)
 
 -- ---- the slots of runs

@@ -72,9 +72,6 @@ like_parts first s e =
 pub alike_first : (runs : List Scenario) (first : Scenario) (others : List Scenario) → runs ≡ first ∷ others → are_alike runs ≡ list_all (is_like first) runs
 alike_first runs first others e = subst (λ (xs : List Scenario). are_alike xs ≡ list_all (is_like first) xs) (sym e) refl
 
-pub alike_none : (runs : List Scenario) → runs ≡ [] → true ≡ are_alike runs
-alike_none runs e = sym (ap (λ (xs : List Scenario). are_alike xs) e)
-
 pub like_head : (first s : Scenario) (others runs : List Scenario) → runs ≡ s ∷ others → list_all (is_like first) runs ≡ true → (is_like first s ≡ true) × (list_all (is_like first) others ≡ true)
 like_head first s others runs e all = both (is_like first s) (list_all (is_like first) others) (sym (ap (list_all (is_like first)) e) ∙ all)
 

@@ -8,7 +8,7 @@ use Rattle.gen_chain.specs.Chain.{signed_path}
 use Rattle.gen_chain.specs.Signings.{AllSigned, IsSigned, next_triples, triple_next, triple_of}
 use Rattle.gen_chain.specs.declared.signings.Signing.{Signing}
 use Rattle.gen_chain.specs.Store.{Triple}
-use Rattle.gen_chain.specs.Verifying.{AreSigned}
+use Rattle.gen_chain.specs.Verifying.{EachHasSigned}
 use Rattle.gen_chain.proofs.DistinctPaths.{AreDistinct}
 use Rattle.gen_chain.proofs.SignedSoFar.{SignedSoFar, goes_on, next_signed}
 
@@ -22,7 +22,7 @@ all_on h order signers (s ∷ some) others path so_far all =
     let rest = all_on h order signers some others longer on (λ j below other. all (suc j) (omega arith) other) in
     subst (SignedSoFar h order signers others) (append_assoc path (s.general ∷ []) (signed_path some)) rest
 
-pub all_next : (h : RunHeader) (order : ℕ) (signers some others : List Signer) (path : List ℕ) → SignedSoFar h order signers (some ++ others) path → AreSigned h order signers → AllSigned h (next_triples order path some)
+pub all_next : (h : RunHeader) (order : ℕ) (signers some others : List Signer) (path : List ℕ) → SignedSoFar h order signers (some ++ others) path → EachHasSigned h order signers → AllSigned h (next_triples order path some)
 unfolding next_triples
 all_next h order signers [] others path so_far all = λ j below other. absurd (omega arith)
 all_next h order signers (s ∷ some) others path so_far all =
@@ -94,7 +94,7 @@ module _ (h : RunHeader) (order : ℕ) (signers rest : List Signer) (path : List
   four_on longer pushed all =
       subst (SignedSoFar h order signers (drop 4 rest)) (sym pushed) (all_on h order signers (take 4 rest) (drop 4 rest) path cut_so_far all)
 
-  pub four_next : AreSigned h order signers → AllSigned h (next_triples order path (take 4 rest))
+  pub four_next : EachHasSigned h order signers → AllSigned h (next_triples order path (take 4 rest))
   four_next = all_next h order signers (take 4 rest) (drop 4 rest) path cut_so_far
 
 -- what the answers to four say of all of them

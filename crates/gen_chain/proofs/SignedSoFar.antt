@@ -5,12 +5,12 @@ use Rattle.gen_types.proofs.Lists.{not_nil, split_longer}
 use Rattle.gen_net.specs.Header.{RunHeader}
 use Rattle.gen_chain.specs.declared.chains.Signer.{Signer}
 use Rattle.gen_chain.specs.Chain.{signed_path}
-use Rattle.gen_chain.specs.Verifying.{HasSigned, HasSignedBehind, AreSigned}
+use Rattle.gen_chain.specs.Verifying.{HasSigned, HasSignedBehind, EachHasSigned}
 
-pub none_signed : (h : RunHeader) (order : ℕ) → AreSigned h order []
+pub none_signed : (h : RunHeader) (order : ℕ) → EachHasSigned h order []
 none_signed h order front back s e = absurd (not_nil front s back (sym e))
 
-pub signed-push : (h : RunHeader) (order : ℕ) (signers : List Signer) (last : Signer) → AreSigned h order signers → HasSignedBehind h order signers last → AreSigned h order (signers ++ last ∷ [])
+pub signed-push : (h : RunHeader) (order : ℕ) (signers : List Signer) (last : Signer) → EachHasSigned h order signers → HasSignedBehind h order signers last → EachHasSigned h order (signers ++ last ∷ [])
 signed-push h order signers last all signed front back s e = elim (split_longer front back signers s last (sym e)) [
   | inl both ↦
       let same : last ≡ s = sym both.0 in
@@ -24,7 +24,7 @@ pub record SignedSoFar (h : RunHeader) (order : ℕ) (signers rest : List Signer
   pub front : List Signer
   pub parts : signers ≡ front ++ rest
   pub path_is : path ≡ signed_path front
-  pub signed : AreSigned h order front
+  pub signed : EachHasSigned h order front
 
 pub at_first : (h : RunHeader) (order : ℕ) (signers : List Signer) → SignedSoFar h order signers signers []
 at_first h order signers = record { front = []; parts = refl; path_is = refl; signed = none_signed h order }
@@ -48,7 +48,7 @@ goes_on h order signers rest others path longer s e pushed signed so_far =
     }
 
 -- where all have signed, so has the next
-pub next_signed : (h : RunHeader) (order : ℕ) (signers rest others : List Signer) (path longer : List ℕ) (s : Signer) → rest ≡ s ∷ others → longer ≡ path ++ s.general ∷ [] → SignedSoFar h order signers rest path → AreSigned h order signers
+pub next_signed : (h : RunHeader) (order : ℕ) (signers rest others : List Signer) (path longer : List ℕ) (s : Signer) → rest ≡ s ∷ others → longer ≡ path ++ s.general ∷ [] → SignedSoFar h order signers rest path → EachHasSigned h order signers
     → HasSigned h s.general (record { order = order; path = longer }) s.signature
 next_signed h order signers rest others path longer s e pushed so_far all =
     let is = behind h order signers rest path longer s so_far pushed in
@@ -56,11 +56,11 @@ next_signed h order signers rest others path longer s e pushed so_far all =
     subst (λ (p : List ℕ). HasSigned h s.general (record { order = order; path = p }) s.signature) (sym is) signed
 
 pub stops : (h : RunHeader) (order : ℕ) (signers rest others : List Signer) (path longer : List ℕ) (s : Signer) → rest ≡ s ∷ others → longer ≡ path ++ s.general ∷ [] → (HasSigned h s.general (record { order = order; path = longer }) s.signature → ⊥)
-    → SignedSoFar h order signers rest path → AreSigned h order signers → ⊥
+    → SignedSoFar h order signers rest path → EachHasSigned h order signers → ⊥
 stops h order signers rest others path longer s e pushed unsigned so_far all =
     unsigned (next_signed h order signers rest others path longer s e pushed so_far all)
 
-pub at_last : (h : RunHeader) (order : ℕ) (signers rest : List Signer) (path : List ℕ) → rest ≡ [] → SignedSoFar h order signers rest path → AreSigned h order signers
+pub at_last : (h : RunHeader) (order : ℕ) (signers rest : List Signer) (path : List ℕ) → rest ≡ [] → SignedSoFar h order signers rest path → EachHasSigned h order signers
 at_last h order signers rest path e so_far =
     let whole : signers ≡ so_far.front = so_far.parts ∙ ap (λ (r : List Signer). so_far.front ++ r) e ∙ append-nil so_far.front in
-    subst (AreSigned h order) (sym whole) so_far.signed
+    subst (EachHasSigned h order) (sym whole) so_far.signed

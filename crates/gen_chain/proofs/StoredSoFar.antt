@@ -6,7 +6,7 @@ use Rattle.gen_types.proofs.Lists.{not_nil, split_longer}
 use Rattle.gen_net.specs.Header.{RunHeader}
 use Rattle.gen_chain.specs.declared.chains.Signer.{Signer}
 use Rattle.gen_chain.specs.Chain.{signed_path}
-use Rattle.gen_chain.specs.Verifying.{HasSigned, AreSigned}
+use Rattle.gen_chain.specs.Verifying.{HasSigned, EachHasSigned}
 use Rattle.gen_chain.specs.Signings.{triple_next, next_triples}
 use Rattle.gen_chain.specs.Store.{Store, Triple, answer_of, kept_count, IsAfter, Serves, KeepsAll}
 use Rattle.gen_chain.specs.StoredChain.{KeepsSigners, KeepsNext, triple_behind}
@@ -23,7 +23,7 @@ pub record StoredSoFar (h : RunHeader) (order : ℕ) (signers rest : List Signer
   pub front : List Signer
   pub parts : signers ≡ front ++ rest
   pub path_is : path ≡ signed_path front
-  pub signed : AreSigned h order front
+  pub signed : EachHasSigned h order front
   pub kept : KeepsFront store order front
   pub serves : Serves h store
   pub grows : KeepsAll old store
@@ -209,10 +209,10 @@ module _ (h : RunHeader) (order : ℕ) (longer : List ℕ) (store : Store) (s : 
       }
 
       module _ (unsigned : HasSigned h s.general (record { order = order; path = longer }) s.signature → ⊥) where
-        fails_behind : (a d : List Signer) → a ≡ so_far.front ++ s ∷ d → AreSigned h order a → ⊥
+        fails_behind : (a d : List Signer) → a ≡ so_far.front ++ s ∷ d → EachHasSigned h order a → ⊥
         fails_behind a d is all = unsigned (subst (λ (p : List ℕ). HasSigned h s.general (record { order = order; path = p }) s.signature) (sym path_next) (all so_far.front d s is))
 
-        pub stored_stop : (AreSigned h order signers → ⊥) × KeepsSigners h new order signers
+        pub stored_stop : (EachHasSigned h order signers → ⊥) × KeepsSigners h new order signers
         stored_stop = (fails_behind signers others parts_next, keeps)
           where
             keeps : KeepsSigners h new order signers

@@ -77,9 +77,6 @@ all_taken other new es whole taken t answer is =
 abbrev pub TakenUpTo : Store → Store → List (Verified × Vec Kept) → Type 0
 TakenUpTo other new rest = (done : List (Verified × Vec Kept)) × (other.kept ≡ items_of (done ++ rest)) × TakesEntries other new done
 
-pub none_taken : (other new : Store) (rest : List (Verified × Vec Kept)) → other.kept ≡ items_of rest → TakenUpTo other new rest
-none_taken other new rest whole = ([], whole, λ i e below. absurd (omega (arith, below)))
-
 pub entry_taken : (other old new : Store) (rest behind : List (Verified × Vec Kept)) (e : Verified × Vec Kept) → KeepsAll old new → rest ≡ e ∷ behind → TakesEach other new e.0 e.1.items
     → TakenUpTo other old rest → TakenUpTo other new behind
 entry_taken other old new rest behind e grows is each so_far =

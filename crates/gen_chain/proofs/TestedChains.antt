@@ -37,13 +37,13 @@ unfolding is_under
 under_has root height leaf digest signature e =
     let p = both (eqb (length signature) (signature_length height) && nat_lt leaf (leaves_of height)) (pointwise nat_eq (implied_root height leaf digest signature) root) e in
     let q = both (eqb (length signature) (signature_length height)) (nat_lt leaf (leaves_of height)) p.0 in
-    record { siblings = eqb-true _ _ q.0; below = ltb-true _ _ q.1; leads = same_text (implied_root height leaf digest signature) root (sym p.1) }
+    record { one_each = eqb-true _ _ q.0; below = ltb-true _ _ q.1; leads = same_text (implied_root height leaf digest signature) root (sym p.1) }
 
 pub under_gives : (root : List ℕ) (height : TreeHeight) (leaf : ℕ) (digest signature : List ℕ) → Verifies root height leaf digest signature → is_under root height leaf digest signature ≡ true
 unfolding is_under
 under_gives root height leaf digest signature v =
     let same : pointwise nat_eq (implied_root height leaf digest signature) root ≡ true = subst (λ (r : List ℕ). pointwise nat_eq (implied_root height leaf digest signature) r ≡ true) v.leads (same_list (implied_root height leaf digest signature)) in
-    and_so (eqb (length signature) (signature_length height) && nat_lt leaf (leaves_of height)) (pointwise nat_eq (implied_root height leaf digest signature) root) (and_so (eqb (length signature) (signature_length height)) (nat_lt leaf (leaves_of height)) (eq-eqb _ _ v.siblings) (lt-ltb _ _ v.below)) same
+    and_so (eqb (length signature) (signature_length height) && nat_lt leaf (leaves_of height)) (pointwise nat_eq (implied_root height leaf digest signature) root) (and_so (eqb (length signature) (signature_length height)) (nat_lt leaf (leaves_of height)) (eq-eqb _ _ v.one_each) (lt-ltb _ _ v.below)) same
 
 pub signed_has : (h : RunHeader) (g : ℕ) (t : Statement) (signature : List ℕ) → has_signed h g t signature ≡ true → HasSigned h g t signature
 unfolding has_signed

@@ -3,7 +3,7 @@ use Rattle.std.specs.Prelude.{ℕ, zero, suc, ◌≡◌, ◌<◌, List, [], ◌�
 use Rattle.gen_net.specs.Header.{RunHeader}
 use Rattle.gen_chain.specs.declared.chains.Signer.{Signer}
 use Rattle.gen_chain.specs.Chain.{Chain, signed_path}
-use Rattle.gen_chain.specs.Verifying.{AreSigned}
+use Rattle.gen_chain.specs.Verifying.{EachHasSigned}
 use Rattle.gen_chain.specs.Signings.{triple_next}
 use Rattle.gen_chain.specs.Store.{Store, Triple, answer_of}
 
@@ -18,7 +18,7 @@ triple_behind order front s = record {
 -- the answer is kept for each signer whose predecessors all signed
 abbrev pub KeepsSigners : RunHeader → Store → ℕ → List Signer → Type 0
 KeepsSigners h store order signers =
-    (front back : List Signer) (s : Signer) → signers ≡ front ++ s ∷ back → AreSigned h order front
+    (front back : List Signer) (s : Signer) → signers ≡ front ++ s ∷ back → EachHasSigned h order front
     → IsSome (answer_of store (triple_behind order front s))
 
 -- The store keeps all answers that verifying the chain needs; none is needed if the order is none of the

@@ -23,11 +23,11 @@ HasSignedBehind h order front s =
     s.signature
 
 -- each signer signed the order together with the path up to and with itself
-abbrev pub AreSigned : RunHeader → ℕ → List Signer → Type 0
-AreSigned h order signers =
+abbrev pub EachHasSigned : RunHeader → ℕ → List Signer → Type 0
+EachHasSigned h order signers =
     (front back : List Signer) (s : Signer) → signers ≡ front ++ s ∷ back
     → HasSignedBehind h order front s
 
 -- the order is one of the network's, and each signer signed
 abbrev pub ChainVerifies : RunHeader → Chain → Type 0
-ChainVerifies h c = (c.order < h.network.orders) × AreSigned h c.order c.signers
+ChainVerifies h c = (c.order < h.network.orders) × EachHasSigned h c.order c.signers

@@ -44,7 +44,7 @@ fn read_signer<'a>(
 }
 
 #[tactic(auto, unfolding(crate::specs::ChainReading::chain_front_at))]
-fn read_front(bytes: &[u8]) -> Result<(ChainFront, &[u8]), ReadError<ChainFault>>
+fn read_chain_front(bytes: &[u8]) -> Result<(ChainFront, &[u8]), ReadError<ChainFault>>
     ensures exact { Gives (λ x. (record { order = x.0.order; count = x.0.count }, x.1.now)) result
         (chain_front_at bytes.now) }
     ensures known { IfOk result (λ x. x.0.order ≤ GREATEST_ORDER) }
@@ -134,7 +134,7 @@ fn chain_in_front<'a>(
 ) -> Result<(SignedChain, &'a [u8]), ReadError<ChainFault>>
     ensures { IsField result (chain_at height bytes.now) }
 {
-    let (front, rest) = read_front(bytes)?;
+    let (front, rest) = read_chain_front(bytes)?;
     let enough = signers_bytes(height, front.count) <= rest.len();
     check(enough, ChainFault::Truncated)?;
     let (signers, rest) = read_signers(alloc, height, front.count, rest, pool)?;

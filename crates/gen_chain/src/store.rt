@@ -3,7 +3,7 @@ ghost use Rattle.std.specs.Prelude.{IsTrue, Bool, ℕ, List, ◌≡◌, ◌≢�
 ghost use Rattle.gen_net.specs.Header.{RunHeader};
 ghost use Rattle.gen_chain.specs.Chain.{signed_path};
 ghost use Rattle.gen_chain.specs.declared.chains.Signer.{Signer};
-ghost use Rattle.gen_chain.specs.Verifying.{HasSigned, AreSigned, ChainVerifies};
+ghost use Rattle.gen_chain.specs.Verifying.{HasSigned, EachHasSigned, ChainVerifies};
 ghost use Rattle.gen_chain.specs.declared.kept.Verified.{Verified};
 ghost use Rattle.gen_chain.specs.declared.kept.Kept.{Kept};
 ghost use Rattle.gen_chain.specs.Keeping.{items_of};
@@ -379,7 +379,7 @@ impl VerifyStore {
         requires few { length signers.now ≤ MOST_SIGNERS }
         requires distinct { AllPairs (λ g h. g ≢ h) (signed_path signers.now) }
         requires serves { Serves header.now self.old }
-        ensures value { IfOk result (λ answer. IsTrue answer ↔ AreSigned header.now order signers.now) }
+        ensures value { IfOk result (λ answer. IsTrue answer ↔ EachHasSigned header.now order signers.now) }
         ensures kept { OnOk result (KeepsSigners header.now self.new order signers.now) }
         ensures known { KeepsSigners header.now self.old order signers.now
             → IsOk result × (self.new ≡ self.old) }

@@ -1,7 +1,7 @@
 //! Verifies the signatures of a chain.
 ghost use Rattle.std.specs.Prelude.{IsTrue, ◌≡◌, ◌≢◌, ◌≤◌, ◌↔◌, AllPairs, length};
 ghost use Rattle.gen_chain.specs.Chain.{signed_path};
-ghost use Rattle.gen_chain.specs.Verifying.{HasSigned, AreSigned, ChainVerifies};
+ghost use Rattle.gen_chain.specs.Verifying.{HasSigned, EachHasSigned, ChainVerifies};
 
 use crate::chains::{SignedChain, Signer};
 use crate::leaves::leaf_of_order;
@@ -35,7 +35,7 @@ pub fn has_signed(
 fn are_signed(header: &Header, order: OrderNo, signers: &[Signer]) -> bool
     requires few { length signers.now ≤ MOST_SIGNERS }
     requires distinct { AllPairs (λ g h. g ≢ h) (signed_path signers.now) }
-    ensures { IsTrue result ↔ AreSigned header.now order signers.now }
+    ensures { IsTrue result ↔ EachHasSigned header.now order signers.now }
 {
     let mut path = Path::new();
     let mut rest = signers;

@@ -1,10 +1,9 @@
 -- A text beside one that meets nobody has no rival.
-use Rattle.std.proofs.Common.{◌≡◌, ℕ, inl, inr, Bool, true, false, ◌&&◌, ◌||◌, not, eqb, eqb-true, eq-eqb, Option, Some, None, List, [], ◌∷◌, ◌++◌, ◌-◌, ◌≤◌, length, get_or, take, drop, Contains, refl, sym, ap, subst, ◌∙◌, arith}
+use Rattle.std.proofs.Common.{◌≡◌, ℕ, inl, inr, Bool, true, false, ◌&&◌, ◌||◌, not, eqb, eqb-true, eq-eqb, Option, Some, None, List, [], ◌∷◌, ◌-◌, ◌≤◌, length, get_or, take, drop, Contains, refl, sym, ap, subst, ◌∙◌, arith}
 use Rattle.std.specs.Bool.{nat_eq}
 use Rattle.std.specs.Cmp.Lexicographic.{pointwise}
 use Rattle.std.specs.List.{find, list_any}
 use Rattle.std.proofs.lemmas.List.{take_all}
-use Rattle.std.proofs.lemmas.List.Elements.{Contains-push_cases}
 use Rattle.gen_types.proofs.Lists.{bool_cases, Contains_there}
 use Rattle.gen_net.specs.Header.{RunHeader, run_id_of}
 use Rattle.gen_net.specs.SameHeaders.{same_header}
@@ -78,15 +77,6 @@ fewer x y others none = elim (bool_cases (list_any (meets x) others)) [
   | inl t ↦
       let z = any_found (meets x) others t in
       absurd (opposite (list_any (meets x) (y ∷ others)) (any_told (meets x) (y ∷ others) z.0 (Contains_there y z.0 others z.1) z.2) none)
-]
-
-pub fewer_met : (texts : List RunText) (y : RunText) (others : List RunText) → MeetNone texts (y ∷ others) → MeetNone texts others
-fewer_met texts y others none x c = fewer x y others (none x c)
-
-pub one_more_alone : (texts : List RunText) (y : RunText) (others : List RunText) → MeetNone texts others → list_any (meets y) others ≡ false → MeetNone (texts ++ y ∷ []) others
-one_more_alone texts y others none also x c = elim (Contains-push_cases texts y x c) [
-  | inl old ↦ none x old
-  | inr e ↦ subst (λ (z : RunText). list_any (meets z) others ≡ false) e also
 ]
 
 pub covered : (texts : List RunText) (y : RunText) (others : List RunText) → MeetNone texts (y ∷ others) → list_any (λ x. is_beside x y) texts ≡ true → find (is_rival y) others ≡ None

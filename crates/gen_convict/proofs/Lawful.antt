@@ -127,8 +127,8 @@ log_fits h l t is c =
     ]
 
 wide : (h : RunHeader) (general : ℕ) (text : Text) (signature : List ℕ) → HasSignedText h general text signature → IsSignature h signature
-wide h general (OfStatement s) signature stands = stands.1.siblings
-wide h general (OfHead head) signature stands = stands.siblings
+wide h general (OfStatement s) signature stands = stands.1.one_each
+wide h general (OfHead head) signature stands = stands.one_each
 
 pub text_fits : (h : RunHeader) (exhibits : List LogBytes) (general : ℕ) (t : SignedText) → IsHeader h → AllBytes exhibits → Contains (texts_of h exhibits general) t → IsSignedTextFor h general t
 unfolding texts_of texts_in

@@ -13,7 +13,7 @@ ghost use Rattle.gen_convict.specs.Seen.{seen, seen_run};
 
 use crate::claims::Claim;
 use crate::evidence::Evidence;
-use crate::finding::read_all;
+use crate::finding::note_reports;
 use crate::rivals::{first_rivals, texts_across};
 use crate::run_texts::RunText;
 use crate::seen_texts::{SeenRun, SeenText};
@@ -94,22 +94,22 @@ fn rivals_of_all(alloc: Global, generals: u8, runs: &[SeenRun]) -> Result<Vec<Ev
 
 /// Makes known that the header of a run is a lawful header, and that each of its reports is one, of an exhibit that
 /// consists of bytes.
-fn read_run(run: SeenRun)
+fn note_run(run: SeenRun)
     ensures header { IsHeader run.entry.header.now }
     ensures reports { (r : Report) → Contains run.entry.reports.now r
         → IsReport r × AreBelow 256 r.exhibit.bytes }
 {
     let _net = run.header.net();
-    read_all(run.reports);
+    note_reports(run.reports);
 }
 
-/// Makes known of each of the runs what `read_run` makes known of one: its header and reports are lawful.
-fn read_runs(runs: &[SeenRun])
+/// Makes known of each of the runs what `note_run` makes known of one: its header and reports are lawful.
+fn note_runs(runs: &[SeenRun])
     ensures { (run : RunReports) → Contains (map seen_run runs.now) run → IsHeader run.header
         × ((r : Report) → Contains run.reports r → IsReport r × AreBelow 256 r.exhibit.bytes) }
 {
     for run in runs {
-        read_run(*run);
+        note_run(*run);
     }
 }
 
@@ -139,6 +139,6 @@ pub fn find_across(
     ensures lawful { IfOk result (λ found. AreEvidenceAcross (map told_of found.items)) }
 {
     let runs = seen_runs(alloc, headers, reports)?;
-    read_runs(runs.as_slice());
+    note_runs(runs.as_slice());
     rivals_of_all(alloc, MOST_GENERALS, runs.as_slice())
 }

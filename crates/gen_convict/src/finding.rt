@@ -121,28 +121,28 @@ fn claims_against(
 }
 
 /// Makes known that each of the bytes is less than 256.
-fn read_bytes(bytes: &[u8])
+fn note_bytes(bytes: &[u8])
     ensures { AreBelow 256 bytes.now }
 {
     let _bytes = bytes.len();
 }
 
 /// Makes known that a report is one, and that its exhibit consists of bytes.
-fn read_one(report: &LocalReport)
+fn note_report(report: &LocalReport)
     ensures report { IsReport report.now }
     ensures bytes { AreBelow 256 report.now.exhibit.bytes }
 {
     let _reading = report.reading();
     let exhibit = report.exhibit();
-    read_bytes(exhibit.log());
+    note_bytes(exhibit.log());
 }
 
 /// Makes known of each report that it is one, and that its exhibit consists of bytes.
-pub fn read_all(reports: &[LocalReport])
+pub fn note_reports(reports: &[LocalReport])
     ensures { (r : Report) → Contains reports.now r → IsReport r × AreBelow 256 r.exhibit.bytes }
 {
     for report in reports {
-        read_one(report);
+        note_report(report);
     }
 }
 
@@ -173,6 +173,6 @@ pub fn find_evidence(
     ensures lawful { IfOk result (λ found. AreShort (shown_in reports.now)
         → AreEvidence header.now (map told_of found.items)) }
 {
-    read_all(reports);
+    note_reports(reports);
     claims_against(alloc, header.net().generals(), reports)
 }

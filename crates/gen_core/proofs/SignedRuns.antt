@@ -110,7 +110,7 @@ module _ (net : Network) (faulty : List ℕ) (run : Run) (own : ℕ) (picks : �
     | inl faulty_from ↦ elim (follow.derivable t h faulty_from) [
       | inl nobody ↦ absurd (All-contains (λ g. IsLoyal net faulty g → ⊥) t.path y nobody (subst (λ p. Contains p y) (sym e) (Contains-middle front y back)) loyal)
       | inr d ↦
-          let r = split_front front back (d.front ++ d.last ∷ []) d.forged y (sym e ∙ d.parts) (λ inside. All-contains (λ g. IsLoyal net faulty g → ⊥) d.forged y d.nobody_after inside loyal) in
+          let r = split_front front back (d.front ++ d.last ∷ []) d.after y (sym e ∙ d.parts) (λ inside. All-contains (λ g. IsLoyal net faulty g → ⊥) d.after y d.nobody_after inside loyal) in
           let es : d.source.path ≡ front ++ y ∷ (r.0 ++ d.begun.0) = d.begun.1 ∙ ap (λ p. p ++ d.begun.0) r.1 ∙ append_assoc front (y ∷ r.0) d.begun.0 in
           let earlier : length d.source.path < length t.path = d.earlier in
           subst (λ v. AddedFrom run picks y v front) d.same_order (signer_added bound d.source d.sent (omega arith) front (r.0 ++ d.begun.0) y es loyal ne)

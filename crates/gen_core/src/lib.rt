@@ -2,8 +2,9 @@
 //! send.
 //!
 //! It is SM(m) of section 4 of L. Lamport, R. Shostak and M. Pease, "The Byzantine Generals Problem", ACM
-//! TOPLAS 4 (1982), with messages to neighbours only, as in section 5. One thing differs: an order that a
-//! lieutenant adds in the last round is not relayed, even if there is only one round.
+//! TOPLAS 4 (1982), with messages to neighbours only, as in section 5. Two things differ. A lieutenant adds
+//! every order that comes from the commander in round 1, where step 2(A) takes the first alone. With one round
+//! nothing is relayed.
 #![tactic(auto)]
 
 mod arrivals;

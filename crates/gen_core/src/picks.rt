@@ -4,14 +4,18 @@ ghost use Rattle.gen_core.specs.Loops.Picking.{better, AreBest, AreBestPaths};
 ghost use Rattle.gen_core.specs.Seeing.{Picked};
 
 use crate::arrivals::Seen;
+use gen_types::limits::MOST_GENERALS;
 use gen_types::{OrderNo, OrderSet, Path};
 use std::marker::Model;
+
+/// The number of places for orders. `OrderNo` has as many numbers as a network has generals at most.
+const PLACES: usize = MOST_GENERALS as usize;
 
 /// The orders that a lieutenant adds in a round, each with the path that it picked. A contract sees a path or
 /// none for each order.
 #[derive(Debug, Drop)]
 pub struct Adds {
-    picked: [Option<Seen>; 16],
+    picked: [Option<Seen>; PLACES],
 }
 
 impl Model for Adds {
@@ -58,10 +62,10 @@ fn lesser(before: Option<Seen>, seen: Seen) -> Seen
 }
 
 /// Returns, for each order that is not known, the chain from the least sender, if the order has a chain.
-fn best_of(known: &OrderSet, seen: &[Seen]) -> [Option<Seen>; 16]
+fn best_of(known: &OrderSet, seen: &[Seen]) -> [Option<Seen>; PLACES]
     ensures { AreBest known.now seen.now result }
 {
-    let mut picked: [Option<Seen>; 16] = [None; 16];
+    let mut picked: [Option<Seen>; PLACES] = [None; PLACES];
     for chain in seen {
         if !known.contains(chain.order) {
             let order = chain.order.get() as usize;

@@ -1,5 +1,5 @@
 -- One event more in a desk's history.
-use Rattle.std.proofs.Common.{◌≡◌, ◌≢◌, ℕ, ◌<◌, inl, inr, true, false, List, [], ◌∷◌, ◌++◌, length, map, replicate, slice_set, Option, Some, None, IsSome, refl, sym, ap, subst, ◌∙◌, append_assoc}
+use Rattle.std.proofs.Common.{◌≡◌, ◌≢◌, ℕ, ◌<◌, inl, inr, true, false, List, [], ◌∷◌, ◌++◌, length, map, slice_set, Option, Some, None, IsSome, refl, sym, ap, subst, ◌∙◌, append_assoc}
 use Rattle.std.specs.List.{flat_map}
 use Rattle.std.proofs.lemmas.Bool.Decides.{eqb_tells}
 use Rattle.std.proofs.lemmas.List.{length-set, get_or-set_same, get_or-set_other}
@@ -135,14 +135,3 @@ reports rows ss p report kept may =
     grows_by rows ss (Reporting p report) (Reported p) kept may
     (ap (λ (r : Row). map (Reporting p) (Rattle.std.specs.Option.option_to_list r.report)) here)
     (subst (λ (r : Row). IsSome r.report) (sym here) refl)
-
--- ---- the opening
-
-pub opens : (rows : List Row) (n : ℕ) → rows ≡ replicate n empty → IsKept rows []
-opens rows n is = record {
-  told = tt;
-  legal = tt;
-  replays =
-      let e : length rows ≡ n = ap length is ∙ Rattle.std.proofs.lemmas.List.length-replicate n empty in
-      ap (λ k. replicate k empty) e ∙ sym is;
-}

@@ -1,4 +1,4 @@
--- What a receipt and a claim say: a place, and the exhibit that was filed there.
+-- What a receipt and a ticket say: a place, and the exhibit that was filed there.
 use Rattle.std.specs.Prelude.{ℕ}
 use Rattle.gen_log.specs.Writing.{LogBytes}
 

@@ -7,7 +7,7 @@ use crate::closing::{Filed, StrangeReceipt, end};
 use crate::faults::DeskFault;
 use crate::looks::is_same;
 use crate::state::{DeskState, exhibit_with_receipt};
-use crate::tokens::{Claim, Receipt, Slip};
+use crate::tokens::{Receipt, Slip, Ticket};
 use crossbeam_utils::sync::{EventCount, Key};
 use gen_local::LocalReport;
 use gen_log::SealedLog;
@@ -120,7 +120,7 @@ impl Desk {
     /// # Errors
     ///
     /// `AllocError` where memory is refused.
-    pub fn claim<R: Wait>(&self, rt: &R) -> Result<Option<Claim>, AllocError> {
+    pub fn claim<R: Wait>(&self, rt: &R) -> Result<Option<Ticket>, AllocError> {
         self.state.lock(rt).claim_in()
     }
 
@@ -128,18 +128,18 @@ impl Desk {
     ///
     /// # Errors
     ///
-    /// The claim and the report, with one of three faults. It is `WrongPlace` if the place isn't claimed at this desk
+    /// The ticket and the report, with one of three faults. It is `WrongPlace` if the place isn't claimed at this desk
     /// or is reported on already. Otherwise it is `WrongExhibit` if the report is not of what is filed there, and
     /// otherwise `Memory` if memory is refused.
     pub fn report<R: Wait>(
         &self,
         rt: &R,
-        claim: Claim,
+        ticket: Ticket,
         report: LocalReport,
-    ) -> Result<(), (Claim, LocalReport, DeskFault)>
-        ensures { IfErr result (λ back. (back.0 ≡ claim) × (back.1 ≡ report)) }
+    ) -> Result<(), (Ticket, LocalReport, DeskFault)>
+        ensures { IfErr result (λ back. (back.0 ≡ ticket) × (back.1 ≡ report)) }
     {
-        let outcome = self.state.lock(rt).report_in(claim, report);
+        let outcome = self.state.lock(rt).report_in(ticket, report);
         self.moved.notify_all();
         outcome
     }

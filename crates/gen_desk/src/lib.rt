@@ -23,4 +23,4 @@ pub use desk::Desk;
 pub use faults::DeskFault;
 pub use rows::Row;
 pub use state::DeskState;
-pub use tokens::{Claim, Receipt, Slip};
+pub use tokens::{Receipt, Slip, Ticket};

@@ -8,7 +8,7 @@ use crate::changes::{add_claim, add_filing, add_report};
 use crate::faults::DeskFault;
 use crate::looks::{all_reported, first_waiting, is_awaited, is_filed, is_open};
 use crate::rows::{Row, Step};
-use crate::tokens::{Claim, Receipt, Slip};
+use crate::tokens::{Receipt, Slip, Ticket};
 use gen_local::{Exhibit, LocalReport};
 use gen_log::SealedLog;
 use std::alloc::{AllocError, Global};
@@ -183,10 +183,10 @@ impl DeskState {
     /// # Errors
     ///
     /// `AllocError` where memory is refused.
-    pub fn claim_in(&mut self) -> Result<Option<Claim>, AllocError>
+    pub fn claim_in(&mut self) -> Result<Option<Ticket>, AllocError>
         ensures claimed { IfOk result (λ found. MatchOption found
             (NobodyWaits self.old × (self.new ≡ self.old))
-            (λ claim. IsClaimed self.old claim × (self.new ≡ with_event self.old (Claiming claim.place)))) }
+            (λ ticket. IsClaimed self.old ticket × (self.new ≡ with_event self.old (Claiming ticket.place)))) }
         ensures same { OnErr result (self.new ≡ self.old) }
     {
         let Some(place) = first_waiting(self.rows.as_slice()) else {
@@ -197,39 +197,39 @@ impl DeskState {
             unreachable!()
         };
         add_claim(&mut self.rows, &mut self.steps, place);
-        Ok(Some(Claim::new(place, exhibit)))
+        Ok(Some(Ticket::new(place, exhibit)))
     }
 
     /// Reports on what was claimed.
     ///
     /// # Errors
     ///
-    /// The claim and the report, with one of three faults. It is `WrongPlace` if the place isn't claimed at this desk
+    /// The ticket and the report, with one of three faults. It is `WrongPlace` if the place isn't claimed at this desk
     /// or is reported on already. Otherwise it is `WrongExhibit` if the report is not of what is filed there, and
     /// otherwise `Memory` if memory is refused.
     pub fn report_in(
         &mut self,
-        claim: Claim,
+        ticket: Ticket,
         report: LocalReport,
-    ) -> Result<(), (Claim, LocalReport, DeskFault)>
-        ensures reported { OnOk result (self.new ≡ with_event self.old (Reporting claim.place report)) }
-        ensures awaited { OnOk result (IsAwaited self.old claim.place) }
-        ensures exhibit { OnOk result (IsFiledAt self.old claim.place report.exhibit) }
+    ) -> Result<(), (Ticket, LocalReport, DeskFault)>
+        ensures reported { OnOk result (self.new ≡ with_event self.old (Reporting ticket.place report)) }
+        ensures awaited { OnOk result (IsAwaited self.old ticket.place) }
+        ensures exhibit { OnOk result (IsFiledAt self.old ticket.place report.exhibit) }
         ensures same { OnErr result (self.new ≡ self.old) }
-        ensures back { IfErr result (λ back. (back.0 ≡ claim) × (back.1 ≡ report)) }
-        ensures fault { IfErr result (λ back. ReportFault self.old claim.place report.exhibit back.2) }
+        ensures back { IfErr result (λ back. (back.0 ≡ ticket) × (back.1 ≡ report)) }
+        ensures fault { IfErr result (λ back. ReportFault self.old ticket.place report.exhibit back.2) }
     {
-        if !is_awaited(self.rows.as_slice(), claim.place()) {
-            return Err((claim, report, DeskFault::WrongPlace));
+        if !is_awaited(self.rows.as_slice(), ticket.place()) {
+            return Err((ticket, report, DeskFault::WrongPlace));
         }
-        if !is_filed(self.rows.as_slice(), claim.place(), report.exhibit()) {
-            return Err((claim, report, DeskFault::WrongExhibit));
+        if !is_filed(self.rows.as_slice(), ticket.place(), report.exhibit()) {
+            return Err((ticket, report, DeskFault::WrongExhibit));
         }
         if self.steps.reserve(1).is_err() {
-            return Err((claim, report, DeskFault::Memory));
+            return Err((ticket, report, DeskFault::Memory));
         }
         let _lawful = report.reading();
-        add_report(&mut self.rows, &mut self.steps, claim.place(), report);
+        add_report(&mut self.rows, &mut self.steps, ticket.place(), report);
         Ok(())
     }
 

@@ -38,6 +38,7 @@ use crate::style::push_style;
 use gen_audit::{Bundle, Judgement};
 use gen_convict::{Claim, Evidence};
 use gen_net::Header;
+use gen_types::limits::{MOST_GENERALS, MOST_ORDERS, MOST_ROUNDS};
 use std::alloc::{AllocError, Global};
 
 /// Returns the size of the picture of a bundle: its generals, orders and rounds.
@@ -82,12 +83,19 @@ fn widest_of(bundles: &[Bundle]) -> u32
     width
 }
 
+/// The most lines for generals that are convicted across runs: one for each general.
+const MOST_LINES: usize = MOST_GENERALS as usize;
+
 /// Returns the number of lines for this many generals that are convicted across runs: at most 16.
 fn lines_for(count: usize) -> u32
     ensures value { result ≡ lines_for count }
     ensures small { result ≤ 16 }
 {
-    if count <= 16 { count as u32 } else { 16 }
+    if count <= MOST_LINES {
+        count as u32
+    } else {
+        MOST_LINES as u32
+    }
 }
 
 /// Returns the height of the lines for this many generals that are convicted across runs.
@@ -285,9 +293,9 @@ fn push_all_heads(out: &mut String) -> Result<(), AllocError>
     ensures { OnOk result (string_bytes out.new ≡ string_bytes out.old ++ all_heads) }
 {
     let grid = Grid {
-        generals: 16,
-        orders: 15,
-        rounds: 16,
+        generals: MOST_GENERALS,
+        orders: MOST_ORDERS,
+        rounds: MOST_ROUNDS,
     };
     push_heads(out, grid)
 }

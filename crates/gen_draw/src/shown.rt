@@ -21,7 +21,7 @@ use std::alloc::{AllocError, Global};
 
 /// What shown logs say, in the order of the logs and of their entries.
 #[derive(Drop)]
-pub struct Told {
+pub struct ShownFacts {
     /// The messages that the logs' generals sent, by their SEND entries.
     pub sent: Vec<Message>,
     /// The messages that the logs' generals received, by their RECV entries.
@@ -31,7 +31,11 @@ pub struct Told {
 }
 
 /// Appends what an entry of a general's log says.
-fn put_entry(told: &mut Told, general: GeneralNo, entry: &Entry) -> Result<(), AllocError>
+fn add_entry_facts(
+    told: &mut ShownFacts,
+    general: GeneralNo,
+    entry: &Entry,
+) -> Result<(), AllocError>
     ensures sent { OnOk result
         (told.new.sent.items ≡ told.old.sent.items ++ sent_by general entry.now) }
     ensures received { OnOk result
@@ -65,7 +69,11 @@ fn put_entry(told: &mut Told, general: GeneralNo, entry: &Entry) -> Result<(), A
 }
 
 /// Appends what the entries of a general's log say.
-fn put_entries(told: &mut Told, general: GeneralNo, entries: &[Entry]) -> Result<(), AllocError>
+fn add_entries_facts(
+    told: &mut ShownFacts,
+    general: GeneralNo,
+    entries: &[Entry],
+) -> Result<(), AllocError>
     ensures sent { OnOk result
         (told.new.sent.items ≡ told.old.sent.items ++ flat_map (sent_by general) entries.now) }
     ensures received { OnOk result
@@ -74,16 +82,16 @@ fn put_entries(told: &mut Told, general: GeneralNo, entries: &[Entry]) -> Result
         (told.new.decided.items ≡ told.old.decided.items ++ flat_map (decided_by general) entries.now) }
 {
     for entry in entries {
-        put_entry(told, general, entry)?;
+        add_entry_facts(told, general, entry)?;
     }
     Ok(())
 }
 
 /// Appends what is shown as a general's log says; nothing if it doesn't read as a log.
 #[tactic(auto, unfolding(crate::specs::Shown::sent_in, crate::specs::Shown::received_in, crate::specs::Shown::decided_in))]
-fn put_exhibit(
+fn add_exhibit_facts(
     alloc: Global,
-    told: &mut Told,
+    told: &mut ShownFacts,
     header: &Header,
     exhibit: &Exhibit,
 ) -> Result<(), AllocError>
@@ -95,7 +103,7 @@ fn put_exhibit(
         ++ decided_in header.now exhibit.now) }
 {
     match read_log(alloc, header, exhibit.log()) {
-        Ok(log) => put_entries(told, exhibit.general(), log.entries()),
+        Ok(log) => add_entries_facts(told, exhibit.general(), log.entries()),
         Err(ReadError::Memory) => Err(AllocError),
         Err(ReadError::Fault(_)) => Ok(()),
     }
@@ -106,20 +114,24 @@ fn put_exhibit(
 /// # Errors
 ///
 /// `AllocError` if memory is refused.
-pub fn told_by(alloc: Global, header: &Header, exhibits: &[Exhibit]) -> Result<Told, AllocError>
+pub fn told_by(
+    alloc: Global,
+    header: &Header,
+    exhibits: &[Exhibit],
+) -> Result<ShownFacts, AllocError>
     ensures sent { IfOk result (λ told. told.sent.items ≡ all_sent header.now exhibits.now) }
     ensures received { IfOk result (λ told.
         told.received.items ≡ all_received header.now exhibits.now) }
     ensures decided { IfOk result (λ told.
         told.decided.items ≡ all_decided header.now exhibits.now) }
 {
-    let mut told = Told {
+    let mut told = ShownFacts {
         sent: Vec::new(alloc),
         received: Vec::new(alloc),
         decided: Vec::new(alloc),
     };
     for exhibit in exhibits {
-        put_exhibit(alloc, &mut told, header, exhibit)?;
+        add_exhibit_facts(alloc, &mut told, header, exhibit)?;
     }
     Ok(told)
 }

@@ -4,8 +4,8 @@ use Rattle.gen_types.specs.declared.reading.ReadError.TheVariants as errors
 use Rattle.gen_report.specs.declared.fault.ScenarioFault.{ScenarioFault}
 use Rattle.gen_campaign.specs.declared.campaign_fault.CampaignFault.{CampaignFault}
 use Rattle.gen_convict.specs.declared.evidence_fault.EvidenceFault.{EvidenceFault}
-use Rattle.gen_answer.specs.declared.answers.AnswerFault.{AnswerFault}
-use Rattle.gen_answer.specs.declared.answers.AnswerFault.TheVariants as answers
+use Rattle.gen_prepare.specs.declared.answers.AnswerFault.{AnswerFault}
+use Rattle.gen_prepare.specs.declared.answers.AnswerFault.TheVariants as answers
 use Rattle.gen_audit.specs.declared.bundle_fault.BundleFault.{BundleFault}
 use Rattle.gen_campaign.specs.declared.campaign_fault.CampaignFault.TheVariants.{Alone}
 use Rattle.gen_prepare.specs.declared.seed_fault.SeedFault.{SeedFault}

@@ -4,8 +4,8 @@ use Rattle.gen_log.specs.Writing.{LogBytes}
 use Rattle.gen_audit.specs.Bundle.{Bundle}
 use Rattle.gen_audit.specs.BundleSpelling.{bundle_spelling}
 use Rattle.gen_campaign.specs.declared.campaign_fault.CampaignFault.TheVariants.{NoCount, RunCount, BadRun, Unjoined, LeftOver, Alone}
-use Rattle.gen_answer.specs.Answering.{IsAnswerFault}
-use Rattle.gen_answer.specs.declared.answers.AnswerFault.TheVariants as answers
+use Rattle.gen_prepare.specs.Answering.{IsAnswerFault}
+use Rattle.gen_prepare.specs.declared.answers.AnswerFault.TheVariants as answers
 use Rattle.gen_prepare.specs.Gathering.{IsPartsFault, MakesOfParts}
 use Rattle.gen_jobs.specs.declared.ends.JobFault.{JobFault}
 use Rattle.gen_jobs.specs.declared.ends.JobFault.TheVariants as faults

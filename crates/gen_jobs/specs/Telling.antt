@@ -2,9 +2,9 @@
 -- mean.
 use Rattle.std.specs.Prelude.{ℕ, ◌≡◌, Bool, true, false, not, List, [], Option, Some, None}
 use Rattle.gen_show.specs.Showing.{IsTextAs, file_kind, is_whole_as}
-use Rattle.gen_show_json.specs.ShowingLines.{IsJsonAs}
-use Rattle.gen_words.specs.Table.{words}
-use Rattle.gen_words.specs.Worded.{explained, worded}
+use Rattle.gen_json.specs.ShowingLines.{IsJsonAs}
+use Rattle.gen_show.specs.Table.{words}
+use Rattle.gen_show.specs.Worded.{explained, worded}
 use Rattle.gen_jobs.specs.declared.ends.JobFault.{JobFault}
 use Rattle.gen_jobs.specs.declared.ends.JobFault.TheVariants as faults
 use Rattle.gen_jobs.specs.declared.forms.Form.{Form}

@@ -54,7 +54,7 @@ fn text_of(
 }
 
 /// Returns in this form what is told of evidence under its header. The output says no if the evidence doesn't hold.
-fn told(
+fn output_for(
     alloc: Global,
     form: Form,
     header: &Header,
@@ -88,7 +88,7 @@ pub fn evidence(alloc: Global, input: &[u8]) -> Result<Output, JobFault>
     ensures fault { IfErr result (IsEvidenceFault input.now) }
 {
     let (header, evidence) = read_evidence(alloc, input)?;
-    Ok(told(alloc, Form::Text, &header, &evidence)?)
+    Ok(output_for(alloc, Form::Text, &header, &evidence)?)
 }
 
 /// Returns in this form what is told of the evidence that the input spells. The output says no if it doesn't hold. It
@@ -110,7 +110,7 @@ pub fn evidence_in(
 {
     let (header, evidence) = read_evidence(alloc, input)?;
     check_run(asked, &header)?;
-    Ok(told(alloc, form, &header, &evidence)?)
+    Ok(output_for(alloc, form, &header, &evidence)?)
 }
 
 /// Returns what `evidence` returns for the input, which must be of the run that is asked for: that of its header. For

@@ -3,12 +3,11 @@ ghost use Rattle.std.specs.Prelude.{◌≡◌};
 ghost use Rattle.gen_jobs.specs.Ends.{status_of, fault_in};
 ghost use Rattle.gen_jobs.specs.declared.ends.JobFault.TheVariants.{Memory};
 
-use gen_answer::AnswerFault;
 use gen_audit::{AuditFault, BundleFault};
 use gen_campaign::CampaignFault;
 use gen_convict::EvidenceFault;
 use gen_log::LogFault;
-use gen_prepare::SeedFault;
+use gen_prepare::{AnswerFault, SeedFault};
 use gen_report::ScenarioFault;
 use gen_threads::RunFault;
 use gen_types::ReadError;

@@ -1,6 +1,6 @@
 //! What is made of several inputs: the bundle of a header and logs, and evidence answered by a log.
 ghost use Rattle.std.specs.Prelude.{IfErr, IfOk};
-ghost use Rattle.gen_answer.specs.Answering.{IsAnswered};
+ghost use Rattle.gen_prepare.specs.Answering.{IsAnswered};
 ghost use Rattle.gen_jobs.specs.Joining.{IsJoinFault, IsJoined, IsReplyFault};
 
 use crate::bundle_text::BundleText;
@@ -41,7 +41,7 @@ pub fn answer(alloc: Global, evidence: &[u8], log: &[u8]) -> Result<Output, JobF
     ensures answer { IfOk result (λ o. IsAnswered evidence.now log.now o.text.items o.negative) }
     ensures fault { IfErr result (IsReplyFault evidence.now log.now) }
 {
-    let answer = gen_answer::answer(alloc, evidence, log)?;
+    let answer = gen_prepare::answer(alloc, evidence, log)?;
     Ok(Output {
         text: answer.text,
         negative: answer.negative,

@@ -4,8 +4,8 @@ ghost use Rattle.gen_jobs.specs.Answering.{Answers};
 ghost use Rattle.gen_jobs.specs.Ends.{IsTaken, KeepsUntilWhole};
 ghost use Rattle.gen_jobs.specs.Telling.{IsMemory, IsTold, SaysFile, TellsFile, TellsFound};
 ghost use Rattle.gen_show.specs.Showing.{file_kind, is_whole_as};
-ghost use Rattle.gen_words.specs.Table.{words};
-ghost use Rattle.gen_words.specs.Worded.{explained};
+ghost use Rattle.gen_show.specs.Table.{words};
+ghost use Rattle.gen_show.specs.Worded.{explained};
 
 use crate::ends::{JobEnd, JobFault, Output};
 use crate::forms::Form;
@@ -32,7 +32,7 @@ fn shown_in(alloc: Global, form: Form, input: &[u8]) -> Result<Shown, AllocError
 {
     match form {
         Form::Text => gen_show::show(alloc, input),
-        Form::Json => gen_show_json::show_json(alloc, input),
+        Form::Json => gen_json::show_json(alloc, input),
     }
 }
 
@@ -52,7 +52,7 @@ pub(crate) fn tell_file(alloc: Global, form: Form, input: &[u8]) -> Result<Outpu
 fn tell_name(alloc: Global, input: &[u8]) -> Result<Output, AllocError>
     ensures { IfOk result (λ o. TellsFound (explained words input.now) o.text.items o.negative) }
 {
-    match gen_words::explain(alloc, input)? {
+    match gen_show::explain(alloc, input)? {
         Some(text) => Ok(Output {
             text,
             negative: false,
@@ -78,7 +78,7 @@ pub fn tell(alloc: Global, what: Telling, input: &[u8]) -> Result<Output, JobFau
         Telling::File => Ok(tell_file(alloc, Form::Text, input)?),
         Telling::Name => Ok(tell_name(alloc, input)?),
         Telling::Text => Ok(Output {
-            text: gen_words::with_words(alloc, input)?,
+            text: gen_show::with_words(alloc, input)?,
             negative: false,
         }),
     }

@@ -4,7 +4,7 @@ ghost use Rattle.gen_chain.specs.Store.{Serves};
 use crate::stopping::StopWord;
 use gen_audit::{JobGate, WorkerCount};
 use gen_chain::VerifyStore;
-use gen_desk::{Claim, Desk, DeskFault};
+use gen_desk::{Desk, DeskFault, Ticket};
 use gen_local::{Exhibit, LocalReport, local_reports};
 use gen_net::Header;
 use sha_lanes::LANES;
@@ -50,31 +50,31 @@ fn claim_some<R: Wait>(
     alloc: Global,
     desk: &Desk,
     most: usize,
-) -> Result<Vec<Claim>, AllocError> {
-    let mut claims = Vec::with_capacity(alloc, most)?;
+) -> Result<Vec<Ticket>, AllocError> {
+    let mut tickets = Vec::with_capacity(alloc, most)?;
     for _ in 0..LOOKS {
         match desk.claim(rt)? {
-            Some(claim) => claims.push(claim)?,
-            None if claims.is_empty() => return Ok(claims),
+            Some(ticket) => tickets.push(ticket)?,
+            None if tickets.is_empty() => return Ok(tickets),
             None => thread::yield_now(),
         }
-        if claims.len() >= most {
-            return Ok(claims);
+        if tickets.len() >= most {
+            return Ok(tickets);
         }
     }
-    Ok(claims)
+    Ok(tickets)
 }
 
-/// Calls the gate for each claim, and returns the claimed exhibits, whose bytes are shared and not copied.
+/// Calls the gate for the place of each ticket, and returns the claimed exhibits, whose bytes are shared and not copied.
 fn begin_all<J: JobGate>(
     alloc: Global,
     gate: &J,
-    claims: &[Claim],
+    tickets: &[Ticket],
 ) -> Result<Vec<Exhibit>, AllocError> {
-    let mut exhibits = Vec::with_capacity(alloc, claims.len())?;
-    for claim in claims {
-        gate.begin(claim.place());
-        exhibits.push(claim.exhibit().share()?)?;
+    let mut exhibits = Vec::with_capacity(alloc, tickets.len())?;
+    for ticket in tickets {
+        gate.begin(ticket.place());
+        exhibits.push(ticket.exhibit().share()?)?;
     }
     Ok(exhibits)
 }
@@ -84,25 +84,25 @@ fn reports_of<J: JobGate>(
     alloc: Global,
     gate: &J,
     header: &Header,
-    claims: &[Claim],
+    tickets: &[Ticket],
     store: &mut VerifyStore,
 ) -> Result<Vec<LocalReport>, AllocError>
     requires { Serves header.now store.old }
     ensures { Serves header.now store.new }
 {
-    let exhibits = begin_all(alloc, gate, claims)?;
+    let exhibits = begin_all(alloc, gate, tickets)?;
     local_reports(alloc, header, exhibits.as_slice(), store)
 }
 
-/// Hands in the reports at the desk, each with the claim of the same position.
+/// Hands in the reports at the desk, each with the ticket of the same position.
 fn hand_in<R: Wait>(
     rt: &R,
     desk: &Desk,
-    claims: Vec<Claim>,
+    tickets: Vec<Ticket>,
     reports: Vec<LocalReport>,
 ) -> Result<(), DeskFault> {
-    for (claim, report) in claims.into_iter().zip(reports) {
-        if let Err((_claim, _report, fault)) = desk.report(rt, claim, report) {
+    for (ticket, report) in tickets.into_iter().zip(reports) {
+        if let Err((_ticket, _report, fault)) = desk.report(rt, ticket, report) {
             return Err(fault);
         }
     }
@@ -116,14 +116,14 @@ fn serve<R: Wait, J: JobGate>(
     gate: &J,
     header: &Header,
     desk: &Desk,
-    claims: Vec<Claim>,
+    tickets: Vec<Ticket>,
     store: &mut VerifyStore,
 ) -> Result<(), DeskFault>
     requires { Serves header.now store.old }
     ensures { Serves header.now store.new }
 {
-    match reports_of(alloc, gate, header, claims.as_slice(), store) {
-        Ok(reports) => hand_in(rt, desk, claims, reports),
+    match reports_of(alloc, gate, header, tickets.as_slice(), store) {
+        Ok(reports) => hand_in(rt, desk, tickets, reports),
         Err(AllocError) => Err(DeskFault::Memory),
     }
 }
@@ -152,11 +152,11 @@ fn work<R: Wait, J: JobGate>(
         if stop.is_set() {
             return Ok(());
         }
-        let Ok(claims) = claim_some(rt, alloc, desk, most) else {
+        let Ok(tickets) = claim_some(rt, alloc, desk, most) else {
             return Err(DeskFault::Memory);
         };
-        if !claims.is_empty() {
-            serve(rt, alloc, gate, header, desk, claims, &mut store)?;
+        if !tickets.is_empty() {
+            serve(rt, alloc, gate, header, desk, tickets, &mut store)?;
         } else if desk.all_reported(rt) {
             return Ok(());
         } else {

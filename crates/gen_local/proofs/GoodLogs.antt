@@ -110,9 +110,9 @@ none_unsigned h number (x ∷ entries) v = none_both (is_signed h x) number (fir
 good_of : (h : RunHeader) (general : ℕ) (found : FoundLog) → IsFound h general found → IsFaultless found → IsGood h general found.log
 good_of h general found is f = record {
   verifies = record {
-    log_of_run = is.log_of_run;
+    fits_run = is.fits_run;
     says = is.says;
-    entries = all_verify h 0 found.log.entries is.log_of_run.entries (sym is.unsigned ∙ f.signed);
+    entries = all_verify h 0 found.log.entries is.fits_run.entries (sym is.unsigned ∙ f.signed);
     head = under_has _ _ _ _ _ (sym is.sealed ∙ f.sealed);
   };
   follows = is.follows.0 f.follows;

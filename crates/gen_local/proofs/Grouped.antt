@@ -40,7 +40,7 @@ IsOfNetwork h x = x.general < h.network.generals
 one_of_network : (h : RunHeader) (general : ℕ) (bytes : List ℕ) (opening : Opening) → IsOpening h general bytes opening → AreOfNetwork h (own_logs general opening)
 one_of_network h general bytes (Unreadable fault) is = All-nil (IsOfNetwork h)
 one_of_network h general bytes Foreign is = All-nil (IsOfNetwork h)
-one_of_network h general bytes (Own log) is = All-cons (IsOfNetwork h) (record { general = general; log = log }) [] (start_known h log general is.log_of_run is.says.starts) (All-nil (IsOfNetwork h))
+one_of_network h general bytes (Own log) is = All-cons (IsOfNetwork h) (record { general = general; log = log }) [] (start_known h log general is.fits_run is.says.starts) (All-nil (IsOfNetwork h))
 
 pub of_network : (h : RunHeader) (opened : List Opened) → All (IsOpened h) opened → AreOfNetwork h (logs_in opened)
 of_network h [] are = All-nil (IsOfNetwork h)

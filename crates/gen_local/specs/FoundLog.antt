@@ -31,7 +31,7 @@ first_unsigned h number entries = position_from (λ e. not (is_signed h e)) numb
 -- the log is one of this run's network that says it is the general's of this run, and the other fields are
 -- what the definitions give for it
 pub record IsFound (h : RunHeader) (general : ℕ) (found : FoundLog) : Type 0 where
-  pub log_of_run : IsLog h found.log
+  pub fits_run : IsLog h found.log
   pub says : SaysItIsOf h general found.log
   pub unsigned : found.unsigned ≡ first_unsigned h 0 found.log.entries
   pub sealed : found.sealed ≡ text_verifies h (head_in h general found.log)

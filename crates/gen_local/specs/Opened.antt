@@ -14,7 +14,7 @@ use Rattle.gen_log.specs.Writing.{LogBytes}
 -- the bytes are this log, and it says that it is the general's of this run
 pub record IsOwnLog (h : RunHeader) (general : ℕ) (bytes : List ℕ) (log : RunLog) : Type 0 where
   pub read : log_of h bytes ≡ Ok log
-  pub log_of_run : IsLog h log
+  pub fits_run : IsLog h log
   pub spelled : bytes ≡ log_spelling log
   pub says : SaysItIsOf h general log
 

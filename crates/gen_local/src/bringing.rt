@@ -5,7 +5,7 @@ ghost use Rattle.gen_local.specs.Keys.{IsSmall};
 ghost use Rattle.gen_local.specs.Walking.Brought.{Brings, IsOf, AreBrought, SendsInside};
 
 use crate::places::round_of;
-use crate::progress::Progress;
+use crate::progress::{ORDERS, Progress};
 use crate::sending::next_due;
 use gen_log::Entry;
 use gen_net::Net;
@@ -57,7 +57,7 @@ fn brought(net: &Net, general: GeneralNo, old: Progress, entry: &Entry) -> Progr
 }
 
 /// Updates the progress with the entry's order; the progress with the other orders stays.
-pub fn bring(net: &Net, general: GeneralNo, orders: &mut [Progress; 16], entry: &Entry)
+pub fn bring(net: &Net, general: GeneralNo, orders: &mut [Progress; ORDERS], entry: &Entry)
     requires full { length orders.old ≡ 16 }
     requires inside { SendsInside net.now (erase entry.now) }
     ensures { AreBrought net.now general orders.old (erase entry.now) orders.new }

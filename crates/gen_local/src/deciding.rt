@@ -5,7 +5,7 @@ ghost use Rattle.gen_net.specs.Network.{choose};
 ghost use Rattle.gen_local.specs.declared.progress.Progress.TheVariants.{Unlearnt};
 ghost use Rattle.gen_local.specs.Walking.Judged.{IsKnown};
 
-use crate::progress::Progress;
+use crate::progress::{ORDERS, Progress};
 use gen_net::Net;
 use gen_types::{Choice, OrderNo, OrderSet};
 
@@ -21,11 +21,11 @@ fn is_known(progress: &Progress) -> bool
 }
 
 /// Returns the set of the orders that were learnt.
-fn known_orders(orders: &[Progress; 16]) -> OrderSet
+fn known_orders(orders: &[Progress; ORDERS]) -> OrderSet
     ensures { IsListOf result (λ v. (v < 16) × IsKnown (slice_index_or orders.now v Unlearnt)) }
 {
     let mut set = OrderSet::new();
-    for number in 0..16u8 {
+    for number in 0..ORDERS as u8 {
         if is_known(&orders[usize::from(number)]) {
             set.insert(OrderNo::at(number));
         }
@@ -35,7 +35,7 @@ fn known_orders(orders: &[Progress; 16]) -> OrderSet
 
 /// Whether a general with this progress can decide: the set is that of the orders that it learnt, and the order is the
 /// choice of the set.
-pub fn can_decide(net: &Net, orders: &[Progress; 16], set: &OrderSet, order: OrderNo) -> bool
+pub fn can_decide(net: &Net, orders: &[Progress; ORDERS], set: &OrderSet, order: OrderNo) -> bool
     ensures { IsTrue result ↔ (IsListOf set.now (λ v. (v < 16) × IsKnown (slice_index_or orders.now v Unlearnt)) × (order ≡ choose net.now set.now)) }
 {
     *set == known_orders(orders) && order == net.choice().choose(*set)

@@ -9,8 +9,8 @@ ghost use Rattle.gen_local.specs.Walking.Judged.{Stops, AnyStops, CanSend, IsAll
 ghost use Rattle.gen_local.specs.Walking.State.{IsAfter};
 
 use crate::deciding::can_decide;
-use crate::places::{key_of, send_key, sign_key};
-use crate::progress::Progress;
+use crate::places::{place_key, send_key, sign_key};
+use crate::progress::{ORDERS, Progress};
 use crate::receiving::can_arrive;
 use crate::signing::can_sign;
 use gen_log::Entry;
@@ -33,10 +33,10 @@ fn stops(net: &Net, order: OrderNo, progress: &Progress, at: u32) -> bool
 }
 
 /// Whether any order is due to be signed or sent at a place before this one.
-fn any_stops(net: &Net, orders: &[Progress; 16], at: u32) -> bool
+fn any_stops(net: &Net, orders: &[Progress; ORDERS], at: u32) -> bool
     ensures { IsTrue result ↔ AnyStops net.now orders.now at }
 {
-    for number in 0..16u8 {
+    for number in 0..ORDERS as u8 {
         if stops(net, OrderNo::at(number), &orders[usize::from(number)], at) {
             return true;
         }
@@ -73,7 +73,7 @@ fn is_allowed(
     net: &Net,
     general: GeneralNo,
     before: &[Entry],
-    orders: &[Progress; 16],
+    orders: &[Progress; ORDERS],
     entry: &Entry,
 ) -> bool
     ensures { IsTrue result ↔ IsAllowed net.now general (erased before.now) orders.now (erase entry.now) }
@@ -115,12 +115,12 @@ pub fn is_judged(
     general: GeneralNo,
     before: &[Entry],
     least: u32,
-    orders: &[Progress; 16],
+    orders: &[Progress; ORDERS],
     entry: &Entry,
 ) -> bool
     ensures { IsTrue result ↔ IsJudged net.now general (erased before.now) least orders.now (erase entry.now) }
 {
-    let at = key_of(net, entry);
+    let at = place_key(net, entry);
     least <= at
         && has_started(least, entry)
         && !any_stops(net, orders, at)

@@ -7,12 +7,30 @@ use gen_chain::SignedChain;
 use gen_log::Entry;
 use gen_net::Net;
 
+/// Each general's number and each order's number is less than this.
+const NUMBER_SPAN: u32 = 16;
+
+/// The number of places that a round has for each kind of entry.
+const KIND_STRIDE: u32 = NUMBER_SPAN * NUMBER_SPAN;
+
+/// The first place of a SIGN, counted from its round's first place.
+const FIRST_SIGN: u32 = KIND_STRIDE;
+
+/// The first place of a SEND, counted from its round's first place.
+const FIRST_SEND: u32 = 2 * KIND_STRIDE;
+
+/// The first place of a RECV, counted from its round's first place.
+const FIRST_RECV: u32 = 3 * KIND_STRIDE;
+
+/// The number of places that a round has.
+const PLACES_OF_ROUND: u32 = 4 * KIND_STRIDE;
+
 /// Returns the number of the place of a SIGN.
 pub fn sign_key(length: usize, order: u8) -> u32
     requires { length ≤ 17 }
     ensures { result ≡ key_of_sign length order }
 {
-    length as u32 * 1024 + 256 + u32::from(order) * 16
+    length as u32 * PLACES_OF_ROUND + FIRST_SIGN + u32::from(order) * NUMBER_SPAN
 }
 
 /// Returns the number of the place of a SEND.
@@ -20,7 +38,7 @@ pub fn send_key(length: usize, to: u8, order: u8) -> u32
     requires { length ≤ 17 }
     ensures { result ≡ key_of_send length to order }
 {
-    length as u32 * 1024 + 512 + u32::from(to) * 16 + u32::from(order)
+    length as u32 * PLACES_OF_ROUND + FIRST_SEND + u32::from(to) * NUMBER_SPAN + u32::from(order)
 }
 
 /// Returns the round in which a chain arrives: the number of its signers.
@@ -34,7 +52,7 @@ pub fn round_of(chain: &SignedChain) -> u8
 }
 
 /// Returns the number of the place of an entry, at most 18432.
-pub fn key_of(net: &Net, entry: &Entry) -> u32
+pub fn place_key(net: &Net, entry: &Entry) -> u32
     ensures value { result ≡ key_at net.now entry.now }
     ensures few { result ≤ 18432 }
 {
@@ -47,20 +65,20 @@ pub fn key_of(net: &Net, entry: &Entry) -> u32
         } => sign_key(path.len(), order.get()),
         Entry::Send { to, order, path } => send_key(path.len(), to.get(), order.get()),
         Entry::Recv { from, chain } => {
-            u32::from(round_of(chain)) * 1024
-                + 768
-                + u32::from(from.get()) * 16
+            u32::from(round_of(chain)) * PLACES_OF_ROUND
+                + FIRST_RECV
+                + u32::from(from.get()) * NUMBER_SPAN
                 + u32::from(chain.order().get())
         }
         Entry::Decide {
             orders: _,
             order: _,
-        } => (u32::from(net.rounds()) + 1) * 1024,
+        } => (u32::from(net.rounds()) + 1) * PLACES_OF_ROUND,
     }
 }
 
 /// Makes known that the orders and generals of an entry are below 16.
-pub fn know_small(entry: &Entry)
+pub fn note_small(entry: &Entry)
     ensures { IsSmall (erase entry.now) }
 {
     match entry {

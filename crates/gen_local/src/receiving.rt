@@ -1,31 +1,10 @@
 //! Tests which chains a general can receive.
-ghost use Rattle.std.specs.Prelude.{IsTrue, ◌≡◌, ◌↔◌, ◌∷◌, [], ◌<◌, All};
-ghost use Rattle.gen_types.specs.Ends.{BeginsWith, EndsWith};
+ghost use Rattle.std.specs.Prelude.{IsTrue, ◌≡◌, ◌↔◌, ◌<◌, All};
 ghost use Rattle.gen_net.specs.Chain.{IsChain};
 ghost use Rattle.gen_net.specs.Run.{IsWellFormed};
 
 use gen_net::Net;
 use gen_types::{GeneralNo, OrderNo, Path};
-
-/// Whether the first general of the path is the commander.
-fn begins_with_commander(path: &Path) -> bool
-    ensures { IsTrue result ↔ BeginsWith path.now (0 ∷ []) }
-{
-    match path.generals() {
-        [] => false,
-        [first, ..] => first.get() == 0,
-    }
-}
-
-/// Whether the last general of the path is this one.
-fn ends_with(path: &Path, general: GeneralNo) -> bool
-    ensures { IsTrue result ↔ EndsWith path.now general }
-{
-    match path.generals() {
-        [] => false,
-        [.., last] => *last == general,
-    }
-}
 
 /// Whether all generals of the path are of the network.
 fn are_known(net: &Net, path: &Path) -> bool
@@ -39,7 +18,7 @@ fn is_chain(net: &Net, order: OrderNo, path: &Path) -> bool
     ensures { IsTrue result ↔ IsChain net.now order path.now }
 {
     let _length = path.len();
-    order.get() < net.orders() && are_known(net, path) && begins_with_commander(path)
+    order.get() < net.orders() && are_known(net, path) && path.starts_with(&Path::commander())
 }
 
 /// Whether a chain of this order and path can arrive at the general from this sender.
@@ -55,6 +34,6 @@ pub fn can_arrive(
     net.has_edge(from, general)
         && is_chain(net, order, path)
         && path.len() <= usize::from(net.rounds())
-        && ends_with(path, from)
+        && path.ends_with(from)
         && !path.contains(general)
 }

@@ -10,8 +10,8 @@ ghost use Rattle.gen_local.specs.Walking.Brought.{SendsInside};
 
 use crate::bringing::bring;
 use crate::judging::is_judged;
-use crate::places::{key_of, know_small};
-use crate::progress::Progress;
+use crate::places::{note_small, place_key};
+use crate::progress::{ORDERS, Progress};
 use gen_log::Entry;
 use gen_net::Net;
 use gen_types::GeneralNo;
@@ -23,13 +23,13 @@ fn may_follow(
     general: GeneralNo,
     before: &[Entry],
     least: u32,
-    orders: &[Progress; 16],
+    orders: &[Progress; ORDERS],
     entry: &Entry,
 ) -> bool
     requires { IsAfter net.now general (erased before.now) least orders.now }
     ensures { IsTrue result ↔ MayFollow net.now general (erased before.now) (erase entry.now) }
 {
-    know_small(entry);
+    note_small(entry);
     let _orders = net.orders();
     is_judged(net, general, before, least, orders, entry)
 }
@@ -44,16 +44,16 @@ pub fn departs_from(net: &Net, general: GeneralNo, entries: &[Entry]) -> Option<
 {
     let _orders = net.orders();
     let mut least = 0u32;
-    let mut orders = [Progress::Unlearnt; 16];
+    let mut orders = [Progress::Unlearnt; ORDERS];
     for index in 0..entries.len() {
         let before = &entries[..index];
         let entry = &entries[index];
         if !may_follow(net, general, before, least, &orders, entry) {
             return Some(index);
         }
-        know_small(entry);
+        note_small(entry);
         bring(net, general, &mut orders, entry);
-        least = key_of(net, entry) + 1;
+        least = place_key(net, entry) + 1;
     }
     None
 }

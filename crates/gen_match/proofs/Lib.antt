@@ -2,6 +2,5 @@ pub mod Keys
 pub mod OneSided
 pub mod Ranked
 pub mod Rest
-pub mod Showing
 pub mod Sourcing
 pub mod Strays

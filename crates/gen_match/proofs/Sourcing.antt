@@ -32,13 +32,13 @@ derivable_at_last net faulty logs v path front last forged parts loyal nobody = 
       to_faulty = d.to_faulty;
       sent = d.sent;
       earlier = d.earlier;
-      begun = subst (BeginsWith d.source) (one_last (IsLoyal net faulty) front d.front last d.last forged d.forged (sym parts ∙ d.parts) loyal d.last_loyal nobody d.nobody_after) d.begun;
+      begun = subst (BeginsWith d.source) (one_last (IsLoyal net faulty) front d.front last d.last forged d.after (sym parts ∙ d.parts) loyal d.last_loyal nobody d.nobody_after) d.begun;
     }
   ]),
   (λ s. inr (record {
     front = front;
     last = last;
-    forged = forged;
+    after = forged;
     parts = parts;
     last_loyal = loyal;
     nobody_after = nobody;

@@ -42,10 +42,10 @@ not_loyal net faulty g f l = let t = rest_from net faulty g l in absurd cc
 record LastOfRest (net : Network) (faulty : List ℕ) (n : ℕ) (path : List ℕ) (k : ℕ) : Type 0 where
   pub front : List ℕ
   pub last : ℕ
-  pub forged : List ℕ
-  pub parts : path ≡ (front ++ last ∷ []) ++ forged
+  pub after : List ℕ
+  pub parts : path ≡ (front ++ last ∷ []) ++ after
   pub loyal : IsLoyal net faulty last
-  pub nobody : All (λ g. IsLoyal net faulty g → ⊥) forged
+  pub nobody : All (λ g. IsLoyal net faulty g → ⊥) after
   pub number : k ≡ number_behind n (front ++ last ∷ [])
 
 -- nobody of the path is of the rest, and what was found before stays, or it is found up to the last one who is
@@ -63,7 +63,7 @@ begin_told net faulty n found (g ∷ path) = elim (begin_told net faulty (n * 16
       record {
         front = [];
         last = g;
-        forged = path;
+        after = path;
         parts = refl;
         loyal = loyal_from net faulty g t;
         nobody = none.0;
@@ -78,7 +78,7 @@ begin_told net faulty n found (g ∷ path) = elim (begin_told net faulty (n * 16
     record {
       front = g ∷ some.2.front;
       last = some.2.last;
-      forged = some.2.forged;
+      after = some.2.after;
       parts = ap (λ xs. g ∷ xs) some.2.parts;
       loyal = some.2.loyal;
       nobody = some.2.nobody;
@@ -94,7 +94,7 @@ derived_in keys net faulty logs v path are d = elim (begin_told net faulty 1 Non
   | inl none ↦ ap (derives_from keys v (length path)) none.1
   | inr some ↦
       let l = some.2 in
-      let s = (derivable_at_last net faulty logs v path l.front l.last l.forged l.parts l.loyal l.nobody).0 d in
+      let s = (derivable_at_last net faulty logs v path l.front l.last l.after l.parts l.loyal l.nobody).0 d in
       let key = key_in net faulty logs s.from s.to v s.source l.front l.last s.begun.0 s.from_rest s.to_faulty s.sent s.begun.1 in
       let stands : Contains keys (source_key (path_number (l.front ++ l.last ∷ [])) v (length s.source)) = (are.members (source_key (path_number (l.front ++ l.last ∷ [])) v (length s.source))).1 key in
       let earlier : length s.source < length path = s.earlier in
@@ -120,8 +120,8 @@ derived_out keys net faulty logs v path are small small_v short digits d = elim 
       let inside = key_inside (path_number (l.front ++ l.last ∷ [])) v (length path) (path_number key.begin) key.v (length key.source) small_v source_small.0 (omega (arith, source_small.1)) (omega (arith, short))
       (subst (λ k. source_key (path_number (l.front ++ l.last ∷ [])) v 0 ≤ k) key.key between.2)
       (subst (λ k. k < source_key (path_number (l.front ++ l.last ∷ [])) v (length path)) key.key between.3) in
-      let same : key.begin ≡ l.front ++ l.last ∷ [] = one_path key.begin (l.front ++ l.last ∷ []) (front_small key.begin key.back key.source key.parts source_small.2) (front_small (l.front ++ l.last ∷ []) l.forged path l.parts digits) inside.number in
-      (derivable_at_last net faulty logs v path l.front l.last l.forged l.parts l.loyal l.nobody).1 (record {
+      let same : key.begin ≡ l.front ++ l.last ∷ [] = one_path key.begin (l.front ++ l.last ∷ []) (front_small key.begin key.back key.source key.parts source_small.2) (front_small (l.front ++ l.last ∷ []) l.after path l.parts digits) inside.number in
+      (derivable_at_last net faulty logs v path l.front l.last l.after l.parts l.loyal l.nobody).1 (record {
         from = key.from;
         to = key.to;
         source = key.source;
@@ -230,7 +230,7 @@ ranked keys net faulty logs k are few f =
       path = f.path;
       round = refl;
       received = f.received;
-      forged = λ d. let t = derived_in keys net faulty logs f.v f.path are d in let s = f.stray in absurd cc;
+      not_derivable = λ d. let t = derived_in keys net faulty logs f.v f.path are d in let s = f.stray in absurd cc;
     } in
     record {
       from = f.from;
@@ -249,7 +249,7 @@ stands keys ranks net faulty logs (Underivable from to round order) are small fe
     let here = logged_in net faulty logs to (Received from order u.path) u.to_rest u.received in
     let ranges : (from < 16) × (order < 16) × (length u.path ≤ 16) × All (λ g. g < 16) u.path = small to (Received from order u.path) u.to_rest.0 here in
     let stray : derives keys net faulty order u.path ≡ false = elim (bool_cases (derives keys net faulty order u.path)) [
-      | inl t ↦ absurd (u.forged (derived_out keys net faulty logs order u.path are small ranges.1 ranges.2 ranges.3 t))
+      | inl t ↦ absurd (u.not_derivable (derived_out keys net faulty logs order u.path are small ranges.1 ranges.2 ranges.3 t))
       | inr f ↦ f
     ] in
     record {

@@ -42,10 +42,10 @@ pub record DerivesFromLogs (net : Network) (faulty : List ℕ) (logs : Logs) (v 
     Type 0 where
   pub front : List ℕ
   pub last : ℕ
-  pub forged : List ℕ
-  pub parts : path ≡ (front ++ last ∷ []) ++ forged
+  pub after : List ℕ
+  pub parts : path ≡ (front ++ last ∷ []) ++ after
   pub last_loyal : IsLoyal net faulty last
-  pub nobody_after : All (λ g. IsLoyal net faulty g → ⊥) forged
+  pub nobody_after : All (λ g. IsLoyal net faulty g → ⊥) after
   pub from : ℕ
   pub to : ℕ
   pub source : List ℕ
@@ -67,7 +67,7 @@ pub record IsUnderivable (net : Network) (faulty : List ℕ) (logs : Logs) (a b 
   pub path : List ℕ
   pub round : length path ≡ l
   pub received : Logged logs b (Received a v path)
-  pub forged : IsDerivableFromLogs net faulty logs v path → ⊥
+  pub not_derivable : IsDerivableFromLogs net faulty logs v path → ⊥
 
 -- the finding is that only one of two logs has a message
 abbrev pub FindsUnmatched : Network → List ℕ → Logs → Finding → Type 0

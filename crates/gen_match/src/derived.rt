@@ -10,7 +10,7 @@ ghost use Rattle.gen_match.specs.Reports.{AreUnder, told_logs};
 ghost use Rattle.gen_match.specs.Rest.{IsSmall, AreSmall};
 ghost use Rattle.gen_match.specs.Underivables as finding;
 
-use crate::entries::{is_rest, learn_ranges, rest_entries};
+use crate::entries::{is_rest, note_ranges, rest_entries};
 use crate::finding::Finding;
 use crate::kinds::Kind;
 use crate::prefixes::{has_between, longer, sort_apart, source_key};
@@ -113,7 +113,7 @@ fn find_entries(
 {
     let mut rest = entries;
     while let Some((entry, others)) = rest.split_first() {
-        learn_ranges(entry);
+        note_ranges(entry);
         find_entry(sources, header, faulty, to, entry, ranks)?;
         rest = others;
     }

@@ -38,7 +38,7 @@ pub(crate) fn rest_entries<'a>(
 }
 
 /// Makes known the ranges of an entry's numbers, which its types keep.
-pub(crate) fn learn_ranges(entry: &Entry)
+pub(crate) fn note_ranges(entry: &Entry)
     ensures { rest.IsSmall (erase entry.now) }
 {
     match entry {

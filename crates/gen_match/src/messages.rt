@@ -9,9 +9,9 @@ ghost use Rattle.gen_match.specs.Messages as message;
 ghost use Rattle.gen_match.specs.Reports.{told_logs};
 ghost use Rattle.gen_match.specs.Rest.{IsSmall, AreSmall};
 
-use crate::entries::{learn_ranges, rest_entries};
+use crate::entries::{note_ranges, rest_entries};
 use crate::prefixes::{has, path_number, sort_apart};
-use crate::ranks::rank_number;
+use crate::ranks::{RANK_SPAN, rank_number};
 use crate::sides::Side;
 use gen_local::LocalReport;
 use gen_log::Entry;
@@ -19,14 +19,11 @@ use gen_net::Header;
 use gen_types::{GeneralNo, GeneralSet, OrderNo, Path};
 use std::alloc::{AllocError, Global};
 
-/// Each rank number of a message is less than this.
-const RANKS: u128 = 131_072;
-
 /// Returns the key of a message.
-fn key_of(from: GeneralNo, to: GeneralNo, order: OrderNo, path: &Path) -> u128
+fn message_key(from: GeneralNo, to: GeneralNo, order: OrderNo, path: &Path) -> u128
     ensures { result ≡ message.key_of from to order path.now }
 {
-    path_number(path) * RANKS + rank_number(from, to, path.len(), order)
+    path_number(path) * RANK_SPAN + rank_number(from, to, path.len(), order)
 }
 
 /// Appends a key if the general at the other end of its message counts.
@@ -46,7 +43,7 @@ fn put_key(
 }
 
 /// Appends the key of the message that an entry of a general's log tells on this side, if it tells one.
-fn put_entry(
+fn put_message(
     side: Side,
     counted: &GeneralSet,
     general: GeneralNo,
@@ -58,10 +55,10 @@ fn put_entry(
 {
     match (side, entry) {
         (Side::Sender, Entry::Send { to, order, path }) => {
-            put_key(counted, *to, key_of(general, *to, *order, path), keys)
+            put_key(counted, *to, message_key(general, *to, *order, path), keys)
         }
         (Side::Receiver, Entry::Recv { from, chain }) => {
-            let key = key_of(*from, general, chain.order(), &chain.path());
+            let key = message_key(*from, general, chain.order(), &chain.path());
             put_key(counted, *from, key, keys)
         }
         _ => Ok(()),
@@ -69,7 +66,7 @@ fn put_entry(
 }
 
 /// Appends the keys of the messages that the entries of a general's log tell on this side.
-fn put_entries(
+fn put_messages(
     side: Side,
     counted: &GeneralSet,
     general: GeneralNo,
@@ -82,8 +79,8 @@ fn put_entries(
 {
     let mut rest = entries;
     while let Some((entry, others)) = rest.split_first() {
-        learn_ranges(entry);
-        put_entry(side, counted, general, entry, keys)?;
+        note_ranges(entry);
+        put_message(side, counted, general, entry, keys)?;
         rest = others;
     }
     Ok(())
@@ -107,7 +104,7 @@ pub(crate) fn find_keys(
     for number in 0..header.net().generals() {
         let general = GeneralNo::at(number);
         let entries = rest_entries(header, faulty, reports, general);
-        put_entries(side, counted, general, entries, &mut keys)?;
+        put_messages(side, counted, general, entries, &mut keys)?;
     }
     sort_apart(&mut keys)?;
     Ok(keys)
@@ -120,7 +117,7 @@ fn put_rank(key: u128, others: &[u128], ranks: &mut Vec<u128>) -> Result<(), All
         ≡ ranks.old.items ++ message.rank_lacked others.now key) }
 {
     if !has(others, key) {
-        ranks.push(key % RANKS)?;
+        ranks.push(key % RANK_SPAN)?;
     }
     Ok(())
 }

@@ -4,6 +4,7 @@ ghost use Rattle.gen_types.specs.Ascending.{IsListOf};
 ghost use Rattle.gen_types.specs.Ends.{is_among};
 ghost use Rattle.gen_match.specs.Prefixes as keys;
 
+use crate::ranks::{GENERAL_SPAN, ORDER_SPAN, ROUND_SPAN};
 use gen_types::{GeneralNo, OrderNo, Path};
 use std::alloc::AllocError;
 
@@ -14,7 +15,7 @@ pub(crate) fn longer(number: u128, count: usize, general: GeneralNo) -> u128
     ensures value { result ≡ number * 16 + general }
     ensures small { result < 2 * 16 ^ (count + 1) }
 {
-    number * 16 + u128::from(general.get())
+    number * GENERAL_SPAN + u128::from(general.get())
 }
 
 /// Returns the key of a beginning of a path: from the beginning's number, the order and the number of generals of the
@@ -24,7 +25,7 @@ pub(crate) fn source_key(number: u128, order: OrderNo, len: usize) -> u128
     requires few { len ≤ 16 }
     ensures { result ≡ keys.source_key number order len }
 {
-    (number * 16 + u128::from(order.get())) * 32 + len as u128
+    (number * ORDER_SPAN + u128::from(order.get())) * ROUND_SPAN + len as u128
 }
 
 /// Returns the number of a path.

@@ -16,7 +16,7 @@ use gen_types::{GeneralNo, GeneralSet};
 use std::alloc::{AllocError, Global};
 
 /// Appends the keys of an entry: of all beginnings of its path, if it is a SEND to a faulty general.
-fn put_entry(faulty: &GeneralSet, entry: &Entry, keys: &mut Vec<u128>) -> Result<(), AllocError>
+fn put_source(faulty: &GeneralSet, entry: &Entry, keys: &mut Vec<u128>) -> Result<(), AllocError>
     ensures { OnOk result (keys.new.items
         ≡ keys.old.items ++ finding.entry_keys faulty.now (erase entry.now)) }
 {
@@ -32,7 +32,7 @@ fn put_entry(faulty: &GeneralSet, entry: &Entry, keys: &mut Vec<u128>) -> Result
 }
 
 /// Appends the keys of entries.
-fn put_entries(
+fn put_sources(
     faulty: &GeneralSet,
     entries: &[Entry],
     keys: &mut Vec<u128>,
@@ -42,7 +42,7 @@ fn put_entries(
 {
     let mut rest = entries;
     while let Some((entry, others)) = rest.split_first() {
-        put_entry(faulty, entry, keys)?;
+        put_source(faulty, entry, keys)?;
         rest = others;
     }
     Ok(())
@@ -62,7 +62,7 @@ pub(crate) fn find_sources(
     let mut keys = Vec::new(alloc);
     for number in 0..header.net().generals() {
         let entries = rest_entries(header, faulty, reports, GeneralNo::at(number));
-        put_entries(faulty, entries, &mut keys)?;
+        put_sources(faulty, entries, &mut keys)?;
     }
     sort_apart(&mut keys)?;
     Ok(keys)

@@ -1,12 +1,8 @@
 -- The neighbours of a general, looked for among one general more.
-use Rattle.std.proofs.Common.{◌≡◌, ℕ, ◌+◌, ◌<◌, ◌⊎◌, inl, inr, List, [], Contains, sym, subst, arith}
+use Rattle.std.proofs.Common.{◌≡◌, ℕ, ◌+◌, ◌<◌, ◌⊎◌, inl, inr, List, Contains, sym, subst, arith}
 use Rattle.std.proofs.lemmas.Bool.{cases_eq}
 use Rattle.gen_types.specs.Ascending.{IsListOf}
-use Rattle.gen_types.proofs.Lists.{Contains_nil}
 use Rattle.gen_net.specs.Network.{Network, AreNeighbours, IsNetwork}
-
-pub none_yet : (P : ℕ → Type 0) → IsListOf [] (λ h. (h < 0) × P h)
-none_yet P = record { ascending = λ i j d l m. absurd (omega arith); members = λ v. ((λ h. absurd (Contains_nil v h)), λ h. absurd (omega (arith, h.0))) }
 
 pub one_more : (P : ℕ → Type 0) (old new : List ℕ) (k : ℕ) → IsListOf old (λ h. (h < k) × P h) → P k → IsListOf new (λ v. Contains old v ⊎ (v ≡ k)) → IsListOf new (λ h. (h < k + 1) × P h)
 one_more P old new k so_far here grown = record {

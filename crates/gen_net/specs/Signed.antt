@@ -1,5 +1,6 @@
--- Runs in which no loyal signature is forged (assumption A4 of section 4 of the paper of 1982, as a condition
--- on messages).
+-- Runs in which all of the rest follow, and each message of a faulty general derives. This asks for more
+-- than assumption A4 of section 4 of the paper of 1982. A faulty general sends a signature of the rest on
+-- only in a later round than that in which one of the rest sent it to a faulty general.
 use Rattle.std.specs.Prelude.{ℕ, ◌≡◌, ◌<◌, ◌⊎◌, List, [], ◌∷◌, ◌++◌, length, Contains, All}
 use Rattle.gen_net.specs.Network.{Network, IsLoyal}
 use Rattle.gen_types.specs.Ends.{BeginsWith}
@@ -8,15 +9,16 @@ use Rattle.gen_net.specs.Run.{Run, IsRun}
 use Rattle.gen_net.specs.Follows.{Conduct, Follows}
 
 -- The message derives from a message of the same order that one of the rest sent to a faulty general in an
--- earlier round. That message's path begins with this one's path up to its last general of the rest.
+-- earlier round. That message's path begins with this one's path up to its last general of the rest. All
+-- generals after that one are faulty.
 pub record Derivation (net : Network) (faulty : List ℕ) (run : Run) (message : Message)
     : Type 0 where
   pub front : List ℕ
   pub last : ℕ
-  pub forged : List ℕ
-  pub parts : message.path ≡ (front ++ last ∷ []) ++ forged
+  pub after : List ℕ
+  pub parts : message.path ≡ (front ++ last ∷ []) ++ after
   pub last_loyal : IsLoyal net faulty last
-  pub nobody_after : All (λ g. IsLoyal net faulty g → ⊥) forged
+  pub nobody_after : All (λ g. IsLoyal net faulty g → ⊥) after
   pub source : Message
   pub sent : Contains run source
   pub from_loyal : IsLoyal net faulty source.from

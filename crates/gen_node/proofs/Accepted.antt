@@ -137,7 +137,7 @@ he_started s walks ok none sole =
     let bytes = his_bytes s none x (subst (λ (xs : List LogBytes). Contains xs x) (sym sole.sole) (Contains_here x [])) in
     let has : Contains (worlds.logs_of s 0) (his_log s) = subst (λ (logs : List RunLog). Contains logs (his_log s)) (sym (only_his s none)) (Contains_here (his_log s) []) in
     let verified : LogVerifies (header_of s) 0 (his_log s) = all_verify s ok 0 (omega (arith, ok.network.ranges.some_generals)) (his_log s) has in
-    let again : log_of (header_of s) (log_spelling (his_log s)) ≡ Ok (his_log s) = log_only (header_of s) ok.network.ranges.few_orders (log_spelling (his_log s)) (his_log s) (record { fits = verified.log_of_run; spelled = refl }) in
+    let again : log_of (header_of s) (log_spelling (his_log s)) ≡ Ok (his_log s) = log_only (header_of s) ok.network.ranges.few_orders (log_spelling (his_log s)) (his_log s) (record { fits = verified.fits_run; spelled = refl }) in
     let reads : log_of (header_of s) x.bytes ≡ Ok (his_log s) = ap (log_of (header_of s)) bytes ∙ again in
     (map erase (his_log s).entries, counts (bundle_of s walks) 0 x (his_log s) sole.sole reads verified.says, first_entry s)
 

@@ -1,5 +1,5 @@
 -- Each scenario has nodes that hand their frames to each other.
-use Rattle.std.proofs.Common.{◌≡◌, ◌<◌, ◌+◌, ℕ, zero, suc, Bool, true, false, inl, inr, List, [], ◌∷◌, ◌++◌, map, filter, Contains, refl, sym, ap, subst, ◌∙◌, arith, add-one, Option, Some, None}
+use Rattle.std.proofs.Common.{◌≡◌, ◌+◌, ℕ, zero, suc, Bool, true, false, inl, inr, List, [], ◌∷◌, ◌++◌, map, filter, Contains, refl, sym, ap, subst, ◌∙◌, arith, add-one, Option, Some, None}
 use Rattle.std.specs.Prelude.{◌==◌, unwrap_or}
 use Rattle.std.specs.List.{range_with_len}
 use Rattle.std.proofs.lemmas.Bool.{eqb-true, eq-eqb}
@@ -8,7 +8,6 @@ use Rattle.gen_types.specs.Members.{Contains_cases, Contains_nil, bool_cases, fi
 use Rattle.gen_types.proofs.Lists.{Contains_mapped}
 use Rattle.gen_tree.specs.Rings.{Ring, seed_of}
 use Rattle.gen_net.specs.Header.{RunHeader}
-use Rattle.gen_net.specs.Network.{rounds}
 use Rattle.gen_chain.specs.Leaves.{leaf_of_order}
 use Rattle.gen_script.specs.declared.lines.ScriptLine.{ScriptLine}
 use Rattle.gen_scenario.proofs.Having.{in_mapped}
@@ -22,7 +21,7 @@ use Rattle.gen_general.specs.Recording.{Recorder, RecordsRound}
 use Rattle.gen_node.specs.declared.stages.Stage.TheVariants.{Between, Sending}
 use Rattle.gen_node.specs.Held.{Held, held_of, frame_in}
 use Rattle.gen_node.specs.Node.{IsBegun, IsBegunFrom, Node, ended, frame_to, fresh_ring, node_at_start, sent_from}
-use Rattle.gen_node.specs.NodeLaws.{HandOn, IsHonest, Nodes, NodesExist}
+use Rattle.gen_node.specs.NodeLaws.{HandOn, Nodes, NodesExist}
 
 -- ---- the leaves that a general takes from its ring in a round
 

@@ -13,7 +13,7 @@ use Rattle.gen_types.proofs.Steps.{after, after_check, at_end}
 use Rattle.gen_node.specs.declared.frames.FrameFront.{FrameFront}
 use Rattle.gen_node.specs.declared.frame_fault.FrameFault.{FrameFault}
 use Rattle.gen_node.specs.declared.frame_fault.FrameFault.TheVariants as faults
-use Rattle.gen_node.specs.Frame.{Frame, IsFront, IsParcel, IsFrame, frame_mark, run_id_length, front_spelling, parcel_spelling, frame_spelling}
+use Rattle.gen_node.specs.Frame.{WireFrame, IsFront, IsParcel, IsFrame, frame_mark, run_id_length, front_spelling, parcel_spelling, frame_spelling}
 use Rattle.gen_node.specs.FrameReading.{run_at, front_at, parcel_at, frame_at, whole_frame}
 
 -- ---- the mark and the run id
@@ -70,9 +70,6 @@ front_again f rest is =
     let regrouped : front_spelling f ++ rest ≡ mark_bytes ++ (f.run_id ++ (ends ++ rest)) = append_assoc mark_bytes (f.run_id ++ ends) rest ∙ ap (λ (t : List ℕ). mark_bytes ++ t) (append_assoc f.run_id ends rest) in
     ap front_at regrouped ∙ rw (run_again f.run_id (ends ++ rest) is.run_id) refl
 
-fronts_read : Reads front_at front_spelling IsFront
-fronts_read = record { takes = front_takes; again = front_again }
-
 -- ---- parcels
 
 abbrev ParcelTaken : List ℕ → List ℕ × List ℕ → Type 0
@@ -98,10 +95,10 @@ parcels_read = record { takes = parcel_takes; again = parcel_again }
 
 -- ---- frames
 
-abbrev FrameTaken : List ℕ → Frame × List ℕ → Type 0
+abbrev FrameTaken : List ℕ → WireFrame × List ℕ → Type 0
 FrameTaken bytes x = Takes bytes (frame_spelling x.0) x.1 × IsFrame x.0
 
-frame_takes : (bytes : List ℕ) (x : Frame × List ℕ) → IsBytes bytes → frame_at bytes ≡ Ok x → FrameTaken bytes x
+frame_takes : (bytes : List ℕ) (x : WireFrame × List ℕ) → IsBytes bytes → frame_at bytes ≡ Ok x → FrameTaken bytes x
 unfolding frame_at
 frame_takes bytes x fits e =
     after (front_at bytes) (λ front. number_at faults.Truncated w16 front.1 >>= λ count. many_at parcel_at count.0 count.1 >>= λ parcels. Ok (record { front = front.0; parcels = parcels.0 }, parcels.1)) x e (λ front r0 e0.
@@ -116,7 +113,7 @@ frame_takes bytes x fits e =
     let few : length parcels.0 < 2 ^ 16 = subst (λ (n : ℕ). n < 2 ^ 16) (sym t2.1) t1.1 in
     at_end {F = FrameFault} (FrameTaken bytes) (record { front = front.0; parcels = parcels.0 }, parcels.1) x e2 (text, record { front = t0.1; few = few; short = t2.2 }))))
 
-frame_again : (f : Frame) (rest : List ℕ) → IsFrame f → frame_at (frame_spelling f ++ rest) ≡ Ok (f, rest)
+frame_again : (f : WireFrame) (rest : List ℕ) → IsFrame f → frame_at (frame_spelling f ++ rest) ≡ Ok (f, rest)
 unfolding frame_at
 frame_again f rest is =
     let count : List ℕ = to_be_bytes w16 (length f.parcels) in
@@ -133,7 +130,7 @@ nil_by : (xs : List ℕ) → length xs ≡ 0 → xs ≡ []
 nil_by [] e = refl
 nil_by (x ∷ xs) e = absurd (omega (arith, e))
 
-pub frame_found : (bytes : List ℕ) (f : Frame) → IsBytes bytes → whole_frame bytes ≡ Ok f → Spells IsFrame frame_spelling bytes f
+pub frame_found : (bytes : List ℕ) (f : WireFrame) → IsBytes bytes → whole_frame bytes ≡ Ok f → Spells IsFrame frame_spelling bytes f
 unfolding whole_frame
 frame_found bytes f fits e =
     after (frame_at bytes) (λ frame. check (eqb (length frame.1) 0) faults.LeftOver >>= λ all. Ok frame.0) f e (λ frame r0 e0.
@@ -143,7 +140,7 @@ frame_found bytes f fits e =
     let whole : bytes ≡ frame_spelling frame.0 = t.0.parts ∙ ap (λ (r : List ℕ). frame_spelling frame.0 ++ r) none ∙ append-nil (frame_spelling frame.0) in
     at_end {F = FrameFault} (Spells IsFrame frame_spelling bytes) frame.0 f e1 (record { fits = t.1; spelled = whole })))
 
-pub frame_only : (bytes : List ℕ) (f : Frame) → Spells IsFrame frame_spelling bytes f → whole_frame bytes ≡ Ok f
+pub frame_only : (bytes : List ℕ) (f : WireFrame) → Spells IsFrame frame_spelling bytes f → whole_frame bytes ≡ Ok f
 unfolding whole_frame
 frame_only bytes f spells =
     let read : frame_at bytes ≡ Ok (f, []) = ap frame_at (spells.spelled ∙ sym (append-nil (frame_spelling f))) ∙ frames_read.again f [] spells.fits in

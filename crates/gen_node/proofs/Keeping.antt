@@ -1,38 +1,26 @@
 -- What each node keeps, call by call.
-use Rattle.std.proofs.Common.{◌≡◌, ◌<◌, ◌≤◌, ◌+◌, ℕ, true, false, List, [], ◌∷◌, ◌++◌, map, refl, sym, ap, subst, ◌∙◌, arith, Option, Some, None, inl, inr}
+use Rattle.std.proofs.Common.{◌≡◌, ◌<◌, ◌+◌, ℕ, true, false, List, [], ◌∷◌, ◌++◌, refl, sym, ap, subst, ◌∙◌, arith, Option, Some, None, inl, inr}
 use Rattle.std.specs.Prelude.{IsSome}
-use Rattle.std.specs.List.{range_with_len}
 use Rattle.std.proofs.lemmas.Bool.{ltb-true}
-use Rattle.gen_types.proofs.Lists.{Contains_nil}
 use Rattle.gen_tree.specs.Rings.{Ring}
 use Rattle.gen_net.specs.Header.{RunHeader}
 use Rattle.gen_log.specs.declared.entries.Entry.{Entry}
 use Rattle.gen_net.specs.Network.{rounds}
-use Rattle.gen_scenario.specs.Part.{IsPart, Part}
+use Rattle.gen_scenario.specs.Part.{Part}
 use Rattle.gen_scenario.specs.RoundEntries.{recv_entries, send_entries, sign_entries}
-use Rattle.gen_scenario.specs.SignedWorld.{delivery, near_of}
+use Rattle.gen_scenario.specs.SignedWorld.{delivery}
 use Rattle.gen_scenario.specs.Counted.{counted_of}
-use Rattle.gen_general.specs.Participant.{IsUnused, Participant, RingAfter, sender_at}
+use Rattle.gen_general.specs.Participant.{Participant, RingAfter, sender_at}
 use Rattle.gen_general.specs.Loops.Journals.{IsRecord}
-use Rattle.gen_general.proofs.JournalRecords.{heard_record, round_record, start_record}
-use Rattle.gen_general.specs.Recording.{Recorder, RecordsRound, StandBefore, recorder_at_start, with_recvs, with_sends}
+use Rattle.gen_general.proofs.JournalRecords.{heard_record, round_record}
+use Rattle.gen_general.specs.Recording.{Recorder, RecordsRound, StandBefore, with_recvs, with_sends}
 use Rattle.gen_node.specs.declared.stages.Stage.{Stage}
 use Rattle.gen_node.specs.declared.stages.Stage.TheVariants.{Between, Sending, Open, Hearing}
 use Rattle.gen_node.specs.Held.{Held}
-use Rattle.gen_node.specs.Node.{begins_in, ends_in, header_at, next_heard}
+use Rattle.gen_node.specs.Node.{begins_in, header_at}
 use Rattle.gen_node.specs.Loops.Kept.{IsNode, held_for, is_near, log_begun}
 use Rattle.gen_node.proofs.Places.{act_before, recv_place, send_place, sign_place, stand_both, stand_later}
 use Rattle.gen_node.proofs.Rows.{held_far, held_near}
-
-pub kept_start : (h : RunHeader) (part : Part) (ring : Ring) → part.header ≡ h → part.script ≡ None → IsPart part → IsUnused part.header ring → IsNode h (recorder_at_start part (Some ring)) Between []
-kept_start h part ring e none known unused = record {
-  header = e;
-  unscripted = none;
-  ring = refl;
-  acts = start_record part (Some ring) (log_begun part) known (none, unused) refl refl refl;
-  place = λ x k. absurd (Contains_nil x k);
-  holds = tt;
-}
 
 ring_stays : (p : Participant) (old new : Option Ring) → RingAfter p old new → IsSome old → IsSome new
 ring_stays p (Some old) (Some new) after some = refl
@@ -91,35 +79,7 @@ kept_unsent h r next out low far is =
       holds = (omega (arith, low), held_far r (header_at r).network r.standing.known.me next out far is.holds.1);
     }
 
-pub kept_open : (h : RunHeader) (r : Recorder) (next : ℕ) (out : List Held) → (header_at r).network.generals ≤ next → IsNode h r (Sending next) out → IsNode h r Open out
-kept_open h r next out past is =
-    let round : ℕ = r.standing.round in
-    let all : next ≡ (header_at r).network.generals = omega (arith, past, is.holds.0) in
-    record {
-      header = is.header;
-      unscripted = is.unscripted;
-      ring = is.ring;
-      acts = is.acts;
-      place = stand_later h.network r.written (round ∷ 1 ∷ next ∷ []) (round ∷ 2 ∷ []) is.place (inr (refl, inl (omega arith)));
-      holds = subst (λ (n : ℕ). out ≡ map (held_for r) (near_of (header_at r).network r.standing.known.me (range_with_len 0 n))) all is.holds.1;
-    }
-
 -- ---- a round ends
-
-pub kept_ends : (h : RunHeader) (r : Recorder) (stage : Stage) (out : List Held) → ends_in stage ≡ true → IsNode h r stage out → IsNode h r (Hearing (next_heard stage)) out
-kept_ends h r Between out e is = absurd cc
-kept_ends h r (Sending next) out e is = absurd cc
-kept_ends h r (Hearing next) out e is = is
-kept_ends h r Open out e is =
-    let round : ℕ = r.standing.round in
-    record {
-      header = is.header;
-      unscripted = is.unscripted;
-      ring = is.ring;
-      acts = is.acts;
-      place = stand_later h.network r.written (round ∷ 2 ∷ []) (round ∷ 2 ∷ 0 ∷ []) is.place (inr (refl, inr (refl, tt)));
-      holds = tt;
-    }
 
 pub kept_heard : (h : RunHeader) (r : Recorder) (next : ℕ) (frame : List (List ℕ)) (out : List Held) → IsNode h r (Hearing next) out → IsNode h (with_recvs r next frame) (Hearing (next + 1)) out
 kept_heard h r next frame out is =
@@ -150,18 +110,6 @@ kept_unheard h r next out is =
       holds = tt;
     }
 
-pub kept_between : (h : RunHeader) (r : Recorder) (next : ℕ) (out left : List Held) → IsNode h r (Hearing next) out → IsNode h r Between left
-kept_between h r next out left is =
-    let round : ℕ = r.standing.round in
-    record {
-      header = is.header;
-      unscripted = is.unscripted;
-      ring = is.ring;
-      acts = is.acts;
-      place = stand_later h.network r.written (round ∷ 2 ∷ next ∷ []) ((round + 1) ∷ []) is.place (inl (omega arith));
-      holds = tt;
-    }
-
 -- ---- what is asked of the recorder
 
 pub may_more : (stage : Stage) (round all : ℕ) → stage ≡ Between → begins_in stage round all ≡ true → round < all
@@ -169,9 +117,3 @@ may_more Between round all e may = ltb-true round all may
 may_more (Sending next) round all e may = absurd cc
 may_more Open round all e may = absurd cc
 may_more (Hearing next) round all e may = absurd cc
-
-pub may_send_next : (h : RunHeader) (r : Recorder) (next : ℕ) (out : List Held) → IsNode h r (Sending next) out → StandBefore (header_at r).network r.written (r.standing.round ∷ 1 ∷ next ∷ [])
-may_send_next h r next out is = subst (λ (x : RunHeader). StandBefore x.network r.written (r.standing.round ∷ 1 ∷ next ∷ [])) (sym is.header) is.place
-
-pub may_hear_next : (h : RunHeader) (r : Recorder) (next : ℕ) (out : List Held) → IsNode h r (Hearing next) out → StandBefore (header_at r).network r.written (r.standing.round ∷ 2 ∷ next ∷ [])
-may_hear_next h r next out is = subst (λ (x : RunHeader). StandBefore x.network r.written (r.standing.round ∷ 2 ∷ next ∷ [])) (sym is.header) is.place

@@ -15,7 +15,7 @@ use Rattle.gen_scenario.specs.SignedWorld.{frame_at, neighbours_of}
 use Rattle.gen_scenario.specs.WorldLogs.{log_bytes, logs_of}
 use Rattle.gen_general.specs.DrivenRecords.{HasHeard}
 use Rattle.gen_general.specs.Recording.{Recorder, log_written}
-use Rattle.gen_node.specs.Frame.{Frame}
+use Rattle.gen_node.specs.Frame.{WireFrame}
 use Rattle.gen_node.specs.Held.{frame_in}
 use Rattle.gen_node.specs.Node.{decision_of_node, ended}
 use Rattle.gen_node.specs.NodeLaws.{HandOn, HoldsRound, IsAfter, IsHonest, IsWithin, Nodes, NodesDecisions, NodesLogs, NodesRun}
@@ -39,7 +39,7 @@ module _ (s : Scenario) (x : Nodes) (ok : IsScenario s) (on : HandOn s x) where
       let known : from < s.net.generals = omega (arith, (filter_range_has (λ y. list_any (joins g y) s.net.edges) 0 s.net.generals from near).1) in
       let honest : IsHonest s from = record { known = known; unscripted = e } in
       let sent = nodes_send s k from g (x.begun k from) (begun_at k from low honest (all from honest)) in
-      on.honest k g from low his near honest ∙ ap (λ (f : Frame). f.parcels) sent
+      on.honest k g from low his near honest ∙ ap (λ (f : WireFrame). f.parcels) sent
   handed_one k g from (Some lines) e low his near all = on.others k g from low his near (λ none. (let both : Some lines ≡ None = sym e ∙ none in absurd cc))
 
   one_round : (k : ℕ) → k < rounds s.net → ((v : ℕ) → IsHonest s v → IsAfter s k v (x.after k v)) → (g : ℕ) → IsHonest s g → IsAfter s (k + 1) g (x.after (k + 1) g)

@@ -26,7 +26,7 @@ use Rattle.gen_general.proofs.Worlds.{decides_as_he, sends_frames}
 use Rattle.gen_node.specs.declared.frame_fault.FrameFault.{FrameFault}
 use Rattle.gen_node.specs.declared.stages.Stage.{Stage}
 use Rattle.gen_node.specs.declared.stages.Stage.TheVariants.{Between, Sending, Open, Hearing}
-use Rattle.gen_node.specs.Frame.{Frame}
+use Rattle.gen_node.specs.Frame.{WireFrame}
 use Rattle.gen_node.specs.FrameReading.{whole_frame}
 use Rattle.gen_node.specs.Held.{frame_in}
 use Rattle.gen_node.specs.Node.{Node, HasSigned, IsBegunFrom, awaited, ended, frame_to, from_on, front_check, header_at, heard_from, hears_all, near_at, sends_all, sent_from, with_arrival}
@@ -142,7 +142,7 @@ pub nodes_take : NodesTake
 unfolding awaited
 nodes_take s k g from n bytes is near none spells =
     let r = n.recorder in
-    let f : Frame = frame_between s (k + 1) from g in
+    let f : WireFrame = frame_between s (k + 1) from g in
     let there : Contains (neighbours_of (header_at r).network r.standing.known.me) from = subst (λ (xs : List ℕ). Contains xs from) (sym (neighbours_same s g r is.records.standing.part)) near in
     let among : is_among (neighbours_of (header_at r).network r.standing.known.me) from ≡ true = any_gives (λ y. eqb y from) (neighbours_of (header_at r).network r.standing.known.me) from there (eq-eqb from from refl) in
     let read : whole_frame bytes ≡ Ok f = frame_only bytes f spells in

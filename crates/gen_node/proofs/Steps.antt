@@ -1,46 +1,15 @@
 -- How calls of a node follow each other.
-use Rattle.std.proofs.Common.{◌≡◌, ◌+◌, ℕ, Bool, true, false, refl, ap, ◌∙◌}
+use Rattle.std.proofs.Common.{◌≡◌, ◌+◌, ℕ, Bool, true, false, refl}
 use Rattle.std.specs.Prelude.{◌&&◌, if◌then◌else◌}
 use Rattle.gen_types.specs.Ends.{is_among}
 use Rattle.gen_general.specs.Recording.{Recorder, with_recvs, with_sends}
 use Rattle.gen_node.specs.declared.stages.Stage.{Stage}
 use Rattle.gen_node.specs.declared.stages.Stage.TheVariants.{Between, Sending, Open, Hearing}
 use Rattle.gen_node.specs.Held.{frame_in}
-use Rattle.gen_node.specs.Node.{Node, IsBegunFrom, awaits, begins_in, is_open, neighbours_at, header_at, sent_from}
-use Rattle.gen_node.specs.Loops.Kept.{IsSignedFrom, heard_one, is_near, is_sending, next_sent, sent_one}
+use Rattle.gen_node.specs.Node.{Node, awaits, is_open, neighbours_at, header_at}
+use Rattle.gen_node.specs.Loops.Kept.{heard_one, is_near, sent_one}
 
 -- ---- a round begins
-
-pub sending_is : (stage : Stage) → is_sending stage ≡ true → stage ≡ Sending (next_sent stage)
-sending_is Between e = absurd cc
-sending_is (Sending next) e = refl
-sending_is Open e = absurd cc
-sending_is (Hearing next) e = absurd cc
-
-pub sending_begins : (stage : Stage) (round all : ℕ) → is_sending stage ≡ true → begins_in stage round all ≡ true
-sending_begins Between round all e = absurd cc
-sending_begins (Sending next) round all e = refl
-sending_begins Open round all e = absurd cc
-sending_begins (Hearing next) round all e = absurd cc
-
-pub signed_sends : (stage : Stage) (round all : ℕ) (old mid : Node) → old.stage ≡ stage → begins_in stage round all ≡ true → IsSignedFrom stage old mid → is_sending mid.stage ≡ true
-signed_sends Between round all old mid e may is = ap is_sending is.stage
-signed_sends (Sending next) round all old mid e may is = ap (λ (n : Node). is_sending n.stage) is ∙ ap is_sending e
-signed_sends Open round all old mid e may is = absurd cc
-signed_sends (Hearing next) round all old mid e may is = absurd cc
-
-pub begun_by : (stage : Stage) (round all : ℕ) (old mid new : Node) → old.stage ≡ stage → begins_in stage round all ≡ true → IsSignedFrom stage old mid → new ≡ sent_from (next_sent mid.stage) mid → IsBegunFrom stage old new
-begun_by Between round all old mid new e may is sent = (mid, is, sent ∙ ap (λ (st : Stage). sent_from (next_sent st) mid) is.stage)
-begun_by (Sending next) round all old mid new e may is sent =
-    sent ∙ ap (λ (n : Node). sent_from (next_sent n.stage) n) is ∙ ap (λ (st : Stage). sent_from (next_sent st) old) e
-begun_by Open round all old mid new e may is sent = absurd cc
-begun_by (Hearing next) round all old mid new e may is sent = absurd cc
-
-pub later_by : (stage : Stage) (new later : Node) → is_sending stage ≡ true → IsBegunFrom stage new later → later ≡ sent_from (next_sent stage) new
-later_by Between new later e is = absurd cc
-later_by (Sending next) new later e is = is
-later_by Open new later e is = absurd cc
-later_by (Hearing next) new later e is = absurd cc
 
 chosen_header : (b : Bool) (r q : Recorder) → header_at q ≡ header_at r → header_at (if b then q else r) ≡ header_at r
 chosen_header true r q e = e

@@ -5,7 +5,7 @@ use Rattle.std.specs.Int.{w16, w32, to_be_bytes}
 use Rattle.gen_node.specs.declared.frames.FrameFront.{FrameFront}
 
 -- a frame: its front, and its parcels
-pub record Frame : Type 0 where
+pub record WireFrame : Type 0 where
   pub front : FrameFront
   pub parcels : List (List ℕ)
 
@@ -29,7 +29,7 @@ abbrev pub IsParcel : List ℕ → Type 0
 IsParcel parcel = length parcel < 2 ^ 32
 
 -- the front fits, the number of parcels fits into two bytes, and each parcel's length into four
-pub record IsFrame (f : Frame) : Type 0 where
+pub record IsFrame (f : WireFrame) : Type 0 where
   pub front : IsFront f.front
   pub few : length f.parcels < 2 ^ 16
   pub short : AllByRecursion IsParcel f.parcels
@@ -43,6 +43,6 @@ abbrev pub parcel_spelling : List ℕ → List ℕ
 parcel_spelling parcel = to_be_bytes w32 (length parcel) ++ parcel
 
 -- the spelling of a frame: its front, the number of parcels in two bytes, and the parcels
-abbrev pub frame_spelling : Frame → List ℕ
+abbrev pub frame_spelling : WireFrame → List ℕ
 frame_spelling f =
     front_spelling f.front ++ (to_be_bytes w16 (length f.parcels) ++ flat_map parcel_spelling f.parcels)

@@ -6,7 +6,7 @@ use Rattle.gen_types.specs.Bytes.{byte_at, bytes_at, number_at, many_at}
 use Rattle.gen_node.specs.declared.frames.FrameFront.{FrameFront}
 use Rattle.gen_node.specs.declared.frame_fault.FrameFault.{FrameFault}
 use Rattle.gen_node.specs.declared.frame_fault.FrameFault.TheVariants as faults
-use Rattle.gen_node.specs.Frame.{Frame, frame_mark, run_id_length}
+use Rattle.gen_node.specs.Frame.{WireFrame, frame_mark, run_id_length}
 
 -- reads the mark and the run id: the run id and the bytes after it, or the first fault
 unfoldable pub run_at : List ℕ → Result (List ℕ × List ℕ) FrameFault
@@ -31,7 +31,7 @@ parcel_at bytes = do
   bytes_at faults.Truncated size.0 size.1
 
 -- reads a frame: the frame and the bytes after it, or the first fault
-unfoldable pub frame_at : List ℕ → Result (Frame × List ℕ) FrameFault
+unfoldable pub frame_at : List ℕ → Result (WireFrame × List ℕ) FrameFault
 frame_at bytes = do
   front ← front_at bytes
   count ← number_at faults.Truncated w16 front.1
@@ -39,7 +39,7 @@ frame_at bytes = do
   Ok (record { front = front.0; parcels = parcels.0 }, parcels.1)
 
 -- reads all the bytes as one frame: the frame, or the first fault
-unfoldable pub whole_frame : List ℕ → Result Frame FrameFault
+unfoldable pub whole_frame : List ℕ → Result WireFrame FrameFault
 whole_frame bytes = do
   frame ← frame_at bytes
   all ← check (length frame.1 == 0) faults.LeftOver

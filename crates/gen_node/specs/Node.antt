@@ -21,7 +21,7 @@ use Rattle.gen_node.specs.declared.node_fault.NodeFault.{NodeFault}
 use Rattle.gen_node.specs.declared.node_fault.NodeFault.TheVariants.{Memory, NoGeneral, OtherHeight, OtherRoot}
 use Rattle.gen_node.specs.declared.stages.Stage.{Stage}
 use Rattle.gen_node.specs.declared.stages.Stage.TheVariants.{Between, Sending, Open, Hearing}
-use Rattle.gen_node.specs.Frame.{Frame}
+use Rattle.gen_node.specs.Frame.{WireFrame}
 use Rattle.gen_node.specs.FrameReading.{whole_frame}
 use Rattle.gen_node.specs.Held.{Held, held_of, frame_in}
 
@@ -133,7 +133,7 @@ abbrev pub is_awaited : Node → ℕ → Bool
 is_awaited n from = awaits n from && not (is_some (held_of from n.inbox))
 
 -- the node's frame of this round to a neighbour
-abbrev pub frame_to : Recorder → ℕ → Frame
+abbrev pub frame_to : Recorder → ℕ → WireFrame
 frame_to r to = record {
   front = record {
     run_id = run_id_of (header_at r);
@@ -152,7 +152,7 @@ front_check r from f = do
   check (f.from == from && f.to == r.standing.known.me) faults.OtherEnds
 
 -- the frame that is handed in as bytes for a general, or why it isn't taken
-unfoldable pub awaited : Node → ℕ → List ℕ → Result Frame FrameFault
+unfoldable pub awaited : Node → ℕ → List ℕ → Result WireFrame FrameFault
 awaited n from bytes = do
   known ← check (awaits n from) faults.NotAwaited
   first ← check (not (is_some (held_of from n.inbox))) faults.Twice

@@ -25,7 +25,7 @@ use Rattle.gen_audit.specs.Verdict.{IsVerdict}
 use Rattle.gen_audit.specs.WorldBundle.{run_bundle}
 use Rattle.gen_node.specs.declared.stages.Stage.TheVariants.{Between, Open}
 use Rattle.gen_node.specs.BundleBytes.{bundle_bytes}
-use Rattle.gen_node.specs.Frame.{Frame, IsFrame, frame_spelling}
+use Rattle.gen_node.specs.Frame.{WireFrame, IsFrame, frame_spelling}
 use Rattle.gen_node.specs.Held.{held_of, frame_in}
 use Rattle.gen_node.specs.Node.{Node, IsBegun, decision_of_node, ended, frame_to, handed}
 use Rattle.gen_node.specs.Node.{node_at_start, with_arrival}
@@ -45,7 +45,7 @@ pub record IsWithin (s : Scenario) (k g : ℕ) (n : Node) : Type 0 where
   pub stage : n.stage ≡ Open
 
 -- the scenario's frame of a round between two generals
-abbrev pub frame_between : Scenario → ℕ → ℕ → ℕ → Frame
+abbrev pub frame_between : Scenario → ℕ → ℕ → ℕ → WireFrame
 frame_between s round from to = record {
   front = record { run_id = run_id_of (header_of s); round = round; from = from; to = to };
   parcels = frame_at s round from to;

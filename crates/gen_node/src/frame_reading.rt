@@ -3,11 +3,11 @@ ghost use Rattle.std.specs.Prelude.{◌≡◌, IfOk, Ok};
 ghost use Rattle.gen_types.specs.Bytes.{many_at};
 ghost use Rattle.gen_types.specs.Reading.{Gives};
 ghost use Rattle.gen_types.specs.Spelled.{IsField, IsRead, Spells};
-ghost use Rattle.gen_node.specs.Frame.{Frame as Sent, IsFrame, frame_spelling};
+ghost use Rattle.gen_node.specs.Frame.{WireFrame as Sent, IsFrame, frame_spelling};
 ghost use Rattle.gen_node.specs.FrameReading.{frame_at, front_at, parcel_at, run_at, whole_frame};
 
 use crate::frame_fault::FrameFault;
-use crate::frames::{Frame, FrameFront};
+use crate::frames::{FrameFront, WireFrame};
 use gen_script::Parcel;
 use gen_types::{ReadError, bytes_at, check, u8_at, u16_at, u32_at};
 use std::alloc::Global;
@@ -33,7 +33,7 @@ fn read_run(bytes: &[u8]) -> Result<([u8; RUN_ID_BYTES], &[u8]), ReadError<Frame
 
 /// Reads the front of a frame (mark, run id, round, sender and receiver), and returns it and the bytes after it.
 #[tactic(auto, unfolding(crate::specs::FrameReading::front_at))]
-fn read_front(bytes: &[u8]) -> Result<(FrameFront, &[u8]), ReadError<FrameFault>>
+fn read_frame_front(bytes: &[u8]) -> Result<(FrameFront, &[u8]), ReadError<FrameFault>>
     ensures { IsField result (front_at bytes.now) }
 {
     let (run_id, rest) = read_run(bytes)?;
@@ -80,18 +80,18 @@ fn read_parcels(
 
 /// Reads the frame in front of the bytes, and returns it and the bytes after it.
 #[tactic(auto, unfolding(crate::specs::FrameReading::frame_at))]
-fn frame_in_front(alloc: Global, bytes: &[u8]) -> Result<(Frame, &[u8]), ReadError<FrameFault>>
+fn frame_in_front(alloc: Global, bytes: &[u8]) -> Result<(WireFrame, &[u8]), ReadError<FrameFault>>
     ensures { IsField result (frame_at bytes.now) }
 {
-    let (front, rest) = read_front(bytes)?;
+    let (front, rest) = read_frame_front(bytes)?;
     let (count, rest) = u16_at(rest, FrameFault::Truncated)?;
     let (parcels, rest) = read_parcels(alloc, count, rest)?;
-    Ok((Frame::new(front, parcels), rest))
+    Ok((WireFrame::new(front, parcels), rest))
 }
 
 /// Returns the frame that all the bytes are: nothing may be left over.
 #[tactic(auto, unfolding(crate::specs::FrameReading::whole_frame))]
-fn frame_alone(alloc: Global, bytes: &[u8]) -> Result<Frame, ReadError<FrameFault>>
+fn frame_alone(alloc: Global, bytes: &[u8]) -> Result<WireFrame, ReadError<FrameFault>>
     ensures { IsRead result (whole_frame bytes.now) }
 {
     let (frame, rest) = frame_in_front(alloc, bytes)?;
@@ -106,7 +106,7 @@ fn frame_alone(alloc: Global, bytes: &[u8]) -> Result<Frame, ReadError<FrameFaul
 /// # Errors
 ///
 /// Truncated, UnknownMark or LeftOver, the first from left to right; Memory if memory was refused before.
-pub fn read_frame(alloc: Global, bytes: &[u8]) -> Result<Frame, ReadError<FrameFault>>
+pub fn read_frame(alloc: Global, bytes: &[u8]) -> Result<WireFrame, ReadError<FrameFault>>
     // If a frame is read, it has a spelling, and the bytes are its spelling.
     ensures found { IfOk result (Spells IsFrame frame_spelling bytes.now) }
     // If the bytes are the spelling of a frame, that frame is read, unless memory runs out.

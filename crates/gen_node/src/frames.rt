@@ -20,25 +20,25 @@ pub struct FrameFront {
 /// What one general sends a neighbour in one round: parcels of bytes, perhaps none. A contract sees the front of the
 /// frame and the list of parcels.
 #[derive(Debug, Drop)]
-pub struct Frame {
+pub struct WireFrame {
     front: FrameFront,
     parcels: Vec<Parcel>,
 }
 
-impl Model for Frame {
-    ghost use Rattle.gen_node.specs.Frame.{Frame};
+impl Model for WireFrame {
+    ghost use Rattle.gen_node.specs.Frame.{WireFrame};
 
-    ghost Value = { Frame };
+    ghost Value = { WireFrame };
 
     ghost view = { λ f. record { front = f.front; parcels = f.parcels.items } };
 }
 
-impl Frame {
+impl WireFrame {
     /// Returns the frame with this front and these parcels.
-    pub(crate) fn new(front: FrameFront, parcels: Vec<Parcel>) -> Frame
+    pub(crate) fn new(front: FrameFront, parcels: Vec<Parcel>) -> WireFrame
         ensures { result ≡ record { front = front; parcels = parcels.items } }
     {
-        Frame { front, parcels }
+        WireFrame { front, parcels }
     }
 
     /// Returns the front of the frame: its run, its round, its sender and its receiver.
@@ -59,7 +59,7 @@ impl Frame {
     pub fn into_parcels(self) -> Vec<Parcel>
         ensures { result.items ≡ self.parcels }
     {
-        let Frame { front: _, parcels } = self;
+        let WireFrame { front: _, parcels } = self;
         parcels
     }
 }

@@ -29,7 +29,7 @@ pub use bundles::make_bundle;
 pub use frame_fault::FrameFault;
 pub use frame_reading::{FRAME_MARK, read_frame};
 pub use frame_writing::frame_bytes;
-pub use frames::{Frame, FrameFront};
+pub use frames::{FrameFront, WireFrame};
 pub use node_ends::NodeEnd;
 pub use node_fault::NodeFault;
 pub use nodes::Node;

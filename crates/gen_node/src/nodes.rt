@@ -18,7 +18,7 @@ ghost use Rattle.gen_node.specs.Node.{frame_to, fresh_ring, front_check, handed,
 use crate::frame_fault::FrameFault;
 use crate::frame_reading::read_frame;
 use crate::frame_writing::spelled;
-use crate::frames::{Frame, FrameFront};
+use crate::frames::{FrameFront, WireFrame};
 use crate::held::{Held, is_held, parcels_of};
 use crate::node_ends::NodeEnd;
 use crate::node_fault::NodeFault;
@@ -376,7 +376,7 @@ impl Node {
         alloc: Global,
         from: GeneralNo,
         bytes: &[u8],
-    ) -> Result<Frame, ReadError<FrameFault>>
+    ) -> Result<WireFrame, ReadError<FrameFault>>
         ensures read { IsRead result (awaited self.now from bytes.now) }
         ensures memory { result ≡ Err errors.Memory → nodes.is_awaited self.now from ≡ true }
         ensures waits { IfOk result (λ _. nodes.is_awaited self.now from ≡ true) }

@@ -6,7 +6,7 @@ ghost use Rattle.gen_ots.specs.Signatures.{signature_of, signed_leaf_value};
 
 use crate::hashing::{LEAF_PREFIX, are_ones, chosen_in_lanes, images_in_lanes};
 use crate::secrets::{
-    blocks_of_bits, blocks_of_leaves, high_secrets, key_of, low_secrets, stream_of,
+    blocks_of_bits, blocks_of_leaves, high_secrets, low_secrets, stream_key_of, stream_of,
 };
 use crate::signatures::{OtsSig, SigRoom, push_pairs};
 use crate::sizes::{DIGEST_BITS, OTS_BYTES};
@@ -85,7 +85,7 @@ impl OneTimeKey {
     pub fn leaf_value(&self) -> [u8; 32]
         ensures { result ≡ key_leaf_value self.now.name }
     {
-        let key = key_of(&self.seed);
+        let key = stream_key_of(&self.seed);
         let stream = stream_of(self.height);
         let mut schedules = Schedules::new();
         let mut hasher = OneHasher::new(LEAF_PREFIX);
@@ -109,7 +109,7 @@ impl OneTimeKey {
     {
         let mut this = self;
         this.live = false;
-        let key = key_of(&this.seed);
+        let key = stream_key_of(&this.seed);
         let stream = stream_of(this.height);
         let mut schedules = Schedules::new();
         let mut bytes = room.bytes;
@@ -144,7 +144,7 @@ pub fn leaf_values(seed: &[u8; 32], height: TreeHeight, first: u8) -> [[u8; 32];
     ensures { (j : ℕ) → j < LANES → slice_index_or result j [] ≡ key_leaf_value
         (record { seed = seed.now; height = height; leaf = first + j }) }
 {
-    let key = key_of(seed);
+    let key = stream_key_of(seed);
     let stream = stream_of(height);
     let mut schedules = Schedules::new();
     let mut hashers = LaneHashers::new(LEAF_PREFIX);

@@ -31,6 +31,3 @@ pub use keys::{OneTimeKey, leaf_values};
 pub use sharing::HeldBytes;
 pub use side_by_side::{SignedDigest, images_of_lanes};
 pub use signatures::{OtsSig, SigRoom, image_of};
-
-#[cfg(test)]
-mod tests;

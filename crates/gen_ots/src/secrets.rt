@@ -33,7 +33,7 @@ pub fn stream_of(height: TreeHeight) -> u64
 
 /// Returns the eight words of a seed, which are the key of its streams. The low byte of each word comes
 /// first.
-pub fn key_of(seed: &[u8; 32]) -> [u32; 8]
+pub fn stream_key_of(seed: &[u8; 32]) -> [u32; 8]
     ensures { result ≡ key_of seed.now }
 {
     [

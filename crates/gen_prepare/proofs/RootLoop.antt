@@ -25,10 +25,6 @@ regroup : (front : List (List ℕ)) (root : List ℕ) (read : Result (List (List
 regroup front root (Ok x) = ap (λ (rs : List (List ℕ)). Ok (rs, x.1)) (sym (append_assoc front (root ∷ []) x.0))
 regroup front root (Err f) = refl
 
-pub none_yet : (read : Result (List (List ℕ) × Cursor) ScenarioFault) → with_front [] read ≡ read
-none_yet (Ok x) = refl
-none_yet (Err f) = refl
-
 pub goes_on : (front : List (List ℕ)) (count i : ℕ) (c : Cursor) (root : List ℕ) (rest : Cursor) (total : Result (List (List ℕ) × Cursor) ScenarioFault) → i < count → root_at c ≡ Ok (root, rest)
     → with_front front (roots_at (count - i) c) ≡ total → with_front (front ++ root ∷ []) (roots_at (count - (i + 1)) rest) ≡ total
 unfolding roots_at

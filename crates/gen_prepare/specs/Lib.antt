@@ -1,3 +1,6 @@
+pub mod AnswerLine
+pub mod Answering
+pub mod Failing
 pub mod Gathering
 pub mod HeaderText
 pub mod HeaderTextReading

@@ -4,10 +4,8 @@ ghost use Rattle.gen_audit.specs.Bundle.{exhibits_of};
 ghost use Rattle.gen_prepare.specs.Gathering.{in_order};
 
 use gen_local::Exhibit;
+use gen_types::limits::MOST_GENERALS;
 use std::alloc::{AllocError, Global};
-
-/// The number of numbers that generals can have.
-const GENERALS: u8 = 16;
 
 /// Appends a log if it is the general's. Its bytes are not copied.
 fn push_if_of(log: &Exhibit, general: u8, ordered: &mut Vec<Exhibit>) -> Result<(), AllocError>
@@ -38,7 +36,7 @@ pub(crate) fn in_order(alloc: Global, logs: &[Exhibit]) -> Result<Vec<Exhibit>, 
     ensures { IfOk result (λ ordered. ordered.items ≡ in_order logs.now) }
 {
     let mut ordered = Vec::with_capacity(alloc, logs.len())?;
-    'generals: for general in 0..GENERALS {
+    'generals: for general in 0..MOST_GENERALS {
         push_all_of(logs, general, &mut ordered)?;
     }
     Ok(ordered)

@@ -30,8 +30,9 @@ Exit status:
   4  memory or a thread was refused
   5  a file couldn't be opened, or a read or a write failed
 
-'sm_tool help run' tells of one command. 'man sm_tool' explains all of them. Faults, as 'fault P6 line 8', findings,
-as 'N8 from 0 to 1', and convictions, as 'K2', are told by 'sm_tool explain', and their rules stand in FORMATS.md: in the folder share/doc/vamuretu where the
+'sm_tool help run' tells of one command. 'man sm_tool' explains all of them. 'sm_tool explain' tells a name: of a
+fault, as P6, of a finding, as N8, or of a conviction, as K2. 'sm_tool words' tells a text line by line, as that of a
+verdict or of standard error. The rules of all names stand in FORMATS.md: in the folder share/doc/vamuretu where the
 program is installed, and in docs of an unpacked release or of the sources.";
 
 /// Returns the option `--capacity`: how many frames an edge holds.

@@ -17,9 +17,19 @@ use clap::error::ErrorKind;
 use gen_audit::WorkerCount;
 use gen_jobs::{Asked, AskedRuns, Faulty, Form, Job, Telling, read_faulty, read_run_ids};
 use gen_net::Version;
+use gen_types::limits::MOST_GENERALS;
 use gen_types::{GeneralNo, TreeHeight, decimal_number};
 use std::alloc::{AllocError, Global};
 use thiserror::Error;
+
+/// The greatest number of a general.
+const LAST_GENERAL: u8 = MOST_GENERALS - 1;
+
+/// The greatest number of workers: one for each general.
+const MOST_WORKERS: u8 = MOST_GENERALS;
+
+/// The greatest capacity of an edge, in frames.
+const MOST_CAPACITY: u8 = 16;
 
 /// Why words ask for no job.
 #[derive(Debug, Drop, Error)]
@@ -139,14 +149,14 @@ fn number_between(text: Option<&str>, least: u8, most: u8) -> Option<u8>
 pub(crate) fn general_of(text: Option<&str>) -> Option<GeneralNo>
     ensures { result ≡ number_between 0 15 (option_map (λ t. t.now) text.entry) }
 {
-    GeneralNo::new(number_between(text, 0, 15)?)
+    GeneralNo::new(number_between(text, 0, LAST_GENERAL)?)
 }
 
 /// Returns the number of workers that a text spells, 1 to 16.
 fn workers_of(text: Option<&str>) -> Option<WorkerCount>
     ensures { result ≡ number_between 1 16 (option_map (λ t. t.now) text.entry) }
 {
-    WorkerCount::new(usize::from(number_between(text, 1, 16)?))
+    WorkerCount::new(usize::from(number_between(text, 1, MOST_WORKERS)?))
 }
 
 /// Returns whether a flag is set, by the text that the command line gives for it.
@@ -326,7 +336,7 @@ fn job_judging(capacity: Option<&str>, workers: Option<&str>, choices: &Choices)
     ensures range { IfSome result IsInRange }
 {
     Some(Job::Judge {
-        capacity: number_between(capacity, 1, 16)?,
+        capacity: number_between(capacity, 1, MOST_CAPACITY)?,
         workers: workers_of(workers)?,
         strict: choices.strict,
         form: choices.form,
@@ -370,11 +380,11 @@ fn job_of(
     match name {
         "decide" => Some(Job::Decide { form: choices.form }),
         "run" => Some(Job::Run {
-            capacity: number_between(capacity, 1, 16)?,
+            capacity: number_between(capacity, 1, MOST_CAPACITY)?,
         }),
         "judge" => job_judging(capacity, workers, choices),
         "campaign" => Some(Job::Campaign {
-            capacity: number_between(capacity, 1, 16)?,
+            capacity: number_between(capacity, 1, MOST_CAPACITY)?,
         }),
         "audit" | "draw" => job_reading(name, workers, choices),
         _ => job_against(name, general, choices),
@@ -386,7 +396,8 @@ fn lacks_capacity(name: &str, capacity: Option<&str>) -> bool
     ensures { result ≡ (takes_capacity name.now
         && is_missing (number_between 1 16 (option_map (λ t. t.now) capacity.entry))) }
 {
-    matches!(name, "run" | "judge" | "campaign") && number_between(capacity, 1, 16).is_none()
+    matches!(name, "run" | "judge" | "campaign")
+        && number_between(capacity, 1, MOST_CAPACITY).is_none()
 }
 
 /// Whether a command takes a number of workers, and the text is no number from 1 to 16.
@@ -394,7 +405,7 @@ fn lacks_workers(name: &str, workers: Option<&str>) -> bool
     ensures { result ≡ (takes_workers name.now
         && is_missing (number_between 1 16 (option_map (λ t. t.now) workers.entry))) }
 {
-    matches!(name, "audit" | "draw" | "judge") && number_between(workers, 1, 16).is_none()
+    matches!(name, "audit" | "draw" | "judge") && number_between(workers, 1, MOST_WORKERS).is_none()
 }
 
 /// Whether a command takes a general, and the text is no number from 0 to 15.
@@ -402,7 +413,7 @@ fn lacks_general(name: &str, general: Option<&str>) -> bool
     ensures { result ≡ (takes_general name.now
         && is_missing (number_between 0 15 (option_map (λ t. t.now) general.entry))) }
 {
-    name == "accuse" && number_between(general, 0, 15).is_none()
+    name == "accuse" && number_between(general, 0, LAST_GENERAL).is_none()
 }
 
 /// Whether a command takes a slot, and it is not known.

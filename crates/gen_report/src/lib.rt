@@ -4,7 +4,7 @@
 //! order. If generals sign, it also has the seed of their keys, perhaps the slot of the run, and the scripts of the
 //! traitors. `read_scenario` says exactly which texts are scenarios, and for any other text which fault comes first and
 //! in which line. Its parts are public too, for texts in which several scenarios stand one after another: a `Cursor`,
-//! and readers that begin at one.
+//! and readers that begin at one. So are the readers of the lines of a network, which stand in texts of headers too.
 #![tactic(auto)]
 
 mod blocks;
@@ -25,7 +25,9 @@ pub use decisions::print_decisions;
 pub use fault::{LineFault, ScenarioFault};
 pub use findings::push_finding_name;
 pub use keys::{read_seed, read_slot};
-pub use numbers::read_plain;
+pub use numbers::{
+    NetOpening, NetSettings, first_opening, make_network, read_plain, read_settings,
+};
 pub use scenario::{one_scenario, read_scenario, read_signed};
 pub use scenario_text::ScenarioText;
 pub use verdict_text::print_verdict;

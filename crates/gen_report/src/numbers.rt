@@ -65,13 +65,17 @@ fn edge_lines<'a>(
     }
 }
 
-/// What the lines up to that of the traitors say, and the cursor after them.
+/// What the lines of a network up to that of the traitors say, and the cursor after them.
 #[derive(Drop)]
-struct Opening<'a> {
-    generals: u8,
-    edges: Vec<(u8, u8)>,
-    traitors: u8,
-    after: Cursor<'a>,
+pub struct NetOpening<'a> {
+    /// The number of generals, 0 to 255.
+    pub generals: u8,
+    /// The two generals of each edge, in the order of their lines.
+    pub edges: Vec<(u8, u8)>,
+    /// The number of traitors, 0 to 255.
+    pub traitors: u8,
+    /// The cursor after the line of the traitors.
+    pub after: Cursor<'a>,
 }
 
 /// Reads the lines after that of the generals, up to that of the traitors.
@@ -79,7 +83,7 @@ fn opening_behind<'a>(
     alloc: Global,
     generals: u8,
     start: Cursor<'a>,
-) -> Result<Opening<'a>, ReadError<ScenarioFault>>
+) -> Result<NetOpening<'a>, ReadError<ScenarioFault>>
     ensures { Gives (λ o. record {
       generals = o.generals;
       edges = o.edges.items;
@@ -90,7 +94,7 @@ fn opening_behind<'a>(
     let edges = edge_lines(alloc, start)?;
     let next = &edges.next;
     let traitors = number_behind(&next.fields, b"traitors", next.number)?;
-    Ok(Opening {
+    Ok(NetOpening {
         generals,
         edges: edges.found,
         traitors,
@@ -99,8 +103,12 @@ fn opening_behind<'a>(
 }
 
 /// Reads the first lines of a text, from that of the generals up to that of the traitors.
+///
+/// # Errors
+///
+/// The first fault of these lines, with its line, as `read_scenario` has it; Memory if memory was refused before.
 #[tactic(auto, unfolding(crate::specs::NumbersReading::opening_at))]
-fn first_opening(alloc: Global, text: &[u8]) -> Result<Opening<'_>, ReadError<ScenarioFault>>
+pub fn first_opening(alloc: Global, text: &[u8]) -> Result<NetOpening<'_>, ReadError<ScenarioFault>>
     ensures { Gives (λ o. record {
       generals = o.generals;
       edges = o.edges.items;
@@ -117,7 +125,7 @@ fn first_opening(alloc: Global, text: &[u8]) -> Result<Opening<'_>, ReadError<Sc
 fn read_opening<'a>(
     alloc: Global,
     start: &Cursor<'a>,
-) -> Result<Opening<'a>, ReadError<ScenarioFault>>
+) -> Result<NetOpening<'a>, ReadError<ScenarioFault>>
     ensures { Gives (λ o. record {
       generals = o.generals;
       edges = o.edges.items;
@@ -129,22 +137,31 @@ fn read_opening<'a>(
     opening_behind(alloc, generals.value, rest)
 }
 
-/// What the three lines after that of the traitors say, the number of the last of them, and the cursor after them.
+/// What the three lines of a network after that of the traitors say.
 #[derive(Drop)]
-struct Settings<'a> {
-    diameter: u8,
-    orders: u8,
-    choice: u8,
-    line: usize,
-    after: Cursor<'a>,
+pub struct NetSettings<'a> {
+    /// The diameter, 0 to 255.
+    pub diameter: u8,
+    /// The number of orders, 0 to 255.
+    pub orders: u8,
+    /// The number of the choice, 0 to 255.
+    pub choice: u8,
+    /// The number of the line of the choice.
+    pub line: usize,
+    /// The cursor after the line of the choice.
+    pub after: Cursor<'a>,
 }
 
 /// Reads the three lines after that of the traitors: the diameter, the orders and the choice.
+///
+/// # Errors
+///
+/// The first fault of these lines, with its line, as `read_scenario` has it; Memory if memory was refused before.
 #[tactic(auto, unfolding(crate::specs::NumbersReading::settings_at))]
-fn read_settings<'a>(
+pub fn read_settings<'a>(
     alloc: Global,
     start: &Cursor<'a>,
-) -> Result<Settings<'a>, ReadError<ScenarioFault>>
+) -> Result<NetSettings<'a>, ReadError<ScenarioFault>>
     ensures { Gives (λ s. record {
       diameter = s.diameter;
       orders = s.orders;
@@ -156,7 +173,7 @@ fn read_settings<'a>(
     let (diameter, rest) = start.numbered(alloc, b"diameter")?;
     let (orders, rest) = rest.numbered(alloc, b"orders")?;
     let (choice, after) = rest.numbered(alloc, b"choice")?;
-    Ok(Settings {
+    Ok(NetSettings {
         diameter: diameter.value,
         orders: orders.value,
         choice: choice.value,
@@ -165,8 +182,13 @@ fn read_settings<'a>(
     })
 }
 
-/// Returns the network of these numbers and edges; if they break a rule, that is the fault of this line.
-fn make_network(
+/// Returns the network of these numbers and edges.
+///
+/// # Errors
+///
+/// If the numbers or the edges break a rule of networks, the first broken rule as the fault of this line; Memory if
+/// memory was refused before.
+pub fn make_network(
     alloc: Global,
     numbers: NetNumbers,
     edges: &[(u8, u8)],
@@ -209,7 +231,7 @@ fn read_order<'a>(
 /// Returns the network and the order that begin with these opening lines, and the cursor after their lines.
 fn plain_behind<'a>(
     alloc: Global,
-    opening: Opening<'a>,
+    opening: NetOpening<'a>,
 ) -> Result<(PlainScenario, Cursor<'a>), ReadError<ScenarioFault>>
     ensures { IsRead result (plain_behind (record {
       generals = opening.entry.generals;

@@ -31,7 +31,7 @@ prolonged_by_faulty net faulty run source message heard p =
       | inr s ↦ inr (record {
         front = s.0;
         last = s.1;
-        forged = s.2 ++ p.added;
+        after = s.2 ++ p.added;
         parts = p.path ∙ ap (λ kept. kept ++ p.added) s.3 ∙ append_assoc s.0 (s.1 ∷ s.2) p.added ∙ sym (append_assoc s.0 (s.1 ∷ []) (s.2 ++ p.added));
         last_loyal = s.4;
         nobody_after = All_of (λ g. IsLoyal net faulty g → ⊥) (s.2 ++ p.added) (λ g h loyal. elim (Contains-append_cases s.2 p.added g h) [ inl b ↦ s.5 g b loyal | inr a ↦ nobody_added g a loyal ]);

@@ -87,7 +87,7 @@ signed_gives s g l v x ne low first now =
 -- ---- what anybody without a script signs
 
 -- the chains that he signs are good ones of this round, of which he is the last signer, and no two are of one order
-pub record AreSigned (s : Scenario) (g l : ℕ) (ks : List Chain) : Type 0 where
+pub record EachHasSigned (s : Scenario) (g l : ℕ) (ks : List Chain) : Type 0 where
   pub few : length ks ≤ s.net.orders
   pub good : (k : Chain) → Contains ks k → IsGood s k
   pub long : (k : Chain) → Contains ks k → length (signed_path k.signers) ≡ suc l
@@ -130,7 +130,7 @@ longer_is s ok g l v x known first =
     let facts = counted_facts s b.0 x.from g x.chain b.2.counts in
     lengthened_good s ok x.chain (g ∷ []) (record { is_chain = facts.is_chain; verifies = facts.verifies }) (one_follows s.net.generals (signed_path x.chain.signers) g known facts.outside)
 
-lieutenants_signed : (s : Scenario) → IsScenario s → (g l : ℕ) → g ≢ 0 → g < s.net.generals → AreSigned s g l (signs_of s g l)
+lieutenants_signed : (s : Scenario) → IsScenario s → (g l : ℕ) → g ≢ 0 → g < s.net.generals → EachHasSigned s g l (signs_of s g l)
 lieutenants_signed s ok g l ne known = record {
   few = lieutenants_few s g l ne;
   good = λ k h. let p = signed_has s g l k ne h in subst (IsGood s) (sym p.is) (longer_is s ok g l k.order p.x known p.first);
@@ -170,7 +170,7 @@ commanders_few s heard l = elim (bool_cases (eqb (suc l) 1)) [
 commanders_good : (s : Scenario) → IsScenario s → IsGood s (made (keys_of s) s.order (0 ∷ []))
 commanders_good s ok = made_good s ok s.order [] ok.order_known (record { known = λ h k. absurd (Contains_nil h k); distinct = λ i j d l m. absurd (omega arith); new = λ h k old. absurd (Contains_nil h k) })
 
-commanders_signed : (s : Scenario) → IsScenario s → (l : ℕ) → AreSigned s 0 l (signs_of s 0 l)
+commanders_signed : (s : Scenario) → IsScenario s → (l : ℕ) → EachHasSigned s 0 l (signs_of s 0 l)
 commanders_signed s ok l = record {
   few = omega (arith, commanders_few s (heard_by s l 0) l, ok.network.ranges.some_orders);
   good = λ k h. subst (IsGood s) (sym (commanders_has s (heard_by s l 0) l k h).1) (commanders_good s ok);
@@ -182,9 +182,9 @@ commanders_signed s ok l = record {
   once = λ a b ha hb e. (commanders_has s (heard_by s l 0) l a ha).1 ∙ sym (commanders_has s (heard_by s l 0) l b hb).1;
 }
 
-pub are_signed : (s : Scenario) → IsScenario s → (g l : ℕ) → g < s.net.generals → AreSigned s g l (signs_of s g l)
+pub are_signed : (s : Scenario) → IsScenario s → (g l : ℕ) → g < s.net.generals → EachHasSigned s g l (signs_of s g l)
 are_signed s ok g l known = elim (bools.cases_eq g 0) [
-  | inl e ↦ subst (λ x. AreSigned s x l (signs_of s x l)) (sym e) (commanders_signed s ok l)
+  | inl e ↦ subst (λ x. EachHasSigned s x l (signs_of s x l)) (sym e) (commanders_signed s ok l)
   | inr ne ↦ lieutenants_signed s ok g l ne known
 ]
 

@@ -6,7 +6,7 @@ use Rattle.std.proofs.lemmas.List.FromFn.{get_or-map-range_with_len}
 use Rattle.gen_types.proofs.Lists.{Contains_here, Contains_there, Contains_cases, Contains_nil, AllPairs_head, AllPairs_tail}
 use Rattle.gen_tree.specs.Sizes.{signature_length}
 use Rattle.gen_chain.specs.Chain.{AreSignatures, Chain, IsSignedChain, signed_path}
-use Rattle.gen_chain.specs.Verifying.{AreSigned, ChainVerifies, HasSigned}
+use Rattle.gen_chain.specs.Verifying.{EachHasSigned, ChainVerifies, HasSigned}
 use Rattle.gen_types.specs.Ends.{BeginsWith}
 use Rattle.gen_scenario.specs.Scenario.{IsScenario, Scenario, header_of}
 use Rattle.gen_net.specs.Header.{height_of, root_of, slot_of}
@@ -51,7 +51,7 @@ wide_behind s ok order path g low = length-tree_signature (order_key (keys_of s)
 -- signers who make a chain that verifies
 pub record AreGood (s : Scenario) (order : ℕ) (signers : List Signer) : Type 0 where
   pub is_chain : IsSignedChain (height_of (header_of s)) (record { order = order; signers = signers })
-  pub signed : AreSigned (header_of s) order signers
+  pub signed : EachHasSigned (header_of s) order signers
 
 one_more : (s : Scenario) → IsScenario s → (order : ℕ) (signers : List Signer) (g : ℕ) → order < s.net.orders → g < s.net.generals → (Contains (signed_path signers) g → ⊥) → AreGood s order signers → AreGood s order (signers ++ signer_behind (keys_of s) order (signed_path signers) g ∷ [])
 one_more s ok order signers g low known new good = record {

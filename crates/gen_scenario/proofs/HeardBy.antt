@@ -10,7 +10,7 @@ use Rattle.gen_net.specs.Network.{Network, IsNetwork, rounds, AreNeighbours}
 use Rattle.gen_net.specs.declared.message.Message.{Message}
 use Rattle.gen_net.specs.Run.{IsWellFormed, IsRun}
 use Rattle.gen_net.proofs.Neighbours.{joined_below}
-use Rattle.gen_chain.specs.Verifying.{AreSigned, ChainVerifies}
+use Rattle.gen_chain.specs.Verifying.{EachHasSigned, ChainVerifies}
 use Rattle.gen_chain.specs.Chain.{Chain, IsSignedChain, signed_path}
 use Rattle.gen_types.specs.Ends.{EndsWith}
 use Rattle.gen_scenario.specs.declared.heard.Heard.{Heard}
@@ -133,7 +133,7 @@ round_is s m said = ap length (sym said.path_is) ∙ (counted_facts s said.befor
 
 -- ---- they are a run
 
-pub signers_below : (h : RunHeader) (order : ℕ) (signers : List Signer) → AreSigned h order signers → (g : ℕ) → Contains (signed_path signers) g → g < h.network.generals
+pub signers_below : (h : RunHeader) (order : ℕ) (signers : List Signer) → EachHasSigned h order signers → (g : ℕ) → Contains (signed_path signers) g → g < h.network.generals
 signers_below h order signers all g k =
     let r = Contains_mapped (λ (t : Signer). t.general) signers g k in
     let p = split signers r.0 r.1 in

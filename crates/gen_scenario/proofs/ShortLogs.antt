@@ -82,4 +82,4 @@ few_entries s ok g known log h =
 pub all_short : AllShort
 all_short s ok g known log h =
     let few : length log.entries ≤ 7922 = few_entries s ok g known log (subst (λ (mid : List Entry). Contains (logs_over (sender_of s g) mid) log) (middle_parts s g) h) in
-    short_log (header_of s) ok.network log (all_verify s ok g known log h).log_of_run few
+    short_log (header_of s) ok.network log (all_verify s ok g known log h).fits_run few

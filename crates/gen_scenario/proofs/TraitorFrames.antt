@@ -184,10 +184,10 @@ longer_derives s m t added path order longer traitors derivable = elim derivable
   | inr d ↦ inr (record {
     front = d.front;
     last = d.last;
-    forged = d.forged ++ added;
-    parts = path ∙ ap (λ (p : List ℕ). p ++ added) d.parts ∙ append_assoc (d.front ++ d.last ∷ []) d.forged added;
+    after = d.after ++ added;
+    parts = path ∙ ap (λ (p : List ℕ). p ++ added) d.parts ∙ append_assoc (d.front ++ d.last ∷ []) d.after added;
     last_loyal = d.last_loyal;
-    nobody_after = both_all (λ g. IsLoyal s.net (scripted s.scripts) g → ⊥) d.forged added d.nobody_after traitors;
+    nobody_after = both_all (λ g. IsLoyal s.net (scripted s.scripts) g → ⊥) d.after added d.nobody_after traitors;
     source = d.source;
     sent = d.sent;
     from_loyal = d.from_loyal;
@@ -203,7 +203,7 @@ sent_derives : (s : Scenario) (m t : Message) (added : List ℕ) → m.path ≡ 
 sent_derives s m t added path order longer traitors sent ends loyal faulty = inr (record {
   front = ends.0;
   last = t.from;
-  forged = added;
+  after = added;
   parts = path ∙ ap (λ (p : List ℕ). p ++ added) ends.1;
   last_loyal = loyal;
   nobody_after = traitors;

@@ -33,8 +33,8 @@ pub fn world_follows()
     ensures premises { WorldMeetsPremises }
 {}
 
-/// States Theorem 4 of the paper of 1982 (section 5). In a run for a set of at most m faulty generals, where
-/// any two generals of the rest are joined inside the rest by at most d edges:
+/// States Theorem 4 of the paper of 1982 (section 5). In a signed run for a set of at most m faulty generals,
+/// where any two generals of the rest are joined inside the rest by at most d edges:
 ///
 /// - `agreement`: any two lieutenants of the rest accept the same orders;
 /// - `validity`: if the commander is of the rest, they accept the commander's order and no other;

@@ -6,5 +6,9 @@ pub mod FileFaultText
 pub mod HeaderText
 pub mod LogText
 pub mod Offsets
+pub mod Rows
 pub mod Showing
+pub mod Shown
+pub mod Table
+pub mod Worded
 pub mod Words

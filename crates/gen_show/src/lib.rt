@@ -6,6 +6,14 @@
 //! The crate also offers the parts that another form of the same facts needs: the names of faults, and where the parts
 //! of a file stand.
 //!
+//! `explain`, `sentence_of` and `with_words` say in sentences what the lines and the codes mean that the program prints.
+//! Their table has a row for each fault, finding, kind of conviction, verdict and exit status, and for each line of a
+//! verdict's text. A row has a name, the form of a line, and a sentence. A capital letter that is a field of the form
+//! stands for any field of a line, and each such letter in the sentence stands for the same field. So
+//! `N8 from 1 to 2 round 2 order 0` is told by the row of the form `N8 from A to B round L order V`. The field `NAMES`
+//! stands for one or more fields at the end of a line. Those of them that are names of rows are told by the sentences of
+//! these rows.
+//!
 //! What is promised: the text, line for line, and whether the bytes are a whole file of their kind. What is not
 //! promised: that what a file says is true. Of evidence the text says whether it holds; signatures of logs are not
 //! verified.
@@ -15,19 +23,25 @@ mod bundles;
 mod campaigns;
 mod entries;
 mod evidence;
+mod explaining;
 mod faults;
 mod file_faults;
+mod forms;
 mod headers;
 mod kinds;
 pub mod laws;
 mod logs;
 mod marks;
+mod rows;
 mod showing;
+mod table;
+mod wording;
 mod words;
 
 pub use bundles::{EXHIBIT_FRONT, bundle_front_length, exhibit_bytes};
 pub use campaigns::CAMPAIGN_FRONT;
 pub use evidence::claim_log_at;
+pub use explaining::{explain, sentence_of};
 pub use faults::{push_header_fault, push_log_fault};
 pub use file_faults::{push_campaign_fault, push_evidence_fault};
 pub use headers::version_number;
@@ -35,3 +49,5 @@ pub use kinds::FileKind;
 pub use logs::LOG_FRONT;
 pub use marks::{BUNDLE_MARKS, EVIDENCE_MARKS, file_kind};
 pub use showing::{Shown, front_length, show};
+pub use table::WORDS;
+pub use wording::with_words;

@@ -28,6 +28,6 @@ implied_root height leaf digest signature =
 -- each level, the tree has the leaf, and the siblings lead to the root.
 pub record Verifies (root : List ℕ) (height : TreeHeight) (leaf : ℕ)
     (digest signature : List ℕ) : Type 0 where
-  pub siblings : length signature ≡ signature_length height
+  pub one_each : length signature ≡ signature_length height
   pub below : leaf < leaves_of height
   pub leads : implied_root height leaf digest signature ≡ root

@@ -6,6 +6,9 @@ pub const FEWEST_GENERALS: u8 = 2;
 /// The most generals of a network.
 pub const MOST_GENERALS: u8 = 16;
 
+/// `MOST_GENERALS` as the length of an array.
+pub(crate) const GENERALS: usize = MOST_GENERALS as usize;
+
 /// The most edges of a network: all pairs of its generals.
 pub const MOST_EDGES: usize = 120;
 

@@ -4,6 +4,7 @@ ghost use Rattle.std.specs.Option.{SomeIff};
 ghost use Rattle.std.specs.Result.{OkIff};
 ghost use Rattle.gen_types.specs.declared.numbers.NumberFault.TheVariants.{AboveFifteen};
 
+use crate::limits::MOST_GENERALS;
 use std::fmt;
 use std::marker::{Model, PhantomData};
 use thiserror::Error;
@@ -22,7 +23,8 @@ pub struct Generals;
 /// The kind of the numbers of orders.
 pub struct Orders;
 
-/// A number, 0 to 15, of the kind K. A contract sees the number alone.
+/// A number, 0 to 15, of the kind K. Both kinds have as many numbers as a network has generals at most. A
+/// contract sees the number alone.
 #[derive_where(Clone, Copy, PartialEq, Eq, PartialOrd, Ord, Hash, Debug)]
 pub struct Number<K> {
     number: u8,
@@ -52,7 +54,7 @@ impl<K> Number<K> {
     pub fn new(number: u8) -> Option<Number<K>>
         ensures { SomeIff result (number < 16) number }
     {
-        if number < 16 {
+        if number < MOST_GENERALS {
             Some(Number {
                 number,
                 kind: PhantomData,

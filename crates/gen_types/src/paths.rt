@@ -6,6 +6,7 @@ ghost use Rattle.std.specs.Bool.{nat_eq};
 ghost use Rattle.std.proofs.lemmas.Cmp.{nat_list_eq_equiv};
 ghost use Rattle.gen_types.specs.Ends.{BeginsWith, EndsWith};
 
+use crate::limits::GENERALS;
 use crate::numbers::GeneralNo;
 use std::marker::Model;
 use thiserror::Error;
@@ -28,7 +29,7 @@ pub enum PathFault {
 /// of the path signed the order together with the path up to and with itself.
 #[derive(Clone, Copy, Hash, Debug)]
 pub struct Path {
-    generals: [GeneralNo; 16],
+    generals: [GeneralNo; GENERALS],
     len: usize,
 }
 
@@ -54,7 +55,7 @@ impl Path {
         ensures { result ≡ [] }
     {
         Path {
-            generals: [GeneralNo::commander(); 16],
+            generals: [GeneralNo::commander(); GENERALS],
             len: 0,
         }
     }
@@ -144,7 +145,7 @@ impl Path {
         ensures full { (result ≡ Err PathFault.Full) ↔ (length self.old ≡ 16) }
         ensures repeated { (result ≡ Err PathFault.Repeated) ↔ ((length self.old ≢ 16) × Contains self.old general) }
     {
-        if self.len == 16 {
+        if self.len == GENERALS {
             return Err(PathFault::Full);
         }
         if self.contains(general) {

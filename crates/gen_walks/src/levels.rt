@@ -7,8 +7,12 @@ ghost use Rattle.gen_walks.specs.Loops.Checking.{IsSteep, IsEvenFrom};
 
 use crate::inside::{are_joined, general, is_inside};
 use gen_net::Net;
+use gen_types::limits::MOST_GENERALS;
 use gen_types::{GeneralNo, GeneralSet};
 use std::marker::Model;
+
+/// The number of levels of a row, one for each general of the largest network.
+pub(crate) const GENERALS: usize = MOST_GENERALS as usize;
 
 /// The level of a general that no walk reaches.
 pub const UNREACHED: u8 = 255;
@@ -17,7 +21,7 @@ pub const UNREACHED: u8 = 255;
 /// the list of 16 levels, general 0 first.
 #[derive(Clone, Copy, Debug, PartialEq, Eq)]
 pub struct LevelRow {
-    levels: [u8; 16],
+    levels: [u8; GENERALS],
 }
 
 impl Model for LevelRow {
@@ -33,7 +37,7 @@ impl Model for LevelRow {
 impl LevelRow {
     /// Returns the row of these levels, general 0 first. The levels of numbers that are not generals of a
     /// network don't count when the row is checked.
-    pub fn new(levels: [u8; 16]) -> LevelRow
+    pub fn new(levels: [u8; GENERALS]) -> LevelRow
         ensures { result ≡ levels }
     {
         LevelRow { levels }

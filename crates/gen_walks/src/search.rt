@@ -8,9 +8,10 @@ ghost use Rattle.gen_walks.specs.BestWalks.{IsBestWalk};
 ghost use Rattle.gen_net.specs.Network.{IsNetwork};
 
 use crate::inside::{are_joined, general};
-use crate::levels::{LevelRow, UNREACHED};
+use crate::levels::{GENERALS, LevelRow, UNREACHED};
 use crate::lists::Walk;
 use gen_net::Net;
+use gen_types::limits::MOST_GENERALS;
 use gen_types::{GeneralNo, GeneralSet};
 use std::alloc::{AllocError, Global};
 
@@ -45,7 +46,7 @@ fn next_level(net: &Net, rest: &GeneralSet, row: &LevelRow, k: u8, v: GeneralNo)
 
 /// Makes one round of the search, which turns the levels in `row` into those in `next`. Returns whether
 /// the round reached a general that had no level.
-fn spread(net: &Net, rest: &GeneralSet, row: &LevelRow, k: u8, next: &mut [u8; 16]) -> bool
+fn spread(net: &Net, rest: &GeneralSet, row: &LevelRow, k: u8, next: &mut [u8; GENERALS]) -> bool
     requires k { k < 254 }
     requires same { next.old ≡ row.now }
     ensures next { let joined = AreJoined net.now rest.now in
@@ -55,7 +56,7 @@ fn spread(net: &Net, rest: &GeneralSet, row: &LevelRow, k: u8, next: &mut [u8; 1
     ensures no { OnFalse result ((v : ℕ) → v < 16 → level next.new v ≡ level row.now v) }
 {
     let mut changed = false;
-    for number in 0..16u8 {
+    for number in 0..MOST_GENERALS {
         let v = GeneralNo::at(number);
         let found = next_level(net, rest, row, k, v);
         if found != row.level(v) {
@@ -72,9 +73,9 @@ fn levels_from(net: &Net, rest: &GeneralSet, source: GeneralNo) -> LevelRow
     requires { IsNetwork net.now }
     ensures { AreLevels (AreJoined net.now rest.now) source (level result) }
 {
-    let mut levels = [UNREACHED; 16];
+    let mut levels = [UNREACHED; GENERALS];
     levels[source.get() as usize] = 0;
-    for k in 0..16u8 {
+    for k in 0..MOST_GENERALS {
         let before = LevelRow::new(levels);
         if !spread(net, rest, &before, k, &mut levels) {
             return before;

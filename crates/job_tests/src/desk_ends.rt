@@ -1,45 +1,45 @@
 //! What a desk of several places says as logs are filed and reported on, and how it ends.
-use crate::filing::{desk_without_slips, file_all, header_of, logs_of, next_claim, report_on};
+use crate::filing::{desk_without_slips, file_all, header_of, logs_of, next_ticket, report_on};
 use crate::texts::{OTHER_STAR, PAIR, STAR};
-use gen_desk::{Claim, Desk, Receipt, Row};
+use gen_desk::{Desk, Receipt, Row, Ticket};
 use gen_log::SealedLog;
 use gen_net::Header;
 use std::alloc::{AllocError, Global};
 use std::sync::Wait;
 use std::test::*;
 
-/// The claims of so many places, which come in their order.
-fn claims_of<R: Wait>(
+/// The tickets of so many places, which come in their order.
+fn tickets_of<R: Wait>(
     rt: &R,
     alloc: Global,
     desk: &Desk,
     places: usize,
-) -> Result<Vec<Claim>, Fail> {
-    let mut claims = Vec::new(alloc);
+) -> Result<Vec<Ticket>, Fail> {
+    let mut tickets = Vec::new(alloc);
     for place in 0..places {
-        let claim = next_claim(rt, desk)?;
-        if claim.place() != place {
+        let ticket = next_ticket(rt, desk)?;
+        if ticket.place() != place {
             return Err("another place".into());
         }
-        claims.push(claim)?;
+        tickets.push(ticket)?;
     }
-    Ok(claims)
+    Ok(tickets)
 }
 
-/// Whether the desk says that all is reported on after the reports of all claims alone, in the order of the
-/// claims.
+/// Whether the desk says that all is reported on after the reports on all tickets alone, in the order of the
+/// tickets.
 fn reports_each<R: Wait>(
     rt: &R,
     alloc: Global,
     desk: &Desk,
     header: &Header,
-    claims: Vec<Claim>,
+    tickets: Vec<Ticket>,
 ) -> Result<bool, Fail> {
-    for claim in claims {
+    for ticket in tickets {
         if desk.all_reported(rt) {
             return Ok(false);
         }
-        let _place = report_on(rt, alloc, desk, header, claim)?;
+        let _place = report_on(rt, alloc, desk, header, ticket)?;
     }
     Ok(desk.all_reported(rt))
 }
@@ -77,11 +77,11 @@ fn claims_and_reports<R: Wait>(
     places: usize,
     is_turned: bool,
 ) -> Result<bool, Fail> {
-    let mut claims = claims_of(rt, alloc, desk, places)?;
+    let mut tickets = tickets_of(rt, alloc, desk, places)?;
     if is_turned {
-        claims.reverse();
+        tickets.reverse();
     }
-    reports_each(rt, alloc, desk, header, claims)
+    reports_each(rt, alloc, desk, header, tickets)
 }
 
 /// Whether a desk ends with these logs.

@@ -1,7 +1,7 @@
 //! What a desk refuses, and what comes back.
 use crate::filing::{claimed_once, desk_without_slips, give_up_all, header_of, logs_of, report_of};
 use crate::texts::PAIR;
-use gen_desk::{Claim, Desk, DeskFault, Slip};
+use gen_desk::{Desk, DeskFault, Slip, Ticket};
 use gen_local::{LocalReport, local_report};
 use gen_log::SealedLog;
 use gen_types::GeneralNo;
@@ -57,35 +57,35 @@ fn refuses_slips<R: Wait>(rt: &R, alloc: Global, desk: &Desk) -> Result<bool, Fa
 
 #[test]
 fn slips_of_another_desk(rt: HostRuntime) -> Result<(), Fail> {
-    let (desk, _claim) = claimed_once(&rt, rt.alloc())?;
+    let (desk, _ticket) = claimed_once(&rt, rt.alloc())?;
     assert!(rt; refuses_slips(&rt, rt.alloc(), &desk)?);
     Ok(())
 }
 
-/// Reports what is refused: the place of the claim and the general of the report that come back, and the
+/// Reports what is refused: the place of the ticket and the general of the report that come back, and the
 /// fault.
 fn refused_report<R: Wait>(
     rt: &R,
     desk: &Desk,
-    claim: Claim,
+    ticket: Ticket,
     report: LocalReport,
 ) -> Option<(usize, u8, DeskFault)> {
-    match desk.report(rt, claim, report) {
+    match desk.report(rt, ticket, report) {
         Ok(()) => None,
-        Err((claim, report, fault)) => {
-            Some((claim.place(), report.exhibit().general().get(), fault))
+        Err((ticket, report, fault)) => {
+            Some((ticket.place(), report.exhibit().general().get(), fault))
         }
     }
 }
 
 #[test]
-fn a_claim_of_another_desk(rt: HostRuntime) -> Result<(), Fail> {
+fn a_ticket_of_another_desk(rt: HostRuntime) -> Result<(), Fail> {
     let alloc = rt.alloc();
     let header = header_of(alloc, PAIR)?;
     let desk = desk_without_slips(alloc, 1)?;
-    let (_other, claim) = claimed_once(&rt, alloc)?;
-    let report = report_of(alloc, &header, &claim)?;
-    let back = refused_report(&rt, &desk, claim, report);
+    let (_other, ticket) = claimed_once(&rt, alloc)?;
+    let report = report_of(alloc, &header, &ticket)?;
+    let back = refused_report(&rt, &desk, ticket, report);
     assert!(rt; back == Some((0, 0, DeskFault::WrongPlace)));
     Ok(())
 }
@@ -94,8 +94,8 @@ fn a_claim_of_another_desk(rt: HostRuntime) -> Result<(), Fail> {
 fn a_report_of_another_exhibit(rt: HostRuntime) -> Result<(), Fail> {
     let header = header_of(rt.alloc(), PAIR)?;
     let report = local_report(rt.alloc(), &header, GeneralNo::at(1), &[1, 2, 3])?;
-    let (desk, claim) = claimed_once(&rt, rt.alloc())?;
-    let back = refused_report(&rt, &desk, claim, report);
+    let (desk, ticket) = claimed_once(&rt, rt.alloc())?;
+    let back = refused_report(&rt, &desk, ticket, report);
     assert!(rt; back == Some((0, 1, DeskFault::WrongExhibit)));
     Ok(())
 }

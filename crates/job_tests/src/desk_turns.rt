@@ -9,7 +9,7 @@ use std::test::*;
 /// The place of the next claim, if there is one.
 fn next_place<R: Wait>(rt: &R, desk: &Desk) -> Result<Option<usize>, Fail> {
     match desk.claim(rt)? {
-        Some(claim) => Ok(Some(claim.place())),
+        Some(ticket) => Ok(Some(ticket.place())),
         None => Ok(None),
     }
 }

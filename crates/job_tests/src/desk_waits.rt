@@ -3,7 +3,7 @@ use crate::filing::{
     claimed_once, desk_without_slips, file_last, give_up_all, header_of, logs_of, report_of,
 };
 use crate::texts::PAIR;
-use gen_desk::{Claim, Desk, Slip};
+use gen_desk::{Desk, Slip, Ticket};
 use gen_local::LocalReport;
 use gen_log::SealedLog;
 use std::alloc::Global;
@@ -41,20 +41,20 @@ fn set_word(desk: &Desk, word: &AtomicBool) {
 }
 
 /// Whether a report is taken.
-fn is_taken<R: Wait>(rt: &R, desk: &Desk, claim: Claim, report: LocalReport) -> bool {
-    desk.report(rt, claim, report).is_ok()
+fn is_taken<R: Wait>(rt: &R, desk: &Desk, ticket: Ticket, report: LocalReport) -> bool {
+    desk.report(rt, ticket, report).is_ok()
 }
 
 #[test]
 fn a_report_wakes_who_waits(rt: HostRuntime) -> Result<(), Fail> {
-    let (desk, claim) = claimed_once(&rt, rt.alloc())?;
+    let (desk, ticket) = claimed_once(&rt, rt.alloc())?;
     let header = header_of(rt.alloc(), PAIR)?;
-    let report = report_of(rt.alloc(), &header, &claim)?;
+    let report = report_of(rt.alloc(), &header, &ticket)?;
     let (at, with) = (&rt, &desk);
     let (_woken, taken) = thread::join(
         &rt,
         move || wait_for_reports(at, with),
-        move || is_taken(at, with, claim, report),
+        move || is_taken(at, with, ticket, report),
     );
     assert!(rt; taken);
     Ok(())

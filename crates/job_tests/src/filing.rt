@@ -1,7 +1,7 @@
 //! The logs of runs, and desks at which they are filed and reported on.
 use crate::made::scenario_of;
 use crate::texts::PAIR;
-use gen_desk::{Claim, Desk, Receipt, Slip};
+use gen_desk::{Desk, Receipt, Slip, Ticket};
 use gen_local::{LocalReport, local_report};
 use gen_log::SealedLog;
 use gen_net::Header;
@@ -89,17 +89,17 @@ pub(crate) fn file_all<R: Wait>(
 }
 
 /// A desk of one place, at which the log of general 0 of a pair is filed, and which is claimed.
-pub(crate) fn claimed_once<R: Wait>(rt: &R, alloc: Global) -> Result<(Desk, Claim), Fail> {
+pub(crate) fn claimed_once<R: Wait>(rt: &R, alloc: Global) -> Result<(Desk, Ticket), Fail> {
     let logs = logs_of(alloc, PAIR)?;
     let (desk, slips) = Desk::new(alloc, 1)?;
     let filed = file_last(rt, &desk, slips, logs.as_slice());
     filed.ok_or("nothing is filed")?;
-    let claim = next_claim(rt, &desk)?;
-    Ok((desk, claim))
+    let ticket = next_ticket(rt, &desk)?;
+    Ok((desk, ticket))
 }
 
-/// The next claim.
-pub(crate) fn next_claim<R: Wait>(rt: &R, desk: &Desk) -> Result<Claim, Fail> {
+/// The ticket of the next claim.
+pub(crate) fn next_ticket<R: Wait>(rt: &R, desk: &Desk) -> Result<Ticket, Fail> {
     Ok(desk.claim(rt)?.ok_or("no claim")?)
 }
 
@@ -107,23 +107,23 @@ pub(crate) fn next_claim<R: Wait>(rt: &R, desk: &Desk) -> Result<Claim, Fail> {
 pub(crate) fn report_of(
     alloc: Global,
     header: &Header,
-    claim: &Claim,
+    ticket: &Ticket,
 ) -> Result<LocalReport, Fail> {
-    let exhibit = claim.exhibit();
+    let exhibit = ticket.exhibit();
     Ok(local_report(alloc, header, exhibit.general(), exhibit.log())?)
 }
 
-/// Reports on a claim: its place.
+/// Reports on what was claimed: its place.
 pub(crate) fn report_on<R: Wait>(
     rt: &R,
     alloc: Global,
     desk: &Desk,
     header: &Header,
-    claim: Claim,
+    ticket: Ticket,
 ) -> Result<usize, Fail> {
-    let place = claim.place();
-    let report = report_of(alloc, header, &claim)?;
-    match desk.report(rt, claim, report) {
+    let place = ticket.place();
+    let report = report_of(alloc, header, &ticket)?;
+    match desk.report(rt, ticket, report) {
         Ok(()) => Ok(place),
         Err(_back) => Err("refused".into()),
     }

@@ -5,10 +5,10 @@
 ghost use Rattle.std.specs.Prelude.{IfOk, ◌<◌};
 ghost use Rattle.gen_audit.specs.BundleParts.{AreListedWalks};
 
-use crate::made::{bundle_of, campaign_in, scenario_of, written};
+use crate::made::{bundle_of, campaign_in, campaign_told, scenario_of, written};
 use crate::texts::{LINE, PAIR, RING, STAR, TWO_RUNS};
 use gen_audit::{AuditFault, Bundle, JobGate, Judgement, Verdict, WorkerCount, audit};
-use gen_campaign::{CampaignVerdict, audit_campaign};
+use gen_campaign::{CampaignVerdict, audit_campaign, run_campaign};
 use gen_jobs::Job;
 use gen_judge::run_and_audit;
 use gen_log::SealedLog;
@@ -320,6 +320,25 @@ fn shows_logs<R: Threads + Wait + Sync>(
 fn each_general_shows_the_gate_its_logs(rt: HostRuntime) -> Result<(), Fail> {
     assert!(rt; shows_logs(&rt, rt.alloc(), RING, SIX_ONCE)?);
     assert!(rt; shows_logs(&rt, rt.alloc(), STAR, ALL_ONCE)?);
+    Ok(())
+}
+
+/// Whether each general of a campaign shows the gate its logs as often as its digit says.
+fn campaign_shows_logs<R: Threads + Wait + Sync>(
+    rt: &R,
+    alloc: Global,
+    text: &[u8],
+    times: u64,
+) -> Result<bool, Fail> {
+    let gate = Meeting::new(0, 0, (0, 1, 0));
+    let campaign = campaign_told(rt, alloc, text)?;
+    let (logs, _leaves) = run_campaign(rt, alloc, &campaign, 1, &gate)?;
+    Ok(!logs.is_empty() && gate.has_met(0, times))
+}
+
+#[test]
+fn generals_of_a_campaign_show_the_gate_their_logs(rt: HostRuntime) -> Result<(), Fail> {
+    assert!(rt; campaign_shows_logs(&rt, rt.alloc(), TWO_RUNS, 2 * THREE_ONCE)?);
     Ok(())
 }
 

@@ -2,7 +2,10 @@
 ghost use Rattle.gen_jobs.specs.Ranges.{IsInRange};
 
 use gen_audit::{Bundle, read_bundle};
-use gen_campaign::{CampaignBundle, read_campaign};
+use gen_campaign::{
+    Campaign, CampaignBundle, make_campaign, read_campaign, read_campaign_text,
+    texts_make_campaigns,
+};
 use gen_jobs::{Job, JobEnd, do_job};
 use gen_report::{ScenarioText, read_scenario};
 use gen_scenario::Scenario;
@@ -53,6 +56,19 @@ pub(crate) fn bundle_of<R: Threads + Wait + Sync>(
 pub(crate) fn campaign_in(alloc: Global, bytes: &[u8]) -> Result<CampaignBundle, Fail> {
     match read_campaign(alloc, bytes) {
         Ok(campaign) => Ok(campaign),
+        Err(_) => Err("no campaign".into()),
+    }
+}
+
+/// The campaign that a text tells.
+pub(crate) fn campaign_told<R: Threads + Sync>(
+    rt: &R,
+    alloc: Global,
+    text: &[u8],
+) -> Result<Campaign, Fail> {
+    texts_make_campaigns();
+    match read_campaign_text(alloc, text) {
+        Ok(plans) => Ok(make_campaign(rt, alloc, plans)?),
         Err(_) => Err("no campaign".into()),
     }
 }

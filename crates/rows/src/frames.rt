@@ -2,7 +2,7 @@
 use crate::names::Refused;
 use crate::rows::Row;
 use crate::texts::Answer;
-use gen_node::{Frame, FrameFault, FrameFront, frame_bytes, read_frame};
+use gen_node::{FrameFault, FrameFront, WireFrame, frame_bytes, read_frame};
 use std::alloc::Global;
 
 /// Answers a call of this module, and returns whether it is one.
@@ -41,7 +41,7 @@ fn tell_frame(alloc: Global, mut row: Row<'_>, answer: &mut Answer) -> Result<()
 /// Tells the parcels of a frame that is read of these bytes, or its fault.
 fn tell_read(
     alloc: Global,
-    frame: &Frame,
+    frame: &WireFrame,
     awaited: &FrameFront,
     bytes: &[u8],
     answer: &mut Answer,
@@ -72,7 +72,7 @@ fn front_fault(front: &FrameFront, awaited: &FrameFront) -> Option<FrameFault> {
 }
 
 /// Tells how many parcels a frame has, and the digits of each.
-fn tell_parcels(frame: &Frame, answer: &mut Answer) {
+fn tell_parcels(frame: &WireFrame, answer: &mut Answer) {
     answer.show(frame.parcels().len());
     for parcel in frame.parcels() {
         answer.hex(parcel.bytes());

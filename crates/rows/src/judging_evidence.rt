@@ -1,4 +1,5 @@
 //! Evidence, and what answers it.
+ghost use Rattle.gen_convict.specs.Evidence.{IsEvidence, told_of};
 ghost use Rattle.gen_convict.specs.Refuting.{IsOwnLogFor};
 ghost use Rattle.gen_convict.specs.Told.{told};
 
@@ -24,15 +25,27 @@ pub(crate) fn tell_evidence(
 ) -> Result<(), Refused> {
     let bytes = row.rest()?;
     match read_evidence(alloc, bytes) {
-        Ok((header, evidence)) => {
-            if write_evidence(alloc, &header, &evidence)?.as_slice() != bytes {
-                answer.word("written otherwise");
-                return Ok(());
-            }
-            tell_read(alloc, &header, &evidence, answer)
-        }
+        Ok((header, evidence)) => tell_whole(alloc, &header, &evidence, bytes, answer),
         Err(fault) => Ok(answer.show(fault)),
     }
+}
+
+/// Tells what evidence says that was read from these bytes, unless it is written otherwise.
+fn tell_whole(
+    alloc: Global,
+    header: &Header,
+    evidence: &Evidence,
+    bytes: &[u8],
+    answer: &mut Answer,
+) -> Result<(), Refused>
+    requires { IsEvidence header.now (told_of evidence.now) }
+{
+    let written = write_evidence(alloc, header, evidence)?;
+    if written.as_slice() != bytes {
+        answer.word("written otherwise");
+        return Ok(());
+    }
+    tell_read(alloc, header, evidence, answer)
 }
 
 /// Tells what evidence says, and whether it holds.

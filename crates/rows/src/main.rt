@@ -4,8 +4,22 @@
 //! docs/ROWS.md says how a row is written and which calls there are. The program writes a line for each row whose answer is
 //! another one than stands in the row, and a line for each file. Behind all files it is `sm_tool` itself, by the words of
 //! the process, and ends with the exit status of that.
+//!
+//! If the word before the last is `again`, the program tries no rows. It makes the call of the libraries that the last word
+//! names, for the trial that refuses memory and threads.
 #![tactic(auto)]
 
+mod again;
+mod again_acting;
+mod again_answers;
+mod again_bundles;
+mod again_campaigns;
+mod again_chains;
+mod again_desks;
+mod again_logs;
+mod again_refuting;
+mod again_scenarios;
+mod again_stores;
 mod commands;
 mod files;
 mod forms;
@@ -30,28 +44,45 @@ mod values_rounds;
 mod values_scripts;
 mod values_walks;
 
-use std::io;
 use std::process::ExitCode;
-use std::rt::Files;
+use std::rt::{Env, Files};
 use std::sync::Wait;
 use std::thread::Threads;
+use std::{env, io};
 
 /// The exit status where a file can't be read, or a line can't be written.
 const FAILED: u8 = 100;
 
-/// Tries the rows of each file that standard input names.
-fn try_files<R: AllocGlobal + Files + Input + Print + Threads + Wait + Sync>(
+/// Returns the last word, which names a call, if the word before it is `again`.
+fn name_of_call<R: AllocGlobal + Env>(rt: &R) -> io::Result<Option<String>> {
+    let mut last = String::new(rt.alloc());
+    let mut is_named = false;
+    for word in env::args(rt)? {
+        is_named = last.as_str() == "again";
+        last = word;
+    }
+    Ok(if is_named { Some(last) } else { None })
+}
+
+/// Makes the call that the words name; if they name none, tries the rows of each file that standard input names. Returns
+/// whether the command of the words comes next.
+fn begin<R: AllocGlobal + Env + Files + Input + Print + Threads + Wait + Sync>(
     rt: &R,
-) -> io::Result<()> {
+) -> io::Result<bool> {
+    if let Some(name) = name_of_call(rt)? {
+        again::call(rt, name.as_str())?;
+        return Ok(false);
+    }
     for name in rt.lines(rt.alloc()) {
         files::try_file(rt, name?.as_str())?;
     }
-    Ok(())
+    Ok(true)
 }
 
 fn main(rt: HostRuntime) -> ExitCode {
-    match try_files(&rt) {
-        Ok(()) => ExitCode::from(gen_program::run(&rt)),
+    match begin(&rt) {
+        Ok(true) => ExitCode::from(gen_program::run(&rt)),
+        Ok(false) => ExitCode::SUCCESS,
         Err(_) => ExitCode::from(FAILED),
     }
 }

@@ -2,8 +2,10 @@
 //! machine: so many acts move, and the logs are those of the run.
 use crate::scenarios::{LARGEST, are_same, logs_of_run, scenario_of};
 use gen_async::Machine;
+use gen_chain::VerifyStore;
+use gen_local::{Reading, exhibits_of_logs, local_reports};
 use gen_log::SealedLog;
-use gen_world::Scenario;
+use gen_world::{Scenario, run_world};
 use std::alloc::{AllocError, Global};
 use std::test::Fail;
 
@@ -105,8 +107,35 @@ fn the_logs_of_the_machine_are_those_of_the_run(rt: HostRuntime) -> Result<(), F
     Ok(())
 }
 
+/// How many frames and decisions the run of a scenario has.
+fn lengths_of(alloc: Global, scenario: &Scenario) -> Result<(usize, usize), AllocError> {
+    let run = run_world(alloc, scenario)?;
+    Ok((run.frames().len(), run.decisions().len()))
+}
+
+/// Of how many logs of a scenario's run nothing is found, and by how many answers of one store.
+fn count_clean(alloc: Global, scenario: &Scenario) -> Result<(usize, u64), AllocError> {
+    let exhibits = exhibits_of_logs(alloc, logs_of_run(alloc, scenario)?)?;
+    let mut store = VerifyStore::new(alloc)?;
+    let reports = local_reports(alloc, scenario.header(), exhibits.as_slice(), &mut store)?;
+    let clean = reports
+        .iter()
+        .filter(|report| is_clean(report.reading()))
+        .count();
+    Ok((clean, store.runs()))
+}
+
+/// Whether nothing is found in what an exhibit reads as.
+fn is_clean(reading: &Reading) -> bool {
+    matches!(reading, Reading::Own(log)
+        if log.is_sealed() && log.unsigned().is_none() && log.departure().is_none())
+}
+
 #[test]
 fn the_machine_ends_the_largest_run(rt: HostRuntime) -> Result<(), Fail> {
     assert!(rt; is_the_run(rt.alloc(), (LARGEST, 7_680), &[1])?);
+    let stage = scenario_of(rt.alloc(), LARGEST)?;
+    assert!(rt; lengths_of(rt.alloc(), &stage.scenario)? == (3_840, 16));
+    assert!(rt; count_clean(rt.alloc(), &stage.scenario)? == (16, 16));
     Ok(())
 }

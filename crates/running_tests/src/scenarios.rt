@@ -7,14 +7,6 @@ use gen_world::{Scenario, WorldRun, run_world};
 use std::alloc::{AllocError, Global};
 use std::test::Fail;
 
-/// Four generals, all neighbours, with three rounds, in which general 0 sends order 1 to general 1 alone, who
-/// lengthens it for general 2, and both seal two logs.
-pub(crate) const TWO_SCRIPTS: &[u8] = b"\
-    generals 4\nedge 0 1\nedge 0 2\nedge 0 3\nedge 1 2\nedge 1 3\nedge 2 3\ntraitors 2\n\
-    diameter 1\norders 2\nchoice 0\norder 1\n\
-    seed 0000000000000000000000000000000000000000000000000000000000000000\nscript 0\n\
-    make 1 1 1 0\ntwohead\nscript 1\nmake 2 2 1 0,1\ntwohead\nend\n";
-
 /// The largest scenario: 16 generals, all neighbours, with as many traitors, as long walks and as many orders
 /// as there can be, and the last order.
 pub(crate) const LARGEST: &[u8] = b"\

@@ -26,8 +26,6 @@ ghost use Rattle.sha_lanes.specs.Lanes.{lane_bytes};
 
 mod blocks;
 mod chain_blocks;
-#[cfg(test)]
-mod chain_tests;
 mod chains;
 mod halves;
 mod hashers;
@@ -36,8 +34,6 @@ mod plain;
 mod progress;
 mod rounds;
 mod scheduling;
-#[cfg(test)]
-mod tests;
 mod words;
 
 use blocks::blocks;

@@ -7,9 +7,9 @@ use Rattle.gen_jobs.specs.declared.ends.JobFault.TheVariants as faults
 use Rattle.gen_jobs.specs.declared.asked_runs.AskedRuns.{AskedRuns}
 use Rattle.gen_jobs.specs.Asking.{IsShowFault}
 use Rattle.gen_jobs.specs.Audit.{IsAuditFault}
-use Rattle.gen_answer.specs.Answering.{IsAnswered, IsAnswerFault}
-use Rattle.gen_answer.specs.declared.answers.AnswerFault.{AnswerFault}
-use Rattle.gen_answer.specs.declared.answers.AnswerText.{AnswerText}
+use Rattle.gen_prepare.specs.Answering.{IsAnswered, IsAnswerFault}
+use Rattle.gen_prepare.specs.declared.answers.AnswerFault.{AnswerFault}
+use Rattle.gen_prepare.specs.declared.answers.AnswerText.{AnswerText}
 use Rattle.sm_embed.specs.Handing.{Hands, HandsOver, IsHanded}
 use Rattle.sm_embed.specs.Knowing.{AccusesKnown, HandsKnown, IsAccusedKnown, TellsKnown, status_of_known}
 use Rattle.sm_embed.specs.Knowing.{IsAccusedKnownOf, IsMadeKnown, KeepsKnown, MakesKnown, TellsKnownOf, status_of_made_known}
@@ -101,15 +101,3 @@ is_show_fault asked input (faults.Campaign f) h = h
 is_show_fault asked input (faults.Evidence f) h = absurd h
 is_show_fault asked input (faults.Log f) h = absurd h
 is_show_fault asked input (faults.Seed f) h = absurd h
-
-makes_known : (asked : AskedRuns) (general : ℕ) (input : List ℕ) (answered : Result (Option Output) JobFault) (held : Option Kept) (m : Option Made) → IfOk answered (TellsKnownOf asked general input) → IfErr answered (IsShowFault asked input) → KeepsKnown answered held m → MakesKnown asked general input held m
-makes_known asked general input (Ok None) held None a f over = (over, a)
-makes_known asked general input (Ok None) held (Some m) a f over = absurd over
-makes_known asked general input (Ok (Some o)) held None a f over = absurd over
-makes_known asked general input (Ok (Some o)) held (Some m) a f over = makes (IsAccusedKnownOf asked general input) (IsShowFault asked input) (Ok o) held m a f over
-makes_known asked general input (Err fault) held None a f over = absurd over
-makes_known asked general input (Err fault) held (Some m) a f over = makes (IsAccusedKnownOf asked general input) (IsShowFault asked input) (Err fault) held m a f over
-
--- and the number says so
-pub is_made_known : (asked : AskedRuns) (general : ℕ) (input : List ℕ) (answered : Result (Option Output) JobFault) (held : Option Kept) (status : ℕ) (m : Option Made) → status ≡ status_of_made_known m → IfOk answered (TellsKnownOf asked general input) → IfErr answered (IsShowFault asked input) → KeepsKnown answered held m → IsMadeKnown general input asked held status
-is_made_known asked general input answered held status m is a f over = (m, is, makes_known asked general input answered held m a f over)

@@ -1,9 +1,9 @@
 -- What a caller is handed of the answer to evidence.
 use Rattle.std.specs.Prelude.{ℕ, ◌≡◌, ◌⊎◌, Bool, true, false, List, Result, Ok, Err}
-use Rattle.gen_answer.specs.Answering.{IsAnswered, IsAnswerFault}
-use Rattle.gen_answer.specs.declared.answers.AnswerFault.{AnswerFault}
-use Rattle.gen_answer.specs.declared.answers.AnswerFault.TheVariants as faults
-use Rattle.gen_answer.specs.declared.answers.AnswerText.{AnswerText}
+use Rattle.gen_prepare.specs.Answering.{IsAnswered, IsAnswerFault}
+use Rattle.gen_prepare.specs.declared.answers.AnswerFault.{AnswerFault}
+use Rattle.gen_prepare.specs.declared.answers.AnswerFault.TheVariants as faults
+use Rattle.gen_prepare.specs.declared.answers.AnswerText.{AnswerText}
 use Rattle.gen_jobs.specs.Failing.{answer_failure}
 use Rattle.gen_jobs.specs.FaultLines.{job_fault_line}
 use Rattle.sm_embed.specs.Handing.{Fits, IsTooLong, IsUntouched}

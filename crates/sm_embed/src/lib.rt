@@ -31,7 +31,7 @@
 #![tactic(auto)]
 
 ghost use Rattle.std.specs.Prelude.{ℕ, ◌≡◌, ◌<◌, ◌≤◌, None};
-ghost use Rattle.gen_answer.specs.Answering.{IsAnswered};
+ghost use Rattle.gen_prepare.specs.Answering.{IsAnswered};
 ghost use Rattle.gen_jobs.specs.Accusing.{IsAccused};
 ghost use Rattle.gen_jobs.specs.Asking.{IsAccusedOf, IsAuditedAs, IsAuditedIn, IsCheckedIn, IsCheckedOf};
 ghost use Rattle.gen_jobs.specs.Asking.{IsDrawnOf, IsEvidenceFaultOf, IsShowFault};
@@ -40,6 +40,7 @@ ghost use Rattle.gen_jobs.specs.Checking.{IsChecked, IsEvidenceFault};
 ghost use Rattle.gen_jobs.specs.Decide.{IsDecided, IsDecidedIn, IsDecideFault};
 ghost use Rattle.gen_jobs.specs.Drawing.{IsDrawn};
 ghost use Rattle.gen_jobs.specs.Joining.{IsReplyFault};
+ghost use Rattle.gen_jobs.specs.Showing.{IsShownFault, IsShownIn};
 ghost use Rattle.gen_jobs.specs.Telling.{IsMemory, IsTold};
 ghost use Rattle.gen_jobs.specs.declared.telling.Telling.TheVariants as tellings;
 ghost use Rattle.sm_embed.specs.Handing.{IsHanded, IsUntouched};
@@ -68,14 +69,18 @@ use crate::making::{asked_in, form_in, hand_kept, keep};
 use crate::opaque::SmAnswer;
 use crate::replying::hand_reply;
 use crate::runs::tell_runs;
-use gen_answer::answer;
 use gen_jobs::{
     Telling, accuse_asked_in_place, accuse_in_place, audit_asked_in_place, audit_form_in_place,
     audit_in_place, decide, decide_in, draw_asked_in_place, draw_in_place, evidence,
-    evidence_as_asked, evidence_in, tell,
+    evidence_as_asked, evidence_in, show_in, tell,
 };
+use gen_prepare::answer;
 use gen_types::GeneralNo;
+use gen_types::limits::MOST_GENERALS;
 use std::alloc::Global;
+
+/// The numbers of generals are below this.
+const GENERALS: u32 = MOST_GENERALS as u32;
 
 /// Hands over the verdict on the bundle or the campaign that the input spells, as the command `audit` writes it.
 #[unsafe(no_mangle)]
@@ -109,7 +114,7 @@ pub extern "C" fn sm_accuse(
     // The number is 16 or more, so it is no general's.
     ensures nobody { 16 ≤ general → (result ≡ 2) × IsUntouched room.old room.new count.new }
 {
-    if general >= 16 {
+    if general >= GENERALS {
         *count = 0;
         return 2;
     }
@@ -154,7 +159,7 @@ pub extern "C" fn sm_accuse_known(
     // The number is 16 or more, so it is no general's.
     ensures nobody { 16 ≤ general → (result ≡ 2) × IsUntouched room.old room.new count.new }
 {
-    if general >= 16 {
+    if general >= GENERALS {
         *count = 0;
         return 2;
     }
@@ -254,7 +259,7 @@ pub extern "C" fn sm_accuse_of(
     ensures nobody { 16 ≤ general → IsMisuse answer.new.held result }
 {
     answer.clear(alloc);
-    if general >= 16 {
+    if general >= GENERALS {
         return 2;
     }
     let Some(asked) = asked_in(runs) else {
@@ -356,7 +361,7 @@ pub extern "C" fn sm_accuse_known_of(
     ensures nobody { 16 ≤ general → IsMisuse answer.new.held result }
 {
     answer.clear(alloc);
-    if general >= 16 {
+    if general >= GENERALS {
         return 2;
     }
     let Some(asked) = asked_in(runs) else {
@@ -445,4 +450,30 @@ pub extern "C" fn sm_decide_as(alloc: Global, form: u32, input: &[u8], answer: &
         return 2;
     };
     keep(alloc, decide_in(alloc, told, input), answer).status()
+}
+
+/// Makes the answer of what a file is, in a form: 0 for lines of text, as `sm_show` makes it, and 1 for lines of JSON, as
+/// the command `show --json` writes them. Another form is misuse. The file must be a whole one of the runs with these
+/// ids, in their order. If there are no ids, it may be any file, and the answer says no if it is no whole bundle,
+/// campaign, evidence or header.
+#[unsafe(no_mangle)]
+pub extern "C" fn sm_show_as(
+    alloc: Global,
+    runs: &[[u8; 32]],
+    form: u32,
+    input: &[u8],
+    answer: &mut SmAnswer,
+) -> u32
+    ensures { MakesIn (λ told. MakesIf (λ asked. IsShownIn told asked input.now)
+        (λ asked. IsShownFault asked input.now) (asked_in runs.now)) (form_in form)
+        answer.new.held result }
+{
+    answer.clear(alloc);
+    let Some(told) = form_in(form) else {
+        return 2;
+    };
+    let Some(asked) = asked_in(runs) else {
+        return 2;
+    };
+    keep(alloc, show_in(alloc, told, asked, input), answer).status()
 }

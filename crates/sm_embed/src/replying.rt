@@ -3,8 +3,8 @@ ghost use Rattle.sm_embed.specs.Refuting.{HandsLine, HandsReply, HandsText, IsOf
 
 use crate::handing::put;
 use crate::replied::Replied;
-use gen_answer::{AnswerFault, AnswerText};
 use gen_jobs::{JobFault, job_fault_line};
+use gen_prepare::{AnswerFault, AnswerText};
 use std::alloc::Global;
 
 /// Hands over the text of an answer.

@@ -32,8 +32,8 @@ use Rattle.std.specs.declared.alloc.Global.{Global}
 use Rattle.std.specs.contracts.impls.GlobalAllocator.TheImpl.{ghosts}
 use Rattle.std.proofs.GlobalToken.{dealloc_token-Testable}
 use Rattle.sm_node.specs.Owning.{node_owns}
-use Rattle.sm_node.specs.declared.held.Held.{Held}
-use Rattle.sm_node.specs.contracts.held.Held as held
+use Rattle.sm_node.specs.declared.held.NodeHandle.{NodeHandle}
+use Rattle.sm_node.specs.contracts.held.NodeHandle as held
 use Rattle.sm_node.specs.contracts.loose.Loose as loose
 use Rattle.sm_node.specs.contracts.opaque.SmNode as node
 
@@ -82,13 +82,13 @@ word_good (block_ptr b o) = (tt, (tt, tt))
 word_good null_ptr = (tt, ((Ptr-Good null_ptr).1, tt))
 
 -- the box at a pointer
-abbrev pub boxed : Global → Ptr → Held → Fml
+abbrev pub boxed : Global → Ptr → NodeHandle → Fml
 boxed a p x = box_owns (ghosts.dealloc_token a) held.the_row p x
 
 module _ {M : Type 1} {𝓤 : Ura M} {𝓛 : Logic 𝓤} {K : Type 0} {Γ : List (Item 𝓤)} {G : Goal 𝓤 𝓛.H} where
-  owned : (a : Global) → K → (p : Ptr) (h : Option Held)
+  owned : (a : Global) → K → (p : Ptr) (h : Option NodeHandle)
       → (p ≡ null_ptr → h ≡ None → Seq K 𝓛 Γ G)
-      → ((b o : ℕ) (x : Held) → p ≡ block_ptr b o → h ≡ Some x → Testable (block_ptr b o) → Seq K 𝓛 (‵ (boxed a (block_ptr b o) x) ∷ Γ) G)
+      → ((b o : ℕ) (x : NodeHandle) → p ≡ block_ptr b o → h ≡ Some x → Testable (block_ptr b o) → Seq K 𝓛 (‵ (boxed a (block_ptr b o) x) ∷ Γ) G)
       → Seq K 𝓛 (‵ (node_owns p h) ∷ Γ) G
   owned a t p None empty full = fpick t (λ e. drop t $ empty e refl)
   owned a t p (Some x) empty full = fpick t (λ alloc.
@@ -98,14 +98,14 @@ module _ {M : Type 1} {𝓤 : Ura M} {𝓛 : Logic 𝓤} {K : Type 0} {Γ : List
 
   pub node_out : (a : Global) → K → (s : Word.Denot) (vs : List Val)
       → (s.at ≡ null_ptr → s.held ≡ None → vs ≡ word null_ptr ∷ [] → Seq K 𝓛 Γ G)
-      → ((b o : ℕ) (x : Held) → s.held ≡ Some x → Testable (block_ptr b o) → vs ≡ word (block_ptr b o) ∷ [] → Seq K 𝓛 (‵ (boxed a (block_ptr b o) x) ∷ Γ) G)
+      → ((b o : ℕ) (x : NodeHandle) → s.held ≡ Some x → Testable (block_ptr b o) → vs ≡ word (block_ptr b o) ∷ [] → Seq K 𝓛 (‵ (boxed a (block_ptr b o) x) ∷ Γ) G)
       → Seq K 𝓛 (‵ (Word.own_val s vs) ∷ Γ) G
   node_out a t s vs empty full =
       fsplit t $ fpick t (λ vss. fsplit t $ feq_l t (λ whole. fsplit t $ feq_l t (λ first. drop t $
       let told : (p : Ptr) → s.at ≡ p → vs ≡ word p ∷ [] = λ p e. whole ∙ (λ j. vstruct (of_list ((first ∙ ap (λ (q : Ptr). ptr_val q ∷ []) e) j ++ [])) ∷ []) in
       owned a t s.at s.held (λ e none. empty e none (told null_ptr e)) (λ b o x e some ok. full b o x some ok (told (block_ptr b o) e)))))
 
-  pub node_in : K → (p : Ptr) (h : Option Held) → Step K 𝓛 (‵ (Word.own_val (record { at = p; held = h }) (word p ∷ [])) ∷ Γ) G (‵ (node_owns p h) ∷ Γ) G
+  pub node_in : K → (p : Ptr) (h : Option NodeHandle) → Step K 𝓛 (‵ (Word.own_val (record { at = p; held = h }) (word p ∷ [])) ∷ Γ) G (‵ (node_owns p h) ∷ Γ) G
   node_in t p h = step (λ s.
       nothing t $ feq_i t (List Val) (ptr_val p ∷ []) (ptr_val p ∷ []) refl $ fjoin t $ feq_i t (List Val) (word p ∷ []) (word p ∷ []) refl $ fjoin t $
       fpack t (Valss (RawPtr ∷ [])) (within (shape node.the_type) (p, tt) (word p ∷ [])) (ptr_val p ∷ [], tt) $ fjoin t $ s)

@@ -20,8 +20,8 @@ use Rattle.sm_node.specs.declared.bundles.SmLog.{SmLog}
 use Rattle.sm_node.specs.declared.faults.BytesFault.{BytesFault}
 use Rattle.sm_node.specs.declared.faults.GatherFault.{GatherFault}
 use Rattle.sm_node.specs.declared.faults.GatherFault.TheVariants.{Header, NoWalk, LongWalk, Bundle}
-use Rattle.sm_node.specs.declared.told.Told.{Told}
-use Rattle.sm_node.specs.declared.told.Told.TheVariants.{Done, Misuse, Fault, Memory, Length}
+use Rattle.sm_node.specs.declared.told.NodeReply.{NodeReply}
+use Rattle.sm_node.specs.declared.told.NodeReply.TheVariants.{Done, Misuse, Fault, Memory, Length}
 use Rattle.sm_node.specs.Faults.{gather_number}
 use Rattle.sm_node.specs.Handing.{IsUntouched, PutsText}
 use Rattle.sm_node.specs.Headers.{header_in}
@@ -109,7 +109,7 @@ FindsWalks h faulty (Err (errors.Fault f)) =
     × IsWalkFault h.network rest why × (fault_of why ≡ Some f)
 
 -- the bundle's bytes are handed out, or their length alone, or the number of a fault is told
-abbrev pub HandsBundle : List ℕ → ℕ → Option (List LogBytes) → List ℕ → List ℕ → ℕ → ℕ → Told → Type 0
+abbrev pub HandsBundle : List ℕ → ℕ → Option (List LogBytes) → List ℕ → List ℕ → ℕ → ℕ → NodeReply → Type 0
 HandsBundle bytes faulty logs old new count fault Done =
     (fault ≡ 0) × (faulty < 2 ^ 16) × ((xs : List LogBytes) × (text : List ℕ) × (logs ≡ Some xs)
     × IsGathered bytes (members_of faulty) xs text × PutsText text old new count Done)

@@ -6,21 +6,21 @@ use Rattle.gen_node.specs.declared.frame_fault.FrameFault.{FrameFault}
 use Rattle.gen_node.specs.Frame.{IsFrame, frame_spelling}
 use Rattle.gen_node.specs.Node.{Node, IsBegun, awaits, decision_of_node, ended, frame_to, handed}
 use Rattle.gen_node.specs.Node.{is_awaited, is_over, may_begin, may_end}
-use Rattle.sm_node.specs.declared.held.Ending.{Ending}
-use Rattle.sm_node.specs.declared.held.Held.{Held}
-use Rattle.sm_node.specs.declared.held.Held.TheVariants.{Ended}
-use Rattle.sm_node.specs.declared.told.Told.{Told}
-use Rattle.sm_node.specs.declared.told.Told.TheVariants.{Done, Misuse, Fault, Memory, Length}
+use Rattle.sm_node.specs.declared.held.EndedNode.{EndedNode}
+use Rattle.sm_node.specs.declared.held.NodeHandle.{NodeHandle}
+use Rattle.sm_node.specs.declared.held.NodeHandle.TheVariants.{Ended}
+use Rattle.sm_node.specs.declared.told.NodeReply.{NodeReply}
+use Rattle.sm_node.specs.declared.told.NodeReply.TheVariants.{Done, Misuse, Fault, Memory, Length}
 use Rattle.sm_node.specs.Faults.{frame_number}
 use Rattle.sm_node.specs.Handing.{IsUntouched, PutsText}
-use Rattle.sm_node.specs.Held.{allows, has_ended, Becomes, IsRunning}
+use Rattle.sm_node.specs.NodeHandle.{allows, has_ended, Becomes, IsRunning}
 
 -- the call may not be made: no node that has not ended passes the test, and nothing has changed
-abbrev pub IsRefused : (Node → Bool) → Option Held → Option Held → Type 0
+abbrev pub IsRefused : (Node → Bool) → Option NodeHandle → Option NodeHandle → Type 0
 IsRefused may old new = (new ≡ old) × (allows may old ≡ false)
 
 -- a round begins; or memory was refused, and a further call goes on with it
-abbrev pub Begins : Option Held → Option Held → Told → Type 0
+abbrev pub Begins : Option NodeHandle → Option NodeHandle → NodeReply → Type 0
 Begins old new Done = (allows may_begin old ≡ true) × Becomes IsBegun old new
 Begins old new Misuse = IsRefused may_begin old new
 Begins old new Memory =
@@ -30,7 +30,7 @@ Begins old new Fault = ⊥
 Begins old new Length = ⊥
 
 -- a round ends; or memory was refused, and a further call goes on with it
-abbrev pub Ends : Option Held → Option Held → Told → Type 0
+abbrev pub Ends : Option NodeHandle → Option NodeHandle → NodeReply → Type 0
 Ends old new Done = (allows may_end old ≡ true) × Becomes (λ n m. m ≡ ended n) old new
 Ends old new Misuse = IsRefused may_end old new
 Ends old new Memory =
@@ -39,13 +39,13 @@ Ends old new Fault = ⊥
 Ends old new Length = ⊥
 
 -- a round is open, and the bytes are the frame of this round to a neighbour
-abbrev pub IsFrameTo : ℕ → Option Held → List ℕ → Type 0
+abbrev pub IsFrameTo : ℕ → Option NodeHandle → List ℕ → Type 0
 IsFrameTo to held bytes =
     (n : Node) × IsRunning held n × (awaits n to ≡ true)
     × Spells IsFrame frame_spelling bytes (frame_to n.recorder to)
 
 -- the frame of this round to a neighbour is handed out, or its length alone
-abbrev pub Sends : ℕ → Option Held → List ℕ → List ℕ → ℕ → Told → Type 0
+abbrev pub Sends : ℕ → Option NodeHandle → List ℕ → List ℕ → ℕ → NodeReply → Type 0
 Sends to held old new count Done =
     (bytes : List ℕ) × IsFrameTo to held bytes × PutsText bytes old new count Done
 Sends to held old new count Length =
@@ -55,7 +55,7 @@ Sends to held old new count Memory = IsUntouched old new count × (allows (λ n.
 Sends to held old new count Fault = ⊥
 
 -- bytes are taken as the frame of this round from a neighbour, or the number of their fault is told
-abbrev pub Hears : ℕ → List ℕ → Option Held → Option Held → ℕ → Told → Type 0
+abbrev pub Hears : ℕ → List ℕ → Option NodeHandle → Option NodeHandle → ℕ → NodeReply → Type 0
 Hears from bytes old new fault Done = (fault ≡ 0) × Becomes (λ n m. handed n from bytes ≡ Ok m) old new
 Hears from bytes old new fault Fault =
     (new ≡ old) × ((n : Node) × (f : FrameFault) × IsRunning old n × (handed n from bytes ≡ Err f)
@@ -66,7 +66,7 @@ Hears from bytes old new fault Memory =
 Hears from bytes old new fault Length = ⊥
 
 -- the node ends after the last round, and its sealed log and its decision are left
-abbrev pub Finishes : Option Held → Option Held → Told → Type 0
+abbrev pub Finishes : Option NodeHandle → Option NodeHandle → NodeReply → Type 0
 Finishes old new Done =
     (n : Node) × IsRunning old n × (is_over n ≡ true)
     × (new ≡ Some (Ended (record { log = log_written n.recorder; decision = decision_of_node n.recorder })))
@@ -76,20 +76,21 @@ Finishes old new Fault = ⊥
 Finishes old new Length = ⊥
 
 -- this ending is what is held
-abbrev pub IsEnded : Option Held → Ending → Type 0
+abbrev pub IsEnded : Option NodeHandle → EndedNode → Type 0
 IsEnded held e = held ≡ Some (Ended e)
 
 -- the log of a node that has ended is handed out, or its length alone
-abbrev pub HandsLog : Option Held → List ℕ → List ℕ → ℕ → Told → Type 0
-HandsLog held old new count Done = (e : Ending) × IsEnded held e × PutsText e.log.bytes old new count Done
-HandsLog held old new count Length = (e : Ending) × IsEnded held e × PutsText e.log.bytes old new count Length
+abbrev pub HandsLog : Option NodeHandle → List ℕ → List ℕ → ℕ → NodeReply → Type 0
+HandsLog held old new count Done = (e : EndedNode) × IsEnded held e × PutsText e.log.bytes old new count Done
+HandsLog held old new count Length =
+    (e : EndedNode) × IsEnded held e × PutsText e.log.bytes old new count Length
 HandsLog held old new count Misuse = IsUntouched old new count × (has_ended held ≡ false)
 HandsLog held old new count Memory = ⊥
 HandsLog held old new count Fault = ⊥
 
 -- the order that a node that has ended decided is told
-abbrev pub TellsOrder : Option Held → ℕ → Told → Type 0
-TellsOrder held order Done = (e : Ending) × IsEnded held e × (order ≡ e.decision.order)
+abbrev pub TellsOrder : Option NodeHandle → ℕ → NodeReply → Type 0
+TellsOrder held order Done = (e : EndedNode) × IsEnded held e × (order ≡ e.decision.order)
 TellsOrder held order Misuse = (order ≡ 0) × (has_ended held ≡ false)
 TellsOrder held order Memory = ⊥
 TellsOrder held order Fault = ⊥

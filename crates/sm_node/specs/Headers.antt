@@ -14,8 +14,8 @@ use Rattle.gen_net.specs.NetworkOf.{network_of}
 use Rattle.sm_node.specs.declared.faults.BytesFault.{BytesFault}
 use Rattle.sm_node.specs.declared.faults.BytesFault.TheVariants.{BadHeader, LeftOver}
 use Rattle.sm_node.specs.declared.headers.SmNumbers.{SmNumbers}
-use Rattle.sm_node.specs.declared.told.Told.{Told}
-use Rattle.sm_node.specs.declared.told.Told.TheVariants.{Done, Misuse, Fault, Memory, Length}
+use Rattle.sm_node.specs.declared.told.NodeReply.{NodeReply}
+use Rattle.sm_node.specs.declared.told.NodeReply.TheVariants.{Done, Misuse, Fault, Memory, Length}
 use Rattle.sm_node.specs.Faults.{header_number}
 use Rattle.sm_node.specs.Handing.{IsUntouched, PutsText}
 
@@ -63,7 +63,7 @@ header_made numbers edges roots = do
   header_over numbers net roots
 
 -- the header's bytes are handed out, or their length alone, or the number of a fault is told
-abbrev pub MakesHeader : Result RunHeader HeaderFault → List ℕ → List ℕ → ℕ → ℕ → Told → Type 0
+abbrev pub MakesHeader : Result RunHeader HeaderFault → List ℕ → List ℕ → ℕ → ℕ → NodeReply → Type 0
 MakesHeader made old new count fault Done =
     (fault ≡ 0) × ((h : RunHeader) × (made ≡ Ok h) × PutsText (header_spelling h) old new count Done)
 MakesHeader made old new count fault Length =

@@ -4,10 +4,10 @@ pub mod Driving
 pub mod Faults
 pub mod Handing
 pub mod Headers
-pub mod Held
+pub mod NodeHandle
 pub mod Longest
 pub mod Owning
 pub mod Parted
 pub mod Plans
 pub mod Starting
-pub mod Told
+pub mod NodeReply

@@ -11,8 +11,8 @@ use Rattle.gen_audit.specs.WorldBundle.{AreWalksOfRun}
 use Rattle.gen_node.specs.BundleBytes.{bundle_bytes}
 use Rattle.sm_node.specs.declared.faults.GatherFault.{GatherFault}
 use Rattle.sm_node.specs.declared.faults.GatherFault.TheVariants.{Header, NoWalk, LongWalk, Bundle}
-use Rattle.sm_node.specs.declared.told.Told.{Told}
-use Rattle.sm_node.specs.declared.told.Told.TheVariants.{Done, Misuse, Fault, Memory, Length}
+use Rattle.sm_node.specs.declared.told.NodeReply.{NodeReply}
+use Rattle.sm_node.specs.declared.told.NodeReply.TheVariants.{Done, Misuse, Fault, Memory, Length}
 use Rattle.sm_node.specs.Faults.{gather_number}
 use Rattle.sm_node.specs.Handing.{IsUntouched, PutsText}
 use Rattle.sm_node.specs.Headers.{header_in}
@@ -49,7 +49,7 @@ GathersParted bytes faulty logs (Err errors.Memory) = Unit {0}
 GathersParted bytes faulty logs (Err (errors.Fault f)) = IsPartedFault bytes faulty logs f
 
 -- the bundle's bytes are handed out, or their length alone, or the number of a fault is told
-abbrev pub HandsParted : List ℕ → ℕ → Option (List LogBytes) → List ℕ → List ℕ → ℕ → ℕ → Told → Type 0
+abbrev pub HandsParted : List ℕ → ℕ → Option (List LogBytes) → List ℕ → List ℕ → ℕ → ℕ → NodeReply → Type 0
 HandsParted bytes faulty logs old new count fault Done =
     (fault ≡ 0) × (faulty < 2 ^ 16) × ((xs : List LogBytes) × (text : List ℕ) × (logs ≡ Some xs)
     × IsGatheredIfAny bytes (members_of faulty) xs text × PutsText text old new count Done)

@@ -11,13 +11,13 @@ use Rattle.gen_net.specs.Version.{version_one, version_two}
 use Rattle.sm_node.specs.Longest.{frame_most}
 use Rattle.sm_node.specs.declared.faults.BytesFault.{BytesFault}
 use Rattle.sm_node.specs.declared.headers.SmNumbers.{SmNumbers}
-use Rattle.sm_node.specs.declared.told.Told.{Told}
-use Rattle.sm_node.specs.declared.told.Told.TheVariants.{Done, Misuse, Fault, Memory, Length}
+use Rattle.sm_node.specs.declared.told.NodeReply.{NodeReply}
+use Rattle.sm_node.specs.declared.told.NodeReply.TheVariants.{Done, Misuse, Fault, Memory, Length}
 use Rattle.sm_node.specs.Faults.{bytes_number}
 use Rattle.sm_node.specs.Headers.{header_in}
 
 -- nothing is told of the bytes: the number of their fault is told, or memory was refused
-abbrev pub IsUntold : List ℕ → ℕ → Told → Type 0
+abbrev pub IsUntold : List ℕ → ℕ → NodeReply → Type 0
 IsUntold bytes fault Done = ⊥
 IsUntold bytes fault Misuse = ⊥
 IsUntold bytes fault Fault = (f : BytesFault) × (header_in bytes ≡ Err f) × (fault ≡ bytes_number f)
@@ -25,12 +25,12 @@ IsUntold bytes fault Memory = fault ≡ 0
 IsUntold bytes fault Length = ⊥
 
 -- the header that the bytes are; or the number of their fault is told, or memory was refused
-abbrev pub FindsHeader : List ℕ → ℕ → Result RunHeader Told → Type 0
+abbrev pub FindsHeader : List ℕ → ℕ → Result RunHeader NodeReply → Type 0
 FindsHeader bytes fault (Ok h) = (fault ≡ 0) × (header_in bytes ≡ Ok h)
 FindsHeader bytes fault (Err told) = IsUntold bytes fault told
 
 -- the bytes are a header, of which this holds; or nothing is told of the bytes, and that holds
-abbrev pub TellsOf : List ℕ → (RunHeader → Type 0) → Type 0 → ℕ → Told → Type 0
+abbrev pub TellsOf : List ℕ → (RunHeader → Type 0) → Type 0 → ℕ → NodeReply → Type 0
 TellsOf bytes Holds Kept fault Done = (fault ≡ 0) × ((h : RunHeader) × (header_in bytes ≡ Ok h) × Holds h)
 TellsOf bytes Holds Kept fault Misuse = ⊥
 TellsOf bytes Holds Kept fault Fault = Kept × IsUntold bytes fault Fault
@@ -55,16 +55,16 @@ numbers_of h = record {
 }
 
 -- the numbers of the header are told, or they stay as they were
-abbrev pub TellsNumbers : List ℕ → SmNumbers → SmNumbers → ℕ → Told → Type 0
+abbrev pub TellsNumbers : List ℕ → SmNumbers → SmNumbers → ℕ → NodeReply → Type 0
 TellsNumbers bytes old new fault told = TellsOf bytes (λ h. new ≡ numbers_of h) (new ≡ old) fault told
 
 -- the number of rounds is told, or 0
-abbrev pub TellsRounds : List ℕ → ℕ → ℕ → Told → Type 0
+abbrev pub TellsRounds : List ℕ → ℕ → ℕ → NodeReply → Type 0
 TellsRounds bytes told_rounds fault told =
     TellsOf bytes (λ h. told_rounds ≡ rounds h.network) (told_rounds ≡ 0) fault told
 
 -- the most bytes of a frame are told, or 0
-abbrev pub TellsMost : List ℕ → ℕ → ℕ → Told → Type 0
+abbrev pub TellsMost : List ℕ → ℕ → ℕ → NodeReply → Type 0
 TellsMost bytes most fault told = TellsOf bytes (λ h. most ≡ frame_most h) (most ≡ 0) fault told
 
 -- the set is that of the generals that an edge joins to this one
@@ -73,6 +73,6 @@ IsSetOfNeighbours general set h =
     (neighbours : List ℕ) × IsListOf neighbours (AreNeighbours h.network general) × (set ≡ bits_of neighbours)
 
 -- the set of a general's neighbours is told, or the empty set
-abbrev pub TellsNeighbours : List ℕ → ℕ → ℕ → ℕ → Told → Type 0
+abbrev pub TellsNeighbours : List ℕ → ℕ → ℕ → ℕ → NodeReply → Type 0
 TellsNeighbours bytes general set fault told =
     TellsOf bytes (IsSetOfNeighbours general set) (set ≡ 0) fault told

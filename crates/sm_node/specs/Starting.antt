@@ -11,12 +11,12 @@ use Rattle.gen_node.specs.declared.node_fault.NodeFault.TheVariants as faults
 use Rattle.gen_node.specs.Node.{Node, IsRefused, MayBeNode, fresh_ring, node_at_start}
 use Rattle.sm_node.specs.declared.faults.StartFault.{StartFault}
 use Rattle.sm_node.specs.declared.faults.StartFault.TheVariants.{Header, NoGeneral, OtherRoot}
-use Rattle.sm_node.specs.declared.held.Held.{Held}
-use Rattle.sm_node.specs.declared.told.Told.{Told}
-use Rattle.sm_node.specs.declared.told.Told.TheVariants.{Done, Misuse, Fault, Memory, Length}
+use Rattle.sm_node.specs.declared.held.NodeHandle.{NodeHandle}
+use Rattle.sm_node.specs.declared.told.NodeReply.{NodeReply}
+use Rattle.sm_node.specs.declared.told.NodeReply.TheVariants.{Done, Misuse, Fault, Memory, Length}
 use Rattle.sm_node.specs.Faults.{start_number}
 use Rattle.sm_node.specs.Headers.{header_in}
-use Rattle.sm_node.specs.Held.{IsRunning}
+use Rattle.sm_node.specs.NodeHandle.{IsRunning}
 
 -- the number for a general that has no order
 abbrev pub no_order : ℕ
@@ -53,11 +53,11 @@ StartsNode bytes general seed own (Err (errors.Fault f)) = IsStartFault bytes ge
 
 -- the call may be made: nothing is held, and the numbers are a general's and an order's or the number for no
 -- order
-abbrev pub MayStart : ℕ → ℕ → Option Held → Type 0
+abbrev pub MayStart : ℕ → ℕ → Option NodeHandle → Type 0
 MayStart general order old = (old ≡ None) × (are_numbers general order ≡ true)
 
 -- a node is held and nothing was before, or the number of a fault is told
-abbrev pub Starts : List ℕ → ℕ → List ℕ → ℕ → Option Held → Option Held → ℕ → Told → Type 0
+abbrev pub Starts : List ℕ → ℕ → List ℕ → ℕ → Option NodeHandle → Option NodeHandle → ℕ → NodeReply → Type 0
 Starts bytes general seed order old new fault Done =
     (fault ≡ 0) × MayStart general order old × ((h : RunHeader) × (n : Node) × IsRunning new n
     × IsStarted bytes general seed (own_order order) h n)
@@ -74,7 +74,7 @@ abbrev pub height_numbered : ℕ → Option TreeHeight
 height_numbered version = if version == 1 then Some Four else if version == 2 then Some Six else None
 
 -- the root of a seed's keys is written, for headers of this version
-abbrev pub WritesRoot : List ℕ → ℕ → List ℕ → List ℕ → Told → Type 0
+abbrev pub WritesRoot : List ℕ → ℕ → List ℕ → List ℕ → NodeReply → Type 0
 WritesRoot seed version old new Done =
     (height : TreeHeight) × (height_numbered version ≡ Some height) × (new ≡ ring_root seed height)
 WritesRoot seed version old new Misuse = (new ≡ old) × (height_numbered version ≡ None)

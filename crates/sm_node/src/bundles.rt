@@ -6,7 +6,8 @@ ghost use Rattle.sm_node.specs.Bundles as gathering;
 use crate::faults::GatherFault;
 use crate::handing::put;
 use crate::headers::header_in;
-use crate::told::Told;
+use crate::starting::NUMBERS;
+use crate::told::NodeReply;
 use gen_local::Exhibit;
 use gen_net::Header;
 use gen_node::make_bundle;
@@ -37,7 +38,7 @@ fn log_in_front(alloc: Global, log: SmLog, bytes: &[u8]) -> Result<Exhibit, Allo
 fn is_in_front(log: SmLog, bytes: &[u8]) -> bool
     ensures { result ≡ gathering.is_in_front log bytes.now }
 {
-    log.general < 16 && log.bytes <= bytes.len()
+    log.general < NUMBERS && log.bytes <= bytes.len()
 }
 
 /// Returns the logs that stand one after another in the bytes; None if the bytes are not exactly these logs.
@@ -130,26 +131,26 @@ pub(crate) fn hand_bundle(
     room: &mut [u8],
     count: &mut usize,
     fault: &mut u32,
-) -> Told
+) -> NodeReply
     ensures { gathering.HandsBundle header.now faulty (gathering.logs_in logs.now bytes.now)
         room.old room.new count.new fault.new result }
 {
     *count = 0;
     *fault = 0;
-    if faulty >= 1 << 16 {
-        return Told::Misuse;
+    if faulty >= 1 << NUMBERS {
+        return NodeReply::Misuse;
     }
     let own = match logs_in(alloc, logs, bytes) {
         Ok(Some(own)) => own,
-        Ok(None) => return Told::Misuse,
-        Err(_) => return Told::Memory,
+        Ok(None) => return NodeReply::Misuse,
+        Err(_) => return NodeReply::Memory,
     };
     match gather(alloc, header, GeneralSet::from_bits(faulty as u16), own) {
         Ok(text) => put(text.as_slice(), room, count),
-        Err(ReadError::Memory) => Told::Memory,
+        Err(ReadError::Memory) => NodeReply::Memory,
         Err(ReadError::Fault(broken)) => {
             *fault = broken.number();
-            Told::Fault
+            NodeReply::Fault
         }
     }
 }

@@ -5,7 +5,7 @@ ghost use Rattle.sm_node.specs.Headers as headers;
 
 use crate::faults::{BytesFault, header_number};
 use crate::handing::put;
-use crate::told::Told;
+use crate::told::NodeReply;
 use gen_net::{Header, HeaderFault, Net, header_bytes, read_header};
 use gen_types::{ReadError, check};
 use std::alloc::{AllocError, Global};
@@ -125,7 +125,7 @@ pub(crate) fn make_header(
     room: &mut [u8],
     count: &mut usize,
     fault: &mut u32,
-) -> Told
+) -> NodeReply
     ensures { headers.MakesHeader (headers.header_made numbers.now edges.now roots.now)
         room.old room.new count.new fault.new result }
 {
@@ -134,12 +134,12 @@ pub(crate) fn make_header(
     match header_of(alloc, numbers, edges, roots) {
         Ok(header) => match header_bytes(alloc, &header) {
             Ok(bytes) => put(bytes.as_slice(), room, count),
-            Err(_) => Told::Memory,
+            Err(_) => NodeReply::Memory,
         },
-        Err(ReadError::Memory) => Told::Memory,
+        Err(ReadError::Memory) => NodeReply::Memory,
         Err(ReadError::Fault(broken)) => {
             *fault = header_number(broken);
-            Told::Fault
+            NodeReply::Fault
         }
     }
 }

@@ -2,11 +2,11 @@
 ghost use Rattle.std.specs.Prelude.{◌≡◌, Some};
 ghost use Rattle.gen_node.specs.Node as nodes;
 ghost use Rattle.sm_node.specs.Driving.{Begins, Ends, Finishes, HandsLog, Hears, Sends, TellsOrder};
-ghost use Rattle.sm_node.specs.Held.{allows, running};
+ghost use Rattle.sm_node.specs.NodeHandle.{allows, running};
 
 use crate::faults::frame_number;
 use crate::handing::put;
-use crate::told::Told;
+use crate::told::NodeReply;
 use gen_log::SealedLog;
 use gen_node::{Node, NodeEnd};
 use gen_scenario::Decision;
@@ -16,7 +16,7 @@ use std::mem::replace;
 
 /// What is left of a node that has ended.
 #[derive(Drop)]
-pub struct Ending {
+pub struct EndedNode {
     /// Its log.
     pub log: SealedLog,
     /// What it decided.
@@ -24,62 +24,62 @@ pub struct Ending {
 }
 
 /// What the memory of a node for C holds.
-pub enum Held {
+pub enum NodeHandle {
     /// Nothing yet.
     Empty,
     /// A node that has not ended.
     Running(Node),
     /// What is left of a node that has ended.
-    Ended(Ending),
+    Ended(EndedNode),
 }
 
-impl Drop for Held {
+impl Drop for NodeHandle {
     fn drop(self) {
         match self {
-            Held::Empty => {}
-            Held::Running(node) => {
+            NodeHandle::Empty => {}
+            NodeHandle::Running(node) => {
                 let ring = node.close();
                 ring.close();
             }
-            Held::Ended(_) => {}
+            NodeHandle::Ended(_) => {}
         }
     }
 }
 
-impl Held {
+impl NodeHandle {
     /// Begins the next round.
-    pub(crate) fn begin_round(&mut self, alloc: Global) -> Told
+    pub(crate) fn begin_round(&mut self, alloc: Global) -> NodeReply
         ensures { Begins (Some self.old) (Some self.new) result }
     {
         match self {
-            Held::Running(node) => {
+            NodeHandle::Running(node) => {
                 if !node.may_begin() {
-                    return Told::Misuse;
+                    return NodeReply::Misuse;
                 }
                 match node.begin_round(alloc) {
-                    Ok(()) => Told::Done,
-                    Err(_) => Told::Memory,
+                    Ok(()) => NodeReply::Done,
+                    Err(_) => NodeReply::Memory,
                 }
             }
-            Held::Empty | Held::Ended(_) => Told::Misuse,
+            NodeHandle::Empty | NodeHandle::Ended(_) => NodeReply::Misuse,
         }
     }
 
     /// Ends the round.
-    pub(crate) fn end_round(&mut self, alloc: Global) -> Told
+    pub(crate) fn end_round(&mut self, alloc: Global) -> NodeReply
         ensures { Ends (Some self.old) (Some self.new) result }
     {
         match self {
-            Held::Running(node) => {
+            NodeHandle::Running(node) => {
                 if !node.may_end() {
-                    return Told::Misuse;
+                    return NodeReply::Misuse;
                 }
                 match node.end_round(alloc) {
-                    Ok(()) => Told::Done,
-                    Err(_) => Told::Memory,
+                    Ok(()) => NodeReply::Done,
+                    Err(_) => NodeReply::Memory,
                 }
             }
-            Held::Empty | Held::Ended(_) => Told::Misuse,
+            NodeHandle::Empty | NodeHandle::Ended(_) => NodeReply::Misuse,
         }
     }
 
@@ -90,19 +90,19 @@ impl Held {
         to: GeneralNo,
         room: &mut [u8],
         count: &mut usize,
-    ) -> Told
+    ) -> NodeReply
         ensures { Sends to (Some self.now) room.old room.new count.new result }
     {
         *count = 0;
-        let Held::Running(node) = self else {
-            return Told::Misuse;
+        let NodeHandle::Running(node) = self else {
+            return NodeReply::Misuse;
         };
         if !node.awaits(to) {
-            return Told::Misuse;
+            return NodeReply::Misuse;
         }
         match node.to_send(alloc, to) {
             Ok(bytes) => put(bytes.as_slice(), room, count),
-            Err(_) => Told::Memory,
+            Err(_) => NodeReply::Memory,
         }
     }
 
@@ -113,20 +113,20 @@ impl Held {
         from: GeneralNo,
         bytes: &[u8],
         fault: &mut u32,
-    ) -> Told
+    ) -> NodeReply
         ensures { Hears from bytes.now (Some self.old) (Some self.new) fault.new result }
     {
         *fault = 0;
         match self {
-            Held::Running(node) => match node.heard(alloc, from, bytes) {
-                Ok(()) => Told::Done,
-                Err(ReadError::Memory) => Told::Memory,
+            NodeHandle::Running(node) => match node.heard(alloc, from, bytes) {
+                Ok(()) => NodeReply::Done,
+                Err(ReadError::Memory) => NodeReply::Memory,
                 Err(ReadError::Fault(broken)) => {
                     *fault = frame_number(broken);
-                    Told::Fault
+                    NodeReply::Fault
                 }
             },
-            Held::Empty | Held::Ended(_) => Told::Misuse,
+            NodeHandle::Empty | NodeHandle::Ended(_) => NodeReply::Misuse,
         }
     }
 
@@ -135,8 +135,8 @@ impl Held {
         ensures { result ≡ allows nodes.is_over (Some self.now) }
     {
         match self {
-            Held::Running(node) => node.is_over(),
-            Held::Empty | Held::Ended(_) => false,
+            NodeHandle::Running(node) => node.is_over(),
+            NodeHandle::Empty | NodeHandle::Ended(_) => false,
         }
     }
 
@@ -145,20 +145,20 @@ impl Held {
         ensures { result ≡ running self }
     {
         match self {
-            Held::Running(node) => Some(node),
-            Held::Empty | Held::Ended(_) => None,
+            NodeHandle::Running(node) => Some(node),
+            NodeHandle::Empty | NodeHandle::Ended(_) => None,
         }
     }
 
     /// Ends the node after the last round. The node's ring is closed.
-    pub(crate) fn finish(&mut self, alloc: Global) -> Told
+    pub(crate) fn finish(&mut self, alloc: Global) -> NodeReply
         ensures { Finishes (Some self.old) (Some self.new) result }
     {
         if !self.is_over() {
-            return Told::Misuse;
+            return NodeReply::Misuse;
         }
-        let Some(node) = replace(self, Held::Empty).into_node() else {
-            return Told::Misuse;
+        let Some(node) = replace(self, NodeHandle::Empty).into_node() else {
+            return NodeReply::Misuse;
         };
         match node.finish(alloc) {
             Ok(
@@ -169,38 +169,38 @@ impl Held {
                 },
             ) => {
                 ring.close();
-                *self = Held::Ended(Ending { log, decision });
-                Told::Done
+                *self = NodeHandle::Ended(EndedNode { log, decision });
+                NodeReply::Done
             }
             Err(node) => {
-                *self = Held::Running(node);
-                Told::Memory
+                *self = NodeHandle::Running(node);
+                NodeReply::Memory
             }
         }
     }
 
     /// Hands out the log of a node that has ended.
-    pub(crate) fn log(&self, room: &mut [u8], count: &mut usize) -> Told
+    pub(crate) fn log(&self, room: &mut [u8], count: &mut usize) -> NodeReply
         ensures { HandsLog (Some self.now) room.old room.new count.new result }
     {
         *count = 0;
         match self {
-            Held::Ended(ending) => put(ending.log.bytes(), room, count),
-            Held::Empty | Held::Running(_) => Told::Misuse,
+            NodeHandle::Ended(ending) => put(ending.log.bytes(), room, count),
+            NodeHandle::Empty | NodeHandle::Running(_) => NodeReply::Misuse,
         }
     }
 
     /// Tells the order that a node that has ended decided.
-    pub(crate) fn order(&self, order: &mut u32) -> Told
+    pub(crate) fn order(&self, order: &mut u32) -> NodeReply
         ensures { TellsOrder (Some self.now) order.new result }
     {
         *order = 0;
         match self {
-            Held::Ended(ending) => {
+            NodeHandle::Ended(ending) => {
                 *order = u32::from(ending.decision.order.get());
-                Told::Done
+                NodeReply::Done
             }
-            Held::Empty | Held::Running(_) => Told::Misuse,
+            NodeHandle::Empty | NodeHandle::Running(_) => NodeReply::Misuse,
         }
     }
 }

@@ -12,7 +12,7 @@
 //! | 5 | the room is too short, and the length that is needed is told; nothing was changed |
 //!
 //! No function keeps anything outside the node that it was handed, starts a thread, waits for one, prints, or ends the
-//! process. The contract of each function says what each `Told` means for it, and what goes with it, as `Begins` does.
+//! process. The contract of each function says what each `NodeReply` means for it, and what goes with it, as `Begins` does.
 #![tactic(auto)]
 
 ghost use Rattle.std.specs.Prelude.{◌≡◌, ◌<◌, ◌≤◌, None};
@@ -24,7 +24,7 @@ ghost use Rattle.sm_node.specs.Headers.{header_made, MakesHeader};
 ghost use Rattle.sm_node.specs.Parted.{HandsParted};
 ghost use Rattle.sm_node.specs.Plans.{TellsMost, TellsNeighbours, TellsNumbers, TellsRounds};
 ghost use Rattle.sm_node.specs.Starting.{Starts, WritesRoot};
-ghost use Rattle.sm_node.specs.Told.{IsTold};
+ghost use Rattle.sm_node.specs.NodeReply.{IsTold};
 
 mod asking;
 mod bundles;
@@ -48,7 +48,7 @@ use crate::headers::{SmNumbers, make_header};
 use crate::opaque::SmNode;
 use crate::parted::hand_parted;
 use crate::plans::{tell_most, tell_neighbours, tell_numbers, tell_rounds};
-use crate::starting::{start, write_root};
+use crate::starting::{NUMBERS, start, write_root};
 use gen_types::GeneralNo;
 use std::alloc::Global;
 
@@ -122,7 +122,7 @@ pub extern "C" fn sm_node_send(
     // The number is 16 or more, so it is no general's.
     ensures nobody { 16 ≤ to → (result ≡ 2) × IsUntouched room.old room.new count.new }
 {
-    if to >= 16 {
+    if to >= NUMBERS {
         *count = 0;
         return 2;
     }
@@ -143,7 +143,7 @@ pub extern "C" fn sm_node_hear(
     // The number is 16 or more, so it is no general's.
     ensures nobody { 16 ≤ from → (result ≡ 2) × (node.new.held ≡ node.old.held) × (fault.new ≡ 0) }
 {
-    if from >= 16 {
+    if from >= NUMBERS {
         *fault = 0;
         return 2;
     }
@@ -301,7 +301,7 @@ pub extern "C" fn sm_node_neighbours(
     // The number is 16 or more, so it is no general's.
     ensures nobody { 16 ≤ general → (result ≡ 2) × (set.new ≡ 0) × (fault.new ≡ 0) }
 {
-    if general >= 16 {
+    if general >= NUMBERS {
         *set = 0;
         *fault = 0;
         return 2;
@@ -332,7 +332,7 @@ pub extern "C" fn sm_node_awaits(
     // The number is 16 or more, so it is no general's.
     ensures nobody { 16 ≤ from → (result ≡ 2) × (whether.new ≡ 0) }
 {
-    if from >= 16 {
+    if from >= NUMBERS {
         *whether = 0;
         return 2;
     }
@@ -353,7 +353,7 @@ pub extern "C" fn sm_node_lacks(
     // The number is 16 or more, so it is no general's.
     ensures nobody { 16 ≤ from → (result ≡ 2) × (whether.new ≡ 0) }
 {
-    if from >= 16 {
+    if from >= NUMBERS {
         *whether = 0;
         return 2;
     }

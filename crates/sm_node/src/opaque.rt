@@ -1,10 +1,10 @@
 //! A node as a caller in C holds it: one pointer.
 ghost use Rattle.std.specs.Prelude.{◌≡◌, Option, None, Some};
 ghost use Rattle.std.specs.Option.{MatchOption};
-ghost use Rattle.sm_node.specs.declared.held.Held.{Held};
+ghost use Rattle.sm_node.specs.declared.held.NodeHandle.{NodeHandle};
 ghost use Rattle.sm_node.specs.Owning.{node_owns};
 
-use crate::held::Held;
+use crate::held::NodeHandle;
 use crate::loose::Loose;
 use std::alloc::Global;
 use std::marker::{Model, Send};
@@ -16,7 +16,7 @@ use std::ptr::null_mut;
 #[repr(C)]
 pub struct SmNode {
     at: *mut u8,
-    pub ghost held: { Option Held },
+    pub ghost held: { Option NodeHandle },
 }
 
 impl Model for SmNode {
@@ -34,7 +34,7 @@ impl SmNode {
     }
 
     /// Returns a node that holds what the box has.
-    fn of(loose: Loose<Held, Global>) -> SmNode
+    fn of(loose: Loose<NodeHandle, Global>) -> SmNode
         ensures { result.held ≡ Some loose.value }
     {
         let Loose { at, alloc: _ } = loose;
@@ -42,7 +42,7 @@ impl SmNode {
     }
 
     /// Returns the box of what is held; None if nothing is.
-    fn into_loose(self, alloc: Global) -> Option<Loose<Held, Global>>
+    fn into_loose(self, alloc: Global) -> Option<Loose<NodeHandle, Global>>
         ensures { MatchOption result (self.held ≡ None) (λ l. self.held ≡ Some l.value) }
     {
         let SmNode { at } = self;
@@ -50,14 +50,14 @@ impl SmNode {
             None
         } else {
             Some(Loose {
-                at: at as *mut Held,
+                at: at as *mut NodeHandle,
                 alloc,
             })
         }
     }
 
     /// Takes out what is held, so that nothing is; None if nothing was.
-    pub(crate) fn take(&mut self, alloc: Global) -> Option<Box<Held>>
+    pub(crate) fn take(&mut self, alloc: Global) -> Option<Box<NodeHandle>>
         ensures held { MatchOption result (self.old.held ≡ None) (λ b. self.old.held ≡ Some b.value) }
         ensures empty { self.new.held ≡ None }
     {
@@ -69,7 +69,7 @@ impl SmNode {
     }
 
     /// Puts in what is to be held. What was held before is dropped.
-    pub(crate) fn put(&mut self, alloc: Global, place: Box<Held>)
+    pub(crate) fn put(&mut self, alloc: Global, place: Box<NodeHandle>)
         ensures { self.new.held ≡ Some place.value }
     {
         let before = replace(self, SmNode::of(Loose::of(place)));

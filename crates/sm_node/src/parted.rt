@@ -6,7 +6,8 @@ ghost use Rattle.sm_node.specs.Parted as parted;
 use crate::bundles::{SmLog, header_of, logs_in};
 use crate::faults::GatherFault;
 use crate::handing::put;
-use crate::told::Told;
+use crate::starting::NUMBERS;
+use crate::told::NodeReply;
 use gen_local::Exhibit;
 use gen_net::Header;
 use gen_node::make_bundle;
@@ -55,26 +56,26 @@ pub(crate) fn hand_parted(
     room: &mut [u8],
     count: &mut usize,
     fault: &mut u32,
-) -> Told
+) -> NodeReply
     ensures { parted.HandsParted header.now faulty (logs_in logs.now bytes.now)
         room.old room.new count.new fault.new result }
 {
     *count = 0;
     *fault = 0;
-    if faulty >= 1 << 16 {
-        return Told::Misuse;
+    if faulty >= 1 << NUMBERS {
+        return NodeReply::Misuse;
     }
     let own = match logs_in(alloc, logs, bytes) {
         Ok(Some(own)) => own,
-        Ok(None) => return Told::Misuse,
-        Err(_) => return Told::Memory,
+        Ok(None) => return NodeReply::Misuse,
+        Err(_) => return NodeReply::Memory,
     };
     match gather_parted(alloc, header, GeneralSet::from_bits(faulty as u16), own) {
         Ok(text) => put(text.as_slice(), room, count),
-        Err(ReadError::Memory) => Told::Memory,
+        Err(ReadError::Memory) => NodeReply::Memory,
         Err(ReadError::Fault(broken)) => {
             *fault = broken.number();
-            Told::Fault
+            NodeReply::Fault
         }
     }
 }

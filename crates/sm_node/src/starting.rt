@@ -4,12 +4,16 @@ ghost use Rattle.sm_node.specs.Starting as starting;
 
 use crate::faults::StartFault;
 use crate::headers::header_in;
-use crate::held::Held;
+use crate::held::NodeHandle;
 use crate::opaque::SmNode;
-use crate::told::Told;
+use crate::told::NodeReply;
 use gen_node::{Node, NodeFault, root_of};
+use gen_types::limits::MOST_GENERALS;
 use gen_types::{GeneralNo, OrderNo, ReadError, TreeHeight};
 use std::alloc::Global;
+
+/// The numbers of generals are below this. So are those of orders.
+pub(crate) const NUMBERS: u32 = MOST_GENERALS as u32;
 
 /// The number for a general that has no order.
 const NO_ORDER: u32 = 255;
@@ -18,7 +22,7 @@ const NO_ORDER: u32 = 255;
 fn are_numbers(general: u32, order: u32) -> bool
     ensures { result ≡ starting.are_numbers general order }
 {
-    general < 16 && (order < 16 || order == NO_ORDER)
+    general < NUMBERS && (order < NUMBERS || order == NO_ORDER)
 }
 
 /// Returns the order of this number; None for the number for no order.
@@ -66,31 +70,31 @@ pub(crate) fn start(
     seed: &[u8; 32],
     order: u32,
     fault: &mut u32,
-) -> Told
+) -> NodeReply
     ensures { starting.Starts bytes.now general seed.now order node.old.held node.new.held fault.new result }
 {
     *fault = 0;
     if !are_numbers(general, order) {
-        return Told::Misuse;
+        return NodeReply::Misuse;
     }
     if let Some(held) = node.take(alloc) {
         node.put(alloc, held);
-        return Told::Misuse;
+        return NodeReply::Misuse;
     }
-    let Ok(mut place) = Box::new(alloc, Held::Empty) else {
-        return Told::Memory;
+    let Ok(mut place) = Box::new(alloc, NodeHandle::Empty) else {
+        return NodeReply::Memory;
     };
     let general = GeneralNo::at(general as u8);
     match node_of(alloc, bytes, general, seed, own_order(order)) {
         Ok(made) => {
-            *place = Held::Running(made);
+            *place = NodeHandle::Running(made);
             node.put(alloc, place);
-            Told::Done
+            NodeReply::Done
         }
-        Err(ReadError::Memory) => Told::Memory,
+        Err(ReadError::Memory) => NodeReply::Memory,
         Err(ReadError::Fault(broken)) => {
             *fault = broken.number();
-            Told::Fault
+            NodeReply::Fault
         }
     }
 }
@@ -107,17 +111,22 @@ fn height_numbered(version: u32) -> Option<TreeHeight>
 }
 
 /// Writes the root of the tree of keys that a seed makes, for headers of this version.
-pub(crate) fn write_root(alloc: Global, seed: &[u8; 32], version: u32, root: &mut [u8; 32]) -> Told
+pub(crate) fn write_root(
+    alloc: Global,
+    seed: &[u8; 32],
+    version: u32,
+    root: &mut [u8; 32],
+) -> NodeReply
     ensures { starting.WritesRoot seed.now version root.old root.new result }
 {
     let Some(height) = height_numbered(version) else {
-        return Told::Misuse;
+        return NodeReply::Misuse;
     };
     match root_of(alloc, seed, height) {
         Ok(made) => {
             *root = made;
-            Told::Done
+            NodeReply::Done
         }
-        Err(_) => Told::Memory,
+        Err(_) => NodeReply::Memory,
     }
 }

@@ -1,10 +1,10 @@
 //! What a call answers.
 ghost use Rattle.std.specs.Prelude.{◌≡◌};
-ghost use Rattle.sm_node.specs.Told.{status_of};
+ghost use Rattle.sm_node.specs.NodeReply.{status_of};
 
 /// What a call answers. The call returns its number.
 #[derive(Clone, Copy, Debug, PartialEq, Eq)]
-pub enum Told {
+pub enum NodeReply {
     /// It was done.
     Done,
     /// The call may not be made in this way: nothing was changed.
@@ -17,17 +17,17 @@ pub enum Told {
     Length,
 }
 
-impl Told {
+impl NodeReply {
     /// Returns the number that the call returns.
     pub fn status(self) -> u32
         ensures { result ≡ status_of self }
     {
         match self {
-            Told::Done => 0,
-            Told::Misuse => 2,
-            Told::Fault => 3,
-            Told::Memory => 4,
-            Told::Length => 5,
+            NodeReply::Done => 0,
+            NodeReply::Misuse => 2,
+            NodeReply::Fault => 3,
+            NodeReply::Memory => 4,
+            NodeReply::Length => 5,
         }
     }
 }

@@ -138,9 +138,26 @@ class Jobs(unittest.TestCase):
                 given = path.read_bytes()
                 status, wrote, _ = answer(("show",), given)
                 self.assertEqual(vamuretu.show(given), (status == 0, wrote.decode()))
+                status, wrote, _ = answer(("show", "--json"), given)
+                self.assertEqual(vamuretu.show_json(given), (status == 0, wrote.decode()))
                 self.assertEqual(vamuretu.words(given), answer(("words",), given)[1])
         self.assertEqual(vamuretu.explain("K2"), told(["explain", "K2"], b""))
         self.assertIsNone(vamuretu.explain("nothing of this name"))
+
+    def test_shown_runs(self):
+        bundle, found = ((EXAMPLES / name).read_bytes() for name in ("split.bundle", "split.evidence"))
+        own = vamuretu.run_ids(bundle)
+        for call in (vamuretu.show, vamuretu.show_json):
+            for given in (bundle, found, vamuretu.evidence(found).header.data):
+                self.assertEqual(call(given, runs=own), call(given))
+                self.assertTrue(call(given)[0])
+                self.assertFalse(call(given[:-1])[0])
+                for runs, bent in ((["0" * 64], given), (own * 2, given), (own, given[:-1]), (own, b"")):
+                    with self.assertRaises(vamuretu.OtherRun) as caught:
+                        call(bent, runs=runs)
+                    self.assertEqual(caught.exception.line, "fault R1")
+            for runs in ([], own * 5, ["12"]):
+                self.assertRaises(vamuretu.Misuse, call, bundle, runs=runs)
 
     def test_answers(self):
         found = (EXAMPLES / "split.evidence").read_bytes()

@@ -7,7 +7,7 @@ says where they are looked for, and docs/EMBED.md of the sources what each call 
 from ._faults import InputFault, LibraryMissing, Misuse, NodeFault, OtherRun
 from ._headers import Header, header, read_header, root
 from ._jobs import Evidence, accuse, audit, audit_json, decide, decide_json, draw, evidence, evidence_json, explain
-from ._jobs import refute, run_ids, show, words
+from ._jobs import refute, run_ids, show, show_json, words
 from ._libraries import use_libraries, version
 from ._nodes import Node, bundle
 from ._texts import (
@@ -60,6 +60,7 @@ __all__ = [
     "root",
     "run_ids",
     "show",
+    "show_json",
     "use_libraries",
     "version",
     "words",

@@ -163,9 +163,18 @@ def run_ids(given: Bytes) -> Tuple[str, ...]:
     return tuple(ids[at : at + RUN_ID_BYTES].hex() for at in range(0, len(ids), RUN_ID_BYTES))
 
 
-def show(given: Bytes) -> Tuple[bool, str]:
-    """Whether a file is a whole bundle, campaign, evidence or header, and what it is, as `sm_tool show` writes it."""
-    is_no, text = _made("show", given)
+def show(given: Bytes, *, runs: Optional[Iterable[RunId]] = None) -> Tuple[bool, str]:
+    """Whether a file is a whole bundle, campaign, evidence or header, and what it is, as `sm_tool show` writes it.
+
+    `runs` is as of `audit`. With it a file that is not whole is OtherRun too, as nothing says of which run it is.
+    """
+    is_no, text = _made("show_as", given, *_expected(runs), TEXT)
+    return not is_no, text.decode("ascii")
+
+
+def show_json(given: Bytes, *, runs: Optional[Iterable[RunId]] = None) -> Tuple[bool, str]:
+    """The same as lines with a JSON object each, as `sm_tool show --json` writes them. `runs` is as of `show`."""
+    is_no, text = _made("show_as", given, *_expected(runs), JSON)
     return not is_no, text.decode("ascii")
 
 

@@ -61,6 +61,7 @@ _ENDS: Dict[str, Dict[str, List[Any]]] = {
         "sm_evidence_as": _READ + [c_uint32] + _READ + _ANSWER,
         "sm_decide_as": [c_uint32] + _READ + _ANSWER,
         "sm_show": _READ + _ANSWER,
+        "sm_show_as": _READ + [c_uint32] + _READ + _ANSWER,
         "sm_explain": _READ + _ANSWER,
         "sm_words": _READ + _ANSWER,
         "sm_answer_text": _ANSWER + _WRITTEN,

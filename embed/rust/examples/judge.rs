@@ -1,19 +1,25 @@
 //! What `sm_tool` writes for the bytes on standard input, with its status.
 //!
-//!     judge audit|evidence|decide [--json]
+//!     judge audit|evidence|decide|show [--json]
 //!     judge draw
 //!     judge accuse GENERAL
 use std::io::{Error, Read, Write};
 use std::process::ExitCode;
-use vamuretu::{accuse, audit, audit_json, decide, decide_json, draw, evidence, evidence_json, Answer, Fault};
+use vamuretu::{
+    accuse, audit, audit_json, decide, decide_json, draw, evidence, evidence_json, show, show_json, Answer, Fault,
+};
+
+/// The status and the text of an answer.
+fn said(answer: Answer) -> (u8, Vec<u8>) {
+    (u8::from(answer.is_no()), answer.text().into())
+}
 
 /// The status and the text of a job.
 fn answer(words: &[&str], input: &[u8]) -> Result<(u8, Vec<u8>), Fault> {
     Ok(match words {
-        ["audit"] => match audit(input)? {
-            Answer::Yes(text) => (0, text.into_bytes()),
-            Answer::No(text) => (1, text.into_bytes()),
-        },
+        ["audit"] => said(audit(input)?),
+        ["show"] => said(show(input)?),
+        ["show", "--json"] => said(show_json(&[], input)?),
         ["audit", "--json"] => (u8::from(audit(input)?.is_no()), audit_json(&[], input)?.into_bytes()),
         ["evidence", "--json"] => (u8::from(!evidence(input)?), evidence_json(None, input)?.into_bytes()),
         ["decide", "--json"] => (0, decide_json(input)?.into_bytes()),

@@ -188,8 +188,27 @@ pub fn run_ids(input: &[u8]) -> Result<Option<Vec<RunId>>, Fault> {
 /// What a file is, line by line, as `sm_tool show` writes it. It is a no if and only if the file is no whole bundle,
 /// campaign, evidence or header.
 pub fn show(input: &[u8]) -> Result<Answer, Fault> {
+    show_of(&[], input)
+}
+
+/// What a file of the runs with these ids is, as [`show`], in their order; of any file if there are none.
+/// [`Fault::OtherRun`] for other runs, and for a file that is not whole, if there are ids. [`Fault::Misuse`] for more
+/// than four ids.
+pub fn show_of(runs: &[RunId], input: &[u8]) -> Result<Answer, Fault> {
+    show_as(TEXT, runs, input)
+}
+
+/// The same as lines with a JSON object each, as `sm_tool show --json` writes them. `runs` is as of [`show_of`].
+pub fn show_json(runs: &[RunId], input: &[u8]) -> Result<Answer, Fault> {
+    show_as(JSON, runs, input)
+}
+
+/// What a file is, in a form.
+fn show_as(form: u32, runs: &[RunId], input: &[u8]) -> Result<Answer, Fault> {
     // SAFETY: as in `audit_of`.
-    let (is_no, text) = kept(|answer| unsafe { raw::sm_show(input.as_ptr(), input.len(), answer) })?;
+    let (is_no, text) = kept(|answer| unsafe {
+        raw::sm_show_as(runs.as_ptr().cast(), runs.len(), form, input.as_ptr(), input.len(), answer)
+    })?;
     Ok(if is_no { Answer::No(text_of(text)) } else { Answer::Yes(text_of(text)) })
 }
 
@@ -330,6 +349,16 @@ mod tests {
         let shown = show(SPLIT).expect("memory");
         assert!(!shown.is_no() && shown.text().starts_with("format bundle version 1 slot 0\nrun 4b555e97"));
         assert!(show(&SPLIT[1..]).expect("memory").is_no());
+        let own = run_ids(SPLIT).expect("memory").expect("a bundle");
+        assert_eq!(show_of(&own, SPLIT), Ok(shown));
+        let lines = show_json(&own, SPLIT).expect("a bundle");
+        assert!(!lines.is_no() && lines.text().starts_with("{\"edges\":[[0,1],[0,2],[1,2]],\"file\":\"bundle\""));
+        assert!(lines.text().split_terminator('\n').all(|line| line.starts_with('{') && line.ends_with('}')));
+        assert!(show_json(&[], &SPLIT[1..]).expect("memory").is_no());
+        for (runs, given) in [(&[[0; 32]][..], SPLIT), (&[own[0]; 2], SPLIT), (&own, &SPLIT[1..])] {
+            assert_eq!((show_of(runs, given), show_json(runs, given)), (Err(Fault::OtherRun), Err(Fault::OtherRun)));
+        }
+        assert_eq!(show_json(&[own[0]; 5], SPLIT), Err(Fault::Misuse));
         assert!(explain("K2").expect("memory").is_some_and(|said| said.starts_with("K2\n  ")));
         assert_eq!((explain("nothing of this name"), words(b"")), (Ok(None), Ok(vec![])));
         assert!(words(b"verdict no\n").expect("memory").starts_with(b"verdict no\n  "));

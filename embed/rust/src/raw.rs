@@ -103,7 +103,14 @@ extern "C" {
         answer: *mut SmAnswer,
     ) -> u32;
     pub fn sm_decide_as(form: u32, input: *const u8, input_bytes: usize, answer: *mut SmAnswer) -> u32;
-    pub fn sm_show(input: *const u8, input_bytes: usize, answer: *mut SmAnswer) -> u32;
+    pub fn sm_show_as(
+        runs: *const u8,
+        run_count: usize,
+        form: u32,
+        input: *const u8,
+        input_bytes: usize,
+        answer: *mut SmAnswer,
+    ) -> u32;
     pub fn sm_explain(input: *const u8, input_bytes: usize, answer: *mut SmAnswer) -> u32;
     pub fn sm_words(input: *const u8, input_bytes: usize, answer: *mut SmAnswer) -> u32;
     pub fn sm_answer_text(answer: *mut SmAnswer, room: *mut u8, room_bytes: usize, count: *mut usize) -> u32;

@@ -15,7 +15,7 @@ returns-clause-found c =
     let seen = map seen_run c.as_slice-2.result.now in
     let same : seen ≡ runs = ap (map seen_run) c.as_slice-2.ensures.value ∙ c.in_ok-runs.ensures in
     let read : map seen_run c.as_slice.result.now ≡ runs = ap (map seen_run) c.as_slice.ensures.value ∙ c.in_ok-runs.ensures in
-    let are : AreOfRuns runs = λ r k. are_of r.header r.reports (c.requires.under r k) (c.read_runs.ensures r (subst (λ rs. Contains rs r) (sym read) k)).1 in
+    let are : AreOfRuns runs = λ r k. are_of r.header r.reports (c.requires.under r k) (c.note_runs.ensures r (subst (λ rs. Contains rs r) (sym read) k)).1 in
     if_ok (λ found. map told_of found.items ≡ accusations_across seen (range_with_len 0 16)) (λ found. AreConvictedAcross (shown_runs runs) (map told_of found.items)) c.rivals_of_all.result
     (λ found e. subst (AreConvictedAcross (shown_runs runs)) (sym (e ∙ ap (λ rs. accusations_across rs (range_with_len 0 16)) same)) (convicted_across runs are 16 refl))
     c.rivals_of_all.ensures
@@ -26,8 +26,8 @@ returns-clause-held c =
     let seen = map seen_run c.as_slice-2.result.now in
     let same : seen ≡ runs = ap (map seen_run) c.as_slice-2.ensures.value ∙ c.in_ok-runs.ensures in
     let read : map seen_run c.as_slice.result.now ≡ runs = ap (map seen_run) c.as_slice.ensures.value ∙ c.in_ok-runs.ensures in
-    let are : AreOfRuns runs = λ r k. are_of r.header r.reports (c.requires.under r k) (c.read_runs.ensures r (subst (λ rs. Contains rs r) (sym read) k)).1 in
-    let headers : (r : RunReports) → Contains runs r → IsHeader r.header = λ r k. (c.read_runs.ensures r (subst (λ rs. Contains rs r) (sym read) k)).0 in
+    let are : AreOfRuns runs = λ r k. are_of r.header r.reports (c.requires.under r k) (c.note_runs.ensures r (subst (λ rs. Contains rs r) (sym read) k)).1 in
+    let headers : (r : RunReports) → Contains runs r → IsHeader r.header = λ r k. (c.note_runs.ensures r (subst (λ rs. Contains rs r) (sym read) k)).0 in
     if_ok (λ found. map told_of found.items ≡ accusations_across seen (range_with_len 0 16)) (λ found. ConvictsAcrossWhereHeld (shown_runs runs) (map told_of found.items)) c.rivals_of_all.result
     (λ found e. subst (ConvictsAcrossWhereHeld (shown_runs runs)) (sym (e ∙ ap (λ rs. accusations_across rs (range_with_len 0 16)) same)) (held_across runs are headers 16 refl))
     c.rivals_of_all.ensures
@@ -38,8 +38,8 @@ returns-clause-lawful c =
     let seen = map seen_run c.as_slice-2.result.now in
     let same : seen ≡ runs = ap (map seen_run) c.as_slice-2.ensures.value ∙ c.in_ok-runs.ensures in
     let read : map seen_run c.as_slice.result.now ≡ runs = ap (map seen_run) c.as_slice.ensures.value ∙ c.in_ok-runs.ensures in
-    let are : AreOfRuns runs = λ r k. are_of r.header r.reports (c.requires.under r k) (c.read_runs.ensures r (subst (λ rs. Contains rs r) (sym read) k)).1 in
-    let headers : (r : RunReports) → Contains runs r → IsHeader r.header = λ r k. (c.read_runs.ensures r (subst (λ rs. Contains rs r) (sym read) k)).0 in
+    let are : AreOfRuns runs = λ r k. are_of r.header r.reports (c.requires.under r k) (c.note_runs.ensures r (subst (λ rs. Contains rs r) (sym read) k)).1 in
+    let headers : (r : RunReports) → Contains runs r → IsHeader r.header = λ r k. (c.note_runs.ensures r (subst (λ rs. Contains rs r) (sym read) k)).0 in
     if_ok (λ found. map told_of found.items ≡ accusations_across seen (range_with_len 0 16)) (λ found. AreEvidenceAcross (map told_of found.items)) c.rivals_of_all.result
     (λ found e. subst AreEvidenceAcross (sym (e ∙ ap (λ rs. accusations_across rs (range_with_len 0 16)) same)) (lawful_across runs are headers 16))
     c.rivals_of_all.ensures

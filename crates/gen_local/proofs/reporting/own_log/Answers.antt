@@ -8,7 +8,7 @@ returns-clause-found c =
     let head = c.head_of-head.ensures c.args.header.now (ap (λ (e : Ending). e.link) c.requires.ending) in
     let sealed = ap (λ (e : Ending). e.sealed) c.requires.ending in
     record {
-      log_of_run = c.requires.log;
+      fits_run = c.requires.log;
       says = c.requires.says;
       unsigned = rw c.entries.ensures at c.in_ok-unsigned.ensures.first;
       sealed = sealed;

@@ -34,7 +34,7 @@ loop-index-preserved c =
     let more = erased_more c.args.entries.now c.loop-index.index c.index-entries-index.result c.loop-index-test.true c.index-entries-index.is in
     rw more (record {
       begun = begun_more net g ok c.requires before e c.loop-index.invariant.begun m;
-      after = rw c.key_of-least.ensures.value (after_more net ok g before c.loop-index.least c.loop-index.orders c.bring.new.orders c.loop-index.invariant.after e c.know_small.ensures m c.bring.ensures);
+      after = rw c.place_key-least.ensures.value (after_more net ok g before c.loop-index.least c.loop-index.orders c.bring.new.orders c.loop-index.invariant.after e c.note_small.ensures m c.bring.ensures);
     })
 
 pub returns-then-not-may_follow-clause-departs : goal.returns-then-not-may_follow-clause-departs

@@ -10,8 +10,8 @@ use Rattle.gen_match.proofs.messages.find_keys.Goals as goal
 
 pub loop-number-preserved : goal.loop-number-preserved
 loop-number-preserved c = record {
-  keys_so_far = range_step (λ g. flat_map (told_keys c.args.side c.args.counted.now g) (rest_entries c.args.header.now.network c.args.faulty.now (told_logs c.args.reports.now) g)) c.loop-number.number c.loop-number.keys.items c.put_entries.new.keys.items c.loop-number.invariant.keys_so_far (rw (c.rest_entries-entries.ensures, c.at-general.ensures) at c.in_ok-put_entries.ensures.keys);
-  small_so_far = small_step c.args.header.now.network c.args.faulty.now (told_logs c.args.reports.now) c.loop-number.number (erased c.rest_entries-entries.result.now) c.loop-number.invariant.small_so_far c.in_ok-put_entries.ensures.small (rw c.at-general.ensures at c.rest_entries-entries.ensures);
+  keys_so_far = range_step (λ g. flat_map (told_keys c.args.side c.args.counted.now g) (rest_entries c.args.header.now.network c.args.faulty.now (told_logs c.args.reports.now) g)) c.loop-number.number c.loop-number.keys.items c.put_messages.new.keys.items c.loop-number.invariant.keys_so_far (rw (c.rest_entries-entries.ensures, c.at-general.ensures) at c.in_ok-put_messages.ensures.keys);
+  small_so_far = small_step c.args.header.now.network c.args.faulty.now (told_logs c.args.reports.now) c.loop-number.number (erased c.rest_entries-entries.result.now) c.loop-number.invariant.small_so_far c.in_ok-put_messages.ensures.small (rw c.at-general.ensures at c.rest_entries-entries.ensures);
 }
 
 pub returns-clause-keys : goal.returns-clause-keys

@@ -8,7 +8,7 @@ use Rattle.gen_match.proofs.Rest.{range_step}
 use Rattle.gen_match.proofs.sources.find_sources.Goals as goal
 
 pub loop-number-preserved : goal.loop-number-preserved
-loop-number-preserved c = range_step (λ g. flat_map (entry_keys c.args.faulty.now) (rest_entries c.args.header.now.network c.args.faulty.now (told_logs c.args.reports.now) g)) c.loop-number.number c.loop-number.keys.items c.put_entries.new.keys.items c.loop-number.invariant (rw (c.rest_entries-entries.ensures, c.at.ensures) at c.in_ok-put_entries.ensures)
+loop-number-preserved c = range_step (λ g. flat_map (entry_keys c.args.faulty.now) (rest_entries c.args.header.now.network c.args.faulty.now (told_logs c.args.reports.now) g)) c.loop-number.number c.loop-number.keys.items c.put_sources.new.keys.items c.loop-number.invariant (rw (c.rest_entries-entries.ensures, c.at.ensures) at c.in_ok-put_sources.ensures)
 
 pub returns : goal.returns
 returns c =

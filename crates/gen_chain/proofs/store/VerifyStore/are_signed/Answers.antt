@@ -1,6 +1,6 @@
 use Rattle.std.proofs.Common.{◌≡◌, refl, sym, subst, Ok}
 use Rattle.gen_chain.specs.StoredChain.{KeepsSigners}
-use Rattle.gen_chain.specs.Verifying.{AreSigned}
+use Rattle.gen_chain.specs.Verifying.{EachHasSigned}
 use Rattle.gen_chain.proofs.DistinctPaths.{AreDistinct, next_fits, next_is_new}
 use Rattle.gen_chain.proofs.SignedSoFar.{joined}
 use Rattle.gen_chain.proofs.StoredSoFar.{Checks, StoredSoFar, checks_of, stored_ahead, stored_first, stored_on, stored_stop, grown_next, known_next, count_stop, signed_so_far}
@@ -25,7 +25,7 @@ stop_ahead c = stored_ahead _ _ _ _ _ _ _ _ _ _ c.loop-signer.invariant c.in-Som
 stopping : (c : Then-not-signed) → Checks c.args.header.now c.args.order c.push_new.new.self c.look_ahead.new.self c.in-Some.signer.now c.check.new.self
 stopping c = checks_of c.args.header.now c.args.order c.push_new.new.self c.look_ahead.new.self c.in-Some.signer.now c.check.new.self c.in_ok-signed.signed (λ b. c.check.result ≡ Ok b) c.in_ok-signed.ensures.kept c.in_ok-signed.ensures.grows c.in_ok-signed.ensures.serves c.check.ensures.known
 
-stopped : (c : Then-not-signed) → (AreSigned c.args.header.now c.args.order c.args.signers.now → ⊥) × KeepsSigners c.args.header.now c.check.new.self c.args.order c.args.signers.now
+stopped : (c : Then-not-signed) → (EachHasSigned c.args.header.now c.args.order c.args.signers.now → ⊥) × KeepsSigners c.args.header.now c.check.new.self c.args.order c.args.signers.now
 stopped c = stored_stop _ _ _ _ _ _ _ _ _ _ _ (stop_ahead c) c.in-Some.ensures.cases.0 c.push_new.ensures _ (stopping c) (λ h. let t = c.in_ok-signed.ensures.answer.1 h in absurd cc)
 
 pub returns-then-not-signed-clause-value : goal.returns-then-not-signed-clause-value

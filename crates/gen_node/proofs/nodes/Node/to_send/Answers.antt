@@ -5,7 +5,7 @@ use Rattle.gen_net.specs.Header.{run_id_of}
 use Rattle.gen_general.specs.Participant.{sends}
 use Rattle.gen_node.specs.declared.stages.Stage.{Stage}
 use Rattle.gen_node.specs.declared.stages.Stage.TheVariants.{Open}
-use Rattle.gen_node.specs.Frame.{Frame, IsFrame, IsParcel, frame_spelling}
+use Rattle.gen_node.specs.Frame.{WireFrame, IsFrame, IsParcel, frame_spelling}
 use Rattle.gen_node.specs.Held.{frame_in}
 use Rattle.gen_node.specs.Node.{Node, awaits, frame_to, header_at, neighbours_at}
 use Rattle.gen_node.specs.Loops.Kept.{IsNode, log_begun}
@@ -29,7 +29,7 @@ returns c =
       front = record { run_id = run j; round = c.round.ensures j; from = from j; to = c.get-2.ensures.value j };
       parcels = parcels j;
     } in
-    subst (λ (f : Frame). IfOk c.spelled.result (λ bytes. Spells IsFrame frame_spelling bytes.items f)) (same ∙ ap (λ (m : Node). frame_to m.recorder to) c.self.view_is) c.spelled.ensures
+    subst (λ (f : WireFrame). IfOk c.spelled.result (λ bytes. Spells IsFrame frame_spelling bytes.items f)) (same ∙ ap (λ (m : Node). frame_to m.recorder to) c.self.view_is) c.spelled.ensures
 
 pub spelled-requires : goal.spelled-requires
 spelled-requires c =

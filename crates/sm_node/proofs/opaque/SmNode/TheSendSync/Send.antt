@@ -30,11 +30,11 @@ use Rattle.gen_general.specs.contracts.recording.Recorder as recorder
 use Rattle.gen_node.specs.contracts.held.Held as rows
 use Rattle.gen_node.specs.contracts.nodes.Node as nodes
 use Rattle.gen_log.specs.contracts.sealed.SealedLog as sealed
-use Rattle.sm_node.specs.contracts.held.Ending as ending
+use Rattle.sm_node.specs.contracts.held.EndedNode as ending
 use Rattle.sm_node.specs.Owning.{node_owns}
-use Rattle.sm_node.specs.contracts.held.Held as held
+use Rattle.sm_node.specs.contracts.held.NodeHandle as held
 use Rattle.sm_node.specs.contracts.opaque.SmNode as node
-use Rattle.sm_node.specs.declared.held.Held.{Held}
+use Rattle.sm_node.specs.declared.held.NodeHandle.{NodeHandle}
 
 header_send : IsSend header.the_row
 header_send = search (sendable, crosses) depth 40 fits 20000
@@ -93,7 +93,7 @@ held_send = search (sendable, crosses, node_send, sealed_send) depth 40 fits 200
 pointer_send : IsSend RawPtr
 pointer_send = search sendable
 
-owned_keyless : (p : Ptr) (h : Option Held) → Keyless (node_owns p h)
+owned_keyless : (p : Ptr) (h : Option NodeHandle) → Keyless (node_owns p h)
 owned_keyless p None = λ _. tt
 owned_keyless p (Some x) = λ a. (lies held.the_row held_send p x, frees.frees a (raw (lone held.the_row.mir)) p)
 

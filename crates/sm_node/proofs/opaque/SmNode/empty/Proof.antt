@@ -15,7 +15,7 @@ use Rattle.std.specs.declared.option.Option.{Option}
 use Rattle.std.specs.declared.option.Option.TheVariants.{None}
 use Rattle.std.proofs.raw_atomic.Walks.{proved, leaves}
 use Rattle.sm_node.proofs.Values.{word, word_good, node_in}
-use Rattle.sm_node.specs.declared.held.Held.{Held}
+use Rattle.sm_node.specs.declared.held.NodeHandle.{NodeHandle}
 use Rattle.sm_node.specs.contracts.opaque.SmNode.empty as f
 use Rattle.sm_node.proofs.opaque.SmNode.empty.Statement.{statement}
 use Rattle.sm_node.proofs.opaque.SmNode.empty.Code as code
@@ -27,7 +27,7 @@ pub empty_spec : {M : Type 1} → statement M
 empty_spec 𝓤 𝓛 𝓜 𝓡 wired =
     let c = f.clauses 𝓛 𝓜.mem 𝓡.returns in
     proved 𝓛 f.ended stayed c 𝓜 𝓡 tt f.Key.name code.function (code.unfolded 𝓤 𝓛.H 𝓜 𝓡 wired) (λ κs. tt) (λ κs. tt) (λ κs qs bounds a n are.
-    let y : (walk_of 𝓛 f.ended stayed c).Ghost = ((κs, qs, bounds, a, tt), tt) in let none : Option Held = None in
+    let y : (walk_of 𝓛 f.ended stayed c).Ghost = ((κs, qs, bounds, a, tt), tt) in let none : Option NodeHandle = None in
     qed 𝓛 (raw (on_entry 𝓛 f.signature κs qs a tt) ∷ raw ((c κs a).requires n) ∷ []) ∵
     enter ! _ _ _ _ _ $ alloc_all ! (λ l. pass_all ! refl tt $
     sets ! (agg ! (and_then ! (lit ! tt) (no_more !))) refl (word_good null_ptr) $

@@ -30,7 +30,7 @@ use Rattle.std.specs.contracts.impls.GlobalAllocator.TheImpl.{ghosts}
 use Rattle.std.proofs.raw_atomic.Walks.{proved_at, leaves}
 use Rattle.std_alloc.proofs.ResultValues.{and_tt}
 use Rattle.sm_node.proofs.Values.{both, Loose, handles, both_good, loose_in, Word, word, word_good, node_out}
-use Rattle.sm_node.specs.contracts.held.Held as held
+use Rattle.sm_node.specs.contracts.held.NodeHandle as held
 use Rattle.sm_node.specs.contracts.opaque.SmNode.into_loose as f
 use Rattle.sm_node.proofs.opaque.SmNode.into_loose.Statement.{statement}
 use Rattle.sm_node.proofs.opaque.SmNode.into_loose.Code as code

@@ -24,8 +24,8 @@ use Rattle.std.proofs.alloc.Global.TheLaws as heap_laws
 use Rattle.std.specs.contracts.impls.GlobalAllocator.TheImpl.{ghosts}
 use Rattle.std.proofs.raw_atomic.Walks.{proved_at, leaves}
 use Rattle.sm_node.proofs.Values.{both, boxed, Loose, both_good, loose_out, word, word_good, node_in}
-use Rattle.sm_node.specs.declared.held.Held.{Held}
-use Rattle.sm_node.specs.contracts.held.Held as held
+use Rattle.sm_node.specs.declared.held.NodeHandle.{NodeHandle}
+use Rattle.sm_node.specs.contracts.held.NodeHandle as held
 use Rattle.sm_node.specs.contracts.opaque.SmNode.of as f
 use Rattle.sm_node.proofs.opaque.SmNode.of.Statement.{statement}
 use Rattle.sm_node.proofs.opaque.SmNode.of.Code as code
@@ -49,6 +49,6 @@ of_spec 𝓤 𝓛 𝓜 𝓡 wired =
     enter ! 𝓣.C 𝓣.Λ code.function (w ∷ []) Post $ alloc_all ! (λ l. pass_all ! refl (both_good held.the_row heap.the_row heap_laws.the_row_laws ghosts b o h fits, tt) $
     sets ! (of_opd ! (get_in ! (fld ! refl (stop !)) (sub ! 0 refl (whole !)))) refl (tt, tt) $ sets ! (of_opd ! (get ! refl)) refl (tt, tt) $
     sets ! (agg ! (and_then ! (get ! refl) (no_more !))) refl (word_good p) $
-    fpack ! Global (λ alloc. boxed alloc p v.value) v.alloc $ node_in ! p (Some v.value) $ let some : Option Held = Some v.value in
+    fpack ! Global (λ alloc. boxed alloc p v.value) v.alloc $ node_in ! p (Some v.value) $ let some : Option NodeHandle = Some v.value in
     use0 𝓛 (raw (fact 𝓤 (some ≡ some))) (fact_i 𝓤 (some ≡ some) (emp 𝓤) refl) $ nothing ! $ nothing ! $ fjoin ! $ nothing ! $
     returns ! (look_at ! 0 refl) $ free_all ! refl $ keep ! (0 ∷ 1 ∷ 3 ∷ 2 ∷ []) $ by ! (leaves 𝓛 f.ended stayed c z (word p) (record { at = p; held = Some v.value }) _ (tt, tt)))))

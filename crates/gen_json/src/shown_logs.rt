@@ -1,0 +1,205 @@
+//! Logs as JSON.
+ghost use Rattle.std.specs.Prelude.{◌≡◌, ◌+◌, ◌<◌, ◌^◌, ◌++◌, Ok, Err, IfOk, OnOk, length};
+ghost use Rattle.serde_json.specs.View.{view};
+ghost use Rattle.gen_log.specs.Texts.{IsTextOf};
+ghost use Rattle.gen_json.specs.Line.{json_line};
+ghost use Rattle.gen_json.specs.LogData.{decided_data, head_data, head_line, last_order, log_data, log_lines, order_of, reading_lines, unreadable_data};
+
+use crate::numbers::digits_value;
+use crate::shown_entries::push_entries;
+use crate::shown_lines::push_value;
+use gen_log::{Entry, Log, LogFault, read_log};
+use gen_net::Header;
+use gen_show::{LOG_FRONT, push_log_fault};
+use gen_types::{GeneralNo, ReadError};
+use serde_json::{Value, json};
+use std::alloc::{AllocError, Global};
+
+/// Returns a log that reads.
+#[tactic(auto, unfolding(crate::specs::LogData::log_data))]
+fn log_value(
+    alloc: Global,
+    general: GeneralNo,
+    at: usize,
+    size: usize,
+    log: &Log,
+) -> Result<Value, AllocError>
+    ensures { IfOk result (λ v. view v ≡ log_data general at size log.now) }
+{
+    let count = log.entries().len();
+    let general = general.get();
+    let run = digits_value(alloc, log.run_id())?;
+    json!(in alloc; {
+        "byte": at,
+        "entries": count,
+        "format": "shown log",
+        "length": size,
+        "of": general,
+        "run": run,
+        "version": 1u8,
+    })
+}
+
+/// Appends the line of a log that reads.
+#[tactic(auto, using(crate::proofs::PlainShown::log_plain))]
+fn push_log_line(
+    alloc: Global,
+    out: &mut Vec<u8>,
+    general: GeneralNo,
+    at: usize,
+    size: usize,
+    log: &Log,
+) -> Result<(), AllocError>
+    ensures { OnOk result (out.new.items
+        ≡ out.old.items ++ json_line (log_data general at size log.now)) }
+{
+    let value = log_value(alloc, general, at, size, log)?;
+    push_value(alloc, out, &value)
+}
+
+/// Returns bytes that are no log, with their fault.
+#[tactic(auto, unfolding(crate::specs::LogData::unreadable_data))]
+fn unreadable_value(
+    alloc: Global,
+    general: GeneralNo,
+    at: usize,
+    size: usize,
+    fault: LogFault,
+) -> Result<Value, AllocError>
+    ensures { IfOk result (λ v. view v ≡ unreadable_data general at size fault) }
+{
+    let general = general.get();
+    let mut name = String::new(alloc);
+    push_log_fault(&mut name, fault)?;
+    let fault = Value::String(name);
+    json!(in alloc; {
+        "byte": at,
+        "fault": fault,
+        "format": "unreadable log",
+        "length": size,
+        "of": general,
+        "version": 1u8,
+    })
+}
+
+/// Appends the line of bytes that are no log.
+#[tactic(auto, using(crate::proofs::PlainShown::unreadable_plain))]
+fn push_unreadable(
+    alloc: Global,
+    out: &mut Vec<u8>,
+    general: GeneralNo,
+    at: usize,
+    size: usize,
+    fault: LogFault,
+) -> Result<(), AllocError>
+    ensures { OnOk result (out.new.items
+        ≡ out.old.items ++ json_line (unreadable_data general at size fault)) }
+{
+    let value = unreadable_value(alloc, general, at, size, fault)?;
+    push_value(alloc, out, &value)
+}
+
+/// Returns the order of a DECIDE, and null of another entry.
+fn order_value(entry: &Entry) -> Value
+    ensures { view result ≡ order_of entry.now }
+{
+    match entry {
+        Entry::Decide { order, .. } => Value::from(order.get()),
+        Entry::Start { .. } | Entry::Sign { .. } | Entry::Send { .. } | Entry::Recv { .. } => {
+            Value::Null
+        }
+    }
+}
+
+/// Returns the order of the DECIDE with which a log ends, and null where it ends with none.
+#[tactic(auto, unfolding(crate::specs::LogData::decided_data))]
+fn decided_value(entries: &[Entry]) -> Value
+    ensures { view result ≡ decided_data entries.now }
+{
+    match entries.last() {
+        Some(entry) => order_value(entry),
+        None => Value::Null,
+    }
+}
+
+/// Returns what stands behind the entries of a log.
+#[tactic(auto, unfolding(crate::specs::LogData::head_data))]
+fn head_value(
+    alloc: Global,
+    general: GeneralNo,
+    at: usize,
+    decided: Value,
+) -> Result<Value, AllocError>
+    ensures { IfOk result (λ v. view v ≡ head_data general at (view decided)) }
+{
+    let general = general.get();
+    json!(in alloc; {
+        "byte": at,
+        "decided": decided,
+        "format": "shown head",
+        "of": general,
+        "version": 1u8,
+    })
+}
+
+/// Appends the line of what stands behind these entries of a log.
+#[tactic(auto, unfolding(crate::specs::LogData::head_line), using(crate::proofs::PlainShown::head_plain))]
+fn push_head(
+    alloc: Global,
+    out: &mut Vec<u8>,
+    general: GeneralNo,
+    at: usize,
+    entries: &[Entry],
+) -> Result<(), AllocError>
+    ensures { OnOk result
+        (out.new.items ≡ out.old.items ++ head_line general at entries.now) }
+{
+    let decided = decided_value(entries);
+    let value = head_value(alloc, general, at, decided)?;
+    push_value(alloc, out, &value)
+}
+
+/// Appends the lines of a log that was read from these bytes, which begin at this byte of a file.
+#[tactic(auto, using(gen_show::proofs::Lengths::entries_within))]
+fn push_read(
+    alloc: Global,
+    out: &mut Vec<u8>,
+    general: GeneralNo,
+    at: usize,
+    log: &Log,
+    bytes: &[u8],
+) -> Result<(), AllocError>
+    requires text { IsTextOf log.now bytes.now }
+    requires room { at + length bytes.now < 2 ^ 64 }
+    ensures { OnOk result (out.new.items
+        ≡ out.old.items ++ reading_lines general at (length bytes.now) (Ok log.now)) }
+{
+    // The entries end within the bytes.
+    push_log_line(alloc, out, general, at, bytes.len(), log)?;
+    let end = push_entries(alloc, out, general, at + LOG_FRONT, log.entries())?;
+    push_head(alloc, out, general, end, log.entries())
+}
+
+/// Appends the lines of bytes that begin at this byte of a file and are shown as the log of a general in the run of a
+/// header: if they are a log, what the log says, or else their fault.
+#[tactic(auto, unfolding(crate::specs::LogData::log_lines))]
+pub fn push_log(
+    alloc: Global,
+    out: &mut Vec<u8>,
+    header: &Header,
+    general: GeneralNo,
+    at: usize,
+    bytes: &[u8],
+) -> Result<(), AllocError>
+    requires { at + length bytes.now < 2 ^ 64 }
+    ensures { OnOk result (out.new.items
+        ≡ out.old.items ++ log_lines header.now general at bytes.now) }
+{
+    match read_log(alloc, header, bytes) {
+        Ok(log) => push_read(alloc, out, general, at, &log, bytes),
+        Err(ReadError::Memory) => Err(AllocError),
+        Err(ReadError::Fault(fault)) => {
+            push_unreadable(alloc, out, general, at, bytes.len(), fault)
+        }
+    }
+}

@@ -1,0 +1,87 @@
+//! The lines of answers.
+ghost use Rattle.std.specs.Prelude.{◌≡◌, ◌++◌, IfOk, OnOk, string_bytes};
+ghost use Rattle.gen_convict.specs.Answers.{answer_of};
+ghost use Rattle.gen_prepare.specs.AnswerLine.{answer_line, head_said, signed_said, signers_said, statement_said, text_said};
+
+use gen_chain::{HeadText, Statement};
+use gen_convict::Refutation;
+use gen_local::Text;
+use gen_types::{OrderNo, Path};
+use std::alloc::{AllocError, Global};
+
+/// Appends the generals of a path, parted by commas.
+fn push_path(out: &mut String, path: &Path) -> Result<(), AllocError>
+    ensures { OnOk result (string_bytes out.new ≡ string_bytes out.old ++ signers_said path.now) }
+{
+    let Some((first, rest)) = path.generals().split_first() else {
+        return out.push_str("-");
+    };
+    let number = first.get();
+    write!(out, "{number}")?;
+    for general in rest {
+        let number = general.get();
+        write!(out, ",{number}")?;
+    }
+    Ok(())
+}
+
+/// Appends an order and who signed it.
+#[tactic(auto, unfolding(crate::specs::AnswerLine::signed_said))]
+fn push_signed(out: &mut String, order: OrderNo, path: &Path) -> Result<(), AllocError>
+    ensures { OnOk result
+        (string_bytes out.new ≡ string_bytes out.old ++ signed_said order path.now) }
+{
+    let order = order.get();
+    write!(out, " order {order} path ")?;
+    push_path(out, path)
+}
+
+/// Appends a statement.
+#[tactic(auto, unfolding(crate::specs::AnswerLine::statement_said))]
+fn push_statement(out: &mut String, statement: &Statement) -> Result<(), AllocError>
+    ensures { OnOk result
+        (string_bytes out.new ≡ string_bytes out.old ++ statement_said statement.now) }
+{
+    out.push_str("statement")?;
+    push_signed(out, statement.order, &statement.path)
+}
+
+/// Appends the head of a log.
+#[tactic(auto, unfolding(crate::specs::AnswerLine::head_said))]
+fn push_head(alloc: Global, out: &mut String, head: &HeadText) -> Result<(), AllocError>
+    ensures { OnOk result (string_bytes out.new ≡ string_bytes out.old ++ head_said head.now) }
+{
+    let entries = head.entries;
+    let link = hex::encode(alloc, head.last_link)?;
+    write!(out, "head entries {entries} link {link}")
+}
+
+/// Appends what was signed.
+fn push_text(alloc: Global, out: &mut String, text: &Text) -> Result<(), AllocError>
+    ensures { OnOk result (string_bytes out.new ≡ string_bytes out.old ++ text_said text.now) }
+{
+    match text {
+        Text::OfStatement(statement) => push_statement(out, statement),
+        Text::OfHead(head) => push_head(alloc, out, head),
+    }
+}
+
+/// Returns the line of an answer.
+pub fn answer_line(alloc: Global, answer: &Refutation) -> Result<Vec<u8>, AllocError>
+    ensures { IfOk result (λ v. v.items ≡ answer_line (answer_of answer.now)) }
+{
+    let mut out = String::new(alloc);
+    match answer {
+        Refutation::Forged(text) => {
+            out.push_str("forged ")?;
+            push_text(alloc, &mut out, &text.text)?;
+        }
+        Refutation::Collision(left, right) => {
+            let one = hex::encode(alloc, left.as_slice())?;
+            let other = hex::encode(alloc, right.as_slice())?;
+            write!(out, "collision {one} {other}")?;
+        }
+    }
+    out.push_str("\n")?;
+    Ok(out.into_bytes())
+}

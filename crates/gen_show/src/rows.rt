@@ -1,0 +1,120 @@
+//! Rows of a table, with the fields of their forms.
+ghost use Rattle.std.specs.Prelude.{◌≡◌, ◌==◌, ◌++◌, OnOk, IfOk, map, option_map, find};
+ghost use Rattle.std.specs.Str.{bytes_eq};
+ghost use Rattle.std.specs.List.{flat_map, slice_split};
+ghost use Rattle.gen_show.specs.Rows.{row_of_parts, row_in, rows_in};
+ghost use Rattle.gen_show.specs.Rows as specified;
+ghost use Rattle.gen_show.specs.Shown.{row_shown};
+
+use crate::forms::fits;
+use gen_types::split_fields;
+use std::alloc::{AllocError, Global};
+
+/// A row: its name, its form as a line and as fields, and its sentence.
+#[derive(Drop)]
+pub struct Row {
+    /// The name.
+    pub name: &'static [u8],
+    /// The form, as a line.
+    pub line: &'static [u8],
+    /// The fields of the form.
+    pub form: Vec<&'static [u8]>,
+    /// The sentence.
+    pub sentence: &'static [u8],
+}
+
+/// Returns what stands before, between and after the line feeds of a text.
+pub fn split_lines<'a>(alloc: Global, text: &'a [u8]) -> Result<Vec<&'a [u8]>, AllocError>
+    ensures { IfOk result (λ v. map (λ x. x.now) v.items ≡ slice_split (λ b. b == 10) text.now) }
+{
+    text.split(|b| *b == b'\n').collect(alloc)
+}
+
+/// Returns the parts of a line of a table, which are parted by bars.
+fn split_parts<'a>(alloc: Global, line: &'a [u8]) -> Result<Vec<&'a [u8]>, AllocError>
+    ensures { IfOk result (λ v. map (λ x. x.now) v.items ≡ slice_split (λ b. b == 124) line.now) }
+{
+    line.split(|b| *b == b'|').collect(alloc)
+}
+
+/// Appends the row of three parts. Of another number of parts there is none.
+fn push_parts(alloc: Global, rows: &mut Vec<Row>, parts: &[&'static [u8]]) -> Result<(), AllocError>
+    ensures { OnOk result (map row_shown rows.new.items
+        ≡ map row_shown rows.old.items ++ row_of_parts (map (λ x. x.now) parts.now)) }
+{
+    match parts {
+        [name, line, sentence] => {
+            let form = split_fields(alloc, line)?;
+            rows.push(Row {
+                name,
+                line,
+                form,
+                sentence,
+            })?;
+            Ok(())
+        }
+        _ => Ok(()),
+    }
+}
+
+/// Appends the row that a line of a table has.
+#[tactic(auto, unfolding(crate::specs::Rows::row_in))]
+fn push_row_in(alloc: Global, rows: &mut Vec<Row>, line: &'static [u8]) -> Result<(), AllocError>
+    ensures { OnOk result
+        (map row_shown rows.new.items ≡ map row_shown rows.old.items ++ row_in line.now) }
+{
+    let parts = split_parts(alloc, line)?;
+    push_parts(alloc, rows, &parts)
+}
+
+/// Returns the rows that the lines of a table have.
+fn rows_of_lines(alloc: Global, lines: &[&'static [u8]]) -> Result<Vec<Row>, AllocError>
+    ensures { IfOk result (λ v. map row_shown v.items
+        ≡ flat_map row_in (map (λ x. x.now) lines.now)) }
+{
+    let mut rows = Vec::new(alloc);
+    for line in lines {
+        push_row_in(alloc, &mut rows, *line)?;
+    }
+    Ok(rows)
+}
+
+/// Returns the rows of a table.
+#[tactic(auto, unfolding(crate::specs::Rows::rows_in))]
+pub fn split_rows(alloc: Global, table: &'static str) -> Result<Vec<Row>, AllocError>
+    ensures { IfOk result (λ v. map row_shown v.items ≡ rows_in table.now) }
+{
+    let lines = split_lines(alloc, table.as_bytes())?;
+    rows_of_lines(alloc, &lines)
+}
+
+/// Returns the first row of this name, as it is kept.
+fn find_named<'r>(rows: &'r [Row], name: &[u8]) -> Option<&'r Row>
+    ensures { option_map (λ r. r.now) result ≡ find (λ r. bytes_eq r.name.now name.now) rows.now }
+{
+    rows.iter().find(|row| row.name == name)
+}
+
+/// Returns the first row of this name.
+pub fn row_named<'r>(rows: &'r [Row], name: &[u8]) -> Option<&'r Row>
+    ensures { option_map (λ r. row_shown r.now) result
+        ≡ specified.row_named (map row_shown rows.now) name.now }
+{
+    find_named(rows, name)
+}
+
+/// Returns the first row whose form the fields of a line fit, as it is kept.
+fn find_fitting<'r>(rows: &'r [Row], words: &[&[u8]]) -> Option<&'r Row>
+    ensures { option_map (λ r. r.now) result ≡ find (λ r. specified.fits
+        (map (λ x. x.now) r.form.items) (map (λ x. x.now) words.now)) rows.now }
+{
+    rows.iter().find(|row| fits(&row.form, words))
+}
+
+/// Returns the first row whose form the fields of a line fit.
+pub fn row_of_line<'r>(rows: &'r [Row], words: &[&[u8]]) -> Option<&'r Row>
+    ensures { option_map (λ r. row_shown r.now) result
+        ≡ specified.row_of_line (map row_shown rows.now) (map (λ x. x.now) words.now) }
+{
+    find_fitting(rows, words)
+}

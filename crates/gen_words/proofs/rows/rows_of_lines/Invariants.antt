@@ -1,8 +1,0 @@
-use Rattle.std.proofs.Common.{◌≡◌, map, take}
-use Rattle.std.specs.List.{flat_map}
-use Rattle.gen_words.specs.Rows.{row_in}
-use Rattle.gen_words.specs.Shown.{row_shown}
-use Rattle.gen_words.proofs.rows.rows_of_lines.Given as goal
-
-abbrev pub invariant-loop-line : goal.invariant-loop-line
-invariant-loop-line l = map row_shown l.rows.items ≡ flat_map row_in (map (λ x. x.now) (take l.line-index l.lines))

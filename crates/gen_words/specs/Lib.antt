@@ -1,4 +1,0 @@
-pub mod Rows
-pub mod Shown
-pub mod Table
-pub mod Worded

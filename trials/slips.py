@@ -1,0 +1,148 @@
+"""Standard input and standard output of which one call slips: it fails, is interrupted, moves one byte, or moves none.
+
+The library that slips is slip.c. Inputs and outputs go in pieces, so that each has several calls, and the number of the call
+that slips counts up until a run meets no slip. A read or a write that fails ends the run with the status and the line that
+docs/FORMATS.md has. Where a read fails nothing is written, and where a write fails, or takes nothing, nothing behind it is. An
+interrupted or a short call changes nothing. A read that gives nothing is the end of the input.
+"""
+import itertools
+import os
+import shutil
+import subprocess
+import tempfile
+
+from devices import READ_FAILED, WRITE_FAILED
+from layout import MARK, Bundle
+from programs import End, differs, run, side_by_side, spell
+from scenarios import chain, header_text, scenario
+
+HERE = os.path.dirname(os.path.abspath(__file__))
+# An input is read, and an output written, in so many pieces at least.
+PIECES = 3
+# No command comes near so many calls.
+MOST = 1000
+# How a call slips that the run has to go on after.
+HARMLESS = ("interrupted", "short")
+# So many bytes a call moves at most, where none slips.
+STEPS = (1, 7, 4_096, 100_000)
+# The commands that read nothing.
+OF_NOTHING = {"explain", "help"}
+
+
+def build(folder):
+    """The library, built in a folder."""
+    library = os.path.join(folder, "slip.so")
+    subprocess.run(["cc", "-O2", "-shared", "-fPIC", os.path.join(HERE, "slip.c"), "-o", library, "-ldl"], check=True)
+    return library
+
+
+def commands_with_input(program):
+    """The commands that the program's help lists, but those that read nothing."""
+    listed = run(program, ["--help"]).wrote.decode().partition("Commands:\n")[2].partition("\n\n")[0]
+    return {line.split()[0] for line in listed.splitlines()} - OF_NOTHING
+
+
+def cases(program, folder):
+    """Each command on a small input, of which it writes something: the words, and the input. Files that are named lie in a
+    folder."""
+    pair, hushed = scenario(chain(2), 0, 1, 1), scenario(chain(2), 1, 1, 1, {1: []})
+    bundle = run(program, ["run"], hushed).wrote
+    evidence = run(program, ["accuse", "--general", "1"], bundle).wrote
+    parts = Bundle(bundle)
+    header, log = parts.front[MARK:], parts.exhibits[1][1]
+    files = {"header": header, "log": log, "evidence": evidence}
+    paths = {name: os.path.join(folder, name) for name in files}
+    for name, data in files.items():
+        with open(paths[name], "wb") as kept:
+            kept.write(data)
+    json = lambda *words: [list(words), [*words, "--json"]]
+    of_text = [(["run"], pair), (["run", "--print-run"], pair)]
+    of_text += [(words, scenario(chain(4), 0, 3, 1, seed=None)) for words in json("decide")]
+    of_text += [(words, pair) for words in [["decide"], *json("judge")]]
+    of_text += [(["campaign"], b"campaign 1\n" + scenario(chain(2), 0, 1, 1, slot=1))]
+    of_a_bundle = [*json("audit"), ["audit", "--workers", "3"], ["draw"], ["accuse", "--general", "1"]]
+    of_bundles = [(words, bundle) for words in of_a_bundle]
+    of_evidence = [(words, evidence) for words in [*json("evidence"), *json("show")]]
+    prepared = [(["root"], bytes([7]) * 32), (["root", "--tall"], bytes([7]) * 32)]
+    prepared += [(["header", "--slot", "3"], header_text()), (["header", "--print-run"], header_text())]
+    prepared += [(["bundle", "--faulty", "1", "-", "1=" + paths["log"]], header)]
+    prepared += [(["bundle", "--faulty", "1", paths["header"], "1=-"], log), (["answer", paths["evidence"], "-"], log)]
+    prepared += [(["answer", "-", paths["log"]], evidence), (["words"], run(program, ["audit"], bundle).wrote)]
+    return [*of_text, *of_bundles, *of_evidence, *prepared]
+
+
+class Slipping:
+    """A command that is run while calls slip, on an input."""
+
+    def __init__(self, program, library, words, given):
+        self.program, self.library, self.words, self.given = program, library, words, given
+        self.whole, self.runs = run(program, words, given), 1
+        self.steps = len(given) // PIECES + 1, len(self.whole.wrote) // PIECES + 1
+
+    def end(self, kind, number, how, steps):
+        """How a run ended, the number of bytes that were moved before a call slipped, or None if none did, and whether standard
+        output was written to."""
+        reader, writer = os.pipe()
+        told = {"SLIP": kind, "SLIP_AT": str(number), "SLIP_AS": how, "SLIP_TELL": str(writer), "LD_PRELOAD": self.library}
+        told |= {"SLIP_READS": str(steps[0]), "SLIP_WRITES": str(steps[1])}
+        self.runs += 1
+        try:
+            end = run(self.program, self.words, self.given, env={**os.environ, **told}, pass_fds=[writer])
+        finally:
+            os.close(writer)
+            lines = os.read(reader, 1000).decode().split("\n")
+            os.close(reader)
+        moved = [int(line.split()[1]) for line in lines if line.startswith("slipped ")]
+        return end, moved[0] if moved else None, "written" in lines
+
+    def wanted(self, kind, how, moved):
+        """How a run has to end of which a call slipped when so many bytes were moved."""
+        if how in HARMLESS:
+            return self.whole
+        if kind == "write":
+            return End(WRITE_FAILED.status, self.whole.wrote[:moved], WRITE_FAILED.said)
+        if how == "fails":
+            return READ_FAILED
+        self.runs += 1
+        return run(self.program, self.words, self.given[:moved])
+
+    def slip_wrong(self, kind, how):
+        """None where each call of a kind may slip in a way, one in each run."""
+        for number in range(1, MOST):
+            end, moved, written = self.end(kind, number, how, self.steps)
+            if moved is None:
+                few = number <= PIECES + (kind == "read")
+                return f"{number - 1} calls alone" if few else differs(end, self.whole)
+            wrong = differs(end, self.wanted(kind, how, moved))
+            if wrong is None and end == READ_FAILED and written:
+                wrong = "standard output was written to"
+            if wrong:
+                return f"call {number}, behind {moved} bytes: {wrong}"
+        return f"still slips at call {MOST}"
+
+    def steps_wrong(self):
+        """None where it doesn't matter how many bytes a call moves at most."""
+        ends = ((step, self.end("none", 0, "", (step, step))[0]) for step in STEPS)
+        return next((f"{step} bytes a call: {differs(end, self.whole)}" for step, end in ends if end != self.whole), None)
+
+    def trials(self):
+        """Each trial by its name, with what is wrong."""
+        named = {"pieces": self.steps_wrong()}
+        for kind, how in itertools.product(("read", "write"), ("fails", "nothing", *HARMLESS)):
+            named[f"{kind}, {how}"] = self.slip_wrong(kind, how)
+        return named
+
+
+def trials(program, tally):
+    if not shutil.which("cc"):
+        tally.fail("no C compiler (cc) is there to build slip.c with, so nothing slipped")
+        return
+    with tempfile.TemporaryDirectory() as folder:
+        library = build(folder)
+        made = [Slipping(program, library, *case) for case in cases(program, folder) if case[0][0] in tally.commands]
+        for slipping, named in zip(made, side_by_side(Slipping.trials, made)):
+            for name, wrong in named.items():
+                tally.hold(f"{spell(slipping.words)}, {name}", wrong)
+            tally.count(slipping.runs)
+    left = commands_with_input(program) - {slipping.words[0] for slipping in made}
+    tally.hold("each command", f"nothing slipped of {sorted(left)}" if left else None)
