@@ -5,7 +5,7 @@
 
    A function takes the bytes of an input, and either room for a text or an sm_answer. Each function but sm_answer_free
    and sm_version returns one of these numbers. The numbers 0 to 4 are the exit statuses of sm_tool. sm_status.h has
-   them, and what may change between versions. Of sm_answer_text the text of a no is SM_OK too.
+   them, and what may change between versions. sm_answer_text returns SM_OK for the text of a no too.
 
      SM_OK       the text is there, and the answer is not a no
      SM_NO       the text is there, and the answer is a no

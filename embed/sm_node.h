@@ -6,7 +6,8 @@
 
    An sm_node is one pointer. The caller sets it to null before the first call, as by `sm_node node = {0};`, and does
    not read or write it afterwards. Null means that there is no node: sm_node_new makes a node there, and sm_node_free
-   takes it away. An sm_node is never copied.
+   takes it away. An sm_node is never copied. No call keeps a pointer that it was handed: header, seed, frame and
+   logs may be changed or freed when the call has returned.
 
    In version 1, one seed makes one node ever, for one run. In version 2, one seed makes one node ever in each slot, for
    one run. A node on which sm_node_begin_round was never called has signed nothing. A second node of the seed and slot
@@ -31,7 +32,7 @@
    sm_node_hear reports SM_F1, and every other call on the node is SM_MISUSE, but sm_node_free and the calls that only
    tell something, as sm_node_round.
 
-   At SM_FAULT alone *fault is not 0. At SM_OK and SM_LENGTH *count is the number of bytes, and else 0. The room behind
+   At SM_FAULT alone *fault is not 0. At SM_OK and SM_LENGTH *count is the number of bytes. Otherwise it is 0. The room behind
    the bytes keeps its old content. So does the whole room if no bytes were written.
 
    A pointer to bytes, edges, roots or logs may be null if their number is 0. If it is null and their number is not 0,
