@@ -70,7 +70,8 @@ static void hand_over(struct run *run, uint32_t from, uint32_t to) {
     must("sm_node_send", sm_node_send(&run->node[from], to, frame, sizeof frame, &count), 0);
     /* At SM_FAULT these bytes are not the frame that is awaited. A transport of your own keeps a frame of a later round,
        and drops all other bytes: docs/EMBED.md, "Early frames". */
-    must("sm_node_hear", sm_node_hear(&run->node[to], from, frame, count, &fault), fault);
+    uint32_t status = sm_node_hear(&run->node[to], from, frame, count, &fault);
+    must("sm_node_hear", status, fault);
 }
 
 /* Ends a node, and keeps its log behind the others. The length of a log is asked for by a room of 0 bytes. */
@@ -89,7 +90,8 @@ static void keep_log(struct run *run, uint32_t me) {
 /* All rounds, and the logs of the nodes. */
 static void play(struct run *run) {
     uint32_t rounds, fault = 0;
-    must("sm_node_rounds", sm_node_rounds(run->header, run->header_bytes, &rounds, &fault), fault);
+    uint32_t status = sm_node_rounds(run->header, run->header_bytes, &rounds, &fault);
+    must("sm_node_rounds", status, fault);
     for (; rounds != 0; rounds--) {
         for (uint32_t me = 0; me < NODES; me++) must("sm_node_begin_round", sm_node_begin_round(&run->node[me]), 0);
         for (uint32_t pair = 0; pair < NODES * NODES; pair++) hand_over(run, pair / NODES, pair % NODES);

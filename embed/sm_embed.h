@@ -175,8 +175,8 @@ uint32_t sm_decide_as(uint32_t form, const uint8_t *input, size_t input_bytes, s
 uint32_t sm_show(const uint8_t *input, size_t input_bytes, sm_answer *answer) SM_CALL(1, 3);
 
 /* What a file of the runs that are expected is, as sm_tool show --run, in a form: SM_JSON is a line for each object, as
-   by --json. With run ids a file that is not whole is SM_OTHER too, as nothing says of which run it is. Without them the
-   answer is that of sm_show. Returns SM_OK, SM_NO, SM_MISUSE, SM_MEMORY or SM_OTHER. */
+   by --json. With run ids a file that is not whole is SM_OTHER too, as nothing says of which run it is. Without them any
+   file is shown in this form, and the answer is a no if the file is not whole. Returns SM_OK, SM_NO, SM_MISUSE, SM_MEMORY or SM_OTHER. */
 uint32_t sm_show_as(const uint8_t *runs, size_t run_count, uint32_t form, const uint8_t *input, size_t input_bytes,
                     sm_answer *answer) SM_CALL(1, 4, 6);
 

@@ -4,7 +4,7 @@
 
    SM_POOL_BYTES is the size. sm_pool_most tells the most bytes that were taken at one time, with 16 bytes for each
    block. A run of correct nodes takes less than faulty neighbours can cause. So run a program once with a large pool,
-   in which faulty neighbours send every value in every round. Add what docs/EMBED.md says of signatures that do not
+   in which faulty neighbours send every value in every round in which it can count. Add what docs/EMBED.md says of signatures that do not
    count. */
 #include <stdalign.h>
 #include <stdatomic.h>
