@@ -1,8 +1,8 @@
 -- A line is of one value.
-use Rattle.std.proofs.Common.{◌≡◌, ◌++◌, codes, Some, unwrap_or, sym, ◌∙◌, ap}
+use Rattle.std.proofs.Common.{◌≡◌, codes, unwrap_or, sym, ◌∙◌, ap}
 use Rattle.std.proofs.lemmas.List.{append_cancel_right}
 use Rattle.serde_json.specs.Read.{read}
-use Rattle.gen_json.specs.Line.{ReadsAs, OneValueOfLine}
+use Rattle.gen_json.specs.Line.{OneValueOfLine}
 
 pub one_value : OneValueOfLine
 one_value bytes d e x y =

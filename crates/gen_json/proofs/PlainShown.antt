@@ -1,5 +1,5 @@
 -- What is shown has no floats.
-use Rattle.std.proofs.Common.{◌≡◌, ℕ, List, [], ◌∷◌, false, refl}
+use Rattle.std.proofs.Common.{◌≡◌, ℕ, List, false, refl}
 use Rattle.std.specs.Prelude.{◌-◌, Option, Some, None, length, slice_get}
 use Rattle.serde_json.specs.Written.{has_float}
 use Rattle.gen_net.specs.Header.{RunHeader}

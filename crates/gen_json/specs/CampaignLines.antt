@@ -1,5 +1,5 @@
 -- What is shown of a campaign, as lines of JSON.
-use Rattle.std.specs.Prelude.{ℕ, Bool, List, [], ◌∷◌, ◌++◌, codes, length, if◌then◌else◌}
+use Rattle.std.specs.Prelude.{ℕ, List, [], ◌∷◌, ◌++◌, codes, length, if◌then◌else◌}
 use Rattle.serde_json.specs.Data.{Data, string}
 use Rattle.gen_audit.specs.Bundle.{Bundle}
 use Rattle.gen_campaign.specs.Campaign.{CampaignBundle}

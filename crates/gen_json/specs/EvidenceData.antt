@@ -1,5 +1,5 @@
 -- Evidence as JSON.
-use Rattle.std.specs.Prelude.{ℕ, Bool, List, [], ◌∷◌, codes}
+use Rattle.std.specs.Prelude.{Bool, [], ◌∷◌, codes}
 use Rattle.serde_json.specs.Data.{Data, boolean, string}
 use Rattle.gen_net.specs.Header.{RunHeader, root_of, run_id_of}
 use Rattle.gen_convict.specs.Evidence.{Accusation}

@@ -4,18 +4,19 @@ ghost use Rattle.serde_json.specs.Data.{array};
 ghost use Rattle.serde_json.specs.View.{items_of, view};
 ghost use Rattle.gen_convict.specs.Evidence.{told_of};
 ghost use Rattle.gen_campaign.specs.CampaignVerdictText.{place_of};
-ghost use Rattle.gen_json.specs.CampaignData.{across_data, alone_data, campaign_data, campaign_object, places_data, run_data, runs_data, several_data};
+ghost use Rattle.gen_json.specs.CampaignData.{across_data, alone_data, campaign_data, places_data, run_data, runs_data, several_data};
 ghost use Rattle.gen_json.specs.JsonData.{list_of};
 ghost use Rattle.gen_json.specs.Line.{ReadsAs, json_line};
 
 use crate::convictions::conviction_value;
 use crate::lines::value_line;
+use crate::objects::{JSON_VERSION, ObjectBuilder};
 use crate::places::place_of;
 use crate::verdicts::judgement_value;
 use gen_audit::{Bundle, Judgement};
 use gen_campaign::{CampaignBundle, CampaignVerdict};
 use gen_convict::{Claim, Evidence};
-use serde_json::{Value, json};
+use serde_json::Value;
 use std::alloc::{AllocError, Global};
 
 /// Returns the judgement on the run of a bundle.
@@ -92,7 +93,12 @@ fn places_value(
 ) -> Result<Value, AllocError>
     ensures { IfOk result (λ v. view v ≡ places_data general first second) }
 {
-    json!(in alloc; {"first": first, "general": general, "id": "K1", "second": second})
+    let mut object = ObjectBuilder::new(alloc);
+    object.put("first", Value::from(first));
+    object.put("general", Value::from(general));
+    object.put_text("id", "K1");
+    object.put("second", Value::from(second));
+    object.finish()
 }
 
 /// Returns a conviction across two runs, with the places of the two among these bundles. Evidence of one run alone has
@@ -127,18 +133,6 @@ fn all_across_value(
     Ok(Value::Array(list))
 }
 
-/// Returns the object of a campaign, of its convictions across two runs and of the judgements on its runs.
-fn object_of(alloc: Global, across: Value, runs: Value) -> Result<Value, AllocError>
-    ensures { IfOk result (λ v. view v ≡ campaign_object (view across) (view runs)) }
-{
-    json!(in alloc; {
-        "across": across,
-        "format": "campaign verdict",
-        "runs": runs,
-        "version": 1u8,
-    })
-}
-
 /// Returns the verdict on several runs.
 fn several_value(
     alloc: Global,
@@ -149,9 +143,12 @@ fn several_value(
     ensures { IfOk result (λ v. view v
         ≡ several_data bundles.now judgements.now (map told_of across.now)) }
 {
-    let convicted = all_across_value(alloc, bundles, across)?;
-    let runs = runs_value(alloc, bundles, judgements)?;
-    object_of(alloc, convicted, runs)
+    let mut object = ObjectBuilder::new(alloc);
+    object.put_made("across", all_across_value(alloc, bundles, across));
+    object.put_text("format", "campaign verdict");
+    object.put_made("runs", runs_value(alloc, bundles, judgements));
+    object.put("version", Value::from(JSON_VERSION));
+    object.finish()
 }
 
 /// Returns the judgement on the first run, and null if there is none.

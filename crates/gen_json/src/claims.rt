@@ -5,11 +5,12 @@ ghost use Rattle.gen_convict.specs.Told.{told};
 ghost use Rattle.gen_json.specs.ClaimData.{claim_data, entry_data, head_data, missing_data, pair_data, rivals_data, statement_data, text_data};
 
 use crate::numbers::{digits_value, path_value};
+use crate::objects::ObjectBuilder;
 use gen_chain::HeadText;
 use gen_convict::{Claim, RunText};
 use gen_local::Text;
 use gen_types::{GeneralNo, OrderNo};
-use serde_json::{Value, json};
+use serde_json::Value;
 use std::alloc::{AllocError, Global};
 
 /// Returns the statement of an order with a path.
@@ -20,18 +21,22 @@ fn statement_value(
 ) -> Result<Value, AllocError>
     ensures { IfOk result (λ v. view v ≡ statement_data order generals.now) }
 {
-    let order = order.get();
-    let path = path_value(alloc, generals)?;
-    json!(in alloc; {"order": order, "path": path, "text": "statement"})
+    let mut object = ObjectBuilder::new(alloc);
+    object.put("order", Value::from(order.get()));
+    object.put_made("path", path_value(alloc, generals));
+    object.put_text("text", "statement");
+    object.finish()
 }
 
 /// Returns the head of a log.
 fn head_value(alloc: Global, head: &HeadText) -> Result<Value, AllocError>
     ensures { IfOk result (λ v. view v ≡ head_data head.now) }
 {
-    let entries = head.entries;
-    let link = digits_value(alloc, &head.last_link)?;
-    json!(in alloc; {"entries": entries, "last_link": link, "text": "head"})
+    let mut object = ObjectBuilder::new(alloc);
+    object.put("entries", Value::from(head.entries));
+    object.put_made("last_link", digits_value(alloc, &head.last_link));
+    object.put_text("text", "head");
+    object.finish()
 }
 
 /// Returns what a general signed.
@@ -47,10 +52,13 @@ fn text_value(alloc: Global, text: &Text) -> Result<Value, AllocError>
 }
 
 /// Returns two texts of one run.
-fn pair_value(alloc: Global, first: Value, second: Value) -> Result<Value, AllocError>
-    ensures { IfOk result (λ v. view v ≡ pair_data (view first) (view second)) }
+fn pair_value(alloc: Global, first: &Text, second: &Text) -> Result<Value, AllocError>
+    ensures { IfOk result (λ v. view v ≡ pair_data (text_data first.now) (text_data second.now)) }
 {
-    json!(in alloc; {"first": first, "second": second})
+    let mut object = ObjectBuilder::new(alloc);
+    object.put_made("first", text_value(alloc, first));
+    object.put_made("second", text_value(alloc, second));
+    object.finish()
 }
 
 /// Returns two orders of the commander.
@@ -59,27 +67,39 @@ fn orders_value(alloc: Global, first: OrderNo, second: OrderNo) -> Result<Value,
         (statement_data first (0 ∷ [])) (statement_data second (0 ∷ []))) }
 {
     let path = [GeneralNo::commander()];
-    let first = statement_value(alloc, first, &path)?;
-    let second = statement_value(alloc, second, &path)?;
-    pair_value(alloc, first, second)
+    let mut object = ObjectBuilder::new(alloc);
+    object.put_made("first", statement_value(alloc, first, &path));
+    object.put_made("second", statement_value(alloc, second, &path));
+    object.finish()
 }
 
 /// Returns a statement that is missing from a log.
 fn missing_value(alloc: Global, order: OrderNo, generals: &[GeneralNo]) -> Result<Value, AllocError>
     ensures { IfOk result (λ v. view v ≡ missing_data order generals.now) }
 {
-    let missing = statement_value(alloc, order, generals)?;
-    json!(in alloc; {"missing": missing})
+    let mut object = ObjectBuilder::new(alloc);
+    object.put_made("missing", statement_value(alloc, order, generals));
+    object.finish()
+}
+
+/// Returns the entry at which a log departs.
+fn entry_value(alloc: Global, entry: u32) -> Result<Value, AllocError>
+    ensures { IfOk result (λ v. view v ≡ entry_data entry) }
+{
+    let mut object = ObjectBuilder::new(alloc);
+    object.put("entry", Value::from(entry));
+    object.finish()
 }
 
 /// Returns two texts of two runs, and the id of the other run.
 fn rivals_value(alloc: Global, first: &RunText, second: &RunText) -> Result<Value, AllocError>
     ensures { IfOk result (λ v. view v ≡ rivals_data first.now second.now) }
 {
-    let run = digits_value(alloc, second.header.run_id())?;
-    let first = text_value(alloc, &first.text.text)?;
-    let second = text_value(alloc, &second.text.text)?;
-    json!(in alloc; {"first": first, "other_run": run, "second": second})
+    let mut object = ObjectBuilder::new(alloc);
+    object.put_made("first", text_value(alloc, &first.text.text));
+    object.put_made("other_run", digits_value(alloc, second.header.run_id()));
+    object.put_made("second", text_value(alloc, &second.text.text));
+    object.finish()
 }
 
 /// Returns what a claim says, without signatures and without the bytes of a log.
@@ -87,19 +107,12 @@ pub(crate) fn claim_value(alloc: Global, claim: &Claim) -> Result<Value, AllocEr
     ensures { IfOk result (λ v. view v ≡ claim_data (told claim.now)) }
 {
     match claim {
-        Claim::Texts { first, second } => {
-            let first = text_value(alloc, &first.text)?;
-            let second = text_value(alloc, &second.text)?;
-            pair_value(alloc, first, second)
-        }
+        Claim::Texts { first, second } => pair_value(alloc, &first.text, &second.text),
         Claim::Orders { first, second, .. } => orders_value(alloc, *first, *second),
         Claim::Missing { statement, .. } => {
             missing_value(alloc, statement.order, statement.path.generals())
         }
-        Claim::Departing { entry, .. } => {
-            let entry = *entry;
-            json!(in alloc; {"entry": entry})
-        }
+        Claim::Departing { entry, .. } => entry_value(alloc, *entry),
         Claim::Across { first, second } => rivals_value(alloc, first, second),
     }
 }

@@ -7,8 +7,9 @@ ghost use Rattle.gen_convict.specs.Told.{told};
 ghost use Rattle.gen_json.specs.ConvictionData.{claim_name, claim_number, conviction_data};
 ghost use Rattle.gen_json.specs.JsonData.{list_of};
 
+use crate::objects::ObjectBuilder;
 use gen_convict::{Claim, Evidence};
-use serde_json::{Value, json};
+use serde_json::Value;
 use std::alloc::{AllocError, Global};
 
 /// Returns the number in the name of a claim: K1 is the name of two texts under one leaf, be they of one run or of two.
@@ -36,9 +37,10 @@ pub(crate) fn name_value(alloc: Global, claim: &Claim) -> Result<Value, AllocErr
 pub(crate) fn conviction_value(alloc: Global, evidence: &Evidence) -> Result<Value, AllocError>
     ensures { IfOk result (λ v. view v ≡ conviction_data (told_of evidence.now)) }
 {
-    let general = evidence.accused.get();
-    let id = name_value(alloc, &evidence.claim)?;
-    json!(in alloc; {"general": general, "id": id})
+    let mut object = ObjectBuilder::new(alloc);
+    object.put("general", Value::from(evidence.accused.get()));
+    object.put_made("id", name_value(alloc, &evidence.claim));
+    object.finish()
 }
 
 /// Returns the list of convictions.

@@ -7,19 +7,21 @@ ghost use Rattle.gen_json.specs.Line.{ReadsAs, json_line};
 
 use crate::lines::value_line;
 use crate::numbers::{digits_value, network_value, set_value};
+use crate::objects::{JSON_VERSION, ObjectBuilder};
 use gen_net::Net;
 use gen_scenario::Decision;
 use gen_types::GeneralSet;
-use serde_json::{Value, json};
+use serde_json::Value;
 use std::alloc::{AllocError, Global};
 
 /// Returns which order a general decided.
 fn decided_value(alloc: Global, decision: &Decision) -> Result<Value, AllocError>
     ensures { IfOk result (λ v. view v ≡ decided_data decision.now) }
 {
-    let general = decision.general.get();
-    let order = decision.order.get();
-    json!(in alloc; {"general": general, "order": order})
+    let mut object = ObjectBuilder::new(alloc);
+    object.put("general", Value::from(decision.general.get()));
+    object.put("order", Value::from(decision.order.get()));
+    object.finish()
 }
 
 /// Returns the list of which orders generals decided.
@@ -38,10 +40,11 @@ pub(crate) fn all_decided_value(alloc: Global, decisions: &[Decision]) -> Result
 fn decision_value(alloc: Global, decision: &Decision) -> Result<Value, AllocError>
     ensures { IfOk result (λ v. view v ≡ decision_data decision.now) }
 {
-    let general = decision.general.get();
-    let order = decision.order.get();
-    let set = set_value(alloc, &decision.orders)?;
-    json!(in alloc; {"general": general, "order": order, "set": set})
+    let mut object = ObjectBuilder::new(alloc);
+    object.put("general", Value::from(decision.general.get()));
+    object.put("order", Value::from(decision.order.get()));
+    object.put_made("set", set_value(alloc, &decision.orders));
+    object.finish()
 }
 
 /// Returns the list of decisions.
@@ -77,18 +80,14 @@ fn decisions_value(
     ensures { IfOk result (λ v. view v
         ≡ decisions_data net.now run faulty.now decisions.now) }
 {
-    let decided = decision_list_value(alloc, decisions)?;
-    let faulty = set_value(alloc, faulty)?;
-    let network = network_value(alloc, net)?;
-    let run = run_value(alloc, run)?;
-    json!(in alloc; {
-        "decisions": decided,
-        "faulty": faulty,
-        "format": "decisions",
-        "network": network,
-        "run": run,
-        "version": 1u8,
-    })
+    let mut object = ObjectBuilder::new(alloc);
+    object.put_made("decisions", decision_list_value(alloc, decisions));
+    object.put_made("faulty", set_value(alloc, faulty));
+    object.put_text("format", "decisions");
+    object.put_made("network", network_value(alloc, net));
+    object.put_made("run", run_value(alloc, run));
+    object.put("version", Value::from(JSON_VERSION));
+    object.finish()
 }
 
 /// Returns the line of JSON of decisions on a network: its numbers, the run id or null, the generals that have scripts,

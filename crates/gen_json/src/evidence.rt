@@ -9,9 +9,10 @@ use crate::claims::claim_value;
 use crate::convictions::name_value;
 use crate::lines::value_line;
 use crate::numbers::{digits_value, network_value};
+use crate::objects::{JSON_VERSION, ObjectBuilder};
 use gen_convict::Evidence;
 use gen_net::Header;
-use serde_json::{Value, json};
+use serde_json::Value;
 use std::alloc::{AllocError, Global};
 
 /// Returns evidence under a header, and whether it holds. The accused is a general of the network.
@@ -28,23 +29,17 @@ pub fn evidence_value(
     requires { evidence.now.accused < header.now.network.generals }
     ensures { IfOk result (λ v. view v ≡ evidence_data header.now (told_of evidence.now) holds) }
 {
-    let accused = evidence.accused.get();
-    let claim = claim_value(alloc, &evidence.claim)?;
-    let kind = name_value(alloc, &evidence.claim)?;
-    let network = network_value(alloc, header.net())?;
-    let root = digits_value(alloc, header.root(evidence.accused))?;
-    let run = digits_value(alloc, header.run_id())?;
-    json!(in alloc; {
-        "accused": accused,
-        "claim": claim,
-        "format": "evidence",
-        "holds": holds,
-        "kind": kind,
-        "network": network,
-        "root": root,
-        "run": run,
-        "version": 1u8,
-    })
+    let mut object = ObjectBuilder::new(alloc);
+    object.put("accused", Value::from(evidence.accused.get()));
+    object.put_made("claim", claim_value(alloc, &evidence.claim));
+    object.put_text("format", "evidence");
+    object.put("holds", Value::from(holds));
+    object.put_made("kind", name_value(alloc, &evidence.claim));
+    object.put_made("network", network_value(alloc, header.net()));
+    object.put_made("root", digits_value(alloc, header.root(evidence.accused)));
+    object.put_made("run", digits_value(alloc, header.run_id()));
+    object.put("version", Value::from(JSON_VERSION));
+    object.finish()
 }
 
 /// Returns the line of JSON of evidence under a header, and of whether it holds: the accused with the root of its keys,

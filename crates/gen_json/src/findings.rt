@@ -3,14 +3,15 @@ ghost use Rattle.std.specs.Prelude.{◌≡◌, IfOk};
 ghost use Rattle.serde_json.specs.Data.{string};
 ghost use Rattle.serde_json.specs.View.{view};
 ghost use Rattle.gen_report.specs.Findings.{log_fault_name};
-ghost use Rattle.gen_match.specs.declared.finding.Finding.TheVariants.{Unreadable, Unjoined};
+ghost use Rattle.gen_match.specs.declared.finding.Finding.TheVariants.{Unreadable, Unjoined, Nobody};
 ghost use Rattle.gen_json.specs.JsonData.{list_of};
 ghost use Rattle.gen_json.specs.FindingData.{about_entry, about_general, about_message, finding_data};
 
+use crate::objects::ObjectBuilder;
 use gen_log::LogFault;
 use gen_match::Finding;
 use gen_types::{GeneralNo, OrderNo};
-use serde_json::{Value, json};
+use serde_json::Value;
 use std::alloc::{AllocError, Global};
 
 /// Returns the name of a log's fault, and, if that is a chain's fault, the name of the chain's fault behind it.
@@ -29,8 +30,10 @@ fn fault_value(alloc: Global, fault: LogFault) -> Result<Value, AllocError>
 fn about_general(alloc: Global, id: &str, general: GeneralNo) -> Result<Value, AllocError>
     ensures { IfOk result (λ v. view v ≡ about_general id.now general) }
 {
-    let general = general.get();
-    json!(in alloc; {"general": general, "id": id})
+    let mut object = ObjectBuilder::new(alloc);
+    object.put("general", Value::from(general.get()));
+    object.put_text("id", id);
+    object.finish()
 }
 
 /// Returns a finding about an entry of a general's log.
@@ -42,17 +45,22 @@ fn about_entry(
 ) -> Result<Value, AllocError>
     ensures { IfOk result (λ v. view v ≡ about_entry id.now general entry) }
 {
-    let general = general.get();
-    json!(in alloc; {"entry": entry, "general": general, "id": id})
+    let mut object = ObjectBuilder::new(alloc);
+    object.put("entry", Value::from(entry));
+    object.put("general", Value::from(general.get()));
+    object.put_text("id", id);
+    object.finish()
 }
 
 /// Returns the finding that a log doesn't read.
 fn unreadable(alloc: Global, general: GeneralNo, fault: LogFault) -> Result<Value, AllocError>
     ensures { IfOk result (λ v. view v ≡ finding_data (Unreadable general fault)) }
 {
-    let fault = fault_value(alloc, fault)?;
-    let general = general.get();
-    json!(in alloc; {"fault": fault, "general": general, "id": "N3"})
+    let mut object = ObjectBuilder::new(alloc);
+    object.put_made("fault", fault_value(alloc, fault));
+    object.put("general", Value::from(general.get()));
+    object.put_text("id", "N3");
+    object.finish()
 }
 
 /// Returns a finding about a message.
@@ -66,19 +74,33 @@ fn about_message(
 ) -> Result<Value, AllocError>
     ensures { IfOk result (λ v. view v ≡ about_message id.now from to round order) }
 {
-    let from = from.get();
-    let to = to.get();
-    let order = order.get();
-    json!(in alloc; {"from": from, "id": id, "order": order, "round": round, "to": to})
+    let mut object = ObjectBuilder::new(alloc);
+    object.put("from", Value::from(from.get()));
+    object.put_text("id", id);
+    object.put("order", Value::from(order.get()));
+    object.put("round", Value::from(round));
+    object.put("to", Value::from(to.get()));
+    object.finish()
 }
 
 /// Returns the finding that the walks don't join two generals.
 fn unjoined(alloc: Global, first: GeneralNo, second: GeneralNo) -> Result<Value, AllocError>
     ensures { IfOk result (λ v. view v ≡ finding_data (Unjoined first second)) }
 {
-    let first = first.get();
-    let second = second.get();
-    json!(in alloc; {"first": first, "id": "N10", "second": second})
+    let mut object = ObjectBuilder::new(alloc);
+    object.put("first", Value::from(first.get()));
+    object.put_text("id", "N10");
+    object.put("second", Value::from(second.get()));
+    object.finish()
+}
+
+/// Returns the finding that all generals are held for faulty.
+fn about_nobody(alloc: Global) -> Result<Value, AllocError>
+    ensures { IfOk result (λ v. view v ≡ finding_data Nobody) }
+{
+    let mut object = ObjectBuilder::new(alloc);
+    object.put_text("id", "N11");
+    object.finish()
 }
 
 /// Returns a finding: its number as in `N8`, and what it is about.
@@ -106,7 +128,7 @@ fn finding_value(alloc: Global, finding: &Finding) -> Result<Value, AllocError>
             order,
         } => about_message(alloc, "N9", from, to, round, order),
         Finding::Unjoined { first, second } => unjoined(alloc, first, second),
-        Finding::Nobody => json!(in alloc; {"id": "N11"}),
+        Finding::Nobody => about_nobody(alloc),
     }
 }
 

@@ -21,6 +21,7 @@ mod findings;
 pub mod laws;
 mod lines;
 mod numbers;
+mod objects;
 mod places;
 mod showing;
 mod shown_bundles;

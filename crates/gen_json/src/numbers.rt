@@ -3,9 +3,10 @@ ghost use Rattle.std.specs.Prelude.{◌≡◌, IfOk};
 ghost use Rattle.serde_json.specs.View.{view};
 ghost use Rattle.gen_json.specs.JsonData.{digits_data, network_data, numbers_data};
 
+use crate::objects::ObjectBuilder;
 use gen_net::Net;
 use gen_types::{GeneralNo, NumberSet};
-use serde_json::{Value, json};
+use serde_json::Value;
 use std::alloc::{AllocError, Global};
 
 /// Returns bytes in hexadecimal digits.
@@ -58,16 +59,11 @@ pub fn path_value(alloc: Global, generals: &[GeneralNo]) -> Result<Value, AllocE
 pub fn network_value(alloc: Global, net: &Net) -> Result<Value, AllocError>
     ensures { IfOk result (λ v. view v ≡ network_data net.now) }
 {
-    let choice = net.choice().number();
-    let diameter = net.diameter();
-    let generals = net.generals();
-    let orders = net.orders();
-    let traitors = net.traitors();
-    json!(in alloc; {
-        "choice": choice,
-        "diameter": diameter,
-        "generals": generals,
-        "orders": orders,
-        "traitors": traitors,
-    })
+    let mut object = ObjectBuilder::new(alloc);
+    object.put("choice", Value::from(net.choice().number()));
+    object.put("diameter", Value::from(net.diameter()));
+    object.put("generals", Value::from(net.generals()));
+    object.put("orders", Value::from(net.orders()));
+    object.put("traitors", Value::from(net.traitors()));
+    object.finish()
 }

@@ -7,6 +7,7 @@ ghost use Rattle.gen_json.specs.Line.{json_line};
 ghost use Rattle.gen_json.specs.BundleData.{bundle_lines, claimed_lines, end_data, end_line, exhibit_lines, exhibit_text, faulty_data, place_data, run_lines, run_text, walk_data, walk_line};
 
 use crate::numbers::{path_value, set_value};
+use crate::objects::{JSON_VERSION, ObjectBuilder};
 use crate::shown_headers::push_header;
 use crate::shown_lines::push_value;
 use crate::shown_logs::push_log;
@@ -16,7 +17,7 @@ use gen_net::Header;
 use gen_show::{EXHIBIT_FRONT, bundle_front_length, exhibit_bytes};
 use gen_types::GeneralSet;
 use gen_walks::Walk;
-use serde_json::{Value, json};
+use serde_json::Value;
 use std::alloc::{AllocError, Global};
 
 /// Returns the generals that are held for faulty.
@@ -24,8 +25,11 @@ use std::alloc::{AllocError, Global};
 fn faulty_value(alloc: Global, faulty: &GeneralSet) -> Result<Value, AllocError>
     ensures { IfOk result (λ v. view v ≡ faulty_data faulty.now) }
 {
-    let generals = set_value(alloc, faulty)?;
-    json!(in alloc; {"faulty": generals, "format": "shown faulty", "version": 1u8})
+    let mut object = ObjectBuilder::new(alloc);
+    object.put_made("faulty", set_value(alloc, faulty));
+    object.put_text("format", "shown faulty");
+    object.put("version", Value::from(JSON_VERSION));
+    object.finish()
 }
 
 /// Appends the line of the generals that are held for faulty.
@@ -42,8 +46,11 @@ fn push_faulty(alloc: Global, out: &mut Vec<u8>, faulty: &GeneralSet) -> Result<
 fn walk_value(alloc: Global, walk: &Walk) -> Result<Value, AllocError>
     ensures { IfOk result (λ v. view v ≡ walk_data walk.now) }
 {
-    let generals = path_value(alloc, walk.generals())?;
-    json!(in alloc; {"format": "shown walk", "version": 1u8, "walk": generals})
+    let mut object = ObjectBuilder::new(alloc);
+    object.put_text("format", "shown walk");
+    object.put("version", Value::from(JSON_VERSION));
+    object.put_made("walk", path_value(alloc, walk.generals()));
+    object.finish()
 }
 
 /// Appends the line of a walk.
@@ -126,7 +133,10 @@ fn push_exhibits(
 fn end_value(alloc: Global, name: &str) -> Result<Value, AllocError>
     ensures { IfOk result (λ v. view v ≡ end_data name.now) }
 {
-    json!(in alloc; {"format": name, "version": 1u8})
+    let mut object = ObjectBuilder::new(alloc);
+    object.put_text("format", name);
+    object.put("version", Value::from(JSON_VERSION));
+    object.finish()
 }
 
 /// Appends the line of an end of this name.
@@ -170,7 +180,12 @@ pub fn push_bundle(
 fn place_value(alloc: Global, place: usize, at: usize) -> Result<Value, AllocError>
     ensures { IfOk result (λ v. view v ≡ place_data place at) }
 {
-    json!(in alloc; {"byte": at, "format": "shown run", "place": place, "version": 1u8})
+    let mut object = ObjectBuilder::new(alloc);
+    object.put("byte", Value::from(at));
+    object.put_text("format", "shown run");
+    object.put("place", Value::from(place));
+    object.put("version", Value::from(JSON_VERSION));
+    object.finish()
 }
 
 /// Appends the line before the bundle of a run of a campaign.

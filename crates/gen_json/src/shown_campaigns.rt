@@ -6,12 +6,13 @@ ghost use Rattle.gen_show.specs.CampaignText.{HaveRoom};
 ghost use Rattle.gen_json.specs.Line.{json_line};
 ghost use Rattle.gen_json.specs.CampaignLines.{alone_lines, campaign_data, campaign_end_line, campaign_lines, several_lines};
 
+use crate::objects::{JSON_VERSION, ObjectBuilder};
 use crate::shown_bundles::{push_bundle, push_end_of, push_runs};
 use crate::shown_lines::push_value;
 use gen_audit::Bundle;
 use gen_campaign::CampaignBundle;
 use gen_show::CAMPAIGN_FRONT;
-use serde_json::{Value, json};
+use serde_json::Value;
 use std::alloc::{AllocError, Global};
 
 /// Returns the version of the format of several runs, and their number.
@@ -19,7 +20,12 @@ use std::alloc::{AllocError, Global};
 fn campaign_value(alloc: Global, count: usize) -> Result<Value, AllocError>
     ensures { IfOk result (λ v. view v ≡ campaign_data count) }
 {
-    json!(in alloc; {"format": "shown campaign", "run_version": 2u8, "runs": count, "version": 1u8})
+    let mut object = ObjectBuilder::new(alloc);
+    object.put_text("format", "shown campaign");
+    object.put("run_version", Value::from(2u8));
+    object.put("runs", Value::from(count));
+    object.put("version", Value::from(JSON_VERSION));
+    object.finish()
 }
 
 /// Appends the first line of several runs.

@@ -3,8 +3,9 @@ ghost use Rattle.std.specs.Prelude.{◌≡◌, ◌++◌, IfOk, OnOk};
 ghost use Rattle.serde_json.specs.View.{view};
 ghost use Rattle.gen_json.specs.FaultData.{fault_data, fault_line};
 
+use crate::objects::{JSON_VERSION, ObjectBuilder};
 use crate::shown_lines::push_value;
-use serde_json::{Value, json};
+use serde_json::Value;
 use std::alloc::{AllocError, Global};
 
 /// Returns the fault of what doesn't read.
@@ -12,7 +13,12 @@ use std::alloc::{AllocError, Global};
 fn fault_value(alloc: Global, name: &str, at: usize) -> Result<Value, AllocError>
     ensures { IfOk result (λ v. view v ≡ fault_data name.now at) }
 {
-    json!(in alloc; {"byte": at, "fault": name, "format": "shown fault", "version": 1u8})
+    let mut object = ObjectBuilder::new(alloc);
+    object.put("byte", Value::from(at));
+    object.put_text("fault", name);
+    object.put_text("format", "shown fault");
+    object.put("version", Value::from(JSON_VERSION));
+    object.finish()
 }
 
 /// Appends the last line of what doesn't read.

@@ -6,6 +6,7 @@ ghost use Rattle.gen_json.specs.Line.{json_line};
 ghost use Rattle.gen_json.specs.HeaderData.{edge_data, header_data};
 
 use crate::numbers::{digits_value, network_value};
+use crate::objects::{JSON_VERSION, ObjectBuilder};
 use crate::shown_lines::push_value;
 use gen_net::Header;
 use gen_show::version_number;
@@ -51,23 +52,17 @@ fn roots_value(alloc: Global, roots: &[[u8; 32]]) -> Result<Value, AllocError>
 fn header_value(alloc: Global, name: &str, header: &Header) -> Result<Value, AllocError>
     ensures { IfOk result (λ v. view v ≡ header_data name.now header.now) }
 {
-    let edges = edges_value(alloc, header.net().edges())?;
-    let network = network_value(alloc, header.net())?;
-    let roots = roots_value(alloc, header.roots())?;
-    let run = digits_value(alloc, header.run_id())?;
-    let version = version_number(header.version());
-    let slot = header.version().slot();
-    json!(in alloc; {
-        "edges": edges,
-        "file": name,
-        "format": "shown header",
-        "network": network,
-        "roots": roots,
-        "run": run,
-        "run_version": version,
-        "slot": slot,
-        "version": 1u8,
-    })
+    let mut object = ObjectBuilder::new(alloc);
+    object.put_made("edges", edges_value(alloc, header.net().edges()));
+    object.put_text("file", name);
+    object.put_text("format", "shown header");
+    object.put_made("network", network_value(alloc, header.net()));
+    object.put_made("roots", roots_value(alloc, header.roots()));
+    object.put_made("run", digits_value(alloc, header.run_id()));
+    object.put("run_version", Value::from(version_number(header.version())));
+    object.put("slot", Value::from(header.version().slot()));
+    object.put("version", Value::from(JSON_VERSION));
+    object.finish()
 }
 
 /// Appends the line of a header of a file of this name.

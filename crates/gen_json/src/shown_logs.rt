@@ -6,13 +6,14 @@ ghost use Rattle.gen_json.specs.Line.{json_line};
 ghost use Rattle.gen_json.specs.LogData.{decided_data, head_data, head_line, last_order, log_data, log_lines, order_of, reading_lines, unreadable_data};
 
 use crate::numbers::digits_value;
+use crate::objects::{JSON_VERSION, ObjectBuilder};
 use crate::shown_entries::push_entries;
 use crate::shown_lines::push_value;
 use gen_log::{Entry, Log, LogFault, read_log};
 use gen_net::Header;
 use gen_show::{LOG_FRONT, push_log_fault};
 use gen_types::{GeneralNo, ReadError};
-use serde_json::{Value, json};
+use serde_json::Value;
 use std::alloc::{AllocError, Global};
 
 /// Returns a log that reads.
@@ -26,18 +27,15 @@ fn log_value(
 ) -> Result<Value, AllocError>
     ensures { IfOk result (λ v. view v ≡ log_data general at size log.now) }
 {
-    let count = log.entries().len();
-    let general = general.get();
-    let run = digits_value(alloc, log.run_id())?;
-    json!(in alloc; {
-        "byte": at,
-        "entries": count,
-        "format": "shown log",
-        "length": size,
-        "of": general,
-        "run": run,
-        "version": 1u8,
-    })
+    let mut object = ObjectBuilder::new(alloc);
+    object.put("byte", Value::from(at));
+    object.put("entries", Value::from(log.entries().len()));
+    object.put_text("format", "shown log");
+    object.put("length", Value::from(size));
+    object.put("of", Value::from(general.get()));
+    object.put_made("run", digits_value(alloc, log.run_id()));
+    object.put("version", Value::from(JSON_VERSION));
+    object.finish()
 }
 
 /// Appends the line of a log that reads.
@@ -68,18 +66,16 @@ fn unreadable_value(
 ) -> Result<Value, AllocError>
     ensures { IfOk result (λ v. view v ≡ unreadable_data general at size fault) }
 {
-    let general = general.get();
     let mut name = String::new(alloc);
     push_log_fault(&mut name, fault)?;
-    let fault = Value::String(name);
-    json!(in alloc; {
-        "byte": at,
-        "fault": fault,
-        "format": "unreadable log",
-        "length": size,
-        "of": general,
-        "version": 1u8,
-    })
+    let mut object = ObjectBuilder::new(alloc);
+    object.put("byte", Value::from(at));
+    object.put("fault", Value::String(name));
+    object.put_text("format", "unreadable log");
+    object.put("length", Value::from(size));
+    object.put("of", Value::from(general.get()));
+    object.put("version", Value::from(JSON_VERSION));
+    object.finish()
 }
 
 /// Appends the line of bytes that are no log.
@@ -132,14 +128,13 @@ fn head_value(
 ) -> Result<Value, AllocError>
     ensures { IfOk result (λ v. view v ≡ head_data general at (view decided)) }
 {
-    let general = general.get();
-    json!(in alloc; {
-        "byte": at,
-        "decided": decided,
-        "format": "shown head",
-        "of": general,
-        "version": 1u8,
-    })
+    let mut object = ObjectBuilder::new(alloc);
+    object.put("byte", Value::from(at));
+    object.put("decided", decided);
+    object.put_text("format", "shown head");
+    object.put("of", Value::from(general.get()));
+    object.put("version", Value::from(JSON_VERSION));
+    object.finish()
 }
 
 /// Appends the line of what stands behind these entries of a log.

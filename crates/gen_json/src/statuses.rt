@@ -6,11 +6,12 @@ ghost use Rattle.gen_types.specs.Ends.{is_among};
 ghost use Rattle.gen_convict.specs.Evidence.{told_of};
 ghost use Rattle.gen_json.specs.StatusData.{names, statuses_data, status_data, status_of, status_word};
 
+use crate::objects::ObjectBuilder;
 use gen_convict::Evidence;
 use gen_match::Finding;
 use gen_net::Net;
 use gen_types::{GeneralNo, GeneralSet};
-use serde_json::{Value, json};
+use serde_json::Value;
 use std::alloc::{AllocError, Global};
 
 /// What a judgement says of a general. The first of these that fits is the general's.
@@ -112,8 +113,10 @@ pub fn status_of(
 fn status_value(alloc: Global, general: u8, status: Status) -> Result<Value, AllocError>
     ensures { IfOk result (λ v. view v ≡ status_data general status) }
 {
-    let word = status.word();
-    json!(in alloc; {"general": general, "status": word})
+    let mut object = ObjectBuilder::new(alloc);
+    object.put("general", Value::from(general));
+    object.put_text("status", status.word());
+    object.finish()
 }
 
 /// Returns the list of the statuses of all generals of a network.

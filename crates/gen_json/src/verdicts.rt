@@ -3,20 +3,21 @@ ghost use Rattle.std.specs.Prelude.{◌≡◌, IfOk, map};
 ghost use Rattle.serde_json.specs.View.{view};
 ghost use Rattle.gen_convict.specs.Evidence.{told_of};
 ghost use Rattle.gen_json.specs.Line.{ReadsAs, json_line};
-ghost use Rattle.gen_json.specs.VerdictData.{decisions_in, findings_in, judgement_data, order_data, verdict_object, verdict_word};
+ghost use Rattle.gen_json.specs.VerdictData.{decisions_in, findings_in, judgement_data, order_data, verdict_word};
 
 use crate::convictions::convictions_value;
 use crate::decisions::all_decided_value;
 use crate::findings::findings_value;
 use crate::lines::value_line;
 use crate::numbers::{digits_value, network_value, set_value};
+use crate::objects::{JSON_VERSION, ObjectBuilder};
 use crate::statuses::statuses_value;
 use gen_audit::{Judgement, Verdict};
 use gen_match::Finding;
 use gen_net::Header;
 use gen_scenario::Decision;
 use gen_types::GeneralSet;
-use serde_json::{Value, json};
+use serde_json::Value;
 use std::alloc::{AllocError, Global};
 
 /// Returns the word for a verdict.
@@ -60,40 +61,6 @@ fn findings_in(verdict: &Verdict) -> &[Finding]
     }
 }
 
-/// The parts of a judgement, but for the word for its verdict.
-#[derive(Drop)]
-struct Parts {
-    convictions: Value,
-    decisions: Value,
-    faulty: Value,
-    findings: Value,
-    network: Value,
-    order: Value,
-    run: Value,
-    statuses: Value,
-}
-
-/// Returns the object of these parts, with the word for the verdict.
-fn object_of(alloc: Global, word: &str, parts: Parts) -> Result<Value, AllocError>
-    ensures { IfOk result (λ v. view v ≡ verdict_object (view parts.convictions)
-        (view parts.decisions) (view parts.faulty) (view parts.findings) (view parts.network)
-        (view parts.order) (view parts.run) (view parts.statuses) word.now) }
-{
-    json!(in alloc; {
-        "convictions": parts.convictions,
-        "decisions": parts.decisions,
-        "faulty": parts.faulty,
-        "findings": parts.findings,
-        "format": "verdict",
-        "network": parts.network,
-        "order": parts.order,
-        "run": parts.run,
-        "statuses": parts.statuses,
-        "verdict": word,
-        "version": 1u8,
-    })
-}
-
 /// Returns a judgement under a header, by which these generals are held for faulty.
 pub(crate) fn judgement_value(
     alloc: Global,
@@ -105,26 +72,25 @@ pub(crate) fn judgement_value(
         judgement.now.verdict (map told_of judgement.now.convictions.items)) }
 {
     let verdict = &judgement.verdict;
+    let findings = findings_in(verdict);
     let accused = judgement.convictions.as_slice();
     let net = header.net();
-    let statuses = statuses_value(alloc, net, faulty, findings_in(verdict), accused)?;
-    let convictions = convictions_value(alloc, accused)?;
-    let decisions = all_decided_value(alloc, decisions_in(verdict))?;
-    let held = set_value(alloc, faulty)?;
-    let findings = findings_value(alloc, findings_in(verdict))?;
-    let network = network_value(alloc, net)?;
-    let run = digits_value(alloc, header.run_id())?;
-    let parts = Parts {
-        convictions,
-        decisions,
-        faulty: held,
-        findings,
-        network,
-        order: order_value(verdict),
-        run,
-        statuses,
-    };
-    object_of(alloc, verdict_word(verdict), parts)
+    let mut object = ObjectBuilder::new(alloc);
+    object.put_made("convictions", convictions_value(alloc, accused));
+    object.put_made("decisions", all_decided_value(alloc, decisions_in(verdict)));
+    object.put_made("faulty", set_value(alloc, faulty));
+    object.put_made("findings", findings_value(alloc, findings));
+    object.put_text("format", "verdict");
+    object.put_made("network", network_value(alloc, net));
+    object.put("order", order_value(verdict));
+    object.put_made("run", digits_value(alloc, header.run_id()));
+    object.put_made(
+        "statuses",
+        statuses_value(alloc, net, faulty, findings, accused),
+    );
+    object.put_text("verdict", verdict_word(verdict));
+    object.put("version", Value::from(JSON_VERSION));
+    object.finish()
 }
 
 /// Returns the line of JSON of a judgement on a run. It has the run id, the numbers of the network, the generals that

@@ -1,4 +1,4 @@
-use Rattle.std.proofs.Common.{ap, map, ◌∙◌, Some, subst, ◌≤◌, sym, option_map}
+use Rattle.std.proofs.Common.{ap, map, ◌∙◌, subst, ◌≤◌, sym}
 use Rattle.std.proofs.lemmas.Result.{IfOk-weaker}
 use Rattle.serde_json.specs.Data.{Data, depth}
 use Rattle.serde_json.specs.Written.{has_float}
