@@ -4,6 +4,7 @@ ghost use Rattle.clap.specs.Words.{app_of, new_app, rule_of};
 ghost use Rattle.clap.specs.declared.builder.command.Command.TheViews.{out-Command as fields_of};
 ghost use Rattle.gen_program.specs.CommandLine as lines;
 
+use crate::command_builder::CommandBuilder;
 use clap::{Arg, ArgAction, Command};
 use std::alloc::{AllocError, Global};
 
@@ -219,206 +220,202 @@ fn name_argument<'a>(alloc: Global) -> Arg<'a>
         .required(true)
 }
 
-/// Returns a command of this name that takes no option.
-fn plain_command<'a>(alloc: Global, name: &'a str, about: &'a str) -> Command<'a>
-    ensures app { app_of result ≡ new_app name.entry.now }
-    ensures local { (fields_of result).has_globals ≡ false }
-{
-    Command::new(alloc, name).about(about)
-}
-
 /// Returns a command that takes a number of workers, the runs that are asked for and the generals that are held for
 /// faulty, too.
-fn with_asking<'a>(alloc: Global, command: Command<'a>) -> Result<Command<'a>, AllocError>
-    requires { (fields_of command).has_globals ≡ false }
-    ensures app { IfOk result (λ c. app_of c ≡ lines.with_asking (app_of command.entry)) }
-    ensures local { IfOk result (λ c. (fields_of c).has_globals ≡ false) }
+fn with_asking<'a>(alloc: Global, command: CommandBuilder<'a>) -> CommandBuilder<'a>
+    requires { (fields_of command.command).has_globals ≡ false }
+    ensures kept { result.refused ≡ false → command.entry.refused ≡ false }
+    ensures app { result.refused ≡ false
+        → app_of result.command ≡ lines.with_asking (app_of command.entry.command) }
+    ensures local { (fields_of result.command).has_globals ≡ false }
 {
     command
-        .arg(workers_option(alloc))?
-        .arg(asked_option(alloc))?
+        .arg(workers_option(alloc))
+        .arg(asked_option(alloc))
         .arg(faulty_option(alloc))
 }
 
 /// Returns a command whose answer is a verdict of a file: it takes `--strict`, `--json` and FILE, too.
-fn with_verdict<'a>(alloc: Global, command: Command<'a>) -> Result<Command<'a>, AllocError>
-    requires { (fields_of command).has_globals ≡ false }
-    ensures app { IfOk result (λ c. app_of c ≡ lines.with_verdict (app_of command.entry)) }
-    ensures local { IfOk result (λ c. (fields_of c).has_globals ≡ false) }
+fn with_verdict<'a>(alloc: Global, command: CommandBuilder<'a>) -> CommandBuilder<'a>
+    requires { (fields_of command.command).has_globals ≡ false }
+    ensures kept { result.refused ≡ false → command.entry.refused ≡ false }
+    ensures app { result.refused ≡ false
+        → app_of result.command ≡ lines.with_verdict (app_of command.entry.command) }
+    ensures local { (fields_of result.command).has_globals ≡ false }
 {
     command
-        .arg(strict_flag(alloc))?
-        .arg(json_flag(alloc, ONE_OBJECT))?
+        .arg(strict_flag(alloc))
+        .arg(json_flag(alloc, ONE_OBJECT))
         .arg(file_argument(alloc))
 }
 
 /// Returns the command `decide`, which decides a scenario.
-fn decide_command<'a>(alloc: Global) -> Result<Command<'a>, AllocError>
-    ensures app { IfOk result (λ c. app_of c ≡ lines.decide) }
-    ensures local { IfOk result (λ c. (fields_of c).has_globals ≡ false) }
+fn decide_command<'a>(alloc: Global) -> CommandBuilder<'a>
+    ensures app { result.refused ≡ false → app_of result.command ≡ lines.decide }
+    ensures local { (fields_of result.command).has_globals ≡ false }
 {
     let about = "Reads a scenario and prints what each general decides";
-    plain_command(alloc, "decide", about)
-        .arg(json_flag(alloc, ONE_OBJECT))?
+    CommandBuilder::new(alloc, "decide", about)
+        .arg(json_flag(alloc, ONE_OBJECT))
         .arg(file_argument(alloc))
 }
 
 /// Returns the command `run`, which runs a scenario.
-fn run_command<'a>(alloc: Global) -> Result<Command<'a>, AllocError>
-    ensures app { IfOk result (λ c. app_of c ≡ lines.run) }
-    ensures local { IfOk result (λ c. (fields_of c).has_globals ≡ false) }
+fn run_command<'a>(alloc: Global) -> CommandBuilder<'a>
+    ensures app { result.refused ≡ false → app_of result.command ≡ lines.run }
+    ensures local { (fields_of result.command).has_globals ≡ false }
 {
     let about = "Reads a scenario with a seed, runs it and writes its bundle";
-    plain_command(alloc, "run", about)
-        .arg(capacity_option(alloc))?
-        .arg(print_run_flag(alloc))?
+    CommandBuilder::new(alloc, "run", about)
+        .arg(capacity_option(alloc))
+        .arg(print_run_flag(alloc))
         .arg(file_argument(alloc))
 }
 
 /// Returns the command `judge`, which runs a scenario and audits it.
-fn judge_command<'a>(alloc: Global) -> Result<Command<'a>, AllocError>
-    ensures app { IfOk result (λ c. app_of c ≡ lines.judge) }
-    ensures local { IfOk result (λ c. (fields_of c).has_globals ≡ false) }
+fn judge_command<'a>(alloc: Global) -> CommandBuilder<'a>
+    ensures app { result.refused ≡ false → app_of result.command ≡ lines.judge }
+    ensures local { (fields_of result.command).has_globals ≡ false }
 {
     let about =
         "Reads a scenario with a seed, runs it while its logs are audited, and prints the verdict";
-    let command = plain_command(alloc, "judge", about)
-        .arg(capacity_option(alloc))?
-        .arg(workers_option(alloc))?;
+    let command = CommandBuilder::new(alloc, "judge", about)
+        .arg(capacity_option(alloc))
+        .arg(workers_option(alloc));
     with_verdict(alloc, command)
 }
 
 /// Returns the command `campaign`, which runs a campaign.
-fn campaign_command<'a>(alloc: Global) -> Result<Command<'a>, AllocError>
-    ensures app { IfOk result (λ c. app_of c ≡ lines.campaign) }
-    ensures local { IfOk result (λ c. (fields_of c).has_globals ≡ false) }
+fn campaign_command<'a>(alloc: Global) -> CommandBuilder<'a>
+    ensures app { result.refused ≡ false → app_of result.command ≡ lines.campaign }
+    ensures local { (fields_of result.command).has_globals ≡ false }
 {
     let about = "Reads the text of a campaign, runs it and writes the bundles of its runs";
-    plain_command(alloc, "campaign", about)
-        .arg(capacity_option(alloc))?
-        .arg(print_run_flag(alloc))?
+    CommandBuilder::new(alloc, "campaign", about)
+        .arg(capacity_option(alloc))
+        .arg(print_run_flag(alloc))
         .arg(file_argument(alloc))
 }
 
 /// Returns the command `audit`, which audits a bundle or a campaign.
-fn audit_command<'a>(alloc: Global) -> Result<Command<'a>, AllocError>
-    ensures app { IfOk result (λ c. app_of c ≡ lines.audit) }
-    ensures local { IfOk result (λ c. (fields_of c).has_globals ≡ false) }
+fn audit_command<'a>(alloc: Global) -> CommandBuilder<'a>
+    ensures app { result.refused ≡ false → app_of result.command ≡ lines.audit }
+    ensures local { (fields_of result.command).has_globals ≡ false }
 {
     let about = "Reads a bundle of logs, or a campaign, and prints whether a run explains them";
-    let command = with_asking(alloc, plain_command(alloc, "audit", about))?;
+    let command = with_asking(alloc, CommandBuilder::new(alloc, "audit", about));
     with_verdict(alloc, command)
 }
 
 /// Returns the command `draw`, which draws a bundle or a campaign.
-fn draw_command<'a>(alloc: Global) -> Result<Command<'a>, AllocError>
-    ensures app { IfOk result (λ c. app_of c ≡ lines.draw) }
-    ensures local { IfOk result (λ c. (fields_of c).has_globals ≡ false) }
+fn draw_command<'a>(alloc: Global) -> CommandBuilder<'a>
+    ensures app { result.refused ≡ false → app_of result.command ≡ lines.draw }
+    ensures local { (fields_of result.command).has_globals ≡ false }
 {
     let about = "Reads a bundle of logs, or a campaign, and writes its picture, an SVG text";
-    with_asking(alloc, plain_command(alloc, "draw", about))?.arg(file_argument(alloc))
+    with_asking(alloc, CommandBuilder::new(alloc, "draw", about)).arg(file_argument(alloc))
 }
 
 /// Returns the command `accuse`, which accuses a general.
-fn accuse_command<'a>(alloc: Global) -> Result<Command<'a>, AllocError>
-    ensures app { IfOk result (λ c. app_of c ≡ lines.accuse) }
-    ensures local { IfOk result (λ c. (fields_of c).has_globals ≡ false) }
+fn accuse_command<'a>(alloc: Global) -> CommandBuilder<'a>
+    ensures app { result.refused ≡ false → app_of result.command ≡ lines.accuse }
+    ensures local { (fields_of result.command).has_globals ≡ false }
 {
     let about = "Reads a bundle or a campaign and writes the evidence against a general";
-    plain_command(alloc, "accuse", about)
-        .arg(general_option(alloc))?
-        .arg(asked_option(alloc))?
+    CommandBuilder::new(alloc, "accuse", about)
+        .arg(general_option(alloc))
+        .arg(asked_option(alloc))
         .arg(file_argument(alloc))
 }
 
 /// Returns the command `evidence`, which checks evidence.
-fn evidence_command<'a>(alloc: Global) -> Result<Command<'a>, AllocError>
-    ensures app { IfOk result (λ c. app_of c ≡ lines.evidence) }
-    ensures local { IfOk result (λ c. (fields_of c).has_globals ≡ false) }
+fn evidence_command<'a>(alloc: Global) -> CommandBuilder<'a>
+    ensures app { result.refused ≡ false → app_of result.command ≡ lines.evidence }
+    ensures local { (fields_of result.command).has_globals ≡ false }
 {
     let about = "Reads evidence and prints whether it holds";
-    plain_command(alloc, "evidence", about)
-        .arg(asked_option(alloc))?
-        .arg(json_flag(alloc, ONE_OBJECT))?
+    CommandBuilder::new(alloc, "evidence", about)
+        .arg(asked_option(alloc))
+        .arg(json_flag(alloc, ONE_OBJECT))
         .arg(file_argument(alloc))
 }
 
 /// Returns the command `show`, which says what a file is.
-fn show_command<'a>(alloc: Global) -> Result<Command<'a>, AllocError>
-    ensures app { IfOk result (λ c. app_of c ≡ lines.show) }
-    ensures local { IfOk result (λ c. (fields_of c).has_globals ≡ false) }
+fn show_command<'a>(alloc: Global) -> CommandBuilder<'a>
+    ensures app { result.refused ≡ false → app_of result.command ≡ lines.show }
+    ensures local { (fields_of result.command).has_globals ≡ false }
 {
     let about =
         "Reads a bundle, a campaign, evidence or a header, and prints what it says, a line for each fact";
-    plain_command(alloc, "show", about)
-        .arg(asked_option(alloc))?
-        .arg(json_flag(alloc, OBJECT_IN_EACH_LINE))?
+    CommandBuilder::new(alloc, "show", about)
+        .arg(asked_option(alloc))
+        .arg(json_flag(alloc, OBJECT_IN_EACH_LINE))
         .arg(file_argument(alloc))
 }
 
 /// Returns the command `root`, which makes the root of a seed.
-fn root_command<'a>(alloc: Global) -> Result<Command<'a>, AllocError>
-    ensures app { IfOk result (λ c. app_of c ≡ lines.root) }
-    ensures local { IfOk result (λ c. (fields_of c).has_globals ≡ false) }
+fn root_command<'a>(alloc: Global) -> CommandBuilder<'a>
+    ensures app { result.refused ≡ false → app_of result.command ≡ lines.root }
+    ensures local { (fields_of result.command).has_globals ≡ false }
 {
     let about = "Reads a seed of 32 bytes and prints the root of its keys";
-    plain_command(alloc, "root", about)
-        .arg(tall_flag(alloc))?
+    CommandBuilder::new(alloc, "root", about)
+        .arg(tall_flag(alloc))
         .arg(file_argument(alloc))
 }
 
 /// Returns the command `header`, which makes a header of its text.
-fn header_command<'a>(alloc: Global) -> Result<Command<'a>, AllocError>
-    ensures app { IfOk result (λ c. app_of c ≡ lines.header) }
-    ensures local { IfOk result (λ c. (fields_of c).has_globals ≡ false) }
+fn header_command<'a>(alloc: Global) -> CommandBuilder<'a>
+    ensures app { result.refused ≡ false → app_of result.command ≡ lines.header }
+    ensures local { (fields_of result.command).has_globals ≡ false }
 {
     let about = "Reads the text of a header, with a root for each general, and writes the header";
-    plain_command(alloc, "header", about)
-        .arg(slot_option(alloc))?
-        .arg(print_run_flag(alloc))?
+    CommandBuilder::new(alloc, "header", about)
+        .arg(slot_option(alloc))
+        .arg(print_run_flag(alloc))
         .arg(file_argument(alloc))
 }
 
 /// Returns the command `bundle`, which joins a header and logs.
-fn bundle_command<'a>(alloc: Global) -> Result<Command<'a>, AllocError>
-    ensures app { IfOk result (λ c. app_of c ≡ lines.bundle) }
-    ensures local { IfOk result (λ c. (fields_of c).has_globals ≡ false) }
+fn bundle_command<'a>(alloc: Global) -> CommandBuilder<'a>
+    ensures app { result.refused ≡ false → app_of result.command ≡ lines.bundle }
+    ensures local { (fields_of result.command).has_globals ≡ false }
 {
     let about = "Reads a header and logs, each from its file, and writes their bundle";
-    plain_command(alloc, "bundle", about)
-        .arg(faulty_option(alloc))?
-        .arg(first_file_argument(alloc, "HEADER", "The file of the header"))?
+    CommandBuilder::new(alloc, "bundle", about)
+        .arg(faulty_option(alloc))
+        .arg(first_file_argument(alloc, "HEADER", "The file of the header"))
         .arg(logs_argument(alloc))
 }
 
 /// Returns the command `answer`, which answers evidence by a log.
-fn answer_command<'a>(alloc: Global) -> Result<Command<'a>, AllocError>
-    ensures app { IfOk result (λ c. app_of c ≡ lines.answer) }
-    ensures local { IfOk result (λ c. (fields_of c).has_globals ≡ false) }
+fn answer_command<'a>(alloc: Global) -> CommandBuilder<'a>
+    ensures app { result.refused ≡ false → app_of result.command ≡ lines.answer }
+    ensures local { (fields_of result.command).has_globals ≡ false }
 {
     let about = "Reads evidence and a log of the accused, and prints what the log answers";
-    plain_command(alloc, "answer", about)
-        .arg(first_file_argument(alloc, "EVIDENCE", "The file of the evidence"))?
+    CommandBuilder::new(alloc, "answer", about)
+        .arg(first_file_argument(alloc, "EVIDENCE", "The file of the evidence"))
         .arg(log_argument(alloc))
 }
 
 /// Returns the command `explain`, which says what a name means.
-fn explain_command<'a>(alloc: Global) -> Result<Command<'a>, AllocError>
-    ensures app { IfOk result (λ c. app_of c ≡ lines.explain) }
-    ensures local { IfOk result (λ c. (fields_of c).has_globals ≡ false) }
+fn explain_command<'a>(alloc: Global) -> CommandBuilder<'a>
+    ensures app { result.refused ≡ false → app_of result.command ≡ lines.explain }
+    ensures local { (fields_of result.command).has_globals ≡ false }
 {
     let about = "Prints what a name means that stands in an answer; reads no input";
-    plain_command(alloc, "explain", about).arg(name_argument(alloc))
+    CommandBuilder::new(alloc, "explain", about).arg(name_argument(alloc))
 }
 
 /// Returns the command `words`, which says what the lines of a text mean.
-fn words_command<'a>(alloc: Global) -> Result<Command<'a>, AllocError>
-    ensures app { IfOk result (λ c. app_of c ≡ lines.words) }
-    ensures local { IfOk result (λ c. (fields_of c).has_globals ≡ false) }
+fn words_command<'a>(alloc: Global) -> CommandBuilder<'a>
+    ensures app { result.refused ≡ false → app_of result.command ≡ lines.words }
+    ensures local { (fields_of result.command).has_globals ≡ false }
 {
     let about =
         "Reads a text of decisions or of a verdict, and prints it with what each line means";
-    plain_command(alloc, "words", about).arg(file_argument(alloc))
+    CommandBuilder::new(alloc, "words", about).arg(file_argument(alloc))
 }
 
 /// Returns the command line without its subcommands. One of them is required.
@@ -432,122 +429,46 @@ fn bare_command<'a>(alloc: Global) -> Command<'a>
         .subcommand_required(true)
 }
 
-/// Returns the command line with the command `decide`.
-fn with_decide<'a>(alloc: Global) -> Result<Command<'a>, AllocError>
-    ensures { IfOk result (λ c. app_of c ≡ lines.with_decide) }
+/// Returns the command line with the commands that read a scenario or a campaign.
+fn with_runs<'a>(alloc: Global) -> CommandBuilder<'a>
+    ensures { result.refused ≡ false → app_of result.command ≡ lines.with_campaign }
 {
-    let decide = decide_command(alloc)?;
-    bare_command(alloc).subcommand(decide)
+    CommandBuilder::of(alloc, bare_command(alloc))
+        .subcommand(decide_command(alloc))
+        .subcommand(run_command(alloc))
+        .subcommand(judge_command(alloc))
+        .subcommand(campaign_command(alloc))
 }
 
-/// Returns the command line with the commands up to `run`.
-fn with_runs<'a>(alloc: Global) -> Result<Command<'a>, AllocError>
-    ensures { IfOk result (λ c. app_of c ≡ lines.with_runs) }
+/// Returns the command line with these, and with the commands that read a bundle, evidence or a file.
+fn with_files<'a>(alloc: Global) -> CommandBuilder<'a>
+    ensures { result.refused ≡ false → app_of result.command ≡ lines.with_show }
 {
-    let run = run_command(alloc)?;
-    with_decide(alloc)?.subcommand(run)
+    with_runs(alloc)
+        .subcommand(audit_command(alloc))
+        .subcommand(draw_command(alloc))
+        .subcommand(accuse_command(alloc))
+        .subcommand(evidence_command(alloc))
+        .subcommand(show_command(alloc))
 }
 
-/// Returns the command line with the commands up to `judge`.
-fn with_judge<'a>(alloc: Global) -> Result<Command<'a>, AllocError>
-    ensures { IfOk result (λ c. app_of c ≡ lines.with_judge) }
+/// Returns the command line with these, and with the commands that prepare a run or a dispute.
+fn with_preparing<'a>(alloc: Global) -> CommandBuilder<'a>
+    ensures { result.refused ≡ false → app_of result.command ≡ lines.with_answer }
 {
-    let judge = judge_command(alloc)?;
-    with_runs(alloc)?.subcommand(judge)
-}
-
-/// Returns the command line with the commands up to `campaign`.
-fn with_campaign<'a>(alloc: Global) -> Result<Command<'a>, AllocError>
-    ensures { IfOk result (λ c. app_of c ≡ lines.with_campaign) }
-{
-    let campaign = campaign_command(alloc)?;
-    with_judge(alloc)?.subcommand(campaign)
-}
-
-/// Returns the command line with the commands up to `audit`.
-fn with_audit<'a>(alloc: Global) -> Result<Command<'a>, AllocError>
-    ensures { IfOk result (λ c. app_of c ≡ lines.with_audit) }
-{
-    let audit = audit_command(alloc)?;
-    with_campaign(alloc)?.subcommand(audit)
-}
-
-/// Returns the command line with the commands up to `draw`.
-fn with_draw<'a>(alloc: Global) -> Result<Command<'a>, AllocError>
-    ensures { IfOk result (λ c. app_of c ≡ lines.with_draw) }
-{
-    let draw = draw_command(alloc)?;
-    with_audit(alloc)?.subcommand(draw)
-}
-
-/// Returns the command line with the commands up to `accuse`, without `evidence`.
-fn with_bundles<'a>(alloc: Global) -> Result<Command<'a>, AllocError>
-    ensures { IfOk result (λ c. app_of c ≡ lines.with_bundles) }
-{
-    let accuse = accuse_command(alloc)?;
-    with_draw(alloc)?.subcommand(accuse)
-}
-
-/// Returns the command line with the commands up to `evidence`.
-fn with_evidence<'a>(alloc: Global) -> Result<Command<'a>, AllocError>
-    ensures { IfOk result (λ c. app_of c ≡ lines.with_evidence) }
-{
-    let evidence = evidence_command(alloc)?;
-    with_bundles(alloc)?.subcommand(evidence)
-}
-
-/// Returns the command line with the commands up to `show`.
-fn with_show<'a>(alloc: Global) -> Result<Command<'a>, AllocError>
-    ensures { IfOk result (λ c. app_of c ≡ lines.with_show) }
-{
-    let show = show_command(alloc)?;
-    with_evidence(alloc)?.subcommand(show)
-}
-
-/// Returns the command line with the commands up to `root`.
-fn with_root<'a>(alloc: Global) -> Result<Command<'a>, AllocError>
-    ensures { IfOk result (λ c. app_of c ≡ lines.with_root) }
-{
-    let root = root_command(alloc)?;
-    with_show(alloc)?.subcommand(root)
-}
-
-/// Returns the command line with the commands up to `header`.
-fn with_header<'a>(alloc: Global) -> Result<Command<'a>, AllocError>
-    ensures { IfOk result (λ c. app_of c ≡ lines.with_header) }
-{
-    let header = header_command(alloc)?;
-    with_root(alloc)?.subcommand(header)
-}
-
-/// Returns the command line with the commands up to `bundle`.
-fn with_bundle<'a>(alloc: Global) -> Result<Command<'a>, AllocError>
-    ensures { IfOk result (λ c. app_of c ≡ lines.with_bundle) }
-{
-    let bundle = bundle_command(alloc)?;
-    with_header(alloc)?.subcommand(bundle)
-}
-
-/// Returns the command line with the commands up to `answer`.
-fn with_answer<'a>(alloc: Global) -> Result<Command<'a>, AllocError>
-    ensures { IfOk result (λ c. app_of c ≡ lines.with_answer) }
-{
-    let answer = answer_command(alloc)?;
-    with_bundle(alloc)?.subcommand(answer)
-}
-
-/// Returns the command line with the commands up to `explain`.
-fn with_explain<'a>(alloc: Global) -> Result<Command<'a>, AllocError>
-    ensures { IfOk result (λ c. app_of c ≡ lines.with_explain) }
-{
-    let explain = explain_command(alloc)?;
-    with_answer(alloc)?.subcommand(explain)
+    with_files(alloc)
+        .subcommand(root_command(alloc))
+        .subcommand(header_command(alloc))
+        .subcommand(bundle_command(alloc))
+        .subcommand(answer_command(alloc))
 }
 
 /// Returns the command line of the program, with all its commands. It fails only if memory is refused.
 pub fn tool_command<'a>(alloc: Global) -> Result<Command<'a>, AllocError>
     ensures { IfOk result (λ c. app_of c ≡ lines.tool) }
 {
-    let words = words_command(alloc)?;
-    with_explain(alloc)?.subcommand(words)
+    with_preparing(alloc)
+        .subcommand(explain_command(alloc))
+        .subcommand(words_command(alloc))
+        .finish()
 }

@@ -8,6 +8,7 @@
 
 mod blaming;
 mod choices;
+mod command_builder;
 mod command_line;
 mod naming;
 mod program;
