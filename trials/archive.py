@@ -10,6 +10,7 @@ import shutil
 import subprocess
 import tempfile
 
+from layout import Bundle
 from programs import run, side_by_side
 from scenarios import chain, scenario
 
@@ -117,10 +118,21 @@ class Trial:
         told = sorted(tuple(line.split(b"\t")) for line in end.wrote.splitlines())
         wanted = sorted((b"fault B2 byte 0" if name == JUNK else b"-", prefix + spelled(name)) for name in self.names)
         self.tally.hold("the lists", None if (end.status, told) == (0, wanted) else f"{end}")
+        self.try_unreadable()
         env = {**self.env, "SM_TOOL": "/nowhere/sm_tool"}
         for status, words, how in [(3, (self.folder,), {"env": env}), (2, (), {}), (2, ("nowhere",), {}), (2, (SCRIPTS,), {})]:
             end = self.script("list_folder.sh", *words, **how)
             self.tally.hold(f"the lists of {words}", None if (end.status, end.wrote) == (status, b"") else f"{end}")
+
+    def try_unreadable(self):
+        """A bundle with a log that does not read has its list, and nothing beside it."""
+        with open(os.path.join(self.folder, self.names[0]), "rb") as file:
+            shown = Bundle(file.read())
+        shown.exhibits[0] = (shown.exhibits[0][0], b"no log")
+        write(os.path.join(self.place, "unreadable", "one.bundle"), shown.spell())
+        end = self.script("list_folder.sh", "unreadable")
+        wanted = (0, b"-\tunreadable/one.bundle\n")
+        self.tally.hold("the list of a log that does not read", None if (end.status, end.wrote) == wanted else f"{end}")
 
     def try_shares(self):
         for share in range(3):

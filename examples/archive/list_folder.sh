@@ -26,7 +26,7 @@ xargs -0 -n 16 sh -c '
         { shown=$("${SM_TOOL:-sm_tool}" show 2>/dev/null); status=$?; } <"$file"
         case $status in 126 | 127) exit 255 ;; esac
         printf "%s\n" "${shown:-unread}" |
-            sed -n "s/^faulty //p; /^fault /p; /^unread/p; 1s/^format header .*/no bundle/p; 1s/^format evidence .*/no bundle/p" |
+            sed -n "s/^faulty //p; /^fault /p; /^unread$/p; 1s/^format header .*/no bundle/p; 1s/^format evidence .*/no bundle/p" |
             paste -s -d ";" -
     done' list_folder <"$scratch/files" >"$scratch/lists" || {
     echo "list_folder.sh: the program can't be run" >&2
