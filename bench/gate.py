@@ -108,8 +108,9 @@ def print_table(file):
     sums = [sum(seconds.get((crate, it), 0) for crate in crates) for it in STEPS]
     print(f"| all | {' | '.join(str(it) for it in sums)} | {sum(sums)} |")
     first = rows[0]
-    print(f"\n{seconds['all', 'all'] / 60:.0f} processor minutes and {seconds['all', 'wall'] / 60:.0f} minutes of wall time, "
-          f"{first['kit']}, {first['cores']} cores, {first['date']}")
+    wall = seconds.get(("all", "wall"))
+    told = f" and {wall / 60:.0f} minutes of wall time" if wall else ""
+    print(f"\n{seconds['all', 'all'] / 60:.0f} processor minutes{told}, {first['kit']}, {first['cores']} cores, {first['date']}")
 
 
 def main():
