@@ -9,7 +9,9 @@ has a row for each crate and step: the step is `proof`, `tests` (which prove the
 crate's must-fail edits, with the check that they begin with and the one that they end with), and its seconds are processor
 seconds, user and system. They are those that the system counted for each program that the gate started, so other work on the
 machine changes them little. The row `toolchain` has what the gate's own process took, and the row `all` the whole, once as
-processor seconds and once, as the step `wall`, as seconds of wall time. Each row has the kit, the number of cores and the date.
+processor seconds and once, as the step `wall`, as seconds of wall time. Each row has the kit, the number of cores, the date and
+the commit, which is empty where git does not tell it. How a step is told from another depends on the kit, so other kits than
+those that this was tried with are refused.
 """
 import collections
 import csv
@@ -24,8 +26,9 @@ import sys
 import time
 
 FILE = os.path.join(os.path.dirname(os.path.abspath(__file__)), "gate.csv")
-COLUMNS = ["crate", "step", "seconds", "kit", "cores", "date"]
+COLUMNS = ["crate", "step", "seconds", "kit", "cores", "date", "commit"]
 STEPS = ["proof", "tests", "edits"]
+KITS = ("rattle-kit-13b", "rattle-kit-13f")
 
 
 def load_gate():
@@ -79,6 +82,9 @@ def run_gate(file):
     """Runs the gate and writes the rows. Returns the gate's status."""
     spent, since = collections.defaultdict(float), time.monotonic()
     kit = subprocess.run(["rt", "version"], capture_output=True, text=True, check=True).stdout.split()[0]
+    if kit not in KITS:
+        sys.exit(f"gate: the toolchain is {kit}, and this was tried with {' and '.join(KITS)} alone")
+    commit = subprocess.run(["git", "rev-parse", "--short", "HEAD"], capture_output=True, text=True).stdout.strip()
     subprocess.Popen = counting(spent)
     status = load_gate().main(["ci"])
     sys.stdout.flush()
@@ -87,7 +93,7 @@ def run_gate(file):
     spent["toolchain", "proof"] += taken
     spent["all", "all"] = taken + of_all.ru_utime + of_all.ru_stime
     spent["all", "wall"] = time.monotonic() - since
-    behind = [kit, os.cpu_count(), datetime.date.today().isoformat()]
+    behind = [kit, os.cpu_count(), datetime.date.today().isoformat(), commit]
     with open(file, "w", encoding="utf-8", newline="") as out:
         rows = csv.writer(out, lineterminator="\n")
         rows.writerow(COLUMNS)

@@ -18,8 +18,8 @@
    next slot. Nodes of one seed in different slots may be there at the same time. A node that exists before a fork is
    used on one side alone, and on the other side it is freed at most.
 
-   Each function but sm_node_free and sm_node_version returns one of these numbers. Not every function returns each of
-   them. sm_status.h has them, and what may change between versions.
+   Each function of the archive but sm_node_free and sm_node_version returns one of these numbers. Not every function
+   returns each of them. sm_status.h has them, and what may change between versions.
 
      SM_OK       it was done
      SM_MISUSE   the call is not allowed here, or a pointer is null though there are bytes, and nothing was changed
@@ -190,8 +190,8 @@ uint32_t sm_node_bundle_parted(const uint8_t *header, size_t header_bytes, uint3
                                size_t log_count, const uint8_t *bytes, size_t byte_count, uint8_t *room,
                                size_t room_bytes, size_t *count, uint32_t *fault) SM_CALL(1, 4, 6, 8, 10, 11);
 
-/* Reads the numbers of a header from its bytes. They stay as they were if it is not SM_OK. Returns SM_OK, SM_MISUSE,
-   SM_FAULT or SM_MEMORY. */
+/* Reads the numbers of a header from its bytes. The slot of a header of version 1 is 0. The numbers stay as they were if
+   it is not SM_OK. Returns SM_OK, SM_MISUSE, SM_FAULT or SM_MEMORY. */
 uint32_t sm_node_header_numbers(const uint8_t *header, size_t header_bytes, sm_numbers *numbers, uint32_t *fault)
     SM_CALL(1, 3, 4);
 

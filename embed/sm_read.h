@@ -1,8 +1,11 @@
 /* Reads the texts of answers into structs: verdicts with their findings and convictions, and decisions.
 
    sm_read_judgement reads the text of sm_audit, sm_audit_of and sm_audit_as, and sm_read_decisions that of sm_decide
-   and sm_decide_as, in the form SM_TEXT. They read what docs/FORMATS.md has, byte for byte, and nothing else. So a
-   caller parses neither text. A general is a node, and an order is a value.
+   and sm_decide_as, in the form SM_TEXT. So a caller parses neither text. A general is a node, and an order is a value.
+
+   A text is read if and only if each of its lines is one that docs/FORMATS.md has, byte for byte, and lines of one kind
+   stand together as there. Which lines of a kind there are, and in which order, is not looked at. So give a text of the
+   library: a text that somebody else wrote may have a general twice, or a no without a finding.
 
    Each function returns one of these numbers:
 
