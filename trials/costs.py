@@ -15,6 +15,8 @@ from scenarios import chain, scenario, signed, sixteen
 HERE = os.path.dirname(os.path.abspath(__file__))
 WORKERS = [1, 2, 5, 16]
 CAPACITIES = 1, 16
+# Ends of edges between 16 generals who are all neighbours.
+ENDS = 16 * 15
 MIB = 1 << 20
 # Bytes of a word of the machine. What runs in threads takes is not the same each time, by some thousand bytes.
 WORD = 8
@@ -94,9 +96,9 @@ def try_trees(counter, text, campaign):
 
 def try_capacity(counter, text, campaign):
     """An edge of a larger capacity takes more memory: a word of the machine at least for each frame more that it holds."""
-    for command, given, ends in (("run", text, 16 * 15), ("judge", text, 16 * 15), ("campaign", campaign, 2 * 3)):
+    for command, given in (("run", text), ("judge", text), ("campaign", campaign)):
         small, large = (counter.asked([command, "--capacity", str(it)], given).allocated for it in CAPACITIES)
-        least, name = WORD * ends * (CAPACITIES[1] - CAPACITIES[0]), f"memory of {command} --capacity {CAPACITIES[1]}"
+        least, name = WORD * ENDS * (CAPACITIES[1] - CAPACITIES[0]), f"memory of {command} --capacity {CAPACITIES[1]}"
         more = large - small
         counter.tally.hold(name, None if more >= least else f"{more} bytes more than with --capacity {CAPACITIES[0]}, not {least}")
 
@@ -138,7 +140,7 @@ def trials(program, tally):
         counter = Counter(program, tally, folder)
         try_workers(counter, text, bundle)
         try_trees(counter, text, campaign)
-        try_capacity(counter, text, campaign)
+        try_capacity(counter, text, b"campaign 1\n" + sixteen(slot=0))
         try_peak(counter, bundle)
         texts = signed()
         try_board(counter, *(run(program, ["run"], texts[name]).wrote for name in ("pair", "none_left")))
