@@ -6,7 +6,7 @@ ghost use Rattle.gen_report.specs.LineReading.{fault_at};
 ghost use Rattle.gen_report.specs.declared.fault.LineFault.TheVariants.{BadSeed};
 ghost use Rattle.gen_jobs.specs.Answering.{Answers};
 ghost use Rattle.gen_jobs.specs.Ends.{IsTaken, KeepsUntilWhole};
-ghost use Rattle.gen_jobs.specs.Run.{IsOfRun, IsRun, IsRunFault, MakesBundle, line_after_order};
+ghost use Rattle.gen_jobs.specs.Run.{IsOfRun, IsRunAnswer, IsRunFault, MakesBundle, line_after_order};
 ghost use Rattle.gen_scenario.specs.Rows.{logs_of_all};
 ghost use Rattle.gen_jobs.specs.declared.ends.JobFault.TheVariants as faults;
 
@@ -106,7 +106,7 @@ fn bundle_of<T: Threads + Wait + Sync>(
     input: &[u8],
 ) -> Result<Bundle, JobFault>
     requires { 0 < capacity }
-    ensures answer { IfOk result (λ bundle. IsRun input.now (bundle_spelling bundle) false) }
+    ensures answer { IfOk result (λ bundle. IsRunAnswer input.now (bundle_spelling bundle) false) }
     ensures fault { IfErr result (IsRunFault input.now) }
 {
     match read_scenario(alloc, input)? {
@@ -130,7 +130,7 @@ pub fn run_in_pieces<T: Threads + Wait + Sync>(
     input: &[u8],
 ) -> Result<BundleText, JobFault>
     requires { 0 < capacity }
-    ensures answer { IfOk result (λ text. IsRun input.now text false) }
+    ensures answer { IfOk result (λ text. IsRunAnswer input.now text false) }
     ensures fault { IfErr result (IsRunFault input.now) }
 {
     let bundle = bundle_of(rt, alloc, capacity, input)?;
@@ -153,7 +153,7 @@ pub fn run<T: Threads + Wait + Sync>(
     input: &[u8],
 ) -> Result<Output, JobFault>
     requires { 0 < capacity }
-    ensures answer { IfOk result (λ o. IsRun input.now o.text.items o.negative) }
+    ensures answer { IfOk result (λ o. IsRunAnswer input.now o.text.items o.negative) }
     ensures fault { IfErr result (IsRunFault input.now) }
 {
     let bundle = bundle_of(rt, alloc, capacity, input)?;
@@ -182,7 +182,7 @@ pub fn run_engine<T: Threads + Wait + Sync, R: Read, W: Write>(
     requires { 0 < capacity }
     // What is written is the bundle of the run of the scenario that was read.
     ensures answers { IfSome (R.remaining reader.old) (λ input.
-        Answers (IsRun input) (IsRunFault input)
+        Answers (IsRunAnswer input) (IsRunFault input)
         (W.contents writer.old) (W.contents writer.new) result) }
     // What was read is within the limit.
     ensures taken { IfSome (R.remaining reader.old) (λ input. IsTaken input result) }

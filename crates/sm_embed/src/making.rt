@@ -1,7 +1,7 @@
 //! Keeps an answer for a caller in another language.
 ghost use Rattle.std.specs.Prelude.{◌≡◌, false, None, true};
 ghost use Rattle.sm_embed.specs.Handing.{IsOfInput, PutsText};
-ghost use Rattle.sm_embed.specs.Making.{HandsKept, Keeps, KeepsAnswer, KeepsFault, KeepsOver, asked_in, form_in};
+ghost use Rattle.sm_embed.specs.Making.{HandsKept, HoldsText, KeepsAnswer, KeepsFault, KeepsOver, asked_in, form_in};
 
 use crate::handing::put;
 use crate::kept::Kept;
@@ -46,7 +46,7 @@ pub(crate) fn form_in(number: u32) -> Option<Form>
 
 /// Keeps a text, and returns whether memory was there for it. What was held before is dropped.
 fn keep_text(alloc: Global, text: Vec<u8>, answer: &mut SmAnswer) -> bool
-    ensures kept { result ≡ true → Keeps answer.new.held text.items }
+    ensures kept { result ≡ true → HoldsText answer.new.held text.items }
     ensures nothing { result ≡ false → answer.new.held ≡ None }
 {
     match Box::new(alloc, Kept { text }) {
