@@ -11,10 +11,10 @@ ghost use Rattle.gen_jobs.specs.declared.faulty.Faulty.TheVariants.{These};
 
 use crate::ends::JobFault;
 use crate::faulty::Faulty;
-use crate::running::walks_between;
 use gen_audit::{Bundle, BundleFault, write_bundle};
 use gen_campaign::{CampaignBundle, CampaignFault, read_taken_campaign, several_front};
 use gen_local::Exhibit;
+use gen_prepare::walks_between;
 use gen_types::{GeneralSet, ReadError};
 use std::alloc::{AllocError, Global};
 

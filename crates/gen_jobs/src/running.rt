@@ -1,7 +1,6 @@
 //! The job `run`: runs a scenario, and writes the bundle of the run.
 ghost use Rattle.std.specs.Prelude.{◌≡◌, ◌<◌, false, IfErr, IfOk, IfSome};
 ghost use Rattle.gen_audit.specs.BundleSpelling.{bundle_spelling};
-ghost use Rattle.gen_audit.specs.WorldBundle.{AreWalksOfRun};
 ghost use Rattle.gen_report.specs.LineReading.{fault_at};
 ghost use Rattle.gen_report.specs.declared.fault.LineFault.TheVariants.{BadSeed};
 ghost use Rattle.gen_jobs.specs.Answering.{Answers};
@@ -17,12 +16,10 @@ use crate::transfer::read_all;
 use gen_audit::{Bundle, write_bundle};
 use gen_local::exhibits_of_logs;
 use gen_log::SealedLog;
-use gen_net::Net;
+use gen_prepare::walks_between;
 use gen_report::{LineFault, ScenarioFault, ScenarioText, read_scenario};
 use gen_scenario::{PlainScenario, Scenario, SignedPlan};
 use gen_threads::{make_trees, run_threads};
-use gen_types::GeneralSet;
-use gen_walks::{WalkFault, Walks, make_walks};
 use std::alloc::{AllocError, Global};
 use std::io::{Read, Write};
 use std::sync::Wait;
@@ -49,21 +46,6 @@ pub(crate) fn make_scenario<R: Threads + Sync>(
     let generals = plan.net().generals();
     let trees = make_trees(rt, alloc, plan.master(), plan.version().height(), generals)?;
     Scenario::of_trees(alloc, plan, trees)
-}
-
-/// Returns the best walks between these generals; none if two of them have no short one.
-pub(crate) fn walks_between(
-    alloc: Global,
-    net: &Net,
-    rest: &GeneralSet,
-) -> Result<Walks, AllocError>
-    ensures { IfOk result (AreWalksOfRun net.now rest.now) }
-{
-    match make_walks(alloc, net, rest) {
-        Ok(walks) => Ok(walks),
-        Err(WalkFault::Memory) => Err(AllocError),
-        Err(_) => Ok(Walks::new(alloc)),
-    }
 }
 
 /// Returns the bundle of a scenario's run with these logs. The generals that have scripts are held for faulty, and all
