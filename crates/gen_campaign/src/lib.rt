@@ -46,7 +46,7 @@ pub use fronts::several_front;
 pub use in_place::audit_campaign_in_place;
 pub use making::make_campaign;
 pub use printing::{
-    one_bundle_is_printed_as_before, places_name_runs, print_campaign, push_across,
+    one_bundle_is_printed_as_before, place_of, places_name_runs, print_campaign, push_across,
 };
 pub use runs::run_campaign;
 pub use series::Campaign;
