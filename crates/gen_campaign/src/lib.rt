@@ -40,7 +40,7 @@ pub use auditing::audit_campaign;
 pub use campaign_fault::CampaignFault;
 pub use campaign_reading::{read_campaign, read_taken_campaign};
 pub use campaign_text::{one_campaign_text, read_campaign_text, texts_make_campaigns};
-pub use campaign_writing::write_campaign;
+pub use campaign_writing::{put_bundles, write_campaign};
 pub use campaigns::CampaignBundle;
 pub use fronts::several_front;
 pub use in_place::audit_campaign_in_place;
