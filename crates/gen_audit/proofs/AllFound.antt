@@ -12,7 +12,7 @@ use Rattle.gen_match.specs.declared.finding.Finding.TheVariants.{Missing, Severa
 use Rattle.gen_match.specs.Matching.{Logs, FindsUnmatched, FindsUnderivable, IsUnmatched, IsUnderivable}
 use Rattle.gen_match.specs.Reports.{told_logs}
 use Rattle.gen_audit.specs.Bundle.{Bundle, IsOfRest, exhibits_of, logs_of}
-use Rattle.gen_audit.specs.Collecting.{Adds, amount_found, shown_found, FindsRead, FindsBetween, FindsPair, FindsEmpty}
+use Rattle.gen_audit.specs.Collecting.{AddsFindings, amount_found, shown_found, FindsRead, FindsBetween, FindsPair, FindsEmpty}
 use Rattle.gen_audit.specs.Findings.{IsFinding}
 use Rattle.gen_audit.specs.LocalFindings.{IsLocal, IsReported}
 use Rattle.gen_audit.specs.Telling.{AreReports}
@@ -117,10 +117,10 @@ module _ (b : Bundle) (logs : Logs) (same : logs ≡ logs_of b) where
 -- the groups, added one behind another
 pub record AddsAll (b : Bundle) (rest : List ℕ) (reports : List LocalReport) (amounts read between pair all : List Finding) : Type 0 where
   pub first : amounts ≡ flat_map (shown_found b.exhibits) rest
-  pub second : Adds (FindsRead rest reports) amounts read
-  pub third : Adds (FindsBetween b.header.network b.faulty (told_logs reports)) read between
-  pub fourth : Adds (FindsPair b.header.network rest b.walks) between pair
-  pub fifth : Adds (FindsEmpty rest) pair all
+  pub second : AddsFindings (FindsRead rest reports) amounts read
+  pub third : AddsFindings (FindsBetween b.header.network b.faulty (told_logs reports)) read between
+  pub fourth : AddsFindings (FindsPair b.header.network rest b.walks) between pair
+  pub fifth : AddsFindings (FindsEmpty rest) pair all
 
 module _ (b : Bundle) (rest : List ℕ) (of_rest : IsListOf rest (IsOfRest b)) (reports : List LocalReport) (are : AreReports b reports) (amounts read between pair all : List Finding) (adds : AddsAll b rest reports amounts read between pair all) where
   same_logs : told_logs reports ≡ logs_of b

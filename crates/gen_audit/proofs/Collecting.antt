@@ -9,17 +9,17 @@ use Rattle.gen_walks.specs.Walks.{Bridges, IsLeastBadPair}
 use Rattle.gen_local.specs.Report.{LocalReport}
 use Rattle.gen_match.specs.declared.finding.Finding.{Finding}
 use Rattle.gen_match.specs.declared.finding.Finding.TheVariants.{Missing, Several, Unreadable, Foreign, Unsigned, Unsealed, Departs, Unmatched, Underivable, Unjoined, Nobody}
-use Rattle.gen_audit.specs.Collecting.{Adds, FindsIn, FindsRead, FindsPair}
+use Rattle.gen_audit.specs.Collecting.{AddsFindings, FindsIn, FindsRead, FindsPair}
 
 -- ---- what is added
 
-pub adds_part : (P : Finding → Type 0) (old part : List Finding) → ((f : Finding) → Contains part f ↔ P f) → Adds P old (old ++ part)
+pub adds_part : (P : Finding → Type 0) (old part : List Finding) → ((f : Finding) → Contains part f ↔ P f) → AddsFindings P old (old ++ part)
 adds_part P old part is f = (
   (λ h. elim (Contains-append_cases old part f h) [ inl before ↦ inl before | inr added ↦ inr ((is f).0 added) ]),
   (λ h. elim h [ inl before ↦ Contains-append_left old part f before | inr p ↦ Contains-append_right old part f ((is f).1 p) ]),
 )
 
-pub adds_both : (P Q : Finding → Type 0) (old mid new : List Finding) → Adds P old mid → Adds Q mid new → Adds (λ f. P f ⊎ Q f) old new
+pub adds_both : (P Q : Finding → Type 0) (old mid new : List Finding) → AddsFindings P old mid → AddsFindings Q mid new → AddsFindings (λ f. P f ⊎ Q f) old new
 adds_both P Q old mid new one other f = (
   (λ h. elim ((other f).0 h) [
     | inl m ↦ elim ((one f).0 m) [ inl before ↦ inl before | inr p ↦ inr (inl p) ]
@@ -32,7 +32,7 @@ adds_both P Q old mid new one other f = (
   ]),
 )
 
-pub adds_as : (P Q : Finding → Type 0) (old new : List Finding) → ((f : Finding) → P f ↔ Q f) → Adds P old new → Adds Q old new
+pub adds_as : (P Q : Finding → Type 0) (old new : List Finding) → ((f : Finding) → P f ↔ Q f) → AddsFindings P old new → AddsFindings Q old new
 adds_as P Q old new same adds f = (
   (λ h. elim ((adds f).0 h) [ inl before ↦ inl before | inr p ↦ inr ((same f).0 p) ]),
   (λ h. elim h [ inl before ↦ (adds f).1 (inl before) | inr q ↦ (adds f).1 (inr ((same f).1 q)) ]),
@@ -79,7 +79,7 @@ module _ (net : Network) (rest : List ℕ) (walks : List (List ℕ)) where
   finds_pair a c least (Underivable x y l v) is = absurd is
   finds_pair a c least Nobody is = absurd is
 
-  pub pair_added : (old : List Finding) (a c : ℕ) → IsLeastBadPair net rest (Bridges net rest walks) a c → Adds (FindsPair net rest walks) old (old ++ Unjoined a c ∷ [])
+  pub pair_added : (old : List Finding) (a c : ℕ) → IsLeastBadPair net rest (Bridges net rest walks) a c → AddsFindings (FindsPair net rest walks) old (old ++ Unjoined a c ∷ [])
   pair_added old a c least = adds_part (FindsPair net rest walks) old (Unjoined a c ∷ []) (λ f. (
     (λ h. elim (Contains_cases (Unjoined a c) f [] h) [ inl e ↦ subst (FindsPair net rest walks) e least | inr none ↦ absurd (Contains_nil f none) ]),
     (λ is. subst (Contains (Unjoined a c ∷ [])) (finds_pair a c least f is) (Contains_here (Unjoined a c) [])),

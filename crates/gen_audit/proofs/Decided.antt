@@ -22,7 +22,7 @@ use Rattle.gen_scenario.proofs.Having.{in_filtered, in_mapped}
 use Rattle.gen_match.specs.Matching.{Logged}
 use Rattle.gen_match.specs.Reports.{entries_told, sole_told, reports_of}
 use Rattle.gen_audit.specs.Bundle.{Bundle, IsBundle, IsOfRest, logs_of}
-use Rattle.gen_audit.specs.Collecting.{DecidesIn, IsOwnOf}
+use Rattle.gen_audit.specs.Collecting.{DecidesIn, ReadsAsOwn}
 use Rattle.gen_audit.specs.Supported.{IsClean, IsSupported, HasFew, AgreeOn}
 use Rattle.gen_audit.specs.Telling.{AreReports}
 use Rattle.gen_audit.specs.Verdict.{IsDecision, AreDecisions}
@@ -56,7 +56,7 @@ module _ (b : Bundle) (bundle : IsBundle b) (clean : IsClean b) (reports : List 
       let one = one_report (reports_of reports g) k.0 (reports_tell_logs b reports are g ∙ k.1) in
       (one.0, one.1, (k.0, one.2))
 
-  pub somebody_decided : (g : ℕ) → IsOfRest b g → (r : LocalReport) × Contains reports r × IsOwnOf r g
+  pub somebody_decided : (g : ℕ) → IsOfRest b g → (r : LocalReport) × Contains reports r × ReadsAsOwn r g
   somebody_decided g of_rest =
       let h = his_report g of_rest in
       let k = filtered reports g h.0 (subst (λ rs. Contains rs h.0) (sym h.1) (Contains_here h.0 [])) in
@@ -73,11 +73,11 @@ module _ (b : Bundle) (bundle : IsBundle b) (clean : IsClean b) (reports : List 
       (subst (IsOfRest b) (sym is.0) of_rest, subst (λ x. Logged (logs_of b) x (Decided d.orders d.order)) (sym is.0) logged)
 
 -- one more report
-pub none_more : (g : ℕ) (reports : List LocalReport) (i : ℕ) (d : LocalReport) → i < length reports → ((r : LocalReport) → Contains (take i reports) r → IsOwnOf r g → ⊥) → (IsOwnOf (get_or reports i d) g → ⊥) → (r : LocalReport) → Contains (take (i + 1) reports) r → IsOwnOf r g → ⊥
+pub none_more : (g : ℕ) (reports : List LocalReport) (i : ℕ) (d : LocalReport) → i < length reports → ((r : LocalReport) → Contains (take i reports) r → ReadsAsOwn r g → ⊥) → (ReadsAsOwn (get_or reports i d) g → ⊥) → (r : LocalReport) → Contains (take (i + 1) reports) r → ReadsAsOwn r g → ⊥
 none_more g reports i d below before here r h is =
     elim (Contains-push_cases (take i reports) (get_or reports i d) r (subst (λ rs. Contains rs r) (take_more reports i d below) h)) [
       | inl k ↦ before r k is
-      | inr e ↦ here (subst (λ (x : LocalReport). IsOwnOf x g) (sym e) is)
+      | inr e ↦ here (subst (λ (x : LocalReport). ReadsAsOwn x g) (sym e) is)
     ]
 
 -- ---- all decisions

@@ -16,8 +16,8 @@ use Rattle.gen_audit.specs.Bundle.{exhibits_of}
 use Rattle.gen_audit.specs.LocalFindings.{finds}
 
 -- the new findings are exactly the old ones and those with the property
-abbrev pub Adds : (Finding → Type 0) → List Finding → List Finding → Type 0
-Adds P old new = (f : Finding) → Contains new f ↔ (Contains old f ⊎ P f)
+abbrev pub AddsFindings : (Finding → Type 0) → List Finding → List Finding → Type 0
+AddsFindings P old new = (f : Finding) → Contains new f ↔ (Contains old f ⊎ P f)
 
 -- the finding for a number of exhibits of a general: none for one exhibit, `Missing` for none, `Several` for
 -- more
@@ -53,8 +53,8 @@ FindsEmpty rest Nobody = rest ≡ []
 FindsEmpty rest _ = ⊥
 
 -- the report is of a log that says it is g's of the run; and the decision is that of the log's DECIDE
-abbrev pub IsOwnOf : LocalReport → ℕ → Type 0
-IsOwnOf r g = (r.exhibit.general ≡ g) × ((found : FoundLog) × (r.reading ≡ Own found))
+abbrev pub ReadsAsOwn : LocalReport → ℕ → Type 0
+ReadsAsOwn r g = (r.exhibit.general ≡ g) × ((found : FoundLog) × (r.reading ≡ Own found))
 
 abbrev pub DecidesIn : LocalReport → ℕ → Decision → Type 0
 DecidesIn r g d =

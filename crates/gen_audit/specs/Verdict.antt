@@ -33,6 +33,12 @@ abbrev pub OneVerdict : Type 0
 OneVerdict =
     (b : Bundle) → IsBundle b → (one other : Verdict) → IsVerdict b one → IsVerdict b other → one ≡ other
 
+-- the findings of a verdict; none if the verdict is a yes
+abbrev pub findings_in : Verdict → List Finding
+findings_in (Agreed order) = []
+findings_in (Explained decisions) = []
+findings_in (No findings) = findings
+
 -- all findings of a bundle determine a verdict
 abbrev pub VerdictExists : Type 0
 VerdictExists =

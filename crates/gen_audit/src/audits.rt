@@ -4,7 +4,7 @@ ghost use Rattle.gen_types.specs.Ascending.{IsListOf};
 ghost use Rattle.gen_convict.specs.Convictions.{AreConvictions, AreEvidence, ConvictsWhereHeld};
 ghost use Rattle.gen_convict.specs.Evidence.{told_of};
 ghost use Rattle.gen_audit.specs.Bundle.{IsBundle, IsOfRest};
-ghost use Rattle.gen_audit.specs.Collecting.{DecidesIn, IsOwnOf};
+ghost use Rattle.gen_audit.specs.Collecting.{DecidesIn, ReadsAsOwn};
 ghost use Rattle.gen_audit.specs.Faults.{IsFaultBy};
 ghost use Rattle.gen_audit.specs.Headline.{Headline};
 ghost use Rattle.gen_audit.specs.Supported.{AgreeOn, HasFew, IsClean};
@@ -43,7 +43,7 @@ fn reports_of_all<R: Threads + Wait + Sync, G: JobGate + Sync>(
 /// Returns what a general decided by a report, if the report is of the general's log of this run.
 fn decision_in(report: &LocalReport, general: GeneralNo) -> Option<Decision>
     ensures some { IfSome result (DecidesIn report.now general) }
-    ensures none { IfNone result (IsOwnOf report.now general → ⊥) }
+    ensures none { IfNone result (ReadsAsOwn report.now general → ⊥) }
 {
     if report.exhibit().general() != general {
         return None;

@@ -6,7 +6,7 @@ use gen_types::limits::MOST_GENERALS;
 use std::marker::Model;
 
 /// The greatest number of workers: one for each general.
-const MOST_WORKERS: usize = MOST_GENERALS as usize;
+pub const MOST_WORKERS: u8 = MOST_GENERALS;
 
 /// A number of workers, 1 to 16. A contract sees the number.
 #[derive(Clone, Copy, Debug, PartialEq, Eq)]
@@ -39,7 +39,7 @@ impl WorkerCount {
     pub fn new(count: usize) -> Option<WorkerCount>
         ensures { result ≡ count_of count }
     {
-        if 1 <= count && count <= MOST_WORKERS {
+        if 1 <= count && count <= MOST_WORKERS as usize {
             Some(WorkerCount { count })
         } else {
             None

@@ -6,7 +6,7 @@ ghost use Rattle.gen_match.specs.declared.finding.Finding.{Finding};
 ghost use Rattle.gen_match.specs.Findings.{AreFindings};
 ghost use Rattle.gen_match.specs.Reports.{AreUnder, told_logs};
 ghost use Rattle.gen_audit.specs.Bundle.{IsOfRest, exhibits_of};
-ghost use Rattle.gen_audit.specs.Collecting.{Adds, amount_found, shown_found, FindsIn, FindsRead, FindsBetween, FindsPair, FindsEmpty};
+ghost use Rattle.gen_audit.specs.Collecting.{AddsFindings, amount_found, shown_found, FindsIn, FindsRead, FindsBetween, FindsPair, FindsEmpty};
 ghost use Rattle.gen_audit.specs.Findings.{IsFinding};
 ghost use Rattle.gen_audit.specs.LocalFindings.{finds, unsigned_at, unless_sealed, departs_at};
 ghost use Rattle.gen_audit.specs.Telling.{AreReports};
@@ -109,7 +109,7 @@ fn add_report(
     report: &LocalReport,
     findings: &mut Vec<Finding>,
 ) -> Result<(), AllocError>
-    ensures { OnOk result (Adds (FindsIn rest.now report.now) findings.old.items findings.new.items) }
+    ensures { OnOk result (AddsFindings (FindsIn rest.now report.now) findings.old.items findings.new.items) }
 {
     let general = report.exhibit().general();
     if rest.contains(general) {
@@ -124,7 +124,7 @@ fn add_reports(
     reports: &[LocalReport],
     findings: &mut Vec<Finding>,
 ) -> Result<(), AllocError>
-    ensures { OnOk result (Adds (FindsRead rest.now reports.now) findings.old.items findings.new.items) }
+    ensures { OnOk result (AddsFindings (FindsRead rest.now reports.now) findings.old.items findings.new.items) }
 {
     for report in reports {
         add_report(rest, report, findings)?;
@@ -141,7 +141,7 @@ fn add_matched(
     findings: &mut Vec<Finding>,
 ) -> Result<(), AllocError>
     requires { AreUnder header.now reports.now }
-    ensures { OnOk result (Adds (FindsBetween header.now.network faulty.now (told_logs reports.now))
+    ensures { OnOk result (AddsFindings (FindsBetween header.now.network faulty.now (told_logs reports.now))
         findings.old.items findings.new.items) }
 {
     let edges = match_edges(alloc, header, faulty, reports)?;
@@ -158,7 +158,7 @@ fn add_unjoined(
     walks: &Walks,
     findings: &mut Vec<Finding>,
 ) -> Result<(), AllocError>
-    ensures { OnOk result (Adds (FindsPair net.now rest.now walks.now)
+    ensures { OnOk result (AddsFindings (FindsPair net.now rest.now walks.now)
         findings.old.items findings.new.items) }
 {
     if let Err(bad) = check_walks(net, rest, walks) {
@@ -172,7 +172,7 @@ fn add_unjoined(
 
 /// Appends that the set is empty, if it is.
 fn add_nobody(rest: &GeneralSet, findings: &mut Vec<Finding>) -> Result<(), AllocError>
-    ensures { OnOk result (Adds (FindsEmpty rest.now) findings.old.items findings.new.items) }
+    ensures { OnOk result (AddsFindings (FindsEmpty rest.now) findings.old.items findings.new.items) }
 {
     if rest.is_empty() {
         findings.push(Finding::Nobody)?;

@@ -46,7 +46,7 @@ pub use bundle_fault::BundleFault;
 pub use bundle_reading::{bundle_in_front, read_bundle, read_taken_bundle};
 pub use bundle_writing::{bundle_front, exhibit_front, write_bundle};
 pub use bundles::Bundle;
-pub use counts::WorkerCount;
+pub use counts::{MOST_WORKERS, WorkerCount};
 pub use faults::AuditFault;
 pub use gates::JobGate;
 pub use reports::reports_by_workers;

@@ -1,5 +1,6 @@
 //! Verdicts.
 ghost use Rattle.std.specs.Prelude.{◌≡◌};
+ghost use Rattle.gen_audit.specs.Verdict.{findings_in};
 
 use gen_convict::Evidence;
 use gen_match::Finding;
@@ -78,6 +79,18 @@ pub enum Verdict {
     Explained(Decisions),
     /// No: this is found.
     No(Findings),
+}
+
+impl Verdict {
+    /// Returns the findings; none if the verdict is a yes.
+    pub fn findings(&self) -> &[Finding]
+        ensures { result.now ≡ findings_in self.now }
+    {
+        match self {
+            Verdict::Agreed(_) | Verdict::Explained(_) => &[],
+            Verdict::No(findings) => findings.as_slice(),
+        }
+    }
 }
 
 /// The judgement on a bundle: the verdict, and the generals that its exhibits convict. A conviction changes no verdict.

@@ -37,7 +37,7 @@ use Rattle.gen_report.proofs.FoundLines.{NumberOf, numbered_found}
 use Rattle.gen_report.proofs.FoundNumbers.{PlainOf, plain_found}
 use Rattle.gen_report.proofs.FoundKeys.{seed_found}
 use Rattle.gen_report.proofs.FoundScenario.{signed_found, signed_net, ToldOf, told_signed, nothing_left, joined_lines}
-use Rattle.gen_campaign.specs.CampaignText.{Precedes, HasSlot, SpellsTexts, SpellsCampaignText}
+use Rattle.gen_campaign.specs.CampaignText.{MayPrecede, HasSlot, SpellsTexts, SpellsCampaignText}
 use Rattle.gen_campaign.specs.CampaignTextReading.{has_generals_of, has_seed_of, comes_after, owed, like_plain_at, like_seed_at, later_slot_at, text_at, texts_at, campaign_text_of}
 use Rattle.gen_campaign.proofs.RunCounts.{count_known}
 use Rattle.gen_campaign.proofs.Standing.{Behind, behind_gives, Stand, stand_each, stand_ordered}
@@ -249,7 +249,7 @@ campaign_made text count x f known t last =
     let all : parts text ≡ (line ∷ t.lines) ++ [] ∷ [] = f.parts ∙ ap (λ (r : List (List ℕ)). line ∷ r) (t.parts_are ∙ ap (λ (r : List (List ℕ)). t.lines ++ r) last) in
     let whole : text ≡ line ++ 10 ∷ text_of t.lines = sym (joined text) ∙ ap (join_with_byte 10) all ∙ joined_lines (line ∷ t.lines) ∙ append_assoc line (10 ∷ []) (text_of t.lines) in
     let range = count_known count.0.value known in
-    let none : AllPairs Precedes [] = λ i j d l m. absurd (omega (arith, m)) in
+    let none : AllPairs MayPrecede [] = λ i j d l m. absurd (omega (arith, m)) in
     record {
       behind = text_of t.lines;
       text_is = whole ∙ ap (λ (n : ℕ). line_of (said (codes "campaign") n) ++ 10 ∷ text_of t.lines) (sym t.count);

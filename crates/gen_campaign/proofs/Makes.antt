@@ -14,7 +14,7 @@ use Rattle.gen_scenario.specs.Scenario.{Scenario}
 use Rattle.gen_convict.specs.SharedLeaves.{is_two}
 use Rattle.gen_campaign.specs.Campaign.{IsSecond, is_run_count}
 use Rattle.gen_campaign.specs.Series.{is_like, are_alike, ascend_from, campaign_of}
-use Rattle.gen_campaign.specs.CampaignText.{Precedes, HasSlot, AreOneCampaign}
+use Rattle.gen_campaign.specs.CampaignText.{MayPrecede, HasSlot, AreOneCampaign}
 use Rattle.gen_campaign.proofs.RunCounts.{count_fits}
 
 two_by : (v : Version) → IsSecond v → is_two v ≡ true
@@ -30,28 +30,28 @@ like first s slot generals seed =
     and_so (is_two s.version) (eqb s.net.generals first.net.generals && pointwise nat_eq s.master first.master) (two_by s.version slot)
     (and_so (eqb s.net.generals first.net.generals) (pointwise nat_eq s.master first.master) (eq-eqb s.net.generals first.net.generals generals) ((bytes_eq-Decides s.master first.master).1 seed))
 
-alike : (runs : List Scenario) → All HasSlot runs → AllPairs Precedes runs → are_alike runs ≡ true
+alike : (runs : List Scenario) → All HasSlot runs → AllPairs MayPrecede runs → are_alike runs ≡ true
 alike [] slots ordered = refl
 alike (first ∷ others) slots ordered =
-    let behind : All (Precedes first) others = AllPairs_head Precedes first others ordered in
+    let behind : All (MayPrecede first) others = AllPairs_head MayPrecede first others ordered in
     list_all-from_AllPass (is_like first) (first ∷ others) (All_of (λ (s : Scenario). is_like first s ≡ true) (first ∷ others) (λ s at.
     let slot : HasSlot s = All-contains HasSlot (first ∷ others) s slots at in
     elim (Contains_cases first s others at) [
       | inl same ↦ like first s slot (ap (λ (t : Scenario). t.net.generals) (sym same)) (ap (λ (t : Scenario). t.master) (sym same))
-      | inr later ↦ (let p : Precedes first s = All-contains (Precedes first) others s behind later in like first s slot (sym p.generals) (sym p.seed))
+      | inr later ↦ (let p : MayPrecede first s = All-contains (MayPrecede first) others s behind later in like first s slot (sym p.generals) (sym p.seed))
     ]))
 
 abbrev IsFrom : ℕ → Scenario → Type 0
 IsFrom least s = least ≤ slot_in s.version
 
-ascending : (least : ℕ) (runs : List Scenario) → All (IsFrom least) runs → AllPairs Precedes runs → ascend_from least runs ≡ true
+ascending : (least : ℕ) (runs : List Scenario) → All (IsFrom least) runs → AllPairs MayPrecede runs → ascend_from least runs ≡ true
 unfolding ascend_from
 ascending least [] from ordered = refl
 ascending least (s ∷ others) from ordered =
     let high : ltb (slot_in s.version) least ≡ false = le-ltb (slot_in s.version) least (All-head (IsFrom least) s others from) in
     let later : All (IsFrom (slot_in s.version + 1)) others =
-    All-weaker (Precedes s) (IsFrom (slot_in s.version + 1)) (λ t p. omega (arith, p.slot)) others (AllPairs_head Precedes s others ordered) in
-    let rest = ascending (slot_in s.version + 1) others later (AllPairs_tail Precedes s others ordered) in
+    All-weaker (MayPrecede s) (IsFrom (slot_in s.version + 1)) (λ t p. omega (arith, p.slot)) others (AllPairs_head MayPrecede s others ordered) in
+    let rest = ascending (slot_in s.version + 1) others later (AllPairs_tail MayPrecede s others ordered) in
     rw (high, rest) refl
 
 pub makes : (runs : List Scenario) → AreOneCampaign runs → campaign_of runs ≡ Ok runs

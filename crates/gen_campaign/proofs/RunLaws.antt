@@ -29,7 +29,7 @@ use Rattle.gen_audit.proofs.BundleLaws.{bundles_read}
 use Rattle.gen_audit.proofs.InputEnds.{goes_on}
 use Rattle.gen_campaign.specs.declared.campaign_fault.CampaignFault.{CampaignFault}
 use Rattle.gen_campaign.specs.declared.campaign_fault.CampaignFault.TheVariants as faults
-use Rattle.gen_campaign.specs.Campaign.{JoinsRun, IsSecond, IsRun}
+use Rattle.gen_campaign.specs.Campaign.{JoinsRun, IsSecond, IsRunBundle}
 use Rattle.gen_campaign.specs.CampaignReading.{second_bundle_at, counted_at, may_join, run_at, runs_at}
 use Rattle.gen_campaign.proofs.Joined.{Behind, behind_gives, behind_told}
 
@@ -56,7 +56,7 @@ second_again_by One more is = absurd is
 second_again_by (Two slot) more is = number_again rules.Truncated w32 (2 ^ 32) wide32 bundle_marks.two more (omega arith)
 
 abbrev SecondTaken : List ℕ → Bundle × List ℕ → Type 0
-SecondTaken bytes x = Takes bytes (bundle_spelling x.0) x.1 × IsRun x.0
+SecondTaken bytes x = Takes bytes (bundle_spelling x.0) x.1 × IsRunBundle x.0
 
 second_takes : (bytes : List ℕ) (x : Bundle × List ℕ) → IsBytes bytes → second_bundle_at bytes ≡ Ok x → SecondTaken bytes x
 unfolding second_bundle_at
@@ -68,23 +68,23 @@ second_takes bytes x fits e =
     let read = sym (ap (number_at rules.Truncated w32) begins) ∙ r0 in
     (t.0, record { bundle = t.1; second = second_by x.0.header.version (behind_mark x.0 x.1) mark read (eqb-true mark.0 bundle_marks.two two) })))
 
-second_again : (b : Bundle) (rest : List ℕ) → IsRun b → second_bundle_at (bundle_spelling b ++ rest) ≡ Ok (b, rest)
+second_again : (b : Bundle) (rest : List ℕ) → IsRunBundle b → second_bundle_at (bundle_spelling b ++ rest) ≡ Ok (b, rest)
 unfolding second_bundle_at
 second_again b rest is =
     let mark : number_at rules.Truncated w32 (bundle_spelling b ++ rest) ≡ Ok (bundle_marks.two, behind_mark b rest) = ap (number_at rules.Truncated w32) (mark_first b rest) ∙ second_again_by b.header.version (behind_mark b rest) is.second in
     let read = bundles_read.again b rest is.bundle in
     rw (mark, read) refl
 
-second_reads : Reads second_bundle_at bundle_spelling IsRun
+second_reads : Reads second_bundle_at bundle_spelling IsRunBundle
 second_reads = record { takes = second_takes; again = second_again }
 
 -- ---- a run
 
-pub counted_reads : (place : ℕ) → Reads (counted_at place) bundle_spelling IsRun
-counted_reads place = mapped_reads (faults.BadRun place) second_bundle_at bundle_spelling IsRun second_reads
+pub counted_reads : (place : ℕ) → Reads (counted_at place) bundle_spelling IsRunBundle
+counted_reads place = mapped_reads (faults.BadRun place) second_bundle_at bundle_spelling IsRunBundle second_reads
 
 abbrev RunTaken : List Bundle → List ℕ → Bundle × List ℕ → Type 0
-RunTaken before bytes x = Takes bytes (bundle_spelling x.0) x.1 × (IsRun x.0 × Behind before x.0)
+RunTaken before bytes x = Takes bytes (bundle_spelling x.0) x.1 × (IsRunBundle x.0 × Behind before x.0)
 
 run_takes : (before : List Bundle) (bytes : List ℕ) (x : Bundle × List ℕ) → IsBytes bytes → run_at before bytes ≡ Ok x → RunTaken before bytes x
 unfolding run_at
@@ -94,14 +94,14 @@ run_takes before bytes x fits e =
     let t = (counted_reads (length before)).takes bytes run fits r0 in
     at_end {F = CampaignFault} (RunTaken before bytes) run x e1 (t.0, (t.1, behind_gives before run.0 joined))))
 
-run_again : (before : List Bundle) (b : Bundle) (rest : List ℕ) → IsRun b × Behind before b → run_at before (bundle_spelling b ++ rest) ≡ Ok (b, rest)
+run_again : (before : List Bundle) (b : Bundle) (rest : List ℕ) → IsRunBundle b × Behind before b → run_at before (bundle_spelling b ++ rest) ≡ Ok (b, rest)
 unfolding run_at
 run_again before b rest is =
     let read = (counted_reads (length before)).again b rest is.0 in
     let joined = behind_told before b is.1 in
     rw (read, joined) refl
 
-pub run_reads : (before : List Bundle) → Reads (run_at before) bundle_spelling (λ b. IsRun b × Behind before b)
+pub run_reads : (before : List Bundle) → Reads (run_at before) bundle_spelling (λ b. IsRunBundle b × Behind before b)
 run_reads before = record { takes = run_takes before; again = run_again before }
 
 -- what is left behind a run that was read is an end of the input
@@ -112,11 +112,11 @@ behind_run all bytes place x fits read end = goes_on all bytes (bundle_spelling 
 
 abbrev pub Stand : List Bundle → List Bundle → Type 0
 Stand before [] = Unit {0}
-Stand before (x ∷ xs) = IsRun x × Behind before x × Stand (before ++ x ∷ []) xs
+Stand before (x ∷ xs) = IsRunBundle x × Behind before x × Stand (before ++ x ∷ []) xs
 
-pub stand_each : (before xs : List Bundle) → Stand before xs → All IsRun xs
-stand_each before [] s = All-nil IsRun
-stand_each before (x ∷ xs) s = All-cons IsRun x xs s.0 (stand_each (before ++ x ∷ []) xs s.2)
+pub stand_each : (before xs : List Bundle) → Stand before xs → All IsRunBundle xs
+stand_each before [] s = All-nil IsRunBundle
+stand_each before (x ∷ xs) s = All-cons IsRunBundle x xs s.0 (stand_each (before ++ x ∷ []) xs s.2)
 
 alone_in : (x z : Bundle) → Contains (x ∷ []) z → x ≡ z
 alone_in x z at = elim (Contains_cases x z [] at) [ inl same ↦ same | inr none ↦ absurd (Contains_nil z none) ]
@@ -135,12 +135,12 @@ between (b ∷ before) x xs up k at = elim (Contains_cases b k before at) [
   | inr later ↦ between before x xs (AllPairs_tail JoinsRun b (before ++ x ∷ xs) up) k later
 ]
 
-pub stand_told : (before xs : List Bundle) → All IsRun xs → AllPairs JoinsRun (before ++ xs) → Stand before xs
+pub stand_told : (before xs : List Bundle) → All IsRunBundle xs → AllPairs JoinsRun (before ++ xs) → Stand before xs
 stand_told before [] each up = tt
 stand_told before (x ∷ xs) each up = (
-  All-head IsRun x xs each,
+  All-head IsRunBundle x xs each,
   between before x xs up,
-  stand_told (before ++ x ∷ []) xs (All-tail IsRun x xs each) (subst (AllPairs JoinsRun) (sym (append_assoc before (x ∷ []) xs)) up),
+  stand_told (before ++ x ∷ []) xs (All-tail IsRunBundle x xs each) (subst (AllPairs JoinsRun) (sym (append_assoc before (x ∷ []) xs)) up),
 )
 
 -- ---- reading them

@@ -10,12 +10,12 @@ use Rattle.std.proofs.lemmas.Slice.Eq.{bytes_eq-Decides}
 use Rattle.gen_types.proofs.Lists.{All_of, Contains_cases, Contains_nil, Contains-middle, AllPairs_head, AllPairs_tail, AllPairs-append}
 use Rattle.gen_net.specs.Version.{slot_in}
 use Rattle.gen_scenario.specs.Scenario.{Scenario}
-use Rattle.gen_campaign.specs.CampaignText.{Precedes, HasSlot}
+use Rattle.gen_campaign.specs.CampaignText.{MayPrecede, HasSlot}
 use Rattle.gen_campaign.specs.CampaignTextReading.{has_generals_of, has_seed_of, comes_after}
 
 -- it may stand behind all of these
 abbrev pub Behind : List Scenario → Scenario → Type 0
-Behind before s = (k : Scenario) → Contains before k → Precedes k s
+Behind before s = (k : Scenario) → Contains before k → MayPrecede k s
 
 each : (p : Scenario → Bool) (before : List Scenario) (k : Scenario) → list_all p before ≡ true → Contains before k → p k ≡ true
 each p before k e at = All-contains (λ (x : Scenario). p x ≡ true) before k (AllPass-from_list_all p before e) at
@@ -52,24 +52,24 @@ stand_each before (x ∷ xs) s = All-cons HasSlot x xs s.0 (stand_each (before +
 alone_in : (x z : Scenario) → Contains (x ∷ []) z → x ≡ z
 alone_in x z at = elim (Contains_cases x z [] at) [ inl same ↦ same | inr none ↦ absurd (Contains_nil z none) ]
 
-pub stand_ordered : (before xs : List Scenario) → AllPairs Precedes before → Stand before xs → AllPairs Precedes (before ++ xs)
-stand_ordered before [] up s = subst (AllPairs Precedes) (sym (append-nil before)) up
+pub stand_ordered : (before xs : List Scenario) → AllPairs MayPrecede before → Stand before xs → AllPairs MayPrecede (before ++ xs)
+stand_ordered before [] up s = subst (AllPairs MayPrecede) (sym (append-nil before)) up
 stand_ordered before (x ∷ xs) up s =
-    let one : AllPairs Precedes (x ∷ []) = λ i j d l m. absurd (omega (arith, l, m)) in
-    let more : AllPairs Precedes (before ++ x ∷ []) = AllPairs-append Precedes before (x ∷ []) up one (λ y z k l. subst (λ (w : Scenario). Precedes y w) (alone_in x z l) (s.1 y k)) in
-    subst (AllPairs Precedes) (append_assoc before (x ∷ []) xs) (stand_ordered (before ++ x ∷ []) xs more s.2)
+    let one : AllPairs MayPrecede (x ∷ []) = λ i j d l m. absurd (omega (arith, l, m)) in
+    let more : AllPairs MayPrecede (before ++ x ∷ []) = AllPairs-append MayPrecede before (x ∷ []) up one (λ y z k l. subst (λ (w : Scenario). MayPrecede y w) (alone_in x z l) (s.1 y k)) in
+    subst (AllPairs MayPrecede) (append_assoc before (x ∷ []) xs) (stand_ordered (before ++ x ∷ []) xs more s.2)
 
-between : (before : List Scenario) (x : Scenario) (xs : List Scenario) → AllPairs Precedes (before ++ x ∷ xs) → Behind before x
+between : (before : List Scenario) (x : Scenario) (xs : List Scenario) → AllPairs MayPrecede (before ++ x ∷ xs) → Behind before x
 between [] x xs up k at = absurd (Contains_nil k at)
 between (b ∷ before) x xs up k at = elim (Contains_cases b k before at) [
-  | inl same ↦ subst (λ (y : Scenario). Precedes y x) same (All-contains (Precedes b) (before ++ x ∷ xs) x (AllPairs_head Precedes b (before ++ x ∷ xs) up) (Contains-middle before x xs))
-  | inr later ↦ between before x xs (AllPairs_tail Precedes b (before ++ x ∷ xs) up) k later
+  | inl same ↦ subst (λ (y : Scenario). MayPrecede y x) same (All-contains (MayPrecede b) (before ++ x ∷ xs) x (AllPairs_head MayPrecede b (before ++ x ∷ xs) up) (Contains-middle before x xs))
+  | inr later ↦ between before x xs (AllPairs_tail MayPrecede b (before ++ x ∷ xs) up) k later
 ]
 
-pub stand_told : (before xs : List Scenario) → All HasSlot xs → AllPairs Precedes (before ++ xs) → Stand before xs
+pub stand_told : (before xs : List Scenario) → All HasSlot xs → AllPairs MayPrecede (before ++ xs) → Stand before xs
 stand_told before [] slots up = tt
 stand_told before (x ∷ xs) slots up = (
   All-head HasSlot x xs slots,
   between before x xs up,
-  stand_told (before ++ x ∷ []) xs (All-tail HasSlot x xs slots) (subst (AllPairs Precedes) (sym (append_assoc before (x ∷ []) xs)) up),
+  stand_told (before ++ x ∷ []) xs (All-tail HasSlot x xs slots) (subst (AllPairs MayPrecede) (sym (append_assoc before (x ∷ []) xs)) up),
 )

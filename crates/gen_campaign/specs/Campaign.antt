@@ -39,7 +39,7 @@ IsSecond One = ⊥
 IsSecond (Two slot) = Unit {0}
 
 -- the bundle of a run: one of version 2
-pub record IsRun (b : Bundle) : Type 0 where
+pub record IsRunBundle (b : Bundle) : Type 0 where
   pub bundle : IsBundle b
   pub second : IsSecond b.header.version
 
@@ -47,7 +47,7 @@ pub record IsRun (b : Bundle) : Type 0 where
 pub record AreRuns (bundles : List Bundle) : Type 0 where
   pub some : fewest_runs ≤ length bundles
   pub few : length bundles ≤ most_runs
-  pub each : All IsRun bundles
+  pub each : All IsRunBundle bundles
   pub joined : AllPairs JoinsRun bundles
 
 -- one bundle, of either version

@@ -9,7 +9,7 @@ use Rattle.gen_report.specs.Scenario.{SpellsScenario}
 
 -- the second scenario may stand behind the first in a campaign: both have the same number of generals and
 -- the same seed, and the slot of the second is greater
-pub record Precedes (s t : Scenario) : Type 0 where
+pub record MayPrecede (s t : Scenario) : Type 0 where
   pub generals : s.net.generals ≡ t.net.generals
   pub seed : s.master ≡ t.master
   pub slot : slot_in s.version < slot_in t.version
@@ -23,7 +23,7 @@ pub record AreOneCampaign (runs : List Scenario) : Type 0 where
   pub some : fewest_runs ≤ length runs
   pub few : length runs ≤ most_runs
   pub slots : All HasSlot runs
-  pub ordered : AllPairs Precedes runs
+  pub ordered : AllPairs MayPrecede runs
 
 -- The text is made of texts that spell these scenarios, one after another.
 abbrev pub SpellsTexts : List ℕ → List Scenario → Type 0

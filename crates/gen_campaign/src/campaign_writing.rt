@@ -9,7 +9,11 @@ use gen_audit::{Bundle, write_bundle};
 use std::alloc::{AllocError, Global};
 
 /// Appends the bytes of the bundles, one after another.
-fn put_bundles(alloc: Global, out: &mut Vec<u8>, bundles: &[Bundle]) -> Result<(), AllocError>
+///
+/// # Errors
+///
+/// `AllocError` if memory is refused; then nothing is promised of what stands in `out`.
+pub fn put_bundles(alloc: Global, out: &mut Vec<u8>, bundles: &[Bundle]) -> Result<(), AllocError>
     ensures { OnOk result (out.new.items ≡ out.old.items ++ flat_map bundle_spelling bundles.now) }
 {
     'bundles: for bundle in bundles {

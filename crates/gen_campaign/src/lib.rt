@@ -40,13 +40,13 @@ pub use auditing::audit_campaign;
 pub use campaign_fault::CampaignFault;
 pub use campaign_reading::{read_campaign, read_taken_campaign};
 pub use campaign_text::{one_campaign_text, read_campaign_text, texts_make_campaigns};
-pub use campaign_writing::write_campaign;
+pub use campaign_writing::{put_bundles, write_campaign};
 pub use campaigns::CampaignBundle;
 pub use fronts::several_front;
 pub use in_place::audit_campaign_in_place;
 pub use making::make_campaign;
 pub use printing::{
-    one_bundle_is_printed_as_before, places_name_runs, print_campaign, push_across,
+    one_bundle_is_printed_as_before, place_of, places_name_runs, print_campaign, push_across,
 };
 pub use runs::run_campaign;
 pub use series::Campaign;

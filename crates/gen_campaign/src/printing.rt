@@ -31,7 +31,7 @@ fn first_with(bundles: &[Bundle], header: &Header) -> Option<usize>
 
 /// Returns the place of the run with this header, counted from 0, or the number of all runs if none has
 /// it.
-fn place_of(bundles: &[Bundle], header: &Header) -> usize
+pub fn place_of(bundles: &[Bundle], header: &Header) -> usize
     ensures { result ≡ place_of bundles.now header.now }
 {
     match first_with(bundles, header) {

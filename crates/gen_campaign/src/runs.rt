@@ -67,26 +67,26 @@ fn run_all<R: Threads + Wait + Sync, G: Gate + Sync>(
 }
 
 /// Makes known to the proof what holds of a scenario.
-fn read_one(scenario: &Scenario)
+fn note_scenario(scenario: &Scenario)
     ensures { IsScenario scenario.now }
 {
     let _header = scenario.header();
 }
 
 /// Makes known to the proof what holds of each scenario.
-fn read_all(scenarios: &[Scenario])
+fn note_scenarios(scenarios: &[Scenario])
     ensures { (s : Plan) → Contains scenarios.now s → IsScenario s }
 {
     for scenario in scenarios {
-        read_one(scenario);
+        note_scenario(scenario);
     }
 }
 
 /// Makes known to the proof that a general signs at most one text under each leaf in a campaign.
-fn know_texts(campaign: &Campaign)
+fn note_texts(campaign: &Campaign)
     ensures { EachLeafHasOneText campaign.now }
 {
-    read_all(campaign.scenarios());
+    note_scenarios(campaign.scenarios());
 }
 
 /// Runs the scenarios of a campaign one after another, each as `run_threads` does, and returns the logs of
@@ -114,7 +114,7 @@ pub fn run_campaign<R: Threads + Wait + Sync, G: Gate + Sync>(
     ensures fault { IfErr result IsAnsweredFault }
 {
     let scenarios = campaign.scenarios();
-    know_texts(campaign);
+    note_texts(campaign);
     let Some((first, _)) = scenarios.split_first() else {
         return Ok((Vec::new(alloc), Vec::new(alloc)));
     };

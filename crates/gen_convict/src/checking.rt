@@ -16,8 +16,8 @@ use crate::across_checking::is_across_from;
 use crate::claims::Claim;
 use crate::evidence::Evidence;
 use gen_chain::{Statement, has_signed, head_digest, leaf_of_head};
-use gen_local::{SignedText, Text, departs};
-use gen_log::{Entry, Log, has_sign, head_verifies, read_log};
+use gen_local::{SignedText, Text, departs, says_it_is_of};
+use gen_log::{Log, has_sign, head_verifies, read_log};
 use gen_net::Header;
 use gen_tree::{Signature, verify};
 use gen_types::{GeneralNo, OrderNo, Path, ReadError};
@@ -146,28 +146,6 @@ fn are_two_orders(
 {
     let verify = commands_verify(header, first, first_signature, second, second_signature);
     general.get() == 0 && first != second && verify
-}
-
-/// Whether the first of the entries is a START that names the general.
-fn starts_as(general: GeneralNo, entries: &[Entry]) -> bool
-    ensures { IsTrue result ↔ BeginsWithStartOf general entries.now }
-{
-    match entries.first() {
-        Some(
-            Entry::Start {
-                general: first,
-                own: _,
-            },
-        ) => *first == general,
-        _ => false,
-    }
-}
-
-/// Whether a log says that it is the general's log of this run: by its run id and its START.
-fn says_it_is_of(header: &Header, general: GeneralNo, log: &Log) -> bool
-    ensures { IsTrue result ↔ SaysItIsOf header.now general log.now }
-{
-    *log.run_id() == *header.run_id() && starts_as(general, log.entries())
 }
 
 /// Whether a log says that it is the general's of this run, and its head verifies.

@@ -12,7 +12,7 @@ use Rattle.gen_net.specs.Follows.{Conduct, Commands, Relays}
 use Rattle.gen_net.specs.Log.{LogEntry, Started, Signed, Sent, Received, Decided, IsEntry, Keeps, Precedes, place}
 use Rattle.gen_core.proofs.Rounds.{decide_arrives}
 use Rattle.gen_core.proofs.Decisions.{decide_accepts, list_below}
-use Rattle.gen_core.specs.Keeping.{HasLog, OneLog}
+use Rattle.gen_core.specs.Keeping.{LogExists, OneLog}
 use Rattle.gen_core.proofs.OrderedLists.{same_members, Precedes-apart, AllPairs-head, AllPairs-tail, AllPairs-cons, one_list, list_of_same, Contains_flat_mapped, in_flat_map, only, Precedes-trans, Precedes-total}
 
 pub record Placed {X : Type 0} (R : X → X → Type 0) (xs : List X) : Type 0 where
@@ -313,7 +313,7 @@ lieutenant_log net run g pick is_run = make_log net run g (Relays pick) is_run (
 pub commander_log : (net : Network) (run : Run) (g own : ℕ) → IsRun net run → (log : List LogEntry) × Keeps net run g (Commands own) log
 commander_log net run g own is_run = make_log net run g (Commands own) is_run (finite_commander net run g own)
 
-pub has_log : HasLog
+pub has_log : LogExists
 has_log net run g (Commands own) is_run = commander_log net run g own is_run
 has_log net run g (Relays pick) is_run = lieutenant_log net run g pick is_run
 

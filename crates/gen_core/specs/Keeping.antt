@@ -6,8 +6,8 @@ use Rattle.gen_net.specs.Follows.{Conduct}
 use Rattle.gen_net.specs.Log.{LogEntry, Keeps}
 
 -- for each run, general and conduct there is a log
-abbrev pub HasLog : Type 0
-HasLog =
+abbrev pub LogExists : Type 0
+LogExists =
     (net : Network) (run : Run) (g : ℕ) (conduct : Conduct) → IsRun net run
     → (log : List LogEntry) × Keeps net run g conduct log
 

@@ -1,6 +1,6 @@
 -- The picture of a run: generals are lines from left to right, rounds are columns, and each message that a
 -- shown log has is an arrow from its sender's line to its receiver's.
-use Rattle.std.specs.Prelude.{ℕ, List, [], ◌++◌, codes}
+use Rattle.std.specs.Prelude.{ℕ, List, ◌++◌, codes}
 use Rattle.std.specs.List.{flat_map, range_with_len}
 use Rattle.std.specs.Fmt.{decimal}
 use Rattle.hex.specs.Hex.{encode_lower}
@@ -12,6 +12,7 @@ use Rattle.gen_match.specs.declared.finding.Finding.{Finding}
 use Rattle.gen_convict.specs.Evidence.{Accusation}
 use Rattle.gen_audit.specs.declared.verdicts.Verdict.{Verdict}
 use Rattle.gen_audit.specs.declared.verdicts.Verdict.TheVariants.{Agreed, Explained, No}
+use Rattle.gen_audit.specs.Verdict.{findings_in}
 use Rattle.gen_draw.specs.declared.grid.Grid.{Grid}
 use Rattle.gen_draw.specs.Arrows.{arrow_line}
 use Rattle.gen_draw.specs.Drawing.{arrows_of}
@@ -53,12 +54,6 @@ abbrev pub verdict_heading : Verdict → List ℕ
 verdict_heading (Agreed order) = agreed_heading order
 verdict_heading (Explained decisions) = explained_heading
 verdict_heading (No findings) = no_heading
-
--- the findings of a verdict; none if the verdict is a yes
-abbrev pub findings_in : Verdict → List Finding
-findings_in (Agreed order) = []
-findings_in (Explained decisions) = []
-findings_in (No findings) = findings
 
 -- the lines of all generals, the words at their ends, and the words below them
 unfoldable pub line_in : Network → List ℕ → ℕ → List ℕ

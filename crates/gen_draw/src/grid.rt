@@ -3,6 +3,9 @@ ghost use Rattle.std.specs.Prelude.{◌≡◌, ◌<◌, ◌+◌, ◌^◌};
 
 use crate::rows::legend_row;
 
+/// How far from the left edge of a picture its lines and words begin.
+pub const MARGIN: u32 = 16;
+
 /// The size of a picture: the numbers of its generals, its orders and its rounds.
 #[derive(Clone, Copy, Debug)]
 pub struct Grid {
@@ -41,7 +44,7 @@ impl Grid {
         ensures value { result ≡ column_of self round }
         ensures small { result < 2 ^ 30 + 16 }
     {
-        16 + self.round_width() * u32::from(round)
+        MARGIN + self.round_width() * u32::from(round)
     }
 
     /// Returns where the lines of generals end.

@@ -20,7 +20,7 @@ ghost use Rattle.gen_draw.specs.Marks.{
 };
 
 use crate::arrows::push_message_stroke;
-use crate::grid::Grid;
+use crate::grid::{Grid, MARGIN};
 use crate::rows::{middle_of, row_of};
 use crate::shapes::push_words;
 use gen_convict::Evidence;
@@ -103,7 +103,7 @@ fn push_message_mark(out: &mut String, grid: Grid, finding: &Finding) -> Result<
         } => push_found_message(out, grid, from, to, round, order, finding),
         Finding::Nobody => {
             push_found_opening(out, finding)?;
-            push_found_words(out, 16, 64, finding)
+            push_found_words(out, MARGIN, 64, finding)
         }
         Finding::Missing { .. }
         | Finding::Several { .. }
@@ -297,7 +297,7 @@ pub fn push_note(
     ensures { OnOk result
         (string_bytes out.new ≡ string_bytes out.old ++ note_line findings.now general) }
 {
-    push_words(out, 16, row_of(general.get()) + 16)?;
+    push_words(out, MARGIN, row_of(general.get()) + 16)?;
     push_found(out, general, findings)?;
     out.push_str("</text>\n")
 }

@@ -16,7 +16,7 @@ ghost use Rattle.gen_draw.specs.Page.{
   round_opening,
 };
 
-use crate::grid::Grid;
+use crate::grid::{Grid, MARGIN};
 use crate::rows::{legend_row, row_of};
 use crate::shapes::{push_head, push_stroke, push_words};
 use std::alloc::AllocError;
@@ -77,8 +77,8 @@ fn push_life(out: &mut String, grid: Grid, general: u8) -> Result<(), AllocError
     ensures { OnOk result (string_bytes out.new ≡ string_bytes out.old ++ life_of grid general) }
 {
     let y = row_of(general);
-    push_stroke(out, 16, y, grid.end(), y)?;
-    push_words(out, 16, y - 8)?;
+    push_stroke(out, MARGIN, y, grid.end(), y)?;
+    push_words(out, MARGIN, y - 8)?;
     write!(out, "general {general}</text>")
 }
 
@@ -98,7 +98,7 @@ fn push_held_opening(out: &mut String, general: u8) -> Result<(), AllocError>
 fn push_held_note(out: &mut String, general: u8) -> Result<(), AllocError>
     ensures { OnOk result (string_bytes out.new ≡ string_bytes out.old ++ held_note general) }
 {
-    push_words(out, 16, row_of(general) + 16)?;
+    push_words(out, MARGIN, row_of(general) + 16)?;
     out.push_str("held for faulty</text></g>\n")
 }
 
@@ -145,7 +145,7 @@ fn push_legend(out: &mut String, generals: u8, order: u8) -> Result<(), AllocErr
 {
     let y = legend_row(generals, order);
     push_order_opening(out, order)?;
-    push_stroke(out, 16, y, 56, y)?;
+    push_stroke(out, MARGIN, y, 56, y)?;
     push_order_name(out, generals, order)
 }
 

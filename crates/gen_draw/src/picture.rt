@@ -10,7 +10,6 @@ ghost use Rattle.gen_draw.specs.Picture.{
   run_words,
   closing,
   end_lines,
-  findings_in,
   frame,
   general_lines,
   grid_of,
@@ -71,16 +70,6 @@ fn is_held(faulty: &GeneralSet, general: GeneralNo) -> bool
     ensures { result ≡ is_among faulty.now general }
 {
     faulty.contains(general)
-}
-
-/// Returns the findings of a verdict; none if the verdict is a yes.
-fn findings_in(verdict: &Verdict) -> &[Finding]
-    ensures { result.now ≡ findings_in verdict.now }
-{
-    match verdict {
-        Verdict::Agreed(_) | Verdict::Explained(_) => &[],
-        Verdict::No(findings) => findings.as_slice(),
-    }
 }
 
 /// Appends the run id as the title of the picture.
@@ -277,7 +266,7 @@ fn push_story(
 {
     let grid = grid_of(bundle.header().net());
     push_arrows(out, grid, arrows)?;
-    push_message_marks(out, grid, findings_in(verdict))
+    push_message_marks(out, grid, verdict.findings())
 }
 
 /// Appends what each general decided, which generals are convicted, and what is found against each.
@@ -301,7 +290,7 @@ fn push_all_notes(
         decided,
         judgement.convictions.as_slice(),
     )?;
-    push_notes(out, net, findings_in(&judgement.verdict))
+    push_notes(out, net, judgement.verdict.findings())
 }
 
 /// Appends what a picture says of a bundle and of the judgement on it, and the end of the text.

@@ -31,7 +31,7 @@ use Rattle.gen_jobs.specs.Accepted.{IsSound, RunsAreAccepted, RunsAreRead, alone
 use Rattle.gen_jobs.specs.Audit.{Audits, AuditsShown, IsAudited, is_no}
 use Rattle.gen_jobs.specs.Judging.{JudgesRun, RunsAreJudged}
 use Rattle.gen_jobs.specs.declared.forms.Form.TheVariants.{Text}
-use Rattle.gen_jobs.specs.Run.{IsRun}
+use Rattle.gen_jobs.specs.Run.{IsRunAnswer}
 
 -- the bytes of what is shown stand in the bundle's
 pub shown_bytes : (b : Bundle) (x : LogBytes) (v : ℕ) → Contains b.exhibits x → Contains x.bytes v → Contains (bundle_spelling b) v
@@ -50,7 +50,7 @@ spelled_bundle s walks text ok has spelled below = record {
   spelled = spelled;
 }
 
-is_lawful : (input text : List ℕ) (said : Bool) (run : IsRun input text said) → IsScenario run.scenario
+is_lawful : (input text : List ℕ) (said : Bool) (run : IsRunAnswer input text said) → IsScenario run.scenario
 is_lawful input text said run = run.spelled.keys_are.lawful
 
 -- and so it is read as one that stands alone
@@ -86,13 +86,13 @@ yes_is (Explained decisions) is = refl
 yes_is (No findings) is = absurd is
 
 -- what is audited is the bundle of the run
-same_shown : (input text report : List ℕ) (said negative : Bool) (run : IsRun input text said) → AreBelow 256 text → (audited : IsAudited text report negative) → audited.shown ≡ alone (bundle_of run.scenario run.walks)
+same_shown : (input text report : List ℕ) (said negative : Bool) (run : IsRunAnswer input text said) → AreBelow 256 text → (audited : IsAudited text report negative) → audited.shown ≡ alone (bundle_of run.scenario run.walks)
 same_shown input text report said negative run below audited =
     let ours = (runs_are_read input text said run below).1 in
     ok_is {F = CampaignFault} audited.shown (alone (bundle_of run.scenario run.walks)) (sym (campaign_only text audited.shown audited.spelled) ∙ ours)
 
 -- and what is made of it
-audits_run : (input text report : List ℕ) (said negative : Bool) (run : IsRun input text said) → AreBelow 256 text → IsAudited text report negative → Audits Text (bundle_of run.scenario run.walks) report negative
+audits_run : (input text report : List ℕ) (said negative : Bool) (run : IsRunAnswer input text said) → AreBelow 256 text → IsAudited text report negative → Audits Text (bundle_of run.scenario run.walks) report negative
 audits_run input text report said negative run below audited =
     subst (λ (c : CampaignBundle). AuditsShown Text c.alone c.bundles report negative) (same_shown input text report said negative run below audited) audited.audits
 

@@ -23,10 +23,10 @@ use Rattle.gen_audit.specs.Supported.{IsSupported}
 use Rattle.gen_audit.proofs.RunBundles.{world_is_bundle}
 use Rattle.gen_audit.proofs.Worlds.{world_is_supported}
 use Rattle.gen_campaign.specs.declared.campaign_fault.CampaignFault.{CampaignFault}
-use Rattle.gen_campaign.specs.Campaign.{AreRuns, CampaignBundle, IsCampaign, IsRun, IsSecond, Joins, JoinsRun}
+use Rattle.gen_campaign.specs.Campaign.{AreRuns, CampaignBundle, IsCampaign, IsRunBundle, IsSecond, Joins, JoinsRun}
 use Rattle.gen_campaign.specs.CampaignSpelling.{campaign_front, campaign_spelling}
 use Rattle.gen_campaign.proofs.CampaignLaws.{campaign_only}
-use Rattle.gen_campaign.specs.CampaignText.{HasSlot, Precedes, SpellsTexts}
+use Rattle.gen_campaign.specs.CampaignText.{HasSlot, MayPrecede, SpellsTexts}
 use Rattle.gen_jobs.specs.Accepted.{IsSound}
 use Rattle.gen_jobs.specs.AcceptedCampaigns.{CampaignsAreAccepted, CampaignsAreRead, together}
 use Rattle.gen_jobs.specs.Audit.{AuditsShown, AuditsRuns, IsAudited}
@@ -49,7 +49,7 @@ same_height One w one other = absurd one
 same_height (Two i) One one other = absurd other
 same_height (Two i) (Two j) one other = refl
 
-joins_next : (s t : Scenario) → HasSlot s → HasSlot t → Precedes s t → Joins (header_of s) (header_of t)
+joins_next : (s t : Scenario) → HasSlot s → HasSlot t → MayPrecede s t → Joins (header_of s) (header_of t)
 joins_next s t first second p =
     let height : height_in s.version ≡ height_in t.version = same_height s.version t.version first second in
     record {
@@ -74,20 +74,20 @@ of_run (s ∷ runs) (c ∷ bundles) are b at = elim (Contains_cases c b bundles 
 header_is : (s : Scenario) (b : Bundle) → IsOfRun s b → b.header ≡ header_of s
 header_is s b is = ap (λ (k : Bundle). k.header) is.2
 
-joined : (runs : List Scenario) (bundles : List Bundle) → All HasSlot runs → AllPairs Precedes runs → AllZip IsOfRun runs bundles → AllPairs JoinsRun bundles
+joined : (runs : List Scenario) (bundles : List Bundle) → All HasSlot runs → AllPairs MayPrecede runs → AllZip IsOfRun runs bundles → AllPairs JoinsRun bundles
 joined [] [] slots ordered are = λ i j d less more. absurd (omega (arith, more))
 joined [] (c ∷ bundles) slots ordered are = absurd are
 joined (s ∷ runs) [] slots ordered are = absurd are
 joined (s ∷ runs) (b ∷ bundles) slots ordered are =
     let first : HasSlot s = All-contains HasSlot (s ∷ runs) s slots (Contains_here s runs) in
     let others : All HasSlot runs = All_of HasSlot runs (λ t at. All-contains HasSlot (s ∷ runs) t slots (Contains_there s t runs at)) in
-    let behind : All (Precedes s) runs = AllPairs_head Precedes s runs ordered in
+    let behind : All (MayPrecede s) runs = AllPairs_head MayPrecede s runs ordered in
     AllPairs-cons JoinsRun b bundles (All_of (JoinsRun b) bundles (λ c at.
     let r = of_run runs bundles are.1 c at in
-    let joins : Joins (header_of s) (header_of r.0) = joins_next s r.0 first (All-contains HasSlot runs r.0 others r.1) (All-contains (Precedes s) runs r.0 behind r.1) in
-    subst (λ (h : RunHeader). Joins h c.header) (sym (header_is s b are.0)) (subst (Joins (header_of s)) (sym (header_is r.0 c r.2)) joins))) (joined runs bundles others (AllPairs_tail Precedes s runs ordered) are.1)
+    let joins : Joins (header_of s) (header_of r.0) = joins_next s r.0 first (All-contains HasSlot runs r.0 others r.1) (All-contains (MayPrecede s) runs r.0 behind r.1) in
+    subst (λ (h : RunHeader). Joins h c.header) (sym (header_is s b are.0)) (subst (Joins (header_of s)) (sym (header_is r.0 c r.2)) joins))) (joined runs bundles others (AllPairs_tail MayPrecede s runs ordered) are.1)
 
-is_run : (s : Scenario) (b : Bundle) → IsScenario s → HasSlot s → IsOfRun s b → ((x : LogBytes) → Contains b.exhibits x → AreBelow 256 x.bytes) → IsRun b
+is_run : (s : Scenario) (b : Bundle) → IsScenario s → HasSlot s → IsOfRun s b → ((x : LogBytes) → Contains b.exhibits x → AreBelow 256 x.bytes) → IsRunBundle b
 is_run s b ok slot is below = record {
   bundle = subst IsBundle (sym is.2) (world_is_bundle s is.0 ok is.1 (subst (λ (k : Bundle). (x : LogBytes) → Contains k.exhibits x → AreBelow 256 x.bytes) is.2 below));
   second = subst (λ (k : Bundle). IsSecond k.header.version) (sym is.2) slot;
@@ -110,7 +110,7 @@ spelled_together input text said run below =
     let runs : AreRuns bundles = record {
       some = omega (arith, one.some, long);
       few = omega (arith, one.few, long);
-      each = All_of IsRun bundles (λ b at.
+      each = All_of IsRunBundle bundles (λ b at.
           let r = of_run run.runs bundles are b at in
           is_run r.0 b (lawful run.spelled.behind run.runs run.spelled.texts_are r.0 r.1) (All-contains HasSlot run.runs r.0 one.slots r.1) r.2 (below_in bundles text run.makes.2 below b at));
       joined = joined run.runs bundles one.slots one.ordered are;

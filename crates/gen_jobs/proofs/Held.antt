@@ -17,7 +17,7 @@ use Rattle.gen_audit.specs.BundleParts.{AreListedWalks, IsListedWalk}
 use Rattle.gen_audit.specs.WorldBundle.{AreWalksOfRun}
 use Rattle.gen_audit.proofs.BundleParts.{below_known, checks_told, exhibits_pass, walks_pass}
 use Rattle.gen_audit.proofs.WalkParts.{best_are_listed}
-use Rattle.gen_campaign.specs.Campaign.{AreRuns, AreShown, CampaignBundle, IsCampaign, IsRun, IsSecond, Joins, JoinsRun}
+use Rattle.gen_campaign.specs.Campaign.{AreRuns, AreShown, CampaignBundle, IsCampaign, IsRunBundle, IsSecond, Joins, JoinsRun}
 use Rattle.gen_campaign.specs.CampaignSpelling.{campaign_spelling}
 use Rattle.gen_campaign.proofs.Places.{none_has}
 use Rattle.gen_campaign.proofs.Zips.{zip_more}
@@ -113,7 +113,7 @@ joined faulty (b ∷ bs) (h ∷ hs) pairs are =
     let joins : Joins b.header r.0.header = All-contains (JoinsRun b) bs r.0 behind r.1 in
     subst (λ (x : RunHeader). Joins x k.header) (sym are.0.header) (subst (Joins b.header) (sym r.2.header) joins))) (joined faulty bs hs (AllPairs_tail JoinsRun b bs pairs) are.1)
 
-one_run : (faulty : List ℕ) (b h : Bundle) → IsRun b → AllPairs (λ v w. v < w) faulty → HasAll faulty b → IsHeld faulty b h → IsRun h
+one_run : (faulty : List ℕ) (b h : Bundle) → IsRunBundle b → AllPairs (λ v w. v < w) faulty → HasAll faulty b → IsHeld faulty b h → IsRunBundle h
 one_run faulty b h run up all held = record {
   bundle = held_is faulty b h run.bundle up all held;
   second = subst (λ (x : RunHeader). IsSecond x.version) (sym held.header) run.second;
@@ -129,9 +129,9 @@ held_shown faulty true (b ∷ []) (h ∷ []) shown up all are = held_is faulty b
 held_shown faulty false bs hs shown up all are = record {
   some = omega (arith, shown.some, as_many_held faulty bs hs are);
   few = omega (arith, shown.few, as_many_held faulty bs hs are);
-  each = All_of IsRun hs (λ h at.
+  each = All_of IsRunBundle hs (λ h at.
       let r = origin faulty bs hs are h at in
-      one_run faulty r.0 h (All-contains IsRun bs r.0 shown.each r.1) up (All-contains (HasAll faulty) bs r.0 all r.1) r.2);
+      one_run faulty r.0 h (All-contains IsRunBundle bs r.0 shown.each r.1) up (All-contains (HasAll faulty) bs r.0 all r.1) r.2);
   joined = joined faulty bs hs shown.joined are;
 }
 

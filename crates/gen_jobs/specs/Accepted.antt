@@ -12,7 +12,7 @@ use Rattle.gen_campaign.specs.Campaign.{CampaignBundle}
 use Rattle.gen_campaign.specs.CampaignReading.{whole_campaign}
 use Rattle.gen_audit.specs.WorldBundle.{bundle_of}
 use Rattle.gen_jobs.specs.Audit.{IsAudited}
-use Rattle.gen_jobs.specs.Run.{IsRun}
+use Rattle.gen_jobs.specs.Run.{IsRunAnswer}
 
 -- a bundle that stands alone, as a `CampaignBundle`
 abbrev pub alone : Bundle → CampaignBundle
@@ -21,7 +21,7 @@ alone b = record { alone = true; bundles = b ∷ [] }
 -- what the job run writes is read as the bundle of its run, and as one that stands alone
 abbrev pub RunsAreRead : Type 0
 RunsAreRead =
-    (input text : List ℕ) (said : Bool) (run : IsRun input text said) → AreBelow 256 text
+    (input text : List ℕ) (said : Bool) (run : IsRunAnswer input text said) → AreBelow 256 text
     → (whole_bundle text ≡ Ok (bundle_of run.scenario run.walks))
     × (whole_campaign text ≡ Ok (alone (bundle_of run.scenario run.walks)))
 
@@ -36,5 +36,5 @@ pub record IsSound (s : Scenario) : Type 0 where
 -- if the scenario is sound, what the job audit makes of the output of the job run does not say no
 abbrev pub RunsAreAccepted : Type 0
 RunsAreAccepted =
-    (input text report : List ℕ) (said negative : Bool) (run : IsRun input text said) → AreBelow 256 text
-    → IsSound run.scenario → IsAudited text report negative → negative ≡ false
+    (input text report : List ℕ) (said negative : Bool) (run : IsRunAnswer input text said)
+    → AreBelow 256 text → IsSound run.scenario → IsAudited text report negative → negative ≡ false

@@ -4,7 +4,7 @@ use Rattle.gen_jobs.specs.Asking.{IsAccusedOf, IsAuditedBy, IsCheckedIn, IsDrawn
 use Rattle.gen_jobs.specs.Campaigning.{IsCampaignFault, IsCampaignRun}
 use Rattle.gen_jobs.specs.Decide.{IsDecidedIn, IsDecideFault}
 use Rattle.gen_jobs.specs.Preparing.{IsHeaderFault, IsHeaderOf, IsRoot, IsRootFault}
-use Rattle.gen_jobs.specs.Run.{IsRun, IsRunFault}
+use Rattle.gen_jobs.specs.Run.{IsRunAnswer, IsRunFault}
 use Rattle.gen_jobs.specs.Showing.{IsShownFault, IsShownIn}
 use Rattle.gen_jobs.specs.Telling.{IsMemory, IsTold}
 use Rattle.gen_jobs.specs.declared.ends.JobFault.{JobFault}
@@ -14,7 +14,7 @@ use Rattle.gen_jobs.specs.declared.jobs.Job.TheVariants as jobs
 -- the text is an answer of the job to the input, and says no if `negative` is true
 abbrev pub JobAnswers : Job → List ℕ → List ℕ → Bool → Type 0
 JobAnswers (jobs.Decide form) input text negative = IsDecidedIn form input text negative
-JobAnswers (jobs.Run n) input text negative = IsRun input text negative
+JobAnswers (jobs.Run n) input text negative = IsRunAnswer input text negative
 JobAnswers (jobs.Judge n w strict form) input text negative = IsJudgedAs form strict input text negative
 JobAnswers (jobs.Campaign n) input text negative = IsCampaignRun input text negative
 JobAnswers (jobs.Audit w asked strict form) input text negative =

@@ -6,7 +6,7 @@ use Rattle.gen_audit.specs.WorldBundle.{HasWalks, bundle_of}
 use Rattle.gen_report.specs.declared.scenario_text.ScenarioText.TheVariants as texts
 use Rattle.gen_report.specs.Scenario.{SpellsScenario}
 use Rattle.gen_jobs.specs.Audit.{Audits, IsAudited}
-use Rattle.gen_jobs.specs.Run.{IsRun}
+use Rattle.gen_jobs.specs.Run.{IsRunAnswer}
 use Rattle.gen_jobs.specs.declared.forms.Form.{Form}
 use Rattle.gen_jobs.specs.declared.forms.Form.TheVariants.{Text}
 
@@ -25,5 +25,5 @@ pub record IsJudged (input text : List ℕ) (negative : Bool) : Type 0 where
 -- what the job audit makes of the output of the job run is what the job judge makes of the same input
 abbrev pub RunsAreJudged : Type 0
 RunsAreJudged =
-    (input text report : List ℕ) (said negative : Bool) → IsRun input text said → AreBelow 256 text
+    (input text report : List ℕ) (said negative : Bool) → IsRunAnswer input text said → AreBelow 256 text
     → IsAudited text report negative → IsJudged input report negative

@@ -15,7 +15,7 @@ use Rattle.gen_jobs.specs.declared.ends.JobFault.{JobFault}
 use Rattle.gen_jobs.specs.declared.ends.JobFault.TheVariants as faults
 
 -- The text spells the bundle of the run of the scenario that the input spells. It never says no.
-pub record IsRun (input text : List ℕ) (negative : Bool) : Type 0 where
+pub record IsRunAnswer (input text : List ℕ) (negative : Bool) : Type 0 where
   pub scenario : Scenario
   pub spelled : SpellsScenario input (texts.Signed scenario)
   pub walks : List (List ℕ)

@@ -1,9 +1,8 @@
 //! Bundles and campaigns as if other generals were held for faulty.
-ghost use Rattle.std.specs.Prelude.{◌≡◌, ◌<◌, ◌++◌, All, IfErr, IfOk, None, OnOk, false, length};
-ghost use Rattle.std.specs.List.{AllZip, flat_map, position};
+ghost use Rattle.std.specs.Prelude.{◌≡◌, ◌<◌, All, IfErr, IfOk, None, false, length};
+ghost use Rattle.std.specs.List.{AllZip, position};
 ghost use Rattle.gen_types.specs.Spelled.{Spells};
 ghost use Rattle.gen_audit.specs.BundleMaking as making;
-ghost use Rattle.gen_audit.specs.BundleSpelling.{bundle_spelling};
 ghost use Rattle.gen_campaign.specs.Campaign.{CampaignBundle as Told, IsCampaign};
 ghost use Rattle.gen_campaign.specs.CampaignSpelling.{campaign_spelling, front_with};
 ghost use Rattle.gen_jobs.specs.Holding.{IsHeld, IsHeldAs, IsHoldFault, first_lack, lack_fault, lacks};
@@ -11,10 +10,12 @@ ghost use Rattle.gen_jobs.specs.declared.faulty.Faulty.TheVariants.{These};
 
 use crate::ends::JobFault;
 use crate::faulty::Faulty;
-use crate::running::walks_between;
-use gen_audit::{Bundle, BundleFault, write_bundle};
-use gen_campaign::{CampaignBundle, CampaignFault, read_taken_campaign, several_front};
+use gen_audit::{Bundle, BundleFault};
+use gen_campaign::{
+    CampaignBundle, CampaignFault, put_bundles, read_taken_campaign, several_front,
+};
 use gen_local::Exhibit;
+use gen_prepare::walks_between;
 use gen_types::{GeneralSet, ReadError};
 use std::alloc::{AllocError, Global};
 
@@ -104,17 +105,6 @@ fn first_lack(campaign: &CampaignBundle, faulty: &GeneralSet) -> Option<Campaign
 {
     let place = first_lacking(campaign.bundles(), faulty)?;
     Some(lack_fault(campaign.is_alone(), place))
-}
-
-/// Appends the bytes of bundles, one after another.
-fn put_bundles(alloc: Global, out: &mut Vec<u8>, bundles: &[Bundle]) -> Result<(), AllocError>
-    ensures { OnOk result (out.new.items ≡ out.old.items ++ flat_map bundle_spelling bundles.now) }
-{
-    'bundles: for bundle in bundles {
-        let bytes = write_bundle(alloc, bundle)?;
-        out.extend_from_slice(bytes.as_slice())?;
-    }
-    Ok(())
 }
 
 /// Returns the bytes that stand before this many bundles, or before one that stands alone.

@@ -1,12 +1,11 @@
 //! The job `run`: runs a scenario, and writes the bundle of the run.
 ghost use Rattle.std.specs.Prelude.{◌≡◌, ◌<◌, false, IfErr, IfOk, IfSome};
 ghost use Rattle.gen_audit.specs.BundleSpelling.{bundle_spelling};
-ghost use Rattle.gen_audit.specs.WorldBundle.{AreWalksOfRun};
 ghost use Rattle.gen_report.specs.LineReading.{fault_at};
 ghost use Rattle.gen_report.specs.declared.fault.LineFault.TheVariants.{BadSeed};
 ghost use Rattle.gen_jobs.specs.Answering.{Answers};
 ghost use Rattle.gen_jobs.specs.Ends.{IsTaken, KeepsUntilWhole};
-ghost use Rattle.gen_jobs.specs.Run.{IsOfRun, IsRun, IsRunFault, MakesBundle, line_after_order};
+ghost use Rattle.gen_jobs.specs.Run.{IsOfRun, IsRunAnswer, IsRunFault, MakesBundle, line_after_order};
 ghost use Rattle.gen_scenario.specs.Rows.{logs_of_all};
 ghost use Rattle.gen_jobs.specs.declared.ends.JobFault.TheVariants as faults;
 
@@ -17,12 +16,10 @@ use crate::transfer::read_all;
 use gen_audit::{Bundle, write_bundle};
 use gen_local::exhibits_of_logs;
 use gen_log::SealedLog;
-use gen_net::Net;
+use gen_prepare::walks_between;
 use gen_report::{LineFault, ScenarioFault, ScenarioText, read_scenario};
 use gen_scenario::{PlainScenario, Scenario, SignedPlan};
 use gen_threads::{make_trees, run_threads};
-use gen_types::GeneralSet;
-use gen_walks::{WalkFault, Walks, make_walks};
 use std::alloc::{AllocError, Global};
 use std::io::{Read, Write};
 use std::sync::Wait;
@@ -49,21 +46,6 @@ pub(crate) fn make_scenario<R: Threads + Sync>(
     let generals = plan.net().generals();
     let trees = make_trees(rt, alloc, plan.master(), plan.version().height(), generals)?;
     Scenario::of_trees(alloc, plan, trees)
-}
-
-/// Returns the best walks between these generals; none if two of them have no short one.
-pub(crate) fn walks_between(
-    alloc: Global,
-    net: &Net,
-    rest: &GeneralSet,
-) -> Result<Walks, AllocError>
-    ensures { IfOk result (AreWalksOfRun net.now rest.now) }
-{
-    match make_walks(alloc, net, rest) {
-        Ok(walks) => Ok(walks),
-        Err(WalkFault::Memory) => Err(AllocError),
-        Err(_) => Ok(Walks::new(alloc)),
-    }
 }
 
 /// Returns the bundle of a scenario's run with these logs. The generals that have scripts are held for faulty, and all
@@ -106,7 +88,7 @@ fn bundle_of<T: Threads + Wait + Sync>(
     input: &[u8],
 ) -> Result<Bundle, JobFault>
     requires { 0 < capacity }
-    ensures answer { IfOk result (λ bundle. IsRun input.now (bundle_spelling bundle) false) }
+    ensures answer { IfOk result (λ bundle. IsRunAnswer input.now (bundle_spelling bundle) false) }
     ensures fault { IfErr result (IsRunFault input.now) }
 {
     match read_scenario(alloc, input)? {
@@ -130,7 +112,7 @@ pub fn run_in_pieces<T: Threads + Wait + Sync>(
     input: &[u8],
 ) -> Result<BundleText, JobFault>
     requires { 0 < capacity }
-    ensures answer { IfOk result (λ text. IsRun input.now text false) }
+    ensures answer { IfOk result (λ text. IsRunAnswer input.now text false) }
     ensures fault { IfErr result (IsRunFault input.now) }
 {
     let bundle = bundle_of(rt, alloc, capacity, input)?;
@@ -153,7 +135,7 @@ pub fn run<T: Threads + Wait + Sync>(
     input: &[u8],
 ) -> Result<Output, JobFault>
     requires { 0 < capacity }
-    ensures answer { IfOk result (λ o. IsRun input.now o.text.items o.negative) }
+    ensures answer { IfOk result (λ o. IsRunAnswer input.now o.text.items o.negative) }
     ensures fault { IfErr result (IsRunFault input.now) }
 {
     let bundle = bundle_of(rt, alloc, capacity, input)?;
@@ -182,7 +164,7 @@ pub fn run_engine<T: Threads + Wait + Sync, R: Read, W: Write>(
     requires { 0 < capacity }
     // What is written is the bundle of the run of the scenario that was read.
     ensures answers { IfSome (R.remaining reader.old) (λ input.
-        Answers (IsRun input) (IsRunFault input)
+        Answers (IsRunAnswer input) (IsRunFault input)
         (W.contents writer.old) (W.contents writer.new) result) }
     // What was read is within the limit.
     ensures taken { IfSome (R.remaining reader.old) (λ input. IsTaken input result) }

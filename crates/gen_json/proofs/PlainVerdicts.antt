@@ -9,11 +9,12 @@ use Rattle.gen_match.specs.declared.finding.Finding.TheVariants.{Missing, Severa
 use Rattle.gen_convict.specs.Evidence.{Accusation}
 use Rattle.gen_audit.specs.declared.verdicts.Verdict.{Verdict}
 use Rattle.gen_audit.specs.declared.verdicts.Verdict.TheVariants.{Agreed, Explained, No}
+use Rattle.gen_audit.specs.Verdict.{findings_in}
 use Rattle.gen_json.specs.FindingData.{finding_data}
 use Rattle.gen_json.specs.StatusData.{status_data, status_of}
 use Rattle.gen_json.specs.DecisionData.{decided_data}
 use Rattle.gen_json.specs.ConvictionData.{conviction_data}
-use Rattle.gen_json.specs.VerdictData.{decisions_in, findings_in, judgement_data, order_data}
+use Rattle.gen_json.specs.VerdictData.{decisions_in, judgement_data, order_data}
 use Rattle.gen_json.proofs.Plain.{items_plain, items_shallow, numbers_plain, numbers_shallow}
 
 finding_plain : (f : Finding) → has_float (finding_data f) ≡ false

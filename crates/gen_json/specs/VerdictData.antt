@@ -3,10 +3,10 @@ use Rattle.std.specs.Prelude.{ℕ, List, [], ◌∷◌, codes}
 use Rattle.serde_json.specs.Data.{Data, null, string}
 use Rattle.gen_net.specs.Header.{RunHeader, run_id_of}
 use Rattle.gen_scenario.specs.declared.scenario.Decision.{Decision}
-use Rattle.gen_match.specs.declared.finding.Finding.{Finding}
 use Rattle.gen_convict.specs.Evidence.{Accusation}
 use Rattle.gen_audit.specs.declared.verdicts.Verdict.{Verdict}
 use Rattle.gen_audit.specs.declared.verdicts.Verdict.TheVariants.{Agreed, Explained, No}
+use Rattle.gen_audit.specs.Verdict.{findings_in}
 use Rattle.gen_json.specs.JsonData.{whole, list_of, numbers_data, digits_data, fields, json_version, network_data}
 use Rattle.gen_json.specs.FindingData.{finding_data}
 use Rattle.gen_json.specs.StatusData.{statuses_data}
@@ -30,12 +30,6 @@ abbrev pub decisions_in : Verdict → List Decision
 decisions_in (Agreed order) = []
 decisions_in (Explained decisions) = decisions
 decisions_in (No findings) = []
-
--- the findings of a verdict; none if the verdict is a yes
-abbrev pub findings_in : Verdict → List Finding
-findings_in (Agreed order) = []
-findings_in (Explained decisions) = []
-findings_in (No findings) = findings
 
 -- the object of a judgement, of its parts and the word for its verdict
 abbrev pub verdict_object : (convictions decisions faulty findings network order run statuses : Data) → List ℕ

@@ -22,7 +22,6 @@ pub mod laws;
 mod lines;
 mod numbers;
 mod objects;
-mod places;
 mod showing;
 mod shown_bundles;
 mod shown_campaigns;

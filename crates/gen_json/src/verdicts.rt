@@ -3,7 +3,7 @@ ghost use Rattle.std.specs.Prelude.{◌≡◌, IfOk, map};
 ghost use Rattle.serde_json.specs.View.{view};
 ghost use Rattle.gen_convict.specs.Evidence.{told_of};
 ghost use Rattle.gen_json.specs.Line.{ReadsAs, json_line};
-ghost use Rattle.gen_json.specs.VerdictData.{decisions_in, findings_in, judgement_data, order_data, verdict_word};
+ghost use Rattle.gen_json.specs.VerdictData.{decisions_in, judgement_data, order_data, verdict_word};
 
 use crate::convictions::convictions_value;
 use crate::decisions::all_decided_value;
@@ -13,7 +13,6 @@ use crate::numbers::{digits_value, network_value, set_value};
 use crate::objects::{JSON_VERSION, ObjectBuilder};
 use crate::statuses::statuses_value;
 use gen_audit::{Judgement, Verdict};
-use gen_match::Finding;
 use gen_net::Header;
 use gen_scenario::Decision;
 use gen_types::GeneralSet;
@@ -51,16 +50,6 @@ fn decisions_in(verdict: &Verdict) -> &[Decision]
     }
 }
 
-/// Returns the findings of a verdict; none if the verdict is a yes.
-fn findings_in(verdict: &Verdict) -> &[Finding]
-    ensures { result.now ≡ findings_in verdict.now }
-{
-    match verdict {
-        Verdict::No(findings) => findings.as_slice(),
-        Verdict::Agreed(_) | Verdict::Explained(_) => &[],
-    }
-}
-
 /// Returns a judgement under a header, by which these generals are held for faulty.
 pub(crate) fn judgement_value(
     alloc: Global,
@@ -72,7 +61,7 @@ pub(crate) fn judgement_value(
         judgement.now.verdict (map told_of judgement.now.convictions.items)) }
 {
     let verdict = &judgement.verdict;
-    let findings = findings_in(verdict);
+    let findings = verdict.findings();
     let accused = judgement.convictions.as_slice();
     let net = header.net();
     let mut object = ObjectBuilder::new(alloc);

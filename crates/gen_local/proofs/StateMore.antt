@@ -11,7 +11,7 @@ use Rattle.gen_local.specs.declared.progress.Progress.{Progress}
 use Rattle.gen_local.specs.declared.progress.Progress.TheVariants.{Unlearnt, Learnt, Relayed}
 use Rattle.gen_local.specs.Keys.{key, IsSmall}
 use Rattle.gen_local.specs.Walking.Brought.{IsNextDue, Brings, IsOf, AreBrought}
-use Rattle.gen_local.specs.Walking.State.{IsUnsigned, IsLearnt, IsRelayed, HasCome, IsAfter}
+use Rattle.gen_local.specs.Walking.State.{IsUnsigned, IsLearnt, IsRelayedBelow, HasCome, IsAfter}
 use Rattle.gen_local.specs.Walking.Judged.{CanSign, CanSend, HasStarted}
 use Rattle.gen_local.proofs.StateJudges.{may_judged}
 
@@ -116,7 +116,7 @@ module _ (net : Network) (g : ℕ) (before : List LogEntry) (v : ℕ) where
   learns_by_send e to path other q (inl h) = elim (Contains-push_cases before e (Started g (Some v)) h.0) [ inl k ↦ inl (k, h.1) | inr r ↦ let s : Sent to v path ≡ Started g (Some v) = sym q ∙ r in absurd (cc) ]
   learns_by_send e to path other q (inr h) = elim (Contains-push_cases before e (Received h.0 v other) h.1) [ inl k ↦ inr (h.0, k) | inr r ↦ let s : Sent to v path ≡ Received h.0 v other = sym q ∙ r in absurd (cc) ]
 
-  signed_from : (e : LogEntry) (path : List ℕ) (next : ℕ) → e ≡ Signed v path → IsUnsigned before v → IsToSign net g before v path → IsNextDue net g path 0 next → IsRelayed net g (before ++ e ∷ []) v path next
+  signed_from : (e : LogEntry) (path : List ℕ) (next : ℕ) → e ≡ Signed v path → IsUnsigned before v → IsToSign net g before v path → IsNextDue net g path 0 next → IsRelayedBelow net g (before ++ e ∷ []) v path next
   signed_from e path next q u t n = record {
     known = t.picked;
     learns = learns_kept g before e v t.picked t.learns;
@@ -134,7 +134,7 @@ module _ (net : Network) (g : ℕ) (before : List LogEntry) (v : ℕ) where
   come_signed e path (Learnt round) new q c can t b = subst (HasCome net g (before ++ e ∷ []) v) (sym b.2) (signed_from e path b.0 q c.not_yet t b.1)
   come_signed e path (Relayed other next) new q c can t b = absurd can
 
-  sent_on : (e : LogEntry) (to : ℕ) (path : List ℕ) (next : ℕ) → e ≡ Sent to v path → IsRelayed net g before v path to → IsNextDue net g path (to + 1) next → IsRelayed net g (before ++ e ∷ []) v path next
+  sent_on : (e : LogEntry) (to : ℕ) (path : List ℕ) (next : ℕ) → e ≡ Sent to v path → IsRelayedBelow net g before v path to → IsNextDue net g path (to + 1) next → IsRelayedBelow net g (before ++ e ∷ []) v path next
   sent_on e to path next q c n = record {
     known = c.known;
     learns = learns_kept g before e v c.known c.learns;
@@ -160,8 +160,8 @@ module _ (net : Network) (g : ℕ) (before : List LogEntry) (v : ℕ) where
   come_sent e to path Unlearnt new q c can b = absurd can
   come_sent e to path (Learnt round) new q c can b = absurd can
   come_sent e to path (Relayed other next) new q c can b =
-      let c1 : IsRelayed net g before v path next = subst (λ p. IsRelayed net g before v p next) can.2 c in
-      let c2 : IsRelayed net g before v path to = subst (λ n. IsRelayed net g before v path n) can.1 c1 in
+      let c1 : IsRelayedBelow net g before v path next = subst (λ p. IsRelayedBelow net g before v p next) can.2 c in
+      let c2 : IsRelayedBelow net g before v path to = subst (λ n. IsRelayedBelow net g before v path n) can.1 c1 in
       subst (HasCome net g (before ++ e ∷ []) v) (sym b.2) (sent_on e to path b.0 q c2 b.1)
 
   module _ (e : LogEntry) (from : ℕ) (path : List ℕ) (q : e ≡ Received from v path) (placed : (x : LogEntry) → Contains before x → Precedes (place net x) (place net e)) where

@@ -41,6 +41,7 @@ pub use departing::departs;
 pub use exchanges::Exchange;
 pub use exhibits::{Exhibit, exhibits_of_logs};
 pub use grouping::{local_reports, local_reports_among};
+pub use opening::says_it_is_of;
 pub use own_log::OwnLog;
 pub use reading::Reading;
 pub use reports::{LocalReport, local_report, local_report_with};

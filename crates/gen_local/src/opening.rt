@@ -42,8 +42,8 @@ fn starts_as(general: GeneralNo, entries: &[Entry]) -> bool
     }
 }
 
-/// Whether a log says that it is the general's of this run: by its run id and its START.
-fn says_it_is_of(header: &Header, general: GeneralNo, log: &Log) -> bool
+/// Returns whether a log says that it is the general's of this run: by its run id and its START.
+pub fn says_it_is_of(header: &Header, general: GeneralNo, log: &Log) -> bool
     ensures { IsTrue result ↔ SaysItIsOf header.now general log.now }
 {
     *log.run_id() == *header.run_id() && starts_as(general, log.entries())

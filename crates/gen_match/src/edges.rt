@@ -11,7 +11,7 @@ use crate::kinds::Kind;
 use crate::messages::{find_keys, one_sided};
 use crate::ranks::findings_at;
 use crate::sides::Side;
-use crate::telling::told;
+use crate::telling::log_reported;
 use gen_local::LocalReport;
 use gen_net::{Header, Net};
 use gen_types::{GeneralNo, GeneralSet};
@@ -21,7 +21,7 @@ use std::alloc::{AllocError, Global};
 fn counts(general: GeneralNo, faulty: &GeneralSet, reports: &[LocalReport]) -> bool
     ensures { IsTrue result ↔ Counts faulty.now (told_logs reports.now) general }
 {
-    !faulty.contains(general) && told(reports, general).is_some()
+    !faulty.contains(general) && log_reported(reports, general).is_some()
 }
 
 /// Returns the generals of the rest that have logs that count.

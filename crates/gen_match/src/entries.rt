@@ -5,7 +5,7 @@ ghost use Rattle.gen_local.specs.Erased.{erased};
 ghost use Rattle.gen_match.specs.Reports.{told_logs};
 ghost use Rattle.gen_match.specs.Rest as rest;
 
-use crate::telling::told;
+use crate::telling::log_reported;
 use gen_local::LocalReport;
 use gen_log::Entry;
 use gen_net::Header;
@@ -31,7 +31,7 @@ pub(crate) fn rest_entries<'a>(
     if !is_rest(header, faulty, general) {
         return &[];
     }
-    match told(reports, general) {
+    match log_reported(reports, general) {
         Some(log) => log.entries(),
         None => &[],
     }

@@ -36,7 +36,7 @@ fn log_of(reading: &Reading) -> Option<&Log>
 
 /// Returns the log of a general's one report, if its exhibit is a log of this general and its run. None is returned
 /// otherwise, and if the general has no report or several.
-pub(crate) fn told(reports: &[LocalReport], general: GeneralNo) -> Option<&Log>
+pub(crate) fn log_reported(reports: &[LocalReport], general: GeneralNo) -> Option<&Log>
     ensures { option_map (λ log. erased log.now.entries) result ≡ told_logs reports.now general }
 {
     let (report, others) = next_of(reports, general)?;

@@ -1,6 +1,7 @@
 pub mod Chain
 pub mod Departs
 pub mod Edges
+pub mod FaultNumber
 pub mod Follows
 pub mod Front
 pub mod FrontReading

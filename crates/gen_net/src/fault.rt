@@ -1,4 +1,7 @@
 //! Why numbers, edges and roots don't make a header.
+ghost use Rattle.std.specs.Prelude.{◌≡◌};
+ghost use Rattle.gen_net.specs.FaultNumber.{header_fault_number};
+
 use thiserror::Error;
 
 /// The rule that a header breaks. The texts are `H1` to `H11`.
@@ -42,4 +45,25 @@ pub enum HeaderFault {
     /// The slot is not 0 to 3.
     #[error("H11")]
     SlotRange,
+}
+
+impl HeaderFault {
+    /// Returns the number of the rule, 1 to 11.
+    pub fn number(self) -> u8
+        ensures { result ≡ header_fault_number self }
+    {
+        match self {
+            HeaderFault::GeneralCount => 1,
+            HeaderFault::BadEdge => 2,
+            HeaderFault::TraitorCount => 3,
+            HeaderFault::DiameterRange => 4,
+            HeaderFault::RoundCount => 5,
+            HeaderFault::OrderCount => 6,
+            HeaderFault::UnknownChoice => 7,
+            HeaderFault::RootCount => 8,
+            HeaderFault::Truncated => 9,
+            HeaderFault::UnknownVersion => 10,
+            HeaderFault::SlotRange => 11,
+        }
+    }
 }

@@ -10,10 +10,11 @@ use Rattle.gen_types.specs.Spelled.{Spells}
 use Rattle.gen_types.proofs.ByteFields.{IsBytes, Takes, Takes-then, byte_takes, bytes_takes, bytes_again, number_takes, number_again, wide16, wide32}
 use Rattle.gen_types.proofs.ManyFields.{Reads, many_take, many_again}
 use Rattle.gen_types.proofs.Steps.{after, after_check, at_end}
+use Rattle.gen_log.specs.Log.{run_id_length}
 use Rattle.gen_node.specs.declared.frames.FrameFront.{FrameFront}
 use Rattle.gen_node.specs.declared.frame_fault.FrameFault.{FrameFault}
 use Rattle.gen_node.specs.declared.frame_fault.FrameFault.TheVariants as faults
-use Rattle.gen_node.specs.Frame.{WireFrame, IsFront, IsParcel, IsFrame, frame_mark, run_id_length, front_spelling, parcel_spelling, frame_spelling}
+use Rattle.gen_node.specs.Frame.{WireFrame, IsFront, IsParcel, IsFrame, frame_mark, front_spelling, parcel_spelling, frame_spelling}
 use Rattle.gen_node.specs.FrameReading.{run_at, front_at, parcel_at, frame_at, whole_frame}
 
 -- ---- the mark and the run id

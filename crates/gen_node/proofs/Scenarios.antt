@@ -29,7 +29,7 @@ use Rattle.gen_node.specs.declared.stages.Stage.TheVariants.{Between, Sending, O
 use Rattle.gen_node.specs.Frame.{WireFrame}
 use Rattle.gen_node.specs.FrameReading.{whole_frame}
 use Rattle.gen_node.specs.Held.{frame_in}
-use Rattle.gen_node.specs.Node.{Node, HasSigned, IsBegunFrom, awaited, ended, frame_to, from_on, front_check, header_at, heard_from, hears_all, near_at, sends_all, sent_from, with_arrival}
+use Rattle.gen_node.specs.Node.{Node, SignsRound, IsBegunFrom, awaited, ended, frame_to, from_on, front_check, header_at, heard_from, hears_all, near_at, sends_all, sent_from, with_arrival}
 use Rattle.gen_node.specs.NodeLaws.{HoldsRound, IsAfter, IsWithin, NodesBegin, NodesDecide, NodesEnd, NodesHear, NodesLog, NodesSend, NodesStart, NodesTake, frame_between}
 use Rattle.gen_node.proofs.FrameLaws.{frame_only}
 
@@ -92,7 +92,7 @@ opened s k g n is none =
 begun_from : (s : Scenario) (k g : ℕ) (n m : Node) (stage : Stage) → stage ≡ Between → IsAfter s k g n → IsBegunFrom stage n m → IsWithin s k g m
 begun_from s k g n m Between e is begun =
     let signed : Node = begun.0 in
-    let has : HasSigned n signed = begun.1 in
+    let has : SignsRound n signed = begun.1 in
     let sent : HasSent s k g [] signed.recorder = begins s k g n.recorder signed.recorder is.records has.signs in
     let none : signed.recorder.standing.known.script ≡ None = ap (λ (p : Part). p.script) has.signs.standing.known ∙ is.unscripted in
     subst (IsWithin s k g) (sym begun.2) (opened s k g signed sent none)

@@ -2,6 +2,7 @@
 use Rattle.std.specs.Prelude.{ℕ, ◌≡◌, ◌<◌, ◌^◌, List, [], ◌∷◌, ◌++◌, length}
 use Rattle.std.specs.List.{flat_map, AllByRecursion}
 use Rattle.std.specs.Int.{w16, w32, to_be_bytes}
+use Rattle.gen_log.specs.Log.{run_id_length}
 use Rattle.gen_node.specs.declared.frames.FrameFront.{FrameFront}
 
 -- a frame: its front, and its parcels
@@ -12,10 +13,6 @@ pub record WireFrame : Type 0 where
 -- the mark: the four bytes of SMF1 as a big-endian number
 abbrev pub frame_mark : ℕ
 frame_mark = 1397573169
-
--- the number of bytes of a run id
-abbrev pub run_id_length : ℕ
-run_id_length = 32
 
 -- the run id has 32 numbers, and the round, the sender and the receiver are bytes
 pub record IsFront (f : FrameFront) : Type 0 where

@@ -3,10 +3,11 @@ use Rattle.std.specs.Prelude.{ℕ, ◌==◌, List, length, Result, Ok}
 use Rattle.std.specs.Int.{w16, w32}
 use Rattle.gen_types.specs.Reading.{◌>>=◌, check}
 use Rattle.gen_types.specs.Bytes.{byte_at, bytes_at, number_at, many_at}
+use Rattle.gen_log.specs.Log.{run_id_length}
 use Rattle.gen_node.specs.declared.frames.FrameFront.{FrameFront}
 use Rattle.gen_node.specs.declared.frame_fault.FrameFault.{FrameFault}
 use Rattle.gen_node.specs.declared.frame_fault.FrameFault.TheVariants as faults
-use Rattle.gen_node.specs.Frame.{WireFrame, frame_mark, run_id_length}
+use Rattle.gen_node.specs.Frame.{WireFrame, frame_mark}
 
 -- reads the mark and the run id: the run id and the bytes after it, or the first fault
 unfoldable pub run_at : List ℕ → Result (List ℕ × List ℕ) FrameFault

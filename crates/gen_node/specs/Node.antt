@@ -102,7 +102,7 @@ abbrev pub may_begin : Node → Bool
 may_begin n = begins_in n.stage n.recorder.standing.round (rounds (header_at n.recorder).network)
 
 -- the node has signed what it signs in the next round, and nothing was handed in yet
-pub record HasSigned (old new : Node) : Type 0 where
+pub record SignsRound (old new : Node) : Type 0 where
   pub signs : RecordsRound old.recorder new.recorder
   pub stage : new.stage ≡ Sending 0
   pub inbox : new.inbox ≡ []
@@ -110,7 +110,7 @@ pub record HasSigned (old new : Node) : Type 0 where
 -- The round has begun: the node has signed, and made the frames to all its neighbours. If the round was half
 -- begun, it has made the frames that were left.
 abbrev pub IsBegunFrom : Stage → Node → Node → Type 0
-IsBegunFrom Between old new = (signed : Node) × HasSigned old signed × (new ≡ sent_from 0 signed)
+IsBegunFrom Between old new = (signed : Node) × SignsRound old signed × (new ≡ sent_from 0 signed)
 IsBegunFrom (Sending next) old new = new ≡ sent_from next old
 IsBegunFrom Open old new = ⊥
 IsBegunFrom (Hearing next) old new = ⊥

@@ -1,143 +1,21 @@
 -- The lines of a network that are read are spelled so.
-use Rattle.std.proofs.Common.{◌≡◌, ℕ, ◌+◌, ◌<◌, Bool, true, false, cond, List, [], ◌∷◌, ◌++◌, map, codes, Option, Some, None, Result, Ok, refl, sym, ap, subst, ◌∙◌, append_assoc}
-use Rattle.std.specs.List.{AllByRecursion}
-use Rattle.std.specs.Str.{bytes_eq}
-use Rattle.std.specs.Fmt.{decimal}
+use Rattle.std.proofs.Common.{◌≡◌, ℕ, List, [], ◌∷◌, ◌++◌, map, codes, Ok, sym, ap, ◌∙◌, append_assoc}
 use Rattle.std.proofs.lemmas.List.{map-append}
 use Rattle.std.proofs.lemmas.Simd.{map-map}
-use Rattle.std.proofs.lemmas.Slice.Eq.{bytes_eq-Decides}
 use Rattle.gen_types.specs.Reading.{◌>>=◌}
 use Rattle.gen_types.proofs.Steps.{after, at_end, mapped_ok}
 use Rattle.gen_net.specs.declared.numbers.NetNumbers.{NetNumbers}
 use Rattle.gen_net.specs.Network.{Network}
 use Rattle.gen_net.specs.NetworkOf.{network_of}
-use Rattle.gen_report.specs.declared.cursor.Numbered.{Numbered}
 use Rattle.gen_report.specs.declared.fault.LineFault.TheVariants as faults
 use Rattle.gen_report.specs.declared.fault.ScenarioFault.{ScenarioFault}
 use Rattle.gen_report.specs.Fields.{line_of, said, edge_line}
-use Rattle.gen_report.specs.Cursor.{Cursor, Line}
-use Rattle.gen_report.specs.LineReading.{fault_at, number_in, number_behind}
-use Rattle.gen_report.specs.CursorReading.{next_line, numbered}
-use Rattle.gen_report.specs.EdgeReading.{EdgeLines, after_edge, edge_in, edge_lines_at}
+use Rattle.gen_report.specs.Cursor.{Cursor}
+use Rattle.gen_report.specs.LineReading.{fault_at}
 use Rattle.gen_report.specs.NumbersReading.{Opening, Settings, opening_at, settings_at, numbers_said, network_at}
 use Rattle.gen_prepare.specs.NetText.{FitBytes, net_at, net_lines}
 use Rattle.gen_report.proofs.Stepping.{done}
-use Rattle.gen_report.proofs.FoundNumbers.{FitsByte}
-use Rattle.gen_report.proofs.FoundLines.{LineOf, line_found, first_is, digits_found, behind_found, NumberOf, numbered_found}
-
--- ---- edges
-
-chosen : {P : Type 0} (b : Bool) (r : Result (Option (ℕ × ℕ)) ScenarioFault) (e : ℕ × ℕ) → cond b r (Ok None) ≡ Ok (Some e) → (b ≡ true → r ≡ Ok (Some e) → P) → P
-chosen true r e h k = k refl h
-chosen false r e h k = absurd cc
-
-three : (w x y u v z : List ℕ) → w ≡ u → x ≡ v → y ≡ z → (w ∷ x ∷ y ∷ []) ≡ (u ∷ v ∷ z ∷ [])
-three w x y u v z p q r = cc
-
-abbrev some_edge : ℕ → ℕ → Result (Option (ℕ × ℕ)) ScenarioFault
-some_edge a b = Ok (Some (a, b))
-
-edge_found : (k : ℕ) (fs : List (List ℕ)) (e : ℕ × ℕ) → edge_in k fs ≡ Ok (Some e) → (fs ≡ edge_line e) × FitsByte e
-unfolding edge_in
-edge_found k [] e h = absurd cc
-edge_found k (w ∷ []) e h = absurd cc
-edge_found k (w ∷ x ∷ []) e h = absurd cc
-edge_found k (w ∷ x ∷ y ∷ []) e h =
-    chosen (bytes_eq w (codes "edge")) (number_in k x >>= λ a. number_in k y >>= λ b. some_edge a b) e h (λ word h0.
-    after (number_in k x) (λ a. number_in k y >>= λ b. some_edge a b) (Some e) h0 (λ a first h1.
-    after (number_in k y) (λ b. some_edge a b) (Some e) h1 (λ b second h2.
-    let same : w ≡ codes "edge" = (bytes_eq-Decides w (codes "edge")).0 word in
-    let da = digits_found k a x first in
-    let db = digits_found k b y second in
-    let pair : (a, b) ≡ e = cc in
-    subst (λ (e : ℕ × ℕ). ((w ∷ x ∷ y ∷ []) ≡ edge_line e) × FitsByte e) pair (three w x y (codes "edge") (decimal a) (decimal b) same da.0 db.0, (da.1, db.1)))))
-edge_found k (w ∷ x ∷ y ∷ z ∷ more) e h = absurd cc
-
--- the parts are lines of edges, a line that is none, and what follows it
-record EdgesOf (ps : List (List ℕ)) (o : EdgeLines) : Type 0 where
-  lines : ps ≡ map (λ e. line_of (edge_line e)) o.found ++ (line_of o.next.fields ∷ o.after.parts)
-  small : AllByRecursion FitsByte o.found
-
-after_found : (edge : Option (ℕ × ℕ)) (k : ℕ) (line : List ℕ) (more : List (List ℕ)) (l : Line × Cursor) (others : Result EdgeLines ScenarioFault) (o : EdgeLines) → LineOf (record { line = k; parts = line ∷ more }) l → edge_in l.0.number l.0.fields ≡ Ok edge
-    → ((p : EdgeLines) → others ≡ Ok p → EdgesOf more p) → after_edge edge l others ≡ Ok o → EdgesOf (line ∷ more) o
-after_found None k line more l others o f was each e =
-    at_end {F = ScenarioFault} (EdgesOf (line ∷ more)) (record { found = []; next = l.0; after = l.1 }) o e (record { lines = first_is (record { line = k; parts = line ∷ more }) l l.0.fields f refl; small = tt })
-after_found (Some x) k line more l others o f was each e =
-    after others (λ p. done (record p { found = x ∷ p.found })) o e (λ p read made.
-    let g = edge_found l.0.number l.0.fields x was in
-    let t = each p read in
-    let is = first_is (record { line = k; parts = line ∷ more }) l (edge_line x) f g.0 in
-    let head : line ≡ line_of (edge_line x) = cc in
-    at_end {F = ScenarioFault} (EdgesOf (line ∷ more)) (record p { found = x ∷ p.found }) o made
-    (record { lines = ap (λ (l : List ℕ). l ∷ more) head ∙ ap (λ (m : List (List ℕ)). line_of (edge_line x) ∷ m) t.lines; small = (g.1, t.small) }))
-
-edges_found : (k : ℕ) (ps : List (List ℕ)) (o : EdgeLines) → edge_lines_at k ps ≡ Ok o → EdgesOf ps o
-unfolding edge_lines_at
-edges_found k [] o e = absurd cc
-edges_found k (line ∷ more) o e =
-    after (next_line (record { line = k; parts = line ∷ more })) (λ l. edge_in l.0.number l.0.fields >>= λ edge. after_edge edge l (edge_lines_at (k + 1) more)) o e (λ l read e0.
-    after (edge_in l.0.number l.0.fields) (λ edge. after_edge edge l (edge_lines_at (k + 1) more)) o e0 (λ edge was e1.
-    let f = line_found (record { line = k; parts = line ∷ more }) l read in
-    after_found edge k line more l (edge_lines_at (k + 1) more) o f was (λ p h. edges_found (k + 1) more p h) e1))
-
--- ---- the first lines
-
-record OpeningOf (c : Cursor) (o : Opening) : Type 0 where
-  lines : c.parts ≡ line_of (said (codes "generals") o.generals) ∷ (map (λ e. line_of (edge_line e)) o.edges ++ (line_of (said (codes "traitors") o.traitors) ∷ o.after.parts))
-  edges : AllByRecursion FitsByte o.edges
-  generals : o.generals < 256
-  traitors : o.traitors < 256
-
-abbrev opening_with : Numbered × Cursor → EdgeLines → ℕ → Opening
-opening_with n edges m = record { generals = n.0.value; edges = edges.found; traitors = m; after = edges.after }
-
-opening_made : (c : Cursor) (n : Numbered × Cursor) (edges : EdgeLines) (m : ℕ) → NumberOf (codes "generals") c n → EdgesOf n.1.parts edges → edges.next.fields ≡ said (codes "traitors") m → m < 256 → OpeningOf c (opening_with n edges m)
-opening_made c n edges m first found next little = record {
-  lines = first.parts ∙ ap (λ (r : List (List ℕ)). line_of (said (codes "generals") n.0.value) ∷ r) (found.lines ∙ ap (λ (fs : List (List ℕ)). map (λ e. line_of (edge_line e)) edges.found ++ (line_of fs ∷ edges.after.parts)) next);
-  edges = found.small;
-  generals = first.small;
-  traitors = little;
-}
-
-opening_found : (c : Cursor) (o : Opening) → opening_at c ≡ Ok o → OpeningOf c o
-unfolding opening_at
-opening_found c o e =
-    after (numbered (codes "generals") c) (λ n. edge_lines_at n.1.line n.1.parts >>= λ edges. number_behind edges.next.number (codes "traitors") edges.next.fields >>= λ m. done (opening_with n edges m)) o e (λ n r0 e0.
-    after (edge_lines_at n.1.line n.1.parts) (λ edges. number_behind edges.next.number (codes "traitors") edges.next.fields >>= λ m. done (opening_with n edges m)) o e0 (λ edges r1 e1.
-    after (number_behind edges.next.number (codes "traitors") edges.next.fields) (λ m. done (opening_with n edges m)) o e1 (λ m r2 e2.
-    let next = behind_found edges.next.number m (codes "traitors") edges.next.fields r2 in
-    at_end {F = ScenarioFault} (OpeningOf c) (opening_with n edges m) o e2
-    (opening_made c n edges m (numbered_found (codes "generals") c n r0) (edges_found n.1.line n.1.parts edges r1) next.0 next.1))))
-
--- ---- the three lines of the settings
-
-record SettingsOf (c : Cursor) (s : Settings) : Type 0 where
-  lines : c.parts ≡ line_of (said (codes "diameter") s.diameter) ∷ line_of (said (codes "orders") s.orders) ∷ line_of (said (codes "choice") s.choice) ∷ s.after.parts
-  diameter : s.diameter < 256
-  orders : s.orders < 256
-  choice : s.choice < 256
-
-abbrev settings_with : Numbered × Cursor → Numbered × Cursor → Numbered × Cursor → Settings
-settings_with d q c = record { diameter = d.0.value; orders = q.0.value; choice = c.0.value; line = c.0.line; after = c.1 }
-
-settings_made : (start : Cursor) (d q c : Numbered × Cursor) → NumberOf (codes "diameter") start d → NumberOf (codes "orders") d.1 q → NumberOf (codes "choice") q.1 c → SettingsOf start (settings_with d q c)
-settings_made start d q c fd fq fc = record {
-  lines = fd.parts ∙ ap (λ (r : List (List ℕ)). line_of (said (codes "diameter") d.0.value) ∷ r) (fq.parts ∙ ap (λ (r : List (List ℕ)). line_of (said (codes "orders") q.0.value) ∷ r) fc.parts);
-  diameter = fd.small;
-  orders = fq.small;
-  choice = fc.small;
-}
-
-settings_found : (start : Cursor) (s : Settings) → settings_at start ≡ Ok s → SettingsOf start s
-unfolding settings_at
-settings_found start s e =
-    after (numbered (codes "diameter") start) (λ d. numbered (codes "orders") d.1 >>= λ q. numbered (codes "choice") q.1 >>= λ c. done (settings_with d q c)) s e (λ d r0 e0.
-    after (numbered (codes "orders") d.1) (λ q. numbered (codes "choice") q.1 >>= λ c. done (settings_with d q c)) s e0 (λ q r1 e1.
-    after (numbered (codes "choice") q.1) (λ c. done (settings_with d q c)) s e1 (λ c r2 e2.
-    at_end {F = ScenarioFault} (SettingsOf start) (settings_with d q c) s e2
-    (settings_made start d q c (numbered_found (codes "diameter") start d r0) (numbered_found (codes "orders") d.1 q r1) (numbered_found (codes "choice") q.1 c r2)))))
-
--- ---- the network
+use Rattle.gen_report.proofs.FoundNumbers.{OpeningOf, SettingsOf, opening_found, settings_found}
 
 -- the network of the first lines, and the lines after them
 pub record NetOf (c : Cursor) (x : Network × Cursor) : Type 0 where

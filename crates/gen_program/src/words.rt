@@ -14,7 +14,7 @@ use crate::choices::Choices;
 use crate::command_line::tool_command;
 use clap::ArgMatches;
 use clap::error::ErrorKind;
-use gen_audit::WorkerCount;
+use gen_audit::{MOST_WORKERS, WorkerCount};
 use gen_jobs::{Asked, AskedRuns, Faulty, Form, Job, Telling, read_faulty, read_run_ids};
 use gen_net::Version;
 use gen_types::limits::MOST_GENERALS;
@@ -24,9 +24,6 @@ use thiserror::Error;
 
 /// The greatest number of a general.
 const LAST_GENERAL: u8 = MOST_GENERALS - 1;
-
-/// The greatest number of workers: one for each general.
-const MOST_WORKERS: u8 = MOST_GENERALS;
 
 /// The greatest capacity of an edge, in frames.
 const MOST_CAPACITY: u8 = 16;

@@ -14,7 +14,7 @@ use Rattle.gen_report.specs.Scenario.{Given, given_lines, AreBytes}
 use Rattle.gen_report.proofs.AgainLines.{IsField, word, decimal_field, IsLine, AreFields, fields_line, said_line, IsGoing, going_behind, fields_again, digits_again, behind_again, numbered_again}
 use Rattle.gen_report.proofs.FoundNumbers.{FitsByte}
 
-abbrev edges_of : List (ℕ × ℕ) → List (List ℕ)
+abbrev pub edges_of : List (ℕ × ℕ) → List (List ℕ)
 edges_of es = map (λ e. line_of (edge_line e)) es
 
 edge_fields : (e : ℕ × ℕ) → FitsByte e → AreFields (edge_line e)
@@ -24,7 +24,7 @@ edge_again : (k : ℕ) (e : ℕ × ℕ) → FitsByte e → edge_in k (edge_line 
 unfolding edge_in
 edge_again k e h = rw (digits_again k e.0 h.0, digits_again k e.1 h.1) refl
 
-abbrev traitors_line : ℕ → List ℕ
+abbrev pub traitors_line : ℕ → List ℕ
 traitors_line m = line_of (said (codes "traitors") m)
 
 traitors_fields : (m : ℕ) → m < 256 → AreFields (said (codes "traitors") m)
@@ -38,14 +38,14 @@ edges_again k (e ∷ es) m more fits lt going =
     let rest = edges_again (k + 1) es m more fits.1 lt going in
     (rest.0, rw (fields_again k (edge_line e) (edges_of es ++ (traitors_line m ∷ more)) (edge_fields e fits.0) (going_behind (edges_of es) (traitors_line m) more), edge_again k e fits.0, rest.1) refl)
 
-opening_again : (k n : ℕ) (es : List (ℕ × ℕ)) (m : ℕ) (more : List (List ℕ)) → n < 256 → AllByRecursion FitsByte es → m < 256 → IsGoing more
+pub opening_again : (k n : ℕ) (es : List (ℕ × ℕ)) (m : ℕ) (more : List (List ℕ)) → n < 256 → AllByRecursion FitsByte es → m < 256 → IsGoing more
     → (j : ℕ) × (opening_at (record { line = k; parts = line_of (said (codes "generals") n) ∷ (edges_of es ++ (traitors_line m ∷ more)) }) ≡ Ok (record { generals = n; edges = es; traitors = m; after = record { line = j + 1; parts = more } }))
 unfolding opening_at
 opening_again k n es m more small fits little going =
     let edges = edges_again (k + 1) es m more fits little going in
     (edges.0, rw (numbered_again k n (codes "generals") (edges_of es ++ (traitors_line m ∷ more)) (word (codes "generals") refl (omega arith)) small (going_behind (edges_of es) (traitors_line m) more), edges.1, behind_again edges.0 m (codes "traitors") little) refl)
 
-settings_again : (k d q c : ℕ) (more : List (List ℕ)) → d < 256 → q < 256 → c < 256 → IsGoing more
+pub settings_again : (k d q c : ℕ) (more : List (List ℕ)) → d < 256 → q < 256 → c < 256 → IsGoing more
     → settings_at (record { line = k; parts = line_of (said (codes "diameter") d) ∷ line_of (said (codes "orders") q) ∷ line_of (said (codes "choice") c) ∷ more }) ≡ Ok (record { diameter = d; orders = q; choice = c; line = (k + 1) + 1; after = record { line = ((k + 1) + 1) + 1; parts = more } })
 unfolding settings_at
 settings_again k d q c more ld lq lc going =
@@ -76,11 +76,11 @@ regrouped g more =
     ∙ append_assoc (edges_of g.edges) (map line_of (closing_of g)) more)
 
 -- the lines of a text's first part are lines
-lines_behind : (es : List (ℕ × ℕ)) (ls : List (List (List ℕ))) → AllByRecursion FitsByte es → AllByRecursion IsLine (map line_of ls) → AllByRecursion IsLine (map line_of (map edge_line es ++ ls))
+pub lines_behind : (es : List (ℕ × ℕ)) (ls : List (List (List ℕ))) → AllByRecursion FitsByte es → AllByRecursion IsLine (map line_of ls) → AllByRecursion IsLine (map line_of (map edge_line es ++ ls))
 lines_behind [] ls h k = k
 lines_behind (e ∷ es) ls h k = ((edge_fields e h.0).line, lines_behind es ls h.1 k)
 
-a_line : (w : List ℕ) (n : ℕ) → IsField w → n < 256 → IsLine (line_of (said w n))
+pub a_line : (w : List ℕ) (n : ℕ) → IsField w → n < 256 → IsLine (line_of (said w n))
 a_line w n h lt = (said_line w n h lt).line
 
 pub given_are_lines : (g : Given) → AreBytes g → AllByRecursion IsLine (map line_of (given_lines g))

@@ -86,11 +86,11 @@ edges_found k (line ∷ more) o e =
 
 -- ---- the first lines
 
-record OpeningOf (c : Cursor) (o : Opening) : Type 0 where
-  lines : c.parts ≡ line_of (said (codes "generals") o.generals) ∷ (map (λ e. line_of (edge_line e)) o.edges ++ (line_of (said (codes "traitors") o.traitors) ∷ o.after.parts))
-  edges : AllByRecursion FitsByte o.edges
-  generals : o.generals < 256
-  traitors : o.traitors < 256
+pub record OpeningOf (c : Cursor) (o : Opening) : Type 0 where
+  pub lines : c.parts ≡ line_of (said (codes "generals") o.generals) ∷ (map (λ e. line_of (edge_line e)) o.edges ++ (line_of (said (codes "traitors") o.traitors) ∷ o.after.parts))
+  pub edges : AllByRecursion FitsByte o.edges
+  pub generals : o.generals < 256
+  pub traitors : o.traitors < 256
 
 abbrev opening_with : Numbered × Cursor → EdgeLines → ℕ → Opening
 opening_with n edges m = record { generals = n.0.value; edges = edges.found; traitors = m; after = edges.after }
@@ -103,7 +103,7 @@ opening_made c n edges m first found next little = record {
   traitors = little;
 }
 
-opening_found : (c : Cursor) (o : Opening) → opening_at c ≡ Ok o → OpeningOf c o
+pub opening_found : (c : Cursor) (o : Opening) → opening_at c ≡ Ok o → OpeningOf c o
 unfolding opening_at
 opening_found c o e =
     after (numbered (codes "generals") c) (λ n. edge_lines_at n.1.line n.1.parts >>= λ edges. number_behind edges.next.number (codes "traitors") edges.next.fields >>= λ m. done (opening_with n edges m)) o e (λ n r0 e0.
@@ -115,11 +115,11 @@ opening_found c o e =
 
 -- ---- the three lines of the settings
 
-record SettingsOf (c : Cursor) (s : Settings) : Type 0 where
-  lines : c.parts ≡ line_of (said (codes "diameter") s.diameter) ∷ line_of (said (codes "orders") s.orders) ∷ line_of (said (codes "choice") s.choice) ∷ s.after.parts
-  diameter : s.diameter < 256
-  orders : s.orders < 256
-  choice : s.choice < 256
+pub record SettingsOf (c : Cursor) (s : Settings) : Type 0 where
+  pub lines : c.parts ≡ line_of (said (codes "diameter") s.diameter) ∷ line_of (said (codes "orders") s.orders) ∷ line_of (said (codes "choice") s.choice) ∷ s.after.parts
+  pub diameter : s.diameter < 256
+  pub orders : s.orders < 256
+  pub choice : s.choice < 256
 
 abbrev settings_with : Numbered × Cursor → Numbered × Cursor → Numbered × Cursor → Settings
 settings_with d q c = record { diameter = d.0.value; orders = q.0.value; choice = c.0.value; line = c.0.line; after = c.1 }
@@ -132,7 +132,7 @@ settings_made start d q c fd fq fc = record {
   choice = fc.small;
 }
 
-settings_found : (start : Cursor) (s : Settings) → settings_at start ≡ Ok s → SettingsOf start s
+pub settings_found : (start : Cursor) (s : Settings) → settings_at start ≡ Ok s → SettingsOf start s
 unfolding settings_at
 settings_found start s e =
     after (numbered (codes "diameter") start) (λ d. numbered (codes "orders") d.1 >>= λ q. numbered (codes "choice") q.1 >>= λ c. done (settings_with d q c)) s e (λ d r0 e0.

@@ -1,30 +1,11 @@
 //! The names of faults of headers and logs.
 ghost use Rattle.std.specs.Prelude.{◌≡◌, ◌++◌, OnOk, string_bytes};
-ghost use Rattle.gen_show.specs.FaultText.{fault_line, header_fault_name, header_rule, log_fault_name};
+ghost use Rattle.gen_show.specs.FaultText.{fault_line, header_fault_name, log_fault_name};
 
 use crate::words::push_number;
 use gen_log::LogFault;
 use gen_net::HeaderFault;
 use std::alloc::AllocError;
-
-/// Returns the number of a header's rule.
-fn header_rule(fault: HeaderFault) -> u8
-    ensures { result ≡ header_rule fault }
-{
-    match fault {
-        HeaderFault::GeneralCount => 1,
-        HeaderFault::BadEdge => 2,
-        HeaderFault::TraitorCount => 3,
-        HeaderFault::DiameterRange => 4,
-        HeaderFault::RoundCount => 5,
-        HeaderFault::OrderCount => 6,
-        HeaderFault::UnknownChoice => 7,
-        HeaderFault::RootCount => 8,
-        HeaderFault::Truncated => 9,
-        HeaderFault::UnknownVersion => 10,
-        HeaderFault::SlotRange => 11,
-    }
-}
 
 /// Appends the name of a header's fault, as `H9`.
 ///
@@ -36,7 +17,7 @@ pub fn push_header_fault(out: &mut String, fault: HeaderFault) -> Result<(), All
     ensures { OnOk result
         (string_bytes out.new ≡ string_bytes out.old ++ header_fault_name fault) }
 {
-    let rule = header_rule(fault);
+    let rule = fault.number();
     write!(out, "H{rule}")
 }
 

@@ -21,7 +21,7 @@ use Rattle.gen_general.specs.Recording.{RingSealed}
 use Rattle.gen_general.specs.Spending.{IsLeafOfSign, IsLeafOfLog}
 use Rattle.gen_general.proofs.Spending.{signs_take_leaves, round_sign, sign_round, log_sign, one_log}
 use Rattle.gen_threads.specs.Ending.{MayRunWith, RingComesBack}
-use Rattle.gen_threads.specs.Rings.{RingSpentOn, HasSigned}
+use Rattle.gen_threads.specs.Rings.{RingSpentOn, HasSpentOnSigns}
 
 pub ring_then : (h : RunHeader) (a b c : Option Ring) → RingComesBack h a b → RingComesBack h b c → RingComesBack h a c
 ring_then h None None None x y = tt
@@ -91,7 +91,7 @@ pub where_ok : {X E : Type 0} (P : Type 0) (r : Result X E) → P → OnOk r P
 where_ok P (Ok x) p = p
 where_ok P (Err e) p = record {}
 
-pub signed_round : (s : Scenario) (k g : ℕ) (p : Participant) → StandsAfter s k g p → (a b : Option Ring) → RingAfter p a b → HasSigned s g (entries_after s g k) a b
+pub signed_round : (s : Scenario) (k g : ℕ) (p : Participant) → StandsAfter s k g p → (a b : Option Ring) → RingAfter p a b → HasSpentOnSigns s g (entries_after s g k) a b
 signed_round s k g p is None None ring none = tt
 signed_round s k g p is None (Some b) ring none = absurd ring
 signed_round s k g p is (Some a) None ring none = absurd ring
@@ -104,7 +104,7 @@ signed_round s k g p is (Some a) (Some b) ring none = λ leaf.
 no_sign : (h : RunHeader) (leaf : ℕ) → IsLeafOfSign h [] leaf → ⊥
 no_sign h leaf is = absurd (Contains_nil (Sign is.order is.path is.signature) is.stands)
 
-pub signed_none : (s : Scenario) (g : ℕ) (a : Option Ring) → HasSigned s g [] a a
+pub signed_none : (s : Scenario) (g : ℕ) (a : Option Ring) → HasSpentOnSigns s g [] a a
 signed_none s g None none = tt
 signed_none s g (Some a) none = λ leaf. (λ m. inl m, λ m. elim m [ inl old ↦ old | inr sign ↦ absurd (no_sign (header_of s) leaf sign) ])
 
@@ -114,7 +114,7 @@ sign_either h es fs leaf is = elim (Contains-append_cases es fs (Sign is.order i
   | inr b ↦ inr (record { order = is.order; path = is.path; signature = is.signature; stands = b; leaf_is = is.leaf_is })
 ]
 
-pub signed_then : (s : Scenario) (g : ℕ) (es fs : List Entry) (a b c : Option Ring) → HasSigned s g es a b → HasSigned s g fs b c → HasSigned s g (es ++ fs) a c
+pub signed_then : (s : Scenario) (g : ℕ) (es fs : List Entry) (a b c : Option Ring) → HasSpentOnSigns s g es a b → HasSpentOnSigns s g fs b c → HasSpentOnSigns s g (es ++ fs) a c
 signed_then s g es fs None None None x y none = tt
 signed_then s g es fs None None (Some c) x y none = absurd (y none)
 signed_then s g es fs None (Some b) c x y none = absurd (x none)
@@ -163,7 +163,7 @@ leaf_of_middle : (s : Scenario) (g leaf : ℕ) → IsLeafOfSign (header_of s) (t
 unfolding the_log
 leaf_of_middle s g leaf is = same_leaf (header_of s) (entries_over (sender_of s g) (middle_of s g)) (middle_of s g) leaf (log_sign (sender_of s g) (middle_of s g)) is
 
-signed_log : (s : Scenario) (g : ℕ) (a b c : Option Ring) → script_of s.scripts g ≡ None → HasSigned s g (middle_of s g) a b → RingSealed (header_of s) b c → RingSpentOn (header_of s) (logs_of s g) a c
+signed_log : (s : Scenario) (g : ℕ) (a b c : Option Ring) → script_of s.scripts g ≡ None → HasSpentOnSigns s g (middle_of s g) a b → RingSealed (header_of s) b c → RingSpentOn (header_of s) (logs_of s g) a c
 signed_log s g None None None none x y = tt
 signed_log s g None None (Some c) none x y = absurd y
 signed_log s g None (Some b) c none x y = absurd (x none)
@@ -185,7 +185,7 @@ signed_log s g (Some a) (Some b) (Some c) none x y = λ leaf. (
   ],
 )
 
-pub spent_on_logs : (s : Scenario) (g : ℕ) (ring last end : Option Ring) → MayRunWith s g ring → RingComesBack (header_of s) ring end → HasSigned s g (middle_of s g) ring last → RingSealed (header_of s) last end → RingSpentOn (header_of s) (logs_of s g) ring end
+pub spent_on_logs : (s : Scenario) (g : ℕ) (ring last end : Option Ring) → MayRunWith s g ring → RingComesBack (header_of s) ring end → HasSpentOnSigns s g (middle_of s g) ring last → RingSealed (header_of s) last end → RingSpentOn (header_of s) (logs_of s g) ring end
 spent_on_logs s g None last None may back x y = tt
 spent_on_logs s g None last (Some c) may back x y = absurd back
 spent_on_logs s g (Some a) last end may back x y = signed_log s g (Some a) last end may.0.0 x y

@@ -23,5 +23,6 @@ RingSpentOnSigns h entries None None = Unit {0}
 RingSpentOnSigns h entries _ _ = ⊥
 
 -- if the general has no script, the leaves that were taken are those of the SIGNs that it has written
-abbrev pub HasSigned : Scenario → ℕ → List Entry → Option Ring → Option Ring → Type 0
-HasSigned s g entries old new = script_of s.scripts g ≡ None → RingSpentOnSigns (header_of s) entries old new
+abbrev pub HasSpentOnSigns : Scenario → ℕ → List Entry → Option Ring → Option Ring → Type 0
+HasSpentOnSigns s g entries old new =
+    script_of s.scripts g ≡ None → RingSpentOnSigns (header_of s) entries old new

@@ -10,7 +10,7 @@ ghost use Rattle.gen_scenario.specs.WorldLogs.{entries_after};
 ghost use Rattle.gen_threads.specs.Edges.{ArePassesOf, HasPut, HasTakenBy, HaveCarried, IsPutOn, IsTakeBy};
 ghost use Rattle.gen_threads.specs.Ending.{RingComesBack};
 ghost use Rattle.gen_threads.specs.Faults.{HasLastWord, IsOwnFault};
-ghost use Rattle.gen_threads.specs.Rings.{HasSigned};
+ghost use Rattle.gen_threads.specs.Rings.{HasSpentOnSigns};
 ghost use Rattle.gen_threads.specs.Turns.{HasPutUntil, HasTakenUntil, IsPutting, IsTaking, index_of_next};
 
 use crate::edges::Edges;
@@ -231,7 +231,7 @@ pub(crate) fn run_round<R: Wait>(
     ensures fault { IfErr result (IsOwnFault takes.new.items) }
     ensures ring { RingComesBack (header_of part.now.scenario) recorder.old.standing.ring recorder.new.standing.ring }
     ensures signed { OnOk result
-        (HasSigned part.now.scenario part.now.me (entries_after part.now.scenario part.now.me gone)
+        (HasSpentOnSigns part.now.scenario part.now.me (entries_after part.now.scenario part.now.me gone)
         recorder.old.standing.ring recorder.new.standing.ring) }
 {
     let _lawful = part.part();

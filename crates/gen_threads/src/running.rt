@@ -8,7 +8,7 @@ ghost use Rattle.gen_threads.specs.declared.ends.RunFault.TheVariants.{Memory};
 ghost use Rattle.gen_threads.specs.Edges.{ArePassesOf, HaveCarried};
 ghost use Rattle.gen_threads.specs.Ending.{IsEndOf, MayRunWith, RingComesBack, logs_by};
 ghost use Rattle.gen_threads.specs.Faults.{IsOwnFault};
-ghost use Rattle.gen_threads.specs.Rings.{HasSigned, RingSpentOn};
+ghost use Rattle.gen_threads.specs.Rings.{HasSpentOnSigns, RingSpentOn};
 ghost use Rattle.gen_threads.specs.Turns.{AreOver};
 
 use crate::edges::Edges;
@@ -61,7 +61,7 @@ fn run_rounds<R: Wait, G: Gate>(
     ensures passes { ArePassesOf edges.now part.now.scenario part.now.me puts.new.items takes.new.items }
     ensures fault { IfErr result (IsOwnFault takes.new.items) }
     ensures ring { RingComesBack (header_of part.now.scenario) recorder.old.standing.ring recorder.new.standing.ring }
-    ensures signed { OnOk result (HasSigned part.now.scenario part.now.me (middle_of part.now.scenario part.now.me)
+    ensures signed { OnOk result (HasSpentOnSigns part.now.scenario part.now.me (middle_of part.now.scenario part.now.me)
         recorder.old.standing.ring recorder.new.standing.ring) }
 {
     let me = part.part().me();

@@ -3,7 +3,7 @@ use Rattle.std.proofs.Common.{◌≡◌, ◌≢◌, ℕ, zero, suc, ◌+◌, ◌
 use Rattle.std.proofs.lemmas.Bool.{cases_eq, cases_lt, cond_both, eq-eqb, ne_eqb}
 use Rattle.std.proofs.Math.ListN.{set, replicate}
 use Rattle.gen_walks.specs.Levels.{level}
-use Rattle.gen_walks.specs.Loops.Search.{IsNext, AreLevels}
+use Rattle.gen_walks.specs.Loops.Search.{IsNextLevel, AreLevels}
 
 -- how many of the generals below n have no level
 pub unmet : (ℕ → ℕ) → ℕ → ℕ
@@ -68,7 +68,7 @@ begun_row near source at =
     let long : source < length {A = ℕ} (replicate 16 255) = at in
     begun near source (level (set {A = ℕ} (replicate 16 255) source 0)) at (rw get_or-set_same refl) (λ v n. rw get_or-set_other (blank 16 v))
 
-module _ (near : ℕ → ℕ → Type 0) (source : ℕ) (ends : (u v : ℕ) → near u v → (u < 16) × (v < 16)) (at : source < 16) (k : ℕ) (low : k < 16) (lev next : ℕ → ℕ) (so : IsFound near source k lev) (step : (v : ℕ) → v < 16 → IsNext near lev k v (next v)) where
+module _ (near : ℕ → ℕ → Type 0) (source : ℕ) (ends : (u v : ℕ) → near u v → (u < 16) × (v < 16)) (at : source < 16) (k : ℕ) (low : k < 16) (lev next : ℕ → ℕ) (so : IsFound near source k lev) (step : (v : ℕ) → v < 16 → IsNextLevel near lev k v (next v)) where
   -- who has a level keeps it
   kept : (v : ℕ) → v < 16 → lev v < 255 → next v ≡ lev v
   kept v l h = elim (step v l) [

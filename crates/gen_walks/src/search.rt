@@ -3,7 +3,7 @@ ghost use Rattle.std.specs.Prelude.{ℕ, List, ◌≡◌, ◌≢◌, ◌+◌, �
 ghost use Rattle.std.specs.Bool.{OnTrue, OnFalse};
 ghost use Rattle.gen_walks.specs.Walks.{IsInside, AreJoined, IsWalkInside};
 ghost use Rattle.gen_walks.specs.Levels.{level, IsDistanceRow};
-ghost use Rattle.gen_walks.specs.Loops.Search.{AreLevels, AreLevelRows, IsNext, IsNearest};
+ghost use Rattle.gen_walks.specs.Loops.Search.{AreLevels, AreLevelRows, IsNextLevel, IsNearest};
 ghost use Rattle.gen_walks.specs.BestWalks.{IsBestWalk};
 ghost use Rattle.gen_net.specs.Network.{IsNetwork};
 
@@ -34,7 +34,7 @@ fn is_near_level(net: &Net, rest: &GeneralSet, row: &LevelRow, k: u8, v: General
 /// inside the set joins v to a general of level k; else it is the level that v had.
 fn next_level(net: &Net, rest: &GeneralSet, row: &LevelRow, k: u8, v: GeneralNo) -> u8
     requires { k < 254 }
-    ensures { IsNext (AreJoined net.now rest.now) (level row.now) k v result }
+    ensures { IsNextLevel (AreJoined net.now rest.now) (level row.now) k v result }
 {
     let old = row.level(v);
     if old == UNREACHED && is_near_level(net, rest, row, k, v) {
@@ -50,7 +50,7 @@ fn spread(net: &Net, rest: &GeneralSet, row: &LevelRow, k: u8, next: &mut [u8; G
     requires k { k < 254 }
     requires same { next.old ≡ row.now }
     ensures next { let joined = AreJoined net.now rest.now in
-        (v : ℕ) → v < 16 → IsNext joined (level row.now) k v (level next.new v) }
+        (v : ℕ) → v < 16 → IsNextLevel joined (level row.now) k v (level next.new v) }
     ensures yes { OnTrue result (
         (v : ℕ) × (v < 16) × (level row.now v ≡ 255) × (level next.new v ≢ 255)) }
     ensures no { OnFalse result ((v : ℕ) → v < 16 → level next.new v ≡ level row.now v) }

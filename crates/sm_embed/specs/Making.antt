@@ -42,14 +42,14 @@ status_of_made (Line fault) = line_status fault
 status_of_made Nothing = 4
 
 -- this text is held
-abbrev pub Keeps : Option Kept → List ℕ → Type 0
-Keeps None text = ⊥
-Keeps (Some kept) text = kept.text.items ≡ text
+abbrev pub HoldsText : Option Kept → List ℕ → Type 0
+HoldsText None text = ⊥
+HoldsText (Some kept) text = kept.text.items ≡ text
 
 -- the text is held; or nothing is, because memory was refused
 abbrev pub KeepsAnswer : List ℕ → Bool → Option Kept → Made → Type 0
-KeepsAnswer text negative held Yes = (negative ≡ false) × Keeps held text
-KeepsAnswer text negative held No = (negative ≡ true) × Keeps held text
+KeepsAnswer text negative held Yes = (negative ≡ false) × HoldsText held text
+KeepsAnswer text negative held No = (negative ≡ true) × HoldsText held text
 KeepsAnswer text negative held (Line f) = ⊥
 KeepsAnswer text negative held Nothing = held ≡ None
 
@@ -57,7 +57,7 @@ KeepsAnswer text negative held Nothing = held ≡ None
 abbrev pub KeepsFault : JobFault → Option Kept → Made → Type 0
 KeepsFault fault held Yes = ⊥
 KeepsFault fault held No = ⊥
-KeepsFault fault held (Line f) = (f ≡ fault) × IsOfInput f × Keeps held (job_fault_line f)
+KeepsFault fault held (Line f) = (f ≡ fault) × IsOfInput f × HoldsText held (job_fault_line f)
 KeepsFault fault held Nothing = held ≡ None
 
 -- the answer is held, or the line of the fault in its place
@@ -68,9 +68,9 @@ KeepsOver (Err fault) held made = KeepsFault fault held made
 -- A job has answers to its input, each a text that says no or doesn't, and it has faults. What is held is an
 -- answer, or the line of a fault of the input. Otherwise memory was refused, and nothing is held.
 abbrev pub Makes : (List ℕ → Bool → Type 0) → (JobFault → Type 0) → Option Kept → Made → Type 0
-Makes IsAnswer IsFault held Yes = (text : List ℕ) × IsAnswer text false × Keeps held text
-Makes IsAnswer IsFault held No = (text : List ℕ) × IsAnswer text true × Keeps held text
-Makes IsAnswer IsFault held (Line f) = IsFault f × IsOfInput f × Keeps held (job_fault_line f)
+Makes IsAnswer IsFault held Yes = (text : List ℕ) × IsAnswer text false × HoldsText held text
+Makes IsAnswer IsFault held No = (text : List ℕ) × IsAnswer text true × HoldsText held text
+Makes IsAnswer IsFault held (Line f) = IsFault f × IsOfInput f × HoldsText held (job_fault_line f)
 Makes IsAnswer IsFault held Nothing = held ≡ None
 
 -- the returned number is the one for what was made

@@ -20,7 +20,7 @@ pub enum Handed {
 }
 
 /// The number that says that only a length was handed.
-const LENGTH: u8 = 5;
+pub(crate) const LENGTH: u8 = 5;
 
 impl Handed {
     /// Returns the number that the call returns: the exit status of the program for this end of the job, and 5 for a

@@ -65,7 +65,7 @@ use crate::handing::hand;
 use crate::knowing::{
     accuse_known, accuse_known_of, hand_known, keep_known, status_of_known, status_of_made_known,
 };
-use crate::making::{asked_in, form_in, hand_kept, keep};
+use crate::making::{MISUSE, asked_in, form_in, hand_kept, keep};
 use crate::opaque::SmAnswer;
 use crate::replying::hand_reply;
 use crate::runs::tell_runs;
@@ -116,7 +116,7 @@ pub extern "C" fn sm_accuse(
 {
     if general >= GENERALS {
         *count = 0;
-        return 2;
+        return MISUSE;
     }
     let accused = GeneralNo::at(general as u8);
     hand(alloc, accuse_in_place(alloc, accused, input), room, count).status()
@@ -161,7 +161,7 @@ pub extern "C" fn sm_accuse_known(
 {
     if general >= GENERALS {
         *count = 0;
-        return 2;
+        return MISUSE;
     }
     let accused = GeneralNo::at(general as u8);
     status_of_known(hand_known(alloc, accuse_known(alloc, accused, input), room, count))
@@ -217,7 +217,7 @@ pub extern "C" fn sm_audit_of(
 {
     answer.clear(alloc);
     let Some(asked) = asked_in(runs) else {
-        return 2;
+        return MISUSE;
     };
     let answered = audit_asked_in_place(alloc, asked, strict != 0, input);
     keep(alloc, answered, answer).status()
@@ -237,7 +237,7 @@ pub extern "C" fn sm_draw_of(
 {
     answer.clear(alloc);
     let Some(asked) = asked_in(runs) else {
-        return 2;
+        return MISUSE;
     };
     keep(alloc, draw_asked_in_place(alloc, asked, input), answer).status()
 }
@@ -260,10 +260,10 @@ pub extern "C" fn sm_accuse_of(
 {
     answer.clear(alloc);
     if general >= GENERALS {
-        return 2;
+        return MISUSE;
     }
     let Some(asked) = asked_in(runs) else {
-        return 2;
+        return MISUSE;
     };
     let accused = GeneralNo::at(general as u8);
     keep(
@@ -288,7 +288,7 @@ pub extern "C" fn sm_evidence_of(
 {
     answer.clear(alloc);
     let Some(asked) = asked_in(runs) else {
-        return 2;
+        return MISUSE;
     };
     keep(alloc, evidence_as_asked(alloc, asked, input), answer).status()
 }
@@ -362,10 +362,10 @@ pub extern "C" fn sm_accuse_known_of(
 {
     answer.clear(alloc);
     if general >= GENERALS {
-        return 2;
+        return MISUSE;
     }
     let Some(asked) = asked_in(runs) else {
-        return 2;
+        return MISUSE;
     };
     let accused = GeneralNo::at(general as u8);
     let answered = accuse_known_of(alloc, asked, accused, input);
@@ -404,10 +404,10 @@ pub extern "C" fn sm_audit_as(
 {
     answer.clear(alloc);
     let Some(told) = form_in(form) else {
-        return 2;
+        return MISUSE;
     };
     let Some(asked) = asked_in(runs) else {
-        return 2;
+        return MISUSE;
     };
     let answered = audit_form_in_place(alloc, told, asked, strict != 0, input);
     keep(alloc, answered, answer).status()
@@ -429,10 +429,10 @@ pub extern "C" fn sm_evidence_as(
 {
     answer.clear(alloc);
     let Some(told) = form_in(form) else {
-        return 2;
+        return MISUSE;
     };
     let Some(asked) = asked_in(runs) else {
-        return 2;
+        return MISUSE;
     };
     keep(alloc, evidence_in(alloc, told, asked, input), answer).status()
 }
@@ -447,7 +447,7 @@ pub extern "C" fn sm_decide_as(alloc: Global, form: u32, input: &[u8], answer: &
 {
     answer.clear(alloc);
     let Some(told) = form_in(form) else {
-        return 2;
+        return MISUSE;
     };
     keep(alloc, decide_in(alloc, told, input), answer).status()
 }
@@ -470,10 +470,10 @@ pub extern "C" fn sm_show_as(
 {
     answer.clear(alloc);
     let Some(told) = form_in(form) else {
-        return 2;
+        return MISUSE;
     };
     let Some(asked) = asked_in(runs) else {
-        return 2;
+        return MISUSE;
     };
     keep(alloc, show_in(alloc, told, asked, input), answer).status()
 }

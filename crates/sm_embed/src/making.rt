@@ -1,8 +1,9 @@
 //! Keeps an answer for a caller in another language.
 ghost use Rattle.std.specs.Prelude.{◌≡◌, false, None, true};
 ghost use Rattle.sm_embed.specs.Handing.{IsOfInput, PutsText};
-ghost use Rattle.sm_embed.specs.Making.{HandsKept, Keeps, KeepsAnswer, KeepsFault, KeepsOver, asked_in, form_in};
+ghost use Rattle.sm_embed.specs.Making.{HandsKept, HoldsText, KeepsAnswer, KeepsFault, KeepsOver, asked_in, form_in};
 
+use crate::handed::LENGTH;
 use crate::handing::put;
 use crate::kept::Kept;
 use crate::made::Made;
@@ -10,12 +11,11 @@ use crate::opaque::SmAnswer;
 use gen_jobs::{AskedRuns, Form, JobFault, Output, job_fault_line};
 use std::alloc::Global;
 
-/// The numbers that say that a text was put into the room, that nothing is held, and that the room is too short.
+/// The number that says that a text was put into the room.
 const DONE: u32 = 0;
 
-const MISUSE: u32 = 2;
-
-const LENGTH: u32 = 5;
+/// The number that says that the call may not be made: nothing is handed over, and nothing is held.
+pub(crate) const MISUSE: u32 = 2;
 
 /// Returns the runs with these ids: any for none, and None for more than four.
 pub(crate) fn asked_in(runs: &[[u8; 32]]) -> Option<AskedRuns>
@@ -46,7 +46,7 @@ pub(crate) fn form_in(number: u32) -> Option<Form>
 
 /// Keeps a text, and returns whether memory was there for it. What was held before is dropped.
 fn keep_text(alloc: Global, text: Vec<u8>, answer: &mut SmAnswer) -> bool
-    ensures kept { result ≡ true → Keeps answer.new.held text.items }
+    ensures kept { result ≡ true → HoldsText answer.new.held text.items }
     ensures nothing { result ≡ false → answer.new.held ≡ None }
 {
     match Box::new(alloc, Kept { text }) {
@@ -125,7 +125,11 @@ pub(crate) fn keep(alloc: Global, answered: Result<Output, JobFault>, answer: &m
 pub(crate) fn put_text(text: &[u8], room: &mut [u8], count: &mut usize) -> u32
     ensures { PutsText text.now room.old room.new count.new result }
 {
-    if put(text, room, count) { DONE } else { LENGTH }
+    if put(text, room, count) {
+        DONE
+    } else {
+        LENGTH as u32
+    }
 }
 
 /// Hands over the text that is held. It stays there.

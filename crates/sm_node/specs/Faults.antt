@@ -1,7 +1,6 @@
 -- The number of each fault, the same in all calls.
 use Rattle.std.specs.Prelude.{ℕ, ◌+◌}
-use Rattle.gen_net.specs.declared.fault.HeaderFault.{HeaderFault}
-use Rattle.gen_net.specs.declared.fault.HeaderFault.TheVariants as headers
+use Rattle.gen_net.specs.FaultNumber.{header_fault_number}
 use Rattle.gen_audit.specs.declared.bundle_fault.BundleFault.{BundleFault}
 use Rattle.gen_audit.specs.declared.bundle_fault.BundleFault.TheVariants as bundles
 use Rattle.gen_node.specs.declared.frame_fault.FrameFault.{FrameFault}
@@ -13,23 +12,9 @@ use Rattle.sm_node.specs.declared.faults.StartFault.TheVariants.{Header, NoGener
 use Rattle.sm_node.specs.declared.faults.GatherFault.{GatherFault}
 use Rattle.sm_node.specs.declared.faults.GatherFault.TheVariants as gathering
 
--- the number of a header's fault: 1 to 11, as its text has it
-abbrev pub header_number : HeaderFault → ℕ
-header_number headers.GeneralCount = 1
-header_number headers.BadEdge = 2
-header_number headers.TraitorCount = 3
-header_number headers.DiameterRange = 4
-header_number headers.RoundCount = 5
-header_number headers.OrderCount = 6
-header_number headers.UnknownChoice = 7
-header_number headers.RootCount = 8
-header_number headers.Truncated = 9
-header_number headers.UnknownVersion = 10
-header_number headers.SlotRange = 11
-
 -- the number of a fault of a header's bytes: that of the header's fault, or 12 for bytes that are left over
 abbrev pub bytes_number : BytesFault → ℕ
-bytes_number (BadHeader f) = header_number f
+bytes_number (BadHeader f) = header_fault_number f
 bytes_number LeftOver = 12
 
 -- the number of a fault of a start: that of the header's bytes, 13 or 14
@@ -47,7 +32,7 @@ frame_number f = 20 + fault_number f
 abbrev pub bundle_number : BundleFault → ℕ
 bundle_number bundles.Truncated = 41
 bundle_number bundles.UnknownMark = 42
-bundle_number (bundles.BadHeader f) = header_number f
+bundle_number (bundles.BadHeader f) = header_fault_number f
 bundle_number bundles.FaultyRange = 44
 bundle_number bundles.WalkCount = 45
 bundle_number bundles.BadWalk = 46

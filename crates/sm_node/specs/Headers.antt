@@ -7,6 +7,7 @@ use Rattle.gen_net.specs.declared.fault.HeaderFault.{HeaderFault}
 use Rattle.gen_net.specs.declared.fault.HeaderFault.TheVariants.{UnknownVersion}
 use Rattle.gen_net.specs.declared.numbers.NetNumbers.{NetNumbers}
 use Rattle.gen_net.specs.declared.version.Version.TheVariants.{One, Two}
+use Rattle.gen_net.specs.FaultNumber.{header_fault_number}
 use Rattle.gen_net.specs.Header.{RunHeader, header_spelling, header_with}
 use Rattle.gen_net.specs.HeaderReading.{header_at}
 use Rattle.gen_net.specs.Network.{Network}
@@ -16,7 +17,6 @@ use Rattle.sm_node.specs.declared.faults.BytesFault.TheVariants.{BadHeader, Left
 use Rattle.sm_node.specs.declared.headers.SmNumbers.{SmNumbers}
 use Rattle.sm_node.specs.declared.told.NodeReply.{NodeReply}
 use Rattle.sm_node.specs.declared.told.NodeReply.TheVariants.{Done, Misuse, Fault, Memory, Length}
-use Rattle.sm_node.specs.Faults.{header_number}
 use Rattle.sm_node.specs.Handing.{IsUntouched, PutsText}
 
 -- the header in front of the bytes, and its number of bytes; or the first fault
@@ -69,6 +69,6 @@ MakesHeader made old new count fault Done =
 MakesHeader made old new count fault Length =
     (fault ≡ 0) × ((h : RunHeader) × (made ≡ Ok h) × PutsText (header_spelling h) old new count Length)
 MakesHeader made old new count fault Fault =
-    IsUntouched old new count × ((f : HeaderFault) × (made ≡ Err f) × (fault ≡ header_number f))
+    IsUntouched old new count × ((f : HeaderFault) × (made ≡ Err f) × (fault ≡ header_fault_number f))
 MakesHeader made old new count fault Memory = (fault ≡ 0) × IsUntouched old new count
 MakesHeader made old new count fault Misuse = ⊥

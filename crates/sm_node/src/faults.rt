@@ -1,5 +1,6 @@
 //! Faults of what a caller hands in, and their numbers.
 ghost use Rattle.std.specs.Prelude.{◌≡◌};
+ghost use Rattle.gen_net.specs.FaultNumber.{header_fault_number};
 ghost use Rattle.sm_node.specs.Faults as numbers;
 
 use gen_audit::BundleFault;
@@ -41,37 +42,16 @@ pub enum GatherFault {
 
 /// Returns the number of a header's fault, 1 to 11.
 pub(crate) fn header_number(fault: HeaderFault) -> u32
-    ensures { result ≡ numbers.header_number fault }
+    ensures { result ≡ header_fault_number fault }
 {
-    match fault {
-        HeaderFault::GeneralCount => 1,
-        HeaderFault::BadEdge => 2,
-        HeaderFault::TraitorCount => 3,
-        HeaderFault::DiameterRange => 4,
-        HeaderFault::RoundCount => 5,
-        HeaderFault::OrderCount => 6,
-        HeaderFault::UnknownChoice => 7,
-        HeaderFault::RootCount => 8,
-        HeaderFault::Truncated => 9,
-        HeaderFault::UnknownVersion => 10,
-        HeaderFault::SlotRange => 11,
-    }
+    u32::from(fault.number())
 }
 
 /// Returns the number of a frame's fault, 21 to 28.
 pub(crate) fn frame_number(fault: FrameFault) -> u32
     ensures { result ≡ numbers.frame_number fault }
 {
-    match fault {
-        FrameFault::NotAwaited => 21,
-        FrameFault::Twice => 22,
-        FrameFault::Truncated => 23,
-        FrameFault::UnknownMark => 24,
-        FrameFault::LeftOver => 25,
-        FrameFault::OtherRun => 26,
-        FrameFault::OtherRound => 27,
-        FrameFault::OtherEnds => 28,
-    }
+    20 + u32::from(fault.number())
 }
 
 /// Returns the number of a bundle's fault: 41 to 50, or the number of its header's fault, 1 to 11.

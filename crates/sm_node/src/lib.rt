@@ -49,6 +49,7 @@ use crate::opaque::SmNode;
 use crate::parted::hand_parted;
 use crate::plans::{tell_most, tell_neighbours, tell_numbers, tell_rounds};
 use crate::starting::{NUMBERS, start, write_root};
+use crate::told::MISUSE;
 use gen_types::GeneralNo;
 use std::alloc::Global;
 
@@ -124,7 +125,7 @@ pub extern "C" fn sm_node_send(
 {
     if to >= NUMBERS {
         *count = 0;
-        return 2;
+        return MISUSE;
     }
     send(alloc, node, GeneralNo::at(to as u8), room, count).status()
 }
@@ -145,7 +146,7 @@ pub extern "C" fn sm_node_hear(
 {
     if from >= NUMBERS {
         *fault = 0;
-        return 2;
+        return MISUSE;
     }
     hear(alloc, node, GeneralNo::at(from as u8), bytes, fault).status()
 }
@@ -304,7 +305,7 @@ pub extern "C" fn sm_node_neighbours(
     if general >= NUMBERS {
         *set = 0;
         *fault = 0;
-        return 2;
+        return MISUSE;
     }
     tell_neighbours(alloc, header, GeneralNo::at(general as u8), set, fault).status()
 }
@@ -334,7 +335,7 @@ pub extern "C" fn sm_node_awaits(
 {
     if from >= NUMBERS {
         *whether = 0;
-        return 2;
+        return MISUSE;
     }
     awaited(alloc, node, GeneralNo::at(from as u8), whether).status()
 }
@@ -355,7 +356,7 @@ pub extern "C" fn sm_node_lacks(
 {
     if from >= NUMBERS {
         *whether = 0;
-        return 2;
+        return MISUSE;
     }
     lacking(alloc, node, GeneralNo::at(from as u8), whether).status()
 }

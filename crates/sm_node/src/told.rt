@@ -17,6 +17,9 @@ pub enum NodeReply {
     Length,
 }
 
+/// The number that says that the call may not be made in this way.
+pub(crate) const MISUSE: u32 = 2;
+
 impl NodeReply {
     /// Returns the number that the call returns.
     pub fn status(self) -> u32
@@ -24,7 +27,7 @@ impl NodeReply {
     {
         match self {
             NodeReply::Done => 0,
-            NodeReply::Misuse => 2,
+            NodeReply::Misuse => MISUSE,
             NodeReply::Fault => 3,
             NodeReply::Memory => 4,
             NodeReply::Length => 5,

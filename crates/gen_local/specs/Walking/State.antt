@@ -31,7 +31,7 @@ pub record IsLearnt (net : Network) (g : ℕ) (before : List LogEntry) (v round 
 
 -- the general signed the order with this path alone, and sent it to all generals below next to which it is
 -- due, and to none from next on
-pub record IsRelayed (net : Network) (g : ℕ) (before : List LogEntry) (v : ℕ) (path : List ℕ) (next : ℕ)
+pub record IsRelayedBelow (net : Network) (g : ℕ) (before : List LogEntry) (v : ℕ) (path : List ℕ) (next : ℕ)
     : Type 0 where
   pub known : List ℕ
   pub learns : Learns g before v known
@@ -47,7 +47,7 @@ pub record IsRelayed (net : Network) (g : ℕ) (before : List LogEntry) (v : ℕ
 abbrev pub HasCome : Network → ℕ → List LogEntry → ℕ → Progress → Type 0
 HasCome net g before v Unlearnt = IsUnlearnt net g before v
 HasCome net g before v (Learnt round) = IsLearnt net g before v round
-HasCome net g before v (Relayed path next) = IsRelayed net g before v path next
+HasCome net g before v (Relayed path next) = IsRelayedBelow net g before v path next
 
 -- orders is the progress with each order after these entries, and the next place has at least the number
 -- least

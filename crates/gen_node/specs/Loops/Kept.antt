@@ -13,7 +13,7 @@ use Rattle.gen_general.specs.Recording.{Recorder, StandBefore, recorder_at_start
 use Rattle.gen_node.specs.declared.stages.Stage.{Stage}
 use Rattle.gen_node.specs.declared.stages.Stage.TheVariants.{Between, Sending, Open, Hearing}
 use Rattle.gen_node.specs.Held.{Held, frame_in}
-use Rattle.gen_node.specs.Node.{HasSigned, Node, header_at, near_at, neighbours_at}
+use Rattle.gen_node.specs.Node.{SignsRound, Node, header_at, near_at, neighbours_at}
 
 -- the place in the order of a log before which all stands that the node has written
 abbrev pub next_place : Stage → ℕ → List ℕ
@@ -80,7 +80,7 @@ next_sent _ = 0
 
 -- the node has signed what it signs in the next round; if a round is half begun, nothing has changed
 abbrev pub IsSignedFrom : Stage → Node → Node → Type 0
-IsSignedFrom Between old new = HasSigned old new
+IsSignedFrom Between old new = SignsRound old new
 IsSignedFrom _ old new = new ≡ old
 
 -- the node of a part and its ring, before the first round

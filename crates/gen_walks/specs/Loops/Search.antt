@@ -19,8 +19,8 @@ pub record AreLevelRows (net : Network) (rest : List ℕ) (n : ℕ) (rows : List
 
 -- x is the level of v after a round, which gives level k + 1 to each general that has none and is near a
 -- general of level k
-abbrev pub IsNext : (ℕ → ℕ → Type 0) → (ℕ → ℕ) → ℕ → ℕ → ℕ → Type 0
-IsNext near lev k v x =
+abbrev pub IsNextLevel : (ℕ → ℕ → Type 0) → (ℕ → ℕ) → ℕ → ℕ → ℕ → Type 0
+IsNextLevel near lev k v x =
     ((lev v ≢ 255) × (x ≡ lev v))
     ⊎ ((lev v ≡ 255) × (x ≡ k + 1) × ((u : ℕ) × near u v × (lev u ≡ k)))
     ⊎ ((lev v ≡ 255) × (x ≡ 255) × ((u : ℕ) → near u v → lev u ≡ k → ⊥))

@@ -2,7 +2,7 @@ use Rattle.std.proofs.Common.{List, Contains, sym, subst}
 use Rattle.std.proofs.lemmas.List.Elements.{Contains-get_or}
 use Rattle.std.proofs.lemmas.List.{take_all}
 use Rattle.gen_local.specs.Report.{LocalReport}
-use Rattle.gen_audit.specs.Collecting.{IsOwnOf}
+use Rattle.gen_audit.specs.Collecting.{ReadsAsOwn}
 use Rattle.gen_audit.proofs.Decided.{none_more, somebody_decided, is_decision}
 use Rattle.gen_audit.proofs.audits.decision_of.Goals as goal
 
@@ -15,7 +15,7 @@ returns-in-Some-clause-decision c =
 pub loop-report-preserved : goal.loop-report-preserved
 loop-report-preserved c =
     let i = c.loop-report.report-index in
-    none_more c.args.general c.args.reports.now i c.report-item.result c.loop-report-test.true c.loop-report.invariant (subst (λ (x : LocalReport). IsOwnOf x c.args.general → ⊥) c.report-item.is c.in_default.ensures.none)
+    none_more c.args.general c.args.reports.now i c.report-item.result c.loop-report-test.true c.loop-report.invariant (subst (λ (x : LocalReport). ReadsAsOwn x c.args.general → ⊥) c.report-item.is c.in_default.ensures.none)
 
 pub unreachable-requires : goal.unreachable-requires
 unreachable-requires c =

@@ -5,7 +5,7 @@ use Rattle.gen_scenario.specs.Scenario.{header_of}
 use Rattle.gen_scenario.specs.WorldLogs.{entries_after}
 use Rattle.gen_general.proofs.Recorders.{begins}
 use Rattle.gen_threads.specs.Ending.{RingComesBack}
-use Rattle.gen_threads.specs.Rings.{HasSigned}
+use Rattle.gen_threads.specs.Rings.{HasSpentOnSigns}
 use Rattle.gen_threads.proofs.Ending.{carried_passes}
 use Rattle.gen_threads.proofs.Rings.{ring_begun, signed_round, where_ok}
 use Rattle.gen_threads.proofs.rounds.run_round.Goals as goal
@@ -40,5 +40,5 @@ pub returns-clause-signed : goal.returns-clause-signed
 returns-clause-signed g c =
     let s = c.args.part.now.scenario in let p = c.args.recorder.now in let me = c.args.part.now.me in
     let begun = signed_round s c.args.gone me p.standing c.requires.records.standing p.standing.ring c.begin_round.new.self.standing.ring c.in_ok-begin_round.ensures.ok.standing.ring in
-    where_ok (HasSigned s me (entries_after s me c.args.gone) p.standing.ring c.take_all.new.recorder.standing.ring) c.take_all.result
-    (subst (λ (ring : Option Ring). HasSigned s me (entries_after s me c.args.gone) p.standing.ring ring) (sym (c.take_all.ensures.ring ∙ c.put_all.ensures.ring)) begun)
+    where_ok (HasSpentOnSigns s me (entries_after s me c.args.gone) p.standing.ring c.take_all.new.recorder.standing.ring) c.take_all.result
+    (subst (λ (ring : Option Ring). HasSpentOnSigns s me (entries_after s me c.args.gone) p.standing.ring ring) (sym (c.take_all.ensures.ring ∙ c.put_all.ensures.ring)) begun)

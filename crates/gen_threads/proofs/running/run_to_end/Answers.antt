@@ -7,7 +7,7 @@ use Rattle.gen_scenario.specs.Scenario.{header_of}
 use Rattle.gen_scenario.specs.WorldLogs.{middle_of}
 use Rattle.gen_general.proofs.Recorders.{logs_by}
 use Rattle.gen_threads.specs.Ending.{RingComesBack}
-use Rattle.gen_threads.specs.Rings.{HasSigned}
+use Rattle.gen_threads.specs.Rings.{HasSpentOnSigns}
 use Rattle.gen_threads.proofs.Ending.{carried_passes}
 use Rattle.gen_threads.proofs.Rings.{ring_then, ring_sealed, spent_on_logs}
 use Rattle.gen_threads.proofs.running.run_to_end.Goals as goal
@@ -35,5 +35,5 @@ returns-in-Ok-finish-clause-spent g c =
     let ran = subst (λ (ring : Option Ring). RingComesBack h ring last.ring) c.in-Ok.ensures.1 c.run_rounds.ensures.ring in
     let closed = subst (λ (x : RunHeader). RingSealed x last.ring c.in-Ok-finish.end.ring) c.in_default.ensures.records.standing.part.header c.in-Ok-finish.ensures.ring in
     let back = ring_then h c.args.ring last.ring c.in-Ok-finish.end.ring ran (ring_sealed h last.ring c.in-Ok-finish.end.ring closed) in
-    let signed = subst (λ (ring : Option Ring). HasSigned s me (middle_of s me) ring last.ring) c.in-Ok.ensures.1 c.in_default.ensures.signed in
+    let signed = subst (λ (ring : Option Ring). HasSpentOnSigns s me (middle_of s me) ring last.ring) c.in-Ok.ensures.1 c.in_default.ensures.signed in
     spent_on_logs s me c.args.ring last.ring c.in-Ok-finish.end.ring c.requires.ring back signed closed

@@ -2,7 +2,7 @@ use Rattle.std.proofs.Common.{arith, ◌≡◌, length, ℕ, ap, sym, ◌∙◌,
 use Rattle.std.proofs.Math.ListN.{length-set}
 use Rattle.gen_walks.specs.Walks.{AreJoined}
 use Rattle.gen_walks.specs.Levels.{level}
-use Rattle.gen_walks.specs.Loops.Search.{IsNext}
+use Rattle.gen_walks.specs.Loops.Search.{IsNextLevel}
 use Rattle.gen_walks.proofs.Round.{taken, passed}
 use Rattle.gen_walks.proofs.search.spread.Goals as goal
 use Rattle.gen_walks.proofs.search.spread.Goals.{then-found-level, else-found-level}
@@ -12,7 +12,7 @@ loop-number-preserved c =
     let near = AreJoined c.args.net.now c.args.rest.now in
     let lev = level c.args.row.now in
     let found = c.next_level-found.result in
-    let is : IsNext near lev c.args.k c.loop-number.number found = subst (λ v. IsNext near lev c.args.k v found) c.at-v.ensures c.next_level-found.ensures in
+    let is : IsNextLevel near lev c.args.k c.loop-number.number found = subst (λ v. IsNextLevel near lev c.args.k v found) c.at-v.ensures c.next_level-found.ensures in
     let old : c.level.result ≡ lev c.loop-number.number = c.level.ensures ∙ ap lev c.at-v.ensures in
     elim c.if-found-level.branch [
       | then-found-level w ↦

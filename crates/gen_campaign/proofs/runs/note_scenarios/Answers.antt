@@ -2,7 +2,7 @@ use Rattle.std.proofs.Common.{Contains, take, [], ◌∷◌, ◌++◌, ap, sym, 
 use Rattle.std.proofs.lemmas.List.{take_more, take_all}
 use Rattle.std.proofs.lemmas.List.Elements.{Contains-push_cases}
 use Rattle.gen_scenario.specs.Scenario.{IsScenario, Scenario}
-use Rattle.gen_campaign.proofs.runs.read_all.Goals as goal
+use Rattle.gen_campaign.proofs.runs.note_scenarios.Goals as goal
 
 pub loop-scenario-preserved : goal.loop-scenario-preserved
 loop-scenario-preserved c = λ s k.
@@ -12,7 +12,7 @@ loop-scenario-preserved c = λ s k.
     let longer = take_more xs i x c.loop-scenario-test.true ∙ ap (λ y. take i xs ++ y ∷ []) (sym c.scenario-item.is) in
     elim (Contains-push_cases (take i xs) x s (subst (λ ys. Contains ys s) longer k)) [
       | inl old ↦ c.loop-scenario.invariant s old
-      | inr e ↦ subst (λ (y : Scenario). IsScenario y) e c.read_one.ensures
+      | inr e ↦ subst (λ (y : Scenario). IsScenario y) e c.note_scenario.ensures
     ]
 
 pub returns : goal.returns
