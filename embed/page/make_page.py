@@ -24,8 +24,8 @@ HERE = os.path.dirname(os.path.abspath(__file__))
 TOP = os.path.dirname(os.path.dirname(HERE))
 
 CRATE = "sm_embed"
-# The kit that this was tried with. With another the page has to be tried anew (trials/page.py) before this is changed.
-KIT = "rattle-kit-13f"
+# The kits that this was tried with. With another the page has to be tried anew (trials/page.py) before this is changed.
+KITS = ("rattle-kit-13b", "rattle-kit-13f")
 # What the page calls: of the library, and of its heap.
 EXPORTS = ["sm_audit_of", "sm_accuse_of", "sm_draw_of", "sm_evidence", "sm_run_id", "sm_refute", "sm_show", "sm_explain"]
 EXPORTS += ["sm_words", "sm_answer_text", "sm_answer_free", "room", "give_back"]
@@ -66,12 +66,12 @@ def write(path, data):
 
 
 def kit_folder():
-    """Where the kit lies, and what it is called; it has to be the one that this was tried with."""
+    """Where the kit lies, and what it is called; it has to be one of those that this was tried with."""
     if not shutil.which("rt"):
         raise Refused("rt, the command of the Rattle kit, is not on the path")
     named = run("rt", "version").strip()
-    if named.split()[0] != KIT:
-        raise Refused(f"the toolchain is {named.split()[0]}, and this was tried with {KIT} alone")
+    if named.split()[0] not in KITS:
+        raise Refused(f"the toolchain is {named.split()[0]}, and this was tried with {' and '.join(KITS)} alone")
     return os.path.dirname(os.path.realpath(run("rt", "doc").strip())), named
 
 

@@ -1,7 +1,7 @@
 //! How many signatures reports verify, side by side, through one store of verifications. No clause says it.
+use crate::scenarios::scenario_of;
 use gen_chain::VerifyStore;
 use gen_local::{exhibits_of_logs, local_reports};
-use gen_report::{ScenarioText, read_scenario};
 use gen_world::{Scenario, run_world};
 use std::alloc::Global;
 use std::test::Fail;
@@ -11,14 +11,6 @@ const RING: &[u8] = b"\
     generals 6\nedge 0 1\nedge 1 2\nedge 2 3\nedge 3 4\nedge 4 5\nedge 5 0\n\
     traitors 1\ndiameter 4\norders 2\nchoice 0\norder 1\n\
     seed 0000000000000000000000000000000000000000000000000000000000000000\nscript 3\nend\n";
-
-/// Returns the scenario that a text with a seed tells.
-fn scenario_of(alloc: Global, text: &[u8]) -> Result<Scenario, Fail> {
-    match read_scenario(alloc, text) {
-        Ok(ScenarioText::Signed(plan)) => Ok(Scenario::of_plan(alloc, plan)?),
-        _ => Err("no scenario with signatures".into()),
-    }
-}
 
 /// Returns how many verifications a new store keeps, by which the logs of a run are reported on side by side;
 /// None if not each log has a report.
@@ -36,7 +28,7 @@ fn runs_of(alloc: Global, scenario: &Scenario) -> Result<Option<u64>, Fail> {
 // Of 17 signatures of statements 5 are distinct.
 #[test]
 fn each_signature_once(rt: HostRuntime) -> Result<(), Fail> {
-    let scenario = scenario_of(rt.alloc(), RING)?;
-    assert!(rt; runs_of(rt.alloc(), &scenario)? == Some(5));
+    let stage = scenario_of(rt.alloc(), RING)?;
+    assert!(rt; runs_of(rt.alloc(), &stage.scenario)? == Some(5));
     Ok(())
 }
