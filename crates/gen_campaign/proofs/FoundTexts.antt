@@ -26,7 +26,7 @@ use Rattle.gen_report.specs.Cursor.{Cursor, start_of}
 use Rattle.gen_report.specs.LineReading.{fault_at, number_behind}
 use Rattle.gen_report.specs.CursorReading.{numbered, is_over}
 use Rattle.gen_report.specs.EdgeReading.{edge_lines_at}
-use Rattle.gen_report.specs.NumbersReading.{Opening, numbers_said, opening_behind, opening_at, settings_at, network_at, order_at, plain_behind, plain_at}
+use Rattle.gen_report.specs.NumbersReading.{Opening, numbers_said, opening_behind, opening_at, settings_at, network_at, net_behind, order_at, plain_behind, plain_at}
 use Rattle.gen_report.specs.KeysReading.{seed_at, slot_at, version_with}
 use Rattle.gen_report.specs.BlocksReading.{Blocks, blocks_at, all_scripted}
 use Rattle.gen_report.specs.ScenarioReading.{signed_at}
@@ -85,10 +85,12 @@ plain_generals : (c : Cursor) (n : Numbered × Cursor) (x : Plain × Cursor) →
 unfolding plain_at
 plain_generals c n x read e =
     after (opening_at c) (λ o. plain_behind o) x e (λ o r0 e0.
-    after (settings_at o.after) (λ s. network_at s.line (network_of (numbers_said o s) o.edges) >>= λ net. order_at net s.after) x e0 (λ s r1 e1.
-    after (network_at s.line (network_of (numbers_said o s) o.edges)) (λ net. order_at net s.after) x e1 (λ net r2 e2.
-    let is = mapped_ok (λ f. fault_at (faults.Network f) s.line) (network_of (numbers_said o s) o.edges) net r2 in
-    ap (λ (m : Network). m.generals) (order_net net s.after x e2) ∙ network_generals (numbers_said o s) o.edges net is ∙ said_generals c n o read r0)))
+    after (net_behind o) (λ y. order_at y.0 y.1) x e0 (λ y r1 last.
+    after (settings_at o.after) (λ s. network_at s.line (network_of (numbers_said o s) o.edges) >>= λ net. done (net, s.after)) y r1 (λ s r2 e2.
+    after (network_at s.line (network_of (numbers_said o s) o.edges)) (λ net. done (net, s.after)) y e2 (λ net r3 e3.
+    let ordered : order_at net s.after ≡ Ok x = at_end {F = ScenarioFault} (λ (z : Network × Cursor). order_at z.0 z.1 ≡ Ok x) y (net, s.after) (sym e3) last in
+    let is = mapped_ok (λ f. fault_at (faults.Network f) s.line) (network_of (numbers_said o s) o.edges) net r3 in
+    ap (λ (m : Network). m.generals) (order_net net s.after x ordered) ∙ network_generals (numbers_said o s) o.edges net is ∙ said_generals c n o read r0))))
 
 -- ---- the lines that a campaign's text looks at
 

@@ -1,21 +1,13 @@
 -- The lines of a network in a text, from that of the generals to that of the choice.
-use Rattle.std.specs.Prelude.{ℕ, List, [], ◌∷◌, ◌++◌, ◌<◌, map, codes, Result, Ok}
+use Rattle.std.specs.Prelude.{ℕ, List, [], ◌∷◌, ◌++◌, ◌<◌, map, codes, Result}
 use Rattle.std.specs.List.{AllByRecursion}
 use Rattle.gen_types.specs.Reading.{◌>>=◌}
 use Rattle.gen_net.specs.declared.numbers.NetNumbers.{NetNumbers}
 use Rattle.gen_net.specs.Network.{Network}
-use Rattle.gen_net.specs.NetworkOf.{network_of}
 use Rattle.gen_report.specs.declared.fault.ScenarioFault.{ScenarioFault}
 use Rattle.gen_report.specs.Cursor.{Cursor}
 use Rattle.gen_report.specs.Fields.{edge_line, said}
-use Rattle.gen_report.specs.NumbersReading.{Opening, network_at, numbers_said, opening_at, settings_at}
-
--- the network that begins with these opening lines, and the cursor after the line of its choice
-abbrev pub net_behind : Opening → Result (Network × Cursor) ScenarioFault
-net_behind o = do
-  s ← settings_at o.after
-  net ← network_at s.line (network_of (numbers_said o s) o.edges)
-  Ok (net, s.after)
+use Rattle.gen_report.specs.NumbersReading.{net_behind, opening_at}
 
 -- the network whose lines begin at a cursor, and the cursor after the line of its choice
 unfoldable pub net_at : Cursor → Result (Network × Cursor) ScenarioFault

@@ -1,36 +1,12 @@
 //! Reads the lines of a network from a text, from that of the generals to that of the choice.
 ghost use Rattle.gen_types.specs.Spelled.{IsRead};
 ghost use Rattle.gen_report.specs.Cursor.{start_of};
-ghost use Rattle.gen_prepare.specs.NetText.{net_at, net_behind};
+ghost use Rattle.gen_prepare.specs.NetText.{net_at};
 
-use gen_net::{Net, NetNumbers};
-use gen_report::{Cursor, NetOpening, ScenarioFault, first_opening, make_network, read_settings};
+use gen_net::Net;
+use gen_report::{Cursor, ScenarioFault, first_opening, net_behind};
 use gen_types::ReadError;
 use std::alloc::Global;
-
-/// Returns the network that begins with these opening lines, and the cursor after the line of its choice.
-fn net_behind<'a>(
-    alloc: Global,
-    opening: NetOpening<'a>,
-) -> Result<(Net, Cursor<'a>), ReadError<ScenarioFault>>
-    ensures { IsRead result (net_behind (record {
-      generals = opening.entry.generals;
-      edges = opening.entry.edges.items;
-      traitors = opening.entry.traitors;
-      after = opening.entry.after;
-    })) }
-{
-    let settings = read_settings(alloc, &opening.after)?;
-    let numbers = NetNumbers {
-        generals: opening.generals,
-        traitors: opening.traitors,
-        diameter: settings.diameter,
-        orders: settings.orders,
-        choice: settings.choice,
-    };
-    let net = make_network(alloc, numbers, &opening.edges, settings.line)?;
-    Ok((net, settings.after))
-}
 
 /// Returns the network of a text's first lines, and the cursor after the line of its choice.
 ///

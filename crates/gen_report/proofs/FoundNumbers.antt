@@ -21,7 +21,7 @@ use Rattle.gen_report.specs.Cursor.{Cursor, Line}
 use Rattle.gen_report.specs.LineReading.{fault_at, number_in, number_behind}
 use Rattle.gen_report.specs.CursorReading.{next_line, numbered}
 use Rattle.gen_report.specs.EdgeReading.{EdgeLines, after_edge, edge_in, edge_lines_at}
-use Rattle.gen_report.specs.NumbersReading.{Opening, Settings, opening_at, settings_at, numbers_said, network_at, order_at, plain_at}
+use Rattle.gen_report.specs.NumbersReading.{Opening, Settings, opening_at, settings_at, numbers_said, network_at, net_behind, order_at, plain_behind, plain_at}
 use Rattle.gen_report.specs.Scenario.{Given, given_lines, AreBytes}
 use Rattle.gen_report.proofs.Stepping.{done}
 use Rattle.gen_report.proofs.FoundLines.{LineOf, line_found, first_is, digits_found, behind_found, NumberOf, numbered_found}
@@ -191,7 +191,9 @@ plain_made c o s net x first then is last = record {
 pub plain_found : (c : Cursor) (x : Plain × Cursor) → plain_at c ≡ Ok x → PlainOf c x
 unfolding plain_at
 plain_found c x e =
-    after (opening_at c) (λ o. settings_at o.after >>= λ s. network_at s.line (network_of (numbers_said o s) o.edges) >>= λ net. order_at net s.after) x e (λ o r0 e0.
-    after (settings_at o.after) (λ s. network_at s.line (network_of (numbers_said o s) o.edges) >>= λ net. order_at net s.after) x e0 (λ s r1 e1.
-    after (network_at s.line (network_of (numbers_said o s) o.edges)) (λ net. order_at net s.after) x e1 (λ net r2 e2.
-    plain_made c o s net x (opening_found c o r0) (settings_found o.after s r1) (mapped_ok (λ f. fault_at (faults.Network f) s.line) (network_of (numbers_said o s) o.edges) net r2) (order_found net s.after x e2))))
+    after (opening_at c) (λ o. plain_behind o) x e (λ o r0 e0.
+    after (net_behind o) (λ y. order_at y.0 y.1) x e0 (λ y r1 last.
+    after (settings_at o.after) (λ s. network_at s.line (network_of (numbers_said o s) o.edges) >>= λ net. done (net, s.after)) y r1 (λ s r2 e2.
+    after (network_at s.line (network_of (numbers_said o s) o.edges)) (λ net. done (net, s.after)) y e2 (λ net r3 e3.
+    let ordered : order_at net s.after ≡ Ok x = at_end {F = ScenarioFault} (λ (z : Network × Cursor). order_at z.0 z.1 ≡ Ok x) y (net, s.after) (sym e3) last in
+    plain_made c o s net x (opening_found c o r0) (settings_found o.after s r2) (mapped_ok (λ f. fault_at (faults.Network f) s.line) (network_of (numbers_said o s) o.edges) net r3) (order_found net s.after x ordered)))))

@@ -72,12 +72,18 @@ order_at net c = do
   known ← check (nat_lt v.0.value net.orders) (fault_at faults.UnknownOrder v.0.line)
   Ok (record { net = net; order = v.0.value }, v.1)
 
+-- the network that begins with these opening lines, and the cursor after the line of its choice
+abbrev pub net_behind : Opening → Result (Network × Cursor) ScenarioFault
+net_behind o = do
+  s ← settings_at o.after
+  net ← network_at s.line (network_of (numbers_said o s) o.edges)
+  Ok (net, s.after)
+
 -- the network and the order that begin with these opening lines, and the cursor after their lines
 abbrev pub plain_behind : Opening → Result (Plain × Cursor) ScenarioFault
 plain_behind o = do
-  s ← settings_at o.after
-  net ← network_at s.line (network_of (numbers_said o s) o.edges)
-  order_at net s.after
+  net ← net_behind o
+  order_at net.0 net.1
 
 -- the network and the order whose lines begin at a cursor, and the cursor after their lines
 unfoldable pub plain_at : Cursor → Result (Plain × Cursor) ScenarioFault

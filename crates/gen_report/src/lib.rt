@@ -26,7 +26,7 @@ pub use fault::{LineFault, ScenarioFault};
 pub use findings::push_finding_name;
 pub use keys::{read_seed, read_slot};
 pub use numbers::{
-    NetOpening, NetSettings, first_opening, make_network, read_plain, read_settings,
+    NetOpening, NetSettings, first_opening, make_network, net_behind, read_plain, read_settings,
 };
 pub use scenario::{one_scenario, read_scenario, read_signed};
 pub use scenario_text::ScenarioText;

@@ -10,6 +10,7 @@ ghost use Rattle.gen_report.specs.NumbersReading.{
   opening_at,
   settings_at,
   network_at,
+  net_behind,
   order_at,
   plain_behind,
   plain_at,
@@ -228,12 +229,17 @@ fn read_order<'a>(
     Ok((PlainScenario::new(net, OrderNo::at(order.value)), after))
 }
 
-/// Returns the network and the order that begin with these opening lines, and the cursor after their lines.
-fn plain_behind<'a>(
+/// Returns the network that begins with these opening lines, and the cursor after the line of its choice.
+///
+/// # Errors
+///
+/// The first fault of the lines after them, with its line, as `read_scenario` has it; Memory if memory was refused
+/// before.
+pub fn net_behind<'a>(
     alloc: Global,
     opening: NetOpening<'a>,
-) -> Result<(PlainScenario, Cursor<'a>), ReadError<ScenarioFault>>
-    ensures { IsRead result (plain_behind (record {
+) -> Result<(Net, Cursor<'a>), ReadError<ScenarioFault>>
+    ensures { IsRead result (net_behind (record {
       generals = opening.entry.generals;
       edges = opening.entry.edges.items;
       traitors = opening.entry.traitors;
@@ -249,7 +255,23 @@ fn plain_behind<'a>(
         choice: settings.choice,
     };
     let net = make_network(alloc, numbers, &opening.edges, settings.line)?;
-    read_order(alloc, net, &settings.after)
+    Ok((net, settings.after))
+}
+
+/// Returns the network and the order that begin with these opening lines, and the cursor after their lines.
+fn plain_behind<'a>(
+    alloc: Global,
+    opening: NetOpening<'a>,
+) -> Result<(PlainScenario, Cursor<'a>), ReadError<ScenarioFault>>
+    ensures { IsRead result (plain_behind (record {
+      generals = opening.entry.generals;
+      edges = opening.entry.edges.items;
+      traitors = opening.entry.traitors;
+      after = opening.entry.after;
+    })) }
+{
+    let (net, after) = net_behind(alloc, opening)?;
+    read_order(alloc, net, &after)
 }
 
 /// Returns the network and the order of a text, and the cursor after their lines.
