@@ -17,7 +17,7 @@ import textwrap
 
 from bends import bend_bundle, bend_evidence, bend_text
 from bent import Bases
-from campaigns import bytes_of, pair
+from campaigns import bytes_of, pair, text_of
 from devices import READ_FAILED, WRITE_FAILED, by_shell
 from draws import Draws
 from layout import Bundle
@@ -34,6 +34,8 @@ SANITIZERS = ["-g", "-fsanitize=address,undefined", "-fno-sanitize-recover=all"]
 SEED = "embed"
 # So many texts, bundles and pieces of evidence are bent.
 HUNDRED = 100
+# The bytes of a campaign of four runs of 16 generals.
+LARGE = 30_982_809
 # What docs/EMBED.md says is enough stack for a call.
 STACK = 1 << 20
 FILLED = b"\xa5"
@@ -97,9 +99,21 @@ def example_cases(program):
     for path in filter(os.path.isfile, (os.path.join(EXAMPLES, name) for name in sorted(os.listdir(EXAMPLES)))):
         with open(path, "rb") as kept:
             inputs.append(kept.read())
-    once = [run(program, ["run"], text).wrote for text in (pair(0), pair(0, 1, {1: []}))]
     inputs += [run(program, ["run"], text).wrote for text in (*signed().values(), *signed(1).values(), sixteen())]
-    return [(job, given) for given in [*inputs, bytes_of(*once), sixteen()] for job in jobs]
+    inputs += [bytes_of(*slot_twice(program)), sixteen(), *long_faults(program)]
+    return [(job, given) for given in inputs for job in jobs]
+
+
+def slot_twice(program):
+    """The bundles of two runs in one slot."""
+    return [run(program, ["run"], text).wrote for text in (pair(0), pair(0, 1, {1: []}))]
+
+
+def long_faults(program):
+    """A campaign and a text whose faults have long lines: a slot that there is not, and a script line behind line 1,000."""
+    one, other = slot_twice(program)
+    slot_4 = other[:5] + b"\4" + other[6:]
+    return [bytes_of(one, slot_4), pair(0, 1, {1: [*["raw 1 0 00"] * 1000, "raw"]})]
 
 
 def bent_cases(program):
@@ -149,6 +163,16 @@ def called(library, job, given, length, *general):
     count, room = ctypes.c_size_t(77), ctypes.create_string_buffer(FILLED * length + b"\0")
     status = library.functions[job](*general, given, len(given), room, length, ctypes.byref(count))
     return status, count.value, room.raw[:length]
+
+
+def try_large(program, tally, library, example):
+    """The jobs that take a campaign of 31 MB."""
+    campaign = run(program, ["campaign"], text_of(*map(sixteen, range(4)))).wrote
+    tally.hold("a large campaign", None if len(campaign) == LARGE else f"{len(campaign)} bytes")
+    for job in (["draw"], ["audit"], ["accuse", "0"]):
+        wanted = run(program, words_of(job), campaign)
+        tally.hold(f"large, {job[0]}, Python", differs(end_of(library, job, campaign), wanted))
+        tally.hold(f"large, {job[0]}, C", differs(run(example, job, campaign), wanted))
 
 
 def room_wrong(library, job, given, *general):
@@ -221,6 +245,7 @@ def kept_cases(program):
     yield from (([*words, "--json"], given) for words, given in pinned if words[0] in ("audit", "evidence"))
     for name in ("late.scenario", "split.scenario", "split.bundle"):
         yield from ((words, read(name)) for words in (["decide"], ["decide", "--json"]))
+    yield from ((words, given) for given in long_faults(program) for words in (["audit"], ["draw"], ["decide"]))
     yield from told_cases()
     yield from shown_cases(program)
     yield from (([*words, "--json"], given) for words, given in told_cases() if words == ["show"])
@@ -463,6 +488,7 @@ def try_built(program, tally, folder):
     try_streams(tally, {"answers": [answers[0]]}, split)
     try_streams(tally, processes, split)
     try_generals(tally, processes, split)
+    try_large(program, tally, library, examples["C"])
     try_rooms(library, tally, cases)
     try_answers(tally, program, shared)
     try_kept(program, tally, answers)

@@ -4,8 +4,9 @@ what the program's run has, byte for byte.
 The frames of a run are put together of its logs, by docs/FORMATS.md: a SEND says which chain goes where, and a SIGN and a RECV
 say which bytes it has. So each node is driven alone, with the frames that the run has for it, a traitor's too. The runs are small
 ones, and those with the most that nodes send, hear and hand on: 16 rounds, 15 neighbours, frames of 15 chains, chains of 15
-signers that count and of 16 that can't, and 64 logs. Two nodes hand frames to each other. What a node refuses is told by its
-number, the first of several. The calls are made by ctypes, in a thread with little stack.
+signers that count and of 16 that can't, and 64 logs. Two nodes hand frames to each other. Roots of seeds are those of the
+reference. What a node refuses is told by its number, the first of several. The calls are made by ctypes, in a thread with
+little stack.
 """
 import collections
 import ctypes
@@ -19,6 +20,7 @@ from layout import MARK, SIGNATURE, Bundle, Log
 from nodes import BAD, DONE, NO_ORDER, SHORT, Library, with_little_stack
 from processes import ARCHIVE, seed_of
 from programs import End, differs, fault, run
+from reference import root_digits
 from scenarios import chain, everybody, scenario
 
 SIGN, SEND, RECV = 2, 3, 4
@@ -26,6 +28,9 @@ SIGN, SEND, RECV = 2, 3, 4
 NO_GENERAL, OTHER_ROOT, F0, B0 = 13, 14, 20, 40
 # The seeds of two nodes that are of no scenario.
 SEEDS = bytes([1]) * 32, bytes([2]) * 32
+# Seeds that begin with 0, and others; the words by which the program makes their roots, by the version.
+ANY_SEEDS = bytes(32), bytes(range(32)), bytes([255]) * 32, *SEEDS
+ROOTS = {1: ["root"], 2: ["root", "--tall"]}
 # Two generals in slot 2, of whom the commander alone sends.
 PAIR = {"edges": chain(2), "traitors": 0, "diameter": 1, "order": 1, "slot": 2}
 # Four, whose commander gives order 1 to general 1 and order 0 to the others.
@@ -348,6 +353,15 @@ def hear_round(node, frames):
             node.call("end_round")
 
 
+def try_roots(program, library):
+    """The roots of seeds, in both versions: the reference's, which are the program's too."""
+    for seed in ANY_SEEDS:
+        for version, words in ROOTS.items():
+            wanted = root_digits(seed, version)
+            same(f"the root of {seed.hex()}, version {version}", root_of(library, seed, version).hex(), wanted)
+            same("the program's root", run(program, words, seed), End(0, f"{wanted}\n".encode(), b""))
+
+
 def try_frames(program, library):
     """Which frames a node refuses. What was refused changes nothing: the frame that is awaited is taken behind it."""
     of = Run(program, **PAIR)
@@ -416,6 +430,7 @@ TRIALS = {
     "15 neighbours, 16 rounds": try_largest,
     "the longest frame": try_longest,
     "two nodes": try_two,
+    "roots of seeds": try_roots,
     "refused frames": try_frames,
     "refused nodes": try_nodes,
     "bundles of many logs": try_bundles,
@@ -443,4 +458,4 @@ def trials(program, tally):
             return
         for name, trial in TRIALS.items():
             tally.hold(name, with_little_stack(wrong_of, trial, program, library))
-        tally.count(28)
+        tally.count(28 + len(ANY_SEEDS) * len(ROOTS))

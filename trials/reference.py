@@ -14,6 +14,11 @@ def answer(words, given=b""):
     return End(*sm.answer(list(words), given))
 
 
+def root_digits(seed, version):
+    """The root of a seed, in hexadecimal digits."""
+    return keys.root(seed, keys.height_of(version)).hex()
+
+
 def sign(master, general, version, leaf, text):
     """A general's signature of a text under a leaf of the tree that he has of this master seed."""
     seed = keys.general_seed(master, general)

@@ -25,18 +25,22 @@ MASTER = bytes(32)
 PAIR = ((0, 1),)
 TRIANGLE = ((0, 1), (0, 2), (1, 2))
 FOUR = ((0, 1), (0, 2), (0, 3), (1, 2), (1, 3), (2, 3))
+SIXTEEN = tuple((a, b) for a in range(16) for b in range(a + 1, 16))
 ONLY_1 = Decide((1,), 1)
 
 
-class Run:
-    """A run whose generals have their keys from the seed of zeros; two orders, choice 0."""
+def planned(generals: int, edges: Tuple[Tuple[int, int], ...], traitors: int, diameter: int) -> Network:
+    """A network with two orders and choice 0."""
+    return Network(generals, edges, traitors, diameter, 2, 0)
 
-    def __init__(self, generals: int, edges: Tuple[Tuple[int, int], ...], traitors: int, diameter: int,
-                 version: int = 1, slot: int = 0) -> None:
+
+class Run:
+    """A run whose generals have their keys from the seed of zeros."""
+
+    def __init__(self, network: Network, version: int = 1, slot: int = 0) -> None:
         height = keys.height_of(version)
-        self.seeds = [keys.general_seed(MASTER, general) for general in range(generals)]
+        self.seeds = [keys.general_seed(MASTER, general) for general in range(network.generals)]
         roots = tuple(keys.root(seed, height) for seed in self.seeds)
-        network = Network(generals, edges, traitors, diameter, 2, 0)
         self.header = Header(version, slot, network, roots)
 
     def front(self) -> bytes:
@@ -95,7 +99,7 @@ def silent(general: int) -> List[Entry]:
 
 def pair_file() -> bytes:
     """Two generals, of whom none may be faulty, in one round."""
-    run = Run(2, PAIR, 0, 1)
+    run = Run(planned(2, PAIR, 0, 1))
     return b"".join([run.front(), run.signed(1, 0), run.sealed(0, *commands(run, 1)), run.sealed(1, *hears(run, 1)),
                      run.sealed(0, *silent(0))])
 
@@ -109,7 +113,7 @@ def stolen(run: Run) -> List[Entry]:
 
 def four_file() -> bytes:
     """Four generals who are all neighbours, of whom one may be faulty, in two rounds."""
-    run = Run(4, FOUR, 1, 1)
+    run = Run(planned(4, FOUR, 1, 1))
     log = stolen(run)
     received = log[6]
     assert isinstance(received, Recv)
@@ -121,7 +125,7 @@ def four_file() -> bytes:
 
 def three_file() -> bytes:
     """Three generals who are all neighbours, of whom one may be faulty, in three rounds."""
-    run = Run(3, TRIANGLE, 1, 2)
+    run = Run(planned(3, TRIANGLE, 1, 2))
     statements = [(1, 0), (0, 0), (1, 0, 1), (1, 0, 2), (0, 0, 1), (0, 0, 2), (1, 0, 2, 1)]
     first, others = relays(run, 2, 1, 1)[:4], [run.recv(1, 0, 1), ONLY_1]
     back = Recv(1, Chain(1, (0, 2, 1), run.recv(1, 0, 2, 1).chain.signatures))
@@ -133,13 +137,33 @@ def three_file() -> bytes:
 
 def runs_file() -> bytes:
     """Three runs of two generals: in slot 0 none may be faulty, in slot 0 one may be, and in slot 1 one may be."""
-    first, second, third = Run(2, PAIR, 0, 1, 2, 0), Run(2, PAIR, 1, 1, 2, 0), Run(2, PAIR, 1, 1, 2, 1)
+    alone, doubted = planned(2, PAIR, 0, 1), planned(2, PAIR, 1, 1)
+    first, second, third = Run(alone, 2, 0), Run(doubted, 2, 0), Run(doubted, 2, 1)
     return b"".join([first.front(), first.signed(1, 0), first.sealed(0, *commands(first, 1)), first.sealed(1, *hears(first, 1)),
                      second.front(), second.signed(1, 0), second.sealed(0, *commands(second, 1)), second.signed(0, 0),
                      third.front(), third.signed(1, 0), third.sealed(0, *commands(third, 1))])
 
 
-FILES = {"pair.signed": pair_file, "four.signed": four_file, "three.signed": three_file, "runs.signed": runs_file}
+def unsigned(order: int, *path: int) -> Recv:
+    """The entry RECV of a chain from the last general of its path, whose signatures are zeros."""
+    return Recv(path[-1], Chain(order, path, (bytes(keys.signature_length(4)),) * len(path)))
+
+
+def largest_file() -> bytes:
+    """Sixteen generals who are all neighbours, of whom eight may be faulty, in sixteen rounds with fifteen orders.
+
+    General 1 sealed a log without an order, and one of 3.7 MB that departs: the longest chains that can come, one of each
+    order, whose signatures are zeros, and nothing signed for them.
+    """
+    run = Run(Network(16, SIXTEEN, 8, 8, 15, 1))
+    path = (0, *range(2, 16))
+    received = [unsigned(order, *path) for order in range(15)]
+    log: List[Entry] = [Start(1, None), *received, Decide(tuple(range(15)), 14)]
+    return run.front() + run.sealed(1, *silent(1)) + run.sealed(1, *log)
+
+
+FILES = {"pair.signed": pair_file, "four.signed": four_file, "three.signed": three_file, "runs.signed": runs_file,
+         "largest.signed": largest_file}
 
 
 def main() -> None:
