@@ -1,6 +1,8 @@
 -- What is told of a node that stands in a run.
 use Rattle.std.specs.Prelude.{ℕ, ◌≡◌, if◌then◌else◌, true, false, Option}
 use Rattle.gen_node.specs.Node.{Node, awaits, is_awaited, is_over, may_end}
+use Rattle.sm_node.specs.declared.asking.Question.{Question}
+use Rattle.sm_node.specs.declared.asking.Question.TheVariants.{Round, Awaits, Lacks, MayEnd, IsOver}
 use Rattle.sm_node.specs.declared.held.NodeHandle.{NodeHandle}
 use Rattle.sm_node.specs.declared.told.NodeReply.{NodeReply}
 use Rattle.sm_node.specs.declared.told.NodeReply.TheVariants.{Done, Misuse, Fault, Memory, Length}
@@ -10,46 +12,20 @@ use Rattle.sm_node.specs.NodeHandle.{allows, IsRunning}
 abbrev pub HasNone : Option NodeHandle → Type 0
 HasNone held = allows (λ _. true) held ≡ false
 
--- the number of the round that began last is told, 0 before the first
-abbrev pub TellsRound : Option NodeHandle → ℕ → NodeReply → Type 0
-TellsRound held round Done = (n : Node) × IsRunning held n × (round ≡ n.recorder.standing.round)
-TellsRound held round Misuse = (round ≡ 0) × HasNone held
-TellsRound held round Fault = ⊥
-TellsRound held round Memory = ⊥
-TellsRound held round Length = ⊥
+-- the answer of a node: the number of the round that began last, 0 before the first; and, 1 for yes and 0 for
+-- no, whether frames go to this general and come from it now, whether a frame from it is still awaited,
+-- whether a round may end (one is open or half ended), and whether the last round has ended
+abbrev pub answer_to : Question → Node → ℕ
+answer_to Round n = n.recorder.standing.round
+answer_to (Awaits general) n = if awaits n general then 1 else 0
+answer_to (Lacks general) n = if is_awaited n general then 1 else 0
+answer_to MayEnd n = if may_end n then 1 else 0
+answer_to IsOver n = if is_over n then 1 else 0
 
--- whether frames go to this general and come from it now is told: 1 if they do, and else 0
-abbrev pub TellsAwaited : ℕ → Option NodeHandle → ℕ → NodeReply → Type 0
-TellsAwaited from held awaited Done =
-    (n : Node) × IsRunning held n × (awaited ≡ (if awaits n from then 1 else 0))
-TellsAwaited from held awaited Misuse = (awaited ≡ 0) × HasNone held
-TellsAwaited from held awaited Fault = ⊥
-TellsAwaited from held awaited Memory = ⊥
-TellsAwaited from held awaited Length = ⊥
-
--- whether a frame from this general is still awaited is told: 1 if it is, and else 0
-abbrev pub TellsLacking : ℕ → Option NodeHandle → ℕ → NodeReply → Type 0
-TellsLacking from held whether Done =
-    (n : Node) × IsRunning held n × (whether ≡ (if is_awaited n from then 1 else 0))
-TellsLacking from held whether Misuse = (whether ≡ 0) × HasNone held
-TellsLacking from held whether Fault = ⊥
-TellsLacking from held whether Memory = ⊥
-TellsLacking from held whether Length = ⊥
-
--- whether a round may end is told: 1 if one is open or half ended, and else 0
-abbrev pub TellsMayEnd : Option NodeHandle → ℕ → NodeReply → Type 0
-TellsMayEnd held whether Done =
-    (n : Node) × IsRunning held n × (whether ≡ (if may_end n then 1 else 0))
-TellsMayEnd held whether Misuse = (whether ≡ 0) × HasNone held
-TellsMayEnd held whether Fault = ⊥
-TellsMayEnd held whether Memory = ⊥
-TellsMayEnd held whether Length = ⊥
-
--- whether the last round has ended is told: 1 if it has, and else 0
-abbrev pub TellsOver : Option NodeHandle → ℕ → NodeReply → Type 0
-TellsOver held whether Done =
-    (n : Node) × IsRunning held n × (whether ≡ (if is_over n then 1 else 0))
-TellsOver held whether Misuse = (whether ≡ 0) × HasNone held
-TellsOver held whether Fault = ⊥
-TellsOver held whether Memory = ⊥
-TellsOver held whether Length = ⊥
+-- the answer of the node is told
+abbrev pub Tells : Question → Option NodeHandle → ℕ → NodeReply → Type 0
+Tells question held told Done = (n : Node) × IsRunning held n × (told ≡ answer_to question n)
+Tells question held told Misuse = (told ≡ 0) × HasNone held
+Tells question held told Fault = ⊥
+Tells question held told Memory = ⊥
+Tells question held told Length = ⊥

@@ -9,13 +9,16 @@ use Rattle.gen_types.specs.declared.reading.ReadError.TheVariants as errors
 use Rattle.gen_types.specs.Ascending.{IsListOf}
 use Rattle.gen_types.specs.Bits.{members_of}
 use Rattle.gen_net.specs.Header.{RunHeader}
-use Rattle.gen_net.specs.Network.{IsLoyal}
+use Rattle.gen_net.specs.Network.{Network, IsLoyal}
 use Rattle.gen_log.specs.Writing.{LogBytes}
 use Rattle.gen_walks.specs.declared.fault.WalkFault.{WalkFault}
 use Rattle.gen_walks.specs.declared.fault.WalkFault.TheVariants as walks
 use Rattle.gen_walks.specs.BestWalks.{AreBestWalks}
 use Rattle.gen_walks.specs.Faults.{IsWalkFault}
+use Rattle.gen_audit.specs.WorldBundle.{AreWalksOfRun}
 use Rattle.gen_node.specs.BundleBytes.{bundle_bytes}
+use Rattle.sm_node.specs.declared.bundles.BundleWalks.{BundleWalks}
+use Rattle.sm_node.specs.declared.bundles.BundleWalks.TheVariants.{Best, BestOrNone}
 use Rattle.sm_node.specs.declared.bundles.SmLog.{SmLog}
 use Rattle.sm_node.specs.declared.faults.BytesFault.{BytesFault}
 use Rattle.sm_node.specs.declared.faults.GatherFault.{GatherFault}
@@ -42,17 +45,26 @@ logs_in (log ∷ logs) bytes =
     then option_map (λ others. log_in_front log bytes ∷ others) (logs_in logs (drop log.bytes bytes))
     else None
 
--- the header that the bytes are, the generals that aren't held for faulty, and best walks between them
-pub record Gathers (bytes : List ℕ) (faulty : List ℕ) (h : RunHeader) (rest : List ℕ)
+-- best walks between these generals; or none if two of them have no short walk, where there may be none
+abbrev pub AreWalks : BundleWalks → Network → List ℕ → List (List ℕ) → Type 0
+AreWalks Best net rest walks = AreBestWalks net rest walks
+AreWalks BestOrNone net rest walks = AreWalksOfRun net rest walks
+
+-- such walks between the generals that aren't held for faulty
+abbrev pub AreWalksBeside : BundleWalks → RunHeader → List ℕ → List (List ℕ) → Type 0
+AreWalksBeside wanted h faulty walks =
+    (rest : List ℕ) × IsListOf rest (IsLoyal h.network faulty) × AreWalks wanted h.network rest walks
+
+-- the header that the bytes are, and such walks
+pub record Gathers (wanted : BundleWalks) (bytes faulty : List ℕ) (h : RunHeader)
     (walks : List (List ℕ)) : Type 0 where
   pub header : header_in bytes ≡ Ok h
-  pub others : IsListOf rest (IsLoyal h.network faulty)
-  pub best : AreBestWalks h.network rest walks
+  pub walks_are : AreWalksBeside wanted h faulty walks
 
 -- the text is the bundle of a header's bytes, the generals that are held for faulty, and logs
-abbrev pub IsGathered : List ℕ → List ℕ → List LogBytes → List ℕ → Type 0
-IsGathered bytes faulty logs text =
-    (h : RunHeader) × (rest : List ℕ) × (walks : List (List ℕ)) × Gathers bytes faulty h rest walks
+abbrev pub IsGathered : BundleWalks → List ℕ → List ℕ → List LogBytes → List ℕ → Type 0
+IsGathered wanted bytes faulty logs text =
+    (h : RunHeader) × (walks : List (List ℕ)) × Gathers wanted bytes faulty h walks
     × (bundle_bytes h faulty walks logs ≡ Ok text)
 
 -- the fault of gathering for a fault of walks; None for refused memory
@@ -61,26 +73,32 @@ fault_of walks.Memory = None
 fault_of (walks.NoWalk pair row) = Some NoWalk
 fault_of (walks.TooLong pair row edges) = Some LongWalk
 
--- two of the generals that aren't held for faulty have no short walk, which is this fault
-abbrev pub HasNoWalks : List ℕ → List ℕ → GatherFault → Type 0
-HasNoWalks bytes faulty f =
-    (h : RunHeader) × (rest : List ℕ) × (why : WalkFault) × (header_in bytes ≡ Ok h)
-    × IsListOf rest (IsLoyal h.network faulty) × IsWalkFault h.network rest why × (fault_of why ≡ Some f)
+-- best walks are wanted, and two of the generals that aren't held for faulty have no short walk, which is
+-- this fault
+abbrev pub LacksWalks : BundleWalks → RunHeader → List ℕ → GatherFault → Type 0
+LacksWalks wanted h faulty f =
+    (wanted ≡ Best) × ((rest : List ℕ) × (why : WalkFault) × IsListOf rest (IsLoyal h.network faulty)
+    × IsWalkFault h.network rest why × (fault_of why ≡ Some f))
+
+-- the bytes are a header, of which this is so
+abbrev pub HasNoWalks : BundleWalks → List ℕ → List ℕ → GatherFault → Type 0
+HasNoWalks wanted bytes faulty f = (h : RunHeader) × (header_in bytes ≡ Ok h) × LacksWalks wanted h faulty f
 
 -- this fault is why there is no bundle of a header's bytes, the generals that are held for faulty, and logs
-abbrev pub IsGatherFault : List ℕ → List ℕ → List LogBytes → GatherFault → Type 0
-IsGatherFault bytes faulty logs (Header f) = header_in bytes ≡ Err f
-IsGatherFault bytes faulty logs NoWalk = HasNoWalks bytes faulty NoWalk
-IsGatherFault bytes faulty logs LongWalk = HasNoWalks bytes faulty LongWalk
-IsGatherFault bytes faulty logs (Bundle f) =
-    (h : RunHeader) × (rest : List ℕ) × (walks : List (List ℕ)) × Gathers bytes faulty h rest walks
+abbrev pub IsGatherFault : BundleWalks → List ℕ → List ℕ → List LogBytes → GatherFault → Type 0
+IsGatherFault wanted bytes faulty logs (Header f) = header_in bytes ≡ Err f
+IsGatherFault wanted bytes faulty logs NoWalk = HasNoWalks wanted bytes faulty NoWalk
+IsGatherFault wanted bytes faulty logs LongWalk = HasNoWalks wanted bytes faulty LongWalk
+IsGatherFault wanted bytes faulty logs (Bundle f) =
+    (h : RunHeader) × (walks : List (List ℕ)) × Gathers wanted bytes faulty h walks
     × (bundle_bytes h faulty walks logs ≡ Err f)
 
 -- the text is that bundle, or the fault is why there is none, unless memory was refused
-abbrev pub GathersText : List ℕ → List ℕ → List LogBytes → Result (List ℕ) (ReadError GatherFault) → Type 0
-GathersText bytes faulty logs (Ok text) = IsGathered bytes faulty logs text
-GathersText bytes faulty logs (Err errors.Memory) = Unit {0}
-GathersText bytes faulty logs (Err (errors.Fault f)) = IsGatherFault bytes faulty logs f
+abbrev pub GathersText :
+    BundleWalks → List ℕ → List ℕ → List LogBytes → Result (List ℕ) (ReadError GatherFault) → Type 0
+GathersText wanted bytes faulty logs (Ok text) = IsGathered wanted bytes faulty logs text
+GathersText wanted bytes faulty logs (Err errors.Memory) = Unit {0}
+GathersText wanted bytes faulty logs (Err (errors.Fault f)) = IsGatherFault wanted bytes faulty logs f
 
 -- an answer with its text as a list of bytes
 abbrev pub as_text : Result (Vec ℕ Global) (ReadError GatherFault) → Result (List ℕ) (ReadError GatherFault)
@@ -98,29 +116,27 @@ FindsHeader bytes (Ok h) = header_in bytes ≡ Ok h
 FindsHeader bytes (Err errors.Memory) = Unit {0}
 FindsHeader bytes (Err (errors.Fault f)) = (s : BytesFault) × (f ≡ Header s) × (header_in bytes ≡ Err s)
 
--- best walks between the generals that aren't held for faulty, or why there are none, unless memory was
--- refused
-abbrev pub FindsWalks : RunHeader → List ℕ → Result (List (List ℕ)) (ReadError GatherFault) → Type 0
-FindsWalks h faulty (Ok walks) =
-    (rest : List ℕ) × IsListOf rest (IsLoyal h.network faulty) × AreBestWalks h.network rest walks
-FindsWalks h faulty (Err errors.Memory) = Unit {0}
-FindsWalks h faulty (Err (errors.Fault f)) =
-    (rest : List ℕ) × (why : WalkFault) × IsListOf rest (IsLoyal h.network faulty)
-    × IsWalkFault h.network rest why × (fault_of why ≡ Some f)
+-- such walks, or why there are none, unless memory was refused
+abbrev pub FindsWalks :
+    BundleWalks → RunHeader → List ℕ → Result (List (List ℕ)) (ReadError GatherFault) → Type 0
+FindsWalks wanted h faulty (Ok walks) = AreWalksBeside wanted h faulty walks
+FindsWalks wanted h faulty (Err errors.Memory) = Unit {0}
+FindsWalks wanted h faulty (Err (errors.Fault f)) = LacksWalks wanted h faulty f
 
 -- the bundle's bytes are handed out, or their length alone, or the number of a fault is told
-abbrev pub HandsBundle : List ℕ → ℕ → Option (List LogBytes) → List ℕ → List ℕ → ℕ → ℕ → NodeReply → Type 0
-HandsBundle bytes faulty logs old new count fault Done =
+abbrev pub HandsBundle :
+    BundleWalks → List ℕ → ℕ → Option (List LogBytes) → List ℕ → List ℕ → ℕ → ℕ → NodeReply → Type 0
+HandsBundle wanted bytes faulty logs old new count fault Done =
     (fault ≡ 0) × (faulty < 2 ^ 16) × ((xs : List LogBytes) × (text : List ℕ) × (logs ≡ Some xs)
-    × IsGathered bytes (members_of faulty) xs text × PutsText text old new count Done)
-HandsBundle bytes faulty logs old new count fault Length =
+    × IsGathered wanted bytes (members_of faulty) xs text × PutsText text old new count Done)
+HandsBundle wanted bytes faulty logs old new count fault Length =
     (fault ≡ 0) × (faulty < 2 ^ 16) × ((xs : List LogBytes) × (text : List ℕ) × (logs ≡ Some xs)
-    × IsGathered bytes (members_of faulty) xs text × PutsText text old new count Length)
-HandsBundle bytes faulty logs old new count fault Fault =
+    × IsGathered wanted bytes (members_of faulty) xs text × PutsText text old new count Length)
+HandsBundle wanted bytes faulty logs old new count fault Fault =
     IsUntouched old new count × (faulty < 2 ^ 16)
     × ((xs : List LogBytes) × (f : GatherFault) × (logs ≡ Some xs)
-    × IsGatherFault bytes (members_of faulty) xs f × (fault ≡ gather_number f))
-HandsBundle bytes faulty logs old new count fault Memory =
+    × IsGatherFault wanted bytes (members_of faulty) xs f × (fault ≡ gather_number f))
+HandsBundle wanted bytes faulty logs old new count fault Memory =
     (fault ≡ 0) × (faulty < 2 ^ 16) × IsUntouched old new count
-HandsBundle bytes faulty logs old new count fault Misuse =
+HandsBundle wanted bytes faulty logs old new count fault Misuse =
     (fault ≡ 0) × IsUntouched old new count × ((2 ^ 16 ≤ faulty) ⊎ (logs ≡ None))

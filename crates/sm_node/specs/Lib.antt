@@ -7,7 +7,6 @@ pub mod Headers
 pub mod NodeHandle
 pub mod Longest
 pub mod Owning
-pub mod Parted
 pub mod Plans
 pub mod Starting
 pub mod NodeReply

@@ -1,5 +1,5 @@
 -- What is told of the header that bytes are.
-use Rattle.std.specs.Prelude.{ℕ, ◌≡◌, List, Result, Ok, Err}
+use Rattle.std.specs.Prelude.{ℕ, ◌≡◌, List, Ok, Err}
 use Rattle.gen_types.specs.Ascending.{IsListOf}
 use Rattle.gen_types.specs.Bits.{bits_of}
 use Rattle.gen_types.specs.ChoiceOf.{choice_number}
@@ -16,25 +16,14 @@ use Rattle.sm_node.specs.declared.told.NodeReply.TheVariants.{Done, Misuse, Faul
 use Rattle.sm_node.specs.Faults.{bytes_number}
 use Rattle.sm_node.specs.Headers.{header_in}
 
--- nothing is told of the bytes: the number of their fault is told, or memory was refused
-abbrev pub IsUntold : List ℕ → ℕ → NodeReply → Type 0
-IsUntold bytes fault Done = ⊥
-IsUntold bytes fault Misuse = ⊥
-IsUntold bytes fault Fault = (f : BytesFault) × (header_in bytes ≡ Err f) × (fault ≡ bytes_number f)
-IsUntold bytes fault Memory = fault ≡ 0
-IsUntold bytes fault Length = ⊥
-
--- the header that the bytes are; or the number of their fault is told, or memory was refused
-abbrev pub FindsHeader : List ℕ → ℕ → Result RunHeader NodeReply → Type 0
-FindsHeader bytes fault (Ok h) = (fault ≡ 0) × (header_in bytes ≡ Ok h)
-FindsHeader bytes fault (Err told) = IsUntold bytes fault told
-
--- the bytes are a header, of which this holds; or nothing is told of the bytes, and that holds
+-- the bytes are a header, of which this holds; or that holds, and the number of the bytes' fault is told or
+-- memory was refused
 abbrev pub TellsOf : List ℕ → (RunHeader → Type 0) → Type 0 → ℕ → NodeReply → Type 0
 TellsOf bytes Holds Kept fault Done = (fault ≡ 0) × ((h : RunHeader) × (header_in bytes ≡ Ok h) × Holds h)
 TellsOf bytes Holds Kept fault Misuse = ⊥
-TellsOf bytes Holds Kept fault Fault = Kept × IsUntold bytes fault Fault
-TellsOf bytes Holds Kept fault Memory = Kept × IsUntold bytes fault Memory
+TellsOf bytes Holds Kept fault Fault =
+    Kept × ((f : BytesFault) × (header_in bytes ≡ Err f) × (fault ≡ bytes_number f))
+TellsOf bytes Holds Kept fault Memory = Kept × (fault ≡ 0)
 TellsOf bytes Holds Kept fault Length = ⊥
 
 -- the number of a version

@@ -25,6 +25,15 @@ pub struct SmLog {
     pub bytes: usize,
 }
 
+/// Which walks a bundle has between the generals that aren't held for faulty.
+#[derive(Clone, Copy)]
+pub enum BundleWalks {
+    /// Best walks.
+    Best,
+    /// Best walks, or none if two of these generals have no short walk.
+    BestOrNone,
+}
+
 /// Returns the log in front of the bytes.
 fn log_in_front(alloc: Global, log: SmLog, bytes: &[u8]) -> Result<Exhibit, AllocError>
     requires { gathering.is_in_front log bytes.now ≡ true }
@@ -43,11 +52,7 @@ fn is_in_front(log: SmLog, bytes: &[u8]) -> bool
 
 /// Returns the logs that stand one after another in the bytes; None if the bytes are not exactly these logs.
 #[tactic(auto, using(crate::proofs::Gathering::taken_off, crate::proofs::Gathering::none_had, crate::proofs::Gathering::all_had))]
-pub(crate) fn logs_in(
-    alloc: Global,
-    logs: &[SmLog],
-    bytes: &[u8],
-) -> Result<Option<Vec<Exhibit>>, AllocError>
+fn logs_in(alloc: Global, logs: &[SmLog], bytes: &[u8]) -> Result<Option<Vec<Exhibit>>, AllocError>
     ensures { IfOk result (λ found. gathering.listed found ≡ gathering.logs_in logs.now bytes.now) }
 {
     let mut had = Vec::new(alloc);
@@ -68,31 +73,31 @@ pub(crate) fn logs_in(
     }
 }
 
-/// Returns best walks between the generals that aren't held for faulty.
+/// Returns the walks of a bundle between the generals that aren't held for faulty.
 fn walks_of(
     alloc: Global,
+    wanted: BundleWalks,
     header: &Header,
     faulty: &GeneralSet,
 ) -> Result<Walks, ReadError<GatherFault>>
-    ensures { gathering.FindsWalks header.now faulty.now result }
+    ensures { gathering.FindsWalks wanted header.now faulty.now result }
 {
     let net = header.net();
-    match make_walks(alloc, net, &net.rest(faulty)) {
-        Ok(walks) => Ok(walks),
-        Err(WalkFault::Memory) => Err(ReadError::Memory),
-        Err(WalkFault::NoWalk { pair: _, levels: _ }) => Err(ReadError::Fault(GatherFault::NoWalk)),
-        Err(
-            WalkFault::TooLong {
-                pair: _,
-                levels: _,
-                edges: _,
-            },
-        ) => Err(ReadError::Fault(GatherFault::LongWalk)),
+    match (make_walks(alloc, net, &net.rest(faulty)), wanted) {
+        (Ok(walks), _) => Ok(walks),
+        (Err(WalkFault::Memory), _) => Err(ReadError::Memory),
+        (Err(_), BundleWalks::BestOrNone) => Ok(Walks::new(alloc)),
+        (Err(WalkFault::NoWalk { .. }), BundleWalks::Best) => {
+            Err(ReadError::Fault(GatherFault::NoWalk))
+        }
+        (Err(WalkFault::TooLong { .. }), BundleWalks::Best) => {
+            Err(ReadError::Fault(GatherFault::LongWalk))
+        }
     }
 }
 
 /// Returns the header of a bundle, which the bytes must be.
-pub(crate) fn header_of(alloc: Global, bytes: &[u8]) -> Result<Header, ReadError<GatherFault>>
+fn header_of(alloc: Global, bytes: &[u8]) -> Result<Header, ReadError<GatherFault>>
     ensures { gathering.FindsHeader bytes.now result }
 {
     match header_in(alloc, bytes) {
@@ -105,14 +110,15 @@ pub(crate) fn header_of(alloc: Global, bytes: &[u8]) -> Result<Header, ReadError
 /// Returns the bytes of the bundle of a header's bytes, the generals that are held for faulty, and logs.
 fn gather(
     alloc: Global,
+    wanted: BundleWalks,
     bytes: &[u8],
     faulty: GeneralSet,
     logs: Vec<Exhibit>,
 ) -> Result<Vec<u8>, ReadError<GatherFault>>
-    ensures { gathering.GathersText bytes.now faulty logs.items (gathering.as_text result) }
+    ensures { gathering.GathersText wanted bytes.now faulty logs.items (gathering.as_text result) }
 {
     let header = header_of(alloc, bytes)?;
-    let walks = walks_of(alloc, &header, &faulty)?;
+    let walks = walks_of(alloc, wanted, &header, &faulty)?;
     match make_bundle(alloc, header, faulty, walks, logs) {
         Ok(text) => Ok(text),
         Err(ReadError::Memory) => Err(ReadError::Memory),
@@ -124,6 +130,7 @@ fn gather(
 /// the bytes.
 pub(crate) fn hand_bundle(
     alloc: Global,
+    wanted: BundleWalks,
     header: &[u8],
     faulty: u32,
     logs: &[SmLog],
@@ -132,7 +139,7 @@ pub(crate) fn hand_bundle(
     count: &mut usize,
     fault: &mut u32,
 ) -> NodeReply
-    ensures { gathering.HandsBundle header.now faulty (gathering.logs_in logs.now bytes.now)
+    ensures { gathering.HandsBundle wanted header.now faulty (gathering.logs_in logs.now bytes.now)
         room.old room.new count.new fault.new result }
 {
     *count = 0;
@@ -145,7 +152,8 @@ pub(crate) fn hand_bundle(
         Ok(None) => return NodeReply::Misuse,
         Err(_) => return NodeReply::Memory,
     };
-    match gather(alloc, header, GeneralSet::from_bits(faulty as u16), own) {
+    let faulty = GeneralSet::from_bits(faulty as u16);
+    match gather(alloc, wanted, header, faulty, own) {
         Ok(text) => put(text.as_slice(), room, count),
         Err(ReadError::Memory) => NodeReply::Memory,
         Err(ReadError::Fault(broken)) => {

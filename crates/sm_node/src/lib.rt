@@ -16,19 +16,17 @@
 #![tactic(auto)]
 
 ghost use Rattle.std.specs.Prelude.{◌≡◌, ◌<◌, ◌≤◌, None};
-ghost use Rattle.sm_node.specs.Asking.{TellsAwaited, TellsLacking, TellsMayEnd, TellsOver, TellsRound};
+ghost use Rattle.sm_node.specs.Asking.{Tells};
 ghost use Rattle.sm_node.specs.Bundles.{HandsBundle, logs_in};
 ghost use Rattle.sm_node.specs.Driving.{Begins, Ends, Finishes, HandsLog, Hears, Sends, TellsOrder};
 ghost use Rattle.sm_node.specs.Handing.{IsUntouched};
 ghost use Rattle.sm_node.specs.Headers.{header_made, MakesHeader};
-ghost use Rattle.sm_node.specs.Parted.{HandsParted};
 ghost use Rattle.sm_node.specs.Plans.{TellsMost, TellsNeighbours, TellsNumbers, TellsRounds};
 ghost use Rattle.sm_node.specs.Starting.{Starts, WritesRoot};
 ghost use Rattle.sm_node.specs.NodeReply.{IsTold};
 
 mod asking;
 mod bundles;
-mod driving;
 mod faults;
 mod handing;
 mod headers;
@@ -36,20 +34,19 @@ mod held;
 mod longest;
 mod loose;
 mod opaque;
-mod parted;
 mod plans;
 mod starting;
 mod told;
 
-use crate::asking::{awaited, lacking, may_end, over, round};
-use crate::bundles::{SmLog, hand_bundle};
-use crate::driving::{begin_round, end_round, finish, free, hear, log, order, send};
+use crate::asking::{Question, ask};
+use crate::bundles::{BundleWalks, SmLog, hand_bundle};
 use crate::headers::{SmNumbers, make_header};
+use crate::longest::frame_most;
 use crate::opaque::SmNode;
-use crate::parted::hand_parted;
-use crate::plans::{tell_most, tell_neighbours, tell_numbers, tell_rounds};
+use crate::plans::{numbers_of, with_header};
 use crate::starting::{NUMBERS, start, write_root};
 use crate::told::MISUSE;
+use gen_net::Header;
 use gen_types::GeneralNo;
 use std::alloc::Global;
 
@@ -106,7 +103,8 @@ pub extern "C" fn sm_node_new(
 pub extern "C" fn sm_node_begin_round(alloc: Global, node: &mut SmNode) -> u32
     ensures { IsTold (Begins node.old.held node.new.held) result }
 {
-    begin_round(alloc, node).status()
+    node.with_held(alloc, &mut |held| held.begin_round(alloc))
+        .status()
 }
 
 /// Hands out the bytes of the frame of this round to a neighbour.
@@ -123,11 +121,13 @@ pub extern "C" fn sm_node_send(
     // The number is 16 or more, so it is no general's.
     ensures nobody { 16 ≤ to → (result ≡ 2) × IsUntouched room.old room.new count.new }
 {
+    *count = 0;
     if to >= NUMBERS {
-        *count = 0;
         return MISUSE;
     }
-    send(alloc, node, GeneralNo::at(to as u8), room, count).status()
+    let to = GeneralNo::at(to as u8);
+    node.with_held(alloc, &mut |held| held.send(alloc, to, room, count))
+        .status()
 }
 
 /// Takes the bytes that came from a neighbour in this round.
@@ -144,11 +144,13 @@ pub extern "C" fn sm_node_hear(
     // The number is 16 or more, so it is no general's.
     ensures nobody { 16 ≤ from → (result ≡ 2) × (node.new.held ≡ node.old.held) × (fault.new ≡ 0) }
 {
+    *fault = 0;
     if from >= NUMBERS {
-        *fault = 0;
         return MISUSE;
     }
-    hear(alloc, node, GeneralNo::at(from as u8), bytes, fault).status()
+    let from = GeneralNo::at(from as u8);
+    node.with_held(alloc, &mut |held| held.hear(alloc, from, bytes, fault))
+        .status()
 }
 
 /// Ends the round. A neighbour from which nothing was taken counts as one that sent nothing. If memory is refused, a
@@ -157,7 +159,8 @@ pub extern "C" fn sm_node_hear(
 pub extern "C" fn sm_node_end_round(alloc: Global, node: &mut SmNode) -> u32
     ensures { IsTold (Ends node.old.held node.new.held) result }
 {
-    end_round(alloc, node).status()
+    node.with_held(alloc, &mut |held| held.end_round(alloc))
+        .status()
 }
 
 /// Ends the node after the last round. Its sealed log and its decision are left, and its ring of keys is closed.
@@ -165,7 +168,8 @@ pub extern "C" fn sm_node_end_round(alloc: Global, node: &mut SmNode) -> u32
 pub extern "C" fn sm_node_finish(alloc: Global, node: &mut SmNode) -> u32
     ensures { IsTold (Finishes node.old.held node.new.held) result }
 {
-    finish(alloc, node).status()
+    node.with_held(alloc, &mut |held| held.finish(alloc))
+        .status()
 }
 
 /// Hands out the bytes of the log of a node that has ended.
@@ -179,7 +183,9 @@ pub extern "C" fn sm_node_log(
     ensures same { node.new.held ≡ node.old.held }
     ensures log { IsTold (HandsLog node.old.held room.old room.new count.new) result }
 {
-    log(alloc, node, room, count).status()
+    *count = 0;
+    node.with_held(alloc, &mut |held| held.log(room, count))
+        .status()
 }
 
 /// Tells the order that a node that has ended decided.
@@ -188,7 +194,9 @@ pub extern "C" fn sm_node_order(alloc: Global, node: &mut SmNode, decided: &mut 
     ensures same { node.new.held ≡ node.old.held }
     ensures order { IsTold (TellsOrder node.old.held decided.new) result }
 {
-    order(alloc, node, decided).status()
+    *decided = 0;
+    node.with_held(alloc, &mut |held| held.order(decided))
+        .status()
 }
 
 /// Frees what a node holds, at any time, so that there is no node. An open ring of keys is closed.
@@ -196,7 +204,9 @@ pub extern "C" fn sm_node_order(alloc: Global, node: &mut SmNode, decided: &mut 
 pub extern "C" fn sm_node_free(alloc: Global, node: &mut SmNode)
     ensures { node.new.held ≡ None }
 {
-    free(alloc, node)
+    if let Some(held) = node.take(alloc) {
+        held.drop();
+    }
 }
 
 /// Hands out the bytes of the bundle of a run. Its parts are the header's bytes, the set of the generals that are held
@@ -214,10 +224,11 @@ pub extern "C" fn sm_node_bundle(
     count: &mut usize,
     fault: &mut u32,
 ) -> u32
-    ensures { IsTold (HandsBundle header.now faulty (logs_in logs.now bytes.now)
+    ensures { IsTold (HandsBundle BundleWalks.Best header.now faulty (logs_in logs.now bytes.now)
         room.old room.new count.new fault.new) result }
 {
-    hand_bundle(alloc, header, faulty, logs, bytes, room, count, fault).status()
+    let kind = BundleWalks::Best;
+    hand_bundle(alloc, kind, header, faulty, logs, bytes, room, count, fault).status()
 }
 
 /// Hands out the bytes of the bundle of a run, as `sm_node_bundle` does, but if two generals that aren't held for faulty have
@@ -233,10 +244,11 @@ pub extern "C" fn sm_node_bundle_parted(
     count: &mut usize,
     fault: &mut u32,
 ) -> u32
-    ensures { IsTold (HandsParted header.now faulty (logs_in logs.now bytes.now)
+    ensures { IsTold (HandsBundle BundleWalks.BestOrNone header.now faulty (logs_in logs.now bytes.now)
         room.old room.new count.new fault.new) result }
 {
-    hand_parted(alloc, header, faulty, logs, bytes, room, count, fault).status()
+    let kind = BundleWalks::BestOrNone;
+    hand_bundle(alloc, kind, header, faulty, logs, bytes, room, count, fault).status()
 }
 
 /// Returns the number of the version of this library: 1000000 times the first number, 1000 times the second, and the
@@ -258,7 +270,8 @@ pub extern "C" fn sm_node_header_numbers(
 ) -> u32
     ensures { IsTold (TellsNumbers header.now numbers.old numbers.new fault.new) result }
 {
-    tell_numbers(alloc, header, numbers, fault).status()
+    let mut tell = |found: &Header| *numbers = numbers_of(found);
+    with_header(alloc, header, fault, &mut tell).status()
 }
 
 /// Tells the number of rounds of a run of the header that the bytes are.
@@ -271,7 +284,9 @@ pub extern "C" fn sm_node_rounds(
 ) -> u32
     ensures { IsTold (TellsRounds header.now rounds.new fault.new) result }
 {
-    tell_rounds(alloc, header, rounds, fault).status()
+    *rounds = 0;
+    let mut tell = |found: &Header| *rounds = u32::from(found.net().rounds());
+    with_header(alloc, header, fault, &mut tell).status()
 }
 
 /// Tells the most bytes of a frame of a node that follows the algorithm, in a run of the header that the bytes are.
@@ -284,7 +299,9 @@ pub extern "C" fn sm_node_frame_most(
 ) -> u32
     ensures { IsTold (TellsMost header.now most.new fault.new) result }
 {
-    tell_most(alloc, header, most, fault).status()
+    *most = 0;
+    let mut tell = |found: &Header| *most = frame_most(found);
+    with_header(alloc, header, fault, &mut tell).status()
 }
 
 /// Tells the set of the neighbours of a general, bit g for general g, by the header that the bytes are. It is empty for
@@ -302,21 +319,23 @@ pub extern "C" fn sm_node_neighbours(
     // The number is 16 or more, so it is no general's.
     ensures nobody { 16 ≤ general → (result ≡ 2) × (set.new ≡ 0) × (fault.new ≡ 0) }
 {
+    *set = 0;
+    *fault = 0;
     if general >= NUMBERS {
-        *set = 0;
-        *fault = 0;
         return MISUSE;
     }
-    tell_neighbours(alloc, header, GeneralNo::at(general as u8), set, fault).status()
+    let general = GeneralNo::at(general as u8);
+    let mut tell = |found: &Header| *set = u32::from(found.net().neighbours(general).bits());
+    with_header(alloc, header, fault, &mut tell).status()
 }
 
 /// Tells the number of the round of a node that began last, 0 before the first.
 #[unsafe(no_mangle)]
 pub extern "C" fn sm_node_round(alloc: Global, node: &mut SmNode, current: &mut u32) -> u32
     ensures same { node.new.held ≡ node.old.held }
-    ensures round { IsTold (TellsRound node.old.held current.new) result }
+    ensures round { IsTold (Tells Question.Round node.old.held current.new) result }
 {
-    round(alloc, node, current).status()
+    ask(alloc, node, Question::Round, current).status()
 }
 
 /// Tells whether a frame goes out to a general now and one from it is awaited, 1 or 0: a round is open, and the general
@@ -329,7 +348,7 @@ pub extern "C" fn sm_node_awaits(
     whether: &mut u32,
 ) -> u32
     ensures same { node.new.held ≡ node.old.held }
-    ensures general { from < 16 → IsTold (TellsAwaited from node.old.held whether.new) result }
+    ensures general { from < 16 → IsTold (Tells (Question.Awaits from) node.old.held whether.new) result }
     // The number is 16 or more, so it is no general's.
     ensures nobody { 16 ≤ from → (result ≡ 2) × (whether.new ≡ 0) }
 {
@@ -337,7 +356,8 @@ pub extern "C" fn sm_node_awaits(
         *whether = 0;
         return MISUSE;
     }
-    awaited(alloc, node, GeneralNo::at(from as u8), whether).status()
+    let question = Question::Awaits(GeneralNo::at(from as u8));
+    ask(alloc, node, question, whether).status()
 }
 
 /// Tells whether a frame from a general is still awaited, 1 or 0: a round is open, the general is a neighbour, and no
@@ -350,7 +370,7 @@ pub extern "C" fn sm_node_lacks(
     whether: &mut u32,
 ) -> u32
     ensures same { node.new.held ≡ node.old.held }
-    ensures general { from < 16 → IsTold (TellsLacking from node.old.held whether.new) result }
+    ensures general { from < 16 → IsTold (Tells (Question.Lacks from) node.old.held whether.new) result }
     // The number is 16 or more, so it is no general's.
     ensures nobody { 16 ≤ from → (result ≡ 2) × (whether.new ≡ 0) }
 {
@@ -358,23 +378,24 @@ pub extern "C" fn sm_node_lacks(
         *whether = 0;
         return MISUSE;
     }
-    lacking(alloc, node, GeneralNo::at(from as u8), whether).status()
+    let question = Question::Lacks(GeneralNo::at(from as u8));
+    ask(alloc, node, question, whether).status()
 }
 
 /// Tells whether `sm_node_end_round` may be called, 1 or 0: a round is open, or half ended.
 #[unsafe(no_mangle)]
 pub extern "C" fn sm_node_may_end(alloc: Global, node: &mut SmNode, whether: &mut u32) -> u32
     ensures same { node.new.held ≡ node.old.held }
-    ensures tells { IsTold (TellsMayEnd node.old.held whether.new) result }
+    ensures tells { IsTold (Tells Question.MayEnd node.old.held whether.new) result }
 {
-    may_end(alloc, node, whether).status()
+    ask(alloc, node, Question::MayEnd, whether).status()
 }
 
 /// Tells whether `sm_node_finish` may be called, 1 or 0: the last round has ended.
 #[unsafe(no_mangle)]
 pub extern "C" fn sm_node_is_over(alloc: Global, node: &mut SmNode, whether: &mut u32) -> u32
     ensures same { node.new.held ≡ node.old.held }
-    ensures tells { IsTold (TellsOver node.old.held whether.new) result }
+    ensures tells { IsTold (Tells Question.IsOver node.old.held whether.new) result }
 {
-    over(alloc, node, whether).status()
+    ask(alloc, node, Question::IsOver, whether).status()
 }

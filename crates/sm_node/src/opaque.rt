@@ -1,11 +1,13 @@
 //! A node as a caller in C holds it: one pointer.
 ghost use Rattle.std.specs.Prelude.{◌≡◌, Option, None, Some};
+ghost use Rattle.std.specs.Borrow.{MutBor};
 ghost use Rattle.std.specs.Option.{MatchOption};
 ghost use Rattle.sm_node.specs.declared.held.NodeHandle.{NodeHandle};
 ghost use Rattle.sm_node.specs.Owning.{node_owns};
 
 use crate::held::NodeHandle;
 use crate::loose::Loose;
+use crate::told::NodeReply;
 use std::alloc::Global;
 use std::marker::{Model, Send};
 use std::mem::replace;
@@ -76,5 +78,25 @@ impl SmNode {
         if let Some(loose) = before.into_loose(alloc) {
             loose.into_box().drop();
         }
+    }
+
+    /// Acts on what is held, and returns what the act answers; it is misuse if nothing is held.
+    pub(crate) fn with_held<F: FnMut(&mut NodeHandle) -> NodeReply>(
+        &mut self,
+        alloc: Global,
+        act: &mut F,
+    ) -> NodeReply
+        requires { F.IsAlwaysCallable act.old }
+        ensures { MatchOption self.old.held
+            ((result ≡ NodeReply.Misuse) × (self.new.held ≡ None) × (act.new ≡ act.old))
+            (λ held. (shown : MutBor NodeHandle) × (left : MutBor NodeHandle) × (shown.now ≡ held)
+            × F.step act.old shown result left act.new × (self.new.held ≡ Some left.now)) }
+    {
+        let Some(mut held) = self.take(alloc) else {
+            return NodeReply::Misuse;
+        };
+        let told = act(&mut *held);
+        self.put(alloc, held);
+        told
     }
 }
