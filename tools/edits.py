@@ -1,8 +1,8 @@
 #!/usr/bin/env python3
-"""Tries the wrong bodies of the folder edits/: the checker must refuse each.
+"""Tries the wrong bodies of the folder edits/: the checker must refuse each, but those of edits/open/, which it proves.
 
     tools/edits.py [--in FOLDER] [CRATE ..]    tries the edits of these crates, or of all
-    tools/edits.py --check                     only looks whether each edit, the gate's too, still applies to its source
+    tools/edits.py --check                     only looks whether each edit, the gate's and the open ones too, still applies
 
 An edit is a file edits/CRATE/NAME.edit, of the form of the gate's own edits (crates/CRATE/must-fail). The edits are put into
 a copy of the repository, whose libraries are proved first; then `rt must-fail` tries the edits of as many crates at a time
@@ -18,6 +18,8 @@ import tempfile
 
 TOP = os.path.dirname(os.path.dirname(os.path.abspath(__file__)))
 EDITS = os.path.join(TOP, "edits")
+# Bodies that no contract refuses.
+OPEN = "open"
 PARTS = ("src", "specs", "proofs")
 # What one check takes at most, in the dearest crates.
 GIB_OF_A_CHECK = 4
@@ -82,10 +84,11 @@ def wrong_with(edit, crate):
 
 
 def check():
-    """Looks whether each edit applies, those of the gate too. Returns how many do, and how many don't."""
+    """Looks whether each edit applies, those of the gate and the open ones too. Returns how many do, and how many don't."""
     well = wrong = 0
     for crate in uses_of_crates():
-        for edit in edits_of(crate) + edits_in(os.path.join(TOP, "crates", crate, "must-fail")):
+        others = os.path.join(TOP, "crates", crate, "must-fail"), os.path.join(EDITS, OPEN, crate)
+        for edit in [*edits_of(crate), *edits_in(others[0]), *edits_in(others[1])]:
             why = wrong_with(edit, crate)
             well, wrong = well + (not why), wrong + bool(why)
             if why:
@@ -148,8 +151,7 @@ def try_all(folder, crates):
 
 def main():
     words = sys.argv[1:]
-    every = sorted(os.listdir(EDITS))
-    every.remove("README.md")
+    every = sorted(set(os.listdir(EDITS)) - {"README.md", OPEN})
     if words == ["--check"]:
         well, wrong = check()
         print(f"{well} edits apply, {wrong} do not")

@@ -367,6 +367,7 @@ def try_answers(told, tally):
 # The table of the generals of examples/split.bundle, and the sides of evidence of each kind that is given.
 SPLIT = [["0", "18fbddbba9d556d0…", "yes", "49,601 bytes", "1", "K2"], ["1", "e64d015fd1352f12…", "no", "82,629 bytes", "0", "no"],
          ["2", "985170cbf04d3a61…", "no", "82,629 bytes", "0", "no"]]
+UNJUDGED = [[*row[:-1], "not judged"] for row in SPLIT]
 SIDES = {
     "split.evidence": [["Signed first in the file", "statement round 1 order 0 path 0", "in this run"],
                        ["Signed besides", "statement round 1 order 1 path 0", "in this run"]],
@@ -409,6 +410,7 @@ def try_expected(shown, given, tally):
     told = given.take(lambda paths: shown.choose("#file", paths), split)[0]
     is_right = told["end"] == OTHER_RUN and told["text"] == "fault R1" and "another run" in told["said"]
     tally.hold("another run", None if is_right and told["facts"]["Run id"] == own else f"{told}"[:400])
+    tally.hold("the generals of another run", None if told["tables"] == [UNJUDGED] else f"{told['tables']}"[:400])
     expect("12")
     shown.choose("#file", written(given.folder, split))
     shown.wait("byId('status').textContent.startsWith('The expected run id is not')")

@@ -172,13 +172,16 @@ function decidedIn(logs) {
   return logs.map(it => it.decided ?? "none read").join(", ");
 }
 
+// By what a general is convicted, if its run was judged.
+const convictedBy = (verdict, general) => (verdict ? verdict.convicted[general]?.join(", ") ?? "no" : "not judged");
+
 // The table of the generals of a run, with its verdict if there is one.
 function generalsTable(run, verdict, label) {
   const rows = run.roots.map((root, general) => {
     const logs = run.logs.filter(it => it.general === general);
     return [String(general), `${root.slice(0, 2 * KEY_BYTES)}…`, run.faulty.includes(general) ? "yes" : "no",
       logs.length ? logs.map(it => it.fault ?? `${spell(it.length)} bytes`).join(", ") : "none", decidedIn(logs),
-      verdict?.convicted[general]?.join(", ") ?? "no"];
+      convictedBy(verdict, general)];
   });
   const names = ["General", "Root begins", "Held for faulty", "Log shown", "Decided", "Convicted by"];
   return tableOf(label, names, rows);
