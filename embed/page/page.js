@@ -92,8 +92,9 @@ function replyHeadline(outcome, answer) {
   if (answer.text.startsWith("collision ")) {
     return "Answered: two different strings of bytes have one SHA-256, so SHA-256 is broken. The strings stand below.";
   }
-  return `Answered: by the log, ${general} did not sign a text of the evidence. If the log is right, somebody else knows `
-    + `the keys of ${general}, or SHA-256 is broken. The text stands below.`;
+  return `Answered: by the log, ${general} did not sign a text of the evidence. If the log is right, and `
+    + `${general} ran once under this header, somebody else knows the keys of ${general}, or SHA-256 is broken. The text `
+    + "stands below.";
 }
 
 // The answer in one sentence.
