@@ -253,7 +253,8 @@ function replyPlace(given, { kind, end, file }, described) {
   const place = made("div", "asking", field, label), takeLogs = logs => takeAgainst({ ...given, replies }, logs);
   field.addEventListener("change", () => { takeLogs(field.files); field.value = ""; });
   place.addEventListener("drop", it => { it.stopPropagation(); dropped(it, takeLogs); });
-  const said = `If ${name} followed the algorithm, the log that ${name} kept of this run answers the evidence.`;
+  const said = end === YES ? `If ${name} followed the algorithm, the log that ${name} kept of this run answers the evidence.`
+    : "The evidence fails, so there is nothing to answer.";
   return [made("h3", "", "What the accused answers"), made("p", "", said), replies, place];
 }
 
