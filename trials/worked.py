@@ -39,6 +39,7 @@ SCRIPTS = [
 ]
 
 # Words that ask for nothing.
+EXAMPLE = "run --capacity 0", b"error: --capacity takes a number from 1 to 16, and not '0'; for more, try '--help'\n"
 WORDS = ["", "walk", "decide x y", "explain", "decide --workers 1", "run --capacity", "run --capacity 0", "run --capacity 17"]
 WORDS += ["run --capacity 01", "run --capacity x", "run --capacity +1", "audit --workers 0", "audit --workers 17"]
 WORDS += ["judge --capacity 1 --workers 0", "judge --capacity 17 --workers 2", "judge --workers 2 --capacity 0"]
@@ -194,6 +195,9 @@ def try_words(program, tally):
         is_well = end.status == 2 and not end.wrote and len(said) == 1 and end.said.endswith(b"'--help'\n")
         tally.hold(f"words {words!r}", None if is_well else f"{end}")
         tally.count(1)
+    end = run(program, EXAMPLE[0].split(), stored("pair.scenario"))
+    tally.hold("the line of words that docs/COMMANDS.md shows", None if end.said == EXAMPLE[1] else f"{end}")
+    tally.count(1)
 
 
 def trials(program, tally):
