@@ -1,10 +1,12 @@
 //! Calls of words of the command line, and of whole commands.
 use crate::forms::{Form, done};
+use crate::names::Refused;
+use crate::rows::Row;
+use crate::texts::Answer;
 use clap::error::ErrorKind;
 use gen_jobs::{Job, JobEnd, Telling, job_fault_line};
 use gen_net::Version;
 use gen_program::{Several, WordsFault, read_several, read_words};
-use row_calls::{Answer, Refused, Row};
 use std::alloc::Global;
 use std::sync::Wait;
 use std::thread::Threads;

@@ -1,6 +1,9 @@
 //! Files of rows.
-use crate::commands;
-use row_calls::{Answer, Asked, Names, Refused, Row};
+use crate::names::{Names, Refused};
+use crate::rows::{Asked, Row};
+use crate::texts::Answer;
+use crate::{commands, frames, judging, preparing, signing, values};
+use std::alloc::Global;
 use std::rt::Files;
 use std::sync::Wait;
 use std::thread::Threads;
@@ -162,11 +165,41 @@ fn tell<R: AllocGlobal + Threads + Wait + Sync>(
     row: Row<'_>,
     answer: &mut Answer,
 ) -> Result<(), Refused> {
-    if row_calls::tell(rt.alloc(), call, row, answer)? {
+    let alloc = rt.alloc();
+    if values::tell(alloc, call, row, answer)? {
+        return Ok(());
+    }
+    if signing::tell(alloc, call, row, answer)? {
+        return Ok(());
+    }
+    if judging::tell(alloc, call, row, answer)? {
+        return Ok(());
+    }
+    if preparing::tell(alloc, call, row, answer)? {
+        return Ok(());
+    }
+    if frames::tell(alloc, call, row, answer)? {
         return Ok(());
     }
     if commands::tell(rt, call, row, answer)? {
         return Ok(());
     }
-    row_calls::tell_under(rt.alloc(), call, row, answer)
+    tell_under(alloc, call, row, answer)
+}
+
+/// Answers a call on a header.
+fn tell_under(
+    alloc: Global,
+    call: &str,
+    mut row: Row<'_>,
+    answer: &mut Answer,
+) -> Result<(), Refused> {
+    let header = row.header(alloc)?;
+    let is_told = values::tell_under(alloc, call, &header, row, answer)?
+        || signing::tell_under(alloc, call, &header, row, answer)?
+        || judging::tell_under(alloc, call, &header, row, answer)?;
+    if !is_told {
+        return Err(Refused);
+    }
+    Ok(())
 }

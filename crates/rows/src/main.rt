@@ -5,16 +5,44 @@
 //! another one than stands in the row, and a line for each file. Behind all files it is `sm_tool` itself, by the words of
 //! the process, and ends with the exit status of that.
 //!
-//! This crate has the files of rows, the calls of words and whole commands, and the forms of jobs. The other calls, and what
-//! a row is, stand in `row_calls`.
-//!
 //! If the word before the last is `again`, the program tries no rows. It makes the call of the libraries that the last word
 //! names, for the trial that refuses memory and threads.
 #![tactic(auto)]
 
+mod again;
+mod again_acting;
+mod again_answers;
+mod again_bundles;
+mod again_campaigns;
+mod again_chains;
+mod again_desks;
+mod again_logs;
+mod again_refuting;
+mod again_scenarios;
+mod again_stores;
 mod commands;
 mod files;
 mod forms;
+mod frames;
+mod judging;
+mod judging_bundles;
+mod judging_evidence;
+mod judging_reports;
+mod judging_texts;
+mod names;
+mod preparing;
+mod rows;
+mod signing;
+mod signing_chains;
+mod signing_keys;
+mod signing_logs;
+mod texts;
+mod values;
+mod values_headers;
+mod values_parts;
+mod values_rounds;
+mod values_scripts;
+mod values_walks;
 
 use std::process::ExitCode;
 use std::rt::{Env, Files};
@@ -42,7 +70,7 @@ fn begin<R: AllocGlobal + Env + Files + Input + Print + Threads + Wait + Sync>(
     rt: &R,
 ) -> io::Result<bool> {
     if let Some(name) = name_of_call(rt)? {
-        row_calls::again::call(rt, name.as_str())?;
+        again::call(rt, name.as_str())?;
         return Ok(false);
     }
     for name in rt.lines(rt.alloc()) {

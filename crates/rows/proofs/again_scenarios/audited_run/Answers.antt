@@ -2,7 +2,7 @@ use Rattle.std.proofs.Common.{rules, ◌≡◌, List, ℕ, subst, sym}
 use Rattle.gen_log.specs.Fields.{AreBelow}
 use Rattle.gen_scenario.specs.Scenario.{scripted}
 use Rattle.gen_audit.proofs.RunBundles.{are_members}
-use Rattle.row_calls.proofs.again_scenarios.audited_run.Goals as goal
+use Rattle.rows.proofs.again_scenarios.audited_run.Goals as goal
 
 pub run_and_audit-requires-clause-faulty : goal.run_and_audit-requires-clause-faulty
 run_and_audit-requires-clause-faulty g c = λ κs _.

@@ -5,7 +5,7 @@ use std::io::{self, ErrorKind};
 
 /// A row can't be tried: it isn't written as rows are, or memory is refused.
 #[derive(Clone, Copy)]
-pub struct Refused;
+pub(crate) struct Refused;
 
 impl From<AllocError> for Refused {
     fn from(_: AllocError) -> Refused {
@@ -34,7 +34,7 @@ struct Named {
 
 /// The names that stand above a row in its file.
 #[derive(Drop)]
-pub struct Names {
+pub(crate) struct Names {
     all: Vec<Named>,
 }
 
@@ -126,14 +126,14 @@ pub(crate) fn numbered<K>(digits: &str) -> Option<Number<K>> {
 
 impl Names {
     /// Returns no names.
-    pub fn new(alloc: Global) -> Names {
+    pub(crate) fn new(alloc: Global) -> Names {
         Names {
             all: Vec::new(alloc),
         }
     }
 
     /// Gives bytes a name.
-    pub fn add(&mut self, alloc: Global, name: &str, bytes: Vec<u8>) -> io::Result<()> {
+    pub(crate) fn add(&mut self, alloc: Global, name: &str, bytes: Vec<u8>) -> io::Result<()> {
         let name = String::from_str(alloc, name)?;
         self.all.push(Named { name, bytes })?;
         Ok(())

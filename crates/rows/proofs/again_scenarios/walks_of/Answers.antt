@@ -3,7 +3,7 @@ use Rattle.gen_net.specs.Header.{RunHeader}
 use Rattle.gen_net.specs.Network.{Network}
 use Rattle.gen_walks.specs.BestWalks.{AreBestWalks}
 use Rattle.gen_audit.proofs.RunBundles.{are_listed}
-use Rattle.row_calls.proofs.again_scenarios.walks_of.Goals as goal
+use Rattle.rows.proofs.again_scenarios.walks_of.Goals as goal
 
 pub returns-in-Ok : goal.returns-in-Ok
 returns-in-Ok c =

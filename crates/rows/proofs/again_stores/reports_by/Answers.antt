@@ -3,7 +3,7 @@ use Rattle.std.proofs.lemmas.Result.{IfOk-weaker}
 use Rattle.gen_net.specs.Header.{RunHeader}
 use Rattle.gen_chain.specs.Store.{Serves}
 use Rattle.gen_audit.proofs.Telling.{are_reports}
-use Rattle.row_calls.proofs.again_stores.reports_by.Goals as goal
+use Rattle.rows.proofs.again_stores.reports_by.Goals as goal
 
 pub local_reports-requires : goal.local_reports-requires
 local_reports-requires c = subst (λ (h : RunHeader). Serves h c.args.store.now) (sym c.header.ensures.value) c.requires

@@ -84,7 +84,7 @@ fn try_text<R: AllocGlobal + Print + Threads + Wait + Sync>(
 }
 
 /// Makes the call of this name with what standard input has.
-pub fn call<R: AllocGlobal + Input + Print + Threads + Wait + Sync>(
+pub(crate) fn call<R: AllocGlobal + Input + Print + Threads + Wait + Sync>(
     rt: &R,
     name: &str,
 ) -> io::Result<()> {

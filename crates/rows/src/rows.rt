@@ -16,14 +16,14 @@ struct Token<'a> {
 
 /// What stands in front of a row's answer, and the bytes that its pieces stand for, one behind another.
 #[derive(Drop)]
-pub struct Asked<'a> {
+pub(crate) struct Asked<'a> {
     tokens: Vec<Token<'a>>,
     bytes: Bytes,
 }
 
 impl<'a> Asked<'a> {
     /// Returns what a text asks, under the names above it.
-    pub fn new(alloc: Global, names: &Names, asked: &'a str) -> Result<Asked<'a>, Refused> {
+    pub(crate) fn new(alloc: Global, names: &Names, asked: &'a str) -> Result<Asked<'a>, Refused> {
         let mut all = Asked {
             tokens: Vec::new(alloc),
             bytes: Bytes::new(alloc),
@@ -74,7 +74,7 @@ impl<'a> Asked<'a> {
     }
 
     /// Returns the row of which nothing is read.
-    pub fn row(&self) -> Row<'_> {
+    pub(crate) fn row(&self) -> Row<'_> {
         Row {
             tokens: self.tokens.as_slice(),
             bytes: self.bytes.as_slice(),
@@ -86,7 +86,7 @@ impl<'a> Asked<'a> {
 
 /// A row of which so many words are read, and where the bytes behind its words are cut.
 #[derive(Clone, Copy)]
-pub struct Row<'a> {
+pub(crate) struct Row<'a> {
     tokens: &'a [Token<'a>],
     bytes: &'a [u8],
     read: usize,
@@ -102,12 +102,12 @@ impl<'a> Row<'a> {
     }
 
     /// Returns the next word or text as it stands.
-    pub fn word(&mut self) -> Result<&'a str, Refused> {
+    pub(crate) fn word(&mut self) -> Result<&'a str, Refused> {
         Ok(self.next()?.word)
     }
 
     /// Returns the number that is the next word.
-    pub fn number(&mut self) -> Result<usize, Refused> {
+    pub(crate) fn number(&mut self) -> Result<usize, Refused> {
         number_of(self.word()?).ok_or(Refused)
     }
 
@@ -159,7 +159,7 @@ impl<'a> Row<'a> {
     }
 
     /// Returns the row of which so many of the bytes behind its words stand.
-    pub fn cut(self, len: usize) -> Row<'a> {
+    pub(crate) fn cut(self, len: usize) -> Row<'a> {
         Row {
             cut: Some(len),
             ..self
@@ -167,7 +167,7 @@ impl<'a> Row<'a> {
     }
 
     /// Returns the bytes of all pieces that are left, up to where they are cut.
-    pub fn rest(&self) -> Result<&'a [u8], Refused> {
+    pub(crate) fn rest(&self) -> Result<&'a [u8], Refused> {
         let left = self.tokens.get(self.read..).ok_or(Refused)?;
         for token in left {
             if !token.is_piece {

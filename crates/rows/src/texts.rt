@@ -23,7 +23,7 @@ enum Between {
 
 /// What is spelled of an answer. A refusal of memory is kept, so that each call can be followed by another one.
 #[derive(Drop)]
-pub struct Answer {
+pub(crate) struct Answer {
     alloc: Global,
     text: String,
     between: Between,
@@ -32,7 +32,7 @@ pub struct Answer {
 
 impl Answer {
     /// Returns an answer of which nothing is spelled.
-    pub fn new(alloc: Global) -> Answer {
+    pub(crate) fn new(alloc: Global) -> Answer {
         Answer {
             alloc,
             text: String::new(alloc),
@@ -42,7 +42,7 @@ impl Answer {
     }
 
     /// Returns what is spelled, unless memory was refused.
-    pub fn text(&self) -> Result<&str, Refused> {
+    pub(crate) fn text(&self) -> Result<&str, Refused> {
         if self.is_refused {
             return Err(Refused);
         }
@@ -55,7 +55,7 @@ impl Answer {
     }
 
     /// Appends a text as it stands.
-    pub fn push(&mut self, text: &str) {
+    pub(crate) fn push(&mut self, text: &str) {
         if self.text.push_str(text).is_err() {
             self.is_refused = true;
         }
@@ -74,13 +74,13 @@ impl Answer {
     }
 
     /// Appends a word, or a text as one.
-    pub fn word(&mut self, word: &str) {
+    pub(crate) fn word(&mut self, word: &str) {
         self.begin();
         self.push(word);
     }
 
     /// Appends what a value is shown as.
-    pub fn show<T: Display + Drop>(&mut self, shown: T) {
+    pub(crate) fn show<T: Display + Drop>(&mut self, shown: T) {
         self.begin();
         if write!(&mut self.text, "{shown}").is_err() {
             self.is_refused = true;
@@ -88,7 +88,7 @@ impl Answer {
     }
 
     /// Appends a word, and what a value is shown as.
-    pub fn field<T: Display + Drop>(&mut self, name: &str, shown: T) {
+    pub(crate) fn field<T: Display + Drop>(&mut self, name: &str, shown: T) {
         self.word(name);
         self.show(shown);
     }
@@ -100,7 +100,7 @@ impl Answer {
     }
 
     /// Ends the line, unless nothing is spelled.
-    pub fn end_line(&mut self) {
+    pub(crate) fn end_line(&mut self) {
         if !self.text.is_empty() {
             self.between = Between::Line;
         }
@@ -173,7 +173,7 @@ impl Answer {
     }
 
     /// Appends an output: the lines of a short text, `-` for none, else its length and its SHA-256.
-    pub fn output(&mut self, output: &[u8]) {
+    pub(crate) fn output(&mut self, output: &[u8]) {
         match str::from_utf8(output) {
             Ok(shown) if output.len() <= MOST_SHOWN && output.is_ascii() => self.lines(shown),
             _ => self.digest(output),
