@@ -63,13 +63,6 @@ impl<'a> Signing<'a> {
         }
     }
 
-    /// Whether the claim is true: the general signed the statement.
-    fn is_true(&self, header: &Header) -> bool
-        ensures { IsTrue result ↔ IsSigned header.now (triple_of self.now) }
-    {
-        has_signed(header, self.signer, &self.statement, self.signature)
-    }
-
     /// Whether the general is below n.
     fn is_of(&self, header: &Header) -> bool
         ensures { IsTrue result ↔ (self.now.signer < header.now.network.generals) }
@@ -136,7 +129,8 @@ fn have_signed_in_turn(header: &Header, signings: &[Signing<'_>]) -> [bool; LANE
 {
     let mut answers = [false; LANES];
     'places: for place in 0..signings.len() {
-        answers[place] = signings[place].is_true(header);
+        let claim = &signings[place];
+        answers[place] = has_signed(header, claim.signer, &claim.statement, claim.signature);
     }
     answers
 }

@@ -20,16 +20,10 @@ pub const FRONT_BYTES: usize = 2;
 pub const MOST_CHAIN_BYTES: usize = FRONT_BYTES
     + MOST_SIGNERS as usize * (1 + OTS_BYTES + MOST_SIBLING_BYTES);
 
-/// Returns the number of bytes of a signer: one byte for its number, and its signature by a tree of this height.
-pub fn signer_bytes(height: TreeHeight) -> usize
-    ensures { result ≡ signer_length height }
-{
-    1 + signature_bytes(height)
-}
-
-/// Returns the number of bytes of this many signers, with signatures by trees of this height.
+/// Returns the number of bytes of this many signers, each with one byte for its number and its signature by a tree of
+/// this height.
 pub fn signers_bytes(height: TreeHeight, count: u8) -> usize
     ensures { result ≡ signer_length height * count }
 {
-    signer_bytes(height) * usize::from(count)
+    (1 + signature_bytes(height)) * usize::from(count)
 }

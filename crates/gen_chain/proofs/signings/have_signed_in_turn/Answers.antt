@@ -15,8 +15,8 @@ places-preserved c =
     let h = c.args.header.now in
     let x = c.index-signings-place.result in
     let inside : i < length (map triple_of xs) = omega (arith, length-map xs triple_of) in
-    one_answered (IsSigned h) (map triple_of xs) i (triple_of x) c.is_true.result c.places.answers inside (omega arith)
-    (signed_at h xs i x (triple_of x) _ (omega arith) c.index-signings-place.is c.is_true.ensures) c.places.invariant
+    one_answered (IsSigned h) (map triple_of xs) i (triple_of x) c.has_signed.result c.places.answers inside (omega arith)
+    (signed_at h xs i x (triple_of x) _ (omega arith) c.index-signings-place.is c.has_signed.ensures) c.places.invariant
 
 pub returns : goal.returns
 returns c j below = λ other. c.places.invariant.1 j (omega arith) false other
