@@ -61,9 +61,10 @@ fn lesser(before: Option<Seen>, seen: Seen) -> Seen
     }
 }
 
-/// Returns, for each order that is not known, the chain from the least sender, if the order has a chain.
-fn best_of(known: &OrderSet, seen: &[Seen]) -> [Option<Seen>; PLACES]
-    ensures { AreBest known.now seen.now result }
+/// Returns the orders of these chains that are not known, each with the path of the chain from its least
+/// sender.
+pub(crate) fn pick(known: &OrderSet, seen: &[Seen]) -> Adds
+    ensures { AreBestPaths known.now seen.now result }
 {
     let mut picked: [Option<Seen>; PLACES] = [None; PLACES];
     for chain in seen {
@@ -72,15 +73,5 @@ fn best_of(known: &OrderSet, seen: &[Seen]) -> [Option<Seen>; PLACES]
             picked[order] = Some(lesser(picked[order], *chain));
         }
     }
-    picked
-}
-
-/// Returns the orders of these chains that are not known, each with the path of the chain from its least
-/// sender.
-pub(crate) fn pick(known: &OrderSet, seen: &[Seen]) -> Adds
-    ensures { AreBestPaths known.now seen.now result }
-{
-    Adds {
-        picked: best_of(known, seen),
-    }
+    Adds { picked }
 }

@@ -1,9 +1,9 @@
-use Rattle.gen_core.specs.Loops.Picking.{better}
-use Rattle.std.proofs.Common.{get_or, ◌<◌, ◌≡◌, true, take}
-use Rattle.std.proofs.lemmas.List.{take_more}
+use Rattle.gen_core.specs.Loops.Picking.{AreBest, better}
+use Rattle.std.proofs.Common.{get_or, ◌<◌, ◌≡◌, true, take, refl, subst}
+use Rattle.std.proofs.lemmas.List.{take_more, take_all}
 use Rattle.gen_core.proofs.Best.{best_start, best_known, best_more}
-use Rattle.gen_core.proofs.picks.best_of.Goals as goal
-use Rattle.gen_core.proofs.picks.best_of.Goals.{then-not-contains, else-not-contains}
+use Rattle.gen_core.proofs.picks.pick.Goals as goal
+use Rattle.gen_core.proofs.picks.pick.Goals.{then-not-contains, else-not-contains}
 
 pub loop-chain-init : goal.loop-chain-init
 loop-chain-init c = best_start c.args.known.now
@@ -20,3 +20,10 @@ loop-chain-preserved c =
           rw (w.picked-is, w.get-order.ensures.value) (best_more c.args.known.now xs s c.loop-chain.picked w.index-picked-order.result w.lesser.result c.loop-chain.invariant low (λ h. let told : c.contains.result ≡ true = c.contains.ensures.1 h in (cc)) kept)
       | else-not-contains w ↦ rw w.picked-is (best_known c.args.known.now xs s c.loop-chain.picked c.loop-chain.invariant (c.contains.ensures.0 w.if-not-contains.false))
     ])
+
+pub returns : goal.returns
+returns c = (
+  c.loop-chain.picked,
+  subst (λ xs. AreBest c.args.known.now xs c.loop-chain.picked) (take_all c.loop-chain.chain-index c.args.seen.now c.loop-chain-test.false) c.loop-chain.invariant,
+  refl,
+)
