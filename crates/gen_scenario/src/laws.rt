@@ -18,16 +18,12 @@ ghost use Rattle.gen_scenario.specs.WorldFollows.{LieutenantsFollow, WorldIsSign
 ghost use Rattle.gen_scenario.specs.WorldLogs.{FollowersKeep};
 ghost use Rattle.gen_scenario.specs.WorldLaws.{CommanderObeys, EachFollows, LieutenantsRelay, MessagesAreRun, PlainWorld};
 
-/// States that a plain scenario has one run: two runs of it have the same messages.
-pub fn one_world()
-    ensures { OneWorld }
-{}
-
-/// States that in the run of a plain scenario every general follows the algorithm SM of the paper of 1982.
-/// Each lieutenant follows it with some pick (`lieutenants`). The run is one in which no general is faulty
-/// and the commander has the scenario's order (`signed`). It meets what Theorem 4 asks for if no two generals
-/// are more than d edges apart (`premises`).
+/// States that a plain scenario has one run: two runs of it have the same messages (`one`). In that run every
+/// general follows the algorithm SM of the paper of 1982. Each lieutenant follows it with some pick
+/// (`lieutenants`). The run is one in which no general is faulty and the commander has the scenario's order
+/// (`signed`). It meets what Theorem 4 asks for if no two generals are more than d edges apart (`premises`).
 pub fn world_follows()
+    ensures one { OneWorld }
     ensures lieutenants { LieutenantsFollow }
     ensures signed { WorldIsSigned }
     ensures premises { WorldMeetsPremises }
@@ -74,12 +70,6 @@ pub fn two_orders()
     ensures both_accepted { BothAccepted }
 {}
 
-/// States that the list that counting gives for a frame has exactly the chains that count, at most one for
-/// each order.
-pub fn counting()
-    ensures { CountsThese }
-{}
-
 /// States that the messages of a scenario with signatures are a run of its network (`run`). A commander
 /// without a script follows the algorithm with the scenario's order (`commander`). Each lieutenant without a
 /// script relays what it adds, with the least sender's path (`lieutenants`). So each general without a script
@@ -101,10 +91,13 @@ pub fn decisions_are_known()
     ensures one { OneOutcome }
 {}
 
-/// States how loops follow the definitions. The messages of the run are those that count in the frames of
-/// their rounds (`count`). One more round adds to what is heard (`round`) and has its frames (`frame`). A
-/// path of signers grows by one signer (`signer`), and a chain begins with the commander (`begin`).
+/// States how loops follow the definitions. The list that counting gives for a frame has exactly the chains
+/// that count, at most one for each order (`chains`). The messages of the run are those that count in the
+/// frames of their rounds (`count`). One more round adds to what is heard (`round`) and has its frames
+/// (`frame`). A path of signers grows by one signer (`signer`), and a chain begins with the commander
+/// (`begin`).
 pub fn steps_are_known()
+    ensures chains { CountsThese }
     ensures count { MessagesCount }
     ensures round { OneRoundMore }
     ensures frame { FrameAfter }
@@ -129,16 +122,14 @@ pub fn theorem_holds_of_scenarios()
 /// trees of the run's height, and may count (`counted`). In a scenario it came from a neighbour that is its
 /// last signer, and the general that heard it has not signed it (`known`). What was heard in a round has as
 /// many signers as the round's number (`rounds`).
+///
+/// What arrives in a round has no effect on what is signed in it (`signs`), on its frames (`frame`), and on
+/// its SIGNs and SENDs (`written`, `sent`). So these do not depend on the order in which a general hears and
+/// sends within a round. All but `signs` need the lines of the script to be lawful.
 pub fn heard_is_known()
     ensures counted { CountedAreChains }
     ensures known { HeardIsKnown }
     ensures rounds { HeardInRound }
-{}
-
-/// States that what arrives in a round has no effect on what is signed in it (`signs`), on its frames
-/// (`frame`), and on its SIGNs and SENDs (`written`, `sent`). So these do not depend on the order in which a
-/// general hears and sends within a round. All but `signs` need the lines of the script to be lawful.
-pub fn rounds_are_kept()
     ensures signs { SignsKept }
     ensures frame { FrameKept }
     ensures written { SignEntriesKept }
@@ -146,21 +137,13 @@ pub fn rounds_are_kept()
 {}
 
 /// States that a general without a script has one log, whose entries are exactly those that a follower keeps
-/// of the run.
-pub fn followers_logs()
-    ensures { FollowersKeep }
-{}
-
-/// States that each log of each general, including the logs of traitors and their second logs, is a log of
-/// this run whose signatures and head verify.
-pub fn logs_verify()
-    ensures { AllVerify }
-{}
-
-/// States that each log of each general, including the logs of traitors and their second logs, has fewer than
-/// 2 to the power of 32 bytes.
-pub fn logs_are_short()
-    ensures { AllShort }
+/// of the run (`followers`). Each log of each general, including the logs of traitors and their second logs,
+/// is a log of this run whose signatures and head verify (`verify`), and has fewer than 2 to the power of 32
+/// bytes (`short`).
+pub fn logs_are_known()
+    ensures followers { FollowersKeep }
+    ensures verify { AllVerify }
+    ensures short { AllShort }
 {}
 
 /// States that what a general knows of its own is enough to act as the scenario says. It needs keys that give

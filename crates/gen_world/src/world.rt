@@ -249,7 +249,7 @@ fn run_rounds(
 pub fn run_world(alloc: Global, scenario: &Scenario) -> Result<WorldRun, AllocError>
     ensures frames { IfOk result (λ run. run.frames ≡ rows_of scenario.now) }
     ensures decisions { IfOk result (λ run. run.decisions ≡ decisions_of scenario.now) }
-    // Each of these logs verifies: the law `logs_verify`.
+    // Each of these logs verifies: the law `logs_are_known`.
     ensures logs { IfOk result (λ run. run.logs ≡ logs_of_all scenario.now) }
     // Theorem 4 of the paper of 1982: the rest decide alike. This needs at most m traitors, no raw line in a
     // script, and any two generals of the rest joined inside the rest by at most d edges.

@@ -3,22 +3,17 @@ use std::test::Fail;
 
 #[test]
 fn laws_of_worlds(_rt: HostRuntime) -> Result<(), Fail> {
-    gen_world::laws::one_world();
     gen_world::laws::world_follows();
     gen_world::laws::theorem_four();
     gen_world::laws::derivables();
     gen_world::laws::two_orders();
-    gen_world::laws::counting();
     gen_world::laws::world_is_run();
     gen_world::laws::decisions_are_known();
     gen_world::laws::steps_are_known();
     gen_world::laws::no_signature_is_forged();
     gen_world::laws::theorem_holds_of_scenarios();
     gen_world::laws::heard_is_known();
-    gen_world::laws::rounds_are_kept();
-    gen_world::laws::followers_logs();
-    gen_world::laws::logs_verify();
-    gen_world::laws::logs_are_short();
+    gen_world::laws::logs_are_known();
     gen_world::laws::known_is_enough();
     gen_world::laws::plans_are_frames();
     gen_world::laws::participants_are_generals();
@@ -29,13 +24,8 @@ fn laws_of_worlds(_rt: HostRuntime) -> Result<(), Fail> {
 #[test]
 fn laws_of_machines_and_nodes(_rt: HostRuntime) -> Result<(), Fail> {
     gen_async::laws::progress();
-    gen_async::laws::queues();
-    gen_async::laws::movers();
-    gen_async::laws::counts();
-    gen_async::laws::heard::<u8>();
     gen_async::laws::runs::<u8>();
     gen_async::laws::logs::<u8>();
-    gen_async::laws::standing();
     gen_async::laws::rows();
     gen_async::laws::scenario_runs();
     gen_node::laws::one_frame_spelling();

@@ -1,6 +1,10 @@
+use Rattle.gen_scenario.proofs.Same.{one_world_shown}
 use Rattle.gen_scenario.proofs.WorldFollowers.{lieutenants_follow, world_is_signed}
 use Rattle.gen_scenario.proofs.Obeying.{world_meets_premises}
 use Rattle.gen_scenario.proofs.laws.world_follows.Goals as goal
+
+pub returns-clause-one : goal.returns-clause-one
+returns-clause-one c = one_world_shown
 
 pub returns-clause-lieutenants : goal.returns-clause-lieutenants
 returns-clause-lieutenants c = lieutenants_follow
