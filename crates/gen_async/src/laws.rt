@@ -5,47 +5,31 @@ ghost use Rattle.gen_async.specs.Frames.{HeardLaw, RunLaw};
 ghost use Rattle.gen_async.specs.ScenarioRun.{BeginsLogs, PutsFrames, WritesLog};
 ghost use Rattle.gen_async.specs.Laws.{CountLaw, MoverLaw, ProgressLaw, QueueLaw};
 
-/// States what a general has put and taken so far, by its next act.
+/// States how far the generals get, whatever the order of acts. The next act of a general tells what it has
+/// put and taken so far (`by_next`). No more frames are taken off a queue than were put on it, and no queue
+/// holds more frames than its capacity (`queues`). The next act of some general moves until all generals are
+/// done, if the capacity is at least 1 (`movers`). The number of acts that have moved is the sum of the
+/// progress of all generals, and at most four for each edge and round (`counts`).
 pub fn progress()
-    ensures { ProgressLaw }
-{}
-
-/// States that no more frames are taken off a queue than were put on it, and that no queue holds more frames
-/// than its capacity.
-pub fn queues()
-    ensures { QueueLaw }
-{}
-
-/// States that the next act of some general moves until all generals are done, if the capacity is at least 1.
-pub fn movers()
-    ensures { MoverLaw }
-{}
-
-/// States that the number of acts that have moved is the sum of the progress of all generals, and at most
-/// four for each edge and round.
-pub fn counts()
-    ensures { CountLaw }
-{}
-
-/// States that what a general has taken before its put of a round is what comes to it in the rounds before.
-pub fn heard<F>()
-    ensures { HeardLaw F }
+    ensures by_next { ProgressLaw }
+    ensures queues { QueueLaw }
+    ensures movers { MoverLaw }
+    ensures counts { CountLaw }
 {}
 
 /// States that, in a world that the participants make, the frames that are put are the world's, whatever the
-/// order of acts.
+/// order of acts (`frames`). What a general has taken before its put of a round is what comes to it in the
+/// rounds before (`heard`).
 pub fn runs<F>()
-    ensures { RunLaw F }
+    ensures frames { RunLaw F }
+    ensures heard { HeardLaw F }
 {}
 
-/// States that the log so far begins the whole log, and is all of it if all acts have moved.
+/// States that the log so far begins the whole log, and is all of it if all acts have moved (`begins`), and
+/// which steps stand in it (`standing`).
 pub fn logs<E>()
-    ensures { LogLaw E }
-{}
-
-/// States which steps stand in the log so far.
-pub fn standing()
-    ensures { StandLaw }
+    ensures begins { LogLaw E }
+    ensures standing { StandLaw }
 {}
 
 /// States the answers to two rows of attempts, which follow from the definitions alone. One is for two

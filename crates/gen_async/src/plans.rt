@@ -1,7 +1,6 @@
 //! The acts of a general.
-ghost use Rattle.std.specs.Prelude.{◌≡◌, ◌++◌, map, IfOk, OnOk};
+ghost use Rattle.std.specs.Prelude.{◌≡◌, ◌++◌, IfOk, OnOk};
 ghost use Rattle.gen_scenario.specs.SignedWorld.{neighbours_of};
-ghost use Rattle.gen_async.specs.declared.acts.Act.TheVariants.{Puts, Takes};
 ghost use Rattle.gen_async.specs.Acts.{acts_of, acts_of_round};
 
 use crate::acts::Act;
@@ -23,32 +22,17 @@ fn neighbours(alloc: Global, net: &Net, me: GeneralNo) -> Result<Vec<GeneralNo>,
     Ok(near)
 }
 
-/// Appends a put to each of these neighbours.
-fn push_puts(acts: &mut Vec<Act>, near: &[GeneralNo], round: u8) -> Result<(), AllocError>
-    ensures { OnOk result (acts.new.items ≡ acts.old.items ++ map (Puts round) near.now) }
-{
-    'near: for other in near {
-        acts.push(Act::Puts(round, *other))?;
-    }
-    Ok(())
-}
-
-/// Appends a take from each of these neighbours.
-fn push_takes(acts: &mut Vec<Act>, near: &[GeneralNo], round: u8) -> Result<(), AllocError>
-    ensures { OnOk result (acts.new.items ≡ acts.old.items ++ map (Takes round) near.now) }
-{
-    'near: for other in near {
-        acts.push(Act::Takes(round, *other))?;
-    }
-    Ok(())
-}
-
 /// Appends the acts of a round: a put to each of these neighbours, then a take from each.
 fn push_round(acts: &mut Vec<Act>, near: &[GeneralNo], round: u8) -> Result<(), AllocError>
     ensures { OnOk result (acts.new.items ≡ acts.old.items ++ acts_of_round near.now round) }
 {
-    push_puts(acts, near, round)?;
-    push_takes(acts, near, round)
+    'puts: for to in near {
+        acts.push(Act::Puts(round, *to))?;
+    }
+    'takes: for from in near {
+        acts.push(Act::Takes(round, *from))?;
+    }
+    Ok(())
 }
 
 /// Returns all acts of a general, in order.
