@@ -62,13 +62,6 @@ impl<'a> Signing<'a> {
             signature: self.signature,
         }
     }
-
-    /// Whether the general is below n.
-    fn is_of(&self, header: &Header) -> bool
-        ensures { IsTrue result ↔ (self.now.signer < header.now.network.generals) }
-    {
-        self.signer.get() < header.net().generals()
-    }
 }
 
 /// Returns the claims that the next four signers of an order signed it, each with the path up to itself, and appends
@@ -96,7 +89,8 @@ fn are_of(header: &Header, signings: &[Signing<'_>]) -> bool
         → (slice_index_or signings.now j d).signer < header.now.network.generals }
 {
     'places: for place in 0..signings.len() {
-        if !signings[place].is_of(header) {
+        let signing = &signings[place];
+        if signing.signer.get() >= header.net().generals() {
             return false;
         }
     }
