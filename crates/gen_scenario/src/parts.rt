@@ -198,15 +198,6 @@ impl Scenario {
         }
     }
 
-    /// Returns a general together with a copy of its tree.
-    fn signer_tree(&self, general: GeneralNo) -> Result<SignerTree, AllocError>
-        requires { general < self.now.net.generals }
-        ensures { IfOk result (λ signer. signer ≡ parts.signer_tree self.now general) }
-    {
-        let tree = self.tree(general).clone()?;
-        Ok(SignerTree { general, tree })
-    }
-
     /// Returns the trees of all generals that have scripts, each with its general.
     fn scripted_trees(&self, alloc: Global) -> Result<Vec<SignerTree>, AllocError>
         ensures { IfOk result (λ trees.
@@ -215,8 +206,9 @@ impl Scenario {
         let _known = self.header();
         let mut trees = Vec::new(alloc);
         'scripts: for script in self.scripts() {
-            let signer = self.signer_tree(script.general())?;
-            trees.push(signer)?;
+            let general = script.general();
+            let tree = self.tree(general).clone()?;
+            trees.push(SignerTree { general, tree })?;
         }
         Ok(trees)
     }
