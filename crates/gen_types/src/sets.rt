@@ -148,15 +148,6 @@ impl<K> NumberSet<K> {
     }
 }
 
-impl<K> Default for NumberSet<K> {
-    ghost is_default = { λ set. set ≡ [] };
-
-    /// Returns the empty set.
-    fn default() -> NumberSet<K> {
-        NumberSet::new()
-    }
-}
-
 impl<K> PartialEq for NumberSet<K> {
     ghost eq = { pointwise nat_eq };
 

@@ -1,4 +1,3 @@
-use Rattle.std.proofs.Common.{Contains}
 use Rattle.gen_types.proofs.BitSteps.{with_bit, told_contains, told_lacks}
 use Rattle.gen_types.proofs.sets.NumberSet.insert.Goals as goal
 
