@@ -1,7 +1,7 @@
 //! Lists of edges, as they are given and as a network keeps them.
-ghost use Rattle.std.specs.Prelude.{◌≡◌, ◌<◌, ◌≤◌, ◌++◌, OnOk, IfOk, filter, true};
+ghost use Rattle.std.specs.Prelude.{◌≡◌, ◌≤◌, IfOk, true};
 ghost use Rattle.std.specs.List.{list_any};
-ghost use Rattle.gen_net.specs.Edges.{joins, has_bad_edge, row, edges_of, goes_first, in_place};
+ghost use Rattle.gen_net.specs.Edges.{joins, has_bad_edge, edges_of, goes_first, in_place};
 
 use gen_types::GeneralNo;
 use std::alloc::{AllocError, Global};
@@ -29,27 +29,6 @@ pub fn has_fault(n: u8, given: &[(u8, u8)]) -> bool
     false
 }
 
-/// Appends the edges of general a to greater generals below n, in ascending order: those that a given pair joins.
-fn push_row(
-    edges: &mut Vec<(GeneralNo, GeneralNo)>,
-    n: u8,
-    a: u8,
-    given: &[(u8, u8)],
-) -> Result<(), AllocError>
-    requires below { a < n }
-    requires few { n ≤ 16 }
-    ensures { OnOk result (edges.new.items
-        ≡ edges.old.items ++ filter (λ p. list_any (joins p.0 p.1) given.now) (row n a)) }
-{
-    let first = GeneralNo::at(a);
-    for b in a + 1..n {
-        if is_joined(a, b, given) {
-            edges.push((first, GeneralNo::at(b)))?;
-        }
-    }
-    Ok(())
-}
-
 /// Returns the edges between generals below n that the given pairs join: each once as (a, b) with a < b, ascending.
 pub fn edge_list(
     alloc: Global,
@@ -61,7 +40,12 @@ pub fn edge_list(
 {
     let mut edges = Vec::new(alloc);
     for a in 0..n {
-        push_row(&mut edges, n, a, given)?;
+        let first = GeneralNo::at(a);
+        for b in a + 1..n {
+            if is_joined(a, b, given) {
+                edges.push((first, GeneralNo::at(b)))?;
+            }
+        }
     }
     Ok(edges)
 }

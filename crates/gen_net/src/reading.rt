@@ -63,16 +63,6 @@ fn read_edge(bytes: &[u8]) -> Result<((u8, u8), &[u8]), ReadError<HeaderFault>>
     Ok(((low, high), rest))
 }
 
-/// Reads one root, 32 bytes, and returns it and the bytes after it.
-fn read_root(bytes: &[u8]) -> Result<([u8; 32], &[u8]), ReadError<HeaderFault>>
-    ensures { IsField result (root_at bytes.now) }
-{
-    let (front, rest) = bytes_at(bytes, ROOT_LENGTH, HeaderFault::Truncated)?;
-    let mut root = [0; 32];
-    root.copy_from_slice(front);
-    Ok((root, rest))
-}
-
 /// Reads the edges behind their number, and returns them and the bytes after them.
 #[tactic(auto, unfolding(crate::specs::NetworkReading::edges_at))]
 fn read_edges(alloc: Global, bytes: &[u8]) -> Result<(Vec<(u8, u8)>, &[u8]), ReadError<HeaderFault>>
@@ -88,7 +78,7 @@ fn read_edges(alloc: Global, bytes: &[u8]) -> Result<(Vec<(u8, u8)>, &[u8]), Rea
     Ok((edges, rest))
 }
 
-/// Reads this many roots, and returns them and the bytes after them.
+/// Reads this many roots, 32 bytes each, and returns them and the bytes after them.
 fn read_roots(
     alloc: Global,
     count: u8,
@@ -99,7 +89,9 @@ fn read_roots(
     let mut roots = Vec::new(alloc);
     let mut rest = bytes;
     for _ in 0..count {
-        let (root, after) = read_root(rest)?;
+        let (front, after) = bytes_at(rest, ROOT_LENGTH, HeaderFault::Truncated)?;
+        let mut root = [0; ROOT_LENGTH];
+        root.copy_from_slice(front);
         roots.push(root)?;
         rest = after;
     }
