@@ -1,4 +1,4 @@
-use Rattle.std.proofs.Common.{◌≡◌, ◌++◌, List, ℕ, take, refl, append_assoc}
+use Rattle.std.proofs.Common.{◌≡◌, ◌++◌, List, ℕ, refl, append_assoc}
 use Rattle.std.proofs.lemmas.List.{take_all}
 use Rattle.std.specs.List.{flat_map}
 use Rattle.gen_net.specs.NetworkSpelling.{edge_bytes, number_bytes}
