@@ -1,11 +1,10 @@
 //! Walks that bound the diameter of a set of generals.
 ghost use Rattle.std.specs.Prelude.{ℕ, List, IsTrue, ◌≡◌, ◌<◌, ◌↔◌};
-ghost use Rattle.std.specs.Prelude.{OnOk, IfOk, IfErr, IfSome, IfNone};
+ghost use Rattle.std.specs.Prelude.{OnOk, IfOk, IfErr};
 ghost use Rattle.gen_net.specs.Walks.{HasDiameter};
 ghost use Rattle.gen_walks.specs.Walks.{AreJoined, Leads, IsShortWalk};
 ghost use Rattle.gen_walks.specs.Walks.{IsPair, IsRestOf, IsWithinDiameter};
 ghost use Rattle.gen_walks.specs.Walks.{Bridges, BoundsDiameter, IsLeastBadPair};
-ghost use Rattle.gen_walks.specs.Loops.Checking.{IsBad, IsGood};
 
 use crate::fault::BadPair;
 use crate::inside::{are_joined, general, is_inside};
@@ -107,22 +106,6 @@ pub(crate) fn is_pair(net: &Net, rest: &GeneralSet, a: GeneralNo, b: GeneralNo) 
     a < b && is_inside(net, rest, a) && is_inside(net, rest, b)
 }
 
-/// Returns the least general b for which (a, b) is a pair of the set without a given walk of at most d
-/// edges, or None if there is no such general.
-fn first_bad(net: &Net, rest: &GeneralSet, walks: &Walks, a: GeneralNo) -> Option<GeneralNo>
-    ensures none { IfNone result ((b : ℕ) → IsGood net.now rest.now walks.now a b) }
-    ensures some { IfSome result (IsBad net.now rest.now walks.now a) }
-    ensures least { IfSome result (λ b. (y : ℕ) → y < b → IsGood net.now rest.now walks.now a y) }
-{
-    for number in 0..net.generals() {
-        let b = general(net, number);
-        if is_pair(net, rest, a, b) && !is_bridged(net, rest, walks, a, b) {
-            return Some(b);
-        }
-    }
-    None
-}
-
 /// Returns a proof if the walks bound the diameter of a set, the rest, by d. For each pair of the set one
 /// walk must begin with the lesser general and end with the greater, stay inside the set, and step along
 /// at most d edges.
@@ -141,8 +124,11 @@ pub fn check_walks(net: &Net, rest: &GeneralSet, walks: &Walks) -> Result<Diamet
 {
     for number in 0..net.generals() {
         let a = general(net, number);
-        if let Some(b) = first_bad(net, rest, walks, a) {
-            return Err(BadPair { a, b });
+        for other in 0..net.generals() {
+            let b = general(net, other);
+            if is_pair(net, rest, a, b) && !is_bridged(net, rest, walks, a, b) {
+                return Err(BadPair { a, b });
+            }
         }
     }
     Ok(DiameterProof {

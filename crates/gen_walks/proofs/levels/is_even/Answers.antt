@@ -1,11 +1,8 @@
-use Rattle.std.proofs.Common.{◌≡◌, ◌<◌, ℕ, true, false, sym, subst, ◌∙◌, arith}
+use Rattle.std.proofs.Common.{ℕ, sym, subst, ◌∙◌, arith}
 use Rattle.gen_walks.specs.Loops.Checking.{IsSteep, IsEvenFrom}
-use Rattle.gen_walks.proofs.Places.{held_up_to}
+use Rattle.gen_walks.proofs.Places.{held_up_to, told_otherwise}
 use Rattle.gen_walks.proofs.levels.is_even.Goals as goal
 use Rattle.gen_walks.proofs.levels.is_even.Goals.{else-from-via-then-from+else-are_joined, else-from-via-else-from}
-
-told_otherwise : false ≡ true → ⊥
-told_otherwise e = cc
 
 pub loop-other-preserved : goal.loop-other-preserved
 loop-other-preserved c =
