@@ -3,8 +3,8 @@
 //! Each word of a state is a vector, with one lane for each block. The blocks have one key and one stream,
 //! and each has a counter of its own. Counter and stream have 64 bits each.
 ghost use Rattle.std.specs.Prelude.{◌≡◌, ℕ, ◌<◌, ◌/◌, ◌%◌, ◌^◌, slice_index};
-ghost use Rattle.rand_chacha.specs.Block.{add32, column_round, diagonal_round, initial_state, xor_rotate};
-ghost use Rattle.rand_chacha.specs.Lanes.{lane, lane_at};
+ghost use Rattle.rand_chacha.specs.Block.{column_round, diagonal_round, initial_state, xor_rotate};
+ghost use Rattle.rand_chacha.specs.Lanes.{lane};
 ghost use Rattle.gen_ots.specs.Blocks.{HasBlock, half_rounds};
 
 use sha_lanes::words::add;
@@ -156,22 +156,8 @@ fn initial_states(key: &[u32; 8], stream: u64, counters: &[u64; LANES]) -> [Word
     ]
 }
 
-// Returns the sums of two states, word by word, modulo 2^32.
-#[rattlefmt::skip]
-#[inline(always)]
-fn sums(x: &[Words; 16], y: &[Words; 16]) -> [Words; 16]
-    ensures { (j k : ℕ) → j < LANES → k < 16
-        → lane_at result k j ≡ add32 (lane_at x.now k j) (lane_at y.now k j) }
-{
-    [
-        add(x[0], y[0]), add(x[1], y[1]), add(x[2], y[2]), add(x[3], y[3]),
-        add(x[4], y[4]), add(x[5], y[5]), add(x[6], y[6]), add(x[7], y[7]),
-        add(x[8], y[8]), add(x[9], y[9]), add(x[10], y[10]), add(x[11], y[11]),
-        add(x[12], y[12]), add(x[13], y[13]), add(x[14], y[14]), add(x[15], y[15]),
-    ]
-}
-
 /// Returns the sixteen words of each of the blocks with these counters. Lane j has the block of counter j.
+#[rattlefmt::skip]
 #[inline(never)]
 pub fn blocks_in_lanes(key: &[u32; 8], stream: u64, counters: &[u64; LANES]) -> [Words; 16]
     ensures { (j : ℕ) → j < LANES
@@ -182,5 +168,10 @@ pub fn blocks_in_lanes(key: &[u32; 8], stream: u64, counters: &[u64; LANES]) -> 
     'rounds: for _done in 0..DOUBLE_ROUNDS {
         state = diagonal_round(column_round(state));
     }
-    sums(&state, &first)
+    [
+        add(state[0], first[0]), add(state[1], first[1]), add(state[2], first[2]), add(state[3], first[3]),
+        add(state[4], first[4]), add(state[5], first[5]), add(state[6], first[6]), add(state[7], first[7]),
+        add(state[8], first[8]), add(state[9], first[9]), add(state[10], first[10]), add(state[11], first[11]),
+        add(state[12], first[12]), add(state[13], first[13]), add(state[14], first[14]), add(state[15], first[15]),
+    ]
 }
