@@ -1,7 +1,7 @@
 //! Lists of edges, as they are given and as a network keeps them.
 ghost use Rattle.std.specs.Prelude.{◌≡◌, ◌≤◌, IfOk, true};
 ghost use Rattle.std.specs.List.{list_any};
-ghost use Rattle.gen_net.specs.Edges.{joins, has_bad_edge, edges_of, goes_first, in_place};
+ghost use Rattle.gen_net.specs.Edges.{joins, has_bad_edge, edges_of, in_place};
 
 use gen_types::GeneralNo;
 use std::alloc::{AllocError, Global};
@@ -50,25 +50,19 @@ pub fn edge_list(
     Ok(edges)
 }
 
-/// Whether the edge stands before the first of these: its first general is lesser, or the first is the same and its
-/// second is lesser. Yes if there is none.
-fn is_before_first(e: (u8, u8), others: &[(u8, u8)]) -> bool
-    ensures { result ≡ goes_first e others.now }
-{
-    match others {
-        [] => true,
-        [f, ..] => e.0 < f.0 || (e.0 == f.0 && e.1 < f.1),
-    }
-}
-
 /// Whether each edge (a, b) has a < b < n, and the edges ascend strictly.
 pub fn stand_in_place(n: u8, edges: &[(u8, u8)]) -> bool
     ensures { result ≡ in_place n edges.now }
 {
     let mut rest = edges;
     while let [(a, b), others @ ..] = rest {
-        if *a >= *b || *b >= n || !is_before_first((*a, *b), others) {
+        if *a >= *b || *b >= n {
             return false;
+        }
+        if let [(c, d), ..] = others {
+            if !(*a < *c || (*a == *c && *b < *d)) {
+                return false;
+            }
         }
         rest = others;
     }
