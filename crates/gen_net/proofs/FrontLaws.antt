@@ -1,16 +1,13 @@
 -- A mark and a header: what was read is what stood there, and what was written is read again.
-use Rattle.std.proofs.Common.{◌≡◌, ℕ, ◌^◌, ◌+◌, ◌-◌, true, eqb, List, ◌∷◌, ◌++◌, length, drop, Ok, refl, sym, ap, subst, ◌∙◌, append_assoc, arith, inl, inr}
+use Rattle.std.proofs.Common.{◌≡◌, ℕ, ◌^◌, ◌+◌, ◌-◌, true, eqb, List, ◌∷◌, ◌++◌, Ok, refl, sym, ap, subst, ◌∙◌, append_assoc, arith, inl, inr}
 use Rattle.std.specs.Int.{w32, to_be_bytes}
 use Rattle.std.proofs.lemmas.Bool.{eqb-true, eq-eqb, ne_eqb}
-use Rattle.std.proofs.lemmas.List.{length-append, drop_at}
 use Rattle.gen_types.specs.Reading.{◌>>=◌, check, map_fault}
 use Rattle.gen_types.specs.Bytes.{byte_at, number_at}
-use Rattle.gen_types.specs.Spelled.{counted}
 use Rattle.gen_types.proofs.Lists.{bool_cases}
 use Rattle.gen_types.proofs.Steps.{ok_is, after, after_check, at_end, mapped_ok}
 use Rattle.gen_types.proofs.ByteFields.{IsBytes, Takes, Takes-then, number_takes, number_again, wide32}
 use Rattle.gen_types.proofs.ManyFields.{Reads}
-use Rattle.gen_net.specs.declared.fault.HeaderFault.{HeaderFault}
 use Rattle.gen_net.specs.declared.fault.HeaderFault.TheVariants as rules
 use Rattle.gen_net.specs.declared.marks.Marks.{Marks}
 use Rattle.gen_net.specs.declared.marks.FrontFault.{FrontFault}
@@ -82,20 +79,6 @@ mark_again marks are (Two slot) rest =
     rw (number_again {F = FrontFault} faults.Truncated w32 (2 ^ 32) wide32 marks.two rest are.two, other, same) refl
 
 -- ---- the header
-
--- the bytes after a counted header are those after its spelling
-pub header_of_counted : (bytes : List ℕ) (h : RunHeader) (taken : ℕ) → IsBytes bytes → counted header_at bytes ≡ Ok (h, taken) → header_at bytes ≡ Ok (h, drop taken bytes)
-header_of_counted bytes h taken fits e =
-    after (header_at bytes) (λ y. Ok (y.0, length bytes - length y.1)) (h, taken) e (λ y r e0.
-    let made : RunHeader × ℕ = (y.0, length bytes - length y.1) in
-    let same = ok_is {F = HeaderFault} made (h, taken) e0 in
-    let header_is : y.0 ≡ h = ap (λ (p : RunHeader × ℕ). p.0) same in
-    let taken_is : length bytes - length y.1 ≡ taken = ap (λ (p : RunHeader × ℕ). p.1) same in
-    let parts = (header_reads.takes bytes y fits r).0.parts in
-    let total : length bytes ≡ length (header_spelling y.0) + length y.1 = ap length parts ∙ length-append (header_spelling y.0) y.1 in
-    let count : length (header_spelling y.0) ≡ taken = omega (arith, total, taken_is) in
-    let left : drop taken bytes ≡ y.1 = ap (drop taken) parts ∙ drop_at (header_spelling y.0) y.1 taken count in
-    rw (r, left, header_is) refl)
 
 first_of : (version : Version) (text rest : List ℕ) → (more : List ℕ) × ((version_bytes version ++ text) ++ rest ≡ version_number version ∷ more)
 unfolding version_number

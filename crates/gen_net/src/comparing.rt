@@ -1,22 +1,12 @@
 //! Whether two networks, or two headers, are the same.
 ghost use Rattle.std.specs.Cmp.{partial_equiv_from_equiv};
-ghost use Rattle.std.specs.Cmp.Lexicographic.{pointwise};
-ghost use Rattle.std.specs.Prelude.{◌≡◌, ◌&&◌, ◌==◌};
-ghost use Rattle.gen_types.specs.ChoiceOf.{choice_number};
-ghost use Rattle.gen_net.specs.SameHeaders.{
-  same_version,
-  same_pair,
-  same_numbers,
-  same_network,
-  same_roots,
-  same_header,
-};
+ghost use Rattle.std.specs.Prelude.{◌≡◌};
+ghost use Rattle.gen_net.specs.SameHeaders.{same_version, same_network, same_header};
 ghost use Rattle.gen_net.specs.SameHeaderLaws.{same_network_equiv, same_header_equiv};
 
 use crate::headers::Header;
 use crate::net::Net;
 use crate::version::Version;
-use gen_types::GeneralNo;
 
 /// Whether two versions are the same.
 fn is_same_version(one: Version, other: Version) -> bool
@@ -29,38 +19,6 @@ fn is_same_version(one: Version, other: Version) -> bool
     }
 }
 
-/// Whether two lists of edges are the same.
-fn are_same_edges(one: &[(GeneralNo, GeneralNo)], other: &[(GeneralNo, GeneralNo)]) -> bool
-    ensures { result ≡ pointwise same_pair one.now other.now }
-{
-    one == other
-}
-
-/// Whether two lists of roots are the same.
-fn are_same_roots(one: &[[u8; 32]], other: &[[u8; 32]]) -> bool
-    ensures { result ≡ same_roots one.now other.now }
-{
-    one == other
-}
-
-/// Whether two networks have the same numbers.
-fn have_same_numbers(one: &Net, other: &Net) -> bool
-    ensures { result ≡ same_numbers one.now other.now }
-{
-    one.generals() == other.generals()
-        && one.traitors() == other.traitors()
-        && one.diameter() == other.diameter()
-        && one.orders() == other.orders()
-}
-
-/// Whether two networks have the same choice and edges.
-fn have_same_edges(one: &Net, other: &Net) -> bool
-    ensures { result ≡ (choice_number one.now.choice == choice_number other.now.choice
-        && pointwise same_pair one.now.edges other.now.edges) }
-{
-    one.choice().number() == other.choice().number() && are_same_edges(one.edges(), other.edges())
-}
-
 /// Two networks are equal if and only if they have the same numbers, the same edges and the same choice.
 impl PartialEq for Net {
     ghost eq = { same_network };
@@ -69,7 +27,12 @@ impl PartialEq for Net {
 
     #[tactic(auto, unfolding(crate::specs::SameHeaders::same_network))]
     fn eq(&self, other: &Net) -> bool {
-        have_same_numbers(self, other) && have_same_edges(self, other)
+        self.generals() == other.generals()
+            && self.traitors() == other.traitors()
+            && self.diameter() == other.diameter()
+            && self.orders() == other.orders()
+            && self.choice().number() == other.choice().number()
+            && self.edges() == other.edges()
     }
 }
 
@@ -87,7 +50,7 @@ impl PartialEq for Header {
     fn eq(&self, other: &Header) -> bool {
         is_same_version(self.version(), other.version())
             && self.net() == other.net()
-            && are_same_roots(self.roots(), other.roots())
+            && self.roots() == other.roots()
     }
 }
 

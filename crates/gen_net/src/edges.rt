@@ -1,7 +1,7 @@
 //! Lists of edges, as they are given and as a network keeps them.
-ghost use Rattle.std.specs.Prelude.{◌≡◌, ◌<◌, ◌≤◌, ◌++◌, OnOk, IfOk, filter, true};
+ghost use Rattle.std.specs.Prelude.{◌≡◌, ◌≤◌, IfOk, true};
 ghost use Rattle.std.specs.List.{list_any};
-ghost use Rattle.gen_net.specs.Edges.{joins, has_bad_edge, row, edges_of, goes_before, goes_first, in_place};
+ghost use Rattle.gen_net.specs.Edges.{joins, has_bad_edge, edges_of, in_place};
 
 use gen_types::GeneralNo;
 use std::alloc::{AllocError, Global};
@@ -29,35 +29,6 @@ pub fn has_fault(n: u8, given: &[(u8, u8)]) -> bool
     false
 }
 
-/// Returns the edge from a to b, both below 16.
-fn edge(a: u8, b: u8) -> (GeneralNo, GeneralNo)
-    requires first { a < 16 }
-    requires second { b < 16 }
-    ensures { result ≡ (a, b) }
-{
-    (GeneralNo::at(a), GeneralNo::at(b))
-}
-
-/// Appends the edges of general a to greater generals below n, in ascending order: those that a given pair joins.
-fn push_row(
-    edges: &mut Vec<(GeneralNo, GeneralNo)>,
-    n: u8,
-    a: u8,
-    given: &[(u8, u8)],
-) -> Result<(), AllocError>
-    requires below { a < n }
-    requires few { n ≤ 16 }
-    ensures { OnOk result (edges.new.items
-        ≡ edges.old.items ++ filter (λ p. list_any (joins p.0 p.1) given.now) (row n a)) }
-{
-    for b in a + 1..n {
-        if is_joined(a, b, given) {
-            edges.push(edge(a, b))?;
-        }
-    }
-    Ok(())
-}
-
 /// Returns the edges between generals below n that the given pairs join: each once as (a, b) with a < b, ascending.
 pub fn edge_list(
     alloc: Global,
@@ -69,27 +40,14 @@ pub fn edge_list(
 {
     let mut edges = Vec::new(alloc);
     for a in 0..n {
-        push_row(&mut edges, n, a, given)?;
+        let first = GeneralNo::at(a);
+        for b in a + 1..n {
+            if is_joined(a, b, given) {
+                edges.push((first, GeneralNo::at(b)))?;
+            }
+        }
     }
     Ok(edges)
-}
-
-/// Whether the edge e stands before the edge f: its first general is lesser, or the first is the same and its second is
-/// lesser.
-fn is_before(e: (u8, u8), f: (u8, u8)) -> bool
-    ensures { result ≡ goes_before e f }
-{
-    e.0 < f.0 || (e.0 == f.0 && e.1 < f.1)
-}
-
-/// Whether the edge stands before the first of these; yes if there is none.
-fn is_before_first(e: (u8, u8), others: &[(u8, u8)]) -> bool
-    ensures { result ≡ goes_first e others.now }
-{
-    match others {
-        [] => true,
-        [first, ..] => is_before(e, *first),
-    }
 }
 
 /// Whether each edge (a, b) has a < b < n, and the edges ascend strictly.
@@ -98,8 +56,13 @@ pub fn stand_in_place(n: u8, edges: &[(u8, u8)]) -> bool
 {
     let mut rest = edges;
     while let [(a, b), others @ ..] = rest {
-        if *a >= *b || *b >= n || !is_before_first((*a, *b), others) {
+        if *a >= *b || *b >= n {
             return false;
+        }
+        if let [(c, d), ..] = others {
+            if !(*a < *c || (*a == *c && *b < *d)) {
+                return false;
+            }
         }
         rest = others;
     }
@@ -119,7 +82,7 @@ pub fn placed_edges(
     let mut placed = Vec::with_capacity(alloc, edges.len())?;
     let mut rest = edges;
     while let [(a, b), others @ ..] = rest {
-        placed.push(edge(*a, *b))?;
+        placed.push((GeneralNo::at(*a), GeneralNo::at(*b)))?;
         rest = others;
     }
     Ok(placed)

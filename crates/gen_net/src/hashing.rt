@@ -1,51 +1,14 @@
 //! The run id, hashed without taking memory.
-ghost use Rattle.std.specs.Prelude.{◌≡◌, ◌++◌, ◌<◌, List, ℕ, length};
-ghost use Rattle.std.specs.List.{flat_map};
-ghost use Rattle.sha2.specs.Hashers.{Holds256};
+ghost use Rattle.std.specs.Prelude.{◌≡◌};
 ghost use Rattle.gen_net.specs.Header.{AreRoots, run_id_of};
-ghost use Rattle.gen_net.specs.NetworkSpelling.{edge_bytes};
-ghost use Rattle.gen_net.specs.Version.{version_bytes};
 
 use crate::format::{VERSION_ONE, VERSION_TWO, number_bytes_of};
 use crate::net::Net;
 use crate::version::Version;
-use gen_types::GeneralNo;
 use sha2::{Digest, Sha256};
 
 /// The byte that is hashed before a header in its run id.
 const RUN_ID_PREFIX: u8 = 0x31;
-
-/// Feeds a hasher with the bytes of a version: its number, and in version 2 the slot.
-fn feed_version(hasher: &mut Sha256, version: Version)
-    ensures { (m : List ℕ) → Holds256 hasher.old m
-        → Holds256 hasher.new (m ++ version_bytes version) }
-{
-    match version {
-        Version::One => hasher.update([VERSION_ONE]),
-        Version::Two { slot } => hasher.update([VERSION_TWO, slot]),
-    }
-}
-
-/// Feeds a hasher with the bytes of edges, two for each.
-fn feed_edges(hasher: &mut Sha256, edges: &[(GeneralNo, GeneralNo)])
-    ensures { (m : List ℕ) → Holds256 hasher.old m
-        → Holds256 hasher.new (m ++ flat_map edge_bytes edges.now) }
-{
-    'edges: for edge in edges {
-        hasher.update([edge.0.get(), edge.1.get()]);
-    }
-}
-
-/// Feeds a hasher with roots, 32 bytes each.
-fn feed_roots(hasher: &mut Sha256, roots: &[[u8; 32]])
-    ensures fed { (m : List ℕ) → Holds256 hasher.old m
-        → Holds256 hasher.new (m ++ flat_map (λ root. root) roots.now) }
-    ensures wide { AreRoots roots.now }
-{
-    'roots: for root in roots {
-        hasher.update(root);
-    }
-}
 
 /// Returns the run id of the header with this version, this network and these roots.
 #[tactic(auto, unfolding(crate::specs::Header::run_id_of))]
@@ -54,11 +17,19 @@ pub fn run_id_over(version: Version, net: &Net, roots: &[[u8; 32]]) -> [u8; 32]
         (record { version = version; network = net.now; roots = roots.now }) }
     ensures wide { AreRoots roots.now }
 {
+    let edges = net.edges();
     let mut hasher = Sha256::new();
     hasher.update([RUN_ID_PREFIX]);
-    feed_version(&mut hasher, version);
+    match version {
+        Version::One => hasher.update([VERSION_ONE]),
+        Version::Two { slot } => hasher.update([VERSION_TWO, slot]),
+    }
     hasher.update(number_bytes_of(net));
-    feed_edges(&mut hasher, net.edges());
-    feed_roots(&mut hasher, roots);
+    'edges: for edge in edges {
+        hasher.update([edge.0.get(), edge.1.get()]);
+    }
+    'roots: for root in roots {
+        hasher.update(root);
+    }
     hasher.finalize()
 }

@@ -3,7 +3,7 @@ ghost use Rattle.std.specs.Prelude.{IsTrue, ◌≡◌, ◌≤◌, ◌↔◌};
 ghost use Rattle.gen_types.specs.Ascending.{IsListOf};
 ghost use Rattle.gen_types.specs.Spelled.{IsRead};
 ghost use Rattle.gen_net.specs.Network.{rounds, AreNeighbours, IsLoyal, IsNetwork};
-ghost use Rattle.gen_net.specs.NetworkOf.{is_within, ranges_of, network_with, network_of, network_in_place};
+ghost use Rattle.gen_net.specs.NetworkOf.{ranges_of, network_with, network_of, network_in_place};
 
 use crate::edges::{edge_list, has_fault, placed_edges, stand_in_place};
 use crate::fault::HeaderFault;
@@ -55,13 +55,6 @@ impl Model for Net {
     }) };
 }
 
-/// Whether a number is at least the first of two numbers and at most the second.
-fn lies_between(least: u8, greatest: u8, number: u8) -> bool
-    ensures { result ≡ is_within least greatest number }
-{
-    least <= number && number <= greatest
-}
-
 /// Returns the choice of these numbers, if they are in their ranges and the edges are good; else the first rule of
 /// `HeaderFault` that they break.
 #[tactic(auto, unfolding(crate::specs::NetworkOf::ranges_of))]
@@ -75,7 +68,7 @@ fn ranges(numbers: NetNumbers, good_edges: bool) -> Result<ChoiceKind, ReadError
         orders,
         choice,
     } = numbers;
-    if !lies_between(FEWEST_GENERALS, MOST_GENERALS, generals) {
+    if !(FEWEST_GENERALS <= generals && generals <= MOST_GENERALS) {
         return Err(ReadError::Fault(HeaderFault::GeneralCount));
     }
     if !good_edges {
@@ -84,13 +77,13 @@ fn ranges(numbers: NetNumbers, good_edges: bool) -> Result<ChoiceKind, ReadError
     if traitors > MOST_TRAITORS {
         return Err(ReadError::Fault(HeaderFault::TraitorCount));
     }
-    if !lies_between(LEAST_DIAMETER, GREATEST_DIAMETER, diameter) {
+    if !(LEAST_DIAMETER <= diameter && diameter <= GREATEST_DIAMETER) {
         return Err(ReadError::Fault(HeaderFault::DiameterRange));
     }
     if traitors + diameter > MOST_ROUNDS {
         return Err(ReadError::Fault(HeaderFault::RoundCount));
     }
-    if !lies_between(FEWEST_ORDERS, MOST_ORDERS, orders) {
+    if !(FEWEST_ORDERS <= orders && orders <= MOST_ORDERS) {
         return Err(ReadError::Fault(HeaderFault::OrderCount));
     }
     ChoiceKind::new(choice).ok_or(ReadError::Fault(HeaderFault::UnknownChoice))

@@ -4,9 +4,9 @@ ghost use Rattle.gen_types.specs.Reading.{Gives};
 ghost use Rattle.gen_types.specs.Spelled.{StandsInFront, IsReadFrom, counted, IsRead, IsField};
 ghost use Rattle.gen_types.specs.Bytes.{many_at};
 ghost use Rattle.gen_net.specs.Header.{RunHeader, IsHeader, header_spelling};
-ghost use Rattle.gen_net.specs.HeaderReading.{root_at, Parts, parts_at, header_at};
+ghost use Rattle.gen_net.specs.HeaderReading.{root_at, header_at};
 ghost use Rattle.gen_net.specs.NetworkReading.{numbers_at, edge_at, edges_at};
-ghost use Rattle.gen_net.specs.VersionReading.{slot_at, version_at};
+ghost use Rattle.gen_net.specs.VersionReading.{version_at};
 
 use crate::fault::HeaderFault;
 use crate::format::{ROOT_LENGTH, VERSION_ONE, VERSION_TWO};
@@ -17,32 +17,18 @@ use crate::version::Version;
 use gen_types::{ReadError, bytes_at, u8_at};
 use std::alloc::Global;
 
-/// The parts of a header after its version.
-#[derive(Drop)]
-struct Parts {
-    numbers: NetNumbers,
-    edges: Vec<(u8, u8)>,
-    roots: Vec<[u8; 32]>,
-}
-
-/// Reads the slot of version 2, and returns the version with it and the bytes after it.
-#[tactic(auto, unfolding(crate::specs::VersionReading::slot_at))]
-fn read_slot(bytes: &[u8]) -> Result<(Version, &[u8]), ReadError<HeaderFault>>
-    ensures { IsField result (slot_at bytes.now) }
-{
-    let (slot, rest) = u8_at(bytes, HeaderFault::Truncated)?;
-    Ok((Version::Two { slot }, rest))
-}
-
 /// Reads the version, with the slot in version 2, and returns it and the bytes after it.
-#[tactic(auto, unfolding(crate::specs::VersionReading::version_at))]
+#[tactic(auto, unfolding(crate::specs::VersionReading::version_at, crate::specs::VersionReading::slot_at))]
 fn read_version(bytes: &[u8]) -> Result<(Version, &[u8]), ReadError<HeaderFault>>
     ensures { IsField result (version_at bytes.now) }
 {
     let (number, rest) = u8_at(bytes, HeaderFault::Truncated)?;
     match number {
         VERSION_ONE => Ok((Version::One, rest)),
-        VERSION_TWO => read_slot(rest),
+        VERSION_TWO => {
+            let (slot, rest) = u8_at(rest, HeaderFault::Truncated)?;
+            Ok((Version::Two { slot }, rest))
+        }
         _ => Err(ReadError::Fault(HeaderFault::UnknownVersion)),
     }
 }
@@ -77,26 +63,13 @@ fn read_edge(bytes: &[u8]) -> Result<((u8, u8), &[u8]), ReadError<HeaderFault>>
     Ok(((low, high), rest))
 }
 
-/// Reads one root, 32 bytes, and returns it and the bytes after it.
-fn read_root(bytes: &[u8]) -> Result<([u8; 32], &[u8]), ReadError<HeaderFault>>
-    ensures { IsField result (root_at bytes.now) }
+/// Reads the edges behind their number, and returns them and the bytes after them.
+#[tactic(auto, unfolding(crate::specs::NetworkReading::edges_at))]
+fn read_edges(alloc: Global, bytes: &[u8]) -> Result<(Vec<(u8, u8)>, &[u8]), ReadError<HeaderFault>>
+    ensures { Gives (λ x. (x.0.items, x.1.now)) result (edges_at bytes.now) }
 {
-    let (front, rest) = bytes_at(bytes, ROOT_LENGTH, HeaderFault::Truncated)?;
-    let mut root = [0; 32];
-    root.copy_from_slice(front);
-    Ok((root, rest))
-}
-
-/// Reads this many edges, and returns them and the bytes after them.
-fn read_many_edges(
-    alloc: Global,
-    count: u8,
-    bytes: &[u8],
-) -> Result<(Vec<(u8, u8)>, &[u8]), ReadError<HeaderFault>>
-    ensures { Gives (λ x. (x.0.items, x.1.now)) result (many_at edge_at count bytes.now) }
-{
+    let (count, mut rest) = u8_at(bytes, HeaderFault::Truncated)?;
     let mut edges = Vec::new(alloc);
-    let mut rest = bytes;
     for _ in 0..count {
         let (edge, after) = read_edge(rest)?;
         edges.push(edge)?;
@@ -105,16 +78,7 @@ fn read_many_edges(
     Ok((edges, rest))
 }
 
-/// Reads the edges behind their number, and returns them and the bytes after them.
-#[tactic(auto, unfolding(crate::specs::NetworkReading::edges_at))]
-fn read_edges(alloc: Global, bytes: &[u8]) -> Result<(Vec<(u8, u8)>, &[u8]), ReadError<HeaderFault>>
-    ensures { Gives (λ x. (x.0.items, x.1.now)) result (edges_at bytes.now) }
-{
-    let (count, rest) = u8_at(bytes, HeaderFault::Truncated)?;
-    read_many_edges(alloc, count, rest)
-}
-
-/// Reads this many roots, and returns them and the bytes after them.
+/// Reads this many roots, 32 bytes each, and returns them and the bytes after them.
 fn read_roots(
     alloc: Global,
     count: u8,
@@ -125,48 +89,27 @@ fn read_roots(
     let mut roots = Vec::new(alloc);
     let mut rest = bytes;
     for _ in 0..count {
-        let (root, after) = read_root(rest)?;
+        let (front, after) = bytes_at(rest, ROOT_LENGTH, HeaderFault::Truncated)?;
+        let mut root = [0; ROOT_LENGTH];
+        root.copy_from_slice(front);
         roots.push(root)?;
         rest = after;
     }
     Ok((roots, rest))
 }
 
-/// Reads the numbers, edges and roots after a version, and returns them and the bytes after them.
-#[tactic(auto, unfolding(crate::specs::HeaderReading::parts_at))]
-fn read_parts(alloc: Global, bytes: &[u8]) -> Result<(Parts, &[u8]), ReadError<HeaderFault>>
-    ensures { Gives (λ x. (
-      record {
-        numbers = x.0.numbers;
-        edges = x.0.edges.items;
-        roots = x.0.roots.items;
-      },
-      x.1.now,
-    )) result (parts_at bytes.now) }
-{
-    let (numbers, rest) = read_numbers(bytes)?;
-    let (edges, rest) = read_edges(alloc, rest)?;
-    let (roots, rest) = read_roots(alloc, numbers.generals, rest)?;
-    let parts = Parts {
-        numbers,
-        edges,
-        roots,
-    };
-    Ok((parts, rest))
-}
-
 /// Reads the header in front of the bytes, and returns it and the bytes after it.
-#[tactic(auto, unfolding(crate::specs::HeaderReading::header_at))]
-fn header_in_front(alloc: Global, bytes: &[u8]) -> Result<(Header, &[u8]), ReadError<HeaderFault>>
+#[tactic(auto, unfolding(crate::specs::HeaderReading::header_at, crate::specs::HeaderReading::parts_at))]
+pub fn header_in_front(
+    alloc: Global,
+    bytes: &[u8],
+) -> Result<(Header, &[u8]), ReadError<HeaderFault>>
     ensures { IsField result (header_at bytes.now) }
 {
     let (version, rest) = read_version(bytes)?;
-    let (parts, rest) = read_parts(alloc, rest)?;
-    let Parts {
-        numbers,
-        edges,
-        roots,
-    } = parts;
+    let (numbers, rest) = read_numbers(rest)?;
+    let (edges, rest) = read_edges(alloc, rest)?;
+    let (roots, rest) = read_roots(alloc, numbers.generals, rest)?;
     let net = Net::in_place(alloc, numbers, edges.as_slice())?;
     match Header::of_version(version, net, roots) {
         Ok(header) => Ok((header, rest)),

@@ -1,8 +1,6 @@
 //! Writes headers as bytes.
 ghost use Rattle.std.specs.Prelude.{◌≡◌, ◌++◌, IfOk, OnOk};
-ghost use Rattle.std.specs.List.{flat_map};
 ghost use Rattle.gen_net.specs.Header.{header_spelling, IsHeader};
-ghost use Rattle.gen_net.specs.NetworkSpelling.{edge_bytes};
 ghost use Rattle.gen_net.specs.Version.{version_bytes};
 
 use crate::format::{
@@ -11,7 +9,6 @@ use crate::format::{
 };
 use crate::headers::Header;
 use crate::version::Version;
-use gen_types::GeneralNo;
 use std::alloc::{AllocError, Global};
 
 /// Appends the bytes of a version: its number, and in version 2 the slot.
@@ -22,26 +19,6 @@ fn put_version(out: &mut Vec<u8>, version: Version) -> Result<(), AllocError>
         Version::One => out.extend_from_slice(&[VERSION_ONE]),
         Version::Two { slot } => out.extend_from_slice(&[VERSION_TWO, slot]),
     }
-}
-
-/// Appends the bytes of edges, two for each.
-fn put_edges(out: &mut Vec<u8>, edges: &[(GeneralNo, GeneralNo)]) -> Result<(), AllocError>
-    ensures { OnOk result (out.new.items ≡ out.old.items ++ flat_map edge_bytes edges.now) }
-{
-    'edges: for edge in edges {
-        out.extend_from_slice(&[edge.0.get(), edge.1.get()])?;
-    }
-    Ok(())
-}
-
-/// Appends roots, 32 bytes each.
-fn put_roots(out: &mut Vec<u8>, roots: &[[u8; 32]]) -> Result<(), AllocError>
-    ensures { OnOk result (out.new.items ≡ out.old.items ++ flat_map (λ root. root) roots.now) }
-{
-    'roots: for root in roots {
-        out.extend_from_slice(root)?;
-    }
-    Ok(())
 }
 
 /// Returns the one spelling of a header. It begins with 1 in version 1, or with 2 and the slot in version 2. Then come
@@ -57,7 +34,11 @@ pub fn header_bytes(alloc: Global, header: &Header) -> Result<Vec<u8>, AllocErro
     let mut out = Vec::with_capacity(alloc, VERSION_LENGTH + NUMBERS_LENGTH + lists)?;
     put_version(&mut out, header.version())?;
     out.extend_from_slice(&number_bytes_of(header.net()))?;
-    put_edges(&mut out, edges)?;
-    put_roots(&mut out, roots)?;
+    'edges: for edge in edges {
+        out.extend_from_slice(&[edge.0.get(), edge.1.get()])?;
+    }
+    'roots: for root in roots {
+        out.extend_from_slice(root)?;
+    }
     Ok(out)
 }

@@ -3,11 +3,11 @@
 //! Each word of a state is a vector, with one lane for each block. The blocks have one key and one stream,
 //! and each has a counter of its own. Counter and stream have 64 bits each.
 ghost use Rattle.std.specs.Prelude.{◌≡◌, ℕ, ◌<◌, ◌/◌, ◌%◌, ◌^◌, slice_index};
-ghost use Rattle.rand_chacha.specs.Block.{add32, column_round, diagonal_round, initial_state, xor_rotate};
-ghost use Rattle.rand_chacha.specs.Lanes.{lane, lane_at};
+ghost use Rattle.rand_chacha.specs.Block.{column_round, diagonal_round, initial_state, xor_rotate};
+ghost use Rattle.rand_chacha.specs.Lanes.{lane};
 ghost use Rattle.gen_ots.specs.Blocks.{HasBlock, half_rounds};
 
-use crate::lanes::{add, rotate_left, xor};
+use sha_lanes::words::add;
 use sha_lanes::{LANES, Words};
 
 /// The number of double rounds of ChaCha20, each of which is a round on columns and a round on diagonals.
@@ -21,7 +21,8 @@ fn xor_rotate(x: Words, y: Words, count: u32) -> Words
     ensures { (j : ℕ) → j < LANES
         → slice_index result j ≡ xor_rotate (slice_index x j) (slice_index y j) count }
 {
-    rotate_left(xor(x, y), count)
+    let mixed = x ^ y;
+    (mixed << Words::splat(count)) | (mixed >> Words::splat(32 - count))
 }
 
 // Returns the states after one half of the quarter round (RFC 8439, section 2.1) on each column, where a
@@ -100,42 +101,31 @@ fn diagonal_round(state: [Words; 16]) -> [Words; 16]
     ]
 }
 
+// Returns the low word and the high word of a number.
 #[inline(always)]
-fn low(x: u64) -> u32
-    ensures { result ≡ x % 2 ^ 32 }
+fn halves(x: u64) -> (u32, u32)
+    ensures low { result.0 ≡ x % 2 ^ 32 }
+    ensures high { result.1 ≡ x / 2 ^ 32 }
 {
-    (x & 0xffff_ffff) as u32
+    ((x & 0xffff_ffff) as u32, (x >> 32) as u32)
 }
 
+// Returns the low words and the high words of the counters.
 #[inline(always)]
-fn high(x: u64) -> u32
-    ensures { result ≡ x / 2 ^ 32 }
+fn counter_words(counters: &[u64; LANES]) -> (Words, Words)
+    ensures low { (j : ℕ) → j < LANES
+        → slice_index result.0 j ≡ slice_index counters.now j % 2 ^ 32 }
+    ensures high { (j : ℕ) → j < LANES
+        → slice_index result.1 j ≡ slice_index counters.now j / 2 ^ 32 }
 {
-    (x >> 32) as u32
-}
-
-// Returns the low words of the counters.
-#[inline(always)]
-fn low_words(counters: &[u64; LANES]) -> Words
-    ensures { (j : ℕ) → j < LANES → slice_index result j ≡ slice_index counters.now j % 2 ^ 32 }
-{
-    let mut words = [0; LANES];
+    let mut low = [0; LANES];
+    let mut high = [0; LANES];
     'lanes: for j in 0..LANES {
-        words[j] = low(counters[j]);
+        let (low_word, high_word) = halves(counters[j]);
+        low[j] = low_word;
+        high[j] = high_word;
     }
-    Words::from_array(words)
-}
-
-// Returns the high words of the counters.
-#[inline(always)]
-fn high_words(counters: &[u64; LANES]) -> Words
-    ensures { (j : ℕ) → j < LANES → slice_index result j ≡ slice_index counters.now j / 2 ^ 32 }
-{
-    let mut words = [0; LANES];
-    'lanes: for j in 0..LANES {
-        words[j] = high(counters[j]);
-    }
-    Words::from_array(words)
+    (Words::from_array(low), Words::from_array(high))
 }
 
 // Returns the states before the rounds: the constants, the key, the counter of each lane, and the stream.
@@ -144,6 +134,8 @@ fn initial_states(key: &[u32; 8], stream: u64, counters: &[u64; LANES]) -> [Word
     ensures { (j : ℕ) → j < LANES
         → lane j result ≡ initial_state key.now (slice_index counters.now j) stream }
 {
+    let (counters_low, counters_high) = counter_words(counters);
+    let (stream_low, stream_high) = halves(stream);
     [
         Words::splat(0x6170_7865),
         Words::splat(0x3320_646e),
@@ -157,29 +149,15 @@ fn initial_states(key: &[u32; 8], stream: u64, counters: &[u64; LANES]) -> [Word
         Words::splat(key[5]),
         Words::splat(key[6]),
         Words::splat(key[7]),
-        low_words(counters),
-        high_words(counters),
-        Words::splat(low(stream)),
-        Words::splat(high(stream)),
-    ]
-}
-
-// Returns the sums of two states, word by word, modulo 2^32.
-#[rattlefmt::skip]
-#[inline(always)]
-fn sums(x: &[Words; 16], y: &[Words; 16]) -> [Words; 16]
-    ensures { (j k : ℕ) → j < LANES → k < 16
-        → lane_at result k j ≡ add32 (lane_at x.now k j) (lane_at y.now k j) }
-{
-    [
-        add(x[0], y[0]), add(x[1], y[1]), add(x[2], y[2]), add(x[3], y[3]),
-        add(x[4], y[4]), add(x[5], y[5]), add(x[6], y[6]), add(x[7], y[7]),
-        add(x[8], y[8]), add(x[9], y[9]), add(x[10], y[10]), add(x[11], y[11]),
-        add(x[12], y[12]), add(x[13], y[13]), add(x[14], y[14]), add(x[15], y[15]),
+        counters_low,
+        counters_high,
+        Words::splat(stream_low),
+        Words::splat(stream_high),
     ]
 }
 
 /// Returns the sixteen words of each of the blocks with these counters. Lane j has the block of counter j.
+#[rattlefmt::skip]
 #[inline(never)]
 pub fn blocks_in_lanes(key: &[u32; 8], stream: u64, counters: &[u64; LANES]) -> [Words; 16]
     ensures { (j : ℕ) → j < LANES
@@ -190,5 +168,10 @@ pub fn blocks_in_lanes(key: &[u32; 8], stream: u64, counters: &[u64; LANES]) -> 
     'rounds: for _done in 0..DOUBLE_ROUNDS {
         state = diagonal_round(column_round(state));
     }
-    sums(&state, &first)
+    [
+        add(state[0], first[0]), add(state[1], first[1]), add(state[2], first[2]), add(state[3], first[3]),
+        add(state[4], first[4]), add(state[5], first[5]), add(state[6], first[6]), add(state[7], first[7]),
+        add(state[8], first[8]), add(state[9], first[9]), add(state[10], first[10]), add(state[11], first[11]),
+        add(state[12], first[12]), add(state[13], first[13]), add(state[14], first[14]), add(state[15], first[15]),
+    ]
 }

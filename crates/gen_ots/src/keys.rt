@@ -5,9 +5,7 @@ ghost use Rattle.gen_ots.specs.OneTime.{key_leaf_value};
 ghost use Rattle.gen_ots.specs.Signatures.{signature_of, signed_leaf_value};
 
 use crate::hashing::{LEAF_PREFIX, are_ones, chosen_in_lanes, images_in_lanes};
-use crate::secrets::{
-    blocks_of_bits, blocks_of_leaves, high_secrets, low_secrets, stream_key_of, stream_of,
-};
+use crate::secrets::{blocks_of_bits, blocks_of_leaves, high_secrets, low_secrets, stream_of};
 use crate::signatures::{OtsSig, SigRoom, push_pairs};
 use crate::sizes::{DIGEST_BITS, OTS_BYTES};
 use gen_types::TreeHeight;
@@ -85,8 +83,7 @@ impl OneTimeKey {
     pub fn leaf_value(&self) -> [u8; 32]
         ensures { result ≡ key_leaf_value self.now.name }
     {
-        let key = stream_key_of(&self.seed);
-        let stream = stream_of(self.height);
+        let (key, stream) = stream_of(&self.seed, self.height);
         let mut schedules = Schedules::new();
         let mut hasher = OneHasher::new(LEAF_PREFIX);
         // Each turn takes one bit for each lane, so that the secrets of these bits are hashed side by side.
@@ -109,8 +106,7 @@ impl OneTimeKey {
     {
         let mut this = self;
         this.live = false;
-        let key = stream_key_of(&this.seed);
-        let stream = stream_of(this.height);
+        let (key, stream) = stream_of(&this.seed, this.height);
         let mut schedules = Schedules::new();
         let mut bytes = room.bytes;
         // Each turn takes one bit for each lane, so that the secrets of these bits are hashed side by side.
@@ -144,8 +140,7 @@ pub fn leaf_values(seed: &[u8; 32], height: TreeHeight, first: u8) -> [[u8; 32];
     ensures { (j : ℕ) → j < LANES → slice_index_or result j [] ≡ key_leaf_value
         (record { seed = seed.now; height = height; leaf = first + j }) }
 {
-    let key = stream_key_of(seed);
-    let stream = stream_of(height);
+    let (key, stream) = stream_of(seed, height);
     let mut schedules = Schedules::new();
     let mut hashers = LaneHashers::new(LEAF_PREFIX);
     'bits: for bit in 0..DIGEST_BITS {

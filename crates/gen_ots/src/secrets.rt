@@ -21,22 +21,17 @@ const STREAM_OF_FOUR: u64 = 0;
 /// The number of the stream of ChaCha20 that has the secrets of trees of six levels.
 const STREAM_OF_SIX: u64 = 1;
 
-/// Returns the number of the stream that has the secrets of trees of this height.
-pub fn stream_of(height: TreeHeight) -> u64
-    ensures { result ≡ secret_stream height }
+/// Returns the stream that has the secrets of trees of this height: its key, which is the eight words of the
+/// seed, the low byte of each first, and its number.
+pub fn stream_of(seed: &[u8; 32], height: TreeHeight) -> ([u32; 8], u64)
+    ensures key { result.0 ≡ key_of seed.now }
+    ensures number { result.1 ≡ secret_stream height }
 {
-    match height {
+    let number = match height {
         TreeHeight::Four => STREAM_OF_FOUR,
         TreeHeight::Six => STREAM_OF_SIX,
-    }
-}
-
-/// Returns the eight words of a seed, which are the key of its streams. The low byte of each word comes
-/// first.
-pub fn stream_key_of(seed: &[u8; 32]) -> [u32; 8]
-    ensures { result ≡ key_of seed.now }
-{
-    [
+    };
+    let key = [
         read_u32(seed, 0),
         read_u32(seed, 1),
         read_u32(seed, 2),
@@ -45,7 +40,8 @@ pub fn stream_key_of(seed: &[u8; 32]) -> [u32; 8]
         read_u32(seed, 5),
         read_u32(seed, 6),
         read_u32(seed, 7),
-    ]
+    ];
+    (key, number)
 }
 
 /// Returns the number of the block that has the secrets of a bit of a leaf: 256 times the leaf, plus the

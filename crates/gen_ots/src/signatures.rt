@@ -1,12 +1,10 @@
 //! One-time signatures, and the room into which they are written.
-ghost use Rattle.std.specs.Prelude.{◌≡◌, ◌<◌, ◌≤◌, ◌+◌, ◌*◌, ◌∷◌, ◌++◌, [], ℕ, length, slice_index_or, vec_len, vec_capacity, IfOk};
+ghost use Rattle.std.specs.Prelude.{◌≡◌, ◌<◌, ◌≤◌, ◌+◌, ◌*◌, ◌++◌, [], ℕ, length, slice_index_or, vec_len, vec_capacity, IfOk};
 ghost use Rattle.std.specs.Cmp.{partial_equiv_from_equiv};
 ghost use Rattle.std.specs.Cmp.Lexicographic.{pointwise};
 ghost use Rattle.std.specs.Bool.{nat_eq};
 ghost use Rattle.std.proofs.lemmas.Cmp.{nat_list_eq_equiv};
-ghost use Rattle.sha_lanes.specs.One.{HoldsOne};
-ghost use Rattle.gen_ots.specs.OneTime.{leaf_prefix};
-ghost use Rattle.gen_ots.specs.Signatures.{given_images, other_at, pairs_up_to, shown_at, signed_leaf_value};
+ghost use Rattle.gen_ots.specs.Signatures.{other_at, pairs_up_to, shown_at, signed_leaf_value};
 
 use crate::hashing::{LEAF_PREFIX, are_ones, chosen_in_lanes, images_in_lanes};
 use crate::sharing::HeldBytes;
@@ -166,85 +164,51 @@ pub fn image_of(signature: &OtsSig, digest: &[u8; 32]) -> [u8; 32]
     let mut hasher = OneHasher::new(LEAF_PREFIX);
     // Each turn takes one bit for each lane, so that the secrets of these bits are hashed side by side.
     'turns: for turn in 0..DIGEST_BITS / LANES {
-        absorb(&mut schedules, &mut hasher, pairs, digest, LANES * turn);
+        let bit = LANES * turn;
+        let (secrets, others) = pairs_from(pairs, bit);
+        let images = images_in_lanes(&mut schedules, &to_words(&secrets));
+        let others = to_words(&others);
+        let ones = are_ones(digest, bit);
+        let zeroth = chosen_in_lanes(&ones, &images, &others);
+        let first = chosen_in_lanes(&ones, &others, &images);
+        hasher.update(&zeroth, &first);
     }
     hasher.finalize()
 }
 
-// Feeds the hasher of a leaf value with both images of several bits: of bit `bit`, and of those after it,
-// one for each lane.
-fn absorb(
-    schedules: &mut Schedules,
-    hasher: &mut OneHasher,
-    pairs: &[u8],
-    digest: &[u8; 32],
-    bit: usize,
-)
-    requires length { length pairs.now ≡ OTS_BYTES }
-    requires bits { bit + LANES ≤ DIGEST_BITS }
-    ensures { HoldsOne hasher.old (leaf_prefix ∷ given_images pairs.now digest.now bit)
-        → HoldsOne hasher.new (leaf_prefix ∷ given_images pairs.now digest.now (bit + LANES)) }
-{
-    let images = images_in_lanes(schedules, &to_words(&secrets_from(pairs, bit)));
-    let others = to_words(&others_from(pairs, bit));
-    let ones = are_ones(digest, bit);
-    let zeroth = chosen_in_lanes(&ones, &images, &others);
-    let first = chosen_in_lanes(&ones, &others, &images);
-    hasher.update(&zeroth, &first);
-}
-
-// Returns for each lane the secret that the pairs show for a bit: bit `first` in lane 0, and those after it
-// in the others.
+// Returns for each lane the secret that the pairs show for a bit, and the image that they give for it: bit
+// `first` in lane 0, and those after it in the others.
 #[inline(always)]
-fn secrets_from(pairs: &[u8], first: usize) -> [[u8; 32]; LANES]
+fn pairs_from(pairs: &[u8], first: usize) -> ([[u8; 32]; LANES], [[u8; 32]; LANES])
     requires length { length pairs.now ≡ OTS_BYTES }
     requires bits { first + LANES ≤ DIGEST_BITS }
-    ensures { (j : ℕ) → j < LANES → slice_index_or result j [] ≡ shown_at pairs.now (first + j) }
+    ensures secrets { (j : ℕ) → j < LANES → slice_index_or result.0 j [] ≡ shown_at pairs.now (first + j) }
+    ensures others { (j : ℕ) → j < LANES → slice_index_or result.1 j [] ≡ other_at pairs.now (first + j) }
 {
     let mut secrets = [[0; HASH_BYTES]; LANES];
-    'lanes: for j in 0..LANES {
-        secrets[j] = shown_at(pairs, first + j);
-    }
-    secrets
-}
-
-// Returns for each lane the image that the pairs give for a bit: bit `first` in lane 0, and those after it
-// in the others.
-#[inline(always)]
-fn others_from(pairs: &[u8], first: usize) -> [[u8; 32]; LANES]
-    requires length { length pairs.now ≡ OTS_BYTES }
-    requires bits { first + LANES ≤ DIGEST_BITS }
-    ensures { (j : ℕ) → j < LANES → slice_index_or result j [] ≡ other_at pairs.now (first + j) }
-{
     let mut others = [[0; HASH_BYTES]; LANES];
     'lanes: for j in 0..LANES {
-        others[j] = other_at(pairs, first + j);
+        let (secret, image) = pair_at(pairs, first + j);
+        secrets[j] = secret;
+        others[j] = image;
     }
-    others
+    (secrets, others)
 }
 
-// Returns the secret that the pairs show for a bit.
-pub(crate) fn shown_at(pairs: &[u8], bit: usize) -> [u8; 32]
+// Returns the secret that the pairs show for a bit, and the image that they give for it.
+pub(crate) fn pair_at(pairs: &[u8], bit: usize) -> ([u8; 32], [u8; 32])
     requires length { length pairs.now ≡ OTS_BYTES }
     requires bit { bit < DIGEST_BITS }
-    ensures { result ≡ shown_at pairs.now bit }
+    ensures secret { result.0 ≡ shown_at pairs.now bit }
+    ensures image { result.1 ≡ other_at pairs.now bit }
 {
-    let at = PAIR_BYTES * bit;
+    let shown = PAIR_BYTES * bit;
     let mut secret = [0; HASH_BYTES];
-    secret.copy_from_slice(&pairs[at..at + HASH_BYTES]);
-    secret
-}
-
-// Returns the image that the pairs give for a bit.
-pub(crate) fn other_at(pairs: &[u8], bit: usize) -> [u8; 32]
-    requires length { length pairs.now ≡ OTS_BYTES }
-    requires bit { bit < DIGEST_BITS }
-    ensures { result ≡ other_at pairs.now bit }
-{
-    let at = PAIR_BYTES * bit + HASH_BYTES;
+    secret.copy_from_slice(&pairs[shown..shown + HASH_BYTES]);
+    let other = shown + HASH_BYTES;
     let mut image = [0; HASH_BYTES];
-    image.copy_from_slice(&pairs[at..at + HASH_BYTES]);
-    image
+    image.copy_from_slice(&pairs[other..other + HASH_BYTES]);
+    (secret, image)
 }
 
 // Appends a secret that is shown, and the image of the other secret. The vector must have room for both.

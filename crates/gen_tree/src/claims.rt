@@ -39,14 +39,6 @@ impl<'a> SignatureClaim<'a> {
         }
     }
 
-    /// Returns whether the claim is true.
-    fn is_true(&self) -> bool
-        ensures { IsTrue result ↔ Stands self.now }
-    {
-        let (root, signature) = (self.root, self.signature);
-        verify(root, self.height, self.leaf, &self.digest, signature)
-    }
-
     /// Returns whether the claim is true, given the leaf value that its signature stands for.
     fn stands(&self, value: &[u8; 32]) -> bool
         requires { value.now ≡ claimed_value self.now }
@@ -59,41 +51,20 @@ impl<'a> SignatureClaim<'a> {
     }
 }
 
-/// Returns the digests of the claims and their one-time signatures.
-fn signed_of<'a>(claims: &[SignatureClaim<'a>; LANES]) -> [SignedDigest<'a>; LANES]
-    ensures { (j : ℕ) → j < LANES
-        → slice_index_or (map signed_value result) j [] ≡ slice_index_or (map claimed_value claims.now) j [] }
-{
-    let mut signed = [claims[0].signed(); LANES];
-    'lanes: for lane in 0..LANES {
-        signed[lane] = claims[lane].signed();
-    }
-    signed
-}
-
 /// Returns for the claim in each lane whether it is true, as `verify` does for one. The one-time signatures
 /// are hashed side by side. With vectors of 256 bits this takes about twice as long as hashing one of them.
 pub fn verify_lanes(claims: &[SignatureClaim<'_>; LANES]) -> [bool; LANES]
     ensures { (j : ℕ) → j < LANES → (other : SignatureClaim)
         → IsTrue (slice_index_or result j false) ↔ Stands (slice_index_or claims.now j other) }
 {
-    let values = images_of_lanes(&signed_of(claims));
+    let mut signed = [claims[0].signed(); LANES];
+    'digests: for lane in 0..LANES {
+        signed[lane] = claims[lane].signed();
+    }
+    let values = images_of_lanes(&signed);
     let mut answers = [false; LANES];
     'lanes: for lane in 0..LANES {
         answers[lane] = claims[lane].stands(&values[lane]);
-    }
-    answers
-}
-
-/// Returns for each claim whether it is true, one claim after another.
-fn verify_in_turn(claims: &[SignatureClaim<'_>]) -> [bool; LANES]
-    requires { length claims.now ≤ LANES }
-    ensures { (j : ℕ) → j < length claims.now → (other : SignatureClaim)
-        → IsTrue (slice_index_or result j false) ↔ Stands (slice_index_or claims.now j other) }
-{
-    let mut answers = [false; LANES];
-    'claims: for place in 0..claims.len() {
-        answers[place] = claims[place].is_true();
     }
     answers
 }
@@ -109,7 +80,13 @@ pub fn verify_claims(claims: &[SignatureClaim<'_>]) -> [bool; LANES]
         → IsTrue (slice_index_or result j false) ↔ Stands (slice_index_or claims.now j other) }
 {
     if claims.len() < LANES / 2 {
-        return verify_in_turn(claims);
+        let mut answers = [false; LANES];
+        'turns: for place in 0..claims.len() {
+            let claim = &claims[place];
+            let (root, signature) = (claim.root, claim.signature);
+            answers[place] = verify(root, claim.height, claim.leaf, &claim.digest, signature);
+        }
+        return answers;
     }
     let mut lanes = [claims[0]; LANES];
     'claims: for place in 0..claims.len() {

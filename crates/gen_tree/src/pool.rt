@@ -1,9 +1,8 @@
 //! Signatures that share their bytes.
-ghost use Rattle.std.specs.Prelude.{◌≡◌, ◌≤◌, length, IfOk};
+ghost use Rattle.std.specs.Prelude.{◌≡◌, length, IfOk};
 ghost use Rattle.gen_tree.specs.Sizes.{signature_length};
 
 use crate::signatures::Signature;
-use gen_ots::sizes::OTS_BYTES;
 use gen_types::TreeHeight;
 use std::alloc::{AllocError, Global};
 use std::collections::BTreeMap;
@@ -29,15 +28,6 @@ impl Model for SignaturePool {
     ghost view = { λ _. tt };
 }
 
-/// Returns the first eight of these bytes as a number.
-fn name_of(bytes: &[u8]) -> u64
-    requires { OTS_BYTES ≤ length bytes.now }
-{
-    let mut name = [0; NAME_BYTES];
-    name.copy_from_slice(&bytes[..NAME_BYTES]);
-    u64::from_be_bytes(name)
-}
-
 impl SignaturePool {
     /// Returns a pool without signatures. The pool takes no memory before the first signature is read.
     pub fn new(alloc: Global) -> SignaturePool {
@@ -57,7 +47,9 @@ impl SignaturePool {
         requires { length bytes.now ≡ signature_length height }
         ensures { IfOk result (λ signature. signature ≡ bytes.now) }
     {
-        let name = name_of(bytes);
+        let mut name = [0; NAME_BYTES];
+        name.copy_from_slice(&bytes[..NAME_BYTES]);
+        let name = u64::from_be_bytes(name);
         if let Some(known) = self.known.get(&name) {
             if known.is_spelled(bytes) {
                 return known.share(self.alloc);

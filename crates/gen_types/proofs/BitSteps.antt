@@ -1,5 +1,5 @@
 -- What the code does with bits, said of members.
-use Rattle.std.proofs.Common.{◌≡◌, ℕ, ◌+◌, ◌*◌, ◌/◌, ◌%◌, ◌^◌, ◌<◌, ◌↔◌, ◌⊎◌, inl, inr, Bool, true, false, cond, IsTrue, List, [], ◌∷◌, ◌++◌, length, filter, Contains, AllPairs, bit_and, bit_or, refl, sym, ap, ◌∙◌, subst, arith, eqb-true, eq-eqb, w16, length-append, zero, suc, add-zero, zero-add, Some, None, ◌-◌, ◌≤◌, slice_get}
+use Rattle.std.proofs.Common.{◌≡◌, ℕ, ◌+◌, ◌*◌, ◌/◌, ◌%◌, ◌^◌, ◌<◌, ◌↔◌, ◌⊎◌, inl, inr, Bool, true, false, cond, not, IsTrue, List, [], ◌∷◌, ◌++◌, length, filter, Contains, AllPairs, bit_and, bit_or, refl, sym, ap, ◌∙◌, subst, arith, eqb-true, eq-eqb, w16, length-append, zero, suc, add-zero, zero-add, Some, None, ◌-◌, ◌≤◌, slice_get}
 use Rattle.std.proofs.lemmas.Option.{slice_get_past}
 use Rattle.std.proofs.lemmas.List.Elements.{filter-append}
 use Rattle.std.specs.Bool.{nat_eq}
@@ -22,6 +22,13 @@ told_contains n v below = (
   (λ h. members_gives n v below (eqb-true (bit_at n v) 1 (subst IsTrue (test-bit n v) h))),
   (λ h. subst IsTrue (sym (test-bit n v)) (eq-eqb (bit_at n v) 1 (members_has n v h).1)),
 )
+
+not_both : false ≡ true → ⊥
+not_both e = cc
+
+pub told_lacks : (b : Bool) (P : Type 0) → (IsTrue b ↔ P) → IsTrue (not b) ↔ (P → ⊥)
+told_lacks true P told = ((λ h p. not_both h), (λ no. absurd (no (told.0 refl))))
+told_lacks false P told = ((λ h p. not_both (told.1 p)), (λ no. refl))
 
 pub with_bit : (n k : ℕ) → k < 16 → IsListOf (members_of (bit_or n (1 * 2 ^ k % 2 ^ 16))) (λ v. Contains (members_of n) v ⊎ (v ≡ k))
 with_bit n k below = record {

@@ -5,6 +5,9 @@ ghost use Rattle.gen_types.specs.Choices.{only_or_retreat, median};
 use crate::numbers::OrderNo;
 use crate::sets::OrderSet;
 
+/// The number of RETREAT.
+const RETREAT: u8 = 0;
+
 /// The function `choice` of the algorithm (section 4 of the paper of 1982), which depends on the set of
 /// orders alone.
 ///
@@ -36,7 +39,7 @@ impl Choice for OnlyOrRetreat {
     fn choose(&self, orders: OrderSet) -> OrderNo {
         match (orders.get(0), orders.get(1)) {
             (Some(only), None) => only,
-            _ => OrderNo::retreat(),
+            _ => OrderNo::at(RETREAT),
         }
     }
 }
@@ -55,12 +58,11 @@ impl Choice for MedianOrder {
 
     fn choose(&self, orders: OrderSet) -> OrderNo {
         if orders.is_empty() {
-            return OrderNo::retreat();
+            return OrderNo::at(RETREAT);
         }
-        match orders.get((orders.len() - 1) / 2) {
-            Some(order) => order,
-            None => OrderNo::retreat(),
-        }
+        orders
+            .get((orders.len() - 1) / 2)
+            .unwrap_or(OrderNo::at(RETREAT))
     }
 }
 

@@ -93,15 +93,6 @@ impl GeneralNo {
     }
 }
 
-impl OrderNo {
-    /// Returns order 0, RETREAT.
-    pub fn retreat() -> OrderNo
-        ensures { result ≡ 0 }
-    {
-        OrderNo::at(0)
-    }
-}
-
 impl<K> TryFrom<u8> for Number<K> {
     type Error = NumberFault;
 

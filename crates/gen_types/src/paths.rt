@@ -156,15 +156,6 @@ impl Path {
     }
 }
 
-impl Default for Path {
-    ghost is_default = { λ path. path ≡ [] };
-
-    /// Returns the empty path.
-    fn default() -> Path {
-        Path::new()
-    }
-}
-
 impl PartialEq for Path {
     ghost eq = { pointwise nat_eq };
 

@@ -83,15 +83,7 @@ impl<K> NumberSet<K> {
     pub fn contains(&self, number: Number<K>) -> bool
         ensures { IsTrue result ↔ Contains self.now number }
     {
-        self.has(number.get())
-    }
-
-    /// Returns whether the number, which must be below 16, is a member.
-    fn has(&self, number: u8) -> bool
-        requires { number < 16 }
-        ensures { IsTrue result ↔ Contains self.now number }
-    {
-        (self.bits >> number) & 1 == 1
+        (self.bits >> number.get()) & 1 == 1
     }
 
     /// Makes the number a member, and returns true if and only if it was no member before.
@@ -100,9 +92,9 @@ impl<K> NumberSet<K> {
         ensures new { IsTrue result ↔ ¬ Contains self.old number }
     {
         let number = number.get();
-        let new = !self.has(number);
+        let old = (self.bits >> number) & 1 == 1;
         self.bits |= 1 << number;
-        new
+        !old
     }
 
     /// Returns how many members the set has, at most 16.
@@ -153,15 +145,6 @@ impl<K> NumberSet<K> {
             kind: PhantomData,
         };
         Members { set, next: 0 }
-    }
-}
-
-impl<K> Default for NumberSet<K> {
-    ghost is_default = { λ set. set ≡ [] };
-
-    /// Returns the empty set.
-    fn default() -> NumberSet<K> {
-        NumberSet::new()
     }
 }
 

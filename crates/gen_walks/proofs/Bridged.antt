@@ -3,7 +3,6 @@ use Rattle.std.proofs.Common.{ℕ, zero, suc, ◌<◌, ◌≤◌, inl, inr, List
 use Rattle.std.proofs.lemmas.Bool.{cases_order}
 use Rattle.gen_net.specs.Network.{Network, AreNeighbours, IsLoyal}
 use Rattle.gen_net.specs.Walks.{IsWalk, HasDiameter}
-use Rattle.gen_walks.specs.Loops.Checking.{IsBad, IsGood}
 use Rattle.gen_walks.proofs.Greedy.{turned_edge}
 use Rattle.gen_walks.specs.Walks.{AreJoined, Leads, IsPair, IsShortWalk, IsWithinDiameter, IsRestOf, Bridges, BoundsDiameter, IsLeastBadPair}
 
@@ -43,7 +42,7 @@ within_of net rest walks bound a b p = let w = bound a b p in (w.0, w.2)
 pub bound_of : (net : Network) (rest : List ℕ) (walks : List (List ℕ)) (n : ℕ) → net.generals ≤ n → ((x y : ℕ) → x < n → IsPair net rest x y → Bridges net rest walks x y) → BoundsDiameter net rest walks
 bound_of net rest walks n le so a b p = so a b (omega (arith, p.1.0)) p
 
-pub least_bad : (net : Network) (rest : List ℕ) (walks : List (List ℕ)) (a b : ℕ) → ((x y : ℕ) → x < a → IsPair net rest x y → Bridges net rest walks x y) → IsBad net rest walks a b → ((y : ℕ) → y < b → IsGood net rest walks a y) → IsLeastBadPair net rest (Bridges net rest walks) a b
+pub least_bad : (net : Network) (rest : List ℕ) (walks : List (List ℕ)) (a b : ℕ) → ((x y : ℕ) → x < a → IsPair net rest x y → Bridges net rest walks x y) → (IsPair net rest a b × (Bridges net rest walks a b → ⊥)) → ((y : ℕ) → y < b → IsPair net rest a y → Bridges net rest walks a y) → IsLeastBadPair net rest (Bridges net rest walks) a b
 least_bad net rest walks a b rows fails row = record {
   pair = fails.0;
   bad = fails.1;

@@ -1,12 +1,10 @@
 //! Walks that bound the diameter of a set of generals.
 ghost use Rattle.std.specs.Prelude.{ℕ, List, IsTrue, ◌≡◌, ◌<◌, ◌↔◌};
-ghost use Rattle.std.specs.Prelude.{OnOk, IfOk, IfErr, IfSome, IfNone};
-ghost use Rattle.std.specs.Bool.{OnTrue, OnFalse};
+ghost use Rattle.std.specs.Prelude.{OnOk, IfOk, IfErr};
 ghost use Rattle.gen_net.specs.Walks.{HasDiameter};
-ghost use Rattle.gen_walks.specs.Walks.{AreJoined, Leads, IsWalkInside, IsShortWalk};
+ghost use Rattle.gen_walks.specs.Walks.{AreJoined, Leads, IsShortWalk};
 ghost use Rattle.gen_walks.specs.Walks.{IsPair, IsRestOf, IsWithinDiameter};
 ghost use Rattle.gen_walks.specs.Walks.{Bridges, BoundsDiameter, IsLeastBadPair};
-ghost use Rattle.gen_walks.specs.Loops.Checking.{IsBad, IsGood};
 
 use crate::fault::BadPair;
 use crate::inside::{are_joined, general, is_inside};
@@ -75,24 +73,20 @@ fn leads(
     at == to
 }
 
-/// Returns whether the generals are a walk from a to b inside the set.
-fn is_walk(net: &Net, rest: &GeneralSet, a: GeneralNo, b: GeneralNo, walk: &[GeneralNo]) -> bool
-    ensures { IsTrue result ↔ IsWalkInside net.now rest.now a b walk.now }
-{
-    match walk {
-        [] => false,
-        [first, more @ ..] => {
-            *first == a && is_inside(net, rest, a) && leads(net, rest, a, more, b)
-        }
-    }
-}
-
 /// Returns whether the list is a walk from a to b inside the set, of at most d edges.
 fn is_short_walk(net: &Net, rest: &GeneralSet, a: GeneralNo, b: GeneralNo, walk: &Walk) -> bool
     ensures { IsTrue result ↔ IsShortWalk net.now rest.now a b walk.now }
 {
     let generals = walk.generals();
-    is_walk(net, rest, a, b, generals) && generals.len() <= usize::from(net.diameter()) + 1
+    match generals {
+        [] => false,
+        [first, more @ ..] => {
+            *first == a
+                && is_inside(net, rest, a)
+                && leads(net, rest, a, more, b)
+                && generals.len() <= usize::from(net.diameter()) + 1
+        }
+    }
 }
 
 /// Returns whether one of the walks leads from a to b inside the set, by at most d edges.
@@ -110,31 +104,6 @@ pub(crate) fn is_pair(net: &Net, rest: &GeneralSet, a: GeneralNo, b: GeneralNo) 
     ensures { IsTrue result ↔ IsPair net.now rest.now a b }
 {
     a < b && is_inside(net, rest, a) && is_inside(net, rest, b)
-}
-
-/// Returns whether a and b are a pair of the set for which none of the walks leads from a to b by at most
-/// d edges.
-fn is_bad(net: &Net, rest: &GeneralSet, walks: &Walks, a: GeneralNo, b: GeneralNo) -> bool
-    ensures yes { OnTrue result (IsBad net.now rest.now walks.now a b) }
-    ensures no { OnFalse result (IsGood net.now rest.now walks.now a b) }
-{
-    is_pair(net, rest, a, b) && !is_bridged(net, rest, walks, a, b)
-}
-
-/// Returns the least general b for which (a, b) is a pair of the set without a given walk of at most d
-/// edges, or None if there is no such general.
-fn first_bad(net: &Net, rest: &GeneralSet, walks: &Walks, a: GeneralNo) -> Option<GeneralNo>
-    ensures none { IfNone result ((b : ℕ) → IsGood net.now rest.now walks.now a b) }
-    ensures some { IfSome result (IsBad net.now rest.now walks.now a) }
-    ensures least { IfSome result (λ b. (y : ℕ) → y < b → IsGood net.now rest.now walks.now a y) }
-{
-    for number in 0..net.generals() {
-        let b = general(net, number);
-        if is_bad(net, rest, walks, a, b) {
-            return Some(b);
-        }
-    }
-    None
 }
 
 /// Returns a proof if the walks bound the diameter of a set, the rest, by d. For each pair of the set one
@@ -155,8 +124,11 @@ pub fn check_walks(net: &Net, rest: &GeneralSet, walks: &Walks) -> Result<Diamet
 {
     for number in 0..net.generals() {
         let a = general(net, number);
-        if let Some(b) = first_bad(net, rest, walks, a) {
-            return Err(BadPair { a, b });
+        for other in 0..net.generals() {
+            let b = general(net, other);
+            if is_pair(net, rest, a, b) && !is_bridged(net, rest, walks, a, b) {
+                return Err(BadPair { a, b });
+            }
         }
     }
     Ok(DiameterProof {

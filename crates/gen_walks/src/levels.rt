@@ -51,46 +51,25 @@ impl LevelRow {
     }
 }
 
-/// Returns whether an edge inside the set joins a and b, and the level of b is greater than that of a by
-/// more than 1. Such an edge is called steep.
-fn is_steep(net: &Net, rest: &GeneralSet, row: &LevelRow, a: GeneralNo, b: GeneralNo) -> bool
-    ensures { IsTrue result ↔ IsSteep net.now rest.now row.now a b }
-{
-    u16::from(row.level(a)) + 1 < u16::from(row.level(b)) && are_joined(net, rest, a, b)
-}
-
-/// Returns whether no edge from a inside the set is steep.
-fn is_even_from(net: &Net, rest: &GeneralSet, row: &LevelRow, a: GeneralNo) -> bool
-    ensures yes { OnTrue result (IsEvenFrom net.now rest.now row.now a) }
-    ensures no { OnFalse result ((b : ℕ) × IsSteep net.now rest.now row.now a b) }
-{
-    for number in 0..net.generals() {
-        if is_steep(net, rest, row, a, general(net, number)) {
-            return false;
-        }
-    }
-    true
-}
-
-/// Returns whether no edge inside the set is steep.
+/// Returns whether no edge inside the set is steep. An edge is steep if it leads to a level that is greater
+/// by more than 1.
 fn is_even(net: &Net, rest: &GeneralSet, row: &LevelRow) -> bool
     ensures yes { OnTrue result (
         (a : ℕ) → a < net.now.generals → IsEvenFrom net.now rest.now row.now a) }
     ensures no { OnFalse result ((a b : ℕ) × IsSteep net.now rest.now row.now a b) }
 {
     for number in 0..net.generals() {
-        if !is_even_from(net, rest, row, general(net, number)) {
-            return false;
+        let a = general(net, number);
+        for other in 0..net.generals() {
+            let b = general(net, other);
+            if u16::from(row.level(a)) + 1 < u16::from(row.level(b))
+                && are_joined(net, rest, a, b)
+            {
+                return false;
+            }
         }
     }
     true
-}
-
-/// Returns whether the source is inside the set and has level 0, and no edge inside the set is steep.
-fn is_level_row(net: &Net, rest: &GeneralSet, source: GeneralNo, row: &LevelRow) -> bool
-    ensures { IsTrue result ↔ IsLevelRow net.now rest.now source row.now }
-{
-    is_inside(net, rest, source) && row.level(source) == 0 && is_even(net, rest, row)
 }
 
 /// Returns whether the levels are a certificate of distances from the source: the source is inside the set
@@ -102,5 +81,5 @@ pub fn check_levels(net: &Net, rest: &GeneralSet, source: GeneralNo, row: &Level
     ensures exact { IsTrue result ↔ IsLevelRow net.now rest.now source row.now }
     ensures law { IsTrue result → NoWalkIsShorter net.now rest.now source row.now }
 {
-    is_level_row(net, rest, source, row)
+    is_inside(net, rest, source) && row.level(source) == 0 && is_even(net, rest, row)
 }

@@ -1,8 +1,8 @@
 //! The best walks of all pairs of a set of generals.
-ghost use Rattle.std.specs.Prelude.{◌≡◌, ◌+◌, ◌<◌, IfOk, IfErr, OnOk};
+ghost use Rattle.std.specs.Prelude.{IfOk, IfErr};
 ghost use Rattle.gen_net.specs.Network.{IsNetwork};
-ghost use Rattle.gen_walks.specs.Walks.{IsPair, IsPairBefore, BoundsDiameter};
-ghost use Rattle.gen_walks.specs.BestWalks.{IsBestFor, AreBestFor, AreBestWalks};
+ghost use Rattle.gen_walks.specs.Walks.{IsPair, BoundsDiameter};
+ghost use Rattle.gen_walks.specs.BestWalks.{IsBestFor, AreBestWalks};
 ghost use Rattle.gen_walks.specs.Loops.Search.{AreLevelRows};
 ghost use Rattle.gen_walks.specs.Faults.{Explains, IsWalkFault};
 
@@ -48,33 +48,6 @@ fn walk_for(
     Ok(best_walk(alloc, net, rest, &back, a, b)?)
 }
 
-/// Appends the best walks from a to all greater generals of the set. The list must have the best walks of
-/// all pairs before. The fault is that of the least pair of the set without a walk of at most d edges, or
-/// Memory.
-fn push_walks(
-    walks: &mut Walks,
-    alloc: Global,
-    net: &Net,
-    rest: &GeneralSet,
-    rows: &[LevelRow],
-    a: GeneralNo,
-) -> Result<(), WalkFault>
-    requires rows { AreLevelRows net.now rest.now net.now.generals rows.now }
-    requires best { AreBestFor net.now rest.now (IsPairBefore net.now rest.now a 0) walks.old }
-    ensures best { let before_next = IsPairBefore net.now rest.now (a + 1) 0 in
-        OnOk result (AreBestFor net.now rest.now before_next walks.new) }
-    ensures err { IfErr result (IsWalkFault net.now rest.now) }
-{
-    for number in 0..net.generals() {
-        let b = general(net, number);
-        if is_pair(net, rest, a, b) {
-            let walk = walk_for(alloc, net, rest, rows, a, b)?;
-            walks.push(walk)?;
-        }
-    }
-    Ok(())
-}
-
 /// Returns the best walk of each pair a < b of a set of generals, the rest, in the order of the pairs. The
 /// best walk is the lexicographically least among the pair's shortest walks inside the set. So the walks
 /// bound the set's diameter by d. Members of the set that are not generals of the network count as absent.
@@ -92,7 +65,14 @@ pub fn make_walks(alloc: Global, net: &Net, rest: &GeneralSet) -> Result<Walks, 
     let rows = level_rows(alloc, net, rest)?;
     let mut walks = Walks::new(alloc);
     for number in 0..net.generals() {
-        push_walks(&mut walks, alloc, net, rest, &rows, general(net, number))?;
+        let a = general(net, number);
+        for other in 0..net.generals() {
+            let b = general(net, other);
+            if is_pair(net, rest, a, b) {
+                let walk = walk_for(alloc, net, rest, &rows, a, b)?;
+                walks.push(walk)?;
+            }
+        }
     }
     Ok(walks)
 }

@@ -30,22 +30,9 @@ fn is_near_level(net: &Net, rest: &GeneralSet, row: &LevelRow, k: u8, v: General
     false
 }
 
-/// Returns the level of v after the round that reaches level k + 1. It is k + 1 if v had none and an edge
-/// inside the set joins v to a general of level k; else it is the level that v had.
-fn next_level(net: &Net, rest: &GeneralSet, row: &LevelRow, k: u8, v: GeneralNo) -> u8
-    requires { k < 254 }
-    ensures { IsNextLevel (AreJoined net.now rest.now) (level row.now) k v result }
-{
-    let old = row.level(v);
-    if old == UNREACHED && is_near_level(net, rest, row, k, v) {
-        k + 1
-    } else {
-        old
-    }
-}
-
-/// Makes one round of the search, which turns the levels in `row` into those in `next`. Returns whether
-/// the round reached a general that had no level.
+/// Makes one round of the search, which turns the levels in `row` into those in `next`: level k + 1 goes to
+/// each general that had none and that an edge inside the set joins to a general of level k. Returns whether
+/// there was such a general.
 fn spread(net: &Net, rest: &GeneralSet, row: &LevelRow, k: u8, next: &mut [u8; GENERALS]) -> bool
     requires k { k < 254 }
     requires same { next.old ≡ row.now }
@@ -58,9 +45,8 @@ fn spread(net: &Net, rest: &GeneralSet, row: &LevelRow, k: u8, next: &mut [u8; G
     let mut changed = false;
     for number in 0..MOST_GENERALS {
         let v = GeneralNo::at(number);
-        let found = next_level(net, rest, row, k, v);
-        if found != row.level(v) {
-            next[number as usize] = found;
+        if row.level(v) == UNREACHED && is_near_level(net, rest, row, k, v) {
+            next[number as usize] = k + 1;
             changed = true;
         }
     }

@@ -34,7 +34,7 @@ mod plain;
 mod progress;
 mod rounds;
 mod scheduling;
-mod words;
+pub mod words;
 
 use blocks::blocks;
 pub use chains::{Chain, last_links};

@@ -1,6 +1,6 @@
 //! The 64 rounds over one block of each message (FIPS 180-4, section 6.2.2).
-ghost use Rattle.std.specs.Prelude.{◌≡◌, ℕ, ◌<◌, ◌≤◌, ◌+◌, List, slice_index, take};
-ghost use Rattle.sha2.specs.Sha256.{compress, initial_hash_256, round, round_constants, rounds};
+ghost use Rattle.std.specs.Prelude.{◌≡◌, ℕ, ◌<◌, ◌+◌, List, slice_index, take};
+ghost use Rattle.sha2.specs.Sha256.{compress, initial_hash_256, round_constants, rounds};
 ghost use Rattle.sha_lanes.specs.Lanes.{HasWords, lane, state};
 
 use crate::scheduling::Schedules;
@@ -82,45 +82,19 @@ pub fn constant_at(t: usize) -> Words
     Words::from_array(ROUND_CONSTANTS.rows[t])
 }
 
-// Returns the working variables of each lane after one round (FIPS 180-4, section 6.2.2, step 3).
-#[inline(always)]
-fn round(v: [Words; 8], constant: Words, word: Words) -> [Words; 8]
-    ensures { (j : ℕ) → j < LANES → state j result
-        ≡ round (state j v) (slice_index constant j) (slice_index word j) }
-{
-    let [a, b, c, d, e, f, g, h] = v;
-    let mixed = add(add(h, big_sigma1(e)), ch(e, f, g));
-    let temp1 = add(add(mixed, constant), word);
-    let temp2 = add(big_sigma0(a), maj(a, b, c));
-    [add(temp1, temp2), a, b, c, add(d, temp1), e, f, g]
-}
-
-// Returns the working variables after round `t`, with its constant and its word.
+// Returns the working variables of each lane after round `t`, with its constant and its word (FIPS 180-4,
+// section 6.2.2, step 3).
 #[inline(always)]
 fn round_at(schedules: &Schedules, v: [Words; 8], t: usize) -> [Words; 8]
     requires { t < ROUNDS }
     ensures { (j : ℕ) → j < LANES → (h : List ℕ) → state j v ≡ rounds h (lane j schedules.now) t
         → state j result ≡ rounds h (lane j schedules.now) (t + 1) }
 {
-    round(v, constant_at(t), schedules.word(t))
-}
-
-// Returns the working variables after the eight rounds from `t` on, after which each variable is in its
-// place again.
-#[inline(always)]
-fn eight_rounds(schedules: &Schedules, v: [Words; 8], t: usize) -> [Words; 8]
-    requires { t + 8 ≤ ROUNDS }
-    ensures { (j : ℕ) → j < LANES → (h : List ℕ) → state j v ≡ rounds h (lane j schedules.now) t
-        → state j result ≡ rounds h (lane j schedules.now) (t + 8) }
-{
-    let v = round_at(schedules, v, t);
-    let v = round_at(schedules, v, t + 1);
-    let v = round_at(schedules, v, t + 2);
-    let v = round_at(schedules, v, t + 3);
-    let v = round_at(schedules, v, t + 4);
-    let v = round_at(schedules, v, t + 5);
-    let v = round_at(schedules, v, t + 6);
-    round_at(schedules, v, t + 7)
+    let [a, b, c, d, e, f, g, h] = v;
+    let mixed = add(add(h, big_sigma1(e)), ch(e, f, g));
+    let temp1 = add(add(mixed, constant_at(t)), schedules.word(t));
+    let temp2 = add(big_sigma0(a), maj(a, b, c));
+    [add(temp1, temp2), a, b, c, add(d, temp1), e, f, g]
 }
 
 /// Returns the hash values after one block more of each message. The schedules must have been begun with
@@ -134,8 +108,16 @@ pub fn compress(start: [Words; 8], schedules: &mut Schedules) -> [Words; 8]
 {
     schedules.extend();
     let mut v = start;
+    // After eight rounds each variable is in its place again.
     'rounds: for turn in 0..ROUNDS / 8 {
-        v = eight_rounds(schedules, v, 8 * turn);
+        v = round_at(schedules, v, 8 * turn);
+        v = round_at(schedules, v, 8 * turn + 1);
+        v = round_at(schedules, v, 8 * turn + 2);
+        v = round_at(schedules, v, 8 * turn + 3);
+        v = round_at(schedules, v, 8 * turn + 4);
+        v = round_at(schedules, v, 8 * turn + 5);
+        v = round_at(schedules, v, 8 * turn + 6);
+        v = round_at(schedules, v, 8 * turn + 7);
     }
     [
         add(start[0], v[0]),

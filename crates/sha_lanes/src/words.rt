@@ -36,7 +36,7 @@ fn and(x: Words, y: Words) -> Words
 
 /// Returns for each lane the bits that at least one of its two words has.
 #[inline(always)]
-pub fn or(x: Words, y: Words) -> Words
+pub(crate) fn or(x: Words, y: Words) -> Words
     ensures { (j : ℕ) → j < LANES → slice_index result j ≡ bit_or (slice_index x j) (slice_index y j) }
 {
     x | y
@@ -76,7 +76,7 @@ fn rotate_right(x: Words, count: u32) -> Words
 /// Returns Ch: at each place the bit of `y` if that of `x` is 1, and the bit of `z` if it is 0. This form
 /// takes one operation less than the standard's.
 #[inline(always)]
-pub fn ch(x: Words, y: Words, z: Words) -> Words
+pub(crate) fn ch(x: Words, y: Words, z: Words) -> Words
     ensures { (j : ℕ) → j < LANES
         → slice_index result j ≡ ch (slice_index x j) (slice_index y j) (slice_index z j) }
 {
@@ -86,7 +86,7 @@ pub fn ch(x: Words, y: Words, z: Words) -> Words
 /// Returns Maj: the bits that at least two of the three words have. What is `x ^ y` in one round is
 /// `y ^ z` in the next, so it is computed once.
 #[inline(always)]
-pub fn maj(x: Words, y: Words, z: Words) -> Words
+pub(crate) fn maj(x: Words, y: Words, z: Words) -> Words
     ensures { (j : ℕ) → j < LANES
         → slice_index result j ≡ maj (slice_index x j) (slice_index y j) (slice_index z j) }
 {
@@ -95,7 +95,7 @@ pub fn maj(x: Words, y: Words, z: Words) -> Words
 
 /// Returns the upper case Σ 0.
 #[inline(always)]
-pub fn big_sigma0(x: Words) -> Words
+pub(crate) fn big_sigma0(x: Words) -> Words
     ensures { (j : ℕ) → j < LANES → slice_index result j ≡ big_sigma0 (slice_index x j) }
 {
     xor(
@@ -106,7 +106,7 @@ pub fn big_sigma0(x: Words) -> Words
 
 /// Returns the upper case Σ 1.
 #[inline(always)]
-pub fn big_sigma1(x: Words) -> Words
+pub(crate) fn big_sigma1(x: Words) -> Words
     ensures { (j : ℕ) → j < LANES → slice_index result j ≡ big_sigma1 (slice_index x j) }
 {
     xor(
@@ -117,7 +117,7 @@ pub fn big_sigma1(x: Words) -> Words
 
 /// Returns the lower case σ 0.
 #[inline(always)]
-pub fn small_sigma0(x: Words) -> Words
+pub(crate) fn small_sigma0(x: Words) -> Words
     ensures { (j : ℕ) → j < LANES → slice_index result j ≡ small_sigma0 (slice_index x j) }
 {
     xor(
@@ -128,7 +128,7 @@ pub fn small_sigma0(x: Words) -> Words
 
 /// Returns the lower case σ 1.
 #[inline(always)]
-pub fn small_sigma1(x: Words) -> Words
+pub(crate) fn small_sigma1(x: Words) -> Words
     ensures { (j : ℕ) → j < LANES → slice_index result j ≡ small_sigma1 (slice_index x j) }
 {
     xor(

@@ -7,10 +7,10 @@ returns c j below =
     let at = λ (x : ℕ). lane_of_splat x j below in
     let key = c.args.key.now in
     let word = λ (k : ℕ). at (slice_index key k) in
-    let counter_low = c.low_words.ensures j below in
-    let counter_high = c.high_words.ensures j below in
-    let stream_low = at c.low.result ∙ c.low.ensures in
-    let stream_high = at c.high.result ∙ c.high.ensures in
+    let counter_low = c.counter_words.ensures.low j below in
+    let counter_high = c.counter_words.ensures.high j below in
+    let stream_low = at c.halves-stream_low.result.0 ∙ c.halves-stream_low.ensures.low in
+    let stream_high = at c.halves-stream_low.result.1 ∙ c.halves-stream_low.ensures.high in
     λ i. at 0x61707865 i ∷ at 0x3320646e i ∷ at 0x79622d32 i ∷ at 0x6b206574 i
     ∷ word 0 i ∷ word 1 i ∷ word 2 i ∷ word 3 i ∷ word 4 i ∷ word 5 i ∷ word 6 i ∷ word 7 i
     ∷ counter_low i ∷ counter_high i ∷ stream_low i ∷ stream_high i ∷ []

@@ -14,7 +14,7 @@ pub bits-preserved : goal.bits-preserved
 bits-preserved c j below =
     let k : KeyName = record { seed = c.args.seed.now; height = c.args.height; leaf = c.args.first + j } in
     let n = c.bits.bit in
-    let same : IsOf k c.stream_key_of-key.result c.stream_of-stream.result k.leaf = (c.stream_key_of-key.ensures, c.stream_of-stream.ensures, refl) in
+    let same : IsOf k c.stream_of-stream.result.0 c.stream_of-stream.result.1 k.leaf = (c.stream_of-stream.ensures.key, c.stream_of-stream.ensures.number, refl) in
     let has = c.blocks_of_leaves-blocks.ensures j below in
     let low : lane_bytes j c.images_in_lanes-low.result ≡ image (secret_of k n 0)
     = c.images_in_lanes-low.ensures j below ∙ ap image (c.low_secrets.ensures j below _ _ _ has

@@ -15,7 +15,7 @@ turns-preserved c =
     let k = c.args.self.name in
     let digest = c.args.digest.now in
     let n = LANES * c.turns.turn in
-    let same : IsOf k c.stream_key_of-key.result c.stream_of-stream.result c.this.inside.leaf = search rules in
+    let same : IsOf k c.stream_of-stream.result.0 c.stream_of-stream.result.1 c.this.inside.leaf = search rules in
     let low = λ (j : ℕ) (below : j < LANES).
     c.low_secrets-low.ensures j below _ _ _ (c.blocks_of_bits-blocks.ensures j below) ∙ low-of k (n + j) _ _ _ same in
     let high = λ (j : ℕ) (below : j < LANES).

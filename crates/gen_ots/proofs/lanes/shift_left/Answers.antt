@@ -1,6 +1,0 @@
-use Rattle.std.proofs.Common.{◌*◌, ◌%◌, ◌^◌}
-use Rattle.sha_lanes.proofs.LaneFacts.{lane_with_splat}
-use Rattle.gen_ots.proofs.lanes.shift_left.Goals as goal
-
-pub returns : goal.returns
-returns c j below = lane_with_splat (λ y n. y * 2 ^ n % 2 ^ 32) c.args.x c.args.count j c.fits-x.0 below

@@ -1,6 +1,0 @@
-use Rattle.gen_walks.specs.Walks.{IsPairBefore}
-use Rattle.gen_walks.specs.BestWalks.{AreBestFor}
-use Rattle.gen_walks.proofs.make.push_walks.Given as goal
-
-abbrev pub invariant-loop-number : goal.invariant-loop-number
-invariant-loop-number l = AreBestFor l.net l.rest (IsPairBefore l.net l.rest l.a l.number) l.walks
