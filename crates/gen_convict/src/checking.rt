@@ -1,12 +1,9 @@
 //! Checks evidence.
 ghost use Rattle.std.specs.Prelude.{IsTrue, ◌≡◌, ◌<◌, ◌↔◌, IfOk, IfSome, None, List, ℕ};
-ghost use Rattle.gen_net.specs.Departs.{DepartsAt};
 ghost use Rattle.gen_net.specs.Header.{IsHeader};
 ghost use Rattle.gen_log.specs.Links.{HeadVerifies};
-ghost use Rattle.gen_log.specs.Log.{RunLog, IsLog, BeginsWithStartOf};
-ghost use Rattle.gen_log.specs.Signing.{HasSign};
+ghost use Rattle.gen_log.specs.Log.{RunLog};
 ghost use Rattle.gen_log.specs.Verifying.{SaysItIsOf};
-ghost use Rattle.gen_local.specs.Erased.{erased};
 ghost use Rattle.gen_local.specs.SignedTexts.{stated};
 ghost use Rattle.gen_convict.specs.Accused as accused_texts;
 ghost use Rattle.gen_convict.specs.Contradictions.{AreTwoTexts, AreTwoOrders, IsSealedLogOf, IsMissingFrom, IsDepartingAt, IsContradiction};
@@ -23,49 +20,6 @@ use gen_tree::{Signature, verify};
 use gen_types::{GeneralNo, OrderNo, Path, ReadError};
 use std::alloc::{AllocError, Global};
 
-/// Whether a text is the general's: a statement whose path ends with the general, or a head that names it.
-fn is_text_of(general: GeneralNo, text: &Text) -> bool
-    ensures { IsTrue result ↔ accused_texts.IsTextOf general text.now }
-{
-    match text {
-        Text::OfStatement(statement) => statement.path.ends_with(general),
-        Text::OfHead(head) => head.general == general,
-    }
-}
-
-/// Whether a signature of a text verifies under the general's root and the text's leaf.
-fn has_signed_text(header: &Header, general: GeneralNo, text: &Text, signature: &Signature) -> bool
-    requires { general < header.now.network.generals }
-    ensures { IsTrue result
-        ↔ accused_texts.HasSignedText header.now general text.now signature.now }
-{
-    match text {
-        Text::OfStatement(statement) => has_signed(header, general, statement, signature),
-        Text::OfHead(head) => {
-            let digest = head_digest(header, head);
-            let leaf = leaf_of_head(header);
-            verify(
-                header.root(general),
-                header.height(),
-                leaf,
-                &digest,
-                signature,
-            )
-        }
-    }
-}
-
-/// Returns whether a signed text verifies as the general's: it names the general as its signer, it is the general's
-/// text, and its signature verifies.
-pub fn text_verifies(header: &Header, general: GeneralNo, text: &SignedText) -> bool
-    requires { general < header.now.network.generals }
-    ensures { IsTrue result ↔ accused_texts.TextVerifies header.now general text.now }
-{
-    text.signer == general
-        && is_text_of(general, &text.text)
-        && has_signed_text(header, general, &text.text, &text.signature)
-}
-
 /// Whether a statement verifies as the general's: its path ends with the general, and the signature verifies.
 fn statement_verifies(
     header: &Header,
@@ -77,6 +31,38 @@ fn statement_verifies(
         (stated statement.now.order statement.now.path general signature.now) }
 {
     statement.path.ends_with(general) && has_signed(header, general, statement, signature)
+}
+
+/// Whether a text is the general's and its signature verifies: a statement whose path ends with the general, or a head
+/// that names it.
+fn is_signed_text_of(
+    header: &Header,
+    general: GeneralNo,
+    text: &Text,
+    signature: &Signature,
+) -> bool
+    requires { general < header.now.network.generals }
+    ensures { IsTrue result ↔ (accused_texts.IsTextOf general text.now
+        × accused_texts.HasSignedText header.now general text.now signature.now) }
+{
+    match text {
+        Text::OfStatement(statement) => statement_verifies(header, general, statement, signature),
+        Text::OfHead(head) => {
+            let digest = head_digest(header, head);
+            let leaf = leaf_of_head(header);
+            let root = header.root(general);
+            head.general == general && verify(root, header.height(), leaf, &digest, signature)
+        }
+    }
+}
+
+/// Returns whether a signed text verifies as the general's: it names the general as its signer, it is the general's
+/// text, and its signature verifies.
+pub fn text_verifies(header: &Header, general: GeneralNo, text: &SignedText) -> bool
+    requires { general < header.now.network.generals }
+    ensures { IsTrue result ↔ accused_texts.TextVerifies header.now general text.now }
+{
+    text.signer == general && is_signed_text_of(header, general, &text.text, &text.signature)
 }
 
 /// Whether the commander's signature verifies on the statement of this order and the path of the commander alone.
@@ -185,24 +171,6 @@ fn sealed_log(
     }
 }
 
-/// Whether a statement verifies as the general's, and the log has no SIGN of it.
-fn lacks(
-    header: &Header,
-    general: GeneralNo,
-    log: &Log,
-    statement: &Statement,
-    signature: &Signature,
-) -> bool
-    ensures { IsTrue result ↔ (accused_texts.TextVerifies header.now general
-        (stated statement.now.order statement.now.path general signature.now)
-        × (HasSign log.now statement.now → ⊥)) }
-{
-    if has_sign(log, statement) {
-        return false;
-    }
-    statement_verifies(header, general, statement, signature)
-}
-
 /// Whether a statement that verifies as the general's is missing from a log that the general sealed.
 fn is_missing_from(
     alloc: Global,
@@ -218,19 +186,12 @@ fn is_missing_from(
 {
     match sealed_log(alloc, header, general, bytes)? {
         None => Ok(false),
-        Some(log) => Ok(lacks(header, general, &log, statement, signature)),
-    }
-}
-
-/// Whether the log of the general departs at this entry.
-fn departs_there(header: &Header, general: GeneralNo, log: &Log, entry: u32) -> bool
-    requires log { IsLog header.now log.now }
-    requires starts { BeginsWithStartOf general log.now.entries }
-    ensures { IsTrue result ↔ DepartsAt header.now.network general (erased log.now.entries) entry }
-{
-    match departs(header, log) {
-        Some(index) => index == entry as usize,
-        None => false,
+        Some(log) => {
+            if has_sign(&log, statement) {
+                return Ok(false);
+            }
+            Ok(statement_verifies(header, general, statement, signature))
+        }
     }
 }
 
@@ -248,22 +209,31 @@ fn is_departing_at(
 {
     match sealed_log(alloc, header, general, bytes)? {
         None => Ok(false),
-        Some(log) => Ok(departs_there(header, general, &log, entry)),
+        Some(log) => match departs(header, &log) {
+            Some(index) => Ok(index == entry as usize),
+            None => Ok(false),
+        },
     }
 }
 
-/// Whether a claim holds against a general.
-fn check_claim(
+/// Returns whether evidence holds against the accused, a general of the network. Either its two texts verify as the
+/// accused's and contradict each other, or its log is sealed by the accused and lacks the statement or departs at the
+/// entry. A log that doesn't read is no error: then the evidence doesn't hold.
+///
+/// # Errors
+///
+/// `AllocError` where memory is refused.
+pub fn check_evidence(
     alloc: Global,
     header: &Header,
-    accused: GeneralNo,
-    claim: &Claim,
+    evidence: &Evidence,
 ) -> Result<bool, AllocError>
-    requires { accused < header.now.network.generals }
+    requires { evidence.now.accused < header.now.network.generals }
     ensures { IfOk result (λ holds. IsTrue holds
-        ↔ IsContradiction header.now accused (told claim.now)) }
+        ↔ IsContradiction header.now evidence.now.accused (told evidence.now.claim)) }
 {
-    match claim {
+    let accused = evidence.accused;
+    match &evidence.claim {
         Claim::Texts { first, second } => Ok(are_two_texts(header, accused, first, second)),
         Claim::Orders {
             first,
@@ -288,23 +258,4 @@ fn check_claim(
         }
         Claim::Across { first, second } => Ok(is_across_from(header, accused, first, second)),
     }
-}
-
-/// Returns whether evidence holds against the accused, a general of the network. Either its two texts verify as the
-/// accused's and contradict each other, or its log is sealed by the accused and lacks the statement or departs at the
-/// entry. A log that doesn't read is no error: then the evidence doesn't hold.
-///
-/// # Errors
-///
-/// `AllocError` where memory is refused.
-pub fn check_evidence(
-    alloc: Global,
-    header: &Header,
-    evidence: &Evidence,
-) -> Result<bool, AllocError>
-    requires { evidence.now.accused < header.now.network.generals }
-    ensures { IfOk result (λ holds. IsTrue holds
-        ↔ IsContradiction header.now evidence.now.accused (told evidence.now.claim)) }
-{
-    check_claim(alloc, header, evidence.accused, &evidence.claim)
 }

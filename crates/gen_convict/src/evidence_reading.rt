@@ -1,5 +1,5 @@
 //! Reads evidence.
-ghost use Rattle.std.specs.Prelude.{◌≡◌, ◌≤◌, ◌<◌, IfOk, Ok};
+ghost use Rattle.std.specs.Prelude.{◌≡◌, ◌<◌, IfOk, Ok};
 ghost use Rattle.gen_types.specs.Reading.{Gives, map_fault};
 ghost use Rattle.gen_types.specs.Spelled.{IsField, Spells};
 ghost use Rattle.gen_net.specs.FrontReading.{front_at};
@@ -37,20 +37,8 @@ fn read_front_field(
     }
 }
 
-/// Reads the number of the accused, which is below the network's number of generals `n`.
-#[tactic(auto, unfolding(crate::specs::EvidenceReading::accused_at))]
-fn read_accused(n: u8, bytes: &[u8]) -> Result<(u8, &[u8]), ReadError<EvidenceFault>>
-    requires { n ≤ 16 }
-    ensures exact { IsField result (reading.accused_at n bytes.now) }
-    ensures known { IfOk result (λ x. x.0 < 16) }
-{
-    let (accused, rest) = u8_at(bytes, EvidenceFault::Truncated)?;
-    check(accused < n, EvidenceFault::OutOfRange)?;
-    Ok((accused, rest))
-}
-
-/// Reads the number of the accused and the claim against it.
-#[tactic(auto, unfolding(crate::specs::EvidenceReading::accusation_at))]
+/// Reads the number of the accused, which is below the network's number of generals, and the claim against it.
+#[tactic(auto, unfolding(crate::specs::EvidenceReading::accusation_at, crate::specs::EvidenceReading::accused_at))]
 fn read_accusation<'a>(
     alloc: Global,
     header: &Header,
@@ -59,28 +47,15 @@ fn read_accusation<'a>(
     ensures { Gives (λ x. (told_of x.0, x.1.now)) result
         (reading.accusation_at header.now bytes.now) }
 {
-    let (accused, rest) = read_accused(header.net().generals(), bytes)?;
+    let (accused, rest) = u8_at(bytes, EvidenceFault::Truncated)?;
+    check(accused < header.net().generals(), EvidenceFault::OutOfRange)?;
     let accused = GeneralNo::at(accused);
     let (claim, rest) = read_claim(alloc, rest, header, accused)?;
     Ok((Evidence { accused, claim }, rest))
 }
 
-/// Reads the header and the evidence at the beginning of the bytes, and returns the bytes after them too.
-#[tactic(auto, unfolding(crate::specs::EvidenceReading::evidence_at))]
-fn evidence_in_front(
-    alloc: Global,
-    bytes: &[u8],
-) -> Result<(Header, Evidence, &[u8]), ReadError<EvidenceFault>>
-    ensures { Gives (λ x. (record { header = x.0; evidence = told_of x.1 }, x.2.now)) result
-        (evidence_at bytes.now) }
-{
-    let (header, rest) = read_front_field(alloc, bytes)?;
-    let (evidence, rest) = read_accusation(alloc, &header, rest)?;
-    Ok((header, evidence, rest))
-}
-
 /// Reads the header and the evidence that all the bytes are.
-#[tactic(auto, unfolding(crate::specs::EvidenceReading::whole_evidence))]
+#[tactic(auto, unfolding(crate::specs::EvidenceReading::whole_evidence, crate::specs::EvidenceReading::evidence_at))]
 fn evidence_alone(
     alloc: Global,
     bytes: &[u8],
@@ -88,7 +63,8 @@ fn evidence_alone(
     ensures { Gives (λ x. record { header = x.0; evidence = told_of x.1 }) result
         (whole_evidence bytes.now) }
 {
-    let (header, evidence, rest) = evidence_in_front(alloc, bytes)?;
+    let (header, rest) = read_front_field(alloc, bytes)?;
+    let (evidence, rest) = read_accusation(alloc, &header, rest)?;
     check(rest.is_empty(), EvidenceFault::LeftOver)?;
     Ok((header, evidence))
 }

@@ -1,5 +1,5 @@
 //! Gathers the texts of one general in all reports, and of these the first of each subject.
-ghost use Rattle.std.specs.Prelude.{◌≡◌, [], ◌∷◌, ◌++◌, IfOk, OnOk, map, filter};
+ghost use Rattle.std.specs.Prelude.{◌≡◌, [], ◌++◌, IfOk, OnOk, map, filter};
 ghost use Rattle.std.specs.List.{list_any};
 ghost use Rattle.gen_convict.specs.Exhibits.{is_by};
 ghost use Rattle.gen_convict.specs.Finding as finds;
@@ -8,31 +8,6 @@ use crate::text_likeness::is_like;
 use gen_local::{LocalReport, Reading, SignedText};
 use gen_types::GeneralNo;
 use std::alloc::{AllocError, Global};
-
-/// Returns the texts that verify in a report's reading; none if the exhibit is no log of its general and this run.
-fn read_texts(reading: &Reading) -> &[SignedText]
-    ensures { result.now ≡ finds.read_texts reading.now }
-{
-    match reading {
-        Reading::Own(found) => found.texts(),
-        _ => &[],
-    }
-}
-
-/// Appends a text if its signer is the general.
-fn gather_one<'a>(
-    general: GeneralNo,
-    text: &'a SignedText,
-    gathered: &mut Vec<&'a SignedText>,
-) -> Result<(), AllocError>
-    ensures { OnOk result (map (λ t. t.now) gathered.new.items
-        ≡ map (λ t. t.now) gathered.old.items ++ filter (is_by general) (text.now ∷ [])) }
-{
-    if text.signer == general {
-        gathered.push(text)?;
-    }
-    Ok(())
-}
 
 /// Appends the texts whose signer is the general.
 fn gather<'a>(
@@ -44,7 +19,9 @@ fn gather<'a>(
         ≡ map (λ t. t.now) gathered.old.items ++ filter (is_by general) texts.now) }
 {
     for text in texts {
-        gather_one(general, text, gathered)?;
+        if text.signer == general {
+            gathered.push(text)?;
+        }
     }
     Ok(())
 }
@@ -60,7 +37,9 @@ pub fn texts_by<'a>(
 {
     let mut texts = Vec::new(alloc);
     for report in reports {
-        gather(general, read_texts(report.reading()), &mut texts)?;
+        if let Reading::Own(found) = report.reading() {
+            gather(general, found.texts(), &mut texts)?;
+        }
     }
     Ok(texts)
 }
