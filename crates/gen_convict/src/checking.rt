@@ -12,6 +12,7 @@ ghost use Rattle.gen_convict.specs.Told.{told};
 use crate::across_checking::is_across_from;
 use crate::claims::Claim;
 use crate::evidence::Evidence;
+use crate::text_likeness::is_unlike;
 use gen_chain::{Statement, has_signed, head_digest, leaf_of_head};
 use gen_local::{SignedText, Text, departs, says_it_is_of};
 use gen_log::{Log, has_sign, head_verifies, read_log};
@@ -75,18 +76,8 @@ fn command_verifies(header: &Header, order: OrderNo, signature: &Signature) -> b
     statement_verifies(header, GeneralNo::at(0), &statement, signature)
 }
 
-/// Whether two texts are two statements of one order, or two heads, and differ.
-fn are_unlike(first: &Text, second: &Text) -> bool
-    ensures { IsTrue result ↔ accused_texts.AreUnlike first.now second.now }
-{
-    match (first, second) {
-        (Text::OfStatement(s), Text::OfStatement(t)) => s.order == t.order && *s != *t,
-        (Text::OfHead(s), Text::OfHead(t)) => *s != *t,
-        _ => false,
-    }
-}
-
 /// Whether both texts verify as the general's and contradict each other.
+#[tactic(auto, using(crate::proofs::FoundTexts::unlike_gives, crate::proofs::FoundTexts::unlike_told))]
 fn are_two_texts(
     header: &Header,
     general: GeneralNo,
@@ -98,24 +89,7 @@ fn are_two_texts(
 {
     text_verifies(header, general, first)
         && text_verifies(header, general, second)
-        && are_unlike(&first.text, &second.text)
-}
-
-/// Whether the commander's signature verifies on both orders, each with the path of the commander alone.
-fn commands_verify(
-    header: &Header,
-    first: OrderNo,
-    first_signature: &Signature,
-    second: OrderNo,
-    second_signature: &Signature,
-) -> bool
-    ensures { IsTrue result
-        ↔ (accused_texts.TextVerifies header.now 0 (accused_texts.command first first_signature.now)
-        × accused_texts.TextVerifies header.now 0
-        (accused_texts.command second second_signature.now)) }
-{
-    command_verifies(header, first, first_signature)
-        && command_verifies(header, second, second_signature)
+        && is_unlike(&first.text, &second.text)
 }
 
 /// Whether the general is the commander, both orders verify as the commander's, and they differ.
@@ -130,8 +104,11 @@ fn are_two_orders(
     ensures { IsTrue result
         ↔ AreTwoOrders header.now general first first_signature.now second second_signature.now }
 {
-    let verify = commands_verify(header, first, first_signature, second, second_signature);
-    general.get() == 0 && first != second && verify
+    if general.get() != 0 || first == second {
+        return false;
+    }
+    command_verifies(header, first, first_signature)
+        && command_verifies(header, second, second_signature)
 }
 
 /// Whether a log says that it is the general's of this run, and its head verifies.

@@ -1,13 +1,11 @@
 //! Reads evidence.
 ghost use Rattle.std.specs.Prelude.{◌≡◌, ◌<◌, IfOk, Ok};
-ghost use Rattle.gen_types.specs.Reading.{Gives, map_fault};
-ghost use Rattle.gen_types.specs.Spelled.{IsField, Spells};
-ghost use Rattle.gen_net.specs.FrontReading.{front_at};
+ghost use Rattle.gen_types.specs.Reading.{Gives};
+ghost use Rattle.gen_types.specs.Spelled.{Spells};
 ghost use Rattle.gen_convict.specs.Evidence.{told_of};
-ghost use Rattle.gen_convict.specs.EvidenceFields.{front_fault};
 ghost use Rattle.gen_convict.specs.EvidenceReading as reading;
-ghost use Rattle.gen_convict.specs.EvidenceReading.{IsWhole, evidence_at, whole_evidence};
-ghost use Rattle.gen_convict.specs.EvidenceSpelling.{HeaderAndEvidence, evidence_marks, whole_spelling};
+ghost use Rattle.gen_convict.specs.EvidenceReading.{IsWhole, whole_evidence};
+ghost use Rattle.gen_convict.specs.EvidenceSpelling.{HeaderAndEvidence, whole_spelling};
 
 use crate::claim_reading::read_claim;
 use crate::evidence::Evidence;
@@ -22,20 +20,6 @@ pub const EVIDENCE_MARKS: Marks = Marks {
     one: 0x534d_4531,
     two: 0x534d_4532,
 };
-
-/// Reads the mark and the header.
-fn read_front_field(
-    alloc: Global,
-    bytes: &[u8],
-) -> Result<(Header, &[u8]), ReadError<EvidenceFault>>
-    ensures { IsField result (map_fault front_fault (front_at evidence_marks bytes.now)) }
-{
-    match read_front(alloc, EVIDENCE_MARKS, bytes) {
-        Ok(header) => Ok(header),
-        Err(ReadError::Memory) => Err(ReadError::Memory),
-        Err(ReadError::Fault(fault)) => Err(ReadError::Fault(front_fault(fault))),
-    }
-}
 
 /// Reads the number of the accused, which is below the network's number of generals, and the claim against it.
 #[tactic(auto, unfolding(crate::specs::EvidenceReading::accusation_at, crate::specs::EvidenceReading::accused_at))]
@@ -63,7 +47,11 @@ fn evidence_alone(
     ensures { Gives (λ x. record { header = x.0; evidence = told_of x.1 }) result
         (whole_evidence bytes.now) }
 {
-    let (header, rest) = read_front_field(alloc, bytes)?;
+    let (header, rest) = match read_front(alloc, EVIDENCE_MARKS, bytes) {
+        Ok(header) => header,
+        Err(ReadError::Memory) => return Err(ReadError::Memory),
+        Err(ReadError::Fault(fault)) => return Err(ReadError::Fault(front_fault(fault))),
+    };
     let (evidence, rest) = read_accusation(alloc, &header, rest)?;
     check(rest.is_empty(), EvidenceFault::LeftOver)?;
     Ok((header, evidence))

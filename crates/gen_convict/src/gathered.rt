@@ -1,6 +1,5 @@
 //! Gathers the texts of one general in all reports, and of these the first of each subject.
 ghost use Rattle.std.specs.Prelude.{◌≡◌, [], ◌++◌, IfOk, OnOk, map, filter};
-ghost use Rattle.std.specs.List.{list_any};
 ghost use Rattle.gen_convict.specs.Exhibits.{is_by};
 ghost use Rattle.gen_convict.specs.Finding as finds;
 
@@ -44,27 +43,17 @@ pub fn texts_by<'a>(
     Ok(texts)
 }
 
-/// Whether one of the texts has the same subject as this one.
-fn has_like(texts: &[&SignedText], text: &SignedText) -> bool
-    ensures { result
-        ≡ list_any (λ x. finds.is_like x.text text.now.text) (map (λ t. t.now) texts.now) }
-{
-    for other in texts {
-        if is_like(&other.text, &text.text) {
-            return true;
-        }
-    }
-    false
-}
-
 /// Appends a text, unless one of the others has its subject.
 fn put_new<'a>(text: &'a SignedText, firsts: &mut Vec<&'a SignedText>) -> Result<(), AllocError>
     ensures { OnOk result (map (λ t. t.now) firsts.new.items
         ≡ map (λ t. t.now) firsts.old.items ++ finds.new_one (map (λ t. t.now) firsts.old.items) text.now) }
 {
-    if !has_like(firsts.as_slice(), text) {
-        firsts.push(text)?;
+    for other in firsts.as_slice() {
+        if is_like(&other.text, &text.text) {
+            return Ok(());
+        }
     }
+    firsts.push(text)?;
     Ok(())
 }
 

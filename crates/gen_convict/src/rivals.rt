@@ -1,5 +1,5 @@
 //! Finds the first two texts of a general that contradict each other across runs.
-ghost use Rattle.std.specs.Prelude.{◌≡◌, ◌∷◌, ◌++◌, IfOk, OnOk, map};
+ghost use Rattle.std.specs.Prelude.{◌≡◌, ◌∷◌, IfOk, OnOk, map};
 ghost use Rattle.std.specs.Option.{option_map};
 ghost use Rattle.std.specs.List.{find, list_any};
 ghost use Rattle.gen_convict.specs.AcrossFinding as finds;
@@ -104,27 +104,7 @@ pub fn first_rivals<'a>(
     Ok(None)
 }
 
-/// Appends the texts of a general in a run, each with the run's header.
-fn gather_run<'a>(
-    alloc: Global,
-    general: GeneralNo,
-    run: SeenRun<'a>,
-    gathered: &mut Vec<SeenText<'a>>,
-) -> Result<(), AllocError>
-    ensures { OnOk result (map seen gathered.new.items
-        ≡ map seen gathered.old.items ++ finds.his_in_run general (seen_run run.entry)) }
-{
-    let texts = texts_by(alloc, general, run.reports)?;
-    for text in &texts {
-        gathered.push(SeenText {
-            header: run.header,
-            text: *text,
-        })?;
-    }
-    Ok(())
-}
-
-/// Returns the texts of a general in all the reports, run by run.
+/// Returns the texts of a general in all the reports, run by run, each with its run's header.
 pub fn texts_across<'a>(
     alloc: Global,
     general: GeneralNo,
@@ -135,7 +115,13 @@ pub fn texts_across<'a>(
 {
     let mut texts = Vec::new(alloc);
     for run in runs {
-        gather_run(alloc, general, *run, &mut texts)?;
+        let found = texts_by(alloc, general, run.reports)?;
+        for text in &found {
+            texts.push(SeenText {
+                header: run.header,
+                text: *text,
+            })?;
+        }
     }
     Ok(texts)
 }
