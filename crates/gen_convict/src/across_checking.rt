@@ -21,11 +21,19 @@ use std::alloc::{AllocError, Global};
 const RUN_ID_PREFIX: u8 = 0x31;
 
 /// Whether both texts verify as the general's, each under the header of its run, and contradict each other across the
-/// two runs. The general's number is below the number of generals of the first run.
-fn are_across(general: GeneralNo, first: &RunText, second: &RunText) -> bool
-    requires { general < first.now.header.network.generals }
-    ensures { IsTrue result ↔ AreAcross general first.now second.now }
+/// two runs, and the header of the first is this header.
+pub fn is_across_from(
+    header: &Header,
+    general: GeneralNo,
+    first: &RunText,
+    second: &RunText,
+) -> bool
+    requires { general < header.now.network.generals }
+    ensures { IsTrue result ↔ IsAcrossFrom header.now general first.now second.now }
 {
+    if *header != first.header {
+        return false;
+    }
     let one = SeenText {
         header: &first.header,
         text: &first.text,
@@ -39,23 +47,6 @@ fn are_across(general: GeneralNo, first: &RunText, second: &RunText) -> bool
     }
     text_verifies(&first.header, general, &first.text)
         && text_verifies(&second.header, general, &second.text)
-}
-
-/// Whether both texts verify as the general's and contradict each other across their runs, and the header of the first
-/// is this header.
-pub fn is_across_from(
-    header: &Header,
-    general: GeneralNo,
-    first: &RunText,
-    second: &RunText,
-) -> bool
-    requires { general < header.now.network.generals }
-    ensures { IsTrue result ↔ IsAcrossFrom header.now general first.now second.now }
-{
-    if *header != first.header {
-        return false;
-    }
-    are_across(general, first, second)
 }
 
 /// Returns the bytes whose SHA-256 is a header's run id: the byte 0x31 and the header's spelling.

@@ -92,24 +92,15 @@ fn rivals_of_all(alloc: Global, generals: u8, runs: &[SeenRun]) -> Result<Vec<Ev
     Ok(found)
 }
 
-/// Makes known that the header of a run is a lawful header, and that each of its reports is one, of an exhibit that
-/// consists of bytes.
-fn note_run(run: SeenRun)
-    ensures header { IsHeader run.entry.header.now }
-    ensures reports { (r : Report) → Contains run.entry.reports.now r
-        → IsReport r × AreBelow 256 r.exhibit.bytes }
-{
-    let _net = run.header.net();
-    note_reports(run.reports);
-}
-
-/// Makes known of each of the runs what `note_run` makes known of one: its header and reports are lawful.
+/// Makes known that the header of each of the runs is a lawful header, and that each of its reports is one, of an
+/// exhibit that consists of bytes.
 fn note_runs(runs: &[SeenRun])
     ensures { (run : RunReports) → Contains (map seen_run runs.now) run → IsHeader run.header
         × ((r : Report) → Contains run.reports r → IsReport r × AreBelow 256 r.exhibit.bytes) }
 {
     for run in runs {
-        note_run(*run);
+        let _net = run.header.net();
+        note_reports(run.reports);
     }
 }
 

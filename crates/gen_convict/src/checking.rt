@@ -1,12 +1,9 @@
 //! Checks evidence.
 ghost use Rattle.std.specs.Prelude.{IsTrue, ◌≡◌, ◌<◌, ◌↔◌, IfOk, IfSome, None, List, ℕ};
-ghost use Rattle.gen_net.specs.Departs.{DepartsAt};
 ghost use Rattle.gen_net.specs.Header.{IsHeader};
 ghost use Rattle.gen_log.specs.Links.{HeadVerifies};
-ghost use Rattle.gen_log.specs.Log.{RunLog, IsLog, BeginsWithStartOf};
-ghost use Rattle.gen_log.specs.Signing.{HasSign};
+ghost use Rattle.gen_log.specs.Log.{RunLog};
 ghost use Rattle.gen_log.specs.Verifying.{SaysItIsOf};
-ghost use Rattle.gen_local.specs.Erased.{erased};
 ghost use Rattle.gen_local.specs.SignedTexts.{stated};
 ghost use Rattle.gen_convict.specs.Accused as accused_texts;
 ghost use Rattle.gen_convict.specs.Contradictions.{AreTwoTexts, AreTwoOrders, IsSealedLogOf, IsMissingFrom, IsDepartingAt, IsContradiction};
@@ -15,6 +12,7 @@ ghost use Rattle.gen_convict.specs.Told.{told};
 use crate::across_checking::is_across_from;
 use crate::claims::Claim;
 use crate::evidence::Evidence;
+use crate::text_likeness::is_unlike;
 use gen_chain::{Statement, has_signed, head_digest, leaf_of_head};
 use gen_local::{SignedText, Text, departs, says_it_is_of};
 use gen_log::{Log, has_sign, head_verifies, read_log};
@@ -22,49 +20,6 @@ use gen_net::Header;
 use gen_tree::{Signature, verify};
 use gen_types::{GeneralNo, OrderNo, Path, ReadError};
 use std::alloc::{AllocError, Global};
-
-/// Whether a text is the general's: a statement whose path ends with the general, or a head that names it.
-fn is_text_of(general: GeneralNo, text: &Text) -> bool
-    ensures { IsTrue result ↔ accused_texts.IsTextOf general text.now }
-{
-    match text {
-        Text::OfStatement(statement) => statement.path.ends_with(general),
-        Text::OfHead(head) => head.general == general,
-    }
-}
-
-/// Whether a signature of a text verifies under the general's root and the text's leaf.
-fn has_signed_text(header: &Header, general: GeneralNo, text: &Text, signature: &Signature) -> bool
-    requires { general < header.now.network.generals }
-    ensures { IsTrue result
-        ↔ accused_texts.HasSignedText header.now general text.now signature.now }
-{
-    match text {
-        Text::OfStatement(statement) => has_signed(header, general, statement, signature),
-        Text::OfHead(head) => {
-            let digest = head_digest(header, head);
-            let leaf = leaf_of_head(header);
-            verify(
-                header.root(general),
-                header.height(),
-                leaf,
-                &digest,
-                signature,
-            )
-        }
-    }
-}
-
-/// Returns whether a signed text verifies as the general's: it names the general as its signer, it is the general's
-/// text, and its signature verifies.
-pub fn text_verifies(header: &Header, general: GeneralNo, text: &SignedText) -> bool
-    requires { general < header.now.network.generals }
-    ensures { IsTrue result ↔ accused_texts.TextVerifies header.now general text.now }
-{
-    text.signer == general
-        && is_text_of(general, &text.text)
-        && has_signed_text(header, general, &text.text, &text.signature)
-}
 
 /// Whether a statement verifies as the general's: its path ends with the general, and the signature verifies.
 fn statement_verifies(
@@ -79,6 +34,38 @@ fn statement_verifies(
     statement.path.ends_with(general) && has_signed(header, general, statement, signature)
 }
 
+/// Whether a text is the general's and its signature verifies: a statement whose path ends with the general, or a head
+/// that names it.
+fn is_signed_text_of(
+    header: &Header,
+    general: GeneralNo,
+    text: &Text,
+    signature: &Signature,
+) -> bool
+    requires { general < header.now.network.generals }
+    ensures { IsTrue result ↔ (accused_texts.IsTextOf general text.now
+        × accused_texts.HasSignedText header.now general text.now signature.now) }
+{
+    match text {
+        Text::OfStatement(statement) => statement_verifies(header, general, statement, signature),
+        Text::OfHead(head) => {
+            let digest = head_digest(header, head);
+            let leaf = leaf_of_head(header);
+            let root = header.root(general);
+            head.general == general && verify(root, header.height(), leaf, &digest, signature)
+        }
+    }
+}
+
+/// Returns whether a signed text verifies as the general's: it names the general as its signer, it is the general's
+/// text, and its signature verifies.
+pub fn text_verifies(header: &Header, general: GeneralNo, text: &SignedText) -> bool
+    requires { general < header.now.network.generals }
+    ensures { IsTrue result ↔ accused_texts.TextVerifies header.now general text.now }
+{
+    text.signer == general && is_signed_text_of(header, general, &text.text, &text.signature)
+}
+
 /// Whether the commander's signature verifies on the statement of this order and the path of the commander alone.
 fn command_verifies(header: &Header, order: OrderNo, signature: &Signature) -> bool
     ensures { IsTrue result ↔ accused_texts.TextVerifies header.now 0
@@ -89,18 +76,8 @@ fn command_verifies(header: &Header, order: OrderNo, signature: &Signature) -> b
     statement_verifies(header, GeneralNo::at(0), &statement, signature)
 }
 
-/// Whether two texts are two statements of one order, or two heads, and differ.
-fn are_unlike(first: &Text, second: &Text) -> bool
-    ensures { IsTrue result ↔ accused_texts.AreUnlike first.now second.now }
-{
-    match (first, second) {
-        (Text::OfStatement(s), Text::OfStatement(t)) => s.order == t.order && *s != *t,
-        (Text::OfHead(s), Text::OfHead(t)) => *s != *t,
-        _ => false,
-    }
-}
-
 /// Whether both texts verify as the general's and contradict each other.
+#[tactic(auto, using(crate::proofs::FoundTexts::unlike_gives, crate::proofs::FoundTexts::unlike_told))]
 fn are_two_texts(
     header: &Header,
     general: GeneralNo,
@@ -112,24 +89,7 @@ fn are_two_texts(
 {
     text_verifies(header, general, first)
         && text_verifies(header, general, second)
-        && are_unlike(&first.text, &second.text)
-}
-
-/// Whether the commander's signature verifies on both orders, each with the path of the commander alone.
-fn commands_verify(
-    header: &Header,
-    first: OrderNo,
-    first_signature: &Signature,
-    second: OrderNo,
-    second_signature: &Signature,
-) -> bool
-    ensures { IsTrue result
-        ↔ (accused_texts.TextVerifies header.now 0 (accused_texts.command first first_signature.now)
-        × accused_texts.TextVerifies header.now 0
-        (accused_texts.command second second_signature.now)) }
-{
-    command_verifies(header, first, first_signature)
-        && command_verifies(header, second, second_signature)
+        && is_unlike(&first.text, &second.text)
 }
 
 /// Whether the general is the commander, both orders verify as the commander's, and they differ.
@@ -144,8 +104,11 @@ fn are_two_orders(
     ensures { IsTrue result
         ↔ AreTwoOrders header.now general first first_signature.now second second_signature.now }
 {
-    let verify = commands_verify(header, first, first_signature, second, second_signature);
-    general.get() == 0 && first != second && verify
+    if general.get() != 0 || first == second {
+        return false;
+    }
+    command_verifies(header, first, first_signature)
+        && command_verifies(header, second, second_signature)
 }
 
 /// Whether a log says that it is the general's of this run, and its head verifies.
@@ -185,24 +148,6 @@ fn sealed_log(
     }
 }
 
-/// Whether a statement verifies as the general's, and the log has no SIGN of it.
-fn lacks(
-    header: &Header,
-    general: GeneralNo,
-    log: &Log,
-    statement: &Statement,
-    signature: &Signature,
-) -> bool
-    ensures { IsTrue result ↔ (accused_texts.TextVerifies header.now general
-        (stated statement.now.order statement.now.path general signature.now)
-        × (HasSign log.now statement.now → ⊥)) }
-{
-    if has_sign(log, statement) {
-        return false;
-    }
-    statement_verifies(header, general, statement, signature)
-}
-
 /// Whether a statement that verifies as the general's is missing from a log that the general sealed.
 fn is_missing_from(
     alloc: Global,
@@ -218,19 +163,12 @@ fn is_missing_from(
 {
     match sealed_log(alloc, header, general, bytes)? {
         None => Ok(false),
-        Some(log) => Ok(lacks(header, general, &log, statement, signature)),
-    }
-}
-
-/// Whether the log of the general departs at this entry.
-fn departs_there(header: &Header, general: GeneralNo, log: &Log, entry: u32) -> bool
-    requires log { IsLog header.now log.now }
-    requires starts { BeginsWithStartOf general log.now.entries }
-    ensures { IsTrue result ↔ DepartsAt header.now.network general (erased log.now.entries) entry }
-{
-    match departs(header, log) {
-        Some(index) => index == entry as usize,
-        None => false,
+        Some(log) => {
+            if has_sign(&log, statement) {
+                return Ok(false);
+            }
+            Ok(statement_verifies(header, general, statement, signature))
+        }
     }
 }
 
@@ -248,22 +186,31 @@ fn is_departing_at(
 {
     match sealed_log(alloc, header, general, bytes)? {
         None => Ok(false),
-        Some(log) => Ok(departs_there(header, general, &log, entry)),
+        Some(log) => match departs(header, &log) {
+            Some(index) => Ok(index == entry as usize),
+            None => Ok(false),
+        },
     }
 }
 
-/// Whether a claim holds against a general.
-fn check_claim(
+/// Returns whether evidence holds against the accused, a general of the network. Either its two texts verify as the
+/// accused's and contradict each other, or its log is sealed by the accused and lacks the statement or departs at the
+/// entry. A log that doesn't read is no error: then the evidence doesn't hold.
+///
+/// # Errors
+///
+/// `AllocError` where memory is refused.
+pub fn check_evidence(
     alloc: Global,
     header: &Header,
-    accused: GeneralNo,
-    claim: &Claim,
+    evidence: &Evidence,
 ) -> Result<bool, AllocError>
-    requires { accused < header.now.network.generals }
+    requires { evidence.now.accused < header.now.network.generals }
     ensures { IfOk result (λ holds. IsTrue holds
-        ↔ IsContradiction header.now accused (told claim.now)) }
+        ↔ IsContradiction header.now evidence.now.accused (told evidence.now.claim)) }
 {
-    match claim {
+    let accused = evidence.accused;
+    match &evidence.claim {
         Claim::Texts { first, second } => Ok(are_two_texts(header, accused, first, second)),
         Claim::Orders {
             first,
@@ -288,23 +235,4 @@ fn check_claim(
         }
         Claim::Across { first, second } => Ok(is_across_from(header, accused, first, second)),
     }
-}
-
-/// Returns whether evidence holds against the accused, a general of the network. Either its two texts verify as the
-/// accused's and contradict each other, or its log is sealed by the accused and lacks the statement or departs at the
-/// entry. A log that doesn't read is no error: then the evidence doesn't hold.
-///
-/// # Errors
-///
-/// `AllocError` where memory is refused.
-pub fn check_evidence(
-    alloc: Global,
-    header: &Header,
-    evidence: &Evidence,
-) -> Result<bool, AllocError>
-    requires { evidence.now.accused < header.now.network.generals }
-    ensures { IfOk result (λ holds. IsTrue holds
-        ↔ IsContradiction header.now evidence.now.accused (told evidence.now.claim)) }
-{
-    check_claim(alloc, header, evidence.accused, &evidence.claim)
 }

@@ -1,7 +1,6 @@
 //! Reads claims against a general.
 ghost use Rattle.std.specs.Prelude.{◌<◌, IfOk};
 ghost use Rattle.gen_types.specs.Reading.{Gives};
-ghost use Rattle.gen_types.specs.Spelled.{IsField};
 ghost use Rattle.gen_convict.specs.ClaimReading as reading;
 ghost use Rattle.gen_convict.specs.Told.{told};
 
@@ -14,8 +13,7 @@ use crate::evidence_fields::{
 };
 use crate::run_texts::RunText;
 use crate::shared_leaves::{is_two, share_leaves};
-use gen_chain::Statement;
-use gen_net::{Header, Net};
+use gen_net::Header;
 use gen_tree::Signature;
 use gen_types::{GeneralNo, OrderNo, ReadError, check, u8_at, u32_at};
 use std::alloc::Global;
@@ -71,21 +69,8 @@ fn read_two_orders<'a>(
     Ok((claim, rest))
 }
 
-/// Reads a text that has to be a statement.
-#[tactic(auto, unfolding(crate::specs::ClaimReading::missing_statement_at))]
-fn read_missing_statement<'a>(
-    bytes: &'a [u8],
-    net: &Net,
-) -> Result<(Statement, &'a [u8]), ReadError<EvidenceFault>>
-    ensures { IsField result (reading.missing_statement_at net.now bytes.now) }
-{
-    let (kind, rest) = u8_at(bytes, EvidenceFault::Truncated)?;
-    check(kind == STATEMENT_KIND, EvidenceFault::OutOfRange)?;
-    read_statement(rest, net)
-}
-
-/// Reads a log, and a signed statement that is claimed to be missing from it.
-#[tactic(auto, unfolding(crate::specs::ClaimReading::missing_at))]
+/// Reads a log, and a signed text that has to be a statement, which is claimed to be missing from the log.
+#[tactic(auto, unfolding(crate::specs::ClaimReading::missing_at, crate::specs::ClaimReading::missing_statement_at))]
 fn read_missing<'a>(
     alloc: Global,
     bytes: &'a [u8],
@@ -94,8 +79,10 @@ fn read_missing<'a>(
     ensures { Gives (λ x. (told x.0, x.1.now)) result (reading.missing_at header.now bytes.now) }
 {
     let (log, rest) = read_log_bytes(alloc, bytes)?;
+    let (kind, rest) = u8_at(rest, EvidenceFault::Truncated)?;
+    check(kind == STATEMENT_KIND, EvidenceFault::OutOfRange)?;
     // The rules of `?` don't cover a statement beside a reference.
-    let (statement, rest) = match read_missing_statement(rest, header.net()) {
+    let (statement, rest) = match read_statement(rest, header.net()) {
         Ok(statement) => statement,
         Err(error) => return Err(error),
     };
@@ -145,35 +132,8 @@ fn read_across<'a>(
     Ok((Claim::Across { first, second }, rest))
 }
 
-/// Reads the claim of the kind that a byte names, 1 to 5.
-#[tactic(auto, unfolding(crate::specs::ClaimReading::claim_of_kind))]
-fn read_claim_of_kind<'a>(
-    alloc: Global,
-    bytes: &'a [u8],
-    header: &Header,
-    accused: GeneralNo,
-    kind: u8,
-) -> Result<(Claim, &'a [u8]), ReadError<EvidenceFault>>
-    ensures { Gives (λ x. (told x.0, x.1.now)) result
-        (reading.claim_of_kind header.now accused kind bytes.now) }
-{
-    if kind == TEXTS_KIND {
-        read_two_texts(alloc, bytes, header, accused)
-    } else if kind == ORDERS_KIND {
-        read_two_orders(alloc, bytes, header)
-    } else if kind == MISSING_KIND {
-        read_missing(alloc, bytes, header)
-    } else if kind == DEPARTING_KIND {
-        read_departing(alloc, bytes)
-    } else if kind == ACROSS_KIND {
-        read_across(alloc, bytes, header, accused)
-    } else {
-        Err(ReadError::Fault(EvidenceFault::OutOfRange))
-    }
-}
-
-/// Reads a claim against the accused, whose first byte names its kind.
-#[tactic(auto, unfolding(crate::specs::ClaimReading::claim_at))]
+/// Reads a claim against the accused, whose first byte names its kind, 1 to 5.
+#[tactic(auto, unfolding(crate::specs::ClaimReading::claim_at, crate::specs::ClaimReading::claim_of_kind))]
 pub fn read_claim<'a>(
     alloc: Global,
     bytes: &'a [u8],
@@ -184,5 +144,17 @@ pub fn read_claim<'a>(
         (reading.claim_at header.now accused bytes.now) }
 {
     let (kind, rest) = u8_at(bytes, EvidenceFault::Truncated)?;
-    read_claim_of_kind(alloc, rest, header, accused, kind)
+    if kind == TEXTS_KIND {
+        read_two_texts(alloc, rest, header, accused)
+    } else if kind == ORDERS_KIND {
+        read_two_orders(alloc, rest, header)
+    } else if kind == MISSING_KIND {
+        read_missing(alloc, rest, header)
+    } else if kind == DEPARTING_KIND {
+        read_departing(alloc, rest)
+    } else if kind == ACROSS_KIND {
+        read_across(alloc, rest, header, accused)
+    } else {
+        Err(ReadError::Fault(EvidenceFault::OutOfRange))
+    }
 }

@@ -21,31 +21,17 @@ struct Side {
     text: Vec<u8>,
 }
 
-/// Replaces the content of a buffer by the bytes that are hashed for the link after an entry.
-fn fill(alloc: Global, text: &mut Vec<u8>, link: &[u8; 32], entry: &Entry) -> Result<(), AllocError>
-    ensures { OnOk result (text.new.items ≡ link_text link.now entry.now) }
-{
-    let spelled = entry_bytes(alloc, entry)?;
-    text.clear();
-    text.push(LINK_PREFIX)?;
-    text.extend_from_slice(link)?;
-    text.extend_from_slice(&spelled)
-}
-
-/// Returns the SHA-256 of a string of bytes.
-fn hash_of(text: &[u8]) -> [u8; 32]
-    ensures { result ≡ sha256 text.now }
-{
-    Sha256::digest(text)
-}
-
 /// Walks over one more entry: sets the hashed bytes and the link after the entry.
 fn walk_on(alloc: Global, side: &mut Side, entry: &Entry) -> Result<(), AllocError>
     ensures text { OnOk result (side.new.text.items ≡ link_text side.old.link entry.now) }
     ensures link { OnOk result (side.new.link ≡ sha256 side.new.text.items) }
 {
-    fill(alloc, &mut side.text, &side.link, entry)?;
-    side.link = hash_of(&side.text);
+    let spelled = entry_bytes(alloc, entry)?;
+    side.text.clear();
+    side.text.push(LINK_PREFIX)?;
+    side.text.extend_from_slice(&side.link)?;
+    side.text.extend_from_slice(&spelled)?;
+    side.link = Sha256::digest(&side.text);
     Ok(())
 }
 

@@ -1,5 +1,5 @@
 //! Reads the fields of evidence: texts, signatures and logs.
-ghost use Rattle.std.specs.Prelude.{◌≡◌, ◌<◌, [], IfOk};
+ghost use Rattle.std.specs.Prelude.{◌≡◌, ◌<◌, IfOk};
 ghost use Rattle.gen_types.specs.Reading.{Gives};
 ghost use Rattle.gen_types.specs.Spelled.{IsField};
 ghost use Rattle.gen_convict.specs.EvidenceFields as field;
@@ -64,22 +64,6 @@ pub fn read_order_field<'a>(
     }
 }
 
-/// Reads a path of the network into an empty path, and returns the bytes after it.
-fn read_path_field<'a>(
-    bytes: &'a [u8],
-    net: &Net,
-    path: &mut Path,
-) -> Result<&'a [u8], ReadError<EvidenceFault>>
-    requires { path.old ≡ [] }
-    ensures { Gives (λ rest. (path.new, rest.now)) result (field.path_at net.now bytes.now) }
-{
-    match read_path(bytes, net, path) {
-        Ok(rest) => Ok(rest),
-        Err(ReadError::Memory) => Err(ReadError::Memory),
-        Err(ReadError::Fault(fault)) => Err(ReadError::Fault(field_fault(fault))),
-    }
-}
-
 /// Reads a statement: an order and a path of the network.
 #[tactic(auto, unfolding(crate::specs::EvidenceFields::statement_at))]
 pub fn read_statement<'a>(
@@ -90,9 +74,12 @@ pub fn read_statement<'a>(
 {
     let (order, rest) = read_order_field(bytes, net)?;
     let mut path = Path::new();
-    let rest = read_path_field(rest, net, &mut path)?;
     let order = OrderNo::at(order);
-    Ok((Statement { order, path }, rest))
+    match read_path(rest, net, &mut path) {
+        Ok(rest) => Ok((Statement { order, path }, rest)),
+        Err(ReadError::Memory) => Err(ReadError::Memory),
+        Err(ReadError::Fault(fault)) => Err(ReadError::Fault(field_fault(fault))),
+    }
 }
 
 /// Reads a head of the general's log: a number of entries in eight bytes and a last link of 32 bytes.
@@ -115,55 +102,8 @@ fn read_head(
     Ok((head, rest))
 }
 
-/// Reads a statement, and returns it as a text.
-#[tactic(auto, unfolding(crate::specs::EvidenceFields::statement_text_at))]
-fn read_statement_text<'a>(
-    bytes: &'a [u8],
-    net: &Net,
-) -> Result<(Text, &'a [u8]), ReadError<EvidenceFault>>
-    ensures { IsField result (field.statement_text_at net.now bytes.now) }
-{
-    match read_statement(bytes, net) {
-        Ok((statement, rest)) => Ok((Text::OfStatement(statement), rest)),
-        Err(error) => Err(error),
-    }
-}
-
-/// Reads a head of the general's log, and returns it as a text.
-#[tactic(auto, unfolding(crate::specs::EvidenceFields::head_text_at))]
-fn read_head_text(
-    bytes: &[u8],
-    general: GeneralNo,
-) -> Result<(Text, &[u8]), ReadError<EvidenceFault>>
-    ensures { IsField result (field.head_text_at general bytes.now) }
-{
-    match read_head(bytes, general) {
-        Ok((head, rest)) => Ok((Text::OfHead(head), rest)),
-        Err(error) => Err(error),
-    }
-}
-
-/// Reads the general's text of the kind that a byte names: 1 for a statement, 2 for a head.
-#[tactic(auto, unfolding(crate::specs::EvidenceFields::text_of_kind))]
-fn read_text_of_kind<'a>(
-    bytes: &'a [u8],
-    net: &Net,
-    general: GeneralNo,
-    kind: u8,
-) -> Result<(Text, &'a [u8]), ReadError<EvidenceFault>>
-    ensures { IsField result (field.text_of_kind net.now general kind bytes.now) }
-{
-    if kind == STATEMENT_KIND {
-        read_statement_text(bytes, net)
-    } else if kind == HEAD_KIND {
-        read_head_text(bytes, general)
-    } else {
-        Err(ReadError::Fault(EvidenceFault::OutOfRange))
-    }
-}
-
-/// Reads a text of the general, whose first byte names its kind.
-#[tactic(auto, unfolding(crate::specs::EvidenceFields::text_at))]
+/// Reads a text of the general, whose first byte names its kind: 1 for a statement, 2 for a head.
+#[tactic(auto, unfolding(crate::specs::EvidenceFields::text_at, crate::specs::EvidenceFields::text_of_kind, crate::specs::EvidenceFields::statement_text_at, crate::specs::EvidenceFields::head_text_at))]
 fn read_text<'a>(
     bytes: &'a [u8],
     net: &Net,
@@ -172,7 +112,19 @@ fn read_text<'a>(
     ensures { IsField result (field.text_at net.now general bytes.now) }
 {
     let (kind, rest) = u8_at(bytes, EvidenceFault::Truncated)?;
-    read_text_of_kind(rest, net, general, kind)
+    if kind == STATEMENT_KIND {
+        match read_statement(rest, net) {
+            Ok((statement, rest)) => Ok((Text::OfStatement(statement), rest)),
+            Err(error) => Err(error),
+        }
+    } else if kind == HEAD_KIND {
+        match read_head(rest, general) {
+            Ok((head, rest)) => Ok((Text::OfHead(head), rest)),
+            Err(error) => Err(error),
+        }
+    } else {
+        Err(ReadError::Fault(EvidenceFault::OutOfRange))
+    }
 }
 
 /// Reads a signature, whose length is that of signatures by trees of the run's height.

@@ -1,13 +1,11 @@
 //! Reads evidence.
-ghost use Rattle.std.specs.Prelude.{◌≡◌, ◌≤◌, ◌<◌, IfOk, Ok};
-ghost use Rattle.gen_types.specs.Reading.{Gives, map_fault};
-ghost use Rattle.gen_types.specs.Spelled.{IsField, Spells};
-ghost use Rattle.gen_net.specs.FrontReading.{front_at};
+ghost use Rattle.std.specs.Prelude.{◌≡◌, ◌<◌, IfOk, Ok};
+ghost use Rattle.gen_types.specs.Reading.{Gives};
+ghost use Rattle.gen_types.specs.Spelled.{Spells};
 ghost use Rattle.gen_convict.specs.Evidence.{told_of};
-ghost use Rattle.gen_convict.specs.EvidenceFields.{front_fault};
 ghost use Rattle.gen_convict.specs.EvidenceReading as reading;
-ghost use Rattle.gen_convict.specs.EvidenceReading.{IsWhole, evidence_at, whole_evidence};
-ghost use Rattle.gen_convict.specs.EvidenceSpelling.{HeaderAndEvidence, evidence_marks, whole_spelling};
+ghost use Rattle.gen_convict.specs.EvidenceReading.{IsWhole, whole_evidence};
+ghost use Rattle.gen_convict.specs.EvidenceSpelling.{HeaderAndEvidence, whole_spelling};
 
 use crate::claim_reading::read_claim;
 use crate::evidence::Evidence;
@@ -23,34 +21,8 @@ pub const EVIDENCE_MARKS: Marks = Marks {
     two: 0x534d_4532,
 };
 
-/// Reads the mark and the header.
-fn read_front_field(
-    alloc: Global,
-    bytes: &[u8],
-) -> Result<(Header, &[u8]), ReadError<EvidenceFault>>
-    ensures { IsField result (map_fault front_fault (front_at evidence_marks bytes.now)) }
-{
-    match read_front(alloc, EVIDENCE_MARKS, bytes) {
-        Ok(header) => Ok(header),
-        Err(ReadError::Memory) => Err(ReadError::Memory),
-        Err(ReadError::Fault(fault)) => Err(ReadError::Fault(front_fault(fault))),
-    }
-}
-
-/// Reads the number of the accused, which is below the network's number of generals `n`.
-#[tactic(auto, unfolding(crate::specs::EvidenceReading::accused_at))]
-fn read_accused(n: u8, bytes: &[u8]) -> Result<(u8, &[u8]), ReadError<EvidenceFault>>
-    requires { n ≤ 16 }
-    ensures exact { IsField result (reading.accused_at n bytes.now) }
-    ensures known { IfOk result (λ x. x.0 < 16) }
-{
-    let (accused, rest) = u8_at(bytes, EvidenceFault::Truncated)?;
-    check(accused < n, EvidenceFault::OutOfRange)?;
-    Ok((accused, rest))
-}
-
-/// Reads the number of the accused and the claim against it.
-#[tactic(auto, unfolding(crate::specs::EvidenceReading::accusation_at))]
+/// Reads the number of the accused, which is below the network's number of generals, and the claim against it.
+#[tactic(auto, unfolding(crate::specs::EvidenceReading::accusation_at, crate::specs::EvidenceReading::accused_at))]
 fn read_accusation<'a>(
     alloc: Global,
     header: &Header,
@@ -59,28 +31,15 @@ fn read_accusation<'a>(
     ensures { Gives (λ x. (told_of x.0, x.1.now)) result
         (reading.accusation_at header.now bytes.now) }
 {
-    let (accused, rest) = read_accused(header.net().generals(), bytes)?;
+    let (accused, rest) = u8_at(bytes, EvidenceFault::Truncated)?;
+    check(accused < header.net().generals(), EvidenceFault::OutOfRange)?;
     let accused = GeneralNo::at(accused);
     let (claim, rest) = read_claim(alloc, rest, header, accused)?;
     Ok((Evidence { accused, claim }, rest))
 }
 
-/// Reads the header and the evidence at the beginning of the bytes, and returns the bytes after them too.
-#[tactic(auto, unfolding(crate::specs::EvidenceReading::evidence_at))]
-fn evidence_in_front(
-    alloc: Global,
-    bytes: &[u8],
-) -> Result<(Header, Evidence, &[u8]), ReadError<EvidenceFault>>
-    ensures { Gives (λ x. (record { header = x.0; evidence = told_of x.1 }, x.2.now)) result
-        (evidence_at bytes.now) }
-{
-    let (header, rest) = read_front_field(alloc, bytes)?;
-    let (evidence, rest) = read_accusation(alloc, &header, rest)?;
-    Ok((header, evidence, rest))
-}
-
 /// Reads the header and the evidence that all the bytes are.
-#[tactic(auto, unfolding(crate::specs::EvidenceReading::whole_evidence))]
+#[tactic(auto, unfolding(crate::specs::EvidenceReading::whole_evidence, crate::specs::EvidenceReading::evidence_at))]
 fn evidence_alone(
     alloc: Global,
     bytes: &[u8],
@@ -88,7 +47,12 @@ fn evidence_alone(
     ensures { Gives (λ x. record { header = x.0; evidence = told_of x.1 }) result
         (whole_evidence bytes.now) }
 {
-    let (header, evidence, rest) = evidence_in_front(alloc, bytes)?;
+    let (header, rest) = match read_front(alloc, EVIDENCE_MARKS, bytes) {
+        Ok(header) => header,
+        Err(ReadError::Memory) => return Err(ReadError::Memory),
+        Err(ReadError::Fault(fault)) => return Err(ReadError::Fault(front_fault(fault))),
+    };
+    let (evidence, rest) = read_accusation(alloc, &header, rest)?;
     check(rest.is_empty(), EvidenceFault::LeftOver)?;
     Ok((header, evidence))
 }

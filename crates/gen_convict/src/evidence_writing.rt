@@ -1,6 +1,5 @@
 //! Writes evidence.
 ghost use Rattle.std.specs.Prelude.{◌≡◌, ◌<◌, ◌^◌, ◌∷◌, ◌++◌, length, IfOk, OnOk};
-ghost use Rattle.gen_net.specs.Header.{header_spelling};
 ghost use Rattle.gen_convict.specs.Evidence.{IsEvidence, HasShortLog, told_of};
 ghost use Rattle.gen_convict.specs.EvidenceSpelling as spelling;
 ghost use Rattle.gen_convict.specs.EvidenceSpelling.{text_spelling, signed_spelling, shown_spelling, claim_spelling};
@@ -11,7 +10,7 @@ use crate::claims::Claim;
 use crate::evidence::Evidence;
 use crate::evidence_fields::{HEAD_KIND, STATEMENT_KIND};
 use crate::evidence_reading::EVIDENCE_MARKS;
-use gen_chain::{HeadText, Statement};
+use gen_chain::Statement;
 use gen_local::{SignedText, Text};
 use gen_log::put_path;
 use gen_net::{Header, front_bytes, header_bytes};
@@ -31,23 +30,17 @@ fn put_statement(out: &mut Vec<u8>, statement: &Statement) -> Result<(), AllocEr
     Ok(())
 }
 
-/// Appends the byte of the kind and a head.
-fn put_head(out: &mut Vec<u8>, head: &HeadText) -> Result<(), AllocError>
-    ensures { OnOk result (out.new.items
-        ≡ out.old.items ++ spelling.head_kind ∷ spelling.head_spelling head.now) }
-{
-    out.push(HEAD_KIND)?;
-    out.extend_from_slice(&head.entries.to_be_bytes())?;
-    out.extend_from_slice(&head.last_link)
-}
-
 /// Appends a text: the byte of its kind, and the statement or the head.
 fn put_text(out: &mut Vec<u8>, text: &Text) -> Result<(), AllocError>
     ensures { OnOk result (out.new.items ≡ out.old.items ++ text_spelling text.now) }
 {
     match text {
         Text::OfStatement(statement) => put_statement(out, statement),
-        Text::OfHead(head) => put_head(out, head),
+        Text::OfHead(head) => {
+            out.push(HEAD_KIND)?;
+            out.extend_from_slice(&head.entries.to_be_bytes())?;
+            out.extend_from_slice(&head.last_link)
+        }
     }
 }
 
@@ -74,14 +67,6 @@ fn put_log(out: &mut Vec<u8>, log: &[u8]) -> Result<(), AllocError>
 {
     out.extend_from_slice(&(log.len() as u32).to_be_bytes())?;
     out.extend_from_slice(log)
-}
-
-/// Appends a header.
-fn put_header(out: &mut Vec<u8>, header: &Header) -> Result<(), AllocError>
-    ensures { OnOk result (out.new.items ≡ out.old.items ++ header_spelling header.now) }
-{
-    let bytes = header_bytes(*out.allocator(), header)?;
-    out.extend_from_slice(&bytes)
 }
 
 /// Appends a claim without the byte of its kind.
@@ -117,7 +102,8 @@ fn put_claim(out: &mut Vec<u8>, claim: &Claim) -> Result<(), AllocError>
             out.extend_from_slice(&entry.to_be_bytes())
         }
         Claim::Across { first, second } => {
-            put_header(out, &second.header)?;
+            let header = header_bytes(*out.allocator(), &second.header)?;
+            out.extend_from_slice(&header)?;
             put_signed(out, &first.text)?;
             put_signed(out, &second.text)
         }

@@ -19,41 +19,8 @@ use gen_net::Header;
 use gen_types::GeneralNo;
 use std::alloc::{AllocError, Global};
 
-/// Returns the claim by one of the general's logs: that it lacks a statement that the general signed, or else that it
-/// departs.
-fn claim_from_logs(
-    alloc: Global,
-    general: GeneralNo,
-    firsts: &[&SignedText],
-    reports: &[LocalReport],
-) -> Result<Option<Claim>, AllocError>
-    ensures { IfOk result (λ claim. option_map told claim
-        ≡ finds.claim_from_logs general (map (λ t. t.now) firsts.now) reports.now) }
-{
-    match missing_claim(alloc, general, firsts, reports)? {
-        Some(claim) => Ok(Some(claim)),
-        None => departing_claim(alloc, general, reports),
-    }
-}
-
-/// Returns the claim by two orders, if the general is the commander, or else the claim by one of the general's logs.
-fn claim_from_orders_or_logs(
-    alloc: Global,
-    general: GeneralNo,
-    firsts: &[&SignedText],
-    texts: &[&SignedText],
-    reports: &[LocalReport],
-) -> Result<Option<Claim>, AllocError>
-    ensures { IfOk result (λ claim. option_map told claim ≡ finds.claim_from_orders_or_logs general
-        (map (λ t. t.now) firsts.now) (map (λ t. t.now) texts.now) reports.now) }
-{
-    match orders_claim(alloc, general, texts)? {
-        Some(claim) => Ok(Some(claim)),
-        None => claim_from_logs(alloc, general, firsts, reports),
-    }
-}
-
-/// Returns the claim of the least kind against a general, by the general's texts or by one of its logs.
+/// Returns the claim of the least kind against a general: by two of its texts, by two of its orders, by a log that lacks
+/// a statement that it signed, or by a log that departs.
 fn least_claim(
     alloc: Global,
     general: GeneralNo,
@@ -64,10 +31,16 @@ fn least_claim(
     ensures { IfOk result (λ claim. option_map told claim ≡ finds.least_claim general
         (map (λ t. t.now) firsts.now) (map (λ t. t.now) texts.now) reports.now) }
 {
-    match texts_claim(alloc, firsts, texts)? {
-        Some(claim) => Ok(Some(claim)),
-        None => claim_from_orders_or_logs(alloc, general, firsts, texts, reports),
+    if let Some(claim) = texts_claim(alloc, firsts, texts)? {
+        return Ok(Some(claim));
     }
+    if let Some(claim) = orders_claim(alloc, general, texts)? {
+        return Ok(Some(claim));
+    }
+    if let Some(claim) = missing_claim(alloc, general, firsts, reports)? {
+        return Ok(Some(claim));
+    }
+    departing_claim(alloc, general, reports)
 }
 
 /// Returns the claim that the reports give against a general, if there is one.
@@ -127,22 +100,13 @@ fn note_bytes(bytes: &[u8])
     let _bytes = bytes.len();
 }
 
-/// Makes known that a report is one, and that its exhibit consists of bytes.
-fn note_report(report: &LocalReport)
-    ensures report { IsReport report.now }
-    ensures bytes { AreBelow 256 report.now.exhibit.bytes }
-{
-    let _reading = report.reading();
-    let exhibit = report.exhibit();
-    note_bytes(exhibit.log());
-}
-
 /// Makes known of each report that it is one, and that its exhibit consists of bytes.
 pub fn note_reports(reports: &[LocalReport])
     ensures { (r : Report) → Contains reports.now r → IsReport r × AreBelow 256 r.exhibit.bytes }
 {
     for report in reports {
-        note_report(report);
+        let _reading = report.reading();
+        note_bytes(report.exhibit().log());
     }
 }
 

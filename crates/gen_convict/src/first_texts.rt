@@ -8,18 +8,6 @@ use crate::text_likeness::{are_orders, is_command, is_unlike, is_unsaid};
 use gen_local::SignedText;
 use gen_log::Log;
 
-/// Whether one of the texts is unlike this one: it has the same subject and differs.
-fn has_unlike(texts: &[&SignedText], text: &SignedText) -> bool
-    ensures { result ≡ finds.has_unlike (map (λ t. t.now) texts.now) text.now }
-{
-    for other in texts {
-        if is_unlike(&text.text, &other.text) {
-            return true;
-        }
-    }
-    false
-}
-
 /// Returns the first text of `firsts` to which one of `texts` is unlike.
 pub fn first_with_unlike<'a>(
     firsts: &[&'a SignedText],
@@ -29,8 +17,10 @@ pub fn first_with_unlike<'a>(
         ≡ find (finds.has_unlike (map (λ t. t.now) texts.now)) (map (λ t. t.now) firsts.now) }
 {
     for text in firsts {
-        if has_unlike(texts, text) {
-            return Some(text);
+        for other in texts {
+            if is_unlike(&text.text, &other.text) {
+                return Some(text);
+            }
         }
     }
     None

@@ -1,6 +1,5 @@
 //! Gathers the texts of one general in all reports, and of these the first of each subject.
-ghost use Rattle.std.specs.Prelude.{◌≡◌, [], ◌∷◌, ◌++◌, IfOk, OnOk, map, filter};
-ghost use Rattle.std.specs.List.{list_any};
+ghost use Rattle.std.specs.Prelude.{◌≡◌, [], ◌++◌, IfOk, OnOk, map, filter};
 ghost use Rattle.gen_convict.specs.Exhibits.{is_by};
 ghost use Rattle.gen_convict.specs.Finding as finds;
 
@@ -8,31 +7,6 @@ use crate::text_likeness::is_like;
 use gen_local::{LocalReport, Reading, SignedText};
 use gen_types::GeneralNo;
 use std::alloc::{AllocError, Global};
-
-/// Returns the texts that verify in a report's reading; none if the exhibit is no log of its general and this run.
-fn read_texts(reading: &Reading) -> &[SignedText]
-    ensures { result.now ≡ finds.read_texts reading.now }
-{
-    match reading {
-        Reading::Own(found) => found.texts(),
-        _ => &[],
-    }
-}
-
-/// Appends a text if its signer is the general.
-fn gather_one<'a>(
-    general: GeneralNo,
-    text: &'a SignedText,
-    gathered: &mut Vec<&'a SignedText>,
-) -> Result<(), AllocError>
-    ensures { OnOk result (map (λ t. t.now) gathered.new.items
-        ≡ map (λ t. t.now) gathered.old.items ++ filter (is_by general) (text.now ∷ [])) }
-{
-    if text.signer == general {
-        gathered.push(text)?;
-    }
-    Ok(())
-}
 
 /// Appends the texts whose signer is the general.
 fn gather<'a>(
@@ -44,7 +18,9 @@ fn gather<'a>(
         ≡ map (λ t. t.now) gathered.old.items ++ filter (is_by general) texts.now) }
 {
     for text in texts {
-        gather_one(general, text, gathered)?;
+        if text.signer == general {
+            gathered.push(text)?;
+        }
     }
     Ok(())
 }
@@ -60,22 +36,11 @@ pub fn texts_by<'a>(
 {
     let mut texts = Vec::new(alloc);
     for report in reports {
-        gather(general, read_texts(report.reading()), &mut texts)?;
-    }
-    Ok(texts)
-}
-
-/// Whether one of the texts has the same subject as this one.
-fn has_like(texts: &[&SignedText], text: &SignedText) -> bool
-    ensures { result
-        ≡ list_any (λ x. finds.is_like x.text text.now.text) (map (λ t. t.now) texts.now) }
-{
-    for other in texts {
-        if is_like(&other.text, &text.text) {
-            return true;
+        if let Reading::Own(found) = report.reading() {
+            gather(general, found.texts(), &mut texts)?;
         }
     }
-    false
+    Ok(texts)
 }
 
 /// Appends a text, unless one of the others has its subject.
@@ -83,9 +48,12 @@ fn put_new<'a>(text: &'a SignedText, firsts: &mut Vec<&'a SignedText>) -> Result
     ensures { OnOk result (map (λ t. t.now) firsts.new.items
         ≡ map (λ t. t.now) firsts.old.items ++ finds.new_one (map (λ t. t.now) firsts.old.items) text.now) }
 {
-    if !has_like(firsts.as_slice(), text) {
-        firsts.push(text)?;
+    for other in firsts.as_slice() {
+        if is_like(&other.text, &text.text) {
+            return Ok(());
+        }
     }
+    firsts.push(text)?;
     Ok(())
 }
 

@@ -27,13 +27,6 @@ fn unsaid_in<'a>(firsts: &[&'a SignedText], reading: &Reading) -> Option<&'a Sig
     }
 }
 
-/// Whether a report is of a sealed log of the general that has no SIGN of one of these statements.
-fn lacks(general: GeneralNo, firsts: &[&SignedText], report: &LocalReport) -> bool
-    ensures { result ≡ finds.lacks general (map (λ t. t.now) firsts.now) report.now }
-{
-    report.exhibit().general() == general && unsaid_in(firsts, report.reading()).is_some()
-}
-
 /// Returns the first report of a sealed log of the general that has no SIGN of one of these statements.
 fn first_lacking<'a>(
     general: GeneralNo,
@@ -44,30 +37,11 @@ fn first_lacking<'a>(
         ≡ find (finds.lacks general (map (λ t. t.now) firsts.now)) reports.now }
 {
     for report in reports {
-        if lacks(general, firsts, report) {
+        if report.exhibit().general() == general && unsaid_in(firsts, report.reading()).is_some() {
             return Some(report);
         }
     }
     None
-}
-
-/// Returns the claim that the text, a statement, is missing from the log; none if the text is a head.
-fn missing_of(alloc: Global, log: &[u8], text: &SignedText) -> Result<Option<Claim>, AllocError>
-    ensures { IfOk result (λ claim. option_map told claim
-        ≡ finds.missing_of log.now text.now.signature text.now.text) }
-{
-    match text.text {
-        Text::OfHead(_) => Ok(None),
-        Text::OfStatement(statement) => {
-            let log = Vec::from_slice(alloc, log)?;
-            let signature = text.signature.share(alloc)?;
-            Ok(Some(Claim::Missing {
-                log,
-                statement,
-                signature,
-            }))
-        }
-    }
 }
 
 /// Returns the claim by the first sealed log of the general from which one of these statements is missing.
@@ -83,9 +57,16 @@ pub fn missing_claim(
     let Some(report) = first_lacking(general, firsts, reports) else {
         return Ok(None);
     };
-    match unsaid_in(firsts, report.reading()) {
-        None => Ok(None),
-        Some(text) => missing_of(alloc, report.exhibit().log(), text),
+    let Some(text) = unsaid_in(firsts, report.reading()) else {
+        return Ok(None);
+    };
+    match text.text {
+        Text::OfHead(_) => Ok(None),
+        Text::OfStatement(statement) => Ok(Some(Claim::Missing {
+            log: Vec::from_slice(alloc, report.exhibit().log())?,
+            statement,
+            signature: text.signature.share(alloc)?,
+        })),
     }
 }
 
@@ -105,39 +86,19 @@ fn departure_in(reading: &Reading) -> Option<usize>
     }
 }
 
-/// Whether a report is of a sealed log of the general that departs.
-fn departs(general: GeneralNo, report: &LocalReport) -> bool
-    ensures { result ≡ finds.departs general report.now }
-{
-    report.exhibit().general() == general && departure_in(report.reading()).is_some()
-}
-
 /// Returns the first report of a sealed log of the general that departs.
 fn first_departing<'a>(general: GeneralNo, reports: &'a [LocalReport]) -> Option<&'a LocalReport>
     ensures { option_map (λ r. r.now) result ≡ find (finds.departs general) reports.now }
 {
     for report in reports {
-        if departs(general, report) {
+        if report.exhibit().general() == general && departure_in(report.reading()).is_some() {
             return Some(report);
         }
     }
     None
 }
 
-/// Returns the claim that a log departs at an entry, if the entry's number fits into four bytes.
-fn departing_at(alloc: Global, log: &[u8], index: usize) -> Result<Option<Claim>, AllocError>
-    ensures { IfOk result (λ claim. option_map told claim
-        ≡ finds.departing_at log.now (Some index)) }
-{
-    if index > u32::MAX as usize {
-        return Ok(None);
-    }
-    let log = Vec::from_slice(alloc, log)?;
-    let entry = index as u32;
-    Ok(Some(Claim::Departing { log, entry }))
-}
-
-/// Returns the claim by the first sealed log of the general that departs.
+/// Returns the claim by the first sealed log of the general that departs, if the entry's number fits into four bytes.
 pub fn departing_claim(
     alloc: Global,
     general: GeneralNo,
@@ -149,8 +110,13 @@ pub fn departing_claim(
     let Some(report) = first_departing(general, reports) else {
         return Ok(None);
     };
-    match departure_in(report.reading()) {
-        None => Ok(None),
-        Some(index) => departing_at(alloc, report.exhibit().log(), index),
+    let Some(index) = departure_in(report.reading()) else {
+        return Ok(None);
+    };
+    if index > u32::MAX as usize {
+        return Ok(None);
     }
+    let log = Vec::from_slice(alloc, report.exhibit().log())?;
+    let entry = index as u32;
+    Ok(Some(Claim::Departing { log, entry }))
 }

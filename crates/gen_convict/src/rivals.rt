@@ -1,8 +1,7 @@
 //! Finds the first two texts of a general that contradict each other across runs.
-ghost use Rattle.std.specs.Prelude.{◌≡◌, ◌∷◌, ◌++◌, IfOk, OnOk, map};
+ghost use Rattle.std.specs.Prelude.{◌≡◌, ◌∷◌, IfOk, OnOk, map};
 ghost use Rattle.std.specs.Option.{option_map};
 ghost use Rattle.std.specs.List.{find, list_any};
-ghost use Rattle.gen_convict.specs.Across.{of_run};
 ghost use Rattle.gen_convict.specs.AcrossFinding as finds;
 ghost use Rattle.gen_convict.specs.Loops.Alone.{MeetNone};
 ghost use Rattle.gen_convict.specs.Seen.{seen, seen_run};
@@ -11,18 +10,8 @@ use crate::gathered::texts_by;
 use crate::seen_texts::{SeenRun, SeenText};
 use crate::shared_leaves::share_leaves;
 use crate::text_likeness::{is_like, is_unlike};
-use gen_local::SignedText;
-use gen_net::Header;
 use gen_types::GeneralNo;
 use std::alloc::{AllocError, Global};
-
-/// Whether two texts stand under one leaf, in two runs that use the same leaves.
-#[tactic(auto, unfolding(crate::specs::AcrossFinding::meets))]
-fn meets(first: SeenText, second: SeenText) -> bool
-    ensures { result ≡ finds.meets (seen first.entry) (seen second.entry) }
-{
-    is_like(&first.text.text, &second.text.text) && share_leaves(first.header, second.header)
-}
 
 /// Whether two texts stand under one leaf, in two runs that use the same leaves, and differ.
 #[tactic(auto, unfolding(crate::specs::AcrossFinding::is_rival))]
@@ -35,20 +24,13 @@ pub fn is_rival(first: SeenText, second: SeenText) -> bool
             || is_unlike(&first.text.text, &second.text.text))
 }
 
-/// Whether two texts are of one run and have one subject.
-#[tactic(auto, unfolding(crate::specs::AcrossFinding::is_beside))]
-fn is_beside(first: SeenText, second: SeenText) -> bool
-    ensures { result ≡ finds.is_beside (seen first.entry) (seen second.entry) }
-{
-    is_like(&first.text.text, &second.text.text) && first.header == second.header
-}
-
-/// Whether one of the other texts stands under the leaf of this one, in another run.
+/// Whether one of the other texts stands under the leaf of this one, in another run that uses the same leaves.
+#[tactic(auto, unfolding(crate::specs::AcrossFinding::meets))]
 fn has_meeting(text: SeenText, others: &[SeenText]) -> bool
     ensures { result ≡ list_any (finds.meets (seen text.entry)) (map seen others.now) }
 {
     for other in others {
-        if meets(text, *other) {
+        if is_like(&text.text.text, &other.text.text) && share_leaves(text.header, other.header) {
             return true;
         }
     }
@@ -56,11 +38,12 @@ fn has_meeting(text: SeenText, others: &[SeenText]) -> bool
 }
 
 /// Whether one of these texts has the run and the subject of `text`.
+#[tactic(auto, unfolding(crate::specs::AcrossFinding::is_beside))]
 fn has_beside(texts: &[SeenText], text: SeenText) -> bool
     ensures { result ≡ list_any (λ x. finds.is_beside x (seen text.entry)) (map seen texts.now) }
 {
     for other in texts {
-        if is_beside(*other, text) {
+        if is_like(&other.text.text, &text.text.text) && other.header == text.header {
             return true;
         }
     }
@@ -121,39 +104,7 @@ pub fn first_rivals<'a>(
     Ok(None)
 }
 
-/// Appends texts of a run, each with the run's header.
-fn put_texts<'a>(
-    header: &'a Header,
-    texts: &[&'a SignedText],
-    gathered: &mut Vec<SeenText<'a>>,
-) -> Result<(), AllocError>
-    ensures { OnOk result (map seen gathered.new.items
-        ≡ map seen gathered.old.items ++ map (of_run header.now) (map (λ t. t.now) texts.now)) }
-{
-    for text in texts {
-        gathered.push(SeenText {
-            header,
-            text: *text,
-        })?;
-    }
-    Ok(())
-}
-
-/// Appends the texts of a general in a run, each with the run's header.
-fn gather_run<'a>(
-    alloc: Global,
-    general: GeneralNo,
-    run: SeenRun<'a>,
-    gathered: &mut Vec<SeenText<'a>>,
-) -> Result<(), AllocError>
-    ensures { OnOk result (map seen gathered.new.items
-        ≡ map seen gathered.old.items ++ finds.his_in_run general (seen_run run.entry)) }
-{
-    let texts = texts_by(alloc, general, run.reports)?;
-    put_texts(run.header, texts.as_slice(), gathered)
-}
-
-/// Returns the texts of a general in all the reports, run by run.
+/// Returns the texts of a general in all the reports, run by run, each with its run's header.
 pub fn texts_across<'a>(
     alloc: Global,
     general: GeneralNo,
@@ -164,7 +115,13 @@ pub fn texts_across<'a>(
 {
     let mut texts = Vec::new(alloc);
     for run in runs {
-        gather_run(alloc, general, *run, &mut texts)?;
+        let found = texts_by(alloc, general, run.reports)?;
+        for text in &found {
+            texts.push(SeenText {
+                header: run.header,
+                text: *text,
+            })?;
+        }
     }
     Ok(texts)
 }

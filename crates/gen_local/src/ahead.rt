@@ -1,7 +1,6 @@
 //! Verifies statements of logs side by side, ahead of their checks.
 //!
 //! No result depends on this: the store keeps each answer, and a kept answer is not computed again.
-ghost use Rattle.std.specs.Prelude.{◌≤◌, IfOk, length};
 ghost use Rattle.gen_chain.specs.Store.{Serves, KeepsAll};
 
 use crate::opening::{Opened, Opening};
@@ -11,52 +10,39 @@ use gen_net::Header;
 use sha_lanes::LANES;
 use std::alloc::{AllocError, Global};
 
-/// Returns the last signer's statement and signature in a SIGN or RECV entry, if it has a signer. The signatures of the
-/// signers before stand in chains that were received earlier, in the logs of generals that follow.
-fn last_signing(entry: &Entry) -> Option<Signing<'_>> {
-    match entry {
+/// Returns the last signer's statement and signature in a SIGN or RECV entry, if it has a signer and no answer is kept.
+/// The signatures of the signers before stand in chains that were received earlier, in the logs of generals that follow.
+fn unkept_signing<'a>(entry: &'a Entry, store: &VerifyStore) -> Option<Signing<'a>> {
+    let signing = match entry {
         Entry::Sign {
             order,
             path,
             signature,
-        } => {
-            let signer = path.last()?;
-            Some(Signing {
-                signer,
-                statement: Statement {
-                    order: *order,
-                    path: *path,
-                },
-                signature,
-            })
-        }
+        } => Signing {
+            signer: path.last()?,
+            statement: Statement {
+                order: *order,
+                path: *path,
+            },
+            signature,
+        },
         Entry::Recv { from: _, chain } => {
             let last = chain.signers().last()?;
-            Some(Signing {
+            Signing {
                 signer: last.general,
                 statement: Statement {
                     order: chain.order(),
                     path: chain.path(),
                 },
                 signature: &last.signature,
-            })
-        }
-        _ => None,
-    }
-}
-
-/// Returns the last signer's statement and signature in an entry, if there are both and no answer is kept.
-fn unkept_signing<'a>(entry: &'a Entry, store: &VerifyStore) -> Option<Signing<'a>> {
-    match last_signing(entry) {
-        Some(signing) => {
-            if store.keeps(&signing) {
-                None
-            } else {
-                Some(signing)
             }
         }
-        None => None,
+        _ => return None,
+    };
+    if store.keeps(&signing) {
+        return None;
     }
+    Some(signing)
 }
 
 /// Returns the first SIGN of an opened log, if there is a log and it has a SIGN.
@@ -68,29 +54,6 @@ fn first_sign(opened: &Opened) -> Option<&Entry> {
             .find(|entry| matches!(entry, Entry::Sign { .. })),
         _ => None,
     }
-}
-
-/// Returns the statement and the signature of the first SIGN of an opened log, if there is one and no answer is kept.
-fn unkept_sign<'a>(opened: &'a Opened, store: &VerifyStore) -> Option<Signing<'a>> {
-    match first_sign(opened) {
-        Some(sign) => unkept_signing(sign, store),
-        None => None,
-    }
-}
-
-/// Returns the claims about the first SIGNs of opened logs that have no kept answer, up to `LANES` of them.
-fn unkept_signs<'a>(
-    alloc: Global,
-    opened: &'a [Opened],
-    store: &VerifyStore,
-) -> Result<Vec<Signing<'a>>, AllocError>
-    ensures { IfOk result (λ signings. length signings.items ≤ LANES) }
-{
-    opened
-        .iter()
-        .filter_map(|one| unkept_sign(one, store))
-        .take(LANES)
-        .collect(alloc)
 }
 
 /// Verifies the signatures of the first SIGNs of opened logs that have no kept answer, up to `LANES` of them.
@@ -108,23 +71,13 @@ pub fn verify_signs(
     ensures grows { KeepsAll store.old store.new }
     ensures serves { Serves header.now store.new }
 {
-    let signings = unkept_signs(alloc, opened, store)?;
-    store.verify_lanes(header, signings.as_slice())
-}
-
-/// Returns the claims about the last signers of entries that have no kept answer, up to `LANES` of them.
-fn unkept_among<'a>(
-    alloc: Global,
-    entries: &'a [Entry],
-    store: &VerifyStore,
-) -> Result<Vec<Signing<'a>>, AllocError>
-    ensures { IfOk result (λ signings. length signings.items ≤ LANES) }
-{
-    entries
+    let kept = &*store;
+    let signings: Vec<Signing<'_>> = opened
         .iter()
-        .filter_map(|entry| unkept_signing(entry, store))
+        .filter_map(|one| first_sign(one).and_then(|sign| unkept_signing(sign, kept)))
         .take(LANES)
-        .collect(alloc)
+        .collect(alloc)?;
+    store.verify_lanes(header, signings.as_slice())
 }
 
 /// Verifies up to `LANES` signatures side by side: those of the last signers of the first entry and of the next entries
@@ -150,7 +103,12 @@ pub fn verify_next(
     if unkept_signing(first, store).is_none() {
         return Ok(());
     }
-    let signings = unkept_among(alloc, entries, store)?;
+    let kept = &*store;
+    let signings: Vec<Signing<'_>> = entries
+        .iter()
+        .filter_map(|entry| unkept_signing(entry, kept))
+        .take(LANES)
+        .collect(alloc)?;
     if signings.len() < LANES / 2 {
         return Ok(());
     }

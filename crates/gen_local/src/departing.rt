@@ -19,20 +19,6 @@ pub fn starter(entries: &[Entry]) -> Option<GeneralNo>
     }
 }
 
-/// Returns the entry at which the log of this general departs, if it does.
-fn departs_as(header: &Header, general: GeneralNo, log: &Log) -> Option<usize>
-    requires log { IsLog header.now log.now }
-    requires starts { BeginsWithStartOf general log.now.entries }
-    ensures departs { (p : ℕ) → (result ≡ Some p)
-        ↔ DepartsAt header.now.network general (erased log.now.entries) p }
-    ensures follows { (result ≡ None)
-        ↔ IsFollowersLog header.now.network general (erased log.now.entries) }
-{
-    let net = header.net();
-    let _generals = net.generals();
-    departs_from(net, general, log.entries())
-}
-
 /// Returns the entry, counted from 0, at which a log departs from the algorithm. The entries before it begin a log that
 /// the general named by START could keep of some run that it follows in; with it they don't. None is returned if and
 /// only if the general could keep the whole log.
@@ -49,7 +35,11 @@ pub fn departs(header: &Header, log: &Log) -> Option<usize>
         → (result ≡ None) ↔ IsFollowersLog header.now.network general (erased log.now.entries) }
 {
     match starter(log.entries()) {
-        Some(general) => departs_as(header, general, log),
+        Some(general) => {
+            let net = header.net();
+            let _generals = net.generals();
+            departs_from(net, general, log.entries())
+        }
         None => None,
     }
 }

@@ -1,9 +1,7 @@
 //! Gathers the texts of a log whose signatures verify.
-ghost use Rattle.std.specs.Prelude.{◌≡◌, ◌≢◌, ◌≤◌, ◌++◌, ◌∷◌, [], Some, None, IfOk, OnOk, AllPairs, length, filter, cond};
+ghost use Rattle.std.specs.Prelude.{◌≡◌, ◌≢◌, ◌≤◌, ◌++◌, ◌∷◌, [], Some, None, IfOk, OnOk, AllPairs, length, filter};
 ghost use Rattle.std.specs.List.{list_all, flat_map};
-ghost use Rattle.std.specs.Option.{option_or};
 ghost use Rattle.gen_chain.specs.Chain.{signed_path};
-ghost use Rattle.gen_chain.specs.Verified as tests;
 ghost use Rattle.gen_chain.specs.Store.{Serves, KeepsAll};
 ghost use Rattle.gen_local.specs.FoundLog.{is_signed, first_unsigned};
 ghost use Rattle.gen_local.specs.SignedTexts.{stated, texts_behind, texts_in, text_verifies, verified};
@@ -16,23 +14,6 @@ use gen_net::Header;
 use gen_tree::Signature;
 use gen_types::{GeneralNo, OrderNo, Path};
 use std::alloc::{AllocError, Global};
-
-/// Whether the signature verifies as the signer's signature of the statement.
-fn is_signed_by(
-    store: &mut VerifyStore,
-    header: &Header,
-    signer: GeneralNo,
-    statement: &Statement,
-    signature: &Signature,
-) -> Result<bool, AllocError>
-    requires { Serves header.now store.old }
-    ensures told { IfOk result (λ told.
-        told ≡ tests.has_signed header.now signer statement.now signature.now) }
-    ensures grows { KeepsAll store.old store.new }
-    ensures serves { Serves header.now store.new }
-{
-    store.check(header, signer, statement, signature)
-}
 
 /// Appends a text if its signature verifies.
 pub fn put_if(
@@ -74,7 +55,7 @@ fn gather_statement(
     ensures grows { KeepsAll store.old store.new }
     ensures serves { Serves header.now store.new }
 {
-    let verifies = is_signed_by(store, header, signer, &statement, signature)?;
+    let verifies = store.check(header, signer, &statement, signature)?;
     let text = Text::OfStatement(statement);
     put_if(alloc, texts, verifies, signer, text, signature)?;
     Ok(verifies)
@@ -159,16 +140,6 @@ fn gather_entry(
     }
 }
 
-/// Returns the number if there is one; or else the index, if `fails`.
-fn first_of(number: Option<usize>, fails: bool, index: usize) -> Option<usize>
-    ensures { result ≡ option_or number (cond fails (Some index) None) }
-{
-    match number {
-        Some(_) => number,
-        None => { if fails { Some(index) } else { None } }
-    }
-}
-
 /// Appends the texts of entries whose signatures verify. Returns the index of the first entry with a signature that
 /// doesn't verify, if there is one.
 pub fn gather_entries(
@@ -191,7 +162,7 @@ pub fn gather_entries(
     while let Some((entry, others)) = rest.split_first() {
         verify_next(alloc, header, rest, store)?;
         let signed = gather_entry(alloc, header, entry, store, texts)?;
-        unsigned = first_of(unsigned, !signed, index);
+        unsigned = unsigned.or((!signed).then_some(index));
         index += 1;
         rest = others;
     }

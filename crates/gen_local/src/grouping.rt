@@ -19,31 +19,6 @@ use gen_net::Header;
 use sha_lanes::LANES;
 use std::alloc::{AllocError, Global};
 
-/// Returns the last links of the logs of at most `LANES` opened exhibits, and whether their heads verify. Answers are
-/// exchanged with others before and after, since the links take most of the time.
-fn endings_among<E: Exchange>(
-    alloc: Global,
-    header: &Header,
-    opened: &[Opened],
-    store: &mut VerifyStore,
-    exchange: &E,
-) -> Result<Vec<Ending>, AllocError>
-    requires few { length opened.now ≤ LANES }
-    requires opened { All (IsOpened header.now) opened.now }
-    requires serves { Serves header.now store.old }
-    ensures endings { IfOk result (λ endings.
-        endings.items ≡ map (ending_over header.now) (logs_in opened.now)) }
-    ensures grows { KeepsAll store.old store.new }
-    ensures serves { Serves header.now store.new }
-{
-    verify_signs(alloc, header, opened, store)?;
-    exchange.exchange(header, store)?;
-    let texts = texts_of(alloc, opened)?;
-    let endings = endings_of(alloc, header, texts.as_slice())?;
-    exchange.exchange(header, store)?;
-    Ok(endings)
-}
-
 /// Returns the ending of an opened exhibit's log, and the endings that are left. These endings begin with it. If there
 /// is no log, all are left, and the ending that is returned says nothing.
 fn next_ending<'a>(opened: &Opened, endings: &'a [Ending]) -> (Ending, &'a [Ending])
@@ -94,7 +69,8 @@ fn put_reports(
     Ok(())
 }
 
-/// Appends the reports of at most `LANES` exhibits.
+/// Appends the reports of at most `LANES` exhibits. Answers are exchanged with others before and after the links are
+/// hashed, since that takes most of the time.
 fn put_group<E: Exchange>(
     alloc: Global,
     header: &Header,
@@ -111,7 +87,13 @@ fn put_group<E: Exchange>(
     ensures serves { Serves header.now store.new }
 {
     let opened = open_each(alloc, header, exhibits, store)?;
-    let endings = endings_among(alloc, header, opened.as_slice(), store, exchange)?;
+    verify_signs(alloc, header, opened.as_slice(), store)?;
+    exchange.exchange(header, store)?;
+    let endings = {
+        let texts = texts_of(alloc, opened.as_slice())?;
+        endings_of(alloc, header, texts.as_slice())?
+    };
+    exchange.exchange(header, store)?;
     put_reports(alloc, header, opened, endings.as_slice(), store, reports)
 }
 

@@ -2,10 +2,10 @@
 ghost use Rattle.std.specs.Prelude.{IsTrue, ◌≡◌, ◌≤◌, ◌<◌, ◌↔◌, ◌⊎◌};
 ghost use Rattle.gen_log.specs.Entry.{erase};
 ghost use Rattle.gen_net.specs.Network.{IsNetwork};
-ghost use Rattle.gen_local.specs.Following.{IsOwn, MayFollow};
+ghost use Rattle.gen_local.specs.Following.{MayFollow};
 ghost use Rattle.gen_local.specs.Keys.{IsSmall};
 ghost use Rattle.gen_local.specs.Erased.{erased};
-ghost use Rattle.gen_local.specs.Walking.Judged.{Stops, AnyStops, CanSend, IsAllowed, HasStarted, IsJudged};
+ghost use Rattle.gen_local.specs.Walking.Judged.{Stops, AnyStops, CanSend, IsAllowed, IsJudged};
 ghost use Rattle.gen_local.specs.Walking.State.{IsAfter};
 
 use crate::deciding::can_decide;
@@ -57,17 +57,6 @@ fn can_send(net: &Net, progress: &Progress, to: GeneralNo, path: &Path) -> bool
     }
 }
 
-/// Whether the general may have this order of its own: the commander has one of the network's orders, a lieutenant
-/// none.
-fn is_own(net: &Net, general: GeneralNo, own: Option<OrderNo>) -> bool
-    ensures { IsTrue result ↔ IsOwn net.now general own }
-{
-    match own {
-        None => general.get() != 0,
-        Some(order) => general.get() == 0 && order.get() < net.orders(),
-    }
-}
-
 /// Whether the general, with this progress after the entries before, can write the entry.
 fn is_allowed(
     net: &Net,
@@ -79,10 +68,14 @@ fn is_allowed(
     ensures { IsTrue result ↔ IsAllowed net.now general (erased before.now) orders.now (erase entry.now) }
 {
     match entry {
+        // The commander has one of the network's orders of its own, and a lieutenant none.
         Entry::Start {
             general: other,
             own,
-        } => *other == general && is_own(net, general, *own),
+        } => match own {
+            None => *other == general && general.get() != 0,
+            Some(order) => *other == general && general.get() == 0 && order.get() < net.orders(),
+        },
         Entry::Sign {
             order,
             path,
@@ -101,13 +94,6 @@ fn is_allowed(
     }
 }
 
-/// Whether the entry is START, or there is an entry before it.
-fn has_started(least: u32, entry: &Entry) -> bool
-    ensures { IsTrue result ↔ HasStarted least (erase entry.now) }
-{
-    matches!(entry, Entry::Start { .. }) || least > 0
-}
-
 /// Whether the entry may follow. The places of the entries before are below `least`, and `orders` is the progress after
 /// them.
 pub fn is_judged(
@@ -122,7 +108,7 @@ pub fn is_judged(
 {
     let at = place_key(net, entry);
     least <= at
-        && has_started(least, entry)
+        && (matches!(entry, Entry::Start { .. }) || least > 0)
         && !any_stops(net, orders, at)
         && is_allowed(net, general, before, orders, entry)
 }

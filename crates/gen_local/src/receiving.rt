@@ -1,24 +1,19 @@
 //! Tests which chains a general can receive.
-ghost use Rattle.std.specs.Prelude.{IsTrue, ◌≡◌, ◌↔◌, ◌<◌, All};
+ghost use Rattle.std.specs.Prelude.{IsTrue, ◌↔◌, ◌<◌};
 ghost use Rattle.gen_net.specs.Chain.{IsChain};
 ghost use Rattle.gen_net.specs.Run.{IsWellFormed};
 
 use gen_net::Net;
 use gen_types::{GeneralNo, OrderNo, Path};
 
-/// Whether all generals of the path are of the network.
-fn are_known(net: &Net, path: &Path) -> bool
-    ensures { IsTrue result ↔ All (λ g. g < net.now.generals) path.now }
-{
-    path.generals().iter().all(|g| g.get() < net.generals())
-}
-
 /// Whether the order and the path are a chain of the network.
 fn is_chain(net: &Net, order: OrderNo, path: &Path) -> bool
     ensures { IsTrue result ↔ IsChain net.now order path.now }
 {
     let _length = path.len();
-    order.get() < net.orders() && are_known(net, path) && path.starts_with(&Path::commander())
+    order.get() < net.orders()
+        && path.generals().iter().all(|g| g.get() < net.generals())
+        && path.starts_with(&Path::commander())
 }
 
 /// Whether a chain of this order and path can arrive at the general from this sender.

@@ -1,11 +1,9 @@
 //! Walks through entries, and finds where they depart.
-ghost use Rattle.std.specs.Prelude.{IsTrue, IsSome, IfSome, ℕ, ◌≡◌, ◌<◌, ◌≤◌, ◌+◌, ◌↔◌, Some, None};
+ghost use Rattle.std.specs.Prelude.{IsSome, IfSome, ℕ, ◌≡◌, ◌<◌, ◌≤◌, ◌+◌, ◌↔◌, Some, None};
 ghost use Rattle.gen_log.specs.Entry.{erase};
 ghost use Rattle.gen_net.specs.Departs.{Begins, DepartsAt};
-ghost use Rattle.gen_local.specs.Following.{MayFollow};
 ghost use Rattle.gen_local.specs.Keys.{IsSmall, key_of as key_at};
 ghost use Rattle.gen_local.specs.Erased.{erased};
-ghost use Rattle.gen_local.specs.Walking.State.{IsAfter};
 ghost use Rattle.gen_local.specs.Walking.Brought.{SendsInside};
 
 use crate::bringing::bring;
@@ -15,24 +13,6 @@ use crate::progress::{ORDERS, Progress};
 use gen_log::Entry;
 use gen_net::Net;
 use gen_types::GeneralNo;
-
-/// Whether the entry may follow those before it. The places of those are below `least`, and `orders` is the progress
-/// after them.
-fn may_follow(
-    net: &Net,
-    general: GeneralNo,
-    before: &[Entry],
-    least: u32,
-    orders: &[Progress; ORDERS],
-    entry: &Entry,
-) -> bool
-    requires { IsAfter net.now general (erased before.now) least orders.now }
-    ensures { IsTrue result ↔ MayFollow net.now general (erased before.now) (erase entry.now) }
-{
-    note_small(entry);
-    let _orders = net.orders();
-    is_judged(net, general, before, least, orders, entry)
-}
 
 /// Returns the first entry, counted from 0, with which the entries no longer begin a log that the general could keep of
 /// some run that it follows in. None is returned if and only if all the entries begin such a log. The entries may be
@@ -48,10 +28,10 @@ pub fn departs_from(net: &Net, general: GeneralNo, entries: &[Entry]) -> Option<
     for index in 0..entries.len() {
         let before = &entries[..index];
         let entry = &entries[index];
-        if !may_follow(net, general, before, least, &orders, entry) {
+        note_small(entry);
+        if !is_judged(net, general, before, least, &orders, entry) {
             return Some(index);
         }
-        note_small(entry);
         bring(net, general, &mut orders, entry);
         least = place_key(net, entry) + 1;
     }

@@ -1,6 +1,7 @@
 -- Received chains that the index of sources says nothing of, and where they are found.
 use Rattle.std.proofs.Common.{◌≡◌, ◌↔◌, ◌⊎◌, ◌<◌, ◌≤◌, ◌+◌, ◌*◌, ◌^◌, ℕ, Bool, true, false, ◌&&◌, not, cond, IsTrue, inl, inr, List, [], ◌∷◌, ◌++◌, length, map, Contains, All, Option, Some, None, Result, Ok, Err, IfOk, refl, sym, ap, ◌∙◌, subst, arith}
-use Rattle.std.specs.Option.{IfSome}
+use Rattle.std.specs.Option.{IfSome, option_or}
+use Rattle.std.specs.Bool.{then_some}
 use Rattle.std.proofs.lemmas.List.{append-nil}
 use Rattle.std.proofs.lemmas.List.Elements.{All-nil, All-cons, All-contains, Contains-append_left}
 use Rattle.gen_types.specs.Ascending.{IsListOf}
@@ -31,6 +32,11 @@ begin_step net faulty number next g found new rest others whole e n f h =
     ap (λ x. rest_begin net faulty next x others) f
     ∙ ap (λ m. rest_begin net faulty m (cond (is_rest net faulty g) (Some m) found) others) n
     ∙ ap (rest_begin net faulty number found) (sym e) ∙ h
+
+-- what is found up to a general: the number if the general is of the rest, or else what was found before
+pub last_told : (b : Bool) (number : ℕ) (before : Option ℕ) → option_or (then_some b number) before ≡ cond b (Some number) before
+last_told true number before = refl
+last_told false number before = refl
 
 pub found_small : (new : Option ℕ) (b : Bool) (number : ℕ) (found : Option ℕ) → number < 2 ^ 65 → new ≡ cond b (Some number) found → IfSome found (λ n. n < 2 ^ 65) → IfSome new (λ n. n < 2 ^ 65)
 found_small new true number found small e before = subst (λ o. IfSome o (λ n. n < 2 ^ 65)) (sym e) small

@@ -1,5 +1,5 @@
 //! Finds received chains that derive from nothing that the rest sent.
-ghost use Rattle.std.specs.Prelude.{◌≡◌, ◌<◌, ◌≤◌, ◌+◌, ◌++◌, ◌^◌, cond, Some, None, IfOk, IfSome, OnOk, AllPairs, Contains, length, map};
+ghost use Rattle.std.specs.Prelude.{◌≡◌, ◌<◌, ◌+◌, ◌++◌, ◌^◌, Some, None, IfOk, IfSome, OnOk, AllPairs, Contains, length, map};
 ghost use Rattle.std.specs.List.{flat_map, AllByRecursion};
 ghost use Rattle.gen_types.specs.Ascending.{IsListOf};
 ghost use Rattle.gen_log.specs.Entry.{erase};
@@ -22,13 +22,6 @@ use gen_net::Header;
 use gen_types::{GeneralNo, GeneralSet, OrderNo, Path};
 use std::alloc::{AllocError, Global};
 
-/// Returns the number if `is_found`, or else the number that was found before.
-fn last_of(before: Option<u128>, is_found: bool, number: u128) -> Option<u128>
-    ensures { result ≡ cond is_found (Some number) before }
-{
-    if is_found { Some(number) } else { before }
-}
-
 /// Returns the number of a path up to its last general of the rest, or None if no general of it is of the rest.
 fn rest_begin(header: &Header, faulty: &GeneralSet, path: &Path) -> Option<u128>
     ensures value { result ≡ finding.rest_begin header.now.network faulty.now 1 None path.now }
@@ -42,7 +35,9 @@ fn rest_begin(header: &Header, faulty: &GeneralSet, path: &Path) -> Option<u128>
     while let Some((general, others)) = rest.split_first() {
         number = longer(number, count, *general);
         count += 1;
-        found = last_of(found, is_rest(header, faulty, *general), number);
+        found = is_rest(header, faulty, *general)
+            .then_some(number)
+            .or(found);
         rest = others;
     }
     found

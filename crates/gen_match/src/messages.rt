@@ -10,7 +10,7 @@ ghost use Rattle.gen_match.specs.Reports.{told_logs};
 ghost use Rattle.gen_match.specs.Rest.{IsSmall, AreSmall};
 
 use crate::entries::{note_ranges, rest_entries};
-use crate::prefixes::{has, path_number, sort_apart};
+use crate::prefixes::{path_number, sort_apart};
 use crate::ranks::{RANK_SPAN, rank_number};
 use crate::sides::Side;
 use gen_local::LocalReport;
@@ -116,10 +116,13 @@ fn put_rank(key: u128, others: &[u128], ranks: &mut Vec<u128>) -> Result<(), All
     ensures { OnOk result (ranks.new.items
         ≡ ranks.old.items ++ message.rank_lacked others.now key) }
 {
-    if !has(others, key) {
-        ranks.push(key % RANK_SPAN)?;
+    match others.binary_search(&key) {
+        Ok(_) => Ok(()),
+        Err(_) => {
+            ranks.push(key % RANK_SPAN)?;
+            Ok(())
+        }
     }
-    Ok(())
 }
 
 /// Appends the ranks of the keys that the other keys don't have.

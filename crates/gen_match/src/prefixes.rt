@@ -1,7 +1,6 @@
 //! Gives beginnings of paths as numbers, and the keys of beginnings that were sent.
 ghost use Rattle.std.specs.Prelude.{ℕ, ◌≡◌, ◌+◌, ◌*◌, ◌^◌, ◌<◌, ◌≤◌, ◌++◌, OnOk, AllPairs, Contains, length};
 ghost use Rattle.gen_types.specs.Ascending.{IsListOf};
-ghost use Rattle.gen_types.specs.Ends.{is_among};
 ghost use Rattle.gen_match.specs.Prefixes as keys;
 
 use crate::ranks::{GENERAL_SPAN, ORDER_SPAN, ROUND_SPAN};
@@ -74,17 +73,6 @@ pub(crate) fn sort_apart(numbers: &mut Vec<u128>) -> Result<(), AllocError>
     numbers.sort()?;
     numbers.dedup();
     Ok(())
-}
-
-/// Whether a number is one of these ascending numbers.
-pub(crate) fn has(numbers: &[u128], number: u128) -> bool
-    requires { AllPairs (λ a b. a < b) numbers.now }
-    ensures { result ≡ is_among numbers.now number }
-{
-    match numbers.binary_search(&number) {
-        Ok(_) => true,
-        Err(_) => false,
-    }
 }
 
 /// Whether one of these ascending numbers is at least `low` and below `high`.

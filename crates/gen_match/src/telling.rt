@@ -2,7 +2,7 @@
 ghost use Rattle.std.specs.Prelude.{◌≡◌, ◌∷◌, [], IfSome, IfNone};
 ghost use Rattle.std.specs.Option.{option_map};
 ghost use Rattle.gen_local.specs.Erased.{erased};
-ghost use Rattle.gen_match.specs.Reports.{reports_of, entries_told, told_logs};
+ghost use Rattle.gen_match.specs.Reports.{reports_of, told_logs};
 
 use gen_local::{LocalReport, Reading};
 use gen_log::Log;
@@ -24,24 +24,14 @@ fn next_of(reports: &[LocalReport], general: GeneralNo) -> Option<(&LocalReport,
     None
 }
 
-/// Returns the log of a reading, if it is a log of its general and this run.
-fn log_of(reading: &Reading) -> Option<&Log>
-    ensures { option_map (λ log. erased log.now.entries) result ≡ entries_told reading.now }
-{
-    match reading {
-        Reading::Own(own) => Some(own.log()),
-        Reading::Unreadable(_) | Reading::Foreign => None,
-    }
-}
-
 /// Returns the log of a general's one report, if its exhibit is a log of this general and its run. None is returned
 /// otherwise, and if the general has no report or several.
 pub(crate) fn log_reported(reports: &[LocalReport], general: GeneralNo) -> Option<&Log>
     ensures { option_map (λ log. erased log.now.entries) result ≡ told_logs reports.now general }
 {
     let (report, others) = next_of(reports, general)?;
-    match next_of(others, general) {
-        None => log_of(report.reading()),
-        Some(_) => None,
+    match (next_of(others, general), report.reading()) {
+        (None, Reading::Own(own)) => Some(own.log()),
+        _ => None,
     }
 }

@@ -16,7 +16,7 @@ loop-run-preserved c = λ run k.
     let longer = ap (map seen_run) (take_more xs i x c.loop-run-test.true ∙ ap (λ y. take i xs ++ y ∷ []) (sym c.run-item.is)) ∙ map-append seen_run (take i xs) (x ∷ []) in
     elim (Contains-push_cases (map seen_run (take i xs)) (seen_run x) run (subst (λ ys. Contains ys run) longer k)) [
       | inl old ↦ c.loop-run.invariant run old
-      | inr e ↦ subst (λ (y : RunReports). IsHeader y.header × ((r : LocalReport) → Contains y.reports r → IsReport r × AreBelow 256 r.exhibit.bytes)) e (c.note_run.ensures.header, c.note_run.ensures.reports)
+      | inr e ↦ subst (λ (y : RunReports). IsHeader y.header × ((r : LocalReport) → Contains y.reports r → IsReport r × AreBelow 256 r.exhibit.bytes)) e (c.net-net.ensures.header, c.note_reports.ensures)
     ]
 
 pub returns : goal.returns

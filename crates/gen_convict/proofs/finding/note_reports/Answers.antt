@@ -12,7 +12,7 @@ loop-report-preserved c = λ r k.
     let x = c.report-item.result in
     elim (Contains-push_cases (take i xs) x r (subst (λ ys. Contains ys r) (take_more xs i x c.loop-report-test.true ∙ ap (λ y. take i xs ++ y ∷ []) (sym c.report-item.is)) k)) [
       | inl old ↦ c.loop-report.invariant r old
-      | inr e ↦ subst (λ (y : LocalReport). IsReport y × AreBelow 256 y.exhibit.bytes) e (c.note_report.ensures.report, c.note_report.ensures.bytes)
+      | inr e ↦ subst (λ (y : LocalReport). IsReport y × AreBelow 256 y.exhibit.bytes) e (c.reading-reading.ensures.report, rw (c.log.ensures, c.exhibit.ensures) at c.note_bytes.ensures)
     ]
 
 pub returns : goal.returns

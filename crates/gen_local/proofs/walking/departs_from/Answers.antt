@@ -5,6 +5,7 @@ use Rattle.gen_local.specs.Following.{MayFollow}
 use Rattle.gen_local.proofs.Whole.{begun_by_none}
 use Rattle.gen_local.specs.declared.progress.Progress.TheVariants.{Unlearnt}
 use Rattle.gen_local.specs.Erased.{erased}
+use Rattle.gen_local.proofs.StateJudges.{judged_may, may_judged}
 use Rattle.gen_local.proofs.StateMore.{after_none, after_more}
 use Rattle.gen_local.proofs.FirstRefusal.{erased_more, sends_inside, blank, refused_departs, refused_begins, none_departs, none_begins, begun_more}
 use Rattle.gen_local.proofs.walking.departs_from.Goals as goal
@@ -15,12 +16,9 @@ loop-index-init c = record {
   after = after_none c.args.net.now c.args.general (replicate 16 Unlearnt) refl (λ v low. blank Unlearnt 16 v);
 }
 
-pub may_follow-requires : goal.may_follow-requires
-may_follow-requires c = c.loop-index.invariant.after
-
 pub bring-requires-clause-inside : goal.bring-requires-clause-inside
 bring-requires-clause-inside c =
-    let m = c.may_follow.ensures.0 c.if-not-may_follow.false in
+    let m = judged_may c.args.net.now c.orders-orders.ensures.network c.args.general (erased (take c.loop-index.index c.args.entries.now)) c.loop-index.least c.loop-index.orders c.loop-index.invariant.after (erase c.index-entries-index.result) c.note_small.ensures (c.is_judged.ensures.0 c.if-not-is_judged.false) in
     sends_inside c.args.net.now c.args.general (erased (take c.loop-index.index c.args.entries.now)) c.orders-orders.ensures.network (erase c.index-entries-index.result) m.sound
 
 pub loop-index-preserved : goal.loop-index-preserved
@@ -30,22 +28,22 @@ loop-index-preserved c =
     let ok = c.orders-orders.ensures.network in
     let e = erase c.index-entries-index.result in
     let before : List LogEntry = erased (take c.loop-index.index c.args.entries.now) in
-    let m : MayFollow net g before e = c.may_follow.ensures.0 c.if-not-may_follow.false in
+    let m : MayFollow net g before e = judged_may c.args.net.now c.orders-orders.ensures.network c.args.general (erased (take c.loop-index.index c.args.entries.now)) c.loop-index.least c.loop-index.orders c.loop-index.invariant.after (erase c.index-entries-index.result) c.note_small.ensures (c.is_judged.ensures.0 c.if-not-is_judged.false) in
     let more = erased_more c.args.entries.now c.loop-index.index c.index-entries-index.result c.loop-index-test.true c.index-entries-index.is in
     rw more (record {
       begun = begun_more net g ok c.requires before e c.loop-index.invariant.begun m;
       after = rw c.place_key-least.ensures.value (after_more net ok g before c.loop-index.least c.loop-index.orders c.bring.new.orders c.loop-index.invariant.after e c.note_small.ensures m c.bring.ensures);
     })
 
-pub returns-then-not-may_follow-clause-departs : goal.returns-then-not-may_follow-clause-departs
-returns-then-not-may_follow-clause-departs c =
+pub returns-then-not-is_judged-clause-departs : goal.returns-then-not-is_judged-clause-departs
+returns-then-not-is_judged-clause-departs c =
     refused_departs c.args.net.now c.args.general c.orders-orders.ensures.network c.requires c.args.entries.now c.loop-index.index c.index-entries-index.result c.loop-index-test.true c.index-entries-index.is c.loop-index.invariant.begun
-    (λ m. let t : true ≡ false = sym (c.may_follow.ensures.1 m) ∙ c.if-not-may_follow.true in cc)
+    (λ m. let t : true ≡ false = sym (c.is_judged.ensures.1 (may_judged c.args.net.now c.orders-orders.ensures.network c.args.general (erased (take c.loop-index.index c.args.entries.now)) c.loop-index.least c.loop-index.orders c.loop-index.invariant.after (erase c.index-entries-index.result) c.note_small.ensures m)) ∙ c.if-not-is_judged.true in cc)
 
-pub returns-then-not-may_follow-clause-begins : goal.returns-then-not-may_follow-clause-begins
-returns-then-not-may_follow-clause-begins c =
+pub returns-then-not-is_judged-clause-begins : goal.returns-then-not-is_judged-clause-begins
+returns-then-not-is_judged-clause-begins c =
     refused_begins c.args.net.now c.args.general c.orders-orders.ensures.network c.requires c.args.entries.now c.loop-index.index c.index-entries-index.result c.loop-index-test.true c.index-entries-index.is c.loop-index.invariant.begun
-    (λ m. let t : true ≡ false = sym (c.may_follow.ensures.1 m) ∙ c.if-not-may_follow.true in cc)
+    (λ m. let t : true ≡ false = sym (c.is_judged.ensures.1 (may_judged c.args.net.now c.orders-orders.ensures.network c.args.general (erased (take c.loop-index.index c.args.entries.now)) c.loop-index.least c.loop-index.orders c.loop-index.invariant.after (erase c.index-entries-index.result) c.note_small.ensures m)) ∙ c.if-not-is_judged.true in cc)
 
 pub returns-clause-departs : goal.returns-clause-departs
 returns-clause-departs c = none_departs c.args.net.now c.args.general c.orders-orders.ensures.network c.requires c.args.entries.now c.loop-index.index c.loop-index-test.false c.loop-index.invariant.begun
