@@ -1,35 +1,11 @@
 //! Adds one event to a desk's rows and steps.
 ghost use Rattle.std.specs.Prelude.{◌≡◌, ◌<◌, vec_len, vec_capacity};
-ghost use Rattle.gen_desk.specs.History.{Filing, Claiming, Reporting, MayHappen, after};
+ghost use Rattle.gen_desk.specs.History.{Filing, Claiming, Reporting, MayHappen};
 ghost use Rattle.gen_desk.specs.Histories.{with_event};
 ghost use Rattle.gen_desk.specs.Kept.{IsKept, history_of};
 
 use crate::rows::{Row, Step};
 use gen_local::{Exhibit, LocalReport};
-
-/// Puts an exhibit at a place.
-fn put_filing(rows: &mut Vec<Row>, place: usize, exhibit: Exhibit)
-    requires { place < vec_len rows.old }
-    ensures { rows.new.items ≡ after rows.old.items (Filing place exhibit) }
-{
-    rows[place].filed = Some(exhibit);
-}
-
-/// Marks a place as claimed.
-fn put_claim(rows: &mut Vec<Row>, place: usize)
-    requires { place < vec_len rows.old }
-    ensures { rows.new.items ≡ after rows.old.items (Claiming place) }
-{
-    rows[place].claimed = true;
-}
-
-/// Puts a report at a place.
-fn put_report(rows: &mut Vec<Row>, place: usize, report: LocalReport)
-    requires { place < vec_len rows.old }
-    ensures { rows.new.items ≡ after rows.old.items (Reporting place report) }
-{
-    rows[place].report = Some(report);
-}
 
 /// Adds the filing of an exhibit at a place.
 pub(crate) fn add_filing(rows: &mut Vec<Row>, steps: &mut Vec<Step>, place: usize, exhibit: Exhibit)
@@ -40,7 +16,7 @@ pub(crate) fn add_filing(rows: &mut Vec<Row>, steps: &mut Vec<Step>, place: usiz
     ensures history { history_of rows.new.items steps.new.items
         ≡ with_event (history_of rows.old.items steps.old.items) (Filing place exhibit) }
 {
-    put_filing(rows, place, exhibit);
+    rows[place].filed = Some(exhibit);
     steps.push_reserved(Step::Filed(place));
 }
 
@@ -53,7 +29,7 @@ pub(crate) fn add_claim(rows: &mut Vec<Row>, steps: &mut Vec<Step>, place: usize
     ensures history { history_of rows.new.items steps.new.items
         ≡ with_event (history_of rows.old.items steps.old.items) (Claiming place) }
 {
-    put_claim(rows, place);
+    rows[place].claimed = true;
     steps.push_reserved(Step::Claimed(place));
 }
 
@@ -71,6 +47,6 @@ pub(crate) fn add_report(
     ensures history { history_of rows.new.items steps.new.items
         ≡ with_event (history_of rows.old.items steps.old.items) (Reporting place report) }
 {
-    put_report(rows, place, report);
+    rows[place].report = Some(report);
     steps.push_reserved(Step::Reported(place));
 }
