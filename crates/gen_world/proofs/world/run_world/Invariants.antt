@@ -1,5 +1,5 @@
 use Rattle.std.proofs.Common.{length}
-use Rattle.gen_world.proofs.world_decisions.close_all.Given as goal
+use Rattle.gen_world.proofs.world.run_world.Given as goal
 
 abbrev pub invariant-loop-part : goal.invariant-loop-part
 invariant-loop-part l = Unit {0}
