@@ -3,7 +3,6 @@ ghost use Rattle.std.specs.Prelude.{◌≡◌, ◌<◌, ◌↔◌, [], IsTrue, S
 ghost use Rattle.gen_desk.specs.History.{Filing, Claiming, Reporting, row_at, IsLegal};
 ghost use Rattle.gen_desk.specs.Histories.{rows_of, with_event, IsOpen, IsAwaited, IsFiledAt, NobodyWaits, AllReported, IsClaimed, FilingFault, ReportFault};
 
-use crate::changes::{add_claim, add_filing, add_report};
 use crate::faults::DeskFault;
 use crate::looks::{first_waiting, is_awaited, is_filed};
 use crate::rows::{Row, Step};
@@ -180,7 +179,9 @@ impl DeskState {
         if self.steps.reserve(1).is_err() {
             return Err((slip, DeskFault::Memory));
         }
-        add_filing(&mut self.rows, &mut self.steps, slip.give_up(), exhibit);
+        let place = slip.give_up();
+        self.rows[place].filed = Some(exhibit);
+        self.steps.push_reserved(Step::Filed(place));
         Ok(receipt)
     }
 
@@ -202,7 +203,8 @@ impl DeskState {
         let Some(exhibit) = filed_at(self.rows.as_slice(), place)? else {
             unreachable!()
         };
-        add_claim(&mut self.rows, &mut self.steps, place);
+        self.rows[place].claimed = true;
+        self.steps.push_reserved(Step::Claimed(place));
         Ok(Some(Ticket { place, exhibit }))
     }
 
@@ -235,7 +237,9 @@ impl DeskState {
             return Err((ticket, report, DeskFault::Memory));
         }
         let _lawful = report.reading();
-        add_report(&mut self.rows, &mut self.steps, ticket.place(), report);
+        let place = ticket.place();
+        self.rows[place].report = Some(report);
+        self.steps.push_reserved(Step::Reported(place));
         Ok(())
     }
 
