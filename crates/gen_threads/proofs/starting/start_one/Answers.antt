@@ -1,5 +1,5 @@
 use Rattle.gen_threads.proofs.Gathering.{passes_of}
-use Rattle.gen_threads.proofs.starting.start_next.Goals as goal
+use Rattle.gen_threads.proofs.starting.start_one.Goals as goal
 
 pub returns-then-stopped-clause-err : goal.returns-then-stopped-clause-err
 returns-then-stopped-clause-err g c =
