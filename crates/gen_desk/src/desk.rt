@@ -1,12 +1,12 @@
 //! A desk that generals and workers share.
-ghost use Rattle.std.specs.Prelude.{◌≡◌, All, IfOk, IfErr, MatchResult, IfSome};
+ghost use Rattle.std.specs.Prelude.{◌≡◌, All, IfOk, IfErr};
 ghost use Rattle.std.specs.List.{range_with_len};
 ghost use Rattle.gen_desk.specs.Filings.{HasOnce, IsFirstStrange};
 
-use crate::closing::{Filed, StrangeReceipt, end};
+use crate::closing::{Filed, StrangeReceipt, first_unfiled};
 use crate::faults::DeskFault;
 use crate::looks::is_same;
-use crate::state::{DeskState, exhibit_with_receipt};
+use crate::state::{DeskState, exhibit_with_receipt, filed_at};
 use crate::tokens::{Receipt, Slip, Ticket};
 use crossbeam_utils::sync::{EventCount, Key};
 use gen_local::LocalReport;
@@ -23,17 +23,6 @@ pub struct Desk {
     moved: EventCount,
 }
 
-/// Returns one slip for each place.
-fn slips_of(alloc: Global, places: usize) -> Result<Vec<Slip>, AllocError>
-    ensures { IfOk result (λ slips. slips.items ≡ range_with_len 0 places) }
-{
-    let mut slips = Vec::with_capacity(alloc, places)?;
-    for place in 0..places {
-        slips.push_reserved(Slip::new(place));
-    }
-    Ok(slips)
-}
-
 impl Desk {
     /// Returns a desk with this number of places, and one slip for each place.
     ///
@@ -44,7 +33,10 @@ impl Desk {
         ensures { IfOk result (λ made. made.1.items ≡ range_with_len 0 places) }
     {
         let state = Mutex::new(DeskState::new(alloc, places)?);
-        let slips = slips_of(alloc, places)?;
+        let mut slips = Vec::with_capacity(alloc, places)?;
+        for place in 0..places {
+            slips.push_reserved(Slip { place });
+        }
         Ok((
             Desk {
                 alloc,
@@ -107,7 +99,7 @@ impl Desk {
     /// Whether the log of a receipt is filed at its place. The bytes are compared without the desk's lock. The answer
     /// is no, too, if what is filed has too many owners, 2^63 or more.
     pub fn knows<R: Wait>(&self, rt: &R, receipt: &Receipt) -> bool {
-        let filed = self.state.lock(rt).filed(receipt.place());
+        let filed = filed_at(self.state.lock(rt).rows(), receipt.place());
         match filed {
             Ok(Some(exhibit)) => is_same(&exhibit, receipt.exhibit()),
             Ok(None) => false,
@@ -177,6 +169,14 @@ impl Desk {
             state,
             moved: _,
         } = self;
-        end(state.into_inner(), receipts)
+        let state = state.into_inner();
+        match first_unfiled(state.rows(), receipts.as_slice()) {
+            Some(first) => Err(StrangeReceipt {
+                first,
+                receipts,
+                state,
+            }),
+            None => Ok(Filed { state }),
+        }
     }
 }

@@ -9,7 +9,6 @@
 //! calls return beyond their clauses is tested.
 #![tactic(auto)]
 
-mod changes;
 mod closing;
 mod desk;
 mod faults;

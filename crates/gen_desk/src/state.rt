@@ -1,12 +1,10 @@
 //! The state that a desk's lock guards.
-ghost use Rattle.std.specs.Prelude.{◌≡◌, ◌<◌, ◌↔◌, [], IsTrue, Some, None, IfOk, IfErr, OnOk, OnErr, MatchOption, length, replicate, vec_len, vec_capacity};
-ghost use Rattle.gen_log.specs.Writing.{LogBytes};
-ghost use Rattle.gen_desk.specs.History.{Filing, Claiming, Reporting, empty, row_at, IsLegal};
+ghost use Rattle.std.specs.Prelude.{◌≡◌, ◌<◌, ◌↔◌, [], IsTrue, Some, None, IfOk, IfErr, OnOk, OnErr, MatchOption, length};
+ghost use Rattle.gen_desk.specs.History.{Filing, Claiming, Reporting, row_at, IsLegal};
 ghost use Rattle.gen_desk.specs.Histories.{rows_of, with_event, IsOpen, IsAwaited, IsFiledAt, NobodyWaits, AllReported, IsClaimed, FilingFault, ReportFault};
 
-use crate::changes::{add_claim, add_filing, add_report};
 use crate::faults::DeskFault;
-use crate::looks::{all_reported, first_waiting, is_awaited, is_filed, is_open};
+use crate::looks::{first_waiting, is_awaited, is_filed};
 use crate::rows::{Row, Step};
 use crate::tokens::{Receipt, Slip, Ticket};
 use gen_local::{Exhibit, LocalReport};
@@ -45,12 +43,19 @@ pub(crate) fn exhibit_with_receipt(
     ensures receipt { IfOk result (λ r. r.1 ≡ record { place = place; shown = log.now }) }
 {
     let exhibit = Exhibit::of_log(log.share(alloc)?)?;
-    let receipt = Receipt::new(place, exhibit.share()?);
+    let receipt = Receipt {
+        place,
+        exhibit: exhibit.share()?,
+    };
     Ok((exhibit, receipt))
 }
 
 /// Returns the exhibit that is filed at a place, if there is one.
-fn filed_at(rows: &[Row], place: usize) -> Result<Option<Exhibit>, AllocError>
+///
+/// # Errors
+///
+/// `AllocError` where it has too many owners, 2^63 or more.
+pub(crate) fn filed_at(rows: &[Row], place: usize) -> Result<Option<Exhibit>, AllocError>
     ensures { IfOk result (λ found. found ≡ (row_at rows.now place).filed) }
 {
     match rows.get(place) {
@@ -71,9 +76,17 @@ impl DeskState {
     pub fn new(alloc: Global, places: usize) -> Result<DeskState, AllocError>
         ensures { IfOk result (λ state. state ≡ record { places = places; events = [] }) }
     {
+        let mut rows = Vec::with_capacity(alloc, places)?;
+        for _ in 0..places {
+            rows.push_reserved(Row {
+                filed: None,
+                claimed: false,
+                report: None,
+            });
+        }
         Ok(DeskState {
             alloc,
-            rows: empty_rows(alloc, places)?,
+            rows,
             steps: Vec::new(alloc),
         })
     }
@@ -105,18 +118,10 @@ impl DeskState {
     pub fn is_open(&self, place: usize) -> bool
         ensures { IsTrue result ↔ IsOpen self.now place }
     {
-        is_open(self.rows.as_slice(), place)
-    }
-
-    /// Returns the exhibit that is filed at a place, if there is one.
-    ///
-    /// # Errors
-    ///
-    /// `AllocError` where it has too many owners, 2^63 or more.
-    pub(crate) fn filed(&self, place: usize) -> Result<Option<Exhibit>, AllocError>
-        ensures { IfOk result (λ found. found ≡ (row_at (rows_of self.now) place).filed) }
-    {
-        filed_at(self.rows(), place)
+        match self.rows.get(place) {
+            Some(row) => row.filed.is_none(),
+            None => false,
+        }
     }
 
     /// Files a log at the place of a slip.
@@ -174,7 +179,9 @@ impl DeskState {
         if self.steps.reserve(1).is_err() {
             return Err((slip, DeskFault::Memory));
         }
-        add_filing(&mut self.rows, &mut self.steps, slip.give_up(), exhibit);
+        let place = slip.give_up();
+        self.rows[place].filed = Some(exhibit);
+        self.steps.push_reserved(Step::Filed(place));
         Ok(receipt)
     }
 
@@ -196,8 +203,9 @@ impl DeskState {
         let Some(exhibit) = filed_at(self.rows.as_slice(), place)? else {
             unreachable!()
         };
-        add_claim(&mut self.rows, &mut self.steps, place);
-        Ok(Some(Ticket::new(place, exhibit)))
+        self.rows[place].claimed = true;
+        self.steps.push_reserved(Step::Claimed(place));
+        Ok(Some(Ticket { place, exhibit }))
     }
 
     /// Reports on what was claimed.
@@ -229,7 +237,9 @@ impl DeskState {
             return Err((ticket, report, DeskFault::Memory));
         }
         let _lawful = report.reading();
-        add_report(&mut self.rows, &mut self.steps, ticket.place(), report);
+        let place = ticket.place();
+        self.rows[place].report = Some(report);
+        self.steps.push_reserved(Step::Reported(place));
         Ok(())
     }
 
@@ -237,21 +247,6 @@ impl DeskState {
     pub fn all_reported(&self) -> bool
         ensures { IsTrue result ↔ AllReported self.now }
     {
-        all_reported(self.rows.as_slice())
+        self.rows.iter().all(|row| row.report.is_some())
     }
-}
-
-/// Returns rows for this number of places, at which nothing has happened.
-fn empty_rows(alloc: Global, places: usize) -> Result<Vec<Row>, AllocError>
-    ensures { IfOk result (λ rows. rows.items ≡ replicate places empty) }
-{
-    let mut rows = Vec::with_capacity(alloc, places)?;
-    for _ in 0..places {
-        rows.push_reserved(Row {
-            filed: None,
-            claimed: false,
-            report: None,
-        });
-    }
-    Ok(rows)
 }

@@ -1,5 +1,5 @@
 -- The orders that were heard, one after another.
-use Rattle.std.proofs.Common.{◌≡◌, ℕ, Bool, true, List, [], eqb, Contains, inl, inr, ◌⊎◌, ◌<◌, ◌+◌, arith, filter, subst, sym}
+use Rattle.std.proofs.Common.{◌≡◌, ℕ, Bool, IsTrue, true, false, ◌↔◌, List, [], eqb, Contains, inl, inr, ◌⊎◌, ◌<◌, ◌+◌, arith, filter, subst, sym, AllPairs}
 use Rattle.std.specs.List.{range_with_len, list_any}
 use Rattle.std.proofs.lemmas.Bool.{eqb-true, eq-eqb}
 use Rattle.gen_types.specs.Ascending.{IsListOf}
@@ -47,4 +47,11 @@ noted heard old new order is has = record {
     λ h. elim ((is.members v).0 h) [ inl o ↦ inl o | inr e ↦ inr (e, has) ],
     λ p. elim p [ inl o ↦ (is.members v).1 (inl o) | inr e ↦ (is.members v).1 (inr e.0) ],
   );
+}
+
+pub not_noted : (heard : List Heard) (set : List ℕ) (order : ℕ) (any : Bool) → AllPairs (λ a b. a < b) set → (IsTrue any ↔ HasHeard heard order) → any ≡ false
+    → IsListOf set (λ v. Contains set v ⊎ ((v ≡ order) × HasHeard heard order))
+not_noted heard set order any ascending told fails = record {
+  ascending = ascending;
+  members = λ v. (λ h. inl h, λ p. elim p [ inl o ↦ o | inr e ↦ (let t : any ≡ true = told.1 e.1 in absurd cc) ]);
 }

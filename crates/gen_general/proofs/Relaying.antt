@@ -1,22 +1,24 @@
 -- Signing one order after another.
-use Rattle.std.proofs.Common.{◌≡◌, ℕ, zero, suc, ◌-◌, true, List, [], ◌∷◌, ◌++◌, refl, sym, ap, subst, ◌∙◌, eqb, Some, None, Option, Contains, inl, inr, ◌⊎◌, ◌↔◌, All, ◌≤◌, ◌<◌, ◌+◌, arith, zero-add, add-one}
+use Rattle.std.proofs.Common.{◌≡◌, ℕ, zero, suc, ◌-◌, true, List, [], ◌∷◌, ◌++◌, refl, sym, ap, subst, ◌∙◌, eqb, Some, None, Option, Contains, inl, inr, ◌⊎◌, ◌↔◌, All, ◌≤◌, ◌<◌, ◌+◌, arith, zero-add, add-one, map, filter, take, length, get_or, not}
 use Rattle.std.specs.Prelude.{option_map, IsSome, IsNone, Result, Ok, Err, IfOk, OnOk}
 use Rattle.std.specs.List.{range_with_len, flat_map}
 use Rattle.std.proofs.lemmas.Bool.{eqb-true, eq-eqb}
 use Rattle.std.proofs.lemmas.Grind.{flat_map-append}
-use Rattle.std.proofs.lemmas.List.{append-nil}
-use Rattle.std.proofs.lemmas.List.Elements.{All-contains}
+use Rattle.std.proofs.lemmas.List.{append-nil, map-append, take_more}
+use Rattle.std.proofs.lemmas.List.Elements.{All-contains, filter-append}
 use Rattle.gen_types.specs.Members.{range_more}
+use Rattle.gen_types.proofs.Among.{in_among, out_among}
+use Rattle.gen_types.specs.Ends.{is_among}
 use Rattle.gen_types.proofs.Lists.{Contains_here, Contains_there, Contains_nil, Contains_cases, Contains-middle, bool_cases, All_of}
 use Rattle.gen_ots.specs.Secrets.{KeyName}
 use Rattle.gen_net.specs.Header.{RunHeader, height_of}
-use Rattle.gen_chain.specs.Chain.{Chain}
+use Rattle.gen_chain.specs.Chain.{Chain, chain_spelling, signed_path}
 use Rattle.gen_chain.specs.Leaves.{leaf_of_order}
 use Rattle.gen_chain.specs.Making.{begun, extended}
 use Rattle.gen_scenario.specs.declared.heard.Heard.{Heard}
 use Rattle.gen_scenario.specs.Heard.{round_of, first_of}
 use Rattle.gen_scenario.specs.Signing.{Keys, signers_along, made, lengthened}
-use Rattle.gen_scenario.specs.Frames.{relayed, relays_in, signed_in}
+use Rattle.gen_scenario.specs.Frames.{outside_of, relayed, relays_in, signed_in}
 use Rattle.gen_general.specs.Following.{round_signed, IsSignedWith}
 use Rattle.gen_scenario.specs.Part.{own_keys}
 use Rattle.gen_general.specs.Loops.Relays.{due_of, due_count, one_or_none, relayed_to, IsTakenTo}
@@ -258,3 +260,26 @@ own_taken_with h own a b round old new taken leaf = (
   λ k. elim ((taken leaf).0 k) [ inl o ↦ inl o | inr s ↦ inr (own_with h own a b round leaf s) ],
   λ k. elim k [ inl o ↦ (taken leaf).1 (inl o) | inr s ↦ (taken leaf).1 (inr (own_with h own b a round leaf s)) ],
 )
+
+-- ---- a frame, chain by chain
+
+-- one chain more
+out_more : (to i : ℕ) (cs : List Chain) (c : Chain) → i < length cs → c ≡ get_or cs i c → map chain_spelling (outside_of to (take (i + 1) cs)) ≡ map chain_spelling (outside_of to (take i cs)) ++ map chain_spelling (outside_of to (c ∷ []))
+out_more to i cs c within at =
+    let grown : take (i + 1) cs ≡ take i cs ++ c ∷ [] = take_more cs i c within ∙ ap (λ (x : Chain). take i cs ++ x ∷ []) (sym at) in
+    ap (λ (xs : List Chain). map chain_spelling (outside_of to xs)) grown
+    ∙ ap (map chain_spelling) (filter-append (λ (k : Chain). not (is_among (signed_path k.signers) to)) (take i cs) (c ∷ []))
+    ∙ map-append chain_spelling (outside_of to (take i cs)) (outside_of to (c ∷ []))
+
+pub frame_without : (to i : ℕ) (cs : List Chain) (c : Chain) (frame : List (List ℕ)) → i < length cs → c ≡ get_or cs i c → Contains (signed_path c.signers) to
+    → frame ≡ map chain_spelling (outside_of to (take i cs)) → frame ≡ map chain_spelling (outside_of to (take (i + 1) cs))
+frame_without to i cs c frame within at has before =
+    let none : map chain_spelling (outside_of to (c ∷ [])) ≡ [] = rw (in_among (signed_path c.signers) to has) refl in
+    before ∙ sym (out_more to i cs c within at ∙ ap (λ (ps : List (List ℕ)). map chain_spelling (outside_of to (take i cs)) ++ ps) none ∙ append-nil (map chain_spelling (outside_of to (take i cs))))
+
+pub frame_with : (to i : ℕ) (cs : List Chain) (c : Chain) (frame new : List (List ℕ)) → i < length cs → c ≡ get_or cs i c → (Contains (signed_path c.signers) to → ⊥)
+    → frame ≡ map chain_spelling (outside_of to (take i cs)) → new ≡ frame ++ chain_spelling c ∷ [] → new ≡ map chain_spelling (outside_of to (take (i + 1) cs))
+frame_with to i cs c frame new within at out before more =
+    let one : map chain_spelling (outside_of to (c ∷ [])) ≡ chain_spelling c ∷ [] = rw (out_among (signed_path c.signers) to out) refl in
+    more ∙ ap (λ (ps : List (List ℕ)). ps ++ chain_spelling c ∷ []) before
+    ∙ sym (out_more to i cs c within at ∙ ap (λ (ps : List (List ℕ)). map chain_spelling (outside_of to (take i cs)) ++ ps) one)

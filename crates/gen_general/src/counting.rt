@@ -1,10 +1,9 @@
 //! Which chains of a frame count at its receiver.
-ghost use Rattle.std.specs.Prelude.{IsTrue, ℕ, List, ◌≡◌, ◌↔◌, ◌∷◌, [], ◌++◌, Contains, Ok, Some, None, IfOk, OnOk};
+ghost use Rattle.std.specs.Prelude.{IsTrue, Contains, ◌≡◌, ◌↔◌, Ok, Some, None, IfOk};
 ghost use Rattle.gen_chain.specs.Chain.{Chain};
 ghost use Rattle.gen_chain.specs.Store.{Serves};
 ghost use Rattle.gen_scenario.specs.Counting.{MayCount, Carries, AreCounted};
 ghost use Rattle.gen_scenario.specs.Counted.{counted_of};
-ghost use Rattle.gen_scenario.specs.Listing.{AreListed};
 
 use gen_chain::{SignedChain, VerifyStore, read_chain_with};
 use gen_net::Header;
@@ -75,29 +74,6 @@ fn has_order(chains: &[SignedChain], order: OrderNo) -> bool
     chains.iter().any(|chain| chain.order() == order)
 }
 
-/// Appends the chain of one more parcel, if it counts behind the chains of the parcels before it.
-fn count_parcel(
-    alloc: Global,
-    header: &Header,
-    store: &mut VerifyStore,
-    delivery: &Delivery,
-    parcel: &[u8],
-    counted: &mut Vec<SignedChain>,
-) -> Result<(), AllocError>
-    requires serves { Serves header.now store.old }
-    ensures serves { Serves header.now store.new }
-    ensures listed { OnOk result ((parcels : List (List ℕ))
-        → AreListed header.now delivery.now parcels counted.old.items
-        → AreListed header.now delivery.now (parcels ++ parcel.now ∷ []) counted.new.items) }
-{
-    if let Some(chain) = carried(alloc, header, store, delivery, parcel)? {
-        if !has_order(counted.as_slice(), chain.order()) {
-            counted.push(chain)?;
-        }
-    }
-    Ok(())
-}
-
 /// Returns the chains of a frame that count at its receiver, in the order of their parcels. There are none if
 /// the frame has more parcels than there are orders. Otherwise a parcel counts if it is exactly one chain
 /// that may count, and no parcel before it has such a chain of the same order. A chain may count if it
@@ -130,7 +106,13 @@ pub fn count_frame(
         return Ok(counted);
     }
     'parcels: for parcel in frame {
-        count_parcel(alloc, header, store, delivery, parcel.bytes(), &mut counted)?;
+        let Some(chain) = carried(alloc, header, store, delivery, parcel.bytes())? else {
+            continue;
+        };
+        if has_order(counted.as_slice(), chain.order()) {
+            continue;
+        }
+        counted.push(chain)?;
     }
     Ok(counted)
 }

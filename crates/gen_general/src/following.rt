@@ -47,29 +47,6 @@ fn due_in(order: OrderNo, round: u8, heard: &[Heard]) -> Option<&Heard>
     }
 }
 
-/// Makes room for signing an order, if it has to be signed in this round.
-fn add_room(
-    alloc: Global,
-    header: &Header,
-    order: OrderNo,
-    round: u8,
-    heard: &[Heard],
-    rooms: &mut Vec<SignRoom>,
-) -> Result<(), AllocError>
-    requires fit { All (IsRoom header.now round) rooms.old.items }
-    ensures count { OnOk result (vec_len rooms.new
-        ≡ vec_len rooms.old + one_or_none (due_of round (first_of order heard.now))) }
-    ensures fit { OnOk result (All (IsRoom header.now round) rooms.new.items) }
-{
-    if due_in(order, round, heard).is_some() {
-        rooms.push(SignRoom {
-            chain: ChainRoom::new(alloc, round)?,
-            signature: SigRoom::new(alloc, header.height())?,
-        })?;
-    }
-    Ok(())
-}
-
 /// Makes room for each chain that a lieutenant signs in this round.
 fn rooms_for(
     alloc: Global,
@@ -84,7 +61,13 @@ fn rooms_for(
     let mut rooms = Vec::new(alloc);
     'orders: for number in 0..header.net().orders() {
         let order = OrderNo::at(number);
-        add_room(alloc, header, order, round, heard, &mut rooms)?;
+        if due_in(order, round, heard).is_none() {
+            continue;
+        }
+        rooms.push(SignRoom {
+            chain: ChainRoom::new(alloc, round)?,
+            signature: SigRoom::new(alloc, header.height())?,
+        })?;
     }
     Ok(rooms)
 }
@@ -267,22 +250,6 @@ pub(crate) fn sign_round(
     }
 }
 
-/// Appends the parcel of a chain to a frame, unless the receiver is one of its signers.
-fn put_parcel(
-    alloc: Global,
-    chain: &SignedChain,
-    to: GeneralNo,
-    frame: &mut Vec<Parcel>,
-) -> Result<(), AllocError>
-    ensures { OnOk result (frame.new.items
-        ≡ frame.old.items ++ map chain_spelling (outside_of to (chain.now ∷ []))) }
-{
-    if !chain.path().contains(to) {
-        frame.push(Parcel::new(write_chain(alloc, chain)?))?;
-    }
-    Ok(())
-}
-
 /// Returns the parcels of those chains that the receiver has not signed.
 pub(crate) fn frame_of_chains(
     alloc: Global,
@@ -293,7 +260,10 @@ pub(crate) fn frame_of_chains(
 {
     let mut frame = Vec::new(alloc);
     'chains: for chain in chains {
-        put_parcel(alloc, chain, to, &mut frame)?;
+        if chain.path().contains(to) {
+            continue;
+        }
+        frame.push(Parcel::new(write_chain(alloc, chain)?))?;
     }
     Ok(frame)
 }

@@ -5,6 +5,9 @@ ghost use Rattle.gen_general.specs.Loops.Journals.{chain_with};
 ghost use Rattle.gen_general.specs.Loops.Roles.{ring_of, role_frame, role_sends, role_signs, IsStart, MayBegin, RoleBegan};
 
 use crate::followers::Follower;
+use crate::following::{frame_of_chains, sign_round};
+use crate::journal_entries::{find_chain, find_outside, find_planned, find_planned_to};
+use crate::scripted::{plan_round, planned_frame};
 use crate::traitors::Traitor;
 use gen_chain::SignedChain;
 use gen_scenario::{Heard, Part};
@@ -28,13 +31,19 @@ impl Role {
         ensures start { IsStart result }
     {
         match ring {
-            Some(ring) => Role::Loyal(Follower::new(alloc, ring)),
-            None => Role::Scripted(Traitor::new(alloc)),
+            Some(ring) => Role::Loyal(Follower {
+                ring,
+                signed: Vec::new(alloc),
+            }),
+            None => Role::Scripted(Traitor {
+                planned: Vec::new(alloc),
+            }),
         }
     }
 
-    /// Begins a round; `heard` is what the general heard in earlier rounds. If memory is refused, nothing has
-    /// changed.
+    /// Begins a round: a follower signs what it has to sign, and for a general with a script it is planned what
+    /// the script has it send. `heard` is what the general heard in earlier rounds. If memory is refused,
+    /// nothing has changed.
     pub(crate) fn begin(
         &mut self,
         alloc: Global,
@@ -48,8 +57,20 @@ impl Role {
         ensures err { OnErr result (self.new ≡ self.old) }
     {
         match self {
-            Role::Loyal(follower) => follower.begin(alloc, part, round, heard),
-            Role::Scripted(traitor) => traitor.begin(alloc, part, round, heard),
+            Role::Loyal(follower) => {
+                let (header, me, own) = (part.header(), part.me(), part.own());
+                let ring = &mut follower.ring;
+                let signed = sign_round(alloc, header, ring, me, own, round, heard)?;
+                follower.signed = signed;
+                Ok(())
+            }
+            Role::Scripted(traitor) => {
+                let (header, me, trees) = (part.header(), part.me(), part.trees());
+                let lines = part.lines().unwrap();
+                let planned = plan_round(alloc, header, me, trees, lines, heard, round)?;
+                traitor.planned = planned;
+                Ok(())
+            }
         }
     }
 
@@ -58,8 +79,8 @@ impl Role {
         ensures { IfOk result (λ frame. frame.items ≡ role_frame self.now to) }
     {
         match self {
-            Role::Loyal(follower) => follower.frame_for(alloc, to),
-            Role::Scripted(traitor) => traitor.frame_for(alloc, to),
+            Role::Loyal(follower) => frame_of_chains(alloc, follower.signed.as_slice(), to),
+            Role::Scripted(traitor) => planned_frame(alloc, traitor.planned.as_slice(), to),
         }
     }
 
@@ -68,8 +89,8 @@ impl Role {
         ensures { option_map (λ c. c.now) result ≡ chain_with order (role_signs self.now) }
     {
         match self {
-            Role::Loyal(follower) => follower.first_signed(order),
-            Role::Scripted(traitor) => traitor.first_signed(order),
+            Role::Loyal(follower) => find_chain(order, follower.signed.as_slice()),
+            Role::Scripted(traitor) => find_planned(order, traitor.planned.as_slice()),
         }
     }
 
@@ -78,18 +99,8 @@ impl Role {
         ensures { option_map (λ c. c.now) result ≡ chain_with order (role_sends self.now to) }
     {
         match self {
-            Role::Loyal(follower) => follower.first_sent(to, order),
-            Role::Scripted(traitor) => traitor.first_sent(to, order),
-        }
-    }
-
-    /// Ends the general, and returns its ring, if it has one.
-    pub(crate) fn into_ring(self) -> Option<KeyRing>
-        ensures { result ≡ ring_of self }
-    {
-        match self {
-            Role::Loyal(follower) => Some(follower.into_ring()),
-            Role::Scripted(_) => None,
+            Role::Loyal(follower) => find_outside(to, order, follower.signed.as_slice()),
+            Role::Scripted(traitor) => find_planned_to(to, order, traitor.planned.as_slice()),
         }
     }
 }

@@ -225,16 +225,6 @@ fn plan_line(
     }
 }
 
-/// Appends what a line sends, if it sends anything.
-fn push_planned(planned: &mut Vec<Planned>, one: Option<Planned>) -> Result<(), AllocError>
-    ensures { OnOk result (planned.new.items ≡ planned.old.items ++ option_to_list one) }
-{
-    if let Some(one) = one {
-        planned.push(one)?;
-    }
-    Ok(())
-}
-
 /// Returns what the lines of a general's script send in a round, in their order; `heard` is what the general
 /// heard in earlier rounds. A `make` line sends a chain that all of its path have signed. A `pass` line sends
 /// the chain that it names, lengthened by its path, unless that chain did not count at this general or a
@@ -265,9 +255,11 @@ pub(crate) fn plan_round(
 {
     let mut planned = Vec::new(alloc);
     'lines: for line in lines {
-        if is_sent_in(line, round) {
-            let one = plan_line(alloc, header, me, trees, line, heard)?;
-            push_planned(&mut planned, one)?;
+        if !is_sent_in(line, round) {
+            continue;
+        }
+        if let Some(one) = plan_line(alloc, header, me, trees, line, heard)? {
+            planned.push(one)?;
         }
     }
     Ok(planned)

@@ -24,20 +24,6 @@ pub struct Passes {
     pub takes: Vec<TakePass>,
 }
 
-/// Returns a list with no passes for each of this many generals.
-fn no_passes(alloc: Global, generals: u8) -> Result<Vec<Passes>, AllocError>
-    ensures { IfOk result (λ all. AreEmpty generals all.items) }
-{
-    let mut all = Vec::with_capacity(alloc, usize::from(generals))?;
-    'generals: for _number in 0..generals {
-        all.push(Passes {
-            puts: Vec::new(alloc),
-            takes: Vec::new(alloc),
-        })?;
-    }
-    Ok(all)
-}
-
 /// Gives a general one more pass to put by.
 fn add_put(all: &mut Vec<Passes>, general: GeneralNo, put: PutPass) -> Result<(), AllocError>
     requires { general < length all.old.items }
@@ -120,7 +106,13 @@ impl Edges {
         ensures { IfOk result (λ r. AllHavePasses r.0 scenario.now r.1.items) }
     {
         let generals = scenario.header().net().generals();
-        let mut all = no_passes(alloc, generals)?;
+        let mut all = Vec::with_capacity(alloc, usize::from(generals))?;
+        'generals: for _number in 0..generals {
+            all.push(Passes {
+                puts: Vec::new(alloc),
+                takes: Vec::new(alloc),
+            })?;
+        }
         let mut edges = Edges {
             generals,
             table: Vec::new(alloc),

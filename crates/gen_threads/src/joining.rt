@@ -80,7 +80,7 @@ fn stop_each<R: Wait>(rt: &R, field: Field, first: usize, back: &mut Vec<Turn>) 
 
 /// Ends the edges of all generals whose threads were not started, which are the generals from `first` on. It
 /// does their turns one after another, again and again, until nothing is left to do.
-fn stop_all<R: Wait>(rt: &R, field: Field, first: usize, back: &mut Vec<Turn>)
+pub(crate) fn stop_all<R: Wait>(rt: &R, field: Field, first: usize, back: &mut Vec<Turn>)
     requires parts { AreParts field.scenario.now field.parts.now }
     requires count { first + length back.old.items ≡ field.scenario.now.net.generals }
     requires turns { TurnsFrom field.edges.now field.scenario.now field.rings.now.value.items first back.old.items }
@@ -99,7 +99,7 @@ fn stop_all<R: Wait>(rt: &R, field: Field, first: usize, back: &mut Vec<Turn>)
 
 /// Joins the threads in ascending order of generals, and appends what came back of the generals whose threads
 /// were not started.
-fn join_all<'s, R: Threads>(
+pub(crate) fn join_all<'s, R: Threads>(
     rt: &R,
     field: Field<'s>,
     handles: Handles<'s>,
@@ -122,30 +122,6 @@ fn join_all<'s, R: Threads>(
         turns.push_reserved(turn);
     }
     turns
-}
-
-/// Ends a run: first the edges of all generals whose threads were not started, so that nobody waits for them,
-/// and then the threads. Returns what came of each general, in ascending order.
-pub(crate) fn end_all<'s, R: Threads + Wait>(
-    rt: &R,
-    field: Field<'s>,
-    handles: Handles<'s>,
-    back: Vec<Turn>,
-    turns: Vec<Turn>,
-) -> Vec<Turn>
-    requires parts { AreParts field.scenario.now field.parts.now }
-    requires count { vec_len handles + vec_len back ≡ field.scenario.now.net.generals }
-    requires promised { ArePromised field.edges.now field.scenario.now field.rings.now.value.items handles.items }
-    requires back { TurnsFrom field.edges.now field.scenario.now field.rings.now.value.items
-        (vec_len handles) back.items }
-    requires room { (turns.items ≡ []) × (vec_len handles + vec_len back ≤ vec_capacity turns) }
-    ensures count { vec_len result ≡ field.entry.scenario.now.net.generals }
-    ensures turns { TurnsFrom field.entry.edges.now field.entry.scenario.now
-        field.entry.rings.now.value.items 0 result.items }
-{
-    let mut back = back;
-    stop_all(rt, field, handles.len(), &mut back);
-    join_all(rt, field, handles, back, turns)
 }
 
 /// Returns the worse of two outcomes: Memory is worse than Thread, Thread is worse than Gone, and any fault

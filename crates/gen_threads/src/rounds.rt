@@ -1,17 +1,17 @@
 //! One round of a general.
-ghost use Rattle.std.specs.Prelude.{ℕ, ◌≡◌, ◌<◌, ◌+◌, [], Any, IfErr, OnOk};
+ghost use Rattle.std.specs.Prelude.{◌≡◌, ◌<◌, ◌+◌, [], IfErr, OnOk};
 ghost use Rattle.std.specs.List.{AllZip};
-ghost use Rattle.gen_edge.specs.Frames.{Parcels, carried, gone as last_word, round};
-ghost use Rattle.gen_net.specs.Network.{AreNeighbours, rounds};
+ghost use Rattle.gen_edge.specs.Frames.{carried};
+ghost use Rattle.gen_net.specs.Network.{rounds};
 ghost use Rattle.gen_general.specs.DrivenRecords.{HasSent, HasHeard, RecordsAfter};
 ghost use Rattle.gen_scenario.specs.Scenario.{header_of};
-ghost use Rattle.gen_scenario.specs.SignedWorld.{frame_at, neighbours_of};
+ghost use Rattle.gen_scenario.specs.SignedWorld.{neighbours_of};
 ghost use Rattle.gen_scenario.specs.WorldLogs.{entries_after};
 ghost use Rattle.gen_threads.specs.Edges.{ArePassesOf, HasPut, HasTakenBy, HaveCarried, IsPutOn, IsTakeBy};
 ghost use Rattle.gen_threads.specs.Ending.{RingComesBack};
-ghost use Rattle.gen_threads.specs.Faults.{HasLastWord, IsOwnFault};
+ghost use Rattle.gen_threads.specs.Faults.{IsOwnFault};
 ghost use Rattle.gen_threads.specs.Rings.{HasSpentOnSigns};
-ghost use Rattle.gen_threads.specs.Turns.{HasPutUntil, HasTakenUntil, IsPutting, IsTaking, index_of_next};
+ghost use Rattle.gen_threads.specs.Turns.{IsPutting, IsTaking};
 
 use crate::edges::Edges;
 use crate::ends::RunFault;
@@ -22,59 +22,6 @@ use gen_general::Recorder;
 use gen_types::GeneralNo;
 use std::alloc::{AllocError, Global};
 use std::sync::Wait;
-
-/// Puts the frame of the round after the first `gone` rounds to a neighbour. The pass is the one at the
-/// index.
-fn put_next<R: Wait>(
-    rt: &R,
-    part: &RunPart,
-    edges: &Edges,
-    gone: u8,
-    to: GeneralNo,
-    index: usize,
-    puts: &mut Vec<PutPass>,
-    frame: Frame,
-)
-    requires gone { gone < rounds part.now.scenario.net }
-    requires to { (to < part.now.scenario.net.generals) × AreNeighbours part.now.scenario.net part.now.me to }
-    requires index { index ≡ index_of_next part.now.scenario.net part.now.me to }
-    requires frame { carried frame ≡ round (gone + 1) (frame_at part.now.scenario (gone + 1) part.now.me to) }
-    requires passes { AllZip (HasPutUntil edges.now part.now.scenario gone to part.now.me)
-        (neighbours_of part.now.scenario.net part.now.me) puts.old.items }
-    ensures { AllZip (HasPutUntil edges.now part.now.scenario gone (to + 1) part.now.me)
-        (neighbours_of part.now.scenario.net part.now.me) puts.new.items }
-{
-    let edge = edges.edge(part.part().me(), to).unwrap();
-    put_frame(rt, edge, &mut puts[index], frame);
-}
-
-/// Takes the frame of the round after the first `gone` rounds from a neighbour, or its last word. The pass is
-/// the one at the index.
-fn take_next<R: Wait>(
-    rt: &R,
-    part: &RunPart,
-    edges: &Edges,
-    gone: u8,
-    from: GeneralNo,
-    index: usize,
-    takes: &mut Vec<TakePass>,
-) -> Frame
-    requires gone { gone < rounds part.now.scenario.net }
-    requires from { (from < part.now.scenario.net.generals) × AreNeighbours part.now.scenario.net part.now.me from }
-    requires index { index ≡ index_of_next part.now.scenario.net part.now.me from }
-    requires passes { AllZip (HasTakenUntil edges.now part.now.scenario gone from part.now.me)
-        (neighbours_of part.now.scenario.net part.now.me) takes.old.items }
-    ensures frame { (number : ℕ) (parcels : Parcels) → carried result ≡ round number parcels
-        → (parcels ≡ frame_at part.now.scenario (gone + 1) from part.now.me)
-        × AllZip (HasTakenUntil edges.now part.now.scenario gone (from + 1) part.now.me)
-        (neighbours_of part.now.scenario.net part.now.me) takes.new.items }
-    ensures passes { AllZip (IsTakeBy edges.now part.now.me)
-        (neighbours_of part.now.scenario.net part.now.me) takes.new.items }
-    ensures last { carried result ≡ last_word → Any HasLastWord takes.new.items }
-{
-    let edge = edges.edge(from, part.part().me()).unwrap();
-    take_frame(rt, edge, &mut takes[index])
-}
 
 /// Puts the frame of the round after the first `gone` rounds to this general, if it is a neighbour. The pass
 /// is the one at the index, which then moves on by one.
@@ -107,7 +54,8 @@ fn put_to<R: Wait>(
         number: gone + 1,
         parcels,
     };
-    put_next(rt, part, edges, gone, to, *index, puts, frame);
+    let edge = edges.edge(known.me(), to).unwrap();
+    put_frame(rt, edge, &mut puts[*index], frame);
     *index += 1;
     Ok(())
 }
@@ -168,7 +116,8 @@ fn take_from<R: Wait>(
     if !known.header().net().has_edge(known.me(), from) {
         return Ok(());
     }
-    let frame = take_next(rt, part, edges, gone, from, *index, takes);
+    let edge = edges.edge(from, known.me()).unwrap();
+    let frame = take_frame(rt, edge, &mut takes[*index]);
     let Frame::Round { parcels, .. } = frame else {
         return Err(RunFault::Gone);
     };

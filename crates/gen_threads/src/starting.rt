@@ -22,13 +22,6 @@ use std::thread::{PromisedHandle, Scope, Threads};
 /// The handles of started threads.
 pub(crate) type Handles<'s> = Vec<PromisedHandle<Turn, EndsAs<'s>>>;
 
-/// Shows a general's logs to the gate, if it has any.
-fn show_logs<G: Gate>(gate: &G, general: GeneralNo, end: &GeneralEnd) {
-    if let Ok(logs) = &end.logs {
-        gate.sealed(general, logs.as_slice());
-    }
-}
-
 /// Runs a general with its held ring. If it has a script, the ring is not used.
 fn run_held<R: Wait, G: Gate>(
     rt: &R,
@@ -75,15 +68,17 @@ pub(crate) fn run_work<R: Wait, G: Gate>(
     }
     let Work { ring, passes } = work;
     let end = run_held(rt, alloc, gate, edges, &parts[me], ring, passes);
-    show_logs(gate, parts[me].part().me(), &end);
+    if let Ok(logs) = &end.logs {
+        gate.sealed(parts[me].part().me(), logs.as_slice());
+    }
     Turn::Ended(end)
 }
 
-/// Starts a general's thread.
+/// Starts a general's thread, unless an earlier one could not be started: then `stopped` is set.
 ///
 /// # Errors
 ///
-/// The general's work, if the thread can't be started. The general's flag is set then.
+/// The general's work, if its thread was not started. If the thread can't be started, the general's flag is set.
 fn start_one<'s, E, R: Threads + Wait + Sync, G: Gate + Sync>(
     rt: &'s R,
     alloc: Global,
@@ -92,6 +87,7 @@ fn start_one<'s, E, R: Threads + Wait + Sync, G: Gate + Sync>(
     field: Field<'s>,
     me: usize,
     work: Work,
+    stopped: bool,
 ) -> Result<PromisedHandle<Turn, EndsAs<'s>>, Turn>
     requires me { me < field.scenario.now.net.generals }
     requires parts { AreParts field.scenario.now field.parts.now }
@@ -99,9 +95,13 @@ fn start_one<'s, E, R: Threads + Wait + Sync, G: Gate + Sync>(
     requires work { IsWork field.edges.now field.scenario.now field.rings.now.value.items me work }
     ensures ok { IfOk result (λ h. IsPromise field.entry.edges.now field.entry.scenario.now
         field.entry.rings.now.value.items me h.promise) }
+    ensures started { IfOk result (λ _. stopped ≡ false) }
     ensures err { IfErr result (IsTurn field.entry.edges.now field.entry.scenario.now
         field.entry.rings.now.value.items me) }
 {
+    if stopped {
+        return Err(Turn::Back(work));
+    }
     let Field {
         edges,
         scenario,
@@ -136,37 +136,6 @@ fn start_one<'s, E, R: Threads + Wait + Sync, G: Gate + Sync>(
     }
 }
 
-/// Starts a general's thread, unless an earlier one could not be started.
-///
-/// # Errors
-///
-/// The general's work, if its thread was not started.
-fn start_next<'s, E, R: Threads + Wait + Sync, G: Gate + Sync>(
-    rt: &'s R,
-    alloc: Global,
-    gate: &'s G,
-    scope: &Scope<'s, E>,
-    field: Field<'s>,
-    me: usize,
-    work: Work,
-    stopped: bool,
-) -> Result<PromisedHandle<Turn, EndsAs<'s>>, Turn>
-    requires me { me < field.scenario.now.net.generals }
-    requires parts { AreParts field.scenario.now field.parts.now }
-    requires flags { length field.flags.now ≡ field.scenario.now.net.generals }
-    requires work { IsWork field.edges.now field.scenario.now field.rings.now.value.items me work }
-    ensures ok { IfOk result (λ h. IsPromise field.entry.edges.now field.entry.scenario.now
-        field.entry.rings.now.value.items me h.promise) }
-    ensures started { IfOk result (λ _. stopped ≡ false) }
-    ensures err { IfErr result (IsTurn field.entry.edges.now field.entry.scenario.now
-        field.entry.rings.now.value.items me) }
-{
-    if stopped {
-        return Err(Turn::Back(work));
-    }
-    start_one(rt, alloc, gate, scope, field, me, work)
-}
-
 /// Starts the threads in ascending order of generals. After one that can't be started, no other is started.
 /// Returns the handles of the threads that were started, and the works of the other generals.
 pub(crate) fn start_all<'s, E, R: Threads + Wait + Sync, G: Gate + Sync>(
@@ -195,7 +164,7 @@ pub(crate) fn start_all<'s, E, R: Threads + Wait + Sync, G: Gate + Sync>(
     let mut me = 0;
     let mut stopped = false;
     for work in works {
-        match start_next(rt, alloc, gate, scope, field, me, work, stopped) {
+        match start_one(rt, alloc, gate, scope, field, me, work, stopped) {
             Ok(handle) => handles.push_reserved(handle),
             Err(turn) => {
                 stopped = true;

@@ -1,12 +1,10 @@
 //! How a general that can't go on ends its edges.
 ghost use Rattle.std.specs.Prelude.{◌≡◌, ◌<◌, ◌+◌, Any, true};
-ghost use Rattle.std.specs.List.{AllZip};
 ghost use Rattle.gen_edge.specs.Ends.{IsPutPassOf, IsTakePassOf};
-ghost use Rattle.gen_net.specs.Network.{AreNeighbours, rounds};
-ghost use Rattle.gen_scenario.specs.SignedWorld.{neighbours_of};
-ghost use Rattle.gen_threads.specs.Edges.{ArePassesIn, IsPutOn, IsTakeBy};
+ghost use Rattle.gen_net.specs.Network.{rounds};
+ghost use Rattle.gen_threads.specs.Edges.{ArePassesIn};
 ghost use Rattle.gen_threads.specs.Faults.{HasLastWord};
-ghost use Rattle.gen_threads.specs.Turns.{AreOver, AreOverUntil, IsOverUntil, IsPutOver, IsTakeOver, index_of_next};
+ghost use Rattle.gen_threads.specs.Turns.{AreOver, AreOverUntil, IsPutOver, IsTakeOver, index_of_next};
 
 use crate::edges::Edges;
 use crossbeam_utils::Backoff;
@@ -43,49 +41,6 @@ fn end_take<R: Wait>(rt: &R, edge: &Edge, rounds: u8, pass: &mut TakePass) -> bo
     pass.taken() >= rounds || pass.has_ended()
 }
 
-/// Tries once to put the last word to a neighbour, by the pass at the index.
-fn end_put_to<R: Wait>(
-    rt: &R,
-    edges: &Edges,
-    me: GeneralNo,
-    net: &Net,
-    to: GeneralNo,
-    index: usize,
-    puts: &mut Vec<PutPass>,
-) -> bool
-    requires to { (to < net.now.generals) × AreNeighbours net.now me to }
-    requires index { index ≡ index_of_next net.now me to }
-    requires passes { AllZip (IsPutOn edges.now me) (neighbours_of net.now me) puts.old.items }
-    ensures passes { AllZip (IsPutOn edges.now me) (neighbours_of net.now me) puts.new.items }
-    ensures over { result ≡ true → IsOverUntil (IsPutOver (rounds net.now)) index puts.old.items
-        → IsOverUntil (IsPutOver (rounds net.now)) (index + 1) puts.new.items }
-{
-    let edge = edges.edge(me, to).unwrap();
-    end_put(rt, edge, net.rounds(), &mut puts[index])
-}
-
-/// Tries once to take from a neighbour, by the pass at the index.
-fn end_take_from<R: Wait>(
-    rt: &R,
-    edges: &Edges,
-    me: GeneralNo,
-    net: &Net,
-    from: GeneralNo,
-    index: usize,
-    takes: &mut Vec<TakePass>,
-) -> bool
-    requires from { (from < net.now.generals) × AreNeighbours net.now me from }
-    requires index { index ≡ index_of_next net.now me from }
-    requires passes { AllZip (IsTakeBy edges.now me) (neighbours_of net.now me) takes.old.items }
-    ensures passes { AllZip (IsTakeBy edges.now me) (neighbours_of net.now me) takes.new.items }
-    ensures kept { Any HasLastWord takes.old.items → Any HasLastWord takes.new.items }
-    ensures over { result ≡ true → IsOverUntil (IsTakeOver (rounds net.now)) index takes.old.items
-        → IsOverUntil (IsTakeOver (rounds net.now)) (index + 1) takes.new.items }
-{
-    let edge = edges.edge(from, me).unwrap();
-    end_take(rt, edge, net.rounds(), &mut takes[index])
-}
-
 /// Tries once to end the edges between this general and another one, if they are neighbours. The passes are
 /// those at the index, which then moves on by one. Returns whether nothing is left to do on them.
 fn end_both<R: Wait>(
@@ -110,8 +65,10 @@ fn end_both<R: Wait>(
     if !net.has_edge(me, other) {
         return true;
     }
-    let put = end_put_to(rt, edges, me, net, other, *index, puts);
-    let taken = end_take_from(rt, edges, me, net, other, *index, takes);
+    let outward = edges.edge(me, other).unwrap();
+    let put = end_put(rt, outward, net.rounds(), &mut puts[*index]);
+    let inward = edges.edge(other, me).unwrap();
+    let taken = end_take(rt, inward, net.rounds(), &mut takes[*index]);
     *index += 1;
     put & taken
 }

@@ -10,7 +10,7 @@ use crate::edges::Edges;
 use crate::ends::RunFault;
 use crate::gates::Gate;
 use crate::held_rings::{HeldRing, open_rings};
-use crate::joining::{end_all, gather};
+use crate::joining::{gather, join_all, stop_all};
 use crate::run_parts::RunPart;
 use crate::starting::start_all;
 use crate::works::{Field, Turn, Work, make_parts, make_works};
@@ -21,45 +21,10 @@ use std::snapshot::Snapshot;
 use std::sync::Wait;
 use std::sync::atomic::AtomicBool;
 use std::thread;
-use std::thread::{Scope, Threads};
+use std::thread::Threads;
 
-/// Makes this many flags, none of them set.
-pub(crate) fn make_flags(alloc: Global, count: usize) -> Result<Vec<AtomicBool>, AllocError>
-    ensures { IfOk result (λ flags. vec_len flags ≡ count) }
-{
-    let mut flags = Vec::with_capacity(alloc, count)?;
-    for _ in 0..count {
-        flags.push(AtomicBool::new(false))?;
-    }
-    Ok(flags)
-}
-
-/// Starts all threads and ends them, in a scope of their own.
-fn run_within<'s, E, R: Threads + Wait + Sync, G: Gate + Sync>(
-    rt: &'s R,
-    alloc: Global,
-    gate: &'s G,
-    scope: &Scope<'s, E>,
-    field: Field<'s>,
-    works: Vec<Work>,
-    back: Vec<Turn>,
-    turns: Vec<Turn>,
-) -> Result<Vec<Turn>, AllocError>
-    requires parts { AreParts field.scenario.now field.parts.now }
-    requires flags { length field.flags.now ≡ field.scenario.now.net.generals }
-    requires works { AreWorks field.edges.now field.scenario.now field.rings.now.value.items works.items }
-    requires empty { (turns.items ≡ []) × (back.items ≡ []) }
-    requires room { (vec_len works ≤ vec_capacity turns) × (vec_len works ≤ vec_capacity back) }
-    ensures count { IfOk result (λ v. vec_len v ≡ field.entry.scenario.now.net.generals) }
-    ensures turns { IfOk result (λ v. TurnsFrom field.entry.edges.now field.entry.scenario.now
-        field.entry.rings.now.value.items 0 v.items) }
-{
-    let handles = Vec::with_capacity(alloc, works.len())?;
-    let (handles, back) = start_all(rt, alloc, gate, scope, field, works, handles, back);
-    Ok(end_all(rt, field, handles, back, turns))
-}
-
-/// Runs each general in a thread of its own, and returns what came of each, in ascending order.
+/// Runs each general in a thread of its own, and returns what came of each, in ascending order. The edges of the
+/// generals whose threads were not started are ended first, so that nobody waits for them.
 fn run_works<R: Threads + Wait + Sync, G: Gate + Sync>(
     rt: &R,
     alloc: Global,
@@ -76,7 +41,10 @@ fn run_works<R: Threads + Wait + Sync, G: Gate + Sync>(
     ensures turns { IfOk result (λ v. TurnsFrom edges.now scenario.now rings.now.value.items 0 v.items) }
 {
     let count = works.len();
-    let all_flags = make_flags(alloc, count)?;
+    let mut all_flags = Vec::with_capacity(alloc, count)?;
+    for _ in 0..count {
+        all_flags.push(AtomicBool::new(false))?;
+    }
     let turns = Vec::with_capacity(alloc, count)?;
     let back = Vec::with_capacity(alloc, count)?;
     let flags = all_flags.as_slice();
@@ -97,7 +65,12 @@ fn run_works<R: Threads + Wait + Sync, G: Gate + Sync>(
                 flags,
                 rings,
             };
-            run_within(rt, alloc, gate, scope, field, works, back, turns)
+            let handles = Vec::with_capacity(alloc, works.len())?;
+            let (handles, mut back) = start_all(
+                rt, alloc, gate, scope, field, works, handles, back,
+            );
+            stop_all(rt, field, handles.len(), &mut back);
+            Ok(join_all(rt, field, handles, back, turns))
         },
     )
 }

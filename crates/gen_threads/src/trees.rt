@@ -9,20 +9,6 @@ use rayon::prelude::*;
 use std::alloc::{AllocError, Global};
 use std::thread::Threads;
 
-/// Makes the tree of one general.
-fn make_tree(
-    alloc: Global,
-    master: &[u8; 32],
-    height: TreeHeight,
-    number: u8,
-) -> Result<KeyTree, AllocError>
-    requires { number < 16 }
-    ensures { IfOk result (λ tree. tree ≡ general_tree master.now height number) }
-{
-    let seed = general_seed(master, GeneralNo::at(number));
-    KeyTree::from_seed(alloc, &seed, height)
-}
-
 /// Makes the trees of the first `count` generals under a master seed, at most 16, in ascending order: the
 /// trees of a scenario with that many generals. The work is shared among as many threads as there are
 /// processors. If no more threads can be started, those that were do all of it, and at least this one.
@@ -48,7 +34,10 @@ pub fn make_trees<R: Threads + Sync>(
             move |number: u8| -> Result<KeyTree, AllocError>
                 requires { number < 16 }
                 ensures { IfOk result (λ tree. tree ≡ general_tree master.entry.now height number) }
-            { make_tree(alloc, master, height, number) },
+            {
+                let seed = general_seed(master, GeneralNo::at(number));
+                KeyTree::from_seed(alloc, &seed, height)
+            },
         )
         .collect::<Result<Vec<KeyTree>, AllocError>>(rt, alloc)?
 }

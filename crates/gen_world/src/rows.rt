@@ -10,10 +10,10 @@ use std::marker::Model;
 /// A frame, with its round, its sender and its receiver.
 #[derive(Debug, Drop)]
 pub struct FrameRow {
-    round: u8,
-    from: GeneralNo,
-    to: GeneralNo,
-    parcels: Vec<Parcel>,
+    pub(crate) round: u8,
+    pub(crate) from: GeneralNo,
+    pub(crate) to: GeneralNo,
+    pub(crate) parcels: Vec<Parcel>,
 }
 
 impl Model for FrameRow {
@@ -30,23 +30,6 @@ impl Model for FrameRow {
 }
 
 impl FrameRow {
-    /// Returns the frame with these parcels that one general sends another in this round.
-    pub(crate) fn new(round: u8, from: GeneralNo, to: GeneralNo, parcels: Vec<Parcel>) -> FrameRow
-        ensures { result ≡ record {
-          round = round;
-          from = from;
-          to = to;
-          parcels = parcels.items;
-        } }
-    {
-        FrameRow {
-            round,
-            from,
-            to,
-            parcels,
-        }
-    }
-
     /// Returns the round in which the frame is sent, from 1 on.
     pub fn round(&self) -> u8
         ensures { result ≡ self.now.round }
@@ -79,9 +62,9 @@ impl FrameRow {
 /// The run of a scenario. A contract sees the frames, the decisions and the logs.
 #[derive(Debug, Drop)]
 pub struct WorldRun {
-    frames: Vec<FrameRow>,
-    decisions: Vec<Decision>,
-    logs: Vec<SealedLog>,
+    pub(crate) frames: Vec<FrameRow>,
+    pub(crate) decisions: Vec<Decision>,
+    pub(crate) logs: Vec<SealedLog>,
 }
 
 impl Model for WorldRun {
@@ -97,25 +80,6 @@ impl Model for WorldRun {
 }
 
 impl WorldRun {
-    /// Returns the run with these frames, decisions and logs.
-    pub(crate) fn new(
-        frames: Vec<FrameRow>,
-        decisions: Vec<Decision>,
-        logs: Vec<SealedLog>,
-    ) -> WorldRun
-        ensures { result ≡ record {
-          frames = frames.items;
-          decisions = decisions.items;
-          logs = logs.items;
-        } }
-    {
-        WorldRun {
-            frames,
-            decisions,
-            logs,
-        }
-    }
-
     /// Returns the frames, ordered by round, then by sender, then by receiver.
     pub fn frames(&self) -> &[FrameRow]
         ensures { result.now ≡ self.now.frames }

@@ -1,10 +1,9 @@
 //! The run of a plain scenario, round by round.
-ghost use Rattle.std.specs.Prelude.{◌≡◌, ◌+◌, ◌<◌, ◌↔◌, ◌≢◌, [], ◌∷◌, IfOk, OnOk, All, Contains, map, List};
+ghost use Rattle.std.specs.Prelude.{◌≡◌, ◌+◌, ◌<◌, ◌≢◌, [], ◌∷◌, IfOk, OnOk, All, map};
 ghost use Rattle.std.specs.List.{range_with_len};
-ghost use Rattle.gen_net.specs.Network.{Network, rounds, AreNeighbours, IsNetwork};
+ghost use Rattle.gen_net.specs.Network.{Network, rounds, IsNetwork};
 ghost use Rattle.gen_net.specs.Run.{Run, IsRun};
 ghost use Rattle.gen_net.specs.Walks.{HasDiameter};
-ghost use Rattle.gen_net.specs.declared.message.Message.{Message as Sent};
 ghost use Rattle.gen_core.specs.Seeing.{HasSeen, AreArrivals};
 ghost use Rattle.gen_core.specs.Sending.{Appends};
 ghost use Rattle.gen_scenario.specs.Deciding.{AreSignedDecisions};
@@ -109,18 +108,6 @@ fn one_round(
     Ok(next)
 }
 
-/// Returns the messages of round 1, which are those that the commander sends.
-fn first_round(alloc: Global, net: &Net, commander: &Commander) -> Result<Vec<Message>, AllocError>
-    ensures { IfOk result (λ first. (message : Sent) → Contains first.items message
-        ↔ ((message.from ≡ 0) × AreNeighbours net.now 0 message.to
-        × (message.order ≡ commander.now) × (message.path ≡ 0 ∷ []))) }
-{
-    let out = commander.sends(alloc, net)?;
-    let mut first = Vec::new(alloc);
-    push_sends(&mut first, GeneralNo::commander(), &out)?;
-    Ok(first)
-}
-
 /// Makes the lieutenants as they are before round 1, in ascending order.
 fn all_lieutenants(alloc: Global, net: &Net) -> Result<Vec<Lieutenant>, AllocError>
     ensures numbers { IfOk result (λ all.
@@ -187,7 +174,9 @@ pub fn run_plain(alloc: Global, scenario: &PlainScenario) -> Result<PlainRun, Al
 {
     let net = scenario.net();
     let commander = Commander::new(scenario.order());
-    let mut messages = first_round(alloc, net, &commander)?;
+    let out = commander.sends(alloc, net)?;
+    let mut messages = Vec::new(alloc);
+    push_sends(&mut messages, GeneralNo::commander(), &out)?;
     let mut lieutenants = all_lieutenants(alloc, net)?;
     for gone in 0..net.rounds() {
         let next = one_round(alloc, net, &messages, &mut lieutenants, gone)?;

@@ -7,8 +7,7 @@ ghost use Rattle.gen_general.specs.Recording.{logs_written};
 ghost use Rattle.gen_scenario.specs.Rows.{rows_of, rows_in, rows_by, logs_of_all};
 ghost use Rattle.gen_scenario.specs.SignedLaw.{IsBounded, AreAlike};
 ghost use Rattle.gen_general.specs.DrivenRecords.{RecordsAfter, HasSent, HasHeard, AllRecord, AllHear};
-ghost use Rattle.gen_general.specs.Driving.{StandsAfter, rows_for, rows_first, rows_until, decided_of};
-ghost use Rattle.gen_scenario.specs.Rings.{ring_at};
+ghost use Rattle.gen_general.specs.Driving.{rows_for};
 ghost use Rattle.gen_scenario.specs.SignedWorld.{near_of};
 
 use crate::rows::{FrameRow, WorldRun};
@@ -19,28 +18,6 @@ use gen_scenario::{Decision, Scenario};
 use gen_tree::close_ring;
 use gen_types::GeneralNo;
 use std::alloc::{AllocError, Global};
-
-/// Closes the rings of all generals.
-fn close_all(mut parts: Vec<Recorder>) {
-    while let Some(part) = parts.pop() {
-        close_ring(part.close());
-    }
-    parts.destroy_empty();
-}
-
-/// Makes all generals in their state before the first round.
-fn make_all(alloc: Global, scenario: &Scenario, parts: &mut Vec<Recorder>) -> Result<(), AllocError>
-    requires { parts.old.items ≡ [] }
-    ensures { OnOk result (AllRecord scenario.now 0 parts.new.items) }
-{
-    let generals = scenario.header().net().generals();
-    parts.reserve(usize::from(generals))?;
-    'generals: for number in 0..generals {
-        let part = recorder_of(alloc, scenario, GeneralNo::at(number))?;
-        parts.push(part).unwrap();
-    }
-    Ok(())
-}
 
 /// Has one general send another its frame, if they are neighbours, and appends the frame.
 fn send_one(
@@ -67,7 +44,12 @@ fn send_one(
         return Ok(());
     }
     let parcels = part.send(alloc, to)?;
-    frames.push(FrameRow::new(gone + 1, from, to, parcels))?;
+    frames.push(FrameRow {
+        round: gone + 1,
+        from,
+        to,
+        parcels,
+    })?;
     Ok(())
 }
 
@@ -155,22 +137,6 @@ fn run_round(
     hear_all(alloc, scenario, gone, parts, &frames[first..])
 }
 
-/// Appends the decision of a general after the last round, if it has no script.
-fn add_decision(
-    scenario: &Scenario,
-    part: &Recorder,
-    decisions: &mut Vec<Decision>,
-) -> Result<(), AllocError>
-    requires { StandsAfter scenario.now (rounds scenario.now.net) part.now.standing.known.me part.now.standing }
-    ensures { OnOk result (decisions.new.items
-        ≡ decisions.old.items ++ decided_of scenario.now (part.now.standing.known.me ∷ [])) }
-{
-    if !scenario.has_script(part.me()) {
-        decisions.push(part.decide())?;
-    }
-    Ok(())
-}
-
 /// Returns the decisions of all generals without scripts after the last round.
 fn decide_all(
     alloc: Global,
@@ -182,37 +148,34 @@ fn decide_all(
 {
     let mut decisions = Vec::new(alloc);
     'parts: for index in 0..parts.len() {
-        add_decision(scenario, &parts[index], &mut decisions)?;
+        let part = &parts[index];
+        if scenario.has_script(part.me()) {
+            continue;
+        }
+        decisions.push(part.decide())?;
     }
     Ok(decisions)
 }
 
-/// Ends a general, and appends its logs. Its ring is closed.
-fn finish_one(alloc: Global, part: Recorder, logs: &mut Vec<SealedLog>) -> Result<(), AllocError>
-    ensures { OnOk result (logs.new.items ≡ logs.old.items ++ logs_written part) }
-{
-    match part.finish(alloc) {
-        Ok(end) => {
-            let (mut own, ring) = end.into_parts();
-            close_ring(ring);
-            logs.append(&mut own)
-        }
-        Err(ring) => {
-            close_ring(ring);
-            Err(AllocError)
-        }
-    }
-}
-
-/// Ends the generals one after another, and returns their logs. If memory is refused, the generals that have
-/// not ended stay in the list.
+/// Ends the generals one after another, closes their rings, and returns their logs. If memory is refused, the
+/// generals that have not ended stay in the list.
 fn finish_all(alloc: Global, parts: &mut Vec<Recorder>) -> Result<Vec<SealedLog>, AllocError>
     ensures { IfOk result (λ logs. logs.items ≡ flat_map logs_written parts.old.items) }
 {
     let mut logs = Vec::new(alloc);
     parts.reverse();
     while let Some(part) = parts.pop() {
-        finish_one(alloc, part, &mut logs)?;
+        match part.finish(alloc) {
+            Ok(end) => {
+                let (mut own, ring) = end.into_parts();
+                close_ring(ring);
+                logs.append(&mut own)?;
+            }
+            Err(ring) => {
+                close_ring(ring);
+                return Err(AllocError);
+            }
+        }
     }
     Ok(logs)
 }
@@ -229,14 +192,23 @@ fn run_rounds(
     ensures decisions { IfOk result (λ run. run.decisions ≡ decisions_of scenario.now) }
     ensures logs { IfOk result (λ run. run.logs ≡ logs_of_all scenario.now) }
 {
-    make_all(alloc, scenario, parts)?;
+    let generals = scenario.header().net().generals();
+    parts.reserve(usize::from(generals))?;
+    'generals: for number in 0..generals {
+        let part = recorder_of(alloc, scenario, GeneralNo::at(number))?;
+        parts.push(part).unwrap();
+    }
     let mut frames = Vec::new(alloc);
     'rounds: for gone in 0..scenario.header().net().rounds() {
         run_round(alloc, scenario, gone, parts, &mut frames)?;
     }
     let decisions = decide_all(alloc, scenario, parts.as_slice())?;
     let logs = finish_all(alloc, parts)?;
-    Ok(WorldRun::new(frames, decisions, logs))
+    Ok(WorldRun {
+        frames,
+        decisions,
+        logs,
+    })
 }
 
 /// Runs a scenario, and returns every frame of every round, the decisions of all generals without scripts,
@@ -260,6 +232,9 @@ pub fn run_world(alloc: Global, scenario: &Scenario) -> Result<WorldRun, AllocEr
     let _lawful = scenario.header();
     let mut parts = Vec::new(alloc);
     let run = run_rounds(alloc, scenario, &mut parts);
-    close_all(parts);
+    while let Some(part) = parts.pop() {
+        close_ring(part.close());
+    }
+    parts.destroy_empty();
     run
 }

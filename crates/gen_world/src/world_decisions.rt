@@ -1,5 +1,5 @@
 //! The decisions in the run of a scenario, without its frames and logs.
-ghost use Rattle.std.specs.Prelude.{◌≡◌, ◌≢◌, ◌<◌, ◌+◌, ◌++◌, [], ◌∷◌, ℕ, length, slice_index_or, IfOk, OnOk};
+ghost use Rattle.std.specs.Prelude.{◌≡◌, ◌≢◌, ◌<◌, ◌+◌, ◌++◌, [], ◌∷◌, ℕ, slice_index_or, IfOk, OnOk};
 ghost use Rattle.std.specs.List.{range_with_len};
 ghost use Rattle.gen_chain.specs.Store.{Serves};
 ghost use Rattle.gen_net.specs.Network.{rounds};
@@ -8,9 +8,8 @@ ghost use Rattle.gen_scenario.specs.Scenario.{header_of};
 ghost use Rattle.gen_general.specs.Participant.{Participant};
 ghost use Rattle.gen_scenario.specs.SignedLaw.{IsBounded, AreAlike};
 ghost use Rattle.gen_general.specs.ParticipantLaws.{IsIn};
-ghost use Rattle.gen_general.specs.Driving.{StandsAfter, AllStand, AllBegun, hears_of, decided_of};
+ghost use Rattle.gen_general.specs.Driving.{AllStand, AllBegun, hears_of};
 ghost use Rattle.gen_scenario.specs.AllAre.{AllAre};
-ghost use Rattle.gen_scenario.specs.Rings.{ring_at};
 ghost use Rattle.gen_scenario.specs.SignedWorld.{near_of};
 
 use gen_chain::VerifyStore;
@@ -20,49 +19,6 @@ use gen_scenario::{Decision, Scenario};
 use gen_tree::close_ring;
 use gen_types::GeneralNo;
 use std::alloc::{AllocError, Global};
-
-/// Closes the rings of all generals.
-fn close_all(mut parts: Vec<Participant>) {
-    while let Some(part) = parts.pop() {
-        close_ring(part.close());
-    }
-    parts.destroy_empty();
-}
-
-/// Makes all generals in their state before the first round.
-fn make_all(
-    alloc: Global,
-    scenario: &Scenario,
-    parts: &mut Vec<Participant>,
-) -> Result<(), AllocError>
-    requires { parts.old.items ≡ [] }
-    ensures { OnOk result (AllStand scenario.now 0 parts.new.items) }
-{
-    let generals = scenario.header().net().generals();
-    parts.reserve(usize::from(generals))?;
-    'generals: for number in 0..generals {
-        let part = participant_of(alloc, scenario, GeneralNo::at(number))?;
-        parts.push(part).unwrap();
-    }
-    Ok(())
-}
-
-/// Begins the round after the first `gone` rounds for each general.
-fn begin_all(
-    alloc: Global,
-    scenario: &Scenario,
-    gone: u8,
-    parts: &mut Vec<Participant>,
-) -> Result<(), AllocError>
-    requires gone { gone < rounds scenario.now.net }
-    requires all { AllStand scenario.now gone parts.old.items }
-    ensures { OnOk result (AllBegun scenario.now gone parts.new.items) }
-{
-    'parts: for index in 0..parts.len() {
-        parts[index].begin_round(alloc)?;
-    }
-    Ok(())
-}
 
 /// Makes the frame from one general to another, and has the receiver hear it, if they are neighbours. A
 /// signature that was verified for one general is not verified again for another.
@@ -146,22 +102,6 @@ fn hear_all(
     Ok(())
 }
 
-/// Appends the decision of a general after the last round, if it has no script.
-fn add_decision(
-    scenario: &Scenario,
-    part: &Participant,
-    decisions: &mut Vec<Decision>,
-) -> Result<(), AllocError>
-    requires { StandsAfter scenario.now (rounds scenario.now.net) part.now.known.me part.now }
-    ensures { OnOk result (decisions.new.items
-        ≡ decisions.old.items ++ decided_of scenario.now (part.now.known.me ∷ [])) }
-{
-    if !scenario.has_script(part.me()) {
-        decisions.push(part.decide())?;
-    }
-    Ok(())
-}
-
 /// Returns the decisions of all generals without scripts after the last round.
 fn decide_all(
     alloc: Global,
@@ -173,7 +113,11 @@ fn decide_all(
 {
     let mut decisions = Vec::new(alloc);
     'parts: for index in 0..parts.len() {
-        add_decision(scenario, &parts[index], &mut decisions)?;
+        let part = &parts[index];
+        if scenario.has_script(part.me()) {
+            continue;
+        }
+        decisions.push(part.decide())?;
     }
     Ok(decisions)
 }
@@ -189,9 +133,16 @@ fn decide_rounds(
     ensures { IfOk result (λ decisions. decisions.items ≡ decisions_of scenario.now) }
 {
     let mut store = VerifyStore::new(alloc)?;
-    make_all(alloc, scenario, parts)?;
+    let generals = scenario.header().net().generals();
+    parts.reserve(usize::from(generals))?;
+    'generals: for number in 0..generals {
+        let part = participant_of(alloc, scenario, GeneralNo::at(number))?;
+        parts.push(part).unwrap();
+    }
     'rounds: for gone in 0..scenario.header().net().rounds() {
-        begin_all(alloc, scenario, gone, parts)?;
+        'parts: for index in 0..parts.len() {
+            parts[index].begin_round(alloc)?;
+        }
         hear_all(alloc, scenario, gone, parts, &mut store)?;
     }
     decide_all(alloc, scenario, parts.as_slice())
@@ -216,6 +167,9 @@ pub fn decide_world(alloc: Global, scenario: &Scenario) -> Result<Vec<Decision>,
     let _lawful = scenario.header();
     let mut parts = Vec::new(alloc);
     let decisions = decide_rounds(alloc, scenario, &mut parts);
-    close_all(parts);
+    while let Some(part) = parts.pop() {
+        close_ring(part.close());
+    }
+    parts.destroy_empty();
     decisions
 }

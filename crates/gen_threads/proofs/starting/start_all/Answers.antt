@@ -5,8 +5,8 @@ use Rattle.gen_threads.proofs.Froms.{from_all, from_none, from_head, from_tail, 
 use Rattle.gen_threads.proofs.starting.start_all.Goals as goal
 use Rattle.gen_threads.proofs.starting.start_all.Goals.{in-Ok, in-Err}
 
-pub start_next-requires-clause-work : goal.start_next-requires-clause-work
-start_next-requires-clause-work g c κs within =
+pub start_one-requires-clause-work : goal.start_one-requires-clause-work
+start_one-requires-clause-work g c κs within =
     let f = c.args.field in from_head (IsWork f.edges.now f.scenario.now f.rings.now.value.items) c.loop-work.me c.in-Some.work _ _ c.in-Some.ensures.steps.0 c.loop-work.invariant.3
 
 pub loop-work-init : goal.loop-work-init
@@ -28,7 +28,7 @@ loop-work-preserved g c =
     let me = c.loop-work.me in let handles = c.loop-work.handles in let back = c.loop-work.back in
     let rest = from_tail (IsWork e s h) me c.in-Some.work _ _ c.in-Some.ensures.steps.0 i.3 in
     let count : me + 1 + into_iter_len c.next.new.self ≡ s.net.generals = (let a = i.0 in let b = c.in-Some.ensures.steps.1 in omega arith) in
-    elim c.match-start_next.branch [
+    elim c.match-start_one.branch [
       | in-Ok w ↦ (
           let none = i.2 w.in-Ok.ensures.started in
           let empty : length back.items ≡ 0 = ap length none in

@@ -1,15 +1,31 @@
-use Rattle.std.proofs.Common.{◌≡◌, ◌∙◌, ap, subst, arith}
+use Rattle.std.proofs.Common.{rules, arith, ◌≡◌, ◌∙◌, ap, subst}
+use Rattle.gen_general.specs.DrivenRecords.{RecordsAfter, AllRecord}
+use Rattle.gen_general.proofs.Worlds.{pushed_each, length_pushed, rows_none, rows_round, rows_all}
 use Rattle.gen_net.specs.Network.{rounds}
-use Rattle.gen_general.specs.DrivenRecords.{AllRecord}
-use Rattle.gen_general.proofs.Worlds.{rows_none, rows_round, rows_all}
 use Rattle.gen_general.proofs.Recorders.{all_logs}
 use Rattle.gen_world.proofs.world.run_rounds.Goals as goal
 
+pub generals-preserved : goal.generals-preserved
+generals-preserved c =
+    let s = c.args.scenario.now in
+    let n = c.generals.number in
+    let items = rw c.unwrap.ensures at c.push.ensures.items in
+    let len = rw c.unwrap.ensures at c.push.ensures.len in
+    let made = rw c.at.ensures at c.in_ok-part.ensures in
+    record {
+      count = length_pushed c.generals.parts.items c.push.new.self.items n c.in_ok-part.part c.generals.invariant.count items;
+      len = omega (arith, len, c.generals.invariant.len);
+      room = omega (arith, c.push.ensures.capacity, c.generals.invariant.room);
+      each = pushed_each (RecordsAfter s 0) c.generals.parts.items c.push.new.self.items n c.in_ok-part.part c.generals.invariant.count items c.generals.invariant.each made;
+    }
+
 pub rounds-init : goal.rounds-init
-rounds-init c = record {
-  all = c.in_ok-make_all.ensures;
-  frames = rows_none c.args.scenario.now c.new-frames.result.items c.new-frames.ensures.items;
-}
+rounds-init c =
+    let made : AllRecord c.args.scenario.now 0 c.generals.parts.items = search rules in
+    record {
+      all = made;
+      frames = rows_none c.args.scenario.now c.new-frames.result.items c.new-frames.ensures.items;
+    }
 
 pub rounds-preserved : goal.rounds-preserved
 rounds-preserved c = record {
@@ -20,12 +36,12 @@ rounds-preserved c = record {
 pub returns-clause-frames : goal.returns-clause-frames
 returns-clause-frames c =
     let s = c.args.scenario.now in
-    let stop : c.rounds.gone ≡ rounds s.net = omega (arith, c.rounds-test.false, c.rounds.auto.gone-end, c.rounds-gone-end.ensures.value, ap rounds (c.net.ensures.value ∙ ap (λ h. h.network) c.header.ensures.value)) in
-    ap (λ world. world.frames) c.new.ensures ∙ rows_all s c.rounds.gone c.rounds.frames.items stop c.rounds.invariant.frames
+    let stop : c.rounds.gone ≡ rounds s.net = omega (arith, c.rounds-test.false, c.rounds.auto.gone-end, c.rounds-gone-end.ensures.value, ap rounds (c.net-2.ensures.value ∙ ap (λ h. h.network) c.header-2.ensures.value)) in
+    rows_all s c.rounds.gone c.rounds.frames.items stop c.rounds.invariant.frames
 
 pub returns-clause-logs : goal.returns-clause-logs
 returns-clause-logs c =
     let s = c.args.scenario.now in
-    let stop : c.rounds.gone ≡ rounds s.net = omega (arith, c.rounds-test.false, c.rounds.auto.gone-end, c.rounds-gone-end.ensures.value, ap rounds (c.net.ensures.value ∙ ap (λ h. h.network) c.header.ensures.value)) in
+    let stop : c.rounds.gone ≡ rounds s.net = omega (arith, c.rounds-test.false, c.rounds.auto.gone-end, c.rounds-gone-end.ensures.value, ap rounds (c.net-2.ensures.value ∙ ap (λ h. h.network) c.header-2.ensures.value)) in
     let all = subst (λ k. AllRecord s k c.rounds.parts.items) stop c.rounds.invariant.all in
-    ap (λ world. world.logs) c.new.ensures ∙ c.in_ok-logs.ensures ∙ all_logs s c.rounds.parts.items all
+    c.in_ok-logs.ensures ∙ all_logs s c.rounds.parts.items all

@@ -1,7 +1,16 @@
-use Rattle.std.proofs.Common.{◌≡◌}
+use Rattle.std.proofs.Common.{◌≡◌, ◌≤◌, ◌<◌, ℕ, length, slice_index_or, vec_capacity, vec_len}
+use Rattle.gen_general.specs.Recording.{Recorder}
+use Rattle.gen_general.specs.DrivenRecords.{RecordsAfter, AllRecord}
 use Rattle.gen_general.specs.Driving.{rows_until}
-use Rattle.gen_general.specs.DrivenRecords.{AllRecord}
 use Rattle.gen_world.proofs.world.run_rounds.Given as goal
+
+abbrev pub invariant-generals : goal.invariant-generals
+invariant-generals l = record {
+  count : length l.parts.items ≡ l.number;
+  len : vec_len l.parts ≡ l.number;
+  room : l.generals ≤ vec_capacity l.parts;
+  each : (g : ℕ) (d : Recorder) → g < l.number → RecordsAfter l.scenario 0 g (slice_index_or l.parts.items g d);
+}
 
 abbrev pub invariant-rounds : goal.invariant-rounds
 invariant-rounds l = record {

@@ -42,5 +42,5 @@ returns-clause-frames c =
     let s = c.args.scenario.now in
     let both = rw (c.net-2.ensures.value, c.header-2.ensures.value) at c.has_edge.ensures in
     let near : list_any (joins c.args.from c.args.to) s.net.edges ≡ true = near_known s.net c.has_edge.result c.args.from c.args.to both ∙ elim (bool_cases c.has_edge.result) [ inl t ↦ t | inr f ↦ absurd cc ] in
-    let pushed = rw c.new.ensures at c.in_ok-push.ensures.items in
+    let pushed = c.in_ok-push.ensures.items in
     rows_near s c.args.gone c.args.from c.args.to c.args.part.now.standing _ c.args.frames.now.items c.push.new.self.items near c.requires.sent.standing c.in_ok-parcels.ensures.frame pushed
