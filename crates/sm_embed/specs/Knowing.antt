@@ -1,5 +1,5 @@
 -- Accusing a general that may be none of the runs' generals.
-use Rattle.std.specs.Prelude.{ℕ, ◌≡◌, ◌⊎◌, Bool, true, false, List, Option, Some, None, Result, Ok, Err, nat_lt}
+use Rattle.std.specs.Prelude.{ℕ, ◌≡◌, ◌⊎◌, Bool, true, false, List, Option, Some, None, nat_lt}
 use Rattle.std.specs.List.{list_any}
 use Rattle.gen_types.specs.Spelled.{Spells}
 use Rattle.gen_campaign.specs.Campaign.{CampaignBundle, IsCampaign}
@@ -10,12 +10,9 @@ use Rattle.gen_jobs.specs.Audit.{IsAuditFault}
 use Rattle.gen_jobs.specs.declared.asked_runs.AskedRuns.{AskedRuns}
 use Rattle.gen_jobs.specs.declared.ends.JobFault.{JobFault}
 use Rattle.gen_jobs.specs.declared.ends.Output.{Output}
-use Rattle.sm_embed.specs.Handing.{HandsAnswer, HandsFault, IsHanded, IsUntouched}
-use Rattle.sm_embed.specs.Making.{IsMisuse, KeepsAnswer, KeepsFault, Makes, status_of_made}
-use Rattle.sm_embed.specs.Statuses.{status_of_handed}
-use Rattle.sm_embed.specs.declared.handed.Handed.{Handed}
+use Rattle.sm_embed.specs.Handing.{IsHanded, IsUntouched}
+use Rattle.sm_embed.specs.Making.{IsMade, IsMisuse}
 use Rattle.sm_embed.specs.declared.kept.Kept.{Kept}
-use Rattle.sm_embed.specs.declared.made.Made.{Made}
 
 -- the number is that of a general of some run that is shown
 abbrev pub is_known : ℕ → CampaignBundle → Bool
@@ -35,22 +32,6 @@ IsAccusedKnown general input text negative = IsAccused general input text negati
 abbrev pub TellsKnown : ℕ → List ℕ → Option Output → Type 0
 TellsKnown general input None = Knows general input false
 TellsKnown general input (Some o) = IsAccusedKnown general input o.text.items o.negative
-
--- the answer was handed over, or the fault in its place; or nothing was, because the general is no run's
-abbrev pub HandsKnown :
-    Result (Option Output) JobFault → List ℕ → List ℕ → ℕ → Option Handed → Type 0
-HandsKnown (Ok None) old new count None = IsUntouched old new count
-HandsKnown (Ok None) old new count (Some handed) = ⊥
-HandsKnown (Ok (Some o)) old new count None = ⊥
-HandsKnown (Ok (Some o)) old new count (Some handed) =
-    HandsAnswer o.text.items o.negative old new count handed
-HandsKnown (Err fault) old new count None = ⊥
-HandsKnown (Err fault) old new count (Some handed) = HandsFault fault old new count handed
-
--- the number for what was handed; 6 for a general that is no run's
-abbrev pub status_of_known : Option Handed → ℕ
-status_of_known None = 6
-status_of_known (Some handed) = status_of_handed handed
 
 -- the returned number is 6, and the general is no run's; or it is the one for what was handed of the evidence
 -- against a general of a run
@@ -79,31 +60,12 @@ TellsKnownOf asked general input None = IsNobodyOf asked general input
 TellsKnownOf asked general input (Some o) =
     IsAccusedKnownOf asked general input o.text.items o.negative
 
--- the answer is held, or the line of the fault in its place; or nothing is, because the general is no run's
-abbrev pub KeepsKnown : Result (Option Output) JobFault → Option Kept → Option Made → Type 0
-KeepsKnown (Ok None) held None = held ≡ None
-KeepsKnown (Ok None) held (Some made) = ⊥
-KeepsKnown (Ok (Some o)) held None = ⊥
-KeepsKnown (Ok (Some o)) held (Some made) = KeepsAnswer o.text.items o.negative held made
-KeepsKnown (Err fault) held None = ⊥
-KeepsKnown (Err fault) held (Some made) = KeepsFault fault held made
-
--- the number for what was made; 6 for a general that is no run's
-abbrev pub status_of_made_known : Option Made → ℕ
-status_of_made_known None = 6
-status_of_made_known (Some made) = status_of_made made
-
--- what is made of the evidence against a general of a run, of the runs that are asked for; or nothing is
--- held, because the general is no run's
-abbrev pub MakesKnown : AskedRuns → ℕ → List ℕ → Option Kept → Option Made → Type 0
-MakesKnown asked general input held None = (held ≡ None) × IsNobodyOf asked general input
-MakesKnown asked general input held (Some made) =
-    Makes (IsAccusedKnownOf asked general input) (IsShowFault asked input) held made
-
--- the returned number is the one for what was made
+-- the returned number is 6, nothing is held, and the general is no run's; or it is the one for what was made
+-- of the evidence against a general of a run
 abbrev pub IsMadeKnown : ℕ → List ℕ → AskedRuns → Option Kept → ℕ → Type 0
 IsMadeKnown general input asked held status =
-    (made : Option Made) × (status ≡ status_of_made_known made) × MakesKnown asked general input held made
+    ((status ≡ 6) × (held ≡ None) × IsNobodyOf asked general input)
+    ⊎ IsMade (IsAccusedKnownOf asked general input) (IsShowFault asked input) held status
 
 -- runs are asked for: more than four are misuse
 abbrev pub MakesKnownIf : ℕ → List ℕ → Option AskedRuns → Option Kept → ℕ → Type 0

@@ -2,6 +2,5 @@ pub mod Handing
 pub mod Knowing
 pub mod Making
 pub mod Owning
-pub mod Refuting
 pub mod Runs
 pub mod Statuses

@@ -1,6 +1,7 @@
 //! Hands an answer to a caller in another language.
-ghost use Rattle.std.specs.Prelude.{◌≡◌, true, false};
-ghost use Rattle.sm_embed.specs.Handing.{Fits, HandsAnswer, HandsFault, HandsOver, IsOfInput, IsTooLong};
+ghost use Rattle.std.specs.Prelude.{◌≡◌, true, false, IfSome, string_bytes};
+ghost use Rattle.gen_jobs.specs.FaultLines.{job_fault_line};
+ghost use Rattle.sm_embed.specs.Handing.{Fits, HandsOver, IsOfInput, IsTooLong};
 
 use crate::handed::Handed;
 use gen_jobs::{JobFault, Output, job_fault_line};
@@ -21,48 +22,9 @@ pub(crate) fn put(text: &[u8], room: &mut [u8], count: &mut usize) -> bool
     true
 }
 
-/// Hands over the text of an answer.
-pub(crate) fn hand_answer(output: &Output, room: &mut [u8], count: &mut usize) -> Handed
-    ensures { HandsAnswer output.now.text.items output.now.negative room.old room.new count.new result }
-{
-    if !put(&output.text, room, count) {
-        return Handed::Length;
-    }
-    if output.negative {
-        Handed::No
-    } else {
-        Handed::Yes
-    }
-}
-
-/// Hands over the line that names an input's fault.
-fn hand_line(alloc: Global, fault: JobFault, room: &mut [u8], count: &mut usize) -> Handed
-    requires { IsOfInput fault }
-    ensures { HandsFault fault room.old room.new count.new result }
-{
-    match job_fault_line(alloc, fault) {
-        Ok(line) => {
-            if put(line.as_bytes(), room, count) {
-                Handed::Line(fault)
-            } else {
-                Handed::Length
-            }
-        }
-        Err(_) => {
-            *count = 0;
-            Handed::Nothing
-        }
-    }
-}
-
-/// Hands over the line that names an input's fault; nothing for any other fault.
-pub(crate) fn hand_fault(
-    alloc: Global,
-    fault: JobFault,
-    room: &mut [u8],
-    count: &mut usize,
-) -> Handed
-    ensures { HandsFault fault room.old room.new count.new result }
+/// Returns the line that names an input's fault. None for any other fault, and if memory was refused.
+pub(crate) fn line_of_input(alloc: Global, fault: JobFault) -> Option<String>
+    ensures { IfSome result (λ line. IsOfInput fault × (string_bytes line ≡ job_fault_line fault)) }
 {
     match fault {
         JobFault::Scenario(_)
@@ -70,10 +32,9 @@ pub(crate) fn hand_fault(
         | JobFault::Evidence(_)
         | JobFault::Log(_)
         | JobFault::Seed(_)
-        | JobFault::OtherRun => hand_line(alloc, fault, room, count),
+        | JobFault::OtherRun => job_fault_line(alloc, fault).ok(),
         JobFault::Memory | JobFault::Thread | JobFault::Open | JobFault::Read | JobFault::Write => {
-            *count = 0;
-            Handed::Nothing
+            None
         }
     }
 }
@@ -88,7 +49,27 @@ pub(crate) fn hand(
     ensures { HandsOver answer room.old room.new count.new result }
 {
     match answer {
-        Ok(output) => hand_answer(&output, room, count),
-        Err(fault) => hand_fault(alloc, fault, room, count),
+        Ok(output) => {
+            if !put(&output.text, room, count) {
+                Handed::Length
+            } else if output.negative {
+                Handed::No
+            } else {
+                Handed::Yes
+            }
+        }
+        Err(fault) => match line_of_input(alloc, fault) {
+            Some(line) => {
+                if put(line.as_bytes(), room, count) {
+                    Handed::Line(fault)
+                } else {
+                    Handed::Length
+                }
+            }
+            None => {
+                *count = 0;
+                Handed::Nothing
+            }
+        },
     }
 }

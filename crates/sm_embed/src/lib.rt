@@ -46,7 +46,6 @@ ghost use Rattle.gen_jobs.specs.declared.telling.Telling.TheVariants as tellings
 ghost use Rattle.sm_embed.specs.Handing.{IsHanded, IsUntouched};
 ghost use Rattle.sm_embed.specs.Knowing.{AccusesKnown, MakesKnownIf};
 ghost use Rattle.sm_embed.specs.Making.{HandsKept, IsMade, IsMisuse, MakesIf, MakesIn, asked_in, form_in, is_strict};
-ghost use Rattle.sm_embed.specs.Refuting.{IsReplied};
 ghost use Rattle.sm_embed.specs.Runs.{TellsRuns};
 
 mod handed;
@@ -57,30 +56,27 @@ mod loose;
 mod made;
 mod making;
 mod opaque;
-mod replied;
-mod replying;
 mod runs;
 
 use crate::handing::hand;
-use crate::knowing::{
-    accuse_known, accuse_known_of, hand_known, keep_known, status_of_known, status_of_made_known,
-};
+use crate::knowing::{accuse_known, accuse_known_of};
 use crate::making::{MISUSE, asked_in, form_in, hand_kept, keep};
 use crate::opaque::SmAnswer;
-use crate::replying::hand_reply;
 use crate::runs::tell_runs;
 use gen_jobs::{
     Telling, accuse_asked_in_place, accuse_in_place, audit_asked_in_place, audit_form_in_place,
     audit_in_place, decide, decide_in, draw_asked_in_place, draw_in_place, evidence,
     evidence_as_asked, evidence_in, show_in, tell,
 };
-use gen_prepare::answer;
 use gen_types::GeneralNo;
 use gen_types::limits::MOST_GENERALS;
 use std::alloc::Global;
 
 /// The numbers of generals are below this.
 const GENERALS: u32 = MOST_GENERALS as u32;
+
+/// The number that says that the general is no run's.
+const NOBODY: u32 = 6;
 
 /// Hands over the verdict on the bundle or the campaign that the input spells, as the command `audit` writes it.
 #[unsafe(no_mangle)]
@@ -164,7 +160,11 @@ pub extern "C" fn sm_accuse_known(
         return MISUSE;
     }
     let accused = GeneralNo::at(general as u8);
-    status_of_known(hand_known(alloc, accuse_known(alloc, accused, input), room, count))
+    let Some(answer) = accuse_known(alloc, accused, input).transpose() else {
+        *count = 0;
+        return NOBODY;
+    };
+    hand(alloc, answer, room, count).status()
 }
 
 /// Hands over what answers evidence by a log of the accused: the text of the evidence that the log doesn't have, or two
@@ -177,9 +177,10 @@ pub extern "C" fn sm_refute(
     room: &mut [u8],
     count: &mut usize,
 ) -> u32
-    ensures { IsReplied evidence.now log.now room.old room.new count.new result }
+    ensures { IsHanded (IsAnswered evidence.now log.now) (IsReplyFault evidence.now log.now)
+        room.old room.new count.new result }
 {
-    hand_reply(alloc, answer(alloc, evidence, log), room, count).status()
+    hand(alloc, gen_jobs::answer(alloc, evidence, log), room, count).status()
 }
 
 /// Returns the number of the version of this library: 1000000 times the first number, 1000 times the second, and the
@@ -368,8 +369,10 @@ pub extern "C" fn sm_accuse_known_of(
         return MISUSE;
     };
     let accused = GeneralNo::at(general as u8);
-    let answered = accuse_known_of(alloc, asked, accused, input);
-    status_of_made_known(keep_known(alloc, answered, answer))
+    let Some(answered) = accuse_known_of(alloc, asked, accused, input).transpose() else {
+        return NOBODY;
+    };
+    keep(alloc, answered, answer).status()
 }
 
 /// Makes the answer of what answers evidence by a log of the accused, as the command `answer` writes it: the text of

@@ -1,6 +1,6 @@
 //! What a call makes of an answer.
 ghost use Rattle.std.specs.Prelude.{◌≡◌};
-ghost use Rattle.sm_embed.specs.Making.{line_status, status_of_made};
+ghost use Rattle.sm_embed.specs.Making.{status_of_made};
 
 use gen_jobs::{JobEnd, JobFault};
 
@@ -20,16 +20,6 @@ pub enum Made {
 /// The number that says that the input is of another run than the one that is asked for.
 const OTHER_RUN: u32 = 7;
 
-/// Returns the number for the line of a fault.
-fn line_status(fault: JobFault) -> u32
-    ensures { result ≡ line_status fault }
-{
-    match fault {
-        JobFault::OtherRun => OTHER_RUN,
-        _ => u32::from(JobEnd::Failed(fault).status()),
-    }
-}
-
 impl Made {
     /// Returns the number that the call returns: the exit status of the program for this end of the job, and 7 for an
     /// input of another run.
@@ -39,7 +29,8 @@ impl Made {
         match self {
             Made::Yes => 0,
             Made::No => 1,
-            Made::Line(fault) => line_status(fault),
+            Made::Line(JobFault::OtherRun) => OTHER_RUN,
+            Made::Line(fault) => u32::from(JobEnd::Failed(fault).status()),
             Made::Nothing => 4,
         }
     }

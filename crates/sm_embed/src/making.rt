@@ -1,14 +1,14 @@
 //! Keeps an answer for a caller in another language.
 ghost use Rattle.std.specs.Prelude.{◌≡◌, false, None, true};
-ghost use Rattle.sm_embed.specs.Handing.{IsOfInput, PutsText};
-ghost use Rattle.sm_embed.specs.Making.{HandsKept, HoldsText, KeepsAnswer, KeepsFault, KeepsOver, asked_in, form_in};
+ghost use Rattle.sm_embed.specs.Handing.{PutsText};
+ghost use Rattle.sm_embed.specs.Making.{HandsKept, HoldsText, KeepsOver, asked_in, form_in};
 
 use crate::handed::LENGTH;
-use crate::handing::put;
+use crate::handing::{line_of_input, put};
 use crate::kept::Kept;
 use crate::made::Made;
 use crate::opaque::SmAnswer;
-use gen_jobs::{AskedRuns, Form, JobFault, Output, job_fault_line};
+use gen_jobs::{AskedRuns, Form, JobFault, Output};
 use std::alloc::Global;
 
 /// The number that says that a text was put into the room.
@@ -61,62 +61,33 @@ fn keep_text(alloc: Global, text: Vec<u8>, answer: &mut SmAnswer) -> bool
     }
 }
 
-/// Keeps the text of an output.
-pub(crate) fn keep_output(alloc: Global, output: Output, answer: &mut SmAnswer) -> Made
-    ensures { KeepsAnswer output.text.items output.negative answer.new.held result }
-{
-    let Output { text, negative } = output;
-    if !keep_text(alloc, text, answer) {
-        return Made::Nothing;
-    }
-    if negative { Made::No } else { Made::Yes }
-}
-
-/// Keeps the line that names an input's fault.
-fn keep_line(alloc: Global, fault: JobFault, answer: &mut SmAnswer) -> Made
-    requires { IsOfInput fault }
-    ensures { KeepsFault fault answer.new.held result }
-{
-    match job_fault_line(alloc, fault) {
-        Ok(line) => {
-            if keep_text(alloc, line.into_bytes(), answer) {
-                Made::Line(fault)
-            } else {
-                Made::Nothing
-            }
-        }
-        Err(_) => {
-            answer.clear(alloc);
-            Made::Nothing
-        }
-    }
-}
-
-/// Keeps the line that names an input's fault; nothing for any other fault.
-pub(crate) fn keep_fault(alloc: Global, fault: JobFault, answer: &mut SmAnswer) -> Made
-    ensures { KeepsFault fault answer.new.held result }
-{
-    match fault {
-        JobFault::Scenario(_)
-        | JobFault::Campaign(_)
-        | JobFault::Evidence(_)
-        | JobFault::Log(_)
-        | JobFault::Seed(_)
-        | JobFault::OtherRun => keep_line(alloc, fault, answer),
-        JobFault::Memory | JobFault::Thread | JobFault::Open | JobFault::Read | JobFault::Write => {
-            answer.clear(alloc);
-            Made::Nothing
-        }
-    }
-}
-
 /// Keeps the answer to an input: the text, or the line of the fault in its place. What was held before is dropped.
 pub(crate) fn keep(alloc: Global, answered: Result<Output, JobFault>, answer: &mut SmAnswer) -> Made
     ensures { KeepsOver answered answer.new.held result }
 {
     match answered {
-        Ok(output) => keep_output(alloc, output, answer),
-        Err(fault) => keep_fault(alloc, fault, answer),
+        Ok(Output { text, negative }) => {
+            if !keep_text(alloc, text, answer) {
+                Made::Nothing
+            } else if negative {
+                Made::No
+            } else {
+                Made::Yes
+            }
+        }
+        Err(fault) => match line_of_input(alloc, fault) {
+            Some(line) => {
+                if keep_text(alloc, line.into_bytes(), answer) {
+                    Made::Line(fault)
+                } else {
+                    Made::Nothing
+                }
+            }
+            None => {
+                answer.clear(alloc);
+                Made::Nothing
+            }
+        },
     }
 }
 
