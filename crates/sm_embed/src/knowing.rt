@@ -2,12 +2,23 @@
 ghost use Rattle.std.specs.Prelude.{◌≡◌, IfErr, IfOk};
 ghost use Rattle.gen_jobs.specs.Asking.{IsShowFault};
 ghost use Rattle.gen_jobs.specs.Audit.{IsAuditFault};
-ghost use Rattle.sm_embed.specs.Knowing.{Knows, TellsKnown, TellsKnownOf};
+ghost use Rattle.sm_embed.specs.Knowing.{Knows, TellsKnown, TellsKnownOf, is_known};
 
-use gen_campaign::read_campaign;
+use gen_campaign::{CampaignBundle, read_campaign};
 use gen_jobs::{AskedRuns, JobFault, Output, accuse_asked_in_place, accuse_in_place};
 use gen_types::GeneralNo;
 use std::alloc::Global;
+
+/// Returns whether a number is that of a general of some run that is shown.
+fn is_known(general: GeneralNo, shown: &CampaignBundle) -> bool
+    ensures { result ≡ is_known general shown.now }
+{
+    let number = general.get();
+    shown
+        .bundles()
+        .iter()
+        .any(|bundle| number < bundle.header().net().generals())
+}
 
 /// Returns whether a general is one of a run that the input shows.
 fn knows(alloc: Global, general: GeneralNo, input: &[u8]) -> Result<bool, JobFault>
@@ -15,11 +26,7 @@ fn knows(alloc: Global, general: GeneralNo, input: &[u8]) -> Result<bool, JobFau
     ensures fault { IfErr result (IsAuditFault input.now) }
 {
     let shown = read_campaign(alloc, input)?;
-    let number = general.get();
-    Ok(shown
-        .bundles()
-        .iter()
-        .any(|bundle| number < bundle.header().net().generals()))
+    Ok(is_known(general, &shown))
 }
 
 /// Returns the evidence that the bundle or the campaign in the input holds against a general of a run; None if the

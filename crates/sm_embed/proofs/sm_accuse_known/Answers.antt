@@ -1,8 +1,12 @@
-use Rattle.std.proofs.Common.{ℕ, subst}
-use Rattle.sm_embed.specs.Knowing.{AccusesKnown}
-use Rattle.sm_embed.proofs.Given.{accuses_known}
+use Rattle.std.proofs.Common.{ℕ, inr, subst}
+use Rattle.gen_jobs.specs.Audit.{IsAuditFault}
+use Rattle.sm_embed.specs.Knowing.{AccusesKnown, IsAccusedKnown, TellsKnown}
+use Rattle.sm_embed.proofs.Given.{is_handed, of_fault, of_some}
 use Rattle.sm_embed.proofs.sm_accuse_known.Goals as goal
 
 pub returns-clause-general : goal.returns-clause-general
 returns-clause-general c = λ below.
-    subst (λ (g : ℕ). AccusesKnown g c.args.input.now c.args.room.now c.hand_known.new.room c.hand_known.new.count c.status_of_known.result) c.at-accused.ensures (accuses_known c.at-accused.result c.args.input.now c.accuse_known.result c.args.room.now c.hand_known.new.room c.hand_known.new.count c.status_of_known.result c.hand_known.result c.status_of_known.ensures c.accuse_known.ensures.answer c.accuse_known.ensures.fault c.hand_known.ensures)
+    subst (λ (g : ℕ). AccusesKnown g c.args.input.now c.args.room.now c.hand.new.room c.hand.new.count c.status.result) c.at-accused.ensures
+        (inr (is_handed (IsAccusedKnown c.at-accused.result c.args.input.now) (IsAuditFault c.args.input.now) c.in-Some.answer c.args.room.now c.hand.new.room c.hand.new.count c.status.result c.hand.result c.status.ensures
+            (of_some (TellsKnown c.at-accused.result c.args.input.now) c.accuse_known.result c.in-Some.answer c.in-Some.ensures c.accuse_known.ensures.answer)
+            (of_fault (IsAuditFault c.args.input.now) c.accuse_known.result c.in-Some.answer c.in-Some.ensures c.accuse_known.ensures.fault) c.hand.ensures))
