@@ -127,7 +127,7 @@ fn whole(alloc: Global, text: &[u8]) -> Result<Vec<SignedPlan>, ReadError<Scenar
     ensures exact { Gives (λ v. v.items) result (campaign_text_of text.now) }
     ensures lawful { IfOk result (λ v. All IsScenario v.items) }
 {
-    let (count, rest) = Cursor::behind_first(alloc, text, b"campaign")?;
+    let (count, rest) = Cursor::start(text).numbered(alloc, b"campaign")?;
     if !is_run_count(usize::from(count.value)) {
         return Err(LineFault::RunCount.refused(count.line));
     }

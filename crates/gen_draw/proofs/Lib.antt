@@ -1,4 +1,5 @@
 pub mod Between
+pub mod Chains
 pub mod Drawings
 pub mod Held
 pub mod Ranges

@@ -55,6 +55,10 @@ verdict_heading (Agreed order) = agreed_heading order
 verdict_heading (Explained decisions) = explained_heading
 verdict_heading (No findings) = no_heading
 
+-- the run id and the verdict
+unfoldable pub heading : RunHeader → Verdict → List ℕ
+heading h verdict = run_heading h ++ verdict_heading verdict
+
 -- the lines of all generals, the words at their ends, and the words below them
 unfoldable pub line_in : Network → List ℕ → ℕ → List ℕ
 line_in net faulty general = general_line (grid_of net) (is_among faulty general) general
@@ -70,24 +74,19 @@ abbrev pub note_lines : Network → List Finding → List ℕ
 note_lines net findings = flat_map (note_line findings) (range_with_len 0 net.generals)
 
 -- the words that say what the lines mean, and the end of the text
-unfoldable pub legend_opening : Grid → List ℕ
-legend_opening grid =
-    codes "<g transform=\"translate(160 " ++ (decimal (legend_word_row grid.generals 0) ++ codes ")\">\n")
-
 unfoldable pub closing : List ℕ
 closing =
+    codes ")\">\n" ++ (
     codes "<title>what the lines mean</title><text>dashed: only one of the two logs has the message</text>\n"
     ++ (
     codes "<text y=\"18\" class=\"faulty\">grey: held for faulty</text>\n" ++ (
-    codes "<text y=\"36\" class=\"found\">red: found by the audit, or convicted</text></g>\n</svg>\n"))
+    codes "<text y=\"36\" class=\"found\">red: found by the audit, or convicted</text></g>\n</svg>\n")))
 
--- the beginning of the page: its size, its style and the heads of arrows
-unfoldable pub page_front : Grid → List ℕ
-page_front grid = opening_of (width_of grid) (height_of grid) ++ (style ++ heads_of grid)
-
--- the run id and the verdict
-unfoldable pub heading : RunHeader → Verdict → List ℕ
-heading h verdict = run_heading h ++ verdict_heading verdict
+-- the legend of orders, the words that say what the lines mean, and the end of the text
+unfoldable pub page_back : Grid → List ℕ
+page_back grid =
+    legend_lines grid
+    ++ (codes "<g transform=\"translate(160 " ++ (decimal (legend_word_row grid.generals 0) ++ closing))
 
 -- the columns of rounds, and the lines of generals
 unfoldable pub frame : Network → List ℕ → List ℕ
@@ -105,10 +104,6 @@ notes h exhibits verdict convictions =
     end_lines (grid_of h.network) h.network.generals (all_decided h exhibits) convictions
     ++ note_lines h.network (findings_in verdict)
 
--- the legend of orders, the words that say what the lines mean, and the end of the text
-unfoldable pub page_back : Grid → List ℕ
-page_back grid = legend_lines grid ++ (legend_opening grid ++ closing)
-
 -- what a picture says of a header, the generals held for faulty, the shown logs, the verdict and the
 -- convictions, and the end of the text
 unfoldable pub run_part : RunHeader → List ℕ → List LogBytes → Verdict → List Accusation → List ℕ
@@ -117,7 +112,8 @@ run_part h faulty exhibits verdict convictions =
     ++ (notes h exhibits verdict convictions ++ page_back (grid_of h.network))))
 
 -- the picture of a header, the generals held for faulty, the shown logs, the verdict and the convictions: the
--- beginning of the page, and what the picture says
+-- beginning of the page, with its size, its style and the heads of arrows, and what the picture says
 unfoldable pub picture : RunHeader → List ℕ → List LogBytes → Verdict → List Accusation → List ℕ
 picture h faulty exhibits verdict convictions =
-    page_front (grid_of h.network) ++ run_part h faulty exhibits verdict convictions
+    opening_of (width_of (grid_of h.network)) (height_of (grid_of h.network))
+    ++ (style ++ (heads_of (grid_of h.network) ++ run_part h faulty exhibits verdict convictions))

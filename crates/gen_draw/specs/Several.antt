@@ -1,5 +1,5 @@
 -- The picture of the runs of a campaign: those of its bundles, one below the other.
-use Rattle.std.specs.Prelude.{ℕ, ◌+◌, ◌*◌, nat_le, if◌then◌else◌, List, [], ◌∷◌, ◌++◌, length, map, codes}
+use Rattle.std.specs.Prelude.{ℕ, ◌+◌, ◌*◌, min, max, List, [], ◌∷◌, ◌++◌, length, map, codes}
 use Rattle.std.specs.Prelude.{Option, Some, None}
 use Rattle.std.specs.List.{flat_map, position}
 use Rattle.std.specs.Fmt.{decimal}
@@ -26,22 +26,14 @@ abbrev pub bottom_from : ℕ → List Bundle → ℕ
 bottom_from down [] = down
 bottom_from down (b ∷ bundles) = bottom_from (down + height_of (grid_in b)) bundles
 
--- the greater of two widths
-abbrev pub wider : ℕ → ℕ → ℕ
-wider width other = if nat_le width other then other else width
-
 -- the width of the widest picture of bundles, or this width if it is greater
 abbrev pub widest_from : ℕ → List Bundle → ℕ
 widest_from width [] = width
-widest_from width (b ∷ bundles) = widest_from (wider width (width_of (grid_in b))) bundles
+widest_from width (b ∷ bundles) = widest_from (max width (width_of (grid_in b))) bundles
 
--- the number of lines for generals that are convicted across runs: at most 16
-abbrev pub lines_for : ℕ → ℕ
-lines_for count = if nat_le count 16 then count else 16
-
--- the height of the lines of the generals that are convicted across runs
+-- the height of the lines of the generals that are convicted across runs, of which there are at most 16
 unfoldable pub across_height : ℕ → ℕ
-across_height count = 24 + 18 * lines_for count
+across_height count = 24 + 18 * min count 16
 
 -- the picture of a run at a height
 unfoldable pub run_opening : ℕ → List ℕ
@@ -103,19 +95,17 @@ unfoldable pub across_part : ℕ → List Bundle → List Accusation → List �
 across_part down bundles across =
     across_opening down ++ (flat_map (across_span bundles) across ++ codes "</text>\n</svg>\n")
 
--- the heads of arrows for all orders that a run can have
-abbrev pub all_heads : List ℕ
-all_heads = heads_of (record { generals = 16; orders = 15; rounds = 16 })
-
 -- the number of runs, as the title of the picture
 unfoldable pub several_title : ℕ → List ℕ
 several_title count = codes "<title>campaign of " ++ (decimal count ++ codes " runs</title>\n")
 
--- the beginning of the page: its size, its style, the heads of arrows, and the number of runs
+-- the beginning of the page: its size, its style, the heads of arrows for all orders that a run can have, and
+-- the number of runs
 unfoldable pub several_front : List Bundle → ℕ → List ℕ
 several_front bundles convicted =
     opening_of (widest_from 0 bundles) (bottom_from 0 bundles + across_height convicted)
-    ++ (style ++ (all_heads ++ several_title (length bundles)))
+    ++ (style ++ (heads_of (record { generals = 16; orders = 15; rounds = 16 })
+    ++ several_title (length bundles)))
 
 -- The picture of a campaign: of its bundles, the judgements on them, and the generals that are convicted
 -- across runs.

@@ -9,12 +9,6 @@ opening_of width height =
     ++ (codes "\" height=\"" ++ (decimal height ++ (codes "\" viewBox=\"0 0 " ++ (decimal width
     ++ (codes " " ++ (decimal height ++ codes "\">\n")))))))
 
--- a straight line from one place to another
-unfoldable pub stroke_between : ℕ → ℕ → ℕ → ℕ → List ℕ
-stroke_between x y to_x to_y =
-    codes "<path d=\"M" ++ (decimal x ++ (codes " " ++ (decimal y
-    ++ (codes "L" ++ (decimal to_x ++ (codes " " ++ (decimal to_y ++ codes "\"/>")))))))
-
 -- the beginning of words that stand at a place
 unfoldable pub words_at : ℕ → ℕ → List ℕ
 words_at x y = codes "<text x=\"" ++ (decimal x ++ (codes "\" y=\"" ++ (decimal y ++ codes "\">")))

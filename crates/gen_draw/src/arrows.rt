@@ -5,9 +5,6 @@ ghost use Rattle.gen_draw.specs.Arrows.{
   arrow_line,
   arrow_opening,
   message_stroke,
-  message_title,
-  message_words,
-  order_label,
   path_words,
   told_words,
 };
@@ -15,7 +12,7 @@ ghost use Rattle.gen_draw.specs.Arrows.{
 use crate::arrow::{Arrow, ToldBy};
 use crate::grid::Grid;
 use crate::rows::{middle_of, row_of};
-use crate::shapes::{push_stroke, push_words};
+use crate::shapes::push_words;
 use gen_net::Message;
 use gen_types::GeneralNo;
 use std::alloc::AllocError;
@@ -34,35 +31,36 @@ pub fn push_message_stroke(
         (string_bytes out.new ≡ string_bytes out.old ++ message_stroke grid from to round order) }
 {
     let x = grid.lane(round, order);
-    push_stroke(out, x, row_of(from), grid.tip(round, order), row_of(to))
+    let y = row_of(from);
+    let to_x = x + 2 * grid.half_reach();
+    let to_y = row_of(to);
+    write!(out, "<path d=\"M{x} {y}L{to_x} {to_y}\"/>")
 }
 
-/// Appends the beginning of a message's arrow, which says whether it is solid or dashed, and the colour of its order.
+/// Appends the beginning of a message's arrow, which says whether it is solid or dashed, and the colour of its order; and
+/// as its title the message in words, without its path.
 #[tactic(auto, unfolding(crate::specs::Arrows::arrow_opening))]
-fn push_arrow_opening(out: &mut String, told: ToldBy, order: u8) -> Result<(), AllocError>
-    ensures { OnOk result
-        (string_bytes out.new ≡ string_bytes out.old ++ arrow_opening told order) }
-{
-    match told {
-        ToldBy::Both => write!(out, "<g class=\"both o{order}\"><title>"),
-        ToldBy::Sender => write!(out, "<g class=\"alone o{order}\"><title>"),
-        ToldBy::Receiver => write!(out, "<g class=\"alone o{order}\"><title>"),
-    }
-}
-
-/// Appends a message in words, without its path: its sender, receiver, round and order.
-#[tactic(auto, unfolding(crate::specs::Arrows::message_words))]
-fn push_message_words(
+fn push_arrow_opening(
     out: &mut String,
+    told: ToldBy,
     from: u8,
     to: u8,
     round: u16,
     order: u8,
 ) -> Result<(), AllocError>
     ensures { OnOk result
-        (string_bytes out.new ≡ string_bytes out.old ++ message_words from to round order) }
+        (string_bytes out.new ≡ string_bytes out.old ++ arrow_opening told from to round order) }
 {
-    write!(out, "from {from} to {to} round {round} order {order} path")
+    match told {
+        ToldBy::Both => write!(
+            out,
+            "<g class=\"both o{order}\"><title>from {from} to {to} round {round} order {order} path"
+        ),
+        ToldBy::Sender | ToldBy::Receiver => write!(
+            out,
+            "<g class=\"alone o{order}\"><title>from {from} to {to} round {round} order {order} path"
+        ),
+    }
 }
 
 /// Appends the generals of a path in words.
@@ -97,43 +95,8 @@ fn round_of(message: &Message) -> u16
     message.path.len() as u16
 }
 
-/// Appends a message in words, with its path and which logs have it.
-#[tactic(auto, unfolding(crate::specs::Arrows::message_title))]
-fn push_title(out: &mut String, arrow: &Arrow) -> Result<(), AllocError>
-    ensures { OnOk result
-        (string_bytes out.new ≡ string_bytes out.old ++ message_title arrow.now) }
-{
-    let from = arrow.message.from.get();
-    let to = arrow.message.to.get();
-    push_message_words(
-        out,
-        from,
-        to,
-        round_of(&arrow.message),
-        arrow.message.order.get(),
-    )?;
-    push_path(out, arrow.message.path.generals())?;
-    push_told(out, arrow.told, from, to)
-}
-
-/// Appends the number of a message's order, at the middle of its line.
-#[tactic(auto, unfolding(crate::specs::Arrows::order_label))]
-fn push_label(
-    out: &mut String,
-    grid: Grid,
-    from: u8,
-    to: u8,
-    round: u16,
-    order: u8,
-) -> Result<(), AllocError>
-    ensures { OnOk result
-        (string_bytes out.new ≡ string_bytes out.old ++ order_label grid from to round order) }
-{
-    push_words(out, grid.middle(round, order), middle_of(from, to))?;
-    write!(out, "{order}</text></g>\n")
-}
-
-/// Appends the arrow of a message that some shown log has.
+/// Appends the arrow of a message that some shown log has: its title, which is the message in words with its path and
+/// which logs have it, its line, and the number of its order at the middle of the line.
 #[tactic(auto, unfolding(crate::specs::Arrows::arrow_line))]
 fn push_arrow(out: &mut String, grid: Grid, arrow: &Arrow) -> Result<(), AllocError>
     ensures { OnOk result
@@ -143,10 +106,12 @@ fn push_arrow(out: &mut String, grid: Grid, arrow: &Arrow) -> Result<(), AllocEr
     let to = arrow.message.to.get();
     let order = arrow.message.order.get();
     let round = round_of(&arrow.message);
-    push_arrow_opening(out, arrow.told, order)?;
-    push_title(out, arrow)?;
+    push_arrow_opening(out, arrow.told, from, to, round, order)?;
+    push_path(out, arrow.message.path.generals())?;
+    push_told(out, arrow.told, from, to)?;
     push_message_stroke(out, grid, from, to, round, order)?;
-    push_label(out, grid, from, to, round, order)
+    push_words(out, grid.middle(round, order), middle_of(from, to))?;
+    write!(out, "{order}</text></g>\n")
 }
 
 /// Appends the arrows of the messages that shown logs have.

@@ -18,33 +18,25 @@ pub struct Grid {
 }
 
 impl Grid {
-    ghost use Rattle.gen_draw.specs.Grid.{column_of, end_of, half_reach, height_of, lane_of, middle_at, round_width, tip_at, width_of};
+    ghost use Rattle.gen_draw.specs.Grid.{column_of, end_of, half_reach, height_of, lane_of, middle_at, width_of};
 
     /// Returns the distance to the right from a message's beginning to its middle.
     #[tactic(auto, unfolding(crate::specs::Grid::half_reach))]
-    fn half_reach(self) -> u32
+    pub fn half_reach(self) -> u32
         ensures value { result ≡ half_reach self }
         ensures small { result < 2 ^ 12 }
     {
         12 + 6 * u32::from(self.generals)
     }
 
-    /// Returns the width of a round's column.
-    #[tactic(auto, unfolding(crate::specs::Grid::round_width))]
-    fn round_width(self) -> u32
-        ensures value { result ≡ round_width self }
-        ensures small { result < 2 ^ 14 }
-    {
-        24 + 12 * u32::from(self.orders) + 2 * self.half_reach()
-    }
-
     /// Returns where a round's column begins.
-    #[tactic(auto, unfolding(crate::specs::Grid::column_of))]
+    #[tactic(auto, unfolding(crate::specs::Grid::column_of, crate::specs::Grid::round_width))]
     pub fn column(self, round: u16) -> u32
         ensures value { result ≡ column_of self round }
         ensures small { result < 2 ^ 30 + 16 }
     {
-        MARGIN + self.round_width() * u32::from(round)
+        let width = 24 + 12 * u32::from(self.orders) + 2 * self.half_reach();
+        MARGIN + width * u32::from(round)
     }
 
     /// Returns where the lines of generals end.
@@ -70,13 +62,6 @@ impl Grid {
         ensures small { result < 2 ^ 31 }
     {
         self.lane(round, order) + self.half_reach()
-    }
-
-    /// Returns where the messages of an order in a round end.
-    pub fn tip(self, round: u16, order: u8) -> u32
-        ensures { result ≡ tip_at self round order }
-    {
-        self.lane(round, order) + 2 * self.half_reach()
     }
 
     /// Returns the width of the picture.

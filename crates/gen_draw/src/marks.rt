@@ -4,15 +4,12 @@ ghost use Rattle.std.specs.List.{flat_map};
 ghost use Rattle.gen_convict.specs.Evidence.{told_of};
 ghost use Rattle.gen_draw.specs.Marks.{
   convicted_at,
-  convicted_span,
   decided_at,
-  decided_span,
   end_line,
   found_at,
   found_front,
   found_message,
   found_opening,
-  found_span,
   found_words,
   is_about,
   message_mark,
@@ -148,11 +145,15 @@ fn is_about(general: GeneralNo, finding: &Finding) -> bool
     }
 }
 
-/// Appends a finding in words, behind others on a line.
+/// Appends a finding in words behind others on a line, with a title, if it is marked at this general.
 #[tactic(auto, unfolding(crate::specs::Marks::found_span))]
-fn push_found_span(out: &mut String, finding: &Finding) -> Result<(), AllocError>
-    ensures { OnOk result (string_bytes out.new ≡ string_bytes out.old ++ found_span finding.now) }
+fn push_found_at(out: &mut String, general: GeneralNo, finding: &Finding) -> Result<(), AllocError>
+    ensures { OnOk result
+        (string_bytes out.new ≡ string_bytes out.old ++ found_at general finding.now) }
 {
+    if !is_about(general, finding) {
+        return Ok(());
+    }
     out.push_str("<tspan class=\"found\" dx=\"8\"><title>")?;
     push_finding_name(out, finding)?;
     out.push_str("</title>")?;
@@ -160,42 +161,8 @@ fn push_found_span(out: &mut String, finding: &Finding) -> Result<(), AllocError
     out.push_str("</tspan>")
 }
 
-/// Appends a finding in words, if it is marked at this general.
-fn push_found_at(out: &mut String, general: GeneralNo, finding: &Finding) -> Result<(), AllocError>
-    ensures { OnOk result
-        (string_bytes out.new ≡ string_bytes out.old ++ found_at general finding.now) }
-{
-    if is_about(general, finding) {
-        push_found_span(out, finding)
-    } else {
-        Ok(())
-    }
-}
-
-/// Appends the findings that are marked at this general.
-fn push_found(out: &mut String, general: GeneralNo, findings: &[Finding]) -> Result<(), AllocError>
-    ensures { OnOk result
-        (string_bytes out.new ≡ string_bytes out.old ++ flat_map (found_at general) findings.now) }
-{
-    for finding in findings {
-        push_found_at(out, general, finding)?;
-    }
-    Ok(())
-}
-
-/// Appends in words what a general decided.
-#[tactic(auto, unfolding(crate::specs::Marks::decided_span))]
-fn push_decided_span(out: &mut String, general: u8, order: u8) -> Result<(), AllocError>
-    ensures { OnOk result
-        (string_bytes out.new ≡ string_bytes out.old ++ decided_span general order) }
-{
-    write!(
-        out,
-        "<tspan class=\"o{order}\" dx=\"8\"><title>general {general} decides order {order}</title>decides {order}</tspan>"
-    )
-}
-
 /// Appends a decision in words, if it is this general's.
+#[tactic(auto, unfolding(crate::specs::Marks::decided_span))]
 fn push_decided_at(
     out: &mut String,
     general: GeneralNo,
@@ -205,7 +172,12 @@ fn push_decided_at(
         (string_bytes out.new ≡ string_bytes out.old ++ decided_at general decided) }
 {
     if decided.0 == general {
-        push_decided_span(out, decided.0.get(), decided.1.get())
+        let whose = decided.0.get();
+        let order = decided.1.get();
+        write!(
+            out,
+            "<tspan class=\"o{order}\" dx=\"8\"><title>general {whose} decides order {order}</title>decides {order}</tspan>"
+        )
     } else {
         Ok(())
     }
@@ -226,35 +198,8 @@ fn push_decided(
     Ok(())
 }
 
-/// Appends by which kind of evidence a general is convicted.
+/// Appends by which kinds of evidence this general is convicted, by these convictions.
 #[tactic(auto, unfolding(crate::specs::Marks::convicted_span))]
-fn push_convicted_span(out: &mut String, general: u8, kind: u8) -> Result<(), AllocError>
-    ensures { OnOk result
-        (string_bytes out.new ≡ string_bytes out.old ++ convicted_span general kind) }
-{
-    write!(
-        out,
-        "<tspan class=\"found\" dx=\"8\"><title>general {general} is convicted by K{kind}</title>K{kind}</tspan>"
-    )
-}
-
-/// Appends a conviction in words, if it is this general's.
-fn push_convicted_at(
-    out: &mut String,
-    general: GeneralNo,
-    evidence: &Evidence,
-) -> Result<(), AllocError>
-    ensures { OnOk result (string_bytes out.new
-        ≡ string_bytes out.old ++ convicted_at general (told_of evidence.now)) }
-{
-    if evidence.accused == general {
-        push_convicted_span(out, evidence.accused.get(), evidence.claim.kind())
-    } else {
-        Ok(())
-    }
-}
-
-/// Appends the convictions of this general among these.
 fn push_convicted(
     out: &mut String,
     general: GeneralNo,
@@ -264,7 +209,14 @@ fn push_convicted(
         ≡ string_bytes out.old ++ flat_map (convicted_at general) (map told_of convictions.now)) }
 {
     for evidence in convictions {
-        push_convicted_at(out, general, evidence)?;
+        if evidence.accused == general {
+            let accused = evidence.accused.get();
+            let kind = evidence.claim.kind();
+            write!(
+                out,
+                "<tspan class=\"found\" dx=\"8\"><title>general {accused} is convicted by K{kind}</title>K{kind}</tspan>"
+            )?;
+        }
     }
     Ok(())
 }
@@ -298,6 +250,8 @@ pub fn push_note(
         (string_bytes out.new ≡ string_bytes out.old ++ note_line findings.now general) }
 {
     push_words(out, MARGIN, row_of(general.get()) + 16)?;
-    push_found(out, general, findings)?;
+    for finding in findings {
+        push_found_at(out, general, finding)?;
+    }
     out.push_str("</text>\n")
 }

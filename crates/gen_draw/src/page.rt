@@ -3,22 +3,16 @@ ghost use Rattle.std.specs.Prelude.{◌≡◌, ◌++◌, OnOk, string_bytes};
 ghost use Rattle.gen_draw.specs.Page.{
   general_line,
   heads_of,
-  held_note,
-  held_opening,
   legend_line,
   legend_lines,
   life_of,
-  order_name,
-  order_opening,
   round_line,
   round_lines,
-  round_name,
-  round_opening,
 };
 
-use crate::grid::{Grid, MARGIN};
+use crate::grid::Grid;
 use crate::rows::{legend_row, row_of};
-use crate::shapes::{push_head, push_stroke, push_words};
+use crate::shapes::push_head;
 use std::alloc::AllocError;
 
 /// Appends the heads of arrows, one for each order.
@@ -32,32 +26,17 @@ pub fn push_heads(out: &mut String, grid: Grid) -> Result<(), AllocError>
     Ok(())
 }
 
-/// Appends the beginning of a round's column, with its title.
-#[tactic(auto, unfolding(crate::specs::Page::round_opening))]
-fn push_round_opening(out: &mut String, round: u16) -> Result<(), AllocError>
-    ensures { OnOk result (string_bytes out.new ≡ string_bytes out.old ++ round_opening round) }
-{
-    write!(out, "<g class=\"round\"><title>round {round}</title>")
-}
-
-/// Appends the number of a round.
-#[tactic(auto, unfolding(crate::specs::Page::round_name))]
-fn push_round_name(out: &mut String, grid: Grid, round: u16) -> Result<(), AllocError>
-    ensures { OnOk result (string_bytes out.new ≡ string_bytes out.old ++ round_name grid round) }
-{
-    push_words(out, grid.column(round), 60)?;
-    write!(out, "round {round}</text></g>\n")
-}
-
-/// Appends the column of a round.
+/// Appends the column of a round: its title, a line downwards, and the round's number above it.
 #[tactic(auto, unfolding(crate::specs::Page::round_line))]
 fn push_round(out: &mut String, grid: Grid, round: u16) -> Result<(), AllocError>
     ensures { OnOk result (string_bytes out.new ≡ string_bytes out.old ++ round_line grid round) }
 {
     let x = grid.column(round);
-    push_round_opening(out, round)?;
-    push_stroke(out, x, 64, x, row_of(grid.generals))?;
-    push_round_name(out, grid, round)
+    let end = row_of(grid.generals);
+    write!(
+        out,
+        "<g class=\"round\"><title>round {round}</title><path d=\"M{x} 64L{x} {end}\"/><text x=\"{x}\" y=\"60\">round {round}</text></g>\n"
+    )
 }
 
 /// Appends the columns of all rounds.
@@ -77,29 +56,12 @@ fn push_life(out: &mut String, grid: Grid, general: u8) -> Result<(), AllocError
     ensures { OnOk result (string_bytes out.new ≡ string_bytes out.old ++ life_of grid general) }
 {
     let y = row_of(general);
-    push_stroke(out, MARGIN, y, grid.end(), y)?;
-    push_words(out, MARGIN, y - 8)?;
-    write!(out, "general {general}</text>")
-}
-
-/// Appends the beginning of the line of a general that is held for faulty.
-#[tactic(auto, unfolding(crate::specs::Page::held_opening))]
-fn push_held_opening(out: &mut String, general: u8) -> Result<(), AllocError>
-    ensures { OnOk result (string_bytes out.new ≡ string_bytes out.old ++ held_opening general) }
-{
+    let end = grid.end();
+    let above = y - 8;
     write!(
         out,
-        "<g class=\"faulty\"><title>general {general} is held for faulty</title>"
+        "<path d=\"M16 {y}L{end} {y}\"/><text x=\"16\" y=\"{above}\">general {general}</text>"
     )
-}
-
-/// Appends the note below the line of a general that is held for faulty.
-#[tactic(auto, unfolding(crate::specs::Page::held_note))]
-fn push_held_note(out: &mut String, general: u8) -> Result<(), AllocError>
-    ensures { OnOk result (string_bytes out.new ≡ string_bytes out.old ++ held_note general) }
-{
-    push_words(out, MARGIN, row_of(general) + 16)?;
-    out.push_str("held for faulty</text></g>\n")
 }
 
 /// Appends the line of a general, with a title; that of a general that is held for faulty is grey and says so.
@@ -109,9 +71,16 @@ pub fn push_general(out: &mut String, grid: Grid, held: bool, general: u8) -> Re
         (string_bytes out.new ≡ string_bytes out.old ++ general_line grid held general) }
 {
     if held {
-        push_held_opening(out, general)?;
+        let below = row_of(general) + 16;
+        write!(
+            out,
+            "<g class=\"faulty\"><title>general {general} is held for faulty</title>"
+        )?;
         push_life(out, grid, general)?;
-        push_held_note(out, general)
+        write!(
+            out,
+            "<text x=\"16\" y=\"{below}\">held for faulty</text></g>\n"
+        )
     } else {
         write!(out, "<g><title>general {general}</title>")?;
         push_life(out, grid, general)?;
@@ -119,34 +88,18 @@ pub fn push_general(out: &mut String, grid: Grid, held: bool, general: u8) -> Re
     }
 }
 
-/// Appends the beginning of an order in the legend, with its title.
-#[tactic(auto, unfolding(crate::specs::Page::order_opening))]
-fn push_order_opening(out: &mut String, order: u8) -> Result<(), AllocError>
-    ensures { OnOk result (string_bytes out.new ≡ string_bytes out.old ++ order_opening order) }
-{
-    write!(out, "<g class=\"o{order}\"><title>order {order}</title>")
-}
-
-/// Appends the number of an order in the legend.
-#[tactic(auto, unfolding(crate::specs::Page::order_name))]
-fn push_order_name(out: &mut String, generals: u8, order: u8) -> Result<(), AllocError>
-    ensures { OnOk result
-        (string_bytes out.new ≡ string_bytes out.old ++ order_name generals order) }
-{
-    push_words(out, 64, legend_row(generals, order) + 4)?;
-    write!(out, "order {order}</text></g>\n")
-}
-
-/// Appends an order in the legend: a line in its colour, and its number.
+/// Appends an order in the legend: its title, a line in its colour, and its number.
 #[tactic(auto, unfolding(crate::specs::Page::legend_line))]
 fn push_legend(out: &mut String, generals: u8, order: u8) -> Result<(), AllocError>
     ensures { OnOk result
         (string_bytes out.new ≡ string_bytes out.old ++ legend_line generals order) }
 {
     let y = legend_row(generals, order);
-    push_order_opening(out, order)?;
-    push_stroke(out, MARGIN, y, 56, y)?;
-    push_order_name(out, generals, order)
+    let below = y + 4;
+    write!(
+        out,
+        "<g class=\"o{order}\"><title>order {order}</title><path d=\"M16 {y}L56 {y}\"/><text x=\"64\" y=\"{below}\">order {order}</text></g>\n"
+    )
 }
 
 /// Appends the legend of orders.

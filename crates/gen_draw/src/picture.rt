@@ -1,6 +1,5 @@
 //! The picture of a run as a whole.
 ghost use Rattle.std.specs.Prelude.{◌≡◌, ◌++◌, IfOk, OnOk, map, string_bytes};
-ghost use Rattle.gen_types.specs.Ends.{is_among};
 ghost use Rattle.gen_convict.specs.Evidence.{told_of};
 ghost use Rattle.gen_draw.specs.Picture.{
   agreed_heading,
@@ -8,18 +7,15 @@ ghost use Rattle.gen_draw.specs.Picture.{
   no_heading,
   run_title,
   run_words,
-  closing,
   end_lines,
   frame,
   general_lines,
   grid_of,
   heading,
-  legend_opening,
   line_in,
   note_lines,
   notes,
   page_back,
-  page_front,
   picture,
   run_heading,
   run_part,
@@ -46,13 +42,6 @@ use gen_net::{Header, Net};
 use gen_types::{GeneralNo, GeneralSet, OrderNo};
 use std::alloc::{AllocError, Global};
 
-/// The words that say what the lines mean, and the end of the text.
-const CLOSING: &str = "\
-<title>what the lines mean</title><text>dashed: only one of the two logs has the message</text>\n\
-<text y=\"18\" class=\"faulty\">grey: held for faulty</text>\n\
-<text y=\"36\" class=\"found\">red: found by the audit, or convicted</text></g>\n</svg>\n\
-";
-
 /// Returns the size of the picture of a network's run: its generals, orders and rounds.
 #[tactic(auto, unfolding(crate::specs::Picture::grid_of))]
 pub(crate) fn grid_of(net: &Net) -> Grid
@@ -63,13 +52,6 @@ pub(crate) fn grid_of(net: &Net) -> Grid
         orders: net.orders(),
         rounds: net.rounds(),
     }
-}
-
-/// Returns whether a general is held for faulty.
-fn is_held(faulty: &GeneralSet, general: GeneralNo) -> bool
-    ensures { result ≡ is_among faulty.now general }
-{
-    faulty.contains(general)
 }
 
 /// Appends the run id as the title of the picture.
@@ -136,16 +118,6 @@ fn push_verdict(out: &mut String, verdict: &Verdict) -> Result<(), AllocError>
     }
 }
 
-/// Appends the beginning of the page: its size, its style and the heads of arrows.
-#[tactic(auto, unfolding(crate::specs::Picture::page_front))]
-fn push_front(out: &mut String, grid: Grid) -> Result<(), AllocError>
-    ensures { OnOk result (string_bytes out.new ≡ string_bytes out.old ++ page_front grid) }
-{
-    push_opening(out, grid.width(), grid.height())?;
-    push_style(out)?;
-    push_heads(out, grid)
-}
-
 /// Appends the run id and the verdict.
 #[tactic(auto, unfolding(crate::specs::Picture::heading))]
 fn push_heading(
@@ -172,8 +144,7 @@ fn push_line(
     ensures { OnOk result
         (string_bytes out.new ≡ string_bytes out.old ++ line_in net.now faulty.now general) }
 {
-    let held = is_held(faulty, general);
-    push_general(out, grid_of(net), held, general.get())
+    push_general(out, grid_of(net), faulty.contains(general), general.get())
 }
 
 /// Appends the lines of all generals.
@@ -225,31 +196,21 @@ fn push_notes(out: &mut String, net: &Net, findings: &[Finding]) -> Result<(), A
     Ok(())
 }
 
-/// Appends the beginning of the words that say what the lines mean.
-#[tactic(auto, unfolding(crate::specs::Picture::legend_opening))]
-fn push_legend_opening(out: &mut String, grid: Grid) -> Result<(), AllocError>
-    ensures { OnOk result (string_bytes out.new ≡ string_bytes out.old ++ legend_opening grid) }
-{
-    let y = legend_row(grid.generals, 0) + 4;
-    write!(out, "<g transform=\"translate(160 {y})\">\n")
-}
-
-/// Appends the words that say what the lines mean, and the end of the text.
-#[tactic(auto, unfolding(crate::specs::Picture::closing))]
-fn push_closing(out: &mut String) -> Result<(), AllocError>
-    ensures { OnOk result (string_bytes out.new ≡ string_bytes out.old ++ closing) }
-{
-    out.push_str(CLOSING)
-}
-
 /// Appends the legend of orders, the words that say what the lines mean, and the end of the text.
-#[tactic(auto, unfolding(crate::specs::Picture::page_back))]
+#[tactic(auto, unfolding(crate::specs::Picture::page_back, crate::specs::Picture::closing))]
 fn push_back(out: &mut String, grid: Grid) -> Result<(), AllocError>
     ensures { OnOk result (string_bytes out.new ≡ string_bytes out.old ++ page_back grid) }
 {
     push_legends(out, grid)?;
-    push_legend_opening(out, grid)?;
-    push_closing(out)
+    let y = legend_row(grid.generals, 0) + 4;
+    write!(
+        out,
+        "\
+<g transform=\"translate(160 {y})\">\n\
+<title>what the lines mean</title><text>dashed: only one of the two logs has the message</text>\n\
+<text y=\"18\" class=\"faulty\">grey: held for faulty</text>\n\
+<text y=\"36\" class=\"found\">red: found by the audit, or convicted</text></g>\n</svg>\n"
+    )
 }
 
 /// Appends the messages, and over them the findings at messages.
@@ -332,7 +293,10 @@ pub fn draw(alloc: Global, bundle: &Bundle, judgement: &Judgement) -> Result<Vec
         bundle.now.exhibits judgement.now.verdict (map told_of judgement.now.convictions.items)) }
 {
     let mut out = String::new(alloc);
-    push_front(&mut out, grid_of(bundle.header().net()))?;
+    let grid = grid_of(bundle.header().net());
+    push_opening(&mut out, grid.width(), grid.height())?;
+    push_style(&mut out)?;
+    push_heads(&mut out, grid)?;
     push_run_part(alloc, &mut out, bundle, judgement)?;
     Ok(out.into_bytes())
 }

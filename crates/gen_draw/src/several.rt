@@ -1,7 +1,6 @@
 //! The picture of the runs of a campaign.
-ghost use Rattle.std.specs.Prelude.{◌≡◌, ◌≤◌, ◌<◌, ◌+◌, ◌*◌, ◌^◌, ◌++◌, IfOk, OnOk, codes, length, map, string_bytes};
-ghost use Rattle.std.specs.List.{flat_map, position};
-ghost use Rattle.gen_net.specs.SameHeaders.{same_header};
+ghost use Rattle.std.specs.Prelude.{◌≡◌, ◌<◌, ◌+◌, ◌*◌, ◌^◌, ◌++◌, IfOk, OnOk, codes, length, map, string_bytes};
+ghost use Rattle.std.specs.List.{flat_map};
 ghost use Rattle.gen_convict.specs.Evidence.{told_of};
 ghost use Rattle.gen_convict.specs.Told.{told};
 ghost use Rattle.gen_draw.specs.Grid.{height_of};
@@ -11,13 +10,11 @@ ghost use Rattle.gen_draw.specs.Several.{
   across_part,
   across_span,
   across_words,
-  all_heads,
   both_words,
   bottom_from,
   convicted_words,
   grid_in,
   kind_across,
-  lines_for,
   place_with,
   place_words,
   run_at,
@@ -26,7 +23,6 @@ ghost use Rattle.gen_draw.specs.Several.{
   several_front,
   several_picture,
   several_title,
-  wider,
   widest_from,
 };
 
@@ -63,13 +59,6 @@ fn bottom_of(bundles: &[Bundle]) -> u32
     down
 }
 
-/// Returns the greater of two widths.
-fn wider(width: u32, other: u32) -> u32
-    ensures { result ≡ wider width other }
-{
-    if width <= other { other } else { width }
-}
-
 /// Returns the width of the widest picture of bundles; 0 if there is none.
 fn widest_of(bundles: &[Bundle]) -> u32
     ensures { result ≡ widest_from 0 bundles.now }
@@ -77,7 +66,7 @@ fn widest_of(bundles: &[Bundle]) -> u32
     let mut width = 0u32;
     let mut runs = bundles;
     'runs: while let Some((run, others)) = runs.split_first() {
-        width = wider(width, grid_in(run).width());
+        width = width.max(grid_in(run).width());
         runs = others;
     }
     width
@@ -86,25 +75,14 @@ fn widest_of(bundles: &[Bundle]) -> u32
 /// The most lines for generals that are convicted across runs: one for each general.
 const MOST_LINES: usize = MOST_GENERALS as usize;
 
-/// Returns the number of lines for this many generals that are convicted across runs: at most 16.
-fn lines_for(count: usize) -> u32
-    ensures value { result ≡ lines_for count }
-    ensures small { result ≤ 16 }
-{
-    if count <= MOST_LINES {
-        count as u32
-    } else {
-        MOST_LINES as u32
-    }
-}
-
-/// Returns the height of the lines for this many generals that are convicted across runs.
+/// Returns the height of the lines for this many generals that are convicted across runs, of which there are at most
+/// 16.
 #[tactic(auto, unfolding(crate::specs::Several::across_height))]
 fn across_height(count: usize) -> u32
     ensures value { result ≡ across_height count }
     ensures small { result < 2 ^ 10 }
 {
-    24 + 18 * lines_for(count)
+    24 + 18 * count.min(MOST_LINES) as u32
 }
 
 /// Appends the beginning of the picture of a run at a height.
@@ -249,21 +227,6 @@ fn push_across_span(
     out.push_str("</tspan>\n")
 }
 
-/// Appends the lines of all generals that are convicted across runs.
-fn push_across_spans(
-    out: &mut String,
-    bundles: &[Bundle],
-    across: &[Evidence],
-) -> Result<(), AllocError>
-    ensures { OnOk result (string_bytes out.new ≡ string_bytes out.old
-        ++ flat_map (across_span bundles.now) (map told_of across.now)) }
-{
-    for evidence in across {
-        push_across_span(out, bundles, evidence)?;
-    }
-    Ok(())
-}
-
 /// Appends the beginning of the lines of generals that are convicted across runs.
 #[tactic(auto, unfolding(crate::specs::Several::across_opening))]
 fn push_across_opening(out: &mut String, down: u32) -> Result<(), AllocError>
@@ -284,20 +247,10 @@ fn push_across(
         ≡ string_bytes out.old ++ across_part down bundles.now (map told_of across.now)) }
 {
     push_across_opening(out, down)?;
-    push_across_spans(out, bundles, across)?;
+    for evidence in across {
+        push_across_span(out, bundles, evidence)?;
+    }
     out.push_str("</text>\n</svg>\n")
-}
-
-/// Appends the heads of arrows for all orders that a run can have.
-fn push_all_heads(out: &mut String) -> Result<(), AllocError>
-    ensures { OnOk result (string_bytes out.new ≡ string_bytes out.old ++ all_heads) }
-{
-    let grid = Grid {
-        generals: MOST_GENERALS,
-        orders: MOST_ORDERS,
-        rounds: MOST_ROUNDS,
-    };
-    push_heads(out, grid)
 }
 
 /// Appends the number of runs as the title of the picture.
@@ -308,7 +261,8 @@ fn push_several_title(out: &mut String, count: usize) -> Result<(), AllocError>
     write!(out, "<title>campaign of {count} runs</title>\n")
 }
 
-/// Appends the beginning of the page: its size, its style, the heads of arrows and its title.
+/// Appends the beginning of the page: its size, its style, the heads of arrows for all orders that a run can have, and
+/// as its title the number of runs.
 #[tactic(auto, unfolding(crate::specs::Several::several_front))]
 fn push_several_front(
     out: &mut String,
@@ -320,9 +274,14 @@ fn push_several_front(
         ≡ string_bytes out.old ++ several_front bundles.now convicted) }
 {
     let height = bottom_of(bundles) + across_height(convicted);
+    let largest = Grid {
+        generals: MOST_GENERALS,
+        orders: MOST_ORDERS,
+        rounds: MOST_ROUNDS,
+    };
     push_opening(out, widest_of(bundles), height)?;
     push_style(out)?;
-    push_all_heads(out)?;
+    push_heads(out, largest)?;
     push_several_title(out, bundles.len())
 }
 

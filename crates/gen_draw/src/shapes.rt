@@ -1,6 +1,6 @@
 //! The shapes of a picture, and its beginning.
 ghost use Rattle.std.specs.Prelude.{◌≡◌, ◌++◌, OnOk, string_bytes};
-ghost use Rattle.gen_draw.specs.Shapes.{head_of, opening_of, stroke_between, words_at};
+ghost use Rattle.gen_draw.specs.Shapes.{head_of, opening_of, words_at};
 
 use std::alloc::AllocError;
 
@@ -14,15 +14,6 @@ pub fn push_opening(out: &mut String, width: u32, height: u32) -> Result<(), All
         out,
         "<svg xmlns=\"http://www.w3.org/2000/svg\" width=\"{width}\" height=\"{height}\" viewBox=\"0 0 {width} {height}\">\n"
     )
-}
-
-/// Appends a straight line from one place to another.
-#[tactic(auto, unfolding(crate::specs::Shapes::stroke_between))]
-pub fn push_stroke(out: &mut String, x: u32, y: u32, to_x: u32, to_y: u32) -> Result<(), AllocError>
-    ensures { OnOk result
-        (string_bytes out.new ≡ string_bytes out.old ++ stroke_between x y to_x to_y) }
-{
-    write!(out, "<path d=\"M{x} {y}L{to_x} {to_y}\"/>")
 }
 
 /// Appends the beginning of words that stand at a place.

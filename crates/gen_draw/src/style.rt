@@ -1,6 +1,6 @@
 //! How the parts of a picture look.
 ghost use Rattle.std.specs.Prelude.{◌≡◌, ◌++◌, OnOk, string_bytes};
-ghost use Rattle.gen_draw.specs.Style.{dark_style, light_style, plain_style, style};
+ghost use Rattle.gen_draw.specs.Style.{style};
 
 use std::alloc::AllocError;
 
@@ -41,35 +41,10 @@ svg{color:#eee}.page{fill:#16181d}.round path{stroke:#444}.faulty{color:#8a8a8a}
 <rect class=\"page\" width=\"100%\" height=\"100%\"/>\n\
 ";
 
-/// Appends the style of lines, words and arrow heads.
-#[tactic(auto, unfolding(crate::specs::Style::plain_style))]
-fn push_plain(out: &mut String) -> Result<(), AllocError>
-    ensures { OnOk result (string_bytes out.new ≡ string_bytes out.old ++ plain_style) }
-{
-    out.push_str(PLAIN_STYLE)
-}
-
-/// Appends the colours of orders on a light page.
-#[tactic(auto, unfolding(crate::specs::Style::light_style))]
-fn push_light(out: &mut String) -> Result<(), AllocError>
-    ensures { OnOk result (string_bytes out.new ≡ string_bytes out.old ++ light_style) }
-{
-    out.push_str(LIGHT_STYLE)
-}
-
-/// Appends the colours on a dark page, and the page's background.
-#[tactic(auto, unfolding(crate::specs::Style::dark_style))]
-fn push_dark(out: &mut String) -> Result<(), AllocError>
-    ensures { OnOk result (string_bytes out.new ≡ string_bytes out.old ++ dark_style) }
-{
-    out.push_str(DARK_STYLE)
-}
-
 /// Appends the style of all parts of a picture.
+#[tactic(auto, unfolding(crate::specs::Style::plain_style, crate::specs::Style::light_style, crate::specs::Style::dark_style))]
 pub fn push_style(out: &mut String) -> Result<(), AllocError>
     ensures { OnOk result (string_bytes out.new ≡ string_bytes out.old ++ style) }
 {
-    push_plain(out)?;
-    push_light(out)?;
-    push_dark(out)
+    write!(out, "{PLAIN_STYLE}{LIGHT_STYLE}{DARK_STYLE}")
 }

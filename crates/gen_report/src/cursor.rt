@@ -53,19 +53,14 @@ impl<'a> Model for Cursor<'a> {
 }
 
 impl<'a> Cursor<'a> {
-    /// Returns the number behind a word in the first line of a text, and the cursor after that line.
-    #[tactic(auto, unfolding(crate::specs::CursorReading::numbered, crate::specs::CursorReading::next_line))]
-    pub fn behind_first(
-        alloc: Global,
-        text: &'a [u8],
-        word: &[u8],
-    ) -> Result<(Numbered, Cursor<'a>), ReadError<ScenarioFault>>
-        ensures { IsRead result (numbered word.now (start_of text.now)) }
+    /// Returns the cursor at the beginning of a text.
+    pub fn start(text: &'a [u8]) -> Cursor<'a>
+        ensures { result ≡ start_of text.now }
     {
-        let (bytes, rest) = line_at(text, 1)?;
-        let fields = split_fields(alloc, bytes)?;
-        let value = number_behind(&fields, word, 1)?;
-        Ok((Numbered { line: 1, value }, Cursor { rest, line: 2 }))
+        Cursor {
+            rest: text,
+            line: 1,
+        }
     }
 
     /// Returns a copy of the cursor.

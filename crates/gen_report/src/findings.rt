@@ -1,7 +1,6 @@
 //! Prints findings as text.
-ghost use Rattle.std.specs.Prelude.{◌≡◌, ◌++◌, OnOk, codes, string_bytes};
-ghost use Rattle.std.specs.Fmt.{decimal};
-ghost use Rattle.gen_report.specs.Findings.{log_fault_name, message_named, finding_named, finding_line};
+ghost use Rattle.std.specs.Prelude.{◌≡◌, ◌++◌, OnOk, string_bytes};
+ghost use Rattle.gen_report.specs.Findings.{log_fault_name, message_named, finding_named};
 
 use gen_log::LogFault;
 use gen_match::Finding;
@@ -17,23 +16,6 @@ fn push_log_fault(out: &mut String, fault: LogFault) -> Result<(), AllocError>
         LogFault::Chain(_) => write!(out, "L{of_log} C{of_chain}"),
         _ => write!(out, "L{of_log}"),
     }
-}
-
-/// Appends the name of a finding's kind, and the general that the finding is against.
-fn push_against(out: &mut String, kind: &str, general: GeneralNo) -> Result<(), AllocError>
-    ensures { OnOk result (string_bytes out.new
-        ≡ string_bytes out.old ++ kind.now ++ codes " general " ++ decimal general) }
-{
-    let general = general.get();
-    write!(out, "{kind} general {general}")
-}
-
-/// Appends an entry's number.
-fn push_entry(out: &mut String, entry: usize) -> Result<(), AllocError>
-    ensures { OnOk result (string_bytes out.new
-        ≡ string_bytes out.old ++ codes " entry " ++ decimal entry) }
-{
-    write!(out, " entry {entry}")
 }
 
 /// Appends the name of a finding's kind, and the message that it is about: sender, receiver, round and order.
@@ -57,16 +39,6 @@ fn push_message(
     )
 }
 
-/// Appends a pair of generals that the walks don't join.
-fn push_pair(out: &mut String, first: GeneralNo, second: GeneralNo) -> Result<(), AllocError>
-    ensures { OnOk result (string_bytes out.new
-        ≡ string_bytes out.old ++ codes "N10 pair " ++ decimal first ++ codes " " ++ decimal second) }
-{
-    let first = first.get();
-    let second = second.get();
-    write!(out, "N10 pair {first} {second}")
-}
-
 /// Appends a finding: its number, such as `N8`, and what it is about, on one line without its line feed.
 ///
 /// # Errors
@@ -76,22 +48,19 @@ pub fn push_finding_name(out: &mut String, finding: &Finding) -> Result<(), Allo
     ensures { OnOk result (string_bytes out.new ≡ string_bytes out.old ++ finding_named finding.now) }
 {
     match *finding {
-        Finding::Missing { general } => push_against(out, "N1", general),
-        Finding::Several { general } => push_against(out, "N2", general),
+        Finding::Missing { general } => write!(out, "N1 general {}", general.get()),
+        Finding::Several { general } => write!(out, "N2 general {}", general.get()),
         Finding::Unreadable { general, fault } => {
-            push_against(out, "N3", general)?;
-            out.push_str(" ")?;
+            write!(out, "N3 general {} ", general.get())?;
             push_log_fault(out, fault)
         }
-        Finding::Foreign { general } => push_against(out, "N4", general),
+        Finding::Foreign { general } => write!(out, "N4 general {}", general.get()),
         Finding::Unsigned { general, entry } => {
-            push_against(out, "N5", general)?;
-            push_entry(out, entry)
+            write!(out, "N5 general {} entry {entry}", general.get())
         }
-        Finding::Unsealed { general } => push_against(out, "N6", general),
+        Finding::Unsealed { general } => write!(out, "N6 general {}", general.get()),
         Finding::Departs { general, entry } => {
-            push_against(out, "N7", general)?;
-            push_entry(out, entry)
+            write!(out, "N7 general {} entry {entry}", general.get())
         }
         Finding::Unmatched {
             from,
@@ -105,16 +74,9 @@ pub fn push_finding_name(out: &mut String, finding: &Finding) -> Result<(), Allo
             round,
             order,
         } => push_message(out, "N9", from, to, round, order),
-        Finding::Unjoined { first, second } => push_pair(out, first, second),
+        Finding::Unjoined { first, second } => {
+            write!(out, "N10 pair {} {}", first.get(), second.get())
+        }
         Finding::Nobody => out.push_str("N11"),
     }
-}
-
-/// Appends the line of a finding, with its line feed.
-pub fn push_finding(out: &mut String, finding: &Finding) -> Result<(), AllocError>
-    ensures { OnOk result
-        (string_bytes out.new ≡ string_bytes out.old ++ finding_line finding.now) }
-{
-    push_finding_name(out, finding)?;
-    out.push_str("\n")
 }

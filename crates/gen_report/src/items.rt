@@ -42,16 +42,6 @@ fn begins_with(word: &[u8], fields: &[&[u8]]) -> bool
     }
 }
 
-/// Returns whether a general's number is greater than that of the block before, if there is one.
-fn ascends(last: Option<GeneralNo>, number: u8) -> bool
-    ensures { result ≡ ascends last number }
-{
-    match last {
-        None => true,
-        Some(last) => last.get() < number,
-    }
-}
-
 /// Returns the general with whose script the line begins, after the block of `last`.
 #[tactic(auto, unfolding(crate::specs::ItemReading::general_in))]
 fn general_in(
@@ -67,10 +57,10 @@ fn general_in(
     if number >= net.generals() {
         return Err(LineFault::BadTraitor.refused(line));
     }
-    if !ascends(last, number) {
-        return Err(LineFault::BadTraitor.refused(line));
+    match last {
+        Some(last) if number <= last.get() => Err(LineFault::BadTraitor.refused(line)),
+        _ => Ok(GeneralNo::at(number)),
     }
-    Ok(GeneralNo::at(number))
 }
 
 /// Returns the script line that these bytes are, in the block of this general.

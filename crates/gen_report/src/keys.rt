@@ -1,8 +1,8 @@
 //! The lines after that of the order that may be absent: the seed of all keys, and the slot of the run.
-ghost use Rattle.std.specs.Prelude.{◌≡◌, map, IfOk};
+ghost use Rattle.std.specs.Prelude.{◌≡◌};
 ghost use Rattle.gen_types.specs.Reading.{Gives};
 ghost use Rattle.gen_types.specs.Spelled.{IsRead};
-ghost use Rattle.gen_report.specs.KeysReading.{seed_in, slot_in, seed_at, slot_at, version_with};
+ghost use Rattle.gen_report.specs.KeysReading.{seed_at, slot_at, version_with};
 
 use crate::cursor::Cursor;
 use crate::fault::{LineFault, ScenarioFault};
@@ -12,45 +12,12 @@ use gen_types::ReadError;
 use hex::FromHex;
 use std::alloc::Global;
 
-/// Returns the seed of a line; None if it is no line of a seed.
-#[tactic(auto, unfolding(crate::specs::KeysReading::seed_in))]
-fn seed_in(fields: &[&[u8]], line: usize) -> Result<Option<[u8; 32]>, ReadError<ScenarioFault>>
-    ensures { IsRead result (seed_in line (map (λ f. f.now) fields.now)) }
-{
-    match fields {
-        [word, digits] if *word == b"seed".as_slice() => {
-            match <[u8; 32] as FromHex>::from_hex(*digits) {
-                Ok(seed) => Ok(Some(seed)),
-                Err(_) => Err(LineFault::BadSeed.refused(line)),
-            }
-        }
-        _ => Ok(None),
-    }
-}
-
-/// Returns the slot of a line, 0 to 3; None if it is no line of a slot.
-#[tactic(auto, unfolding(crate::specs::KeysReading::slot_in))]
-fn slot_in(fields: &[&[u8]], line: usize) -> Result<Option<u8>, ReadError<ScenarioFault>>
-    ensures { IsRead result (slot_in line (map (λ f. f.now) fields.now)) }
-{
-    match fields {
-        [word, digits] if *word == b"slot".as_slice() => {
-            let slot = number_in(digits, line)?;
-            if slot > GREATEST_SLOT {
-                return Err(LineFault::SlotRange.refused(line));
-            }
-            Ok(Some(slot))
-        }
-        _ => Ok(None),
-    }
-}
-
 /// Returns the seed and the cursor behind it, if its line begins here; else None and the cursor as it was.
 ///
 /// # Errors
 ///
 /// The first fault of this line; Memory if memory was refused before.
-#[tactic(auto, unfolding(crate::specs::KeysReading::seed_at))]
+#[tactic(auto, unfolding(crate::specs::KeysReading::seed_at, crate::specs::KeysReading::seed_in))]
 pub fn read_seed<'a>(
     alloc: Global,
     start: Cursor<'a>,
@@ -58,9 +25,14 @@ pub fn read_seed<'a>(
     ensures { IsRead result (seed_at start.entry) }
 {
     let (line, after) = start.next_line(alloc)?;
-    match seed_in(&line.fields, line.number)? {
-        None => Ok((None, start)),
-        Some(seed) => Ok((Some(seed), after)),
+    match line.fields.as_slice() {
+        [word, digits] if *word == b"seed".as_slice() => {
+            match <[u8; 32] as FromHex>::from_hex(*digits) {
+                Ok(seed) => Ok((Some(seed), after)),
+                Err(_) => Err(LineFault::BadSeed.refused(line.number)),
+            }
+        }
+        _ => Ok((None, start)),
     }
 }
 
@@ -69,7 +41,7 @@ pub fn read_seed<'a>(
 /// # Errors
 ///
 /// The first fault of this line; Memory if memory was refused before.
-#[tactic(auto, unfolding(crate::specs::KeysReading::slot_at))]
+#[tactic(auto, unfolding(crate::specs::KeysReading::slot_at, crate::specs::KeysReading::slot_in))]
 pub fn read_slot<'a>(
     alloc: Global,
     start: Cursor<'a>,
@@ -77,9 +49,15 @@ pub fn read_slot<'a>(
     ensures { IsRead result (slot_at start.entry) }
 {
     let (line, after) = start.next_line(alloc)?;
-    match slot_in(&line.fields, line.number)? {
-        None => Ok((None, start)),
-        Some(slot) => Ok((Some(slot), after)),
+    match line.fields.as_slice() {
+        [word, digits] if *word == b"slot".as_slice() => {
+            let slot = number_in(digits, line.number)?;
+            if slot > GREATEST_SLOT {
+                return Err(LineFault::SlotRange.refused(line.number));
+            }
+            Ok((Some(slot), after))
+        }
+        _ => Ok((None, start)),
     }
 }
 

@@ -6,13 +6,10 @@ ghost use Rattle.gen_net.specs.NetworkOf.{network_of};
 ghost use Rattle.gen_report.specs.Cursor.{start_of};
 ghost use Rattle.gen_report.specs.EdgeReading.{edge_lines_at};
 ghost use Rattle.gen_report.specs.NumbersReading.{
-  opening_behind,
   opening_at,
   settings_at,
   network_at,
   net_behind,
-  order_at,
-  plain_behind,
   plain_at,
 };
 
@@ -79,36 +76,11 @@ pub struct NetOpening<'a> {
     pub after: Cursor<'a>,
 }
 
-/// Reads the lines after that of the generals, up to that of the traitors.
-fn opening_behind<'a>(
-    alloc: Global,
-    generals: u8,
-    start: Cursor<'a>,
-) -> Result<NetOpening<'a>, ReadError<ScenarioFault>>
-    ensures { Gives (λ o. record {
-      generals = o.generals;
-      edges = o.edges.items;
-      traitors = o.traitors;
-      after = o.after;
-    }) result (opening_behind generals start.entry) }
-{
-    let edges = edge_lines(alloc, start)?;
-    let next = &edges.next;
-    let traitors = number_behind(&next.fields, b"traitors", next.number)?;
-    Ok(NetOpening {
-        generals,
-        edges: edges.found,
-        traitors,
-        after: edges.after,
-    })
-}
-
 /// Reads the first lines of a text, from that of the generals up to that of the traitors.
 ///
 /// # Errors
 ///
 /// The first fault of these lines, with its line, as `read_scenario` has it; Memory if memory was refused before.
-#[tactic(auto, unfolding(crate::specs::NumbersReading::opening_at))]
 pub fn first_opening(alloc: Global, text: &[u8]) -> Result<NetOpening<'_>, ReadError<ScenarioFault>>
     ensures { Gives (λ o. record {
       generals = o.generals;
@@ -117,8 +89,7 @@ pub fn first_opening(alloc: Global, text: &[u8]) -> Result<NetOpening<'_>, ReadE
       after = o.after;
     }) result (opening_at (start_of text.now)) }
 {
-    let (generals, rest) = Cursor::behind_first(alloc, text, b"generals")?;
-    opening_behind(alloc, generals.value, rest)
+    read_opening(alloc, &Cursor::start(text))
 }
 
 /// Reads the lines from that of the generals up to that of the traitors.
@@ -135,7 +106,15 @@ fn read_opening<'a>(
     }) result (opening_at start.now) }
 {
     let (generals, rest) = start.numbered(alloc, b"generals")?;
-    opening_behind(alloc, generals.value, rest)
+    let edges = edge_lines(alloc, rest)?;
+    let next = &edges.next;
+    let traitors = number_behind(&next.fields, b"traitors", next.number)?;
+    Ok(NetOpening {
+        generals: generals.value,
+        edges: edges.found,
+        traitors,
+        after: edges.after,
+    })
 }
 
 /// What the three lines of a network after that of the traitors say.
@@ -213,22 +192,6 @@ pub fn make_network(
     }
 }
 
-/// Returns the scenario on this network with the order of the line that begins here, and the cursor after that line.
-#[tactic(auto, unfolding(crate::specs::NumbersReading::order_at))]
-fn read_order<'a>(
-    alloc: Global,
-    net: Net,
-    start: &Cursor<'a>,
-) -> Result<(PlainScenario, Cursor<'a>), ReadError<ScenarioFault>>
-    ensures { IsRead result (order_at net start.now) }
-{
-    let (order, after) = start.numbered(alloc, b"order")?;
-    if order.value >= net.orders() {
-        return Err(LineFault::UnknownOrder.refused(order.line));
-    }
-    Ok((PlainScenario::new(net, OrderNo::at(order.value)), after))
-}
-
 /// Returns the network that begins with these opening lines, and the cursor after the line of its choice.
 ///
 /// # Errors
@@ -258,40 +221,12 @@ pub fn net_behind<'a>(
     Ok((net, settings.after))
 }
 
-/// Returns the network and the order that begin with these opening lines, and the cursor after their lines.
-fn plain_behind<'a>(
-    alloc: Global,
-    opening: NetOpening<'a>,
-) -> Result<(PlainScenario, Cursor<'a>), ReadError<ScenarioFault>>
-    ensures { IsRead result (plain_behind (record {
-      generals = opening.entry.generals;
-      edges = opening.entry.edges.items;
-      traitors = opening.entry.traitors;
-      after = opening.entry.after;
-    })) }
-{
-    let (net, after) = net_behind(alloc, opening)?;
-    read_order(alloc, net, &after)
-}
-
-/// Returns the network and the order of a text, and the cursor after their lines.
-#[tactic(auto, unfolding(crate::specs::NumbersReading::plain_at))]
-pub fn first_plain(
-    alloc: Global,
-    text: &[u8],
-) -> Result<(PlainScenario, Cursor<'_>), ReadError<ScenarioFault>>
-    ensures { IsRead result (plain_at (start_of text.now)) }
-{
-    let opening = first_opening(alloc, text)?;
-    plain_behind(alloc, opening)
-}
-
 /// Returns the network and the order whose lines begin here, and the cursor after them.
 ///
 /// # Errors
 ///
 /// The first fault of these lines, with its line, as `read_scenario` has it; Memory if memory was refused before.
-#[tactic(auto, unfolding(crate::specs::NumbersReading::plain_at))]
+#[tactic(auto, unfolding(crate::specs::NumbersReading::plain_at, crate::specs::NumbersReading::order_at))]
 pub fn read_plain<'a>(
     alloc: Global,
     start: &Cursor<'a>,
@@ -299,5 +234,10 @@ pub fn read_plain<'a>(
     ensures { IsRead result (plain_at start.now) }
 {
     let opening = read_opening(alloc, start)?;
-    plain_behind(alloc, opening)
+    let (net, rest) = net_behind(alloc, opening)?;
+    let (order, after) = rest.numbered(alloc, b"order")?;
+    if order.value >= net.orders() {
+        return Err(LineFault::UnknownOrder.refused(order.line));
+    }
+    Ok((PlainScenario::new(net, OrderNo::at(order.value)), after))
 }

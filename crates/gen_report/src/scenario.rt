@@ -11,7 +11,7 @@ use crate::blocks::{check_paths, read_blocks};
 use crate::cursor::Cursor;
 use crate::fault::{LineFault, ScenarioFault};
 use crate::keys::{read_seed, read_slot, version_with};
-use crate::numbers::first_plain;
+use crate::numbers::read_plain;
 use crate::scenario_text::ScenarioText;
 use gen_scenario::{PlainScenario, SignedPlan};
 use gen_types::ReadError;
@@ -92,7 +92,7 @@ fn whole(alloc: Global, text: &[u8]) -> Result<ScenarioText, ReadError<ScenarioF
     ensures exact { IsRead result (scenario_of text.now) }
     ensures network { IfOk result (λ told. IsNetwork (net_of told)) }
 {
-    let (plain, rest) = first_plain(alloc, text)?;
+    let (plain, rest) = read_plain(alloc, &Cursor::start(text))?;
     let (seed, rest) = read_seed(alloc, rest)?;
     let (told, rest) = read_told(alloc, plain, seed, rest)?;
     if !rest.is_over() {

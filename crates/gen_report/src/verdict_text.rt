@@ -3,9 +3,9 @@ ghost use Rattle.std.specs.Prelude.{◌≡◌, ◌++◌, OnOk, IfOk, map, string
 ghost use Rattle.std.specs.List.{flat_map};
 ghost use Rattle.gen_convict.specs.Evidence.{told_of};
 ghost use Rattle.gen_report.specs.Findings.{finding_line};
-ghost use Rattle.gen_report.specs.VerdictText.{run_line, decided_line, answer_lines, convicted_line, verdict_text};
+ghost use Rattle.gen_report.specs.VerdictText.{decided_line, answer_lines, convicted_line, verdict_text};
 
-use crate::findings::push_finding;
+use crate::findings::push_finding_name;
 use gen_audit::{Judgement, Verdict};
 use gen_convict::Evidence;
 use gen_match::Finding;
@@ -13,31 +13,15 @@ use gen_net::Header;
 use gen_scenario::Decision;
 use std::alloc::{AllocError, Global};
 
-/// Appends the line with the run id.
-fn push_run(alloc: Global, out: &mut String, header: &Header) -> Result<(), AllocError>
-    ensures { OnOk result (string_bytes out.new ≡ string_bytes out.old ++ run_line header.now) }
-{
-    let digits = hex::encode(alloc, *header.run_id())?;
-    write!(out, "run {digits}\n")
-}
-
-/// Appends the line that says what a general decided.
-fn push_decided(out: &mut String, decision: &Decision) -> Result<(), AllocError>
-    ensures { OnOk result
-        (string_bytes out.new ≡ string_bytes out.old ++ decided_line decision.now) }
-{
-    let general = decision.general.get();
-    let order = decision.order.get();
-    write!(out, "general {general} decides {order}\n")
-}
-
 /// Appends the lines that say what generals decided.
 fn push_all_decided(out: &mut String, decisions: &[Decision]) -> Result<(), AllocError>
     ensures { OnOk result (string_bytes out.new
         ≡ string_bytes out.old ++ flat_map decided_line decisions.now) }
 {
     for decision in decisions {
-        push_decided(out, decision)?;
+        let general = decision.general.get();
+        let order = decision.order.get();
+        write!(out, "general {general} decides {order}\n")?;
     }
     Ok(())
 }
@@ -48,7 +32,8 @@ fn push_findings(out: &mut String, findings: &[Finding]) -> Result<(), AllocErro
         ≡ string_bytes out.old ++ flat_map finding_line findings.now) }
 {
     for finding in findings {
-        push_finding(out, finding)?;
+        push_finding_name(out, finding)?;
+        out.push_str("\n")?;
     }
     Ok(())
 }
@@ -74,23 +59,15 @@ fn push_answer(out: &mut String, verdict: &Verdict) -> Result<(), AllocError>
     }
 }
 
-/// Appends the line of a conviction.
-fn push_convicted(out: &mut String, evidence: &Evidence) -> Result<(), AllocError>
-    ensures { OnOk result (string_bytes out.new
-        ≡ string_bytes out.old ++ convicted_line (told_of evidence.now)) }
-{
-    let general = evidence.accused.get();
-    let kind = evidence.claim.kind();
-    write!(out, "convicted {general} by K{kind}\n")
-}
-
 /// Appends the lines of convictions.
 fn push_all_convicted(out: &mut String, convictions: &[Evidence]) -> Result<(), AllocError>
     ensures { OnOk result (string_bytes out.new
         ≡ string_bytes out.old ++ flat_map convicted_line (map told_of convictions.now)) }
 {
     for evidence in convictions {
-        push_convicted(out, evidence)?;
+        let general = evidence.accused.get();
+        let kind = evidence.claim.kind();
+        write!(out, "convicted {general} by K{kind}\n")?;
     }
     Ok(())
 }
@@ -112,7 +89,8 @@ pub fn print_verdict(
         (map told_of judgement.now.convictions.items)) }
 {
     let mut out = String::new(alloc);
-    push_run(alloc, &mut out, header)?;
+    let digits = hex::encode(alloc, *header.run_id())?;
+    write!(out, "run {digits}\n")?;
     push_answer(&mut out, &judgement.verdict)?;
     push_all_convicted(&mut out, judgement.convictions.as_slice())?;
     out.push_str("end\n")?;

@@ -1,0 +1,19 @@
+-- A text to which pieces are appended one after another.
+use Rattle.std.proofs.Common.{◌≡◌, ◌∙◌, ◌++◌, ℕ, List, Result, Ok, Err, OnOk, ap, append_assoc}
+
+-- what the last call appends stands behind what the first one appended
+pub behind : {E : Type 0} (r : Result (Unit {0}) E) (old first mid others new : List ℕ) → mid ≡ old ++ first
+    → OnOk r (new ≡ mid ++ others) → OnOk r (new ≡ old ++ (first ++ others))
+behind (Ok done) old first mid others new before after =
+    (after ∙ ap (λ (xs : List ℕ). xs ++ others) before) ∙ append_assoc old first others
+behind (Err e) old first mid others new before after = tt
+
+-- six pieces
+pub six : {E : Type 0} (r : Result (Unit {0}) E) (old a b c d e f one two three four five new : List ℕ) → one ≡ old ++ a → two ≡ one ++ b
+    → three ≡ two ++ c → four ≡ three ++ d → five ≡ four ++ e → OnOk r (new ≡ five ++ f)
+    → OnOk r (new ≡ old ++ (a ++ (b ++ (c ++ (d ++ (e ++ f))))))
+six r old a b c d e f one two three four five new first second third fourth fifth last =
+    behind r old a one (b ++ (c ++ (d ++ (e ++ f)))) new first
+    (behind r one b two (c ++ (d ++ (e ++ f))) new second
+    (behind r two c three (d ++ (e ++ f)) new third
+    (behind r three d four (e ++ f) new fourth (behind r four e five f new fifth last))))
