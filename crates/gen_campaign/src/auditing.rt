@@ -1,5 +1,5 @@
 //! The audit of a campaign.
-ghost use Rattle.std.specs.Prelude.{◌≡◌, ◌++◌, ◌∷◌, [], true, IfErr, IfOk, OnOk, map};
+ghost use Rattle.std.specs.Prelude.{◌≡◌, [], true, IfErr, IfOk, map};
 ghost use Rattle.std.specs.List.{AllZip};
 ghost use Rattle.gen_convict.specs.AcrossLaws.{AreConvictedAcross, AreEvidenceAcross, ConvictsAcrossWhereHeld};
 ghost use Rattle.gen_convict.specs.Evidence.{told_of};
@@ -9,23 +9,13 @@ ghost use Rattle.gen_campaign.specs.Judged.{AreJudged, shown_bundles};
 
 use crate::campaigns::CampaignBundle;
 use crate::judging::judge_campaign;
+use crate::lists::keep;
 use crate::verdicts::CampaignVerdict;
 use gen_audit::{AuditFault, Bundle, JobGate, WorkerCount, reports_by_workers};
 use gen_local::LocalReport;
-use std::alloc::{AllocError, Global};
+use std::alloc::Global;
 use std::sync::Wait;
 use std::thread::Threads;
-
-/// Appends the reports on the exhibits of a run.
-fn keep_reports(
-    seen: &mut Vec<Vec<LocalReport>>,
-    reports: Vec<LocalReport>,
-) -> Result<(), AllocError>
-    ensures { OnOk result (seen.new.items ≡ seen.old.items ++ reports ∷ []) }
-{
-    seen.push(reports)?;
-    Ok(())
-}
 
 /// Returns for each bundle the reports on all its exhibits, in their order, made by this number of workers.
 fn reports_by_threads<R: Threads + Wait + Sync, G: JobGate + Sync>(
@@ -42,7 +32,7 @@ fn reports_by_threads<R: Threads + Wait + Sync, G: JobGate + Sync>(
     for bundle in bundles {
         let (header, exhibits) = (bundle.header(), bundle.exhibits());
         let reports = reports_by_workers(rt, alloc, header, exhibits, workers, gate)?;
-        keep_reports(&mut seen, reports)?;
+        keep(&mut seen, reports)?;
     }
     Ok(seen)
 }

@@ -114,23 +114,7 @@ fn read_several<'a>(
     Ok((campaign, rest))
 }
 
-/// Reads the bundle that stands alone, of either version. Returns it and the bytes after it.
-fn read_sole<'a>(
-    alloc: Global,
-    input: &ArcSlice<u8>,
-    bytes: &'a [u8],
-) -> Result<(Bundle, &'a [u8]), ReadError<CampaignFault>>
-    requires { IsEndOf (arc_slice_items input.now) bytes.now }
-    ensures { IsField result (reading.sole_at bytes.now) }
-{
-    match bundle_in_front(alloc, input, bytes) {
-        Ok(read) => Ok(read),
-        Err(ReadError::Memory) => Err(ReadError::Memory),
-        Err(ReadError::Fault(fault)) => Err(ReadError::Fault(CampaignFault::Alone(fault))),
-    }
-}
-
-/// Reads a bundle that stands alone. Returns what it shows of a campaign, and the bytes after it.
+/// Reads a bundle that stands alone, of either version. Returns what it shows of a campaign, and the bytes after it.
 #[tactic(auto, unfolding(crate::specs::CampaignReading::alone_at))]
 fn read_alone<'a>(
     alloc: Global,
@@ -140,7 +124,11 @@ fn read_alone<'a>(
     requires { IsEndOf (arc_slice_items input.now) bytes.now }
     ensures { IsField result (reading.alone_at bytes.now) }
 {
-    let (bundle, rest) = read_sole(alloc, input, bytes)?;
+    let (bundle, rest) = match bundle_in_front(alloc, input, bytes) {
+        Ok(read) => read,
+        Err(ReadError::Memory) => return Err(ReadError::Memory),
+        Err(ReadError::Fault(fault)) => return Err(ReadError::Fault(CampaignFault::Alone(fault))),
+    };
     let mut bundles = Vec::with_capacity(alloc, 1)?;
     bundles.push(bundle)?;
     let campaign = CampaignBundle {
@@ -178,17 +166,6 @@ fn campaign_in_front<'a>(
     read_alone(alloc, input, bytes)
 }
 
-/// Returns the fault of bytes that are left over behind a campaign of either form.
-fn left_over(campaign: &CampaignBundle) -> CampaignFault
-    ensures { result ≡ reading.left_over campaign.now }
-{
-    if campaign.is_alone() {
-        CampaignFault::Alone(BundleFault::LeftOver)
-    } else {
-        CampaignFault::LeftOver
-    }
-}
-
 /// Reads what the whole input shows of a campaign. `bytes` is the whole input.
 #[tactic(auto, unfolding(crate::specs::CampaignReading::whole_campaign))]
 fn campaign_alone(
@@ -200,8 +177,13 @@ fn campaign_alone(
     ensures { IsRead result (reading.whole_campaign bytes.now) }
 {
     let (campaign, rest) = campaign_in_front(alloc, input, bytes)?;
-    check(rest.len() == 0, left_over(&campaign))?;
-    Ok(campaign)
+    if rest.len() == 0 {
+        return Ok(campaign);
+    }
+    if campaign.is_alone() {
+        return Err(ReadError::Fault(CampaignFault::Alone(BundleFault::LeftOver)));
+    }
+    Err(ReadError::Fault(CampaignFault::LeftOver))
 }
 
 /// Reads what the whole input shows of a campaign. `bytes` is the whole input. The contract says what is

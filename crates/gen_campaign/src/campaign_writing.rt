@@ -2,9 +2,10 @@
 ghost use Rattle.std.specs.Prelude.{◌≡◌, ◌++◌, IfOk, OnOk};
 ghost use Rattle.std.specs.List.{flat_map};
 ghost use Rattle.gen_audit.specs.BundleSpelling.{bundle_spelling};
-ghost use Rattle.gen_campaign.specs.CampaignSpelling.{campaign_front, campaign_spelling};
+ghost use Rattle.gen_campaign.specs.CampaignSpelling.{campaign_spelling};
 
-use crate::campaigns::{CAMPAIGN_MARK, CampaignBundle};
+use crate::campaigns::CampaignBundle;
+use crate::fronts::several_front;
 use gen_audit::{Bundle, write_bundle};
 use std::alloc::{AllocError, Global};
 
@@ -23,25 +24,15 @@ pub fn put_bundles(alloc: Global, out: &mut Vec<u8>, bundles: &[Bundle]) -> Resu
     Ok(())
 }
 
-/// Returns the bytes that stand before the bundles: the mark and the number of runs, or nothing before a
-/// bundle that stands alone.
-fn front_of(alloc: Global, campaign: &CampaignBundle) -> Result<Vec<u8>, AllocError>
-    ensures { IfOk result (λ bytes. bytes.items ≡ campaign_front campaign.now) }
-{
-    let mut out = Vec::new(alloc);
-    if !campaign.is_alone() {
-        out.extend_from_slice(&CAMPAIGN_MARK.to_be_bytes())?;
-        out.push(campaign.bundles().len() as u8)?;
-    }
-    Ok(out)
-}
-
 /// Returns the one spelling of what is shown of a campaign, as `read_campaign` reads it. It fails only if
 /// memory was refused.
 pub fn write_campaign(alloc: Global, campaign: &CampaignBundle) -> Result<Vec<u8>, AllocError>
     ensures { IfOk result (λ bytes. bytes.items ≡ campaign_spelling campaign.now) }
 {
-    let mut out = front_of(alloc, campaign)?;
+    let mut out = Vec::new(alloc);
+    if !campaign.is_alone() {
+        out.extend_from_slice(&several_front(campaign.bundles().len() as u8))?;
+    }
     put_bundles(alloc, &mut out, campaign.bundles())?;
     Ok(out)
 }

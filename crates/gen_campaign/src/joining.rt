@@ -1,24 +1,19 @@
 //! Which runs may stand in one campaign.
-ghost use Rattle.std.specs.Prelude.{◌≡◌, ◌&&◌, ◌==◌};
-ghost use Rattle.gen_net.specs.SameHeaders.{same_roots};
-ghost use Rattle.gen_campaign.specs.CampaignReading.{has_keys_of, joins, may_join};
+ghost use Rattle.std.specs.Prelude.{◌≡◌};
+ghost use Rattle.gen_campaign.specs.CampaignReading.{joins, may_join};
 
 use gen_audit::Bundle;
 use gen_net::Header;
-
-/// Whether two runs have the same number of generals, and the same roots.
-fn has_keys_of(before: &Header, header: &Header) -> bool
-    ensures { result ≡ has_keys_of before.now header.now }
-{
-    before.net().generals() == header.net().generals() && before.roots() == header.roots()
-}
 
 /// Whether a run with `header` may stand behind a run with `before` in one campaign: both have the same
 /// number of generals and the same roots, the slot is not less, and the headers differ.
 fn joins(before: &Header, header: &Header) -> bool
     ensures { result ≡ joins before.now header.now }
 {
-    has_keys_of(before, header) && before.slot() <= header.slot() && before != header
+    before.net().generals() == header.net().generals()
+        && before.roots() == header.roots()
+        && before.slot() <= header.slot()
+        && before != header
 }
 
 /// Whether a run with this header may stand behind each of these runs in one campaign.

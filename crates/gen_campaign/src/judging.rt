@@ -10,7 +10,7 @@ use crate::campaigns::CampaignBundle;
 use crate::laws::other_slots_convict_nobody;
 use crate::verdicts::CampaignVerdict;
 use gen_audit::{Bundle, Judgement, judge_reports};
-use gen_convict::{Evidence, find_across};
+use gen_convict::find_across;
 use gen_local::LocalReport;
 use gen_net::Header;
 use std::alloc::{AllocError, Global};
@@ -43,24 +43,6 @@ fn headers_of(alloc: Global, bundles: &[Bundle]) -> Result<Vec<Header>, AllocErr
     Ok(headers)
 }
 
-/// Returns the evidence that convicts generals across the runs of these bundles, whose exhibits have these
-/// reports.
-fn find_in_runs(
-    alloc: Global,
-    bundles: &[Bundle],
-    seen: &[Vec<LocalReport>],
-) -> Result<Vec<Evidence>, AllocError>
-    requires { AllZip AreReports bundles.now (map (λ v. v.items) seen.now) }
-    ensures found { IfOk result (λ found.
-        AreConvictedAcross (shown_bundles bundles.now) (map told_of found.items)) }
-    ensures held { IfOk result (λ found.
-        ConvictsAcrossWhereHeld (shown_bundles bundles.now) (map told_of found.items)) }
-    ensures lawful { IfOk result (λ found. AreEvidenceAcross (map told_of found.items)) }
-{
-    let headers = headers_of(alloc, bundles)?;
-    find_across(alloc, headers.as_slice(), seen)
-}
-
 /// Returns the verdict on a campaign, with these reports on the exhibits of its bundles. The clauses are
 /// those of `audit_campaign`.
 pub fn judge_campaign(
@@ -80,6 +62,7 @@ pub fn judge_campaign(
     other_slots_convict_nobody();
     let bundles = campaign.bundles();
     let judgements = judge_bundles(alloc, bundles, seen)?;
-    let across = find_in_runs(alloc, bundles, seen)?;
+    let headers = headers_of(alloc, bundles)?;
+    let across = find_across(alloc, headers.as_slice(), seen)?;
     Ok(CampaignVerdict { judgements, across })
 }

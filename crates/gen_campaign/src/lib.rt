@@ -29,6 +29,7 @@ mod joining;
 mod judging;
 pub mod laws;
 mod likeness;
+mod lists;
 mod making;
 mod printing;
 mod runs;
@@ -45,9 +46,7 @@ pub use campaigns::CampaignBundle;
 pub use fronts::several_front;
 pub use in_place::audit_campaign_in_place;
 pub use making::make_campaign;
-pub use printing::{
-    one_bundle_is_printed_as_before, place_of, places_name_runs, print_campaign, push_across,
-};
+pub use printing::{place_of, places_name_runs, print_campaign, push_across};
 pub use runs::run_campaign;
 pub use series::Campaign;
 pub use series_fault::SeriesFault;

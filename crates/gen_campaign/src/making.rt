@@ -1,5 +1,5 @@
 //! Making campaigns of plans.
-ghost use Rattle.std.specs.Prelude.{◌≡◌, ◌++◌, ◌∷◌, [], Contains, IfOk, Ok, OnOk, map};
+ghost use Rattle.std.specs.Prelude.{◌≡◌, Contains, IfOk, Ok, map};
 ghost use Rattle.std.specs.List.{range_with_len};
 ghost use Rattle.gen_net.specs.Version.{height_in};
 ghost use Rattle.gen_scenario.specs.Scenario.{Scenario as Plan};
@@ -14,22 +14,6 @@ use gen_types::TreeHeight;
 use std::alloc::{AllocError, Global};
 use std::thread::Threads;
 
-/// Appends the scenario of a plan, with a copy of the trees.
-fn keep_scenario(
-    alloc: Global,
-    scenarios: &mut Vec<Scenario>,
-    plan: SignedPlan,
-    trees: &Vec<KeyTree>,
-) -> Result<(), AllocError>
-    requires { trees.now.items
-        ≡ map (general_tree plan.master (height_in plan.version)) (range_with_len 0 plan.net.generals) }
-    ensures { OnOk result (scenarios.new.items ≡ scenarios.old.items ++ plan ∷ []) }
-{
-    let scenario = Scenario::of_trees(alloc, plan, trees.clone()?)?;
-    scenarios.push(scenario)?;
-    Ok(())
-}
-
 /// Makes the scenarios of these plans, all with these trees of the generals' keys.
 fn make_scenarios(
     alloc: Global,
@@ -42,7 +26,7 @@ fn make_scenarios(
 {
     let mut scenarios = Vec::with_capacity(alloc, plans.len())?;
     for plan in plans {
-        keep_scenario(alloc, &mut scenarios, plan, trees)?;
+        scenarios.push(Scenario::of_trees(alloc, plan, trees.clone()?)?)?;
     }
     Ok(scenarios)
 }

@@ -1,16 +1,13 @@
 //! Verdicts on campaigns as text.
-ghost use Rattle.std.specs.Prelude.{◌≡◌, ◌++◌, OnOk, IfOk, codes, length, map, string_bytes};
-ghost use Rattle.std.specs.List.{flat_map, position};
-ghost use Rattle.std.specs.Fmt.{decimal};
+ghost use Rattle.std.specs.Prelude.{◌≡◌, ◌++◌, OnOk, IfOk, map, string_bytes};
+ghost use Rattle.std.specs.List.{position};
 ghost use Rattle.gen_net.specs.SameHeaders.{same_header};
 ghost use Rattle.gen_convict.specs.Evidence.{told_of};
-ghost use Rattle.gen_report.specs.VerdictText.{verdict_text};
-ghost use Rattle.gen_campaign.specs.CampaignPlaces.{OneBundleAsPrinted, PlacesNameRuns};
+ghost use Rattle.gen_campaign.specs.CampaignPlaces.{PlacesNameRuns};
 ghost use Rattle.gen_campaign.specs.CampaignVerdictText.{
   across_line,
   campaign_text,
   place_of,
-  several_text,
   verdict_texts,
 };
 
@@ -69,55 +66,6 @@ pub fn push_across(
     }
 }
 
-/// Appends the lines of convictions across two runs, in their order.
-fn push_all_across(
-    out: &mut String,
-    bundles: &[Bundle],
-    across: &[Evidence],
-) -> Result<(), AllocError>
-    ensures { OnOk result (string_bytes out.new
-        ≡ string_bytes out.old ++ flat_map (across_line bundles.now) (map told_of across.now)) }
-{
-    for evidence in across {
-        push_across(out, bundles, evidence)?;
-    }
-    Ok(())
-}
-
-/// Returns the first line of several runs: `campaign N`, where N is the number of runs.
-fn front_line(alloc: Global, runs: usize) -> Result<Vec<u8>, AllocError>
-    ensures { IfOk result (λ v. v.items ≡ codes "campaign " ++ decimal runs ++ codes "\n") }
-{
-    let mut out = String::new(alloc);
-    write!(out, "campaign {runs}\n")?;
-    Ok(out.into_bytes())
-}
-
-/// Returns the lines behind the verdicts: those of the convictions across two runs, and `end campaign`.
-fn last_lines(alloc: Global, bundles: &[Bundle], across: &[Evidence]) -> Result<Vec<u8>, AllocError>
-    ensures { IfOk result (λ v. v.items
-        ≡ flat_map (across_line bundles.now) (map told_of across.now) ++ codes "end campaign\n") }
-{
-    let mut out = String::new(alloc);
-    push_all_across(&mut out, bundles, across)?;
-    out.push_str("end campaign\n")?;
-    Ok(out.into_bytes())
-}
-
-/// Appends the text of the verdict on a run.
-fn put_verdict(
-    alloc: Global,
-    out: &mut Vec<u8>,
-    header: &Header,
-    judgement: &Judgement,
-) -> Result<(), AllocError>
-    ensures { OnOk result (out.new.items ≡ out.old.items ++ verdict_text header.now
-        judgement.now.verdict (map told_of judgement.now.convictions.items)) }
-{
-    let text = print_verdict(alloc, header, judgement)?;
-    out.extend_from_slice(text.as_slice())
-}
-
 /// Appends the texts of the verdicts on the runs, in their order. A run without a judgement has no text.
 fn put_verdicts(
     alloc: Global,
@@ -134,41 +82,12 @@ fn put_verdicts(
         let Some((judgement, more)) = rest.split_first() else {
             return Ok(());
         };
-        put_verdict(alloc, out, run.header(), judgement)?;
+        let text = print_verdict(alloc, run.header(), judgement)?;
+        out.extend_from_slice(text.as_slice())?;
         runs = others;
         rest = more;
     }
     Ok(())
-}
-
-/// Returns the text of the verdicts on several runs and of the convictions across them.
-fn print_several(
-    alloc: Global,
-    bundles: &[Bundle],
-    judgements: &[Judgement],
-    across: &[Evidence],
-) -> Result<Vec<u8>, AllocError>
-    ensures { IfOk result (λ v. v.items
-        ≡ several_text bundles.now judgements.now (map told_of across.now)) }
-{
-    let mut out = front_line(alloc, bundles.len())?;
-    put_verdicts(alloc, &mut out, bundles, judgements)?;
-    let last = last_lines(alloc, bundles, across)?;
-    out.extend_from_slice(last.as_slice())?;
-    Ok(out)
-}
-
-/// Returns the text of the verdict on a bundle that stands alone.
-fn print_alone(
-    alloc: Global,
-    bundles: &[Bundle],
-    judgements: &[Judgement],
-) -> Result<Vec<u8>, AllocError>
-    ensures { IfOk result (λ v. v.items ≡ verdict_texts bundles.now judgements.now) }
-{
-    let mut out = Vec::new(alloc);
-    put_verdicts(alloc, &mut out, bundles, judgements)?;
-    Ok(out)
 }
 
 /// Returns the text of the verdict on a campaign. It begins with a line `campaign N`. For each run follows
@@ -190,17 +109,23 @@ pub fn print_campaign(
     ensures { IfOk result (λ v. v.items ≡ campaign_text campaign.now verdict.now.judgements.items
         (map told_of verdict.now.across.items)) }
 {
-    let judgements = verdict.judgements.as_slice();
+    let (bundles, judgements) = (campaign.bundles(), verdict.judgements.as_slice());
     if campaign.is_alone() {
-        print_alone(alloc, campaign.bundles(), judgements)
-    } else {
-        print_several(
-            alloc,
-            campaign.bundles(),
-            judgements,
-            verdict.across.as_slice(),
-        )
+        let mut out = Vec::new(alloc);
+        put_verdicts(alloc, &mut out, bundles, judgements)?;
+        return Ok(out);
     }
+    let across = verdict.across.as_slice();
+    let runs = bundles.len();
+    let mut out = format!(in alloc; "campaign {runs}\n")?.into_bytes();
+    put_verdicts(alloc, &mut out, bundles, judgements)?;
+    let mut last = String::new(alloc);
+    for evidence in across {
+        push_across(&mut last, bundles, evidence)?;
+    }
+    last.push_str("end campaign\n")?;
+    out.extend_from_slice(last.as_bytes())?;
+    Ok(out)
 }
 
 /// States that among the runs of a campaign the place of a run's header is the place of that run, since no
@@ -209,12 +134,4 @@ pub fn print_campaign(
 /// A law: a function with an empty body, whose caller knows what it ensures.
 pub fn places_name_runs()
     ensures { PlacesNameRuns }
-{}
-
-/// States that the text of the verdict on a bundle that stands alone is that of its judgement, as
-/// `print_verdict` gives it.
-///
-/// A law: a function with an empty body, whose caller knows what it ensures.
-pub fn one_bundle_is_printed_as_before()
-    ensures { OneBundleAsPrinted }
 {}

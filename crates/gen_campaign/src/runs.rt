@@ -1,13 +1,13 @@
 //! Runs of campaigns.
-ghost use Rattle.std.specs.Prelude.{ℕ, ◌≡◌, ◌<◌, ◌++◌, true, [], ◌∷◌, Contains, map, IfErr, IfOk, OnOk};
+ghost use Rattle.std.specs.Prelude.{ℕ, ◌≡◌, ◌<◌, true, [], map, IfErr, IfOk};
 ghost use Rattle.std.specs.List.{list_all};
 ghost use Rattle.gen_scenario.specs.Rows.{logs_of_all};
 ghost use Rattle.gen_threads.specs.Faults.{IsAnsweredFault};
 ghost use Rattle.gen_campaign.specs.Series.{ascend_from, is_like};
-ghost use Rattle.gen_scenario.specs.Scenario.{IsScenario, Scenario as Plan};
 ghost use Rattle.gen_campaign.specs.Leaves.{AreKept, AreSpentIn};
 ghost use Rattle.gen_campaign.specs.OneText.{EachLeafHasOneText};
 
+use crate::lists::keep;
 use crate::series::Campaign;
 use gen_log::SealedLog;
 use gen_scenario::Scenario;
@@ -16,14 +16,6 @@ use gen_tree::LeafSet;
 use std::alloc::{AllocError, Global};
 use std::sync::Wait;
 use std::thread::Threads;
-
-/// Appends the logs of a run.
-fn keep_logs(all: &mut Vec<Vec<SealedLog>>, logs: Vec<SealedLog>) -> Result<(), AllocError>
-    ensures { OnOk result (all.new.items ≡ all.old.items ++ logs ∷ []) }
-{
-    all.push(logs)?;
-    Ok(())
-}
 
 /// Closes rings, and returns the leaves that were taken from each, in their order.
 fn close_rings(alloc: Global, rings: Vec<HeldRing>) -> Result<Vec<LeafSet>, AllocError>
@@ -60,33 +52,21 @@ fn run_all<R: Threads + Wait + Sync, G: Gate + Sync>(
     'runs: while let Some((scenario, others)) = rest.split_first() {
         let (logs, back) = run_with_rings(rt, alloc, scenario, capacity, gate, rings)?;
         rings = back;
-        keep_logs(&mut all, logs)?;
+        keep(&mut all, logs)?;
         rest = others;
     }
     Ok((all, rings))
-}
-
-/// Makes known to the proof what holds of a scenario.
-fn note_scenario(scenario: &Scenario)
-    ensures { IsScenario scenario.now }
-{
-    let _header = scenario.header();
-}
-
-/// Makes known to the proof what holds of each scenario.
-fn note_scenarios(scenarios: &[Scenario])
-    ensures { (s : Plan) → Contains scenarios.now s → IsScenario s }
-{
-    for scenario in scenarios {
-        note_scenario(scenario);
-    }
 }
 
 /// Makes known to the proof that a general signs at most one text under each leaf in a campaign.
 fn note_texts(campaign: &Campaign)
     ensures { EachLeafHasOneText campaign.now }
 {
-    note_scenarios(campaign.scenarios());
+    let scenarios = campaign.scenarios();
+    for scenario in scenarios {
+        // This read makes known to the proof what holds of a scenario.
+        let _header = scenario.header();
+    }
 }
 
 /// Runs the scenarios of a campaign one after another, each as `run_threads` does, and returns the logs of

@@ -1,5 +1,6 @@
 pub mod Accepted
 pub mod Existing
+pub mod Fitting
 pub mod FrameLaws
 pub mod Growing
 pub mod Places

@@ -4,7 +4,7 @@ ghost use Rattle.gen_types.specs.Bytes.{many_at};
 ghost use Rattle.gen_types.specs.Reading.{Gives};
 ghost use Rattle.gen_types.specs.Spelled.{IsField, IsRead, Spells};
 ghost use Rattle.gen_node.specs.Frame.{WireFrame as Sent, IsFrame, frame_spelling};
-ghost use Rattle.gen_node.specs.FrameReading.{frame_at, front_at, parcel_at, run_at, whole_frame};
+ghost use Rattle.gen_node.specs.FrameReading.{frame_at, front_at, parcel_at, whole_frame};
 
 use crate::frame_fault::FrameFault;
 use crate::frames::{FrameFront, WireFrame};
@@ -18,25 +18,16 @@ pub const FRAME_MARK: u32 = 0x534d_4631;
 /// The number of bytes of a run id.
 const RUN_ID_BYTES: usize = 32;
 
-/// Reads the mark and the run id behind it, and returns the run id and the bytes after it.
-#[tactic(auto, unfolding(crate::specs::FrameReading::run_at))]
-fn read_run(bytes: &[u8]) -> Result<([u8; RUN_ID_BYTES], &[u8]), ReadError<FrameFault>>
-    ensures { IsField result (run_at bytes.now) }
+/// Reads the front of a frame (mark, run id, round, sender and receiver), and returns it and the bytes after it.
+#[tactic(auto, unfolding(crate::specs::FrameReading::front_at, crate::specs::FrameReading::run_at))]
+fn read_frame_front(bytes: &[u8]) -> Result<(FrameFront, &[u8]), ReadError<FrameFault>>
+    ensures { IsField result (front_at bytes.now) }
 {
     let (mark, rest) = u32_at(bytes, FrameFault::Truncated)?;
     check(mark == FRAME_MARK, FrameFault::UnknownMark)?;
     let (run, rest) = bytes_at(rest, RUN_ID_BYTES, FrameFault::Truncated)?;
     let mut run_id = [0; RUN_ID_BYTES];
     run_id.copy_from_slice(run);
-    Ok((run_id, rest))
-}
-
-/// Reads the front of a frame (mark, run id, round, sender and receiver), and returns it and the bytes after it.
-#[tactic(auto, unfolding(crate::specs::FrameReading::front_at))]
-fn read_frame_front(bytes: &[u8]) -> Result<(FrameFront, &[u8]), ReadError<FrameFault>>
-    ensures { IsField result (front_at bytes.now) }
-{
-    let (run_id, rest) = read_run(bytes)?;
     let (round, rest) = u8_at(rest, FrameFault::Truncated)?;
     let (from, rest) = u8_at(rest, FrameFault::Truncated)?;
     let (to, rest) = u8_at(rest, FrameFault::Truncated)?;
@@ -86,7 +77,7 @@ fn frame_in_front(alloc: Global, bytes: &[u8]) -> Result<(WireFrame, &[u8]), Rea
     let (front, rest) = read_frame_front(bytes)?;
     let (count, rest) = u16_at(rest, FrameFault::Truncated)?;
     let (parcels, rest) = read_parcels(alloc, count, rest)?;
-    Ok((WireFrame::new(front, parcels), rest))
+    Ok((WireFrame { front, parcels }, rest))
 }
 
 /// Returns the frame that all the bytes are: nothing may be left over.

@@ -18,27 +18,20 @@ fn parts_fit(run_id: [u8; 32], round: u8, from: u8, to: u8)
 
 /// Appends the front of a frame: the mark `SMF1`, the run id, the round, the sender and the receiver.
 fn put_front(out: &mut Vec<u8>, front: &FrameFront) -> Result<(), AllocError>
-    ensures ok { OnOk result (out.new.items ≡ out.old.items ++ front_spelling front.now) }
-    ensures known { IsFront front.now }
+    ensures { OnOk result (out.new.items ≡ out.old.items ++ front_spelling front.now) }
 {
-    parts_fit(front.run_id, front.round, front.from, front.to);
     out.extend_from_slice(&FRAME_MARK.to_be_bytes())?;
     out.extend_from_slice(&front.run_id)?;
     out.extend_from_slice(&[front.round, front.from, front.to])
-}
-
-/// Whether a parcel's length fits into its four bytes.
-fn is_short(parcel: &Parcel) -> bool
-    ensures { IsTrue result ↔ IsParcel parcel.now }
-{
-    u32::try_from(parcel.bytes().len()).is_ok()
 }
 
 /// Whether each parcel's length fits into its four bytes.
 fn are_short(parcels: &[Parcel]) -> bool
     ensures { IsTrue result ↔ All IsParcel parcels.now }
 {
-    parcels.iter().all(|parcel| is_short(parcel))
+    parcels
+        .iter()
+        .all(|parcel| u32::try_from(parcel.bytes().len()).is_ok())
 }
 
 /// Appends a parcel's length in four bytes, big-endian, and the parcel.
@@ -51,27 +44,8 @@ fn put_parcel(out: &mut Vec<u8>, parcel: &Parcel) -> Result<(), AllocError>
     out.extend_from_slice(parcel.bytes())
 }
 
-/// Appends parcels, each behind its length in four bytes.
-fn put_parcels(out: &mut Vec<u8>, parcels: &[Parcel]) -> Result<(), AllocError>
-    requires { All IsParcel parcels.now }
-    ensures { OnOk result (out.new.items ≡ out.old.items ++ flat_map parcel_spelling parcels.now) }
-{
-    'parcels: for parcel in parcels {
-        put_parcel(out, parcel)?;
-    }
-    Ok(())
-}
-
-/// A frame of fewer than 2^16 parcels, each shorter than 2^32 bytes, has a spelling.
-fn few_fit(front: &FrameFront, parcels: &[Parcel])
-    requires few { length parcels.now < 2 ^ 16 }
-    requires short { All IsParcel parcels.now }
-    ensures { IsFrame (record { front = front.now; parcels = parcels.now }) }
-{
-    parts_fit(front.run_id, front.round, front.from, front.to);
-}
-
 /// Returns the one spelling of a frame of fewer than 2^16 parcels, each shorter than 2^32 bytes.
+#[tactic(auto, using(crate::proofs::Fitting::is_frame))]
 pub(crate) fn spelled(
     alloc: Global,
     front: &FrameFront,
@@ -79,14 +53,18 @@ pub(crate) fn spelled(
 ) -> Result<Vec<u8>, AllocError>
     requires few { length parcels.now < 2 ^ 16 }
     requires short { All IsParcel parcels.now }
-    ensures { IfOk result (λ bytes. Spells IsFrame frame_spelling bytes.items
+    ensures ok { IfOk result (λ bytes. Spells IsFrame frame_spelling bytes.items
         (record { front = front.now; parcels = parcels.now })) }
+    ensures fits { IsFrame (record { front = front.now; parcels = parcels.now }) }
 {
+    parts_fit(front.run_id, front.round, front.from, front.to);
     let count = u16::try_from(parcels.len()).unwrap();
     let mut out = Vec::new(alloc);
     put_front(&mut out, front)?;
     out.extend_from_slice(&count.to_be_bytes())?;
-    put_parcels(&mut out, parcels)?;
+    'parcels: for parcel in parcels {
+        put_parcel(&mut out, parcel)?;
+    }
     Ok(out)
 }
 
@@ -109,6 +87,5 @@ pub fn frame_bytes(
     if u16::try_from(parcels.len()).is_err() || !are_short(parcels) {
         return Err(SpellingFault::TooLong);
     }
-    few_fit(front, parcels);
     Ok(spelled(alloc, front, parcels)?)
 }

@@ -21,8 +21,8 @@ pub struct FrameFront {
 /// frame and the list of parcels.
 #[derive(Debug, Drop)]
 pub struct WireFrame {
-    front: FrameFront,
-    parcels: Vec<Parcel>,
+    pub(crate) front: FrameFront,
+    pub(crate) parcels: Vec<Parcel>,
 }
 
 impl Model for WireFrame {
@@ -34,13 +34,6 @@ impl Model for WireFrame {
 }
 
 impl WireFrame {
-    /// Returns the frame with this front and these parcels.
-    pub(crate) fn new(front: FrameFront, parcels: Vec<Parcel>) -> WireFrame
-        ensures { result ≡ record { front = front; parcels = parcels.items } }
-    {
-        WireFrame { front, parcels }
-    }
-
     /// Returns the front of the frame: its run, its round, its sender and its receiver.
     pub fn front(&self) -> FrameFront
         ensures { result ≡ self.now.front }
@@ -53,13 +46,5 @@ impl WireFrame {
         ensures { result.now ≡ self.now.parcels }
     {
         self.parcels.as_slice()
-    }
-
-    /// Returns the parcels, in their order, and ends the frame.
-    pub fn into_parcels(self) -> Vec<Parcel>
-        ensures { result.items ≡ self.parcels }
-    {
-        let WireFrame { front: _, parcels } = self;
-        parcels
     }
 }

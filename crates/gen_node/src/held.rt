@@ -9,8 +9,8 @@ use std::marker::Model;
 /// A neighbour, and the parcels of the frame to it or from it. A contract sees both as one record.
 #[derive(Debug, Drop)]
 pub struct Held {
-    general: GeneralNo,
-    parcels: Vec<Parcel>,
+    pub(crate) general: GeneralNo,
+    pub(crate) parcels: Vec<Parcel>,
 }
 
 impl Model for Held {
@@ -22,25 +22,11 @@ impl Model for Held {
 }
 
 impl Held {
-    /// Returns a neighbour and its parcels as one value.
-    pub(crate) fn new(general: GeneralNo, parcels: Vec<Parcel>) -> Held
-        ensures { result ≡ record { general = general; parcels = parcels.items } }
-    {
-        Held { general, parcels }
-    }
-
     /// Returns the neighbour.
     pub(crate) fn general(&self) -> GeneralNo
         ensures { result ≡ self.now.general }
     {
         self.general
-    }
-
-    /// Returns the parcels, in their order.
-    pub(crate) fn parcels(&self) -> &[Parcel]
-        ensures { result.now ≡ self.now.parcels }
-    {
-        self.parcels.as_slice()
     }
 }
 
@@ -70,7 +56,7 @@ pub(crate) fn parcels_of(rows: &[Held], general: GeneralNo) -> &[Parcel]
     ensures { result.now ≡ helds.frame_in general rows.now }
 {
     match find_held(rows, general) {
-        Some(held) => held.parcels(),
+        Some(held) => held.parcels.as_slice(),
         None => &[],
     }
 }

@@ -3,7 +3,7 @@ ghost use Rattle.std.specs.Prelude.{◌≡◌, ◌<◌, ◌↔◌, IsTrue, true,
 ghost use Rattle.std.specs.Str.{bytes_eq};
 ghost use Rattle.gen_types.specs.declared.reading.ReadError.TheVariants as errors;
 ghost use Rattle.gen_types.specs.Reading.{Gives};
-ghost use Rattle.gen_types.specs.Spelled.{IsRead, Spells};
+ghost use Rattle.gen_types.specs.Spelled.{Spells};
 ghost use Rattle.gen_net.specs.Header.{height_of};
 ghost use Rattle.gen_general.specs.Participant.{IsUnused};
 ghost use Rattle.gen_general.specs.Recording.{RingSealed, log_written};
@@ -12,8 +12,8 @@ ghost use Rattle.gen_node.specs.declared.stages.Stage.TheVariants.{Hearing, Send
 ghost use Rattle.gen_node.specs.Frame.{IsFrame, frame_spelling};
 ghost use Rattle.gen_node.specs.Loops.Kept.{IsSignedFrom, heard_one, is_sending, next_sent, of_part, sent_one};
 ghost use Rattle.gen_node.specs.Node as nodes;
-ghost use Rattle.gen_node.specs.Node.{Node as Told, IsBegun, IsRefused, MayBeNode, awaited, decision_of_node, ended};
-ghost use Rattle.gen_node.specs.Node.{frame_to, fresh_ring, front_check, handed, header_at, node_at_start, sent_from};
+ghost use Rattle.gen_node.specs.Node.{Node as Told, IsBegun, IsRefused, MayBeNode, decision_of_node, ended};
+ghost use Rattle.gen_node.specs.Node.{frame_to, fresh_ring, handed, header_at, node_at_start, sent_from};
 
 use crate::frame_fault::FrameFault;
 use crate::frame_reading::read_frame;
@@ -320,7 +320,11 @@ impl Node {
         if net.has_edge(self.recorder.me(), to) {
             self.outbox.reserve(1)?;
             let parcels = self.recorder.send(alloc, to)?;
-            self.outbox.push(Held::new(to, parcels)).unwrap();
+            let held = Held {
+                general: to,
+                parcels,
+            };
+            self.outbox.push(held).unwrap();
         }
         self.stage = Stage::Sending { next: next + 1 };
         Ok(())
@@ -354,6 +358,7 @@ impl Node {
     /// # Errors
     ///
     /// The fault that `FrameFault` tells; Memory if memory is refused.
+    #[tactic(auto, unfolding(crate::specs::Node::awaited, crate::specs::Node::front_check))]
     pub fn heard(
         &mut self,
         alloc: Global,
@@ -364,45 +369,23 @@ impl Node {
         ensures memory { result ≡ Err errors.Memory → nodes.is_awaited self.old from ≡ true }
         ensures err { OnErr result (self.new ≡ self.old) }
     {
-        let frame = self.awaited_frame(alloc, from, bytes)?;
-        self.inbox.push(Held::new(from, frame.into_parcels()))?;
-        Ok(())
-    }
-
-    /// Returns the awaited frame of a neighbour that the bytes are, or why they aren't taken.
-    #[tactic(auto, unfolding(crate::specs::Node::awaited))]
-    fn awaited_frame(
-        &self,
-        alloc: Global,
-        from: GeneralNo,
-        bytes: &[u8],
-    ) -> Result<WireFrame, ReadError<FrameFault>>
-        ensures read { IsRead result (awaited self.now from bytes.now) }
-        ensures memory { result ≡ Err errors.Memory → nodes.is_awaited self.now from ≡ true }
-        ensures waits { IfOk result (λ _. nodes.is_awaited self.now from ≡ true) }
-    {
         check(self.awaits(from), FrameFault::NotAwaited)?;
         check(!is_held(self.inbox.as_slice(), from), FrameFault::Twice)?;
-        let frame = read_frame(alloc, bytes)?;
-        self.check_front(from, frame.front())?;
-        Ok(frame)
-    }
-
-    /// Checks that a frame is of this run and round, from this general to this node.
-    #[tactic(auto, unfolding(crate::specs::Node::front_check))]
-    fn check_front(&self, from: GeneralNo, front: FrameFront) -> Result<(), ReadError<FrameFault>>
-        ensures { IsRead result (front_check self.now.recorder from front) }
-    {
-        let me = self.recorder.me();
-        check(
-            same_bytes(&front.run_id, self.header.run_id()),
-            FrameFault::OtherRun,
-        )?;
+        let WireFrame { front, parcels } = read_frame(alloc, bytes)?;
+        let is_of_run = same_bytes(&front.run_id, self.header.run_id());
+        check(is_of_run, FrameFault::OtherRun)?;
         check(front.round == self.recorder.round(), FrameFault::OtherRound)?;
+        let me = self.recorder.me();
         check(
             front.from == from.get() && front.to == me.get(),
             FrameFault::OtherEnds,
-        )
+        )?;
+        let heard = Held {
+            general: from,
+            parcels,
+        };
+        self.inbox.push(heard)?;
+        Ok(())
     }
 
     /// Ends the round: the node hears its neighbours' frames. A neighbour for which nothing was handed in counts as one

@@ -1,9 +1,6 @@
 //! The laws of values, signed texts, judging and campaigns, each called once.
 use gen_audit::laws as audits;
-use gen_campaign::{
-    laws as campaigns, one_bundle_is_printed_as_before, one_campaign_text, places_name_runs,
-    texts_make_campaigns,
-};
+use gen_campaign::{laws as campaigns, one_campaign_text, places_name_runs, texts_make_campaigns};
 use gen_chain::laws as chains;
 use gen_convict::laws as evidence;
 use gen_core::laws as algorithm;
@@ -74,12 +71,11 @@ fn laws_of_audits_and_campaigns() {
     audits::one_bundle_spelling();
     audits::parts_make_bundles();
     campaigns::one_campaign_spelling();
-    campaigns::one_bundle_is_read_as_before();
+    campaigns::one_bundle_is_as_before();
     campaigns::joins_is_tested();
     campaigns::other_slots_convict_nobody();
     one_scenario();
     one_campaign_text();
     texts_make_campaigns();
     places_name_runs();
-    one_bundle_is_printed_as_before();
 }

@@ -20,7 +20,6 @@ use Rattle.gen_node.specs.BundleBytes.{bundle_bytes}
 use Rattle.sm_node.specs.declared.bundles.BundleWalks.{BundleWalks}
 use Rattle.sm_node.specs.declared.bundles.BundleWalks.TheVariants.{Best, BestOrNone}
 use Rattle.sm_node.specs.declared.bundles.SmLog.{SmLog}
-use Rattle.sm_node.specs.declared.faults.BytesFault.{BytesFault}
 use Rattle.sm_node.specs.declared.faults.GatherFault.{GatherFault}
 use Rattle.sm_node.specs.declared.faults.GatherFault.TheVariants.{Header, NoWalk, LongWalk, Bundle}
 use Rattle.sm_node.specs.declared.told.NodeReply.{NodeReply}
@@ -109,12 +108,6 @@ as_text (Err e) = Err e
 abbrev pub listed : Option (Vec LogBytes Global) → Option (List LogBytes)
 listed None = None
 listed (Some logs) = Some logs.items
-
--- the header that the bytes are, or their fault, unless memory was refused
-abbrev pub FindsHeader : List ℕ → Result RunHeader (ReadError GatherFault) → Type 0
-FindsHeader bytes (Ok h) = header_in bytes ≡ Ok h
-FindsHeader bytes (Err errors.Memory) = Unit {0}
-FindsHeader bytes (Err (errors.Fault f)) = (s : BytesFault) × (f ≡ Header s) × (header_in bytes ≡ Err s)
 
 -- such walks, or why there are none, unless memory was refused
 abbrev pub FindsWalks :

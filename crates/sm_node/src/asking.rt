@@ -1,11 +1,10 @@
 //! What a node tells while it stands in a run.
 ghost use Rattle.std.specs.Prelude.{◌≡◌, Some};
-ghost use Rattle.sm_node.specs.Asking.{Tells, answer_to};
+ghost use Rattle.sm_node.specs.Asking.{Tells};
 
 use crate::held::NodeHandle;
 use crate::opaque::SmNode;
 use crate::told::NodeReply;
-use gen_node::Node;
 use gen_types::GeneralNo;
 use std::alloc::Global;
 
@@ -24,19 +23,6 @@ pub enum Question {
     IsOver,
 }
 
-/// Returns the answer of a node.
-fn answer(question: Question, node: &Node) -> u32
-    ensures { result ≡ answer_to question node.now }
-{
-    match question {
-        Question::Round => u32::from(node.round()),
-        Question::Awaits(general) => u32::from(node.awaits(general)),
-        Question::Lacks(general) => u32::from(node.is_awaited(general)),
-        Question::MayEnd => u32::from(node.may_end()),
-        Question::IsOver => u32::from(node.is_over()),
-    }
-}
-
 impl NodeHandle {
     /// Tells the answer of the node that is held.
     fn tell(&self, question: Question, told: &mut u32) -> NodeReply
@@ -45,7 +31,13 @@ impl NodeHandle {
         *told = 0;
         match self {
             NodeHandle::Running(node) => {
-                *told = answer(question, node);
+                *told = match question {
+                    Question::Round => u32::from(node.round()),
+                    Question::Awaits(general) => u32::from(node.awaits(general)),
+                    Question::Lacks(general) => u32::from(node.is_awaited(general)),
+                    Question::MayEnd => u32::from(node.may_end()),
+                    Question::IsOver => u32::from(node.is_over()),
+                };
                 NodeReply::Done
             }
             NodeHandle::Empty | NodeHandle::Ended(_) => NodeReply::Misuse,

@@ -96,17 +96,6 @@ fn walks_of(
     }
 }
 
-/// Returns the header of a bundle, which the bytes must be.
-fn header_of(alloc: Global, bytes: &[u8]) -> Result<Header, ReadError<GatherFault>>
-    ensures { gathering.FindsHeader bytes.now result }
-{
-    match header_in(alloc, bytes) {
-        Ok(header) => Ok(header),
-        Err(ReadError::Memory) => Err(ReadError::Memory),
-        Err(ReadError::Fault(fault)) => Err(ReadError::Fault(GatherFault::Header(fault))),
-    }
-}
-
 /// Returns the bytes of the bundle of a header's bytes, the generals that are held for faulty, and logs.
 fn gather(
     alloc: Global,
@@ -117,7 +106,11 @@ fn gather(
 ) -> Result<Vec<u8>, ReadError<GatherFault>>
     ensures { gathering.GathersText wanted bytes.now faulty logs.items (gathering.as_text result) }
 {
-    let header = header_of(alloc, bytes)?;
+    let header = match header_in(alloc, bytes) {
+        Ok(header) => header,
+        Err(ReadError::Memory) => return Err(ReadError::Memory),
+        Err(ReadError::Fault(fault)) => return Err(ReadError::Fault(GatherFault::Header(fault))),
+    };
     let walks = walks_of(alloc, wanted, &header, &faulty)?;
     match make_bundle(alloc, header, faulty, walks, logs) {
         Ok(text) => Ok(text),

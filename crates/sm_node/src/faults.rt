@@ -1,11 +1,9 @@
 //! Faults of what a caller hands in, and their numbers.
 ghost use Rattle.std.specs.Prelude.{◌≡◌};
-ghost use Rattle.gen_net.specs.FaultNumber.{header_fault_number};
 ghost use Rattle.sm_node.specs.Faults as numbers;
 
 use gen_audit::BundleFault;
 use gen_net::HeaderFault;
-use gen_node::FrameFault;
 
 /// Why bytes are not exactly those of a header.
 #[derive(Clone, Copy, Debug, PartialEq, Eq)]
@@ -40,20 +38,6 @@ pub enum GatherFault {
     Bundle(BundleFault),
 }
 
-/// Returns the number of a header's fault, 1 to 11.
-pub(crate) fn header_number(fault: HeaderFault) -> u32
-    ensures { result ≡ header_fault_number fault }
-{
-    u32::from(fault.number())
-}
-
-/// Returns the number of a frame's fault, 21 to 28.
-pub(crate) fn frame_number(fault: FrameFault) -> u32
-    ensures { result ≡ numbers.frame_number fault }
-{
-    20 + u32::from(fault.number())
-}
-
 /// Returns the number of a bundle's fault: 41 to 50, or the number of its header's fault, 1 to 11.
 fn bundle_number(fault: BundleFault) -> u32
     ensures { result ≡ numbers.bundle_number fault }
@@ -61,7 +45,7 @@ fn bundle_number(fault: BundleFault) -> u32
     match fault {
         BundleFault::Truncated => 41,
         BundleFault::UnknownMark => 42,
-        BundleFault::BadHeader(inner) => header_number(inner),
+        BundleFault::BadHeader(inner) => u32::from(inner.number()),
         BundleFault::FaultyRange => 44,
         BundleFault::WalkCount => 45,
         BundleFault::BadWalk => 46,
@@ -77,7 +61,7 @@ pub(crate) fn bytes_number(fault: BytesFault) -> u32
     ensures { result ≡ numbers.bytes_number fault }
 {
     match fault {
-        BytesFault::BadHeader(inner) => header_number(inner),
+        BytesFault::BadHeader(inner) => u32::from(inner.number()),
         BytesFault::LeftOver => 12,
     }
 }

@@ -1,14 +1,14 @@
 //! Headers as bytes that are handed in, and as they are made from numbers, edges and roots.
-ghost use Rattle.std.specs.Prelude.{◌≡◌, IfOk, map};
+ghost use Rattle.std.specs.Prelude.{◌≡◌};
 ghost use Rattle.gen_types.specs.Spelled.{IsRead};
 ghost use Rattle.sm_node.specs.Headers as headers;
 
-use crate::faults::{BytesFault, header_number};
+use crate::faults::BytesFault;
 use crate::handing::put;
 use crate::told::NodeReply;
 use gen_net::{Header, HeaderFault, Net, header_bytes, read_header};
 use gen_types::{ReadError, check};
-use std::alloc::{AllocError, Global};
+use std::alloc::Global;
 
 /// The numbers that a header is made from besides its edges and roots. They may have any values, which are checked.
 #[repr(C)]
@@ -30,36 +30,18 @@ pub struct SmNumbers {
     pub choice: u8,
 }
 
-/// Returns the header in front of the bytes, and its number of bytes.
-fn front_in(alloc: Global, bytes: &[u8]) -> Result<(Header, usize), ReadError<BytesFault>>
-    ensures { IsRead result (headers.front_in bytes.now) }
-{
-    match read_header(alloc, bytes) {
-        Ok(found) => Ok(found),
-        Err(ReadError::Memory) => Err(ReadError::Memory),
-        Err(ReadError::Fault(fault)) => Err(ReadError::Fault(BytesFault::BadHeader(fault))),
-    }
-}
-
 /// Returns the header that all the bytes are.
 #[tactic(auto, unfolding(crate::specs::Headers::header_in))]
 pub(crate) fn header_in(alloc: Global, bytes: &[u8]) -> Result<Header, ReadError<BytesFault>>
     ensures { IsRead result (headers.header_in bytes.now) }
 {
-    let (header, count) = front_in(alloc, bytes)?;
+    let (header, count) = match read_header(alloc, bytes) {
+        Ok(found) => found,
+        Err(ReadError::Memory) => return Err(ReadError::Memory),
+        Err(ReadError::Fault(fault)) => return Err(ReadError::Fault(BytesFault::BadHeader(fault))),
+    };
     check(count == bytes.len(), BytesFault::LeftOver)?;
     Ok(header)
-}
-
-/// Returns the two ends of each edge as a pair.
-fn pairs_of(alloc: Global, edges: &[[u8; 2]]) -> Result<Vec<(u8, u8)>, AllocError>
-    ensures { IfOk result (λ pairs. pairs.items ≡ map headers.ends_of edges.now) }
-{
-    let mut pairs = Vec::with_capacity(alloc, edges.len())?;
-    'pairing: for edge in edges {
-        pairs.push((edge[0], edge[1]))?;
-    }
-    Ok(pairs)
 }
 
 /// Returns the network of these numbers and edges, or the first rule that they break.
@@ -70,7 +52,10 @@ fn net_of(
 ) -> Result<Net, ReadError<HeaderFault>>
     ensures { IsRead result (headers.net_made numbers.now edges.now) }
 {
-    let pairs = pairs_of(alloc, edges)?;
+    let mut pairs = Vec::with_capacity(alloc, edges.len())?;
+    'pairing: for edge in edges {
+        pairs.push((edge[0], edge[1]))?;
+    }
     Net::new(
         alloc,
         numbers.generals,
@@ -80,25 +65,6 @@ fn net_of(
         numbers.orders,
         numbers.choice,
     )
-}
-
-/// Returns the header of this network and these roots in the version that the numbers say.
-fn header_over(
-    numbers: &SmNumbers,
-    net: Net,
-    roots: Vec<[u8; 32]>,
-) -> Result<Header, ReadError<HeaderFault>>
-    ensures { IsRead result (headers.header_over numbers.now net roots.items) }
-{
-    let made = match numbers.version {
-        1 => Header::new(net, roots),
-        2 => Header::new_in_slot(net, numbers.slot, roots),
-        _ => Err(HeaderFault::UnknownVersion),
-    };
-    match made {
-        Ok(header) => Ok(header),
-        Err(fault) => Err(ReadError::Fault(fault)),
-    }
 }
 
 /// Returns the header of these numbers, edges and roots, or the first rule that they break.
@@ -113,7 +79,15 @@ fn header_of(
 {
     let net = net_of(alloc, numbers, edges)?;
     let roots = Vec::from_slice(alloc, roots)?;
-    header_over(numbers, net, roots)
+    let made = match numbers.version {
+        1 => Header::new(net, roots),
+        2 => Header::new_in_slot(net, numbers.slot, roots),
+        _ => Err(HeaderFault::UnknownVersion),
+    };
+    match made {
+        Ok(header) => Ok(header),
+        Err(fault) => Err(ReadError::Fault(fault)),
+    }
 }
 
 /// Hands out the bytes of the header of these numbers, edges and roots.
@@ -138,7 +112,7 @@ pub(crate) fn make_header(
         },
         Err(ReadError::Memory) => NodeReply::Memory,
         Err(ReadError::Fault(broken)) => {
-            *fault = header_number(broken);
+            *fault = u32::from(broken.number());
             NodeReply::Fault
         }
     }

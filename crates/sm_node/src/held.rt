@@ -4,7 +4,6 @@ ghost use Rattle.gen_node.specs.Node as nodes;
 ghost use Rattle.sm_node.specs.Driving.{Begins, Ends, Finishes, HandsLog, Hears, Sends, TellsOrder};
 ghost use Rattle.sm_node.specs.NodeHandle.{allows, running};
 
-use crate::faults::frame_number;
 use crate::handing::put;
 use crate::told::NodeReply;
 use gen_log::SealedLog;
@@ -122,7 +121,7 @@ impl NodeHandle {
                 Ok(()) => NodeReply::Done,
                 Err(ReadError::Memory) => NodeReply::Memory,
                 Err(ReadError::Fault(broken)) => {
-                    *fault = frame_number(broken);
+                    *fault = 20 + u32::from(broken.number());
                     NodeReply::Fault
                 }
             },

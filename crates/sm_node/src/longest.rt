@@ -1,5 +1,5 @@
 //! How long a frame can be.
-ghost use Rattle.std.specs.Prelude.{◌≡◌, ◌<◌, ◌≤◌, ◌^◌, ◌+◌, ◌*◌};
+ghost use Rattle.std.specs.Prelude.{◌≡◌, ◌<◌, ◌≤◌, ◌^◌};
 ghost use Rattle.sm_node.specs.Longest as longest;
 
 use gen_chain::sizes::signers_bytes;
@@ -22,14 +22,6 @@ fn parcel_most(height: TreeHeight, signers: u8) -> usize
     PARCEL_FRONT + signers_bytes(height, signers)
 }
 
-/// Returns this many parcels' bytes behind the front of a frame.
-fn with_parcels(orders: u8, parcel: usize) -> usize
-    requires { parcel < 2 ^ 32 }
-    ensures { result ≡ longest.empty_frame + orders * parcel }
-{
-    EMPTY_FRAME + usize::from(orders) * parcel
-}
-
 /// Returns the most bytes of a frame of a node that follows the algorithm, in any round of the header's run: a parcel
 /// for each order, with a signer for each round.
 #[tactic(auto, unfolding(crate::specs::Longest::frame_most))]
@@ -38,5 +30,5 @@ pub(crate) fn frame_most(header: &Header) -> usize
 {
     let net = header.net();
     let parcel = parcel_most(header.height(), net.rounds());
-    with_parcels(net.orders(), parcel)
+    EMPTY_FRAME + usize::from(net.orders()) * parcel
 }

@@ -37,23 +37,16 @@ pub(crate) fn with_header<F: FnMut(&Header)>(
     }
 }
 
-/// Returns the number of a version, 1 or 2.
-fn version_number(version: Version) -> u8
-    ensures { result ≡ plans.version_number version }
-{
-    match version {
-        Version::One => 1,
-        Version::Two { .. } => 2,
-    }
-}
-
 /// Returns the numbers of a header.
 pub(crate) fn numbers_of(header: &Header) -> SmNumbers
     ensures { result ≡ plans.numbers_of header.now }
 {
     let net = header.net();
     SmNumbers {
-        version: version_number(header.version()),
+        version: match header.version() {
+            Version::One => 1,
+            Version::Two { .. } => 2,
+        },
         slot: header.slot(),
         generals: net.generals(),
         traitors: net.traitors(),

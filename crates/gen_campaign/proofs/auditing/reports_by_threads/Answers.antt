@@ -9,7 +9,7 @@ use Rattle.gen_campaign.proofs.auditing.reports_by_threads.Goals as goal
 pub loop-bundle-preserved : goal.loop-bundle-preserved
 loop-bundle-preserved g c =
     let made = rw (c.header-header.ensures.value, c.exhibits-exhibits.ensures) at c.in_ok-reports.ensures.reports in
-    rw (c.in_ok-keep_reports.ensures, map-append) (reports_more c.args.bundles.now (map (λ v. v.items) c.loop-bundle.seen.items) c.loop-bundle.bundle-index c.bundle-item.result c.in_ok-reports.reports.items c.loop-bundle-test.true c.bundle-item.is c.loop-bundle.invariant made)
+    rw (c.in_ok-keep.ensures, map-append) (reports_more c.args.bundles.now (map (λ v. v.items) c.loop-bundle.seen.items) c.loop-bundle.bundle-index c.bundle-item.result c.in_ok-reports.reports.items c.loop-bundle-test.true c.bundle-item.is c.loop-bundle.invariant made)
 
 pub returns-clause-reports : goal.returns-clause-reports
 returns-clause-reports g c =

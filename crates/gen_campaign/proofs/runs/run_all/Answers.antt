@@ -35,7 +35,7 @@ runs-preserved g c =
       up.1,
       like.1,
       all_next first s c.args.scenarios.now rest others i.0 c.runs.rings.items c.in_ok-logs.back.items e like.0 up.0 i.3 c.in_ok-logs.ensures.rings,
-      logs_next c.runs.all.items c.keep_logs.new.all.items c.in_ok-logs.logs (λ logs. logs.items) s rest others (map logs_of_all c.args.scenarios.now) c.in_ok-keep_logs.ensures c.in_ok-logs.ensures.logs e i.4,
+      logs_next c.runs.all.items c.keep.new.lists.items c.in_ok-logs.logs (λ logs. logs.items) s rest others (map logs_of_all c.args.scenarios.now) c.in_ok-keep.ensures c.in_ok-logs.ensures.logs e i.4,
     )
 
 pub returns-clause-logs : goal.returns-clause-logs

@@ -24,9 +24,8 @@ invariant_of-self-2 c =
     elim c.if-has_edge.branch [
       | then-has_edge+in_ok-reserve+in_ok-parcels w ↦
           let sent : w.send.new.self ≡ with_sends i.recorder next = w.in_ok-parcels.ensures.ok ∙ ap (with_sends i.recorder) c.at-to.ensures in
-          let held : w.new.result ≡ held_for i.recorder next = w.new.ensures ∙ (λ j. record { general = c.at-to.ensures j; parcels = (w.in_ok-parcels.ensures.frame ∙ ap (sends i.recorder.standing) c.at-to.ensures) j }) in
           let items = rw w.unwrap.ensures at w.push.ensures.items in
-          let pushed : w.push.new.self.items ≡ i.outbox.items ++ held_for i.recorder next ∷ [] = items ∙ (λ j. w.in_ok-reserve.ensures.items j ++ held j ∷ []) in
+          let pushed : w.push.new.self.items ≡ i.outbox.items ++ held_for i.recorder next ∷ [] = items ∙ (λ j. w.in_ok-reserve.ensures.items j ++ record { general = c.at-to.ensures j; parcels = (w.in_ok-parcels.ensures.frame ∙ ap (sends i.recorder.standing) c.at-to.ensures) j } ∷ []) in
           let kept = kept_sent i.header i.recorder next i.outbox.items low (near ∙ w.if-has_edge.true) at in
           rw (w.self-inside-is, sent, pushed) kept
       | else-has_edge w ↦ rw w.self-inside-is (kept_unsent i.header i.recorder next i.outbox.items low (near ∙ w.if-has_edge.false) at)

@@ -29,7 +29,7 @@ returns c =
       front = record { run_id = run j; round = c.round.ensures j; from = from j; to = c.get-2.ensures.value j };
       parcels = parcels j;
     } in
-    subst (λ (f : WireFrame). IfOk c.spelled.result (λ bytes. Spells IsFrame frame_spelling bytes.items f)) (same ∙ ap (λ (m : Node). frame_to m.recorder to) c.self.view_is) c.spelled.ensures
+    subst (λ (f : WireFrame). IfOk c.spelled.result (λ bytes. Spells IsFrame frame_spelling bytes.items f)) (same ∙ ap (λ (m : Node). frame_to m.recorder to) c.self.view_is) c.spelled.ensures.ok
 
 pub spelled-requires : goal.spelled-requires
 spelled-requires c =

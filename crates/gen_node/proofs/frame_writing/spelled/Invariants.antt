@@ -1,7 +1,7 @@
 use Rattle.std.proofs.Common.{◌≡◌, ◌++◌, take}
 use Rattle.std.specs.List.{flat_map}
 use Rattle.gen_node.specs.Frame.{parcel_spelling}
-use Rattle.gen_node.proofs.frame_writing.put_parcels.Given as goal
+use Rattle.gen_node.proofs.frame_writing.spelled.Given as goal
 
 abbrev pub invariant-parcels : goal.invariant-parcels
 invariant-parcels l = record {
