@@ -26,20 +26,6 @@ use std::alloc::{AllocError, Global};
 use std::sync::Wait;
 use std::thread::Threads;
 
-/// Returns the reports of all exhibits of a bundle, in their order, made by this number of workers.
-fn reports_of_all<R: Threads + Wait + Sync, G: JobGate + Sync>(
-    rt: &R,
-    alloc: Global,
-    bundle: &Bundle,
-    workers: WorkerCount,
-    gate: &G,
-) -> Result<Vec<LocalReport>, AuditFault>
-    ensures reports { IfOk result (λ reports. AreReports bundle.now reports.items) }
-    ensures fault { IfErr result (IsFaultBy workers) }
-{
-    reports_by_workers(rt, alloc, bundle.header(), bundle.exhibits(), workers, gate)
-}
-
 /// Returns what a general decided by a report, if the report is of the general's log of this run.
 fn decision_in(report: &LocalReport, general: GeneralNo) -> Option<Decision>
     ensures some { IfSome result (DecidesIn report.now general) }
@@ -114,67 +100,25 @@ fn agreed_order(bundle: &Bundle, rest: &GeneralSet, reports: &[LocalReport]) -> 
     }
 }
 
-/// Returns the verdict on a bundle in which nothing is found: a yes.
-fn yes_on(
-    alloc: Global,
-    bundle: &Bundle,
-    rest: &GeneralSet,
-    reports: &[LocalReport],
-) -> Result<Verdict, AllocError>
-    requires clean { IsClean bundle.now }
-    requires rest { IsListOf rest.now (IsOfRest bundle.now) }
-    requires reports { AreReports bundle.now reports.now }
-    ensures { IfOk result (IsVerdict bundle.now) }
-{
-    if bundle.faulty().len() <= usize::from(bundle.header().net().traitors()) {
-        return Ok(Verdict::Agreed(agreed_order(bundle, rest, reports)));
-    }
-    let decisions = decisions_of(alloc, bundle, rest, reports)?;
-    Ok(Verdict::Explained(Decisions::new(decisions)))
-}
-
 /// Returns the verdict on a bundle from the reports of its exhibits: no with all findings, or a yes.
-fn answer_by(alloc: Global, bundle: &Bundle, reports: &[LocalReport]) -> Result<Verdict, AllocError>
-    requires { AreReports bundle.now reports.now }
-    ensures verdict { IfOk result (IsVerdict bundle.now) }
-    ensures bundle { IsBundle bundle.now }
-{
-    let rest = bundle.header().net().rest(bundle.faulty());
-    let findings = findings_in(alloc, bundle, &rest, reports)?;
-    if !findings.is_empty() {
-        return Ok(Verdict::No(Findings::new(findings)));
-    }
-    yes_on(alloc, bundle, &rest, reports)
-}
-
-/// Returns the verdict on a bundle from the reports of its exhibits.
 fn verdict_by(
     alloc: Global,
     bundle: &Bundle,
     reports: &[LocalReport],
 ) -> Result<Verdict, AllocError>
     requires { AreReports bundle.now reports.now }
-    ensures verdict { IfOk result (IsVerdict bundle.now) }
-    ensures headline { IfOk result (Headline bundle.now) }
+    ensures { IfOk result (IsVerdict bundle.now) }
 {
-    answer_by(alloc, bundle, reports)
-}
-
-/// Returns the evidence that a bundle's exhibits hold, from the reports of these exhibits.
-fn convictions_by(
-    alloc: Global,
-    bundle: &Bundle,
-    reports: &[LocalReport],
-) -> Result<Vec<Evidence>, AllocError>
-    requires { AreReports bundle.now reports.now }
-    ensures convictions { IfOk result (λ found.
-        AreConvictions bundle.now.header bundle.now.exhibits (map told_of found.items)) }
-    ensures held { IfOk result (λ found.
-        ConvictsWhereHeld bundle.now.header bundle.now.exhibits (map told_of found.items)) }
-    ensures lawful { IfOk result (λ found.
-        AreEvidence bundle.now.header (map told_of found.items)) }
-{
-    find_evidence(alloc, bundle.header(), reports)
+    let rest = bundle.header().net().rest(bundle.faulty());
+    let findings = findings_in(alloc, bundle, &rest, reports)?;
+    if !findings.is_empty() {
+        return Ok(Verdict::No(Findings::new(findings)));
+    }
+    if bundle.faulty().len() <= usize::from(bundle.header().net().traitors()) {
+        return Ok(Verdict::Agreed(agreed_order(bundle, &rest, reports)));
+    }
+    let decisions = decisions_of(alloc, bundle, &rest, reports)?;
+    Ok(Verdict::Explained(Decisions::new(decisions)))
 }
 
 /// Returns the judgement on a bundle from the reports of all its exhibits, in their order. The clauses are those of
@@ -199,7 +143,7 @@ pub fn judge_reports(
         AreEvidence bundle.now.header (map told_of judgement.convictions.items)) }
 {
     let verdict = verdict_by(alloc, bundle, reports)?;
-    let convictions = convictions_by(alloc, bundle, reports)?;
+    let convictions = find_evidence(alloc, bundle.header(), reports)?;
     Ok(Judgement {
         verdict,
         convictions,
@@ -246,6 +190,6 @@ pub fn audit<R: Threads + Wait + Sync, G: JobGate + Sync>(
     // Only an audit by several workers answers that a thread could not be started.
     ensures fault { IfErr result (IsFaultBy workers) }
 {
-    let reports = reports_of_all(rt, alloc, bundle, workers, gate)?;
+    let reports = reports_by_workers(rt, alloc, bundle.header(), bundle.exhibits(), workers, gate)?;
     Ok(judge_reports(alloc, bundle, reports.as_slice())?)
 }

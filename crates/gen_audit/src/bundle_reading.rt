@@ -29,17 +29,6 @@ use gen_walks::{Walk, Walks};
 use std::alloc::Global;
 use std::sync::ArcSlice;
 
-/// Returns the fault of a bundle for a fault of the mark or the header.
-fn front_fault(fault: FrontFault) -> BundleFault
-    ensures { result ≡ fields.front_fault fault }
-{
-    match fault {
-        FrontFault::Truncated => BundleFault::Truncated,
-        FrontFault::UnknownMark => BundleFault::UnknownMark,
-        FrontFault::BadHeader(rule) => BundleFault::BadHeader(rule),
-    }
-}
-
 /// Reads the mark, and a header of the version that the mark says.
 fn read_front_field(alloc: Global, bytes: &[u8]) -> Result<(Header, &[u8]), ReadError<BundleFault>>
     ensures { IsField result (fields.front_at bytes.now) }
@@ -47,7 +36,15 @@ fn read_front_field(alloc: Global, bytes: &[u8]) -> Result<(Header, &[u8]), Read
     match read_front(alloc, BUNDLE_MARKS, bytes) {
         Ok(header) => Ok(header),
         Err(ReadError::Memory) => Err(ReadError::Memory),
-        Err(ReadError::Fault(fault)) => Err(ReadError::Fault(front_fault(fault))),
+        Err(ReadError::Fault(FrontFault::Truncated)) => {
+            Err(ReadError::Fault(BundleFault::Truncated))
+        }
+        Err(ReadError::Fault(FrontFault::UnknownMark)) => {
+            Err(ReadError::Fault(BundleFault::UnknownMark))
+        }
+        Err(ReadError::Fault(FrontFault::BadHeader(rule))) => {
+            Err(ReadError::Fault(BundleFault::BadHeader(rule)))
+        }
     }
 }
 

@@ -77,20 +77,13 @@ pub fn ends_of(walk: &[GeneralNo]) -> (u8, u8)
     }
 }
 
-/// Whether the pair e comes before the pair f, in the order of pairs.
-fn is_before(e: (u8, u8), f: (u8, u8)) -> bool
-    ensures { result ≡ goes_before e f }
-{
-    e.0 < f.0 || (e.0 == f.0 && e.1 < f.1)
-}
-
 /// Whether the first general of a walk is less than its last, and this pair comes after `before`, the ends of the walk
 /// before.
 pub fn may_follow(before: (u8, u8), walk: &[GeneralNo]) -> bool
     ensures { result ≡ making.may_follow before walk.now }
 {
-    let ends = ends_of(walk);
-    ends.0 < ends.1 && is_before(before, ends)
+    let (first, last) = ends_of(walk);
+    first < last && (before.0 < first || (before.0 == first && before.1 < last))
 }
 
 /// Checks one walk after a walk with the ends `before`.

@@ -12,16 +12,6 @@ use gen_types::GeneralNo;
 use gen_walks::Walk;
 use std::alloc::{AllocError, Global};
 
-/// Appends generals, one byte each.
-fn put_generals(out: &mut Vec<u8>, generals: &[GeneralNo]) -> Result<(), AllocError>
-    ensures { OnOk result (out.new.items ≡ out.old.items ++ generals.now) }
-{
-    'generals: for general in generals {
-        out.push(general.get())?;
-    }
-    Ok(())
-}
-
 /// Appends the number of a walk's generals and the generals.
 fn put_walk(out: &mut Vec<u8>, walk: &Walk) -> Result<(), AllocError>
     requires { length walk.now < 256 }
@@ -29,16 +19,8 @@ fn put_walk(out: &mut Vec<u8>, walk: &Walk) -> Result<(), AllocError>
 {
     let generals = walk.generals();
     out.push(generals.len() as u8)?;
-    put_generals(out, generals)
-}
-
-/// Appends walks.
-fn put_each_walk(out: &mut Vec<u8>, walks: &[Walk]) -> Result<(), AllocError>
-    requires { All (λ walk. length walk < 256) walks.now }
-    ensures { OnOk result (out.new.items ≡ out.old.items ++ flat_map walk_spelling walks.now) }
-{
-    'walks: for walk in walks {
-        put_walk(out, walk)?;
+    'generals: for general in generals {
+        out.push(general.get())?;
     }
     Ok(())
 }
@@ -51,26 +33,6 @@ pub fn exhibit_front(exhibit: &Exhibit) -> [u8; 5]
 {
     let [a, b, c, d] = (exhibit.log().len() as u32).to_be_bytes();
     [exhibit.general().get(), a, b, c, d]
-}
-
-/// Appends an exhibit: its general, the length of its log in four bytes, and the log.
-fn put_exhibit(out: &mut Vec<u8>, exhibit: &Exhibit) -> Result<(), AllocError>
-    requires { length exhibit.now.bytes < 2 ^ 32 }
-    ensures { OnOk result (out.new.items ≡ out.old.items ++ exhibit_spelling exhibit.now) }
-{
-    out.extend_from_slice(&exhibit_front(exhibit))?;
-    out.extend_from_slice(exhibit.log())
-}
-
-/// Appends exhibits.
-fn put_each_exhibit(out: &mut Vec<u8>, exhibits: &[Exhibit]) -> Result<(), AllocError>
-    requires { All (λ x. length x.bytes < 2 ^ 32) exhibits.now }
-    ensures { OnOk result (out.new.items ≡ out.old.items ++ flat_map exhibit_spelling exhibits.now) }
-{
-    'exhibits: for exhibit in exhibits {
-        put_exhibit(out, exhibit)?;
-    }
-    Ok(())
 }
 
 /// Returns the bytes before the exhibits in the one spelling of a bundle. With these and `exhibit_front` a bundle is
@@ -88,7 +50,9 @@ pub fn bundle_front(alloc: Global, bundle: &Bundle) -> Result<Vec<u8>, AllocErro
     let mut out = front_bytes(alloc, BUNDLE_MARKS, header)?;
     out.extend_from_slice(&bundle.faulty().bits().to_be_bytes())?;
     out.push(walks.len() as u8)?;
-    put_each_walk(&mut out, walks)?;
+    'walking: for walk in walks {
+        put_walk(&mut out, walk)?;
+    }
     out.push(bundle.exhibits().len() as u8)?;
     Ok(out)
 }
@@ -98,7 +62,11 @@ pub fn write_bundle(alloc: Global, bundle: &Bundle) -> Result<Vec<u8>, AllocErro
     ensures { IfOk result (λ bytes. bytes.items ≡ bundle_spelling bundle.now) }
 {
     let _lawful = bundle.header();
+    let exhibits = bundle.exhibits();
     let mut out = bundle_front(alloc, bundle)?;
-    put_each_exhibit(&mut out, bundle.exhibits())?;
+    'showing: for exhibit in exhibits {
+        out.extend_from_slice(&exhibit_front(exhibit))?;
+        out.extend_from_slice(exhibit.log())?;
+    }
     Ok(out)
 }

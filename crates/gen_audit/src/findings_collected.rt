@@ -1,12 +1,10 @@
 //! Collects all findings of a bundle.
-ghost use Rattle.std.specs.Prelude.{◌≡◌, ◌++◌, ◌↔◌, length, Contains, IfOk, OnOk};
+ghost use Rattle.std.specs.Prelude.{◌≡◌, ◌++◌, length, IfOk, OnOk};
 ghost use Rattle.std.specs.List.{flat_map};
 ghost use Rattle.gen_types.specs.Ascending.{IsListOf};
-ghost use Rattle.gen_match.specs.declared.finding.Finding.{Finding};
 ghost use Rattle.gen_match.specs.Findings.{AreFindings};
-ghost use Rattle.gen_match.specs.Reports.{AreUnder, told_logs};
 ghost use Rattle.gen_audit.specs.Bundle.{IsOfRest, exhibits_of};
-ghost use Rattle.gen_audit.specs.Collecting.{AddsFindings, amount_found, shown_found, FindsIn, FindsRead, FindsBetween, FindsPair, FindsEmpty};
+ghost use Rattle.gen_audit.specs.Collecting.{AddsFindings, shown_found, FindsIn, FindsRead, FindsPair, FindsEmpty};
 ghost use Rattle.gen_audit.specs.Findings.{IsFinding};
 ghost use Rattle.gen_audit.specs.LocalFindings.{finds, unsigned_at, unless_sealed, departs_at};
 ghost use Rattle.gen_audit.specs.Telling.{AreReports};
@@ -15,7 +13,7 @@ use crate::bundles::Bundle;
 use crate::sorting::in_order;
 use gen_local::{Exhibit, LocalReport, OwnLog, Reading};
 use gen_match::{Finding, check_derived, match_edges};
-use gen_net::{Header, Net};
+use gen_net::Net;
 use gen_types::{GeneralNo, GeneralSet};
 use gen_walks::{Walks, check_walks};
 use std::alloc::{AllocError, Global};
@@ -30,16 +28,16 @@ fn amount_shown(exhibits: &[Exhibit], general: GeneralNo) -> usize
         .count()
 }
 
-/// Appends the finding for this number of a general's exhibits: none for one exhibit, `Missing` for none, `Several` for
+/// Appends the finding for the number of a general's exhibits: none for one exhibit, `Missing` for none, `Several` for
 /// more.
 fn add_amount(
+    exhibits: &[Exhibit],
     general: GeneralNo,
-    amount: usize,
     findings: &mut Vec<Finding>,
 ) -> Result<(), AllocError>
-    ensures { OnOk result (findings.new.items ≡ findings.old.items ++ amount_found general amount) }
+    ensures { OnOk result (findings.new.items ≡ findings.old.items ++ shown_found exhibits.now general) }
 {
-    match amount {
+    match amount_shown(exhibits, general) {
         0 => findings.push(Finding::Missing { general })?,
         1 => {}
         _ => findings.push(Finding::Several { general })?,
@@ -57,7 +55,7 @@ fn add_amounts(
         ≡ findings.old.items ++ flat_map (shown_found exhibits.now) rest.now) }
 {
     'generals: for general in rest.iter() {
-        add_amount(general, amount_shown(exhibits, general), findings)?;
+        add_amount(exhibits, general, findings)?;
     }
     Ok(())
 }
@@ -132,25 +130,6 @@ fn add_reports(
     Ok(())
 }
 
-/// Appends what is found between the logs that the reports tell.
-fn add_matched(
-    alloc: Global,
-    header: &Header,
-    faulty: &GeneralSet,
-    reports: &[LocalReport],
-    findings: &mut Vec<Finding>,
-) -> Result<(), AllocError>
-    requires { AreUnder header.now reports.now }
-    ensures { OnOk result (AddsFindings (FindsBetween header.now.network faulty.now (told_logs reports.now))
-        findings.old.items findings.new.items) }
-{
-    let edges = match_edges(alloc, header, faulty, reports)?;
-    findings.extend_from_slice(edges.as_slice())?;
-    let derived = check_derived(alloc, header, faulty, reports)?;
-    findings.extend_from_slice(derived.as_slice())?;
-    Ok(())
-}
-
 /// Appends the least pair of the set that no walk joins, if there is one.
 fn add_unjoined(
     net: &Net,
@@ -180,32 +159,6 @@ fn add_nobody(rest: &GeneralSet, findings: &mut Vec<Finding>) -> Result<(), Allo
     Ok(())
 }
 
-/// Returns all findings of a bundle, in any order.
-fn collected(
-    alloc: Global,
-    bundle: &Bundle,
-    rest: &GeneralSet,
-    reports: &[LocalReport],
-) -> Result<Vec<Finding>, AllocError>
-    requires rest { IsListOf rest.now (IsOfRest bundle.now) }
-    requires reports { AreReports bundle.now reports.now }
-    ensures { IfOk result (λ findings. (f : Finding) → Contains findings.items f ↔ IsFinding bundle.now f) }
-{
-    let mut findings = Vec::new(alloc);
-    add_amounts(bundle.exhibits(), rest, &mut findings)?;
-    add_reports(rest, reports, &mut findings)?;
-    add_matched(
-        alloc,
-        bundle.header(),
-        bundle.faulty(),
-        reports,
-        &mut findings,
-    )?;
-    add_unjoined(bundle.header().net(), rest, bundle.walks(), &mut findings)?;
-    add_nobody(rest, &mut findings)?;
-    Ok(findings)
-}
-
 /// Returns all findings of a bundle in their one order, from its rest and the reports of its exhibits.
 ///
 /// # Errors
@@ -221,6 +174,15 @@ pub(crate) fn findings_in(
     requires reports { AreReports bundle.now reports.now }
     ensures { IfOk result (λ findings. AreFindings (IsFinding bundle.now) findings.items) }
 {
-    let findings = collected(alloc, bundle, rest, reports)?;
+    let (header, faulty) = (bundle.header(), bundle.faulty());
+    let mut findings = Vec::new(alloc);
+    add_amounts(bundle.exhibits(), rest, &mut findings)?;
+    add_reports(rest, reports, &mut findings)?;
+    let edges = match_edges(alloc, header, faulty, reports)?;
+    findings.extend_from_slice(edges.as_slice())?;
+    let derived = check_derived(alloc, header, faulty, reports)?;
+    findings.extend_from_slice(derived.as_slice())?;
+    add_unjoined(header.net(), rest, bundle.walks(), &mut findings)?;
+    add_nobody(rest, &mut findings)?;
     in_order(alloc, findings)
 }

@@ -17,21 +17,12 @@ ghost use Rattle.gen_audit.specs.Verdict.{EachDecidedOnce, OneVerdict, VerdictEx
 ghost use Rattle.gen_audit.specs.WorldBundle.{LogsMakeBundle, ShownAreLogs, WorldIsAccepted, WorldIsBundle, WorldIsSupported, WorldMakesBundle};
 
 /// States when logs of the rest come from one run: each could be kept by its general, no message is unmatched, and no
-/// received chain is underivable (`explained`). In the logs that the rest keep of a run nothing is found (`found`).
+/// received chain is underivable (`explained`). In the logs that the rest keep of a run nothing is found (`found`). Where
+/// a signed run for the faulty generals exists, logs exist that some run explains (`some`).
 pub fn logs_are_explained()
     ensures explained { NothingFoundExplains }
     ensures found { ExplainedFindsNothing }
-{}
-
-/// States that logs that a run explains agree on an order, if at most m generals are faulty and the walks bound the
-/// diameter of the rest. It is the commander's order if the commander is of the rest.
-pub fn few_faulty_agree()
-    ensures { FewFaultyAgree }
-{}
-
-/// States that where a signed run for the faulty generals exists, logs exist that some run explains.
-pub fn runs_have_logs()
-    ensures { RunsHaveLogs }
+    ensures some { RunsHaveLogs }
 {}
 
 /// States that nothing is found in a bundle if and only if the bundle supports a yes (`exactly`). A bundle supports a
@@ -46,9 +37,11 @@ pub fn clean_is_supported()
 {}
 
 /// States that the logs of a bundle in which nothing is found agree on an order, if at most m generals are held for
-/// faulty.
+/// faulty (`clean`). So do logs that a run explains, if at most m generals are faulty and the walks bound the diameter of
+/// the rest (`explained`). It is the commander's order if the commander is of the rest.
 pub fn clean_agrees()
-    ensures { CleanAgrees }
+    ensures clean { CleanAgrees }
+    ensures explained { FewFaultyAgree }
 {}
 
 /// States the headline: a verdict is a yes if and only if the bundle supports it. If at most m generals are held for
@@ -57,15 +50,12 @@ pub fn headline()
     ensures { HeadlineHolds }
 {}
 
-/// States that a bundle has one verdict (`one`), and that all findings of a bundle determine a verdict (`exists`).
+/// States that a bundle has one verdict (`one`), and that all findings of a bundle determine a verdict (`exists`). So a
+/// bundle has one judgement: one verdict, and one list of convictions (`judgement`).
 pub fn one_verdict()
     ensures one { OneVerdict }
     ensures exists { VerdictExists }
-{}
-
-/// States that a bundle has one judgement: one verdict, and one list of convictions.
-pub fn one_judgement()
-    ensures { OneJudgement }
+    ensures judgement { OneJudgement }
 {}
 
 /// States that in a supported bundle each of the rest decided once.
@@ -73,9 +63,11 @@ pub fn each_decided_once()
     ensures { EachDecidedOnce }
 {}
 
-/// States that the reports of a bundle's exhibits tell the logs of the bundle.
+/// States that the reports of a bundle's exhibits tell the logs of the bundle (`tell`). The findings against single logs
+/// of a bundle are exactly those of the reports of the rest's exhibits (`find`).
 pub fn reports_tell_logs()
-    ensures { ReportsTellLogs }
+    ensures tell { ReportsTellLogs }
+    ensures find { ReportsFindLocal }
 {}
 
 /// States that the bundle of a scenario's own run supports a yes (`supported`), and that its verdict is a yes
@@ -98,11 +90,6 @@ pub fn own_runs_make_bundles()
     ensures any { LogsMakeBundle }
     ensures made { WorldMakesBundle }
     ensures bundle { WorldIsBundle }
-{}
-
-/// States that the findings against single logs of a bundle are exactly those of the reports of the rest's exhibits.
-pub fn reports_find_local()
-    ensures { ReportsFindLocal }
 {}
 
 /// States that a bundle has one spelling, and that no spelling of a bundle is the beginning of another (`one`). What

@@ -30,16 +30,6 @@ fn next_report(
     Ok(())
 }
 
-/// Returns all exhibits but the first.
-fn others_of(rest: &[Exhibit]) -> &[Exhibit]
-    ensures { result.now ≡ drop 1 rest.now }
-{
-    match rest.split_first() {
-        Some((_, others)) => others,
-        None => rest,
-    }
-}
-
 /// Returns the reports of all hands, in the order of the exhibits.
 pub(crate) fn merged(
     alloc: Global,
@@ -54,9 +44,9 @@ pub(crate) fn merged(
     let mut hands = hands;
     let mut reports = Vec::with_capacity(alloc, exhibits.len())?;
     let mut rest = exhibits;
-    'rounds: while !rest.is_empty() {
+    'rounds: while let Some((_, others)) = rest.split_first() {
         next_report(header, rest, last, &mut hands, &mut reports)?;
-        rest = others_of(rest);
+        rest = others;
     }
     Ok(reports)
 }

@@ -1,5 +1,5 @@
 //! Sorts findings into their one order.
-ghost use Rattle.std.specs.Prelude.{◌≡◌, ◌≢◌, ◌++◌, ◌∷◌, [], List, Contains, IfOk};
+ghost use Rattle.std.specs.Prelude.{◌≡◌, ◌++◌, ◌∷◌, [], List, Contains, IfOk};
 ghost use Rattle.std.specs.Bool.{OnTrue, OnFalse};
 ghost use Rattle.std.specs.List.Sorted.{IsSortedByKey};
 ghost use Rattle.gen_match.specs.declared.finding.Finding.{Finding};
@@ -81,15 +81,7 @@ fn rank_of(finding: &Finding) -> Rank
     }
 }
 
-/// Returns whether two findings are equal. Their ranks are compared: findings with equal ranks are equal.
-fn are_same(one: &Finding, other: &Finding) -> bool
-    ensures yes { OnTrue result (one.now ≡ other.now) }
-    ensures no { OnFalse result (one.now ≢ other.now) }
-{
-    rank_of(one) == rank_of(other)
-}
-
-/// Returns whether the finding differs from the last of these, or there is none.
+/// Returns whether the finding differs from the last of these, or there is none. Findings with equal ranks are equal.
 fn is_new(findings: &[Finding], finding: &Finding) -> bool
     ensures yes { OnTrue result (
         (front : List Finding) → findings.now ≡ front ++ finding.now ∷ [] → ⊥) }
@@ -97,7 +89,7 @@ fn is_new(findings: &[Finding], finding: &Finding) -> bool
         (front : List Finding) × (findings.now ≡ front ++ finding.now ∷ [])) }
 {
     match findings.split_last() {
-        Some((last, _)) => !are_same(last, finding),
+        Some((last, _)) => rank_of(last) != rank_of(finding),
         None => true,
     }
 }

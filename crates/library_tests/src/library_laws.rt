@@ -57,17 +57,13 @@ fn laws_of_reports_and_evidence() {
 #[test]
 fn laws_of_audits_and_campaigns() {
     audits::logs_are_explained();
-    audits::few_faulty_agree();
-    audits::runs_have_logs();
     audits::clean_is_supported();
     audits::clean_agrees();
     audits::headline();
     audits::one_verdict();
-    audits::one_judgement();
     audits::each_decided_once();
     audits::reports_tell_logs();
     audits::own_runs_are_accepted();
-    audits::reports_find_local();
     audits::one_bundle_spelling();
     audits::parts_make_bundles();
     campaigns::one_campaign_spelling();

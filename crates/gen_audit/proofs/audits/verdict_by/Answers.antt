@@ -1,6 +1,10 @@
-use Rattle.std.proofs.lemmas.Result.{IfOk-weaker}
-use Rattle.gen_audit.proofs.Answering.{headline_holds}
 use Rattle.gen_audit.proofs.audits.verdict_by.Goals as goal
 
-pub returns-clause-headline : goal.returns-clause-headline
-returns-clause-headline c = IfOk-weaker c.answer_by.result _ _ (λ verdict is. headline_holds c.args.bundle.now c.answer_by.ensures.bundle verdict is) c.answer_by.ensures.verdict
+pub findings_in-requires-clause-rest : goal.findings_in-requires-clause-rest
+findings_in-requires-clause-rest c = rw (← c.header.ensures.value, ← c.net.ensures.value, ← c.faulty.ensures) c.rest-rest.ensures
+
+pub agreed_order-requires-clause-rest : goal.agreed_order-requires-clause-rest
+agreed_order-requires-clause-rest c = rw (← c.header.ensures.value, ← c.net.ensures.value, ← c.faulty.ensures) c.rest-rest.ensures
+
+pub decisions_of-requires-clause-rest : goal.decisions_of-requires-clause-rest
+decisions_of-requires-clause-rest c = rw (← c.header.ensures.value, ← c.net.ensures.value, ← c.faulty.ensures) c.rest-rest.ensures

@@ -1,5 +1,5 @@
 use Rattle.std.proofs.Common.{◌≡◌, ◌++◌, take}
-use Rattle.gen_audit.proofs.bundle_writing.put_generals.Given as goal
+use Rattle.gen_audit.proofs.bundle_writing.put_walk.Given as goal
 
 abbrev pub invariant-generals : goal.invariant-generals
 invariant-generals l = l.out.items ≡ l.initial.out.items ++ take l.general-index l.generals
