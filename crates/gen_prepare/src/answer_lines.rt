@@ -1,9 +1,9 @@
 //! The lines of answers.
 ghost use Rattle.std.specs.Prelude.{◌≡◌, ◌++◌, IfOk, OnOk, string_bytes};
 ghost use Rattle.gen_convict.specs.Answers.{answer_of};
-ghost use Rattle.gen_prepare.specs.AnswerLine.{answer_line, head_said, signed_said, signers_said, statement_said, text_said};
+ghost use Rattle.gen_prepare.specs.AnswerLine.{answer_line, signed_said, signers_said, statement_said, text_said};
 
-use gen_chain::{HeadText, Statement};
+use gen_chain::Statement;
 use gen_convict::Refutation;
 use gen_local::Text;
 use gen_types::{OrderNo, Path};
@@ -46,23 +46,18 @@ fn push_statement(out: &mut String, statement: &Statement) -> Result<(), AllocEr
     push_signed(out, statement.order, &statement.path)
 }
 
-/// Appends the head of a log.
+/// Appends what was signed: a statement, or the head of a log.
 #[tactic(auto, unfolding(crate::specs::AnswerLine::head_said))]
-fn push_head(alloc: Global, out: &mut String, head: &HeadText) -> Result<(), AllocError>
-    ensures { OnOk result (string_bytes out.new ≡ string_bytes out.old ++ head_said head.now) }
-{
-    let entries = head.entries;
-    let link = hex::encode(alloc, head.last_link)?;
-    write!(out, "head entries {entries} link {link}")
-}
-
-/// Appends what was signed.
 fn push_text(alloc: Global, out: &mut String, text: &Text) -> Result<(), AllocError>
     ensures { OnOk result (string_bytes out.new ≡ string_bytes out.old ++ text_said text.now) }
 {
     match text {
         Text::OfStatement(statement) => push_statement(out, statement),
-        Text::OfHead(head) => push_head(alloc, out, head),
+        Text::OfHead(head) => {
+            let entries = head.entries;
+            let link = hex::encode(alloc, head.last_link)?;
+            write!(out, "head entries {entries} link {link}")
+        }
     }
 }
 

@@ -1,9 +1,9 @@
 //! Evidence, answered by a log of the accused.
-ghost use Rattle.std.specs.Prelude.{◌≡◌, ◌↔◌, IfOk, IfErr, IsTrue};
+ghost use Rattle.std.specs.Prelude.{◌≡◌, IfOk, IfErr};
 ghost use Rattle.gen_log.specs.Log.{IsLog};
 ghost use Rattle.gen_convict.specs.Evidence.{told_of};
 ghost use Rattle.gen_convict.specs.EvidenceReading.{IsWhole};
-ghost use Rattle.gen_prepare.specs.Answering.{CanAnswer, IsAnswerFault, IsAnswered, TellsAnswer};
+ghost use Rattle.gen_prepare.specs.Answering.{IsAnswerFault, IsAnswered, TellsAnswer};
 ghost use Rattle.gen_prepare.specs.declared.answers.AnswerFault.TheVariants.{Memory};
 
 use crate::answer_lines::answer_line;
@@ -74,24 +74,6 @@ impl From<ReadError<LogFault>> for AnswerFault {
     }
 }
 
-/// Returns whether the evidence holds, and the log is one that the accused could have kept by following.
-fn can_answer(
-    alloc: Global,
-    header: &Header,
-    evidence: &Evidence,
-    own: &Log,
-) -> Result<bool, AllocError>
-    requires whole { IsWhole (record { header = header.now; evidence = told_of evidence.now }) }
-    requires log { IsLog header.now own.now }
-    ensures { IfOk result (λ can. IsTrue can
-        ↔ CanAnswer (record { header = header.now; evidence = told_of evidence.now }) own.now) }
-{
-    if !check_evidence(alloc, header, evidence)? {
-        return Ok(false);
-    }
-    Ok(is_own_log(header, evidence.accused, own))
-}
-
 /// Returns what answers evidence by a log of the accused, or that there is no answer, which says no.
 fn answer_to(
     alloc: Global,
@@ -105,7 +87,9 @@ fn answer_to(
         (record { header = header.now; evidence = told_of evidence.now }) own.now
         o.text.items o.negative) }
 {
-    if !can_answer(alloc, header, evidence, own)? {
+    let holds = check_evidence(alloc, header, evidence)?;
+    let follows = is_own_log(header, evidence.accused, own);
+    if !holds || !follows {
         return Ok(AnswerText {
             text: NONE.to_vec(alloc)?,
             negative: true,

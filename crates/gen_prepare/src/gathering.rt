@@ -1,6 +1,6 @@
 //! Makes a bundle of parts: a header's bytes, the generals that are held for faulty, and logs that were collected.
 ghost use Rattle.gen_types.specs.Spelled.{IsRead};
-ghost use Rattle.gen_prepare.specs.Gathering.{Gathers, GathersText, as_text, front_of, sole_header};
+ghost use Rattle.gen_prepare.specs.Gathering.{Gathers, GathersText, as_text, sole_header};
 
 use crate::ordering::in_order;
 use crate::walking::walks_if_any;
@@ -10,25 +10,19 @@ use gen_net::{Header, read_header};
 use gen_types::{GeneralSet, ReadError, check};
 use std::alloc::Global;
 
-/// Returns the header in front of the bytes, and its number of bytes.
-fn front_of(alloc: Global, bytes: &[u8]) -> Result<(Header, usize), ReadError<BundleFault>>
-    ensures { IsRead result (front_of bytes.now) }
-{
-    match read_header(alloc, bytes) {
-        Ok(front) => Ok(front),
-        Err(ReadError::Memory) => Err(ReadError::Memory),
-        Err(ReadError::Fault(fault)) => Err(ReadError::Fault(BundleFault::BadHeader(fault))),
-    }
-}
-
 /// Returns the header that all the bytes are.
 #[tactic(auto, unfolding(crate::specs::Gathering::sole_header))]
 fn sole_header(alloc: Global, bytes: &[u8]) -> Result<Header, ReadError<BundleFault>>
     ensures { IsRead result (sole_header bytes.now) }
 {
-    let (header, count) = front_of(alloc, bytes)?;
-    check(count == bytes.len(), BundleFault::LeftOver)?;
-    Ok(header)
+    match read_header(alloc, bytes) {
+        Ok((header, count)) => {
+            check(count == bytes.len(), BundleFault::LeftOver)?;
+            Ok(header)
+        }
+        Err(ReadError::Memory) => Err(ReadError::Memory),
+        Err(ReadError::Fault(fault)) => Err(ReadError::Fault(BundleFault::BadHeader(fault))),
+    }
 }
 
 /// Returns the bundle of a header's bytes, the generals that are held for faulty, and logs. Its walks are those of

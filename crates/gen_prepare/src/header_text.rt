@@ -1,37 +1,20 @@
 //! Reads headers from text.
-ghost use Rattle.std.specs.Prelude.{◌≡◌, ◌≤◌, length, map, IfOk, Ok};
+ghost use Rattle.std.specs.Prelude.{◌≡◌, ◌≤◌, IfOk, Ok};
 ghost use Rattle.gen_types.specs.Reading.{Gives};
 ghost use Rattle.gen_types.specs.Spelled.{IsRead};
 ghost use Rattle.gen_net.specs.Header.{RunHeader, header_with};
 ghost use Rattle.gen_net.specs.Version.{greatest_slot, slot_in};
 ghost use Rattle.gen_prepare.specs.HeaderText.{SpellsHeader};
-ghost use Rattle.gen_prepare.specs.HeaderTextReading.{header_of_text, last_at, last_in, root_at, root_in, roots_at};
+ghost use Rattle.gen_prepare.specs.HeaderTextReading.{header_of_text, last_at, root_at, roots_at};
 
-use crate::net_text::first_net;
 use gen_net::{Header, HeaderFault, Net, Version};
-use gen_report::{Cursor, LineFault, ScenarioFault};
+use gen_report::{Cursor, LineFault, ScenarioFault, first_opening, net_behind};
 use gen_types::ReadError;
 use hex::FromHex;
 use std::alloc::Global;
 
-/// Returns the root of a line.
-#[tactic(auto, unfolding(crate::specs::HeaderTextReading::root_in))]
-fn root_in(fields: &[&[u8]], line: usize) -> Result<[u8; 32], ReadError<ScenarioFault>>
-    ensures { IsRead result (root_in line (map (λ f. f.now) fields.now)) }
-{
-    match fields {
-        [word, digits] if *word == b"root".as_slice() => {
-            match <[u8; 32] as FromHex>::from_hex(*digits) {
-                Ok(root) => Ok(root),
-                Err(_) => Err(LineFault::BadSeed.refused(line)),
-            }
-        }
-        _ => Err(LineFault::Shape.refused(line)),
-    }
-}
-
 /// Returns the root of the line that begins here, and the cursor after the line.
-#[tactic(auto, unfolding(crate::specs::HeaderTextReading::root_at))]
+#[tactic(auto, unfolding(crate::specs::HeaderTextReading::root_at, crate::specs::HeaderTextReading::root_in))]
 fn read_root<'a>(
     alloc: Global,
     start: &Cursor<'a>,
@@ -39,8 +22,15 @@ fn read_root<'a>(
     ensures { IsRead result (root_at start.now) }
 {
     let (line, after) = start.next_line(alloc)?;
-    let root = root_in(&line.fields, line.number)?;
-    Ok((root, after))
+    match line.fields.as_slice() {
+        [word, digits] if *word == b"root".as_slice() => {
+            match <[u8; 32] as FromHex>::from_hex(*digits) {
+                Ok(root) => Ok((root, after)),
+                Err(_) => Err(LineFault::BadSeed.refused(line.number)),
+            }
+        }
+        _ => Err(LineFault::Shape.refused(line.number)),
+    }
 }
 
 /// Returns the roots of this many lines from here on, and the cursor after them.
@@ -61,25 +51,16 @@ fn read_roots<'a>(
     Ok((roots, cursor))
 }
 
-/// Checks that the line is the last one of a text.
-#[tactic(auto, unfolding(crate::specs::HeaderTextReading::last_in))]
-fn last_in(fields: &[&[u8]], line: usize) -> Result<(), ReadError<ScenarioFault>>
-    ensures { IsRead result (last_in line (map (λ f. f.now) fields.now)) }
-{
-    match fields {
-        [word] if *word == b"end".as_slice() => Ok(()),
-        _ => Err(LineFault::Shape.refused(line)),
-    }
-}
-
 /// Returns the cursor after the last line of a text, which begins here.
-#[tactic(auto, unfolding(crate::specs::HeaderTextReading::last_at))]
+#[tactic(auto, unfolding(crate::specs::HeaderTextReading::last_at, crate::specs::HeaderTextReading::last_in))]
 fn read_last<'a>(alloc: Global, start: &Cursor<'a>) -> Result<Cursor<'a>, ReadError<ScenarioFault>>
     ensures { IsRead result (last_at start.now) }
 {
     let (line, after) = start.next_line(alloc)?;
-    last_in(&line.fields, line.number)?;
-    Ok(after)
+    match line.fields.as_slice() {
+        [word] if *word == b"end".as_slice() => Ok(after),
+        _ => Err(LineFault::Shape.refused(line.number)),
+    }
 }
 
 /// Returns the header of this version, this network and these roots.
@@ -93,12 +74,12 @@ fn header_with(version: Version, net: Net, roots: Vec<[u8; 32]>) -> Result<Heade
 }
 
 /// Reads a whole text line by line, and returns the header of this version that it is.
-#[tactic(auto, unfolding(crate::specs::HeaderTextReading::header_of_text))]
+#[tactic(auto, unfolding(crate::specs::HeaderTextReading::header_of_text, crate::specs::NetText::net_at))]
 fn whole(alloc: Global, version: Version, text: &[u8]) -> Result<Header, ReadError<ScenarioFault>>
     requires { slot_in version ≤ greatest_slot }
     ensures { IsRead result (header_of_text version text.now) }
 {
-    let (net, rest) = first_net(alloc, text)?;
+    let (net, rest) = net_behind(alloc, first_opening(alloc, text)?)?;
     let (roots, rest) = read_roots(alloc, net.generals(), rest)?;
     let rest = read_last(alloc, &rest)?;
     if !rest.is_over() {

@@ -10,7 +10,6 @@ mod answers;
 mod gathering;
 mod header_text;
 mod holding;
-mod net_text;
 mod ordering;
 mod roots;
 mod seed_fault;

@@ -1,5 +1,5 @@
 //! Puts logs into the order of their generals.
-ghost use Rattle.std.specs.Prelude.{◌≡◌, ◌++◌, ◌∷◌, [], IfOk, OnOk};
+ghost use Rattle.std.specs.Prelude.{◌≡◌, ◌++◌, IfOk, OnOk};
 ghost use Rattle.gen_audit.specs.Bundle.{exhibits_of};
 ghost use Rattle.gen_prepare.specs.Gathering.{in_order};
 
@@ -7,24 +7,16 @@ use gen_local::Exhibit;
 use gen_types::limits::MOST_GENERALS;
 use std::alloc::{AllocError, Global};
 
-/// Appends a log if it is the general's. Its bytes are not copied.
-fn push_if_of(log: &Exhibit, general: u8, ordered: &mut Vec<Exhibit>) -> Result<(), AllocError>
-    ensures { OnOk result (ordered.new.items ≡ ordered.old.items ++ exhibits_of (log.now ∷ []) general) }
-{
-    if log.general().get() == general {
-        ordered.push(log.share()?)?;
-    }
-    Ok(())
-}
-
-/// Appends those of the logs that are the general's, in their order.
+/// Appends those of the logs that are the general's, in their order. Their bytes are not copied.
 #[tactic(auto, using(crate::proofs::Ordered::taken_off))]
 fn push_all_of(logs: &[Exhibit], general: u8, ordered: &mut Vec<Exhibit>) -> Result<(), AllocError>
     ensures { OnOk result (ordered.new.items ≡ ordered.old.items ++ exhibits_of logs.now general) }
 {
     let mut rest = logs;
     'logs: while let Some((log, others)) = rest.split_first() {
-        push_if_of(log, general, ordered)?;
+        if log.general().get() == general {
+            ordered.push(log.share()?)?;
+        }
         rest = others;
     }
     Ok(())

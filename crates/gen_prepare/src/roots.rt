@@ -10,32 +10,6 @@ use gen_tree::KeyTree;
 use gen_types::{ReadError, TreeHeight};
 use std::alloc::{AllocError, Global};
 
-/// The number of bytes of a seed.
-const SEED_LENGTH: usize = 32;
-
-/// Returns the seed that the bytes are.
-fn seed_of(bytes: &[u8]) -> Result<[u8; 32], ReadError<SeedFault>>
-    ensures { IsRead result (seed_of bytes.now) }
-{
-    if bytes.len() != SEED_LENGTH {
-        return Err(ReadError::Fault(SeedFault::SeedLength));
-    }
-    let mut seed = [0; 32];
-    seed.copy_from_slice(bytes);
-    Ok(seed)
-}
-
-/// Returns the line of the root of a seed's tree.
-fn root_line(alloc: Global, seed: &[u8; 32], height: TreeHeight) -> Result<Vec<u8>, AllocError>
-    ensures { IfOk result (λ line. line.items ≡ root_line height seed.now) }
-{
-    let root = KeyTree::from_seed(alloc, seed, height)?.root();
-    let digits = hex::encode(alloc, root)?;
-    let mut line = digits.as_bytes().to_vec(alloc)?;
-    line.push(b'\n')?;
-    Ok(line)
-}
-
 /// Returns the root of the tree of keys that a seed makes, in 64 hexadecimal digits of lower case, and a line feed. The
 /// height of the tree is that of a header's version: 4 in version 1, and 6 in version 2.
 ///
@@ -50,6 +24,12 @@ pub fn root_text(
 ) -> Result<Vec<u8>, ReadError<SeedFault>>
     ensures { Gives (λ text. text.items) result (root_text height seed.now) }
 {
-    let seed = seed_of(seed)?;
-    Ok(root_line(alloc, &seed, height)?)
+    let Ok(seed) = <[u8; 32]>::try_from(seed) else {
+        return Err(ReadError::Fault(SeedFault::SeedLength));
+    };
+    let root = KeyTree::from_seed(alloc, &seed, height)?.root();
+    let digits = hex::encode(alloc, root)?;
+    let mut line = digits.as_bytes().to_vec(alloc)?;
+    line.push(b'\n')?;
+    Ok(line)
 }
