@@ -1,6 +1,6 @@
 -- What the command line gives for the commands that have several files.
-use Rattle.std.proofs.Common.{◌≡◌, ◌≢◌, ◌∙◌, List, [], Option, Some, None, Result, Ok, Err, ap, codes, inl, inr, option_map, refl, subst, sym, unwrap_or}
-use Rattle.std.specs.Prelude.{IfOk, IfErr, MatchResult}
+use Rattle.std.proofs.Common.{◌≡◌, ◌∙◌, List, [], Option, Some, None, Result, Ok, Err, ap, codes, inr, option_map, refl, subst, sym, unwrap_or}
+use Rattle.std.specs.Prelude.{IfOk, IfErr}
 use Rattle.clap.specs.Walk.{rows_of}
 use Rattle.clap.specs.Matches.{matched_of, raw_values}
 use Rattle.clap.specs.declared.parser.matches.Found.{Found}
@@ -10,7 +10,6 @@ use Rattle.gen_program.specs.CommandLine.{tool}
 use Rattle.gen_program.specs.Several.{AsksSeveral, HasSeveralFault, IsSaidBy, IsSeveralFaultOf, log_words}
 use Rattle.gen_program.specs.declared.several.Several.{Several}
 use Rattle.gen_program.specs.declared.words.WordsFault.{WordsFault}
-use Rattle.gen_program.specs.declared.words.WordsFault.TheVariants.{Memory}
 
 -- the words behind the header, by the values of their argument
 pub log_words_are : (f : Found) (ws : List Text) → Some ws ≡ option_map raw_values (matched_of f (codes "log")) → log_words (rows_of f) ≡ ws
@@ -33,13 +32,3 @@ asks_by words o (Err fault) none is said = tt
 pub fault_by : (words : List Text) (o : Option (Text × List Row)) (r : Result (Option Several) WordsFault) → fault_of tool words ≡ [] → o ≡ subcommand_of tool words → IfErr r (HasSeveralFault o) → IfErr r (IsSeveralFaultOf words)
 fault_by words o (Ok said) none is had = tt
 fault_by words o (Err fault) none is had = inr (none, subst (λ (x : Option (Text × List Row)). HasSeveralFault x fault) is had)
-
--- where the command line has a fault, words ask for nothing here, or memory was refused
-pub nothing_by : (words : List Text) (fault : WordsFault) (r : Result (Option Several) WordsFault) → (fault_of tool words ≡ [] → fault ≡ Memory) → MatchResult r (λ said. (said ≡ None) × (fault ≢ Memory)) (λ f. f ≡ Memory) → IfOk r (AsksSeveral words)
-nothing_by words fault (Ok None) only m = λ none. absurd (m.1 (only none))
-nothing_by words fault (Ok (Some several)) only m = let e = m.0 in absurd cc
-nothing_by words fault (Err f) only m = tt
-
-pub memory_by : (words : List Text) (fault : WordsFault) (r : Result (Option Several) WordsFault) → MatchResult r (λ said. (said ≡ None) × (fault ≢ Memory)) (λ f. f ≡ Memory) → IfErr r (IsSeveralFaultOf words)
-memory_by words fault (Ok said) m = tt
-memory_by words fault (Err f) m = inl m

@@ -11,6 +11,10 @@ option_named name = record (new_rule name) { long = Some name; action = Some Set
 abbrev pub flag_named : Text → Rule
 flag_named name = record (new_rule name) { long = Some name; action = Some SetTrue }
 
+-- an argument that is one word without an option
+abbrev pub word_named : Text → Rule
+word_named name = record (new_rule name) { action = Some Set; value_names = 1 }
+
 -- how many frames an edge holds; 1 if the option is absent
 abbrev pub capacity : Rule
 capacity = record (option_named (codes "capacity")) { defaults = codes "1" ∷ [] }
@@ -53,23 +57,23 @@ print_run = flag_named (codes "print-run")
 
 -- the file of the input, a word without an option; standard input, if it is absent or a minus
 abbrev pub file : Rule
-file = record (new_rule (codes "file")) { action = Some Set; value_names = 1 }
+file = word_named (codes "file")
 
 -- the name that is explained, in the place of a file
 abbrev pub name : Rule
-name = record (new_rule (codes "file")) { action = Some Set; value_names = 1; required = true }
+name = record (word_named (codes "file")) { required = true }
 
 -- the file of a header, or of evidence, in the place of the file of the input
 abbrev pub first_file : Rule
-first_file = record (new_rule (codes "file")) { action = Some Set; value_names = 1; required = true }
+first_file = record (word_named (codes "file")) { required = true }
 
 -- the file of a log
 abbrev pub log : Rule
-log = record (new_rule (codes "log")) { action = Some Set; value_names = 1; required = true }
+log = record (word_named (codes "log")) { required = true }
 
 -- logs, a word for each, with its general and its file
 abbrev pub logs : Rule
-logs = record (new_rule (codes "log")) { action = Some Append; value_names = 1 }
+logs = record (word_named (codes "log")) { action = Some Append }
 
 -- a command that takes a number of workers, runs and generals, too
 abbrev pub with_asking : App → App

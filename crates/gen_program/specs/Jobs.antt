@@ -91,26 +91,17 @@ job_accusing None runs = None
 job_accusing (Some g) None = None
 job_accusing (Some g) (Some runs) = Some (jobs.Accuse g runs)
 
--- the job that tells what the name of its command says
-unfoldable pub job_telling : Text → Option Job
-job_telling name =
-    if bytes_eq name (codes "explain") then Some (jobs.Tell tellings.Name)
-    else if bytes_eq name (codes "words") then Some (jobs.Tell tellings.Text)
-    else None
-
--- the job `root`, or the job `header`, if its version is known, or one that tells
-unfoldable pub job_preparing : Text → Choices → Option Job
-job_preparing name choices =
-    if bytes_eq name (codes "root") then Some (jobs.Root choices.height)
-    else if bytes_eq name (codes "header") then option_map (λ version. jobs.Header version) choices.version
-    else job_telling name
-
--- the job `evidence` or `show`, if the runs that are asked for are known, or one of the others
+-- the job of a command that shows, prepares or tells: `evidence` or `show`, if the runs that are asked for
+-- are known, `root`, `header`, if its version is known, or one that tells what its name says
 unfoldable pub job_showing : Text → Choices → Option Job
 job_showing name choices =
     if bytes_eq name (codes "evidence") then option_map (λ r. jobs.Evidence r choices.form) choices.runs
     else if bytes_eq name (codes "show") then option_map (λ r. jobs.Show r choices.form) choices.runs
-    else job_preparing name choices
+    else if bytes_eq name (codes "root") then Some (jobs.Root choices.height)
+    else if bytes_eq name (codes "header") then option_map (λ version. jobs.Header version) choices.version
+    else if bytes_eq name (codes "explain") then Some (jobs.Tell tellings.Name)
+    else if bytes_eq name (codes "words") then Some (jobs.Tell tellings.Text)
+    else None
 
 -- the job `accuse`, if the text is a number from 0 to 15, or one of the others
 unfoldable pub job_against : Text → Option Text → Choices → Option Job

@@ -18,23 +18,14 @@ pub(crate) fn given_value(alloc: Global, words: &[&str], fault: &WordsFault) -> 
     String::from_str(alloc, value?).ok()
 }
 
-/// Returns the text of the help.
-pub(crate) fn usage(alloc: Global) -> Option<String> {
-    match read_request(alloc, &["sm_tool", "--help"]) {
-        Err(WordsFault::Words(error)) => error.to_string(alloc).ok(),
-        _ => None,
+/// Writes the help to standard error.
+pub(crate) fn show_usage<R: AllocGlobal + Eprint>(rt: &R) {
+    if let Err(WordsFault::Words(help)) = read_request(rt.alloc(), &["sm_tool", "--help"]) {
+        let _ = eprint!(rt; "{help}");
     }
 }
 
-/// Appends a part of a text to a line, behind a space.
-fn push_part(line: &mut String, part: &str) -> Result<(), AllocError> {
-    if !line.is_empty() && !part.is_empty() {
-        line.push_str(" ")?;
-    }
-    line.push_str(part)
-}
-
-/// Returns the lines of a text as one, up to the one that says how the program is used.
+/// Returns the lines of a text as one, with spaces between them, up to the one that says how the program is used.
 pub(crate) fn parts_of(alloc: Global, text: &str) -> Result<String, AllocError> {
     let mut line = String::new(alloc);
     for part in text.lines() {
@@ -42,7 +33,10 @@ pub(crate) fn parts_of(alloc: Global, text: &str) -> Result<String, AllocError> 
         if part.starts_with("Usage:") || part.starts_with("For more information") {
             return Ok(line);
         }
-        push_part(&mut line, part)?;
+        if !line.is_empty() && !part.is_empty() {
+            line.push_str(" ")?;
+        }
+        line.push_str(part)?;
     }
     Ok(line)
 }

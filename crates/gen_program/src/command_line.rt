@@ -36,17 +36,47 @@ fault, as P6, of a finding, as N8, or of a conviction, as K2. 'sm_tool words' te
 verdict or of standard error. The rules of all names stand in FORMATS.md: in the folder share/doc/vamuretu where the
 program is installed, and in docs of an unpacked release or of the sources.";
 
+/// Returns an option with its name behind two hyphens, which takes one value, of which the help says this.
+fn option_named<'a>(alloc: Global, name: &'a str, value: &'a str, help: &'a str) -> Arg<'a>
+    ensures rule { rule_of result ≡ lines.option_named name.entry.now }
+    ensures local { result.global ≡ false }
+{
+    Arg::new(alloc, name)
+        .long(name)
+        .value_name(value)
+        .help(help)
+        .action(ArgAction::Set)
+}
+
+/// Returns a flag with its name behind two hyphens, which takes no value, of which the help says this.
+fn flag_named<'a>(alloc: Global, name: &'a str, help: &'a str) -> Arg<'a>
+    ensures rule { rule_of result ≡ lines.flag_named name.entry.now }
+    ensures local { result.global ≡ false }
+{
+    Arg::new(alloc, name)
+        .long(name)
+        .help(help)
+        .action(ArgAction::SetTrue)
+}
+
+/// Returns an argument that is one word without an option, of which the help says this.
+fn word_named<'a>(alloc: Global, name: &'a str, value: &'a str, help: &'a str) -> Arg<'a>
+    ensures rule { rule_of result ≡ lines.word_named name.entry.now }
+    ensures local { result.global ≡ false }
+{
+    Arg::new(alloc, name)
+        .value_name(value)
+        .help(help)
+        .action(ArgAction::Set)
+}
+
 /// Returns the option `--capacity`: how many frames an edge holds.
 fn capacity_option<'a>(alloc: Global) -> Arg<'a>
     ensures rule { rule_of result ≡ lines.capacity }
     ensures local { result.global ≡ false }
 {
-    Arg::new(alloc, "capacity")
-        .long("capacity")
-        .value_name("N")
-        .help("How many frames an edge holds, 1 to 16")
-        .action(ArgAction::Set)
-        .default_value("1")
+    let help = "How many frames an edge holds, 1 to 16";
+    option_named(alloc, "capacity", "N", help).default_value("1")
 }
 
 /// Returns the option `--workers`: how many workers an audit has.
@@ -54,25 +84,8 @@ fn workers_option<'a>(alloc: Global) -> Arg<'a>
     ensures rule { rule_of result ≡ lines.workers }
     ensures local { result.global ≡ false }
 {
-    Arg::new(alloc, "workers")
-        .long("workers")
-        .value_name("N")
-        .help("How many workers read and verify logs, 1 to 16")
-        .action(ArgAction::Set)
-        .default_value("1")
-}
-
-/// Returns the option `--general`: which general is accused.
-fn general_option<'a>(alloc: Global) -> Arg<'a>
-    ensures rule { rule_of result ≡ lines.general }
-    ensures local { result.global ≡ false }
-{
-    Arg::new(alloc, "general")
-        .long("general")
-        .value_name("G")
-        .help("Who is accused, 0 to 15")
-        .action(ArgAction::Set)
-        .required(true)
+    let help = "How many workers read and verify logs, 1 to 16";
+    option_named(alloc, "workers", "N", help).default_value("1")
 }
 
 /// Returns the option `--run`: the runs that the input must be of.
@@ -80,11 +93,8 @@ fn asked_option<'a>(alloc: Global) -> Arg<'a>
     ensures rule { rule_of result ≡ lines.asked }
     ensures local { result.global ≡ false }
 {
-    Arg::new(alloc, "run")
-        .long("run")
-        .value_name("RUNID")
-        .help("Refuses an input of another run; of a campaign all run ids, with commas")
-        .action(ArgAction::Set)
+    let help = "Refuses an input of another run; of a campaign all run ids, with commas";
+    option_named(alloc, "run", "RUNID", help)
 }
 
 /// Returns the option `--faulty`: the generals that are held for faulty in place of those that the input lists.
@@ -92,72 +102,23 @@ fn faulty_option<'a>(alloc: Global) -> Arg<'a>
     ensures rule { rule_of result ≡ lines.faulty }
     ensures local { result.global ≡ false }
 {
-    Arg::new(alloc, "faulty")
-        .long("faulty")
-        .value_name("LIST")
-        .help("Judges as if these were held for faulty: 'none', or numbers 0 to 15 with commas")
-        .action(ArgAction::Set)
+    let help = "Judges as if these were held for faulty: 'none', or numbers 0 to 15 with commas";
+    option_named(alloc, "faulty", "LIST", help)
 }
 
-/// What the help says of `--json` where the answer is one object, and where it has several.
+/// What the help says of `--json`, the flag for an answer in JSON, where the answer is one object, and where it has
+/// several.
 const ONE_OBJECT: &str = "Answers with a JSON object in one line";
 
 const OBJECT_IN_EACH_LINE: &str = "Answers with a JSON object in each line";
-
-/// Returns the flag `--json`, of which the help says this: whether the answer is JSON.
-fn json_flag<'a>(alloc: Global, help: &'a str) -> Arg<'a>
-    ensures rule { rule_of result ≡ lines.json }
-    ensures local { result.global ≡ false }
-{
-    Arg::new(alloc, "json")
-        .long("json")
-        .help(help)
-        .action(ArgAction::SetTrue)
-}
-
-/// Returns the flag `--strict`: whether `explained` counts as a no.
-fn strict_flag<'a>(alloc: Global) -> Arg<'a>
-    ensures rule { rule_of result ≡ lines.strict }
-    ensures local { result.global ≡ false }
-{
-    Arg::new(alloc, "strict")
-        .long("strict")
-        .help("Ends with status 1 for the verdict 'explained' too")
-        .action(ArgAction::SetTrue)
-}
-
-/// Returns the flag `--tall`: whether a tree of keys has 64 leaves.
-fn tall_flag<'a>(alloc: Global) -> Arg<'a>
-    ensures rule { rule_of result ≡ lines.tall }
-    ensures local { result.global ≡ false }
-{
-    Arg::new(alloc, "tall")
-        .long("tall")
-        .help("Makes the tree of 64 leaves, for runs of version 2")
-        .action(ArgAction::SetTrue)
-}
-
-/// Returns the option `--slot`: the slot of a header of version 2.
-fn slot_option<'a>(alloc: Global) -> Arg<'a>
-    ensures rule { rule_of result ≡ lines.slot }
-    ensures local { result.global ≡ false }
-{
-    Arg::new(alloc, "slot")
-        .long("slot")
-        .value_name("U")
-        .help("Makes a header of version 2 in this slot, 0 to 3")
-        .action(ArgAction::Set)
-}
 
 /// Returns the flag `--print-run`: whether the ids of the runs are printed.
 fn print_run_flag<'a>(alloc: Global) -> Arg<'a>
     ensures rule { rule_of result ≡ lines.print_run }
     ensures local { result.global ≡ false }
 {
-    Arg::new(alloc, "print-run")
-        .long("print-run")
-        .help("Prints the run id on standard error; of a campaign all, with commas")
-        .action(ArgAction::SetTrue)
+    let help = "Prints the run id on standard error; of a campaign all, with commas";
+    flag_named(alloc, "print-run", help)
 }
 
 /// Returns the argument FILE: the file of the input.
@@ -165,59 +126,8 @@ fn file_argument<'a>(alloc: Global) -> Arg<'a>
     ensures rule { rule_of result ≡ lines.file }
     ensures local { result.global ≡ false }
 {
-    Arg::new(alloc, "file")
-        .value_name("FILE")
-        .help("The file of the input; standard input if it is left out, or '-'")
-        .action(ArgAction::Set)
-}
-
-/// Returns the argument HEADER or EVIDENCE: a file in the place of that of the input.
-fn first_file_argument<'a>(alloc: Global, name: &'a str, help: &'a str) -> Arg<'a>
-    ensures rule { rule_of result ≡ lines.first_file }
-    ensures local { result.global ≡ false }
-{
-    Arg::new(alloc, "file")
-        .value_name(name)
-        .help(help)
-        .action(ArgAction::Set)
-        .required(true)
-}
-
-/// Returns the argument LOG: the file of a log.
-fn log_argument<'a>(alloc: Global) -> Arg<'a>
-    ensures rule { rule_of result ≡ lines.log }
-    ensures local { result.global ≡ false }
-{
-    Arg::new(alloc, "log")
-        .value_name("LOG")
-        .help("The file of the log that the accused kept")
-        .action(ArgAction::Set)
-        .required(true)
-}
-
-/// Returns the arguments G=LOG: logs, each with its general.
-fn logs_argument<'a>(alloc: Global) -> Arg<'a>
-    ensures rule { rule_of result ≡ lines.logs }
-    ensures local { result.global ≡ false }
-{
-    Arg::new(alloc, "log")
-        .value_name("G=LOG")
-        .help("The number of a general, and the file of its log; as often as there are logs")
-        .action(ArgAction::Append)
-}
-
-/// Returns the argument NAME: the name that is explained, in the place of a file.
-fn name_argument<'a>(alloc: Global) -> Arg<'a>
-    ensures rule { rule_of result ≡ lines.name }
-    ensures local { result.global ≡ false }
-{
-    Arg::new(alloc, "file")
-        .value_name("NAME")
-        .help(
-            "A fault, finding, conviction, verdict or status, as N8, K2, P6, 'P9 S3', agreed or 'status 3'",
-        )
-        .action(ArgAction::Set)
-        .required(true)
+    let help = "The file of the input; standard input if it is left out, or '-'";
+    word_named(alloc, "file", "FILE", help)
 }
 
 /// Returns a command that takes a number of workers, the runs that are asked for and the generals that are held for
@@ -243,9 +153,10 @@ fn with_verdict<'a>(alloc: Global, command: CommandBuilder<'a>) -> CommandBuilde
         → app_of result.command ≡ lines.with_verdict (app_of command.entry.command) }
     ensures local { (fields_of result.command).has_globals ≡ false }
 {
+    let strict = "Ends with status 1 for the verdict 'explained' too";
     command
-        .arg(strict_flag(alloc))
-        .arg(json_flag(alloc, ONE_OBJECT))
+        .arg(flag_named(alloc, "strict", strict))
+        .arg(flag_named(alloc, "json", ONE_OBJECT))
         .arg(file_argument(alloc))
 }
 
@@ -256,7 +167,7 @@ fn decide_command<'a>(alloc: Global) -> CommandBuilder<'a>
 {
     let about = "Reads a scenario and prints what each general decides";
     CommandBuilder::new(alloc, "decide", about)
-        .arg(json_flag(alloc, ONE_OBJECT))
+        .arg(flag_named(alloc, "json", ONE_OBJECT))
         .arg(file_argument(alloc))
 }
 
@@ -323,7 +234,7 @@ fn accuse_command<'a>(alloc: Global) -> CommandBuilder<'a>
 {
     let about = "Reads a bundle or a campaign and writes the evidence against a general";
     CommandBuilder::new(alloc, "accuse", about)
-        .arg(general_option(alloc))
+        .arg(option_named(alloc, "general", "G", "Who is accused, 0 to 15").required(true))
         .arg(asked_option(alloc))
         .arg(file_argument(alloc))
 }
@@ -336,7 +247,7 @@ fn evidence_command<'a>(alloc: Global) -> CommandBuilder<'a>
     let about = "Reads evidence and prints whether it holds";
     CommandBuilder::new(alloc, "evidence", about)
         .arg(asked_option(alloc))
-        .arg(json_flag(alloc, ONE_OBJECT))
+        .arg(flag_named(alloc, "json", ONE_OBJECT))
         .arg(file_argument(alloc))
 }
 
@@ -349,7 +260,7 @@ fn show_command<'a>(alloc: Global) -> CommandBuilder<'a>
         "Reads a bundle, a campaign, evidence or a header, and prints what it says, a line for each fact";
     CommandBuilder::new(alloc, "show", about)
         .arg(asked_option(alloc))
-        .arg(json_flag(alloc, OBJECT_IN_EACH_LINE))
+        .arg(flag_named(alloc, "json", OBJECT_IN_EACH_LINE))
         .arg(file_argument(alloc))
 }
 
@@ -359,8 +270,9 @@ fn root_command<'a>(alloc: Global) -> CommandBuilder<'a>
     ensures local { (fields_of result.command).has_globals ≡ false }
 {
     let about = "Reads a seed of 32 bytes and prints the root of its keys";
+    let tall = "Makes the tree of 64 leaves, for runs of version 2";
     CommandBuilder::new(alloc, "root", about)
-        .arg(tall_flag(alloc))
+        .arg(flag_named(alloc, "tall", tall))
         .arg(file_argument(alloc))
 }
 
@@ -370,8 +282,9 @@ fn header_command<'a>(alloc: Global) -> CommandBuilder<'a>
     ensures local { (fields_of result.command).has_globals ≡ false }
 {
     let about = "Reads the text of a header, with a root for each general, and writes the header";
+    let slot = "Makes a header of version 2 in this slot, 0 to 3";
     CommandBuilder::new(alloc, "header", about)
-        .arg(slot_option(alloc))
+        .arg(option_named(alloc, "slot", "U", slot))
         .arg(print_run_flag(alloc))
         .arg(file_argument(alloc))
 }
@@ -382,10 +295,11 @@ fn bundle_command<'a>(alloc: Global) -> CommandBuilder<'a>
     ensures local { (fields_of result.command).has_globals ≡ false }
 {
     let about = "Reads a header and logs, each from its file, and writes their bundle";
+    let logs = "The number of a general, and the file of its log; as often as there are logs";
     CommandBuilder::new(alloc, "bundle", about)
         .arg(faulty_option(alloc))
-        .arg(first_file_argument(alloc, "HEADER", "The file of the header"))
-        .arg(logs_argument(alloc))
+        .arg(word_named(alloc, "file", "HEADER", "The file of the header").required(true))
+        .arg(word_named(alloc, "log", "G=LOG", logs).action(ArgAction::Append))
 }
 
 /// Returns the command `answer`, which answers evidence by a log.
@@ -394,9 +308,10 @@ fn answer_command<'a>(alloc: Global) -> CommandBuilder<'a>
     ensures local { (fields_of result.command).has_globals ≡ false }
 {
     let about = "Reads evidence and a log of the accused, and prints what the log answers";
+    let log = "The file of the log that the accused kept";
     CommandBuilder::new(alloc, "answer", about)
-        .arg(first_file_argument(alloc, "EVIDENCE", "The file of the evidence"))
-        .arg(log_argument(alloc))
+        .arg(word_named(alloc, "file", "EVIDENCE", "The file of the evidence").required(true))
+        .arg(word_named(alloc, "log", "LOG", log).required(true))
 }
 
 /// Returns the command `explain`, which says what a name means.
@@ -405,7 +320,11 @@ fn explain_command<'a>(alloc: Global) -> CommandBuilder<'a>
     ensures local { (fields_of result.command).has_globals ≡ false }
 {
     let about = "Prints what a name means that stands in an answer; reads no input";
-    CommandBuilder::new(alloc, "explain", about).arg(name_argument(alloc))
+    let name =
+        "A fault, finding, conviction, verdict or status, as N8, K2, P6, 'P9 S3', agreed or 'status 3'";
+    CommandBuilder::new(alloc, "explain", about).arg(word_named(
+        alloc, "file", "NAME", name,
+    ).required(true))
 }
 
 /// Returns the command `words`, which says what the lines of a text mean.
@@ -429,45 +348,26 @@ fn bare_command<'a>(alloc: Global) -> Command<'a>
         .subcommand_required(true)
 }
 
-/// Returns the command line with the commands that read a scenario or a campaign.
-fn with_runs<'a>(alloc: Global) -> CommandBuilder<'a>
-    ensures { result.refused ≡ false → app_of result.command ≡ lines.with_campaign }
+/// Returns the command line of the program, with all its commands: those that read a scenario or a campaign, those that
+/// read a bundle, evidence or a file, those that prepare a run or a dispute, and those that tell what a text means. It
+/// fails only if memory is refused.
+pub fn tool_command<'a>(alloc: Global) -> Result<Command<'a>, AllocError>
+    ensures { IfOk result (λ c. app_of c ≡ lines.tool) }
 {
     CommandBuilder::of(alloc, bare_command(alloc))
         .subcommand(decide_command(alloc))
         .subcommand(run_command(alloc))
         .subcommand(judge_command(alloc))
         .subcommand(campaign_command(alloc))
-}
-
-/// Returns the command line with these, and with the commands that read a bundle, evidence or a file.
-fn with_files<'a>(alloc: Global) -> CommandBuilder<'a>
-    ensures { result.refused ≡ false → app_of result.command ≡ lines.with_show }
-{
-    with_runs(alloc)
         .subcommand(audit_command(alloc))
         .subcommand(draw_command(alloc))
         .subcommand(accuse_command(alloc))
         .subcommand(evidence_command(alloc))
         .subcommand(show_command(alloc))
-}
-
-/// Returns the command line with these, and with the commands that prepare a run or a dispute.
-fn with_preparing<'a>(alloc: Global) -> CommandBuilder<'a>
-    ensures { result.refused ≡ false → app_of result.command ≡ lines.with_answer }
-{
-    with_files(alloc)
         .subcommand(root_command(alloc))
         .subcommand(header_command(alloc))
         .subcommand(bundle_command(alloc))
         .subcommand(answer_command(alloc))
-}
-
-/// Returns the command line of the program, with all its commands. It fails only if memory is refused.
-pub fn tool_command<'a>(alloc: Global) -> Result<Command<'a>, AllocError>
-    ensures { IfOk result (λ c. app_of c ≡ lines.tool) }
-{
-    with_preparing(alloc)
         .subcommand(explain_command(alloc))
         .subcommand(words_command(alloc))
         .finish()

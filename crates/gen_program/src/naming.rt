@@ -25,7 +25,7 @@ pub(crate) fn do_and_name<R: AllocGlobal + Eprint + Threads + Wait + Sync, S: Re
     }
 }
 
-/// Writes bytes, and says on standard error of which runs they are.
+/// Writes bytes, and says in a line on standard error of which runs they are.
 fn write_named<R: AllocGlobal + Eprint, W: Write>(rt: &R, text: Vec<u8>, writer: &mut W) -> JobEnd {
     match name_file(rt.alloc(), &text) {
         Ok(names) => {
@@ -35,17 +35,12 @@ fn write_named<R: AllocGlobal + Eprint, W: Write>(rt: &R, text: Vec<u8>, writer:
             };
             let end = write_output(writer, &output);
             if let (JobEnd::Done, Some(names)) = (end, &names) {
-                tell(rt, names);
+                if let Ok(line) = str::from_utf8(names) {
+                    let _ = eprintln!(rt; "{line}");
+                }
             }
             end
         }
         Err(_) => JobEnd::Failed(JobFault::Memory),
-    }
-}
-
-/// Writes a line to standard error.
-fn tell<R: Eprint>(rt: &R, line: &[u8]) {
-    if let Ok(line) = str::from_utf8(line) {
-        let _ = eprintln!(rt; "{line}");
     }
 }

@@ -3,10 +3,10 @@ ghost use Rattle.std.specs.Prelude.{◌≡◌, IfOk, map, string_bytes};
 ghost use Rattle.gen_jobs.specs.Ends.{status_of};
 ghost use Rattle.gen_jobs.specs.Ranges.{IsInRange};
 ghost use Rattle.gen_jobs.specs.declared.ends.JobEnd.{JobEnd};
-ghost use Rattle.gen_program.specs.Refusal.{IsShown, IsBlamed, IsStatus, PointsAtHelp, Refuses};
+ghost use Rattle.gen_program.specs.Refusal.{IsBlamed, IsStatus, PointsAtHelp, Refuses};
 ghost use Rattle.gen_program.specs.Sources.{writes_bytes};
 
-use crate::blaming::{given_value, parts_of, usage};
+use crate::blaming::{given_value, parts_of, show_usage};
 use crate::naming::do_and_name;
 use crate::reading::{answer_files, join_files, tell_waiting};
 use crate::several::{Several, read_several};
@@ -32,12 +32,15 @@ pub fn run<
     ensures { IsStatus result }
 {
     match given_words(rt) {
-        Ok(given) => answer_given(rt, &given),
+        Ok(given) => match texts_of(rt.alloc(), &given) {
+            Ok(words) => answer(rt, &words),
+            Err(_) => refuse(rt, &WordsFault::Memory, None),
+        },
         Err(fault) => refuse(rt, &fault, None),
     }
 }
 
-/// Returns the words of this process.
+/// Returns the words of this process. The first is the program's name.
 fn given_words<R: Env + AllocGlobal>(rt: &R) -> Result<Vec<String>, WordsFault> {
     let given = match env::args(rt) {
         Ok(given) => given,
@@ -45,18 +48,6 @@ fn given_words<R: Env + AllocGlobal>(rt: &R) -> Result<Vec<String>, WordsFault> 
         Err(_) => return Err(WordsFault::NotText),
     };
     Ok(given.collect(rt.alloc())?)
-}
-
-/// Does what these words ask for, and returns the exit status. The first is the program's name.
-fn answer_given<
-    R: Files + Terminals + AllocGlobal + Input + Print + Eprint + Threads + Wait + Sync,
->(rt: &R, given: &[String]) -> u8
-    ensures { IsStatus result }
-{
-    match texts_of(rt.alloc(), given) {
-        Ok(words) => answer(rt, &words),
-        Err(_) => refuse(rt, &WordsFault::Memory, None),
-    }
 }
 
 /// Returns the texts of strings, in their order.
@@ -80,7 +71,15 @@ fn answer<R: Files + Terminals + AllocGlobal + Input + Print + Eprint + Threads 
 {
     match read_several(rt.alloc(), words) {
         Ok(Some(several)) => finish_several(rt, &several),
-        Ok(None) => answer_one(rt, words),
+        Ok(None) => match read_request(rt.alloc(), words) {
+            Ok(request) => finish(rt, &request.job, request.file, request.prints_runs),
+            Err(fault) => {
+                if words.len() < 2 {
+                    show_usage(rt);
+                }
+                refuse(rt, &fault, given_value(rt.alloc(), words, &fault))
+            }
+        },
         Err(fault) => refuse(rt, &fault, given_value(rt.alloc(), words, &fault)),
     }
 }
@@ -119,31 +118,6 @@ fn finish_several<R: Files + Terminals + AllocGlobal + Input + Print + Eprint>(
     }
 }
 
-/// Does what these words ask for that name one input, and returns the exit status. The first is the program's name.
-fn answer_one<R: Files + Terminals + AllocGlobal + Input + Print + Eprint + Threads + Wait + Sync>(
-    rt: &R,
-    words: &[&str],
-) -> u8
-    ensures { IsStatus result }
-{
-    match read_request(rt.alloc(), words) {
-        Ok(request) => finish(rt, &request.job, request.file, request.prints_runs),
-        Err(fault) => {
-            if words.len() < 2 {
-                show_usage(rt);
-            }
-            refuse(rt, &fault, given_value(rt.alloc(), words, &fault))
-        }
-    }
-}
-
-/// Writes the help to standard error.
-fn show_usage<R: AllocGlobal + Eprint>(rt: &R) {
-    if let Some(text) = usage(rt.alloc()) {
-        let _ = eprint!(rt; "{text}");
-    }
-}
-
 /// Does what is asked for, and returns the exit status: of the job's end, or that for words if bytes would go to a
 /// terminal.
 fn finish<R: Files + Terminals + AllocGlobal + Input + Print + Eprint + Threads + Wait + Sync>(
@@ -158,18 +132,25 @@ fn finish<R: Files + Terminals + AllocGlobal + Input + Print + Eprint + Threads 
     if writes_bytes(job) && rt.writes_terminal() {
         return refuse_terminal(rt);
     }
-    if tells_name(job) {
+    // A name that is told stands in the place of a file.
+    if matches!(
+        job,
+        Job::Tell {
+            what: Telling::Name
+        }
+    ) {
         let mut name = file.unwrap_or("").as_bytes();
         return finish_over(rt, job, &mut name, false);
     }
-    finish_from(rt, job, source_of(file), prints_runs)
-}
-
-/// Returns whether a job tells what a name means, which stands in the place of a file.
-fn tells_name(job: &Job) -> bool {
-    match job {
-        Job::Tell { what } => *what == Telling::Name,
-        _ => false,
+    match source_of(file) {
+        Source::Standard => {
+            tell_waiting(rt);
+            finish_over(rt, job, &mut rt.reader(), prints_runs)
+        }
+        Source::Named(name) => match File::open(rt, name) {
+            Ok(mut file) => finish_over(rt, job, &mut file, prints_runs),
+            Err(_) => end_with(rt, JobEnd::Failed(JobFault::Open)),
+        },
     }
 }
 
@@ -185,28 +166,6 @@ fn writes_bytes(job: &Job) -> bool
         }
         | Job::Header { version: _ } => true,
         _ => false,
-    }
-}
-
-/// Does a job on the input of its source, and returns the exit status of its end.
-fn finish_from<R: Files + Terminals + AllocGlobal + Input + Print + Eprint + Threads + Wait + Sync>(
-    rt: &R,
-    job: &Job,
-    source: Source<'_>,
-    prints_runs: bool,
-) -> u8
-    requires { IsInRange job.now }
-    ensures { (end : JobEnd) × (result ≡ status_of end) }
-{
-    match source {
-        Source::Standard => {
-            tell_waiting(rt);
-            finish_over(rt, job, &mut rt.reader(), prints_runs)
-        }
-        Source::Named(name) => match File::open(rt, name) {
-            Ok(mut file) => finish_over(rt, job, &mut file, prints_runs),
-            Err(_) => end_with(rt, JobEnd::Failed(JobFault::Open)),
-        },
     }
 }
 
@@ -247,19 +206,11 @@ fn refuse<R: AllocGlobal + Print + Eprint>(rt: &R, fault: &WordsFault, value: Op
 {
     match fault {
         WordsFault::Memory => end_with(rt, JobEnd::Failed(JobFault::Memory)),
-        WordsFault::Words(error) if !error.use_stderr() => show(rt, error),
+        WordsFault::Words(text) if !text.use_stderr() => match print!(rt; "{text}") {
+            Ok(()) => end_with(rt, JobEnd::Done),
+            Err(_) => end_with(rt, JobEnd::Failed(JobFault::Write)),
+        },
         _ => blame(rt, fault, value),
-    }
-}
-
-/// Writes help or the version to standard output, as the words asked for, and returns the exit status.
-fn show<R: Print + Eprint>(rt: &R, text: &clap::Error) -> u8
-    ensures shown { IsShown result }
-    ensures status { IsStatus result }
-{
-    match print!(rt; "{text}") {
-        Ok(()) => end_with(rt, JobEnd::Done),
-        Err(_) => end_with(rt, JobEnd::Failed(JobFault::Write)),
     }
 }
 

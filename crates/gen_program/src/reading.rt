@@ -36,24 +36,7 @@ fn read_file<R: Files + Terminals + AllocGlobal + Input + Eprint>(
     }
 }
 
-/// Returns the logs in their files, each with its general, in the order of the files.
-fn read_logs<R: Files + Terminals + AllocGlobal + Input + Eprint>(
-    rt: &R,
-    generals: &[GeneralNo],
-    files: &[&str],
-) -> Result<Vec<Exhibit>, JobFault> {
-    let mut logs = Vec::new(rt.alloc());
-    for (general, file) in generals.iter().zip(files) {
-        let bytes = read_file(rt, *file)?;
-        let log = Exhibit::new(*general, bytes)?;
-        if logs.push(log).is_err() {
-            return Err(JobFault::Memory);
-        }
-    }
-    Ok(logs)
-}
-
-/// Returns the bundle of a header and logs in their files.
+/// Returns the bundle of a header and logs in their files, which are each with its general and in their order.
 fn joined<R: Files + Terminals + AllocGlobal + Input + Eprint>(
     rt: &R,
     faulty: GeneralSet,
@@ -62,7 +45,14 @@ fn joined<R: Files + Terminals + AllocGlobal + Input + Eprint>(
     files: &[&str],
 ) -> Result<BundleText, JobFault> {
     let header = read_file(rt, header)?;
-    let logs = read_logs(rt, generals, files)?;
+    let mut logs = Vec::new(rt.alloc());
+    for (general, file) in generals.iter().zip(files) {
+        let bytes = read_file(rt, *file)?;
+        let log = Exhibit::new(*general, bytes)?;
+        if logs.push(log).is_err() {
+            return Err(JobFault::Memory);
+        }
+    }
     join_in_pieces(rt.alloc(), &header, faulty, logs.as_slice())
 }
 

@@ -1,9 +1,8 @@
 //! The words of the commands that have several files: `bundle` with a header and logs, `answer` with evidence and a log.
-ghost use Rattle.std.specs.Prelude.{◌≡◌, ◌∷◌, codes, ◌≢◌, IfErr, IfOk, MatchOption, MatchResult, Some, None, map, nat_le, option_map};
+ghost use Rattle.std.specs.Prelude.{◌≡◌, ◌∷◌, codes, IfErr, IfOk, MatchOption, Some, None, map, nat_le, option_map};
 ghost use Rattle.clap.specs.Simple.{subcommand_rows_of};
 ghost use Rattle.clap.specs.Words.{first_of, found_of, rows_of};
-ghost use Rattle.gen_program.specs.declared.words.WordsFault.TheVariants.{Memory};
-ghost use Rattle.gen_program.specs.Several.{AreNamed, AsksSeveral, HasSeveralFault, IsAnswerFault, IsBundleFault, IsSaid, IsSaidBy, IsSeveral, IsSeveralFault, IsSeveralFaultOf, NamesNone, file_named, general_named, is_standard, log_words, set_given, standards};
+ghost use Rattle.gen_program.specs.Several.{AreNamed, AsksSeveral, HasSeveralFault, IsAnswerFault, IsBundleFault, IsSaid, IsSaidBy, IsSeveral, IsSeveralFault, IsSeveralFaultOf, NamesNone, file_named, general_named, log_words, set_given, standards};
 
 use crate::words::{WordsFault, general_of, matches_of};
 use clap::ArgMatches;
@@ -83,20 +82,13 @@ fn set_given(alloc: Global, text: Option<&str>) -> Result<Option<GeneralSet>, Al
     }
 }
 
-/// Whether a name stands for standard input.
-fn is_standard(name: &str) -> bool
-    ensures { result ≡ is_standard name.now }
-{
-    name == STANDARD
-}
-
 /// Whether standard input stands at most once among a first name and others.
 fn read_once(first: &str, others: &[&str]) -> bool
     ensures { result ≡ nat_le (standards (first.now ∷ map (λ o. o.now) others.now)) 1 }
 {
-    let mut count = usize::from(is_standard(first));
+    let mut count = usize::from(first == STANDARD);
     for other in others {
-        if is_standard(*other) {
+        if *other == STANDARD {
             count += 1;
         }
     }
@@ -176,17 +168,6 @@ fn said_by<'a>(
     }
 }
 
-/// Returns what is answered if the command line has a fault at the words: that fault if memory was refused, and else
-/// that they ask for nothing here.
-fn without_matches<'a>(fault: WordsFault) -> Result<Option<Several<'a>>, WordsFault>
-    ensures { MatchResult result (λ said. (said ≡ None) × (fault ≢ Memory)) (λ f. f ≡ Memory) }
-{
-    match fault {
-        WordsFault::Memory => Err(WordsFault::Memory),
-        _ => Ok(None),
-    }
-}
-
 /// Returns what the command says that the command line found; None if it has one file, or if none was found.
 fn said_in<'a>(alloc: Global, matches: &ArgMatches<'a>) -> Result<Option<Several<'a>>, WordsFault>
     ensures said { IfOk result (IsSaidBy (subcommand_rows_of matches.now)) }
@@ -215,6 +196,8 @@ pub fn read_several<'a>(
 {
     match matches_of(alloc, words) {
         Ok(matches) => said_in(alloc, &matches),
-        Err(fault) => without_matches(fault),
+        Err(WordsFault::Memory) => Err(WordsFault::Memory),
+        // What else the command line finds is told where one file is named.
+        Err(_) => Ok(None),
     }
 }

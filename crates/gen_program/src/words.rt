@@ -5,7 +5,7 @@ ghost use Rattle.clap.specs.Words.{fault_of};
 ghost use Rattle.gen_net.specs.Version.{greatest_slot, slot_in};
 ghost use Rattle.gen_jobs.specs.Ranges.{IsInRange};
 ghost use Rattle.gen_program.specs.CommandLine.{tool};
-ghost use Rattle.gen_program.specs.Jobs.{asked_of, faulty_asked, form_asked, is_set, job_accusing, job_against, job_judging, job_named, job_reading, job_showing, job_telling, height_asked, job_preparing, HasSlot, number_between, version_asked, runs_asked};
+ghost use Rattle.gen_program.specs.Jobs.{asked_of, faulty_asked, form_asked, is_set, job_against, job_named, job_reading, job_showing, height_asked, HasSlot, number_between, version_asked, runs_asked};
 ghost use Rattle.gen_program.specs.Commands.{Gives, HasSubcommand, IsGivenBy, choices_in, job_in, refusal_in};
 ghost use Rattle.gen_program.specs.Tool.{asked, is_missing, refusal, takes_capacity, takes_faulty, takes_general, takes_runs, takes_slot, takes_workers, Asks, IsFaultOf};
 ghost use Rattle.gen_program.specs.declared.words.WordsFault.TheVariants.{Memory};
@@ -239,60 +239,8 @@ fn choices_of(alloc: Global, given: &GivenCommand<'_>) -> Result<Choices, AllocE
     })
 }
 
-/// Returns what is asked of a bundle or a campaign, if its runs and its set are known.
-fn asked_of(choices: &Choices) -> Option<Asked>
-    ensures { result ≡ asked_of choices.now.runs choices.now.faulty }
-{
-    Some(Asked {
-        runs: choices.runs?,
-        faulty: choices.faulty?,
-    })
-}
-
-/// Returns the job `accuse`, by the text of its option and the runs that are asked for.
-fn job_accusing(general: Option<&str>, runs: Option<AskedRuns>) -> Option<Job>
-    ensures said { result ≡ job_accusing (number_between 0 15 (option_map (λ t. t.now) general.entry)) runs }
-    ensures range { IfSome result IsInRange }
-{
-    Some(Job::Accuse {
-        general: general_of(general)?,
-        asked: runs?,
-    })
-}
-
-/// Returns the job that tells what the name of its command says; none for any other name.
-#[tactic(auto, unfolding(crate::specs::Jobs::job_telling))]
-fn job_telling(name: &str) -> Option<Job>
-    ensures said { result ≡ job_telling name.now }
-    ensures range { IfSome result IsInRange }
-{
-    let what = match name {
-        "explain" => Telling::Name,
-        "words" => Telling::Text,
-        _ => return None,
-    };
-    Some(Job::Tell { what })
-}
-
-/// Returns the job `root`, or the job `header`, if its version is known, or one that tells; none for any other name.
-#[tactic(auto, unfolding(crate::specs::Jobs::job_preparing))]
-fn job_preparing(name: &str, choices: &Choices) -> Option<Job>
-    requires { HasSlot choices.now }
-    ensures said { result ≡ job_preparing name.now choices.now }
-    ensures range { IfSome result IsInRange }
-{
-    match name {
-        "root" => Some(Job::Root {
-            height: choices.height,
-        }),
-        "header" => Some(Job::Header {
-            version: choices.version?,
-        }),
-        _ => job_telling(name),
-    }
-}
-
-/// Returns the job `evidence` or `show`, by the runs that are asked for, or one of the others; none for any other name.
+/// Returns the job of a command that shows, prepares or tells: `evidence` or `show`, if the runs that are asked for are
+/// known, `root`, `header`, if its version is known, or one that tells what its name says; none for any other name.
 #[tactic(auto, unfolding(crate::specs::Jobs::job_showing))]
 fn job_showing(name: &str, choices: &Choices) -> Option<Job>
     requires { HasSlot choices.now }
@@ -308,11 +256,24 @@ fn job_showing(name: &str, choices: &Choices) -> Option<Job>
             asked: choices.runs?,
             form: choices.form,
         }),
-        _ => job_preparing(name, choices),
+        "root" => Some(Job::Root {
+            height: choices.height,
+        }),
+        "header" => Some(Job::Header {
+            version: choices.version?,
+        }),
+        "explain" => Some(Job::Tell {
+            what: Telling::Name,
+        }),
+        "words" => Some(Job::Tell {
+            what: Telling::Text,
+        }),
+        _ => None,
     }
 }
 
-/// Returns the job `accuse`, by the text of its option, or one of the others; none for any other name.
+/// Returns the job `accuse`, by the text of its option, if the runs that are asked for are known, or one of the others;
+/// none for any other name.
 #[tactic(auto, unfolding(crate::specs::Jobs::job_against))]
 fn job_against(name: &str, general: Option<&str>, choices: &Choices) -> Option<Job>
     requires { HasSlot choices.now }
@@ -320,27 +281,17 @@ fn job_against(name: &str, general: Option<&str>, choices: &Choices) -> Option<J
     ensures range { IfSome result IsInRange }
 {
     if name == "accuse" {
-        job_accusing(general, choices.runs)
+        Some(Job::Accuse {
+            general: general_of(general)?,
+            asked: choices.runs?,
+        })
     } else {
         job_showing(name, choices)
     }
 }
 
-/// Returns the job `judge`, by the texts of its options.
-fn job_judging(capacity: Option<&str>, workers: Option<&str>, choices: &Choices) -> Option<Job>
-    ensures said { result ≡ job_judging (number_between 1 16 (option_map (λ t. t.now) capacity.entry))
-        (number_between 1 16 (option_map (λ t. t.now) workers.entry)) choices.now }
-    ensures range { IfSome result IsInRange }
-{
-    Some(Job::Judge {
-        capacity: number_between(capacity, 1, MOST_CAPACITY)?,
-        workers: workers_of(workers)?,
-        strict: choices.strict,
-        form: choices.form,
-    })
-}
-
-/// Returns the job `draw`, if it is named, or else the job `audit`, by the text of their option.
+/// Returns the job `draw`, if it is named, or else the job `audit`, by the text of their option, if its runs and its set
+/// are known.
 fn job_reading(name: &str, workers: Option<&str>, choices: &Choices) -> Option<Job>
     ensures said { result ≡ job_reading name.now
         (number_between 1 16 (option_map (λ t. t.now) workers.entry))
@@ -348,7 +299,10 @@ fn job_reading(name: &str, workers: Option<&str>, choices: &Choices) -> Option<J
     ensures range { IfSome result IsInRange }
 {
     let workers = workers_of(workers)?;
-    let asked = asked_of(choices)?;
+    let asked = Asked {
+        runs: choices.runs?,
+        faulty: choices.faulty?,
+    };
     if name == "draw" {
         Some(Job::Draw { workers, asked })
     } else {
@@ -379,7 +333,12 @@ fn job_of(
         "run" => Some(Job::Run {
             capacity: number_between(capacity, 1, MOST_CAPACITY)?,
         }),
-        "judge" => job_judging(capacity, workers, choices),
+        "judge" => Some(Job::Judge {
+            capacity: number_between(capacity, 1, MOST_CAPACITY)?,
+            workers: workers_of(workers)?,
+            strict: choices.strict,
+            form: choices.form,
+        }),
         "campaign" => Some(Job::Campaign {
             capacity: number_between(capacity, 1, MOST_CAPACITY)?,
         }),

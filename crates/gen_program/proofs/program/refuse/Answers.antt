@@ -5,3 +5,6 @@ use Rattle.gen_program.proofs.program.refuse.Goals as goal
 
 pub returns-in-Memory-clause-status : goal.returns-in-Memory-clause-status
 returns-in-Memory-clause-status g c = inr (Failed faults.Memory, c.end_with.ensures)
+
+pub returns-in-Words-clause-status : goal.returns-in-Words-clause-status
+returns-in-Words-clause-status g c = inr (Failed faults.Write, c.end_with-in-Err.ensures)

@@ -4,6 +4,6 @@ use Rattle.gen_program.proofs.several.read_once.Given as goal
 
 abbrev pub invariant-loop-other : goal.invariant-loop-other
 invariant-loop-other l = record {
-  count : l.count ≡ standards (l.first ∷ map (λ o. o.now) (take l.other-index l.others));
+  count : l.count ≡ standards (l.fn.first ∷ map (λ o. o.now) (take l.other-index l.others));
   most : l.count ≤ 1 + l.other-index;
 }
