@@ -1,10 +1,10 @@
 -- What is shown with other generals held for faulty is shown of a campaign.
-use Rattle.std.proofs.Common.{◌≡◌, ◌<◌, ◌+◌, ◌≤◌, inl, inr, ℕ, zero, suc, Bool, true, false, cond, not, List, [], ◌∷◌, ◌++◌, length, take, map, get_or, Contains, All, AllPairs, Result, Ok, Err, Option, Some, None, option_map, refl, sym, ap, subst, ◌∙◌, arith}
-use Rattle.std.specs.List.{AllZip, position, position_or_len}
-use Rattle.std.specs.Prelude.{IfOk}
-use Rattle.std.proofs.lemmas.List.Elements.{All-contains, All-cons, All-head, All-nil, All-tail}
+use Rattle.std.proofs.Common.{◌≡◌, ◌<◌, ◌+◌, ◌≤◌, inl, inr, ℕ, zero, suc, Bool, true, false, cond, not, ltb, List, [], ◌∷◌, ◌++◌, length, take, map, get_or, Contains, All, AllPairs, Result, Ok, Err, Option, Some, None, option_map, refl, sym, ap, subst, ◌∙◌, arith}
+use Rattle.std.specs.List.{AllZip, position_or_len}
+use Rattle.std.proofs.lemmas.List.Elements.{All-contains, All-head, All-nil, All-push, All-tail}
 use Rattle.std.proofs.lemmas.List.Kept.{AllPairs-cons}
-use Rattle.std.proofs.lemmas.List.Quantifiers.{position-Some}
+use Rattle.std.proofs.lemmas.Bool.{lt-ltb}
+use Rattle.std.proofs.lemmas.List.{take_more}
 use Rattle.gen_types.specs.Spelled.{Spells}
 use Rattle.gen_types.proofs.Lists.{All_of, AllPairs_head, AllPairs_tail, Contains_cases, Contains_here, Contains_nil, Contains_there}
 use Rattle.gen_net.specs.Header.{RunHeader}
@@ -12,16 +12,15 @@ use Rattle.gen_net.specs.Network.{IsNetwork, Network}
 use Rattle.gen_log.specs.Fields.{AreBelow}
 use Rattle.gen_log.specs.Writing.{LogBytes}
 use Rattle.gen_audit.specs.Bundle.{Bundle, IsBundle}
-use Rattle.gen_audit.specs.BundleMaking.{bundle_with}
+use Rattle.gen_audit.specs.BundleMaking.{are_below}
 use Rattle.gen_audit.specs.BundleParts.{AreListedWalks, IsListedWalk}
 use Rattle.gen_audit.specs.WorldBundle.{AreWalksOfRun}
-use Rattle.gen_audit.proofs.BundleParts.{below_known, checks_told, exhibits_pass, walks_pass}
+use Rattle.gen_audit.proofs.BundleParts.{below_known, below_told}
 use Rattle.gen_audit.proofs.WalkParts.{best_are_listed}
 use Rattle.gen_campaign.specs.Campaign.{AreRuns, AreShown, CampaignBundle, IsCampaign, IsRunBundle, IsSecond, Joins, JoinsRun}
 use Rattle.gen_campaign.specs.CampaignSpelling.{campaign_spelling}
-use Rattle.gen_campaign.proofs.Places.{none_has}
-use Rattle.gen_campaign.proofs.Zips.{zip_more}
-use Rattle.gen_jobs.specs.Holding.{AreWalksAmong, IsHeld, IsHeldAs, first_lack, lack_fault, lacks}
+use Rattle.gen_prepare.specs.Holding as prepared
+use Rattle.gen_jobs.specs.Holding.{IsHeld, IsHeldAs, first_lack, lack_fault, lacks}
 use Rattle.gen_jobs.specs.declared.faulty.Faulty.TheVariants.{These}
 use Rattle.gen_jobs.proofs.AccusedRuns.{not_false}
 
@@ -40,24 +39,30 @@ listed net rest walks ok are = elim are [
   | inr none ↦ subst (AreListedWalks net.generals) (sym none.0) (no_walks net.generals)
 ]
 
-has_all : (faulty : List ℕ) (b : Bundle) → lacks faulty b ≡ false → AreBelow b.header.network.generals faulty
-has_all faulty b e = below_known b.header.network.generals faulty (not_false _ e)
+below : (faulty : List ℕ) (b : Bundle) → lacks faulty b ≡ false → AreBelow b.header.network.generals faulty
+below faulty b e = below_known b.header.network.generals faulty (not_false _ e)
 
--- the parts break no rule
-pub held_made : (faulty : List ℕ) (walks : List (List ℕ)) (b : Bundle) (rest : List ℕ) → IsBundle b → lacks faulty b ≡ false → AreWalksOfRun b.header.network rest walks
-    → bundle_with b.header faulty walks b.exhibits ≡ Ok (held_with faulty walks b)
-held_made faulty walks b rest is e are =
-    checks_told b.header faulty walks b.exhibits (not_false _ e)
-    (walks_pass b.header.network.generals walks (listed b.header.network rest walks is.header.network are))
-    (exhibits_pass b.header.network.generals b.exhibits is.exhibits)
+-- as gen_prepare holds other generals for faulty
+pub is_held : (faulty : List ℕ) (b h : Bundle) → prepared.IsHeldAs b faulty h → IsHeld faulty b h
+is_held faulty b h is = record { header = is.header; set = is.faulty_are; walks = is.walks; exhibits = is.exhibits }
 
--- and are a bundle
+pub has_all : (faulty : List ℕ) (b h : Bundle) → prepared.IsHeldAs b faulty h → lacks faulty b ≡ false
+has_all faulty b h is = ap not (below_told b.header.network.generals faulty is.known)
+
+lacking : (faulty : List ℕ) (b : Bundle) → (AreBelow b.header.network.generals faulty → ⊥) → lacks faulty b ≡ true
+lacking faulty b never = by_test (are_below b.header.network.generals faulty) refl
+  where
+    by_test : (yes : Bool) → are_below b.header.network.generals faulty ≡ yes → lacks faulty b ≡ true
+    by_test true e = absurd (never (below_known b.header.network.generals faulty e))
+    by_test false e = ap not e
+
+-- it is a bundle
 pub held_is : (faulty : List ℕ) (b h : Bundle) → IsBundle b → AllPairs (λ v w. v < w) faulty → lacks faulty b ≡ false → IsHeld faulty b h → IsBundle h
 held_is faulty b h is up e held =
     let same : held_with faulty h.walks b ≡ h = λ i. record { header = sym held.header i; faulty = sym held.set i; walks = h.walks; exhibits = sym held.exhibits i } in
     let parts : IsBundle (held_with faulty h.walks b) = record {
       header = is.header;
-      faulty = record { ascending = up; below = has_all faulty b e };
+      faulty = record { ascending = up; below = below faulty b e };
       walks = listed b.header.network held.walks.0 h.walks is.header.network held.walks.2;
       exhibits = is.exhibits;
       bytes = is.bytes;
@@ -73,17 +78,26 @@ HasAll faulty b = lacks faulty b ≡ false
 first_place : (p : Bundle → Bool) (v : Bool) (b : Bundle) (bs : List Bundle) → p b ≡ v → position_or_len p (b ∷ bs) ≡ cond (not v) (1 + position_or_len p bs) 0
 first_place p v b bs is = ap (λ (t : Bool). cond (not t) (1 + position_or_len p bs) 0) is
 
-fails_first : (p : Bundle → Bool) (v : Bool) (b : Bundle) (bs : List Bundle) → p b ≡ v → length (b ∷ bs) ≡ position_or_len p (b ∷ bs) → (v ≡ false) × (length bs ≡ position_or_len p bs)
-fails_first p true b bs is e = absurd (omega (arith, e, first_place p true b bs is))
-fails_first p false b bs is e = (refl, omega (arith, e, first_place p false b bs is))
+lacking_at : (p : Bundle → Bool) (bs : List Bundle) (i : ℕ) (b : Bundle) → i < length bs → b ≡ get_or bs i b → All (λ x. p x ≡ false) (take i bs) → p b ≡ true → position_or_len p bs ≡ i
+lacking_at p [] i b lt is none so = absurd (omega (arith, lt))
+lacking_at p (x ∷ bs) zero b lt is none so = first_place p true x bs (ap p (sym is) ∙ so)
+lacking_at p (x ∷ bs) (suc i) b lt is none so =
+    let here = first_place p false x bs (All-head (λ y. p y ≡ false) x (take i bs) none) in
+    let rest = lacking_at p bs i b (omega (arith, lt)) is (All-tail (λ y. p y ≡ false) x (take i bs) none) so in
+    omega (arith, here, rest)
 
-all_fail : (p : Bundle → Bool) (bs : List Bundle) → length bs ≡ position_or_len p bs → All (λ b. p b ≡ false) bs
-all_fail p [] e = All-nil (λ b. p b ≡ false)
-all_fail p (b ∷ bs) e = let r = fails_first p (p b) b bs refl e in All-cons (λ b. p b ≡ false) b bs r.0 (all_fail p bs r.1)
+-- the fault of the first bundle that lacks a general
+pub first_lacking : (faulty : List ℕ) (alone : Bool) (bundles : List Bundle) (i : ℕ) (b : Bundle) → i < length bundles → b ≡ get_or bundles i b → All (HasAll faulty) (take i bundles)
+    → (AreBelow b.header.network.generals faulty → ⊥) → first_lack faulty (record { alone = alone; bundles = bundles }) ≡ Some (lack_fault alone i)
+first_lacking faulty alone bundles i b lt is none never =
+    let place = lacking_at (lacks faulty) bundles i b lt is none (lacking faulty b never) in
+    let inside : ltb (position_or_len (lacks faulty) bundles) (length bundles) ≡ true = lt-ltb _ _ (omega (arith, place, lt)) in
+    rw (inside, place) refl
 
--- no bundle is found that lacks a general
-pub none_lacks : (faulty : List ℕ) (bundles : List Bundle) → None ≡ position (lacks faulty) bundles → All (HasAll faulty) bundles
-none_lacks faulty bundles e = all_fail (lacks faulty) bundles (none_has (lacks faulty) bundles e)
+-- no bundle lacks one so far
+pub none_more : (faulty : List ℕ) (bundles : List Bundle) (i : ℕ) (b : Bundle) → i < length bundles → b ≡ get_or bundles i b → All (HasAll faulty) (take i bundles) → HasAll faulty b → All (HasAll faulty) (take (i + 1) bundles)
+none_more faulty bundles i b lt is none here =
+    subst (λ (bs : List Bundle). All (HasAll faulty) bs) (ap (λ (x : Bundle). take i bundles ++ x ∷ []) is ∙ sym (take_more bundles i b lt)) (All-push (HasAll faulty) (take i bundles) b none here)
 
 -- where each comes from
 origin : (faulty : List ℕ) (bs hs : List Bundle) → AllZip (IsHeld faulty) bs hs → (h : Bundle) → Contains hs h → (b : Bundle) × Contains bs b × IsHeld faulty b h
@@ -135,19 +149,6 @@ held_shown faulty false bs hs shown up all are = record {
   joined = joined faulty bs hs shown.joined are;
 }
 
-none_mapped : {A B : Type 0} (f : A → B) (o : Option A) → option_map f o ≡ None → None ≡ o
-none_mapped f None e = refl
-none_mapped f (Some x) e = absurd cc
-
--- the same of what is shown
-pub none_lacking : (faulty : List ℕ) (shown : CampaignBundle) → first_lack faulty shown ≡ None → All (HasAll faulty) shown.bundles
-none_lacking faulty shown e = none_lacks faulty shown.bundles (none_mapped (lack_fault shown.alone) (position (lacks faulty) shown.bundles) e)
-
--- where the first one is that lacks a general
-pub place_within : (faulty : List ℕ) (bundles : List Bundle) (place : ℕ) → position (lacks faulty) bundles ≡ Some place → place < length bundles
-place_within faulty [] place e = absurd cc
-place_within faulty (b ∷ bundles) place e = (position-Some (lacks faulty) (b ∷ bundles) place b e).0
-
 -- what is shown is of few runs
 pub few_shown : (alone : Bool) (bs : List Bundle) → AreShown alone bs → length bs ≤ 4
 few_shown true [] shown = absurd shown
@@ -163,22 +164,21 @@ shown_with shown hs = record { alone = shown.alone; bundles = hs }
 
 -- they are the spelling of what is shown of a campaign
 pub shown_again : (faulty : List ℕ) (shown : CampaignBundle) (alone : Bool) (bs hs ss : List Bundle) (bytes : List ℕ)
-    → IsCampaign shown → AllPairs (λ v w. v < w) faulty → first_lack faulty shown ≡ None
+    → IsCampaign shown → AllPairs (λ v w. v < w) faulty → All (HasAll faulty) shown.bundles
     → alone ≡ shown.alone → bs ≡ shown.bundles → AllZip (IsHeld faulty) bs hs → ss ≡ hs → bytes ≡ campaign_spelling (record { alone = alone; bundles = ss })
     → Spells IsCampaign campaign_spelling bytes (shown_with shown hs)
 shown_again faulty shown alone bs hs ss bytes is up none same_form same_bundles are same_held spelled = record {
-  fits = held_shown faulty shown.alone shown.bundles hs is up (none_lacking faulty shown none) (subst (λ (xs : List Bundle). AllZip (IsHeld faulty) xs hs) same_bundles are);
+  fits = held_shown faulty shown.alone shown.bundles hs is up none (subst (λ (xs : List Bundle). AllZip (IsHeld faulty) xs hs) same_bundles are);
   spelled = spelled ∙ (λ i. campaign_spelling (record { alone = same_form i; bundles = same_held i }));
 }
 
 -- what is read of them is what is shown so
-pub again_held : {E : Type 0} (faulty : List ℕ) (shown : CampaignBundle) (bs hs : List Bundle) (r : Result CampaignBundle E)
-    → bs ≡ shown.bundles → AllZip (IsHeld faulty) bs hs → IfOk r (λ read. read ≡ shown_with shown hs) → IfOk r (IsHeldAs (These faulty) shown)
-again_held faulty shown bs hs (Ok read) same are is = (
+pub again_held : (faulty : List ℕ) (shown : CampaignBundle) (bs hs : List Bundle) (read : CampaignBundle)
+    → bs ≡ shown.bundles → AllZip (IsHeld faulty) bs hs → read ≡ shown_with shown hs → IsHeldAs (These faulty) shown read
+again_held faulty shown bs hs read same are is = (
   ap (λ (x : CampaignBundle). x.alone) is,
   subst (λ (x : CampaignBundle). AllZip (IsHeld faulty) shown.bundles x.bundles) (sym is) (subst (λ (xs : List Bundle). AllZip (IsHeld faulty) xs hs) same are),
 )
-again_held faulty shown bs hs (Err e) same are is = tt
 
 -- and they are few
 pub few_held : (faulty : List ℕ) (shown : CampaignBundle) (bs hs ss : List Bundle) → IsCampaign shown → bs ≡ shown.bundles → AllZip (IsHeld faulty) bs hs → ss ≡ hs → length ss < 256

@@ -1,5 +1,5 @@
 -- The judgement on the bundle of a scenario's run, as the job judge writes it.
-use Rattle.std.proofs.Common.{◌≡◌, ◌↔◌, ◌∙◌, ℕ, Bool, false, List, ap, sym, subst}
+use Rattle.std.proofs.Common.{◌≡◌, ◌↔◌, ℕ, Bool, false, List, sym, subst}
 use Rattle.gen_convict.specs.Convictions.{AreConvictions, ConvictsWhereHeld}
 use Rattle.gen_convict.specs.Evidence.{Accusation}
 use Rattle.gen_scenario.specs.Scenario.{Scenario, IsScenario, scripted}
@@ -11,13 +11,11 @@ use Rattle.gen_audit.specs.Verdict.{IsVerdict}
 use Rattle.gen_audit.specs.WorldBundle.{AreWalksOfRun, HasWalks, bundle_of}
 use Rattle.gen_audit.specs.declared.verdicts.Verdict.{Verdict}
 use Rattle.gen_audit.proofs.RunBundles.{are_listed, are_members}
-use Rattle.gen_report.specs.Scenario.{SpellsScenario}
-use Rattle.gen_report.specs.declared.scenario_text.ScenarioText.{ScenarioText}
-use Rattle.gen_report.specs.declared.scenario_text.ScenarioText.TheVariants as texts
-use Rattle.gen_jobs.specs.Asking.{IsJudgedAs, JudgesRunAs}
+use Rattle.gen_jobs.specs.Asking.{IsJudgedAs}
 use Rattle.gen_jobs.specs.Audit.{is_no, judgement_text}
-use Rattle.gen_jobs.specs.Judging.{JudgesRun}
+use Rattle.gen_jobs.specs.Judging.{IsJudged, JudgesRun}
 use Rattle.gen_jobs.specs.declared.forms.Form.{Form}
+use Rattle.gen_jobs.specs.declared.forms.Form.TheVariants.{Text}
 use Rattle.gen_jobs.proofs.Audited.{supported}
 
 -- what is said of a verdict, its convictions and their text makes it the judgement
@@ -51,11 +49,10 @@ scripted_below s ok = (are_members s ok).below
 pub walks_listed : (s : Scenario) (rest : List ℕ) (walks : List (List ℕ)) → IsScenario s → AreWalksOfRun s.net rest walks → AreListedWalks s.net.generals walks
 walks_listed s rest walks ok are = are_listed s rest walks ok are
 
--- the judgement on the run of the scenario that was read is that of the input
-pub judged_as : (form : Form) (strict : Bool) (input : List ℕ) (told : ScenarioText) (plan s : Scenario) (text : List ℕ) (negative : Bool)
-    → SpellsScenario input told → told ≡ texts.Signed plan → s ≡ plan → JudgesRunAs form strict s text negative → IsJudgedAs form strict input text negative
-judged_as form strict input told plan s text negative spelled is same judges = record {
-  scenario = s;
-  spelled = subst (λ (t : ScenarioText). SpellsScenario input t) (is ∙ ap (λ (p : Scenario). texts.Signed p) (sym same)) spelled;
-  judges = judges;
+-- what doesn't count `explained` as a no is the judgement itself
+pub judged_plainly : (input text : List ℕ) (negative : Bool) → IsJudgedAs Text false input text negative → IsJudged input text negative
+judged_plainly input text negative is = record {
+  scenario = is.scenario;
+  spelled = is.spelled;
+  judges = subst (λ (b : Bool). JudgesRun Text is.scenario text b) (sym is.judges.2) is.judges.1;
 }

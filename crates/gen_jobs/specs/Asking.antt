@@ -16,7 +16,7 @@ use Rattle.gen_campaign.specs.CampaignSpelling.{campaign_spelling}
 use Rattle.gen_campaign.specs.declared.campaign_fault.CampaignFault.{CampaignFault}
 use Rattle.gen_jobs.specs.Accusing.{AccusesRuns}
 use Rattle.gen_jobs.specs.AskedRuns.{AreAsked, run_ids}
-use Rattle.gen_jobs.specs.Audit.{AuditsShown, IsAuditFault, IsWant}
+use Rattle.gen_jobs.specs.Audit.{AuditsShown, IsAuditFault}
 use Rattle.gen_jobs.specs.Checking.{IsEvidenceFault, Tells}
 use Rattle.gen_jobs.specs.Drawing.{DrawsForm}
 use Rattle.gen_jobs.specs.Holding.{IsHeldAs, held_fault}
@@ -33,11 +33,6 @@ abbrev pub OthersAsked : AskedRuns → List (List ℕ) → JobFault → Type 0
 OthersAsked asked ids faults.Memory = Unit {0}
 OthersAsked asked ids faults.OtherRun = AreAsked asked ids → ⊥
 OthersAsked asked ids _ = ⊥
-
--- memory was refused, or a thread was, or the runs with these ids are not the ones that are asked for
-abbrev pub IsWantOrOthers : AskedRuns → List (List ℕ) → JobFault → Type 0
-IsWantOrOthers asked ids faults.OtherRun = AreAsked asked ids → ⊥
-IsWantOrOthers asked ids fault = IsWant fault
 
 -- The input spells a bundle or a campaign of the runs that are asked for, and what it shows is answered so.
 pub record Shows (asked : AskedRuns) (IsAnswer : CampaignBundle → List ℕ → Bool → Type 0)
@@ -79,14 +74,6 @@ pub record LacksHeld (asked : Asked) (input : List ℕ) (fault : CampaignFault) 
   pub spelled : Spells IsCampaign campaign_spelling input shown
   pub runs : AreAsked asked.runs (run_ids shown.bundles)
   pub fault_is : held_fault asked.faulty shown ≡ Some fault
-
--- memory was refused, or a thread was, or what is shown is of other runs, or else it lacks a general that is
--- asked for
-abbrev pub IsWantOrLack : Asked → CampaignBundle → JobFault → Type 0
-IsWantOrLack asked shown faults.OtherRun = AreAsked asked.runs (run_ids shown.bundles) → ⊥
-IsWantOrLack asked shown (faults.Campaign f) =
-    AreAsked asked.runs (run_ids shown.bundles) × (held_fault asked.faulty shown ≡ Some f)
-IsWantOrLack asked shown fault = IsWant fault
 
 -- the faults of an input that should show a bundle or a campaign: those of any such input, that it shows
 -- other runs, and that it lacks a general that is asked for

@@ -1,32 +1,24 @@
 -- Bundles and campaigns as if other generals were held for faulty.
 use Rattle.std.specs.Prelude.{ℕ, ◌≡◌, Bool, true, false, not, List, Option, Some, None, option_map}
 use Rattle.std.specs.List.{AllZip, position}
-use Rattle.gen_types.specs.Ascending.{IsListOf}
-use Rattle.gen_net.specs.Header.{RunHeader}
-use Rattle.gen_net.specs.Network.{IsLoyal}
 use Rattle.gen_audit.specs.Bundle.{Bundle}
 use Rattle.gen_audit.specs.BundleMaking.{are_below}
-use Rattle.gen_audit.specs.WorldBundle.{AreWalksOfRun}
 use Rattle.gen_audit.specs.declared.bundle_fault.BundleFault.TheVariants.{FaultyRange}
 use Rattle.gen_campaign.specs.Campaign.{CampaignBundle}
 use Rattle.gen_campaign.specs.declared.campaign_fault.CampaignFault.{CampaignFault}
 use Rattle.gen_campaign.specs.declared.campaign_fault.CampaignFault.TheVariants.{Alone, BadRun}
+use Rattle.gen_prepare.specs.Walking.{AreWalksIfAny}
 use Rattle.gen_jobs.specs.declared.ends.JobFault.{JobFault}
 use Rattle.gen_jobs.specs.declared.ends.JobFault.TheVariants as faults
 use Rattle.gen_jobs.specs.declared.faulty.Faulty.{Faulty}
 use Rattle.gen_jobs.specs.declared.faulty.Faulty.TheVariants.{Listed, These}
-
--- best walks between the generals that are not held for faulty, or no walks if two of them have no short one
-abbrev pub AreWalksAmong : RunHeader → List ℕ → List (List ℕ) → Type 0
-AreWalksAmong h faulty walks =
-    (rest : List ℕ) × IsListOf rest (IsLoyal h.network faulty) × AreWalksOfRun h.network rest walks
 
 -- The second bundle has the header and the exhibits of the first. These generals are held for faulty, and the
 -- walks are those between the others.
 pub record IsHeld (faulty : List ℕ) (bundle held : Bundle) : Type 0 where
   pub header : held.header ≡ bundle.header
   pub set : held.faulty ≡ faulty
-  pub walks : AreWalksAmong bundle.header faulty held.walks
+  pub walks : AreWalksIfAny bundle.header faulty held.walks
   pub exhibits : held.exhibits ≡ bundle.exhibits
 
 -- what is shown, with the generals that are asked for in place of the ones that each bundle lists
@@ -34,12 +26,6 @@ abbrev pub IsHeldAs : Faulty → CampaignBundle → CampaignBundle → Type 0
 IsHeldAs Listed shown held = held ≡ shown
 IsHeldAs (These faulty) shown held =
     (held.alone ≡ shown.alone) × AllZip (IsHeld faulty) shown.bundles held.bundles
-
--- what is shown, with the generals that are asked for held for faulty, is answered so
-abbrev pub HoldsAs : Faulty → CampaignBundle → (CampaignBundle → List ℕ → Bool → Type 0) → List ℕ → Bool
-    → Type 0
-HoldsAs faulty shown IsAnswer text negative =
-    (held : CampaignBundle) × IsHeldAs faulty shown held × IsAnswer held text negative
 
 -- whether the header of a bundle lacks one of these generals
 abbrev pub lacks : List ℕ → Bundle → Bool

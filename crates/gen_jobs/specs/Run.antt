@@ -1,5 +1,5 @@
 -- What the job run makes of its input.
-use Rattle.std.specs.Prelude.{◌≡◌, ◌+◌, ◌⊎◌, ℕ, Bool, false, List, length, Result, Ok, Err}
+use Rattle.std.specs.Prelude.{◌≡◌, ◌+◌, ◌⊎◌, ℕ, Bool, false, List, length, Err}
 use Rattle.gen_net.specs.Network.{Network}
 use Rattle.gen_scenario.specs.Scenario.{Plain, Scenario}
 use Rattle.gen_audit.specs.BundleSpelling.{bundle_spelling}
@@ -38,13 +38,6 @@ pub record MissesSeed (input : List ℕ) (fault : ScenarioFault) : Type 0 where
 -- the bundle is the one of the scenario's run
 abbrev pub IsOfRun : Scenario → Bundle → Type 0
 IsOfRun s bundle = (walks : List (List ℕ)) × HasWalks s walks × (bundle ≡ bundle_of s walks)
-
--- the bundle is the one of the scenario's run, or memory or a thread was refused
-abbrev pub MakesBundle : Scenario → Result Bundle JobFault → Type 0
-MakesBundle s (Ok bundle) = IsOfRun s bundle
-MakesBundle s (Err faults.Memory) = Unit {0}
-MakesBundle s (Err faults.Thread) = Unit {0}
-MakesBundle s (Err _) = ⊥
 
 -- The first fault of an input that spells no scenario, or a missing seed; or memory was refused, or a thread
 -- was.

@@ -6,9 +6,8 @@ ghost use Rattle.gen_convict.specs.AcrossLaws.{AreConvictedAcross, AreEvidenceAc
 ghost use Rattle.gen_campaign.specs.Judged.{AreJudged, shown_bundles};
 ghost use Rattle.gen_jobs.specs.Accusing.{AccusesRuns, AccusesWithin, AreOfRuns, IsAccused, TellsAcross, TellsOf};
 ghost use Rattle.gen_jobs.specs.Answering.{Answers};
-ghost use Rattle.gen_jobs.specs.AskedRuns.{AreAsked, run_ids};
-ghost use Rattle.gen_jobs.specs.Asking.{AccusesAll, IsAccusedOf, IsShowFault, IsWantOrOthers};
-ghost use Rattle.gen_jobs.specs.Audit.{IsAuditFault, IsWant};
+ghost use Rattle.gen_jobs.specs.Asking.{IsAccusedOf, IsShowFault};
+ghost use Rattle.gen_jobs.specs.Audit.{IsAuditFault};
 ghost use Rattle.gen_jobs.specs.Ends.{IsTaken, KeepsUntilWhole};
 
 use crate::asked_runs::{AskedRuns, check_runs};
@@ -132,23 +131,6 @@ pub(crate) fn evidence_by(
     accusation_across(alloc, verdict.across.as_slice(), general)
 }
 
-/// Returns the bytes of the evidence that a bundle or a campaign holds against a general. If there is none, there are
-/// no bytes, and the output says no.
-#[tactic(auto, using(crate::proofs::Audited::is_want))]
-fn accuse_of<T: Threads + Wait + Sync>(
-    rt: &T,
-    alloc: Global,
-    workers: WorkerCount,
-    general: GeneralNo,
-    campaign: &CampaignBundle,
-) -> Result<Output, JobFault>
-    ensures answer { IfOk result (λ o. AccusesRuns campaign.now.bundles general o.text.items o.negative) }
-    ensures fault { IfErr result IsWant }
-{
-    let verdict = audit_campaign(rt, alloc, campaign, workers, &Open)?;
-    Ok(evidence_by(alloc, general, campaign, &verdict)?)
-}
-
 /// Returns the bytes of the evidence against a general that the bundle or campaign in the input holds. For a bundle it
 /// is of the first claim that its exhibits hold against the general. For a campaign it is that of the first run that
 /// holds any, else of the first claim across two runs. If there is no claim, or the number is no general of the
@@ -158,7 +140,7 @@ fn accuse_of<T: Threads + Wait + Sync>(
 ///
 /// `Campaign` with the first fault of an input that spells neither; `Memory` if memory is refused; `Thread` if a
 /// worker's thread can't be started.
-#[tactic(auto, using(crate::proofs::Audited::are_wants))]
+#[tactic(auto, using(crate::proofs::Audited::audit_fault))]
 pub fn accuse<T: Threads + Wait + Sync>(
     rt: &T,
     alloc: Global,
@@ -170,7 +152,8 @@ pub fn accuse<T: Threads + Wait + Sync>(
     ensures fault { IfErr result (IsAuditFault input.now) }
 {
     let campaign = read_campaign(alloc, input)?;
-    accuse_of(rt, alloc, workers, general, &campaign)
+    let verdict = audit_campaign(rt, alloc, &campaign, workers, &Open)?;
+    Ok(evidence_by(alloc, general, &campaign, &verdict)?)
 }
 
 /// Returns what `accuse` returns for the input, but takes the input, whose bytes are not copied.
@@ -178,7 +161,7 @@ pub fn accuse<T: Threads + Wait + Sync>(
 /// # Errors
 ///
 /// Those of `accuse`.
-#[tactic(auto, using(crate::proofs::Audited::are_wants))]
+#[tactic(auto, using(crate::proofs::Audited::audit_fault))]
 pub fn accuse_taken<T: Threads + Wait + Sync>(
     rt: &T,
     alloc: Global,
@@ -190,26 +173,8 @@ pub fn accuse_taken<T: Threads + Wait + Sync>(
     ensures fault { IfErr result (IsAuditFault input.items) }
 {
     let campaign = read_taken_campaign(alloc, input)?;
-    accuse_of(rt, alloc, workers, general, &campaign)
-}
-
-/// Returns the bytes of the evidence that a bundle or a campaign of the runs that are asked for holds against a
-/// general. If there is none, there are no bytes, and the output says no.
-#[tactic(auto, using(crate::proofs::AskedFaults::others_or_wants, crate::proofs::AskedFaults::want_or_others))]
-fn accuse_asked<T: Threads + Wait + Sync>(
-    rt: &T,
-    alloc: Global,
-    workers: WorkerCount,
-    asked: AskedRuns,
-    general: GeneralNo,
-    campaign: &CampaignBundle,
-) -> Result<Output, JobFault>
-    ensures answer { IfOk result (λ o. AreAsked asked (run_ids campaign.now.bundles)
-        × AccusesAll general campaign.now o.text.items o.negative) }
-    ensures fault { IfErr result (IsWantOrOthers asked (run_ids campaign.now.bundles)) }
-{
-    check_runs(alloc, asked, campaign.bundles())?;
-    accuse_of(rt, alloc, workers, general, campaign)
+    let verdict = audit_campaign(rt, alloc, &campaign, workers, &Open)?;
+    Ok(evidence_by(alloc, general, &campaign, &verdict)?)
 }
 
 /// Returns what `accuse` returns for the input, whose runs must be the ones that are asked for. The input is taken, and
@@ -219,7 +184,7 @@ fn accuse_asked<T: Threads + Wait + Sync>(
 ///
 /// `Campaign` with the first fault of an input that spells neither; else `OtherRun` if the runs are others. `Memory` if
 /// memory is refused; `Thread` if a worker's thread can't be started.
-#[tactic(auto, using(crate::proofs::AskedFaults::are_show_faults))]
+#[tactic(auto, using(crate::proofs::AskedFaults::show_faults))]
 pub fn accuse_as_asked<T: Threads + Wait + Sync>(
     rt: &T,
     alloc: Global,
@@ -232,7 +197,9 @@ pub fn accuse_as_asked<T: Threads + Wait + Sync>(
     ensures fault { IfErr result (IsShowFault asked input.items) }
 {
     let campaign = read_taken_campaign(alloc, input)?;
-    accuse_asked(rt, alloc, workers, asked, general, &campaign)
+    check_runs(alloc, asked, campaign.bundles())?;
+    let verdict = audit_campaign(rt, alloc, &campaign, workers, &Open)?;
+    Ok(evidence_by(alloc, general, &campaign, &verdict)?)
 }
 
 /// Reads the bytes of a bundle or of a campaign to their end, and writes the bytes of the evidence against the general

@@ -1,13 +1,11 @@
 //! Runs that are asked for by their ids.
-ghost use Rattle.std.specs.Prelude.{◌≡◌, ◌∷◌, [], IfErr, IfOk, map, option_and_then};
+ghost use Rattle.std.specs.Prelude.{◌≡◌, IfErr, IfOk, map, option_and_then};
 ghost use Rattle.std.specs.Bool.{Decides};
-ghost use Rattle.gen_net.specs.Header.{run_id_of};
 ghost use Rattle.gen_jobs.specs.AskedRuns.{AreAsked, few_runs, ids_named, parted, run_id_named, run_ids, runs_named};
 ghost use Rattle.gen_jobs.specs.Asking.{OthersAsked};
 
 use crate::ends::JobFault;
 use gen_audit::Bundle;
-use gen_net::Header;
 use hex::FromHex;
 use std::alloc::{AllocError, Global};
 
@@ -116,18 +114,6 @@ pub(crate) fn check_runs(
 {
     let ids = run_ids(alloc, bundles)?;
     if asked.are(ids.as_slice()) {
-        Ok(())
-    } else {
-        Err(JobFault::OtherRun)
-    }
-}
-
-/// Refuses the header of another run than the one that is asked for.
-pub(crate) fn check_run(asked: AskedRuns, header: &Header) -> Result<(), JobFault>
-    ensures asked { IfOk result (λ _. AreAsked asked (run_id_of header.now ∷ [])) }
-    ensures fault { IfErr result (OthersAsked asked (run_id_of header.now ∷ [])) }
-{
-    if asked.are(&[*header.run_id()]) {
         Ok(())
     } else {
         Err(JobFault::OtherRun)

@@ -4,11 +4,9 @@ ghost use Rattle.gen_convict.specs.AcrossLaws.{AreConvictedAcross};
 ghost use Rattle.gen_convict.specs.Evidence.{told_of};
 ghost use Rattle.gen_campaign.specs.Judged.{AreJudged, shown_bundles};
 ghost use Rattle.gen_jobs.specs.Answering.{Answers};
-ghost use Rattle.gen_jobs.specs.AskedRuns.{AreAsked, run_ids};
-ghost use Rattle.gen_jobs.specs.Asking.{AuditsAs, IsAuditedBy, IsHeldFault, IsWantOrLack};
-ghost use Rattle.gen_jobs.specs.Audit.{AuditsShown, IsAudited, IsAuditFault, IsWant, is_no, judgement_text, shown_text};
+ghost use Rattle.gen_jobs.specs.Asking.{IsAuditedBy, IsHeldFault};
+ghost use Rattle.gen_jobs.specs.Audit.{AuditsShown, IsAudited, IsAuditFault, is_no, judgement_text, shown_text};
 ghost use Rattle.gen_jobs.specs.Ends.{IsTaken, KeepsUntilWhole};
-ghost use Rattle.gen_jobs.specs.Holding.{HoldsAs};
 
 use crate::asked::Asked;
 use crate::asked_runs::check_runs;
@@ -32,33 +30,6 @@ use std::io::{Read, Write};
 use std::sync::Wait;
 use std::thread::Threads;
 
-/// Returns whether a verdict is a no.
-fn says_no(verdict: &Verdict) -> bool
-    ensures { result ≡ is_no verdict.now }
-{
-    match verdict {
-        Verdict::Agreed(_) | Verdict::Explained(_) => false,
-        Verdict::No(_) => true,
-    }
-}
-
-/// Returns a judgement under a header in this form. These generals are held for faulty.
-fn judgement_in(
-    alloc: Global,
-    form: Form,
-    header: &Header,
-    faulty: &GeneralSet,
-    judgement: &Judgement,
-) -> Result<Vec<u8>, AllocError>
-    ensures { IfOk result (λ v. v.items ≡ judgement_text form header.now faulty.now
-        judgement.now.verdict (map told_of judgement.now.convictions.items)) }
-{
-    match form {
-        Form::Text => print_verdict(alloc, header, judgement),
-        Form::Json => print_verdict_json(alloc, header, faulty, judgement),
-    }
-}
-
 /// Returns a judgement under a header in this form, and whether its verdict is a no. These generals are held for
 /// faulty.
 pub(crate) fn judgement_output(
@@ -72,11 +43,15 @@ pub(crate) fn judgement_output(
         judgement.now.verdict (map told_of judgement.now.convictions.items)) }
     ensures negative { IfOk result (λ o. o.negative ≡ is_no judgement.now.verdict) }
 {
-    let text = judgement_in(alloc, form, header, faulty, judgement)?;
-    Ok(Output {
-        text,
-        negative: says_no(&judgement.verdict),
-    })
+    let text = match form {
+        Form::Text => print_verdict(alloc, header, judgement)?,
+        Form::Json => print_verdict_json(alloc, header, faulty, judgement)?,
+    };
+    let negative = match judgement.verdict {
+        Verdict::Agreed(_) | Verdict::Explained(_) => false,
+        Verdict::No(_) => true,
+    };
+    Ok(Output { text, negative })
 }
 
 /// Returns a verdict on a bundle or a campaign in this form.
@@ -117,23 +92,6 @@ pub(crate) fn output_by(
     })
 }
 
-/// Returns the verdict on a bundle or a campaign in this form, and whether it is a no on some run.
-#[tactic(auto, using(crate::proofs::Audited::is_want))]
-fn audit_of<T: Threads + Wait + Sync>(
-    rt: &T,
-    alloc: Global,
-    workers: WorkerCount,
-    form: Form,
-    campaign: &CampaignBundle,
-) -> Result<Output, JobFault>
-    ensures answer { IfOk result (λ o.
-        AuditsShown form campaign.now.alone campaign.now.bundles o.text.items o.negative) }
-    ensures fault { IfErr result IsWant }
-{
-    let verdict = audit_campaign(rt, alloc, campaign, workers, &Open)?;
-    Ok(output_by(alloc, form, campaign, &verdict)?)
-}
-
 /// Returns the text of the judgement on the bundle or the campaign that the input spells, and whether its verdict is a
 /// no. For a bundle it is a no if and only if the bundle doesn't support a yes. For a campaign it is a no if and only
 /// if some run's bundle doesn't support a yes. The answer does not depend on the number of workers.
@@ -142,7 +100,7 @@ fn audit_of<T: Threads + Wait + Sync>(
 ///
 /// `Campaign` with the first fault of an input that spells neither; `Memory` if memory is refused; `Thread` if a
 /// worker's thread can't be started.
-#[tactic(auto, using(crate::proofs::Audited::are_wants))]
+#[tactic(auto, using(crate::proofs::Audited::audit_fault))]
 pub fn audit<T: Threads + Wait + Sync>(
     rt: &T,
     alloc: Global,
@@ -153,7 +111,8 @@ pub fn audit<T: Threads + Wait + Sync>(
     ensures fault { IfErr result (IsAuditFault input.now) }
 {
     let campaign = read_campaign(alloc, input)?;
-    audit_of(rt, alloc, workers, Form::Text, &campaign)
+    let verdict = audit_campaign(rt, alloc, &campaign, workers, &Open)?;
+    Ok(output_by(alloc, Form::Text, &campaign, &verdict)?)
 }
 
 /// Returns what `audit` returns for the input, but takes the input, whose bytes are not copied.
@@ -161,7 +120,7 @@ pub fn audit<T: Threads + Wait + Sync>(
 /// # Errors
 ///
 /// Those of `audit`.
-#[tactic(auto, using(crate::proofs::Audited::are_wants))]
+#[tactic(auto, using(crate::proofs::Audited::audit_fault))]
 pub fn audit_taken<T: Threads + Wait + Sync>(
     rt: &T,
     alloc: Global,
@@ -172,29 +131,8 @@ pub fn audit_taken<T: Threads + Wait + Sync>(
     ensures fault { IfErr result (IsAuditFault input.items) }
 {
     let campaign = read_taken_campaign(alloc, input)?;
-    audit_of(rt, alloc, workers, Form::Text, &campaign)
-}
-
-/// Returns the verdict on a bundle or a campaign in this form, and whether it counts as a no. It must be of the runs
-/// that are asked for. The generals that are asked for are held for faulty.
-#[tactic(auto, using(crate::proofs::AskedFaults::other_or_lack, crate::proofs::AskedFaults::hold_or_lack, crate::proofs::AskedFaults::want_or_lack))]
-fn audit_by<T: Threads + Wait + Sync>(
-    rt: &T,
-    alloc: Global,
-    workers: WorkerCount,
-    asked: &Asked,
-    form: Form,
-    strict: bool,
-    campaign: CampaignBundle,
-) -> Result<Output, JobFault>
-    ensures answer { IfOk result (λ o. AreAsked asked.now.runs (run_ids campaign.bundles)
-        × HoldsAs asked.now.faulty campaign (AuditsAs form strict) o.text.items o.negative) }
-    ensures fault { IfErr result (IsWantOrLack asked.now campaign) }
-{
-    check_runs(alloc, asked.runs, campaign.bundles())?;
-    let held = held_as(alloc, asked.faulty, campaign)?;
-    let output = audit_of(rt, alloc, workers, form, &held)?;
-    Ok(counted(output, strict, have_few(held.bundles())))
+    let verdict = audit_campaign(rt, alloc, &campaign, workers, &Open)?;
+    Ok(output_by(alloc, Form::Text, &campaign, &verdict)?)
 }
 
 /// Returns in this form the judgement on the bundle or the campaign that the input spells, whose runs must be the ones
@@ -208,7 +146,7 @@ fn audit_by<T: Threads + Wait + Sync>(
 /// `Campaign` with the first fault of an input that spells neither; else `OtherRun` if the runs are others. Else
 /// `Campaign` with `FaultyRange`, as the fault of the first bundle whose header lacks a general that is asked for.
 /// `Memory` if memory is refused; `Thread` if a worker's thread can't be started.
-#[tactic(auto, using(crate::proofs::AskedFaults::are_held_faults))]
+#[tactic(auto, using(crate::proofs::AskedFaults::held_faults))]
 pub fn audit_as_asked<T: Threads + Wait + Sync>(
     rt: &T,
     alloc: Global,
@@ -223,7 +161,11 @@ pub fn audit_as_asked<T: Threads + Wait + Sync>(
     ensures fault { IfErr result (IsHeldFault asked.now input.items) }
 {
     let campaign = read_taken_campaign(alloc, input)?;
-    audit_by(rt, alloc, workers, asked, form, strict, campaign)
+    check_runs(alloc, asked.runs, campaign.bundles())?;
+    let held = held_as(alloc, asked.faulty, campaign)?;
+    let verdict = audit_campaign(rt, alloc, &held, workers, &Open)?;
+    let output = output_by(alloc, form, &held, &verdict)?;
+    Ok(counted(output, strict, have_few(held.bundles())))
 }
 
 /// Reads the bytes of a bundle or of a campaign to their end, and writes the verdict on it in this form; nothing if they

@@ -1,10 +1,9 @@
 //! The text of a bundle, kept in pieces so that its logs need no copy.
-ghost use Rattle.std.specs.Prelude.{◌≡◌, ◌<◌, ◌^◌, false, All, length, IfOk, OnOk};
+ghost use Rattle.std.specs.Prelude.{◌≡◌, ◌<◌, ◌^◌, All, length, IfOk, OnOk};
 ghost use Rattle.std.specs.List.{flat_map};
 ghost use Rattle.std.specs.Io.KnownBytes.{Appends};
 ghost use Rattle.gen_audit.specs.BundleSpelling.{bundle_spelling, exhibit_spelling};
 ghost use Rattle.gen_jobs.specs.Answering.{DeliversText};
-ghost use Rattle.gen_jobs.specs.Ends.{IsWritten};
 
 use crate::ends::{JobEnd, JobFault};
 use gen_audit::{Bundle, bundle_front, exhibit_front};
@@ -71,22 +70,18 @@ impl BundleText {
     }
 }
 
-/// Writes the whole text of a bundle, and returns how the job ends: Done, or with the fault Write.
-fn write_text<W: Write>(writer: &mut W, text: &BundleText) -> JobEnd
-    ensures { IsWritten text.now false (W.contents writer.old) (W.contents writer.new) result }
-{
-    if text.write_to(writer).is_err() || writer.flush().is_err() {
-        return JobEnd::Failed(JobFault::Write);
-    }
-    JobEnd::Done
-}
-
 /// Writes the bundle that answers the input, or nothing if there is a fault in its place, and returns how the job ends.
 pub fn deliver_bundle<W: Write>(writer: &mut W, answer: Result<BundleText, JobFault>) -> JobEnd
     ensures { DeliversText answer (W.contents writer.old) (W.contents writer.new) result }
 {
     match answer {
-        Ok(text) => write_text(writer, &text),
+        Ok(text) => {
+            if text.write_to(writer).is_err() || writer.flush().is_err() {
+                JobEnd::Failed(JobFault::Write)
+            } else {
+                JobEnd::Done
+            }
+        }
         Err(fault) => JobEnd::Failed(fault),
     }
 }

@@ -1,11 +1,10 @@
 //! The bytes of a campaign, kept in pieces so that its logs need no copy.
-ghost use Rattle.std.specs.Prelude.{◌≡◌, ◌≤◌, ◌++◌, ◌∷◌, [], false, length, OnOk};
+ghost use Rattle.std.specs.Prelude.{◌≡◌, ◌≤◌, ◌++◌, ◌∷◌, [], length, OnOk};
 ghost use Rattle.std.specs.Int.{w32, to_be_bytes};
 ghost use Rattle.std.specs.List.{flat_map};
 ghost use Rattle.std.specs.Io.KnownBytes.{Appends};
 ghost use Rattle.gen_campaign.specs.CampaignSpelling.{campaign_mark};
 ghost use Rattle.gen_jobs.specs.Answering.{DeliversText};
-ghost use Rattle.gen_jobs.specs.Ends.{IsWritten};
 
 use crate::bundle_text::BundleText;
 use crate::ends::{JobEnd, JobFault};
@@ -31,17 +30,6 @@ impl Model for CampaignText {
     ghost view = { λ t. t.front ++ flat_map (λ text. text) t.texts.items };
 }
 
-/// Writes the texts of bundles, one after another.
-fn write_texts<W: Write>(writer: &mut W, texts: &[BundleText]) -> Result<(), io::Error>
-    ensures { OnOk result (Appends (W.contents writer.old) (W.contents writer.new)
-        (flat_map (λ text. text) texts.now)) }
-{
-    'texts: for text in texts {
-        text.write_to(writer)?;
-    }
-    Ok(())
-}
-
 impl CampaignText {
     /// Returns the bytes of the campaign whose runs' bundles have these texts, at most 255. The bytes are the mark, the
     /// number of runs, and the texts.
@@ -65,18 +53,12 @@ impl CampaignText {
         ensures { OnOk result (Appends (W.contents writer.old) (W.contents writer.new) self.now) }
     {
         writer.write_all(&self.front)?;
-        write_texts(writer, &self.texts)
+        let texts = self.texts.as_slice();
+        'texts: for text in texts {
+            text.write_to(writer)?;
+        }
+        Ok(())
     }
-}
-
-/// Writes all bytes of a campaign, and returns how the job ends: Done, or with the fault Write.
-fn write_campaign_text<W: Write>(writer: &mut W, text: &CampaignText) -> JobEnd
-    ensures { IsWritten text.now false (W.contents writer.old) (W.contents writer.new) result }
-{
-    if text.write_to(writer).is_err() || writer.flush().is_err() {
-        return JobEnd::Failed(JobFault::Write);
-    }
-    JobEnd::Done
 }
 
 /// Writes the campaign that answers the input, or nothing if there is a fault in its place, and returns how the job
@@ -85,7 +67,13 @@ pub fn deliver_campaign<W: Write>(writer: &mut W, answer: Result<CampaignText, J
     ensures { DeliversText answer (W.contents writer.old) (W.contents writer.new) result }
 {
     match answer {
-        Ok(text) => write_campaign_text(writer, &text),
+        Ok(text) => {
+            if text.write_to(writer).is_err() || writer.flush().is_err() {
+                JobEnd::Failed(JobFault::Write)
+            } else {
+                JobEnd::Done
+            }
+        }
         Err(fault) => JobEnd::Failed(fault),
     }
 }

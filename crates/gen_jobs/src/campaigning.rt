@@ -1,11 +1,9 @@
 //! The job `campaign`: runs the scenarios of a campaign, and writes the bundles of their runs.
-ghost use Rattle.std.specs.Prelude.{◌≡◌, ◌<◌, Ok, IfErr, IfOk, IfSome, false, map};
+ghost use Rattle.std.specs.Prelude.{◌≡◌, ◌<◌, IfErr, IfOk, IfSome, false, map};
 ghost use Rattle.gen_scenario.specs.Rows.{logs_of_all};
 ghost use Rattle.gen_audit.specs.BundleSpelling.{bundle_spelling};
-ghost use Rattle.gen_campaign.specs.Series.{campaign_of};
 ghost use Rattle.gen_jobs.specs.Answering.{Answers};
-ghost use Rattle.gen_jobs.specs.Audit.{IsWant};
-ghost use Rattle.gen_jobs.specs.Campaigning.{AreBundlesOf, IsCampaignFault, IsCampaignRun, MakesTexts};
+ghost use Rattle.gen_jobs.specs.Campaigning.{AreBundlesOf, IsCampaignFault, IsCampaignRun};
 ghost use Rattle.gen_jobs.specs.Ends.{IsTaken, KeepsUntilWhole};
 
 use crate::bundle_text::BundleText;
@@ -17,7 +15,7 @@ use crate::transfer::read_all;
 use gen_audit::Bundle;
 use gen_campaign::{make_campaign, read_campaign_text, run_campaign, texts_make_campaigns};
 use gen_log::SealedLog;
-use gen_scenario::{Scenario, SignedPlan};
+use gen_scenario::Scenario;
 use std::alloc::{AllocError, Global};
 use std::io::{Read, Write};
 use std::sync::Wait;
@@ -55,24 +53,6 @@ fn texts_of(alloc: Global, bundles: Vec<Bundle>) -> Result<Vec<BundleText>, Allo
     Ok(texts)
 }
 
-/// Runs the campaign of these plans, and returns the text of the bundles of its runs.
-fn run_plans<T: Threads + Wait + Sync>(
-    rt: &T,
-    alloc: Global,
-    capacity: u8,
-    plans: Vec<SignedPlan>,
-) -> Result<CampaignText, JobFault>
-    requires capacity { 0 < capacity }
-    requires lawful { campaign_of plans.items ≡ Ok plans.items }
-    ensures answer { IfOk result (MakesTexts plans.items) }
-    ensures fault { IfErr result IsWant }
-{
-    let campaign = make_campaign(rt, alloc, plans)?;
-    let (logs, _leaves) = run_campaign(rt, alloc, &campaign, usize::from(capacity), &Open)?;
-    let bundles = bundles_of_runs(alloc, campaign.scenarios(), logs)?;
-    Ok(CampaignText::new(texts_of(alloc, bundles)?))
-}
-
 /// Returns the bytes of the campaign that the input spells, kept in pieces so that its logs need no copy. The answer
 /// never says no. The trees of keys are made by threads, once for all runs. Each general signs with one ring in all
 /// runs in which it has no script. The runs follow one another, each with the bundle that the job `run` makes of it.
@@ -93,7 +73,10 @@ pub fn campaign<T: Threads + Wait + Sync>(
 {
     texts_make_campaigns();
     let plans = read_campaign_text(alloc, input)?;
-    run_plans(rt, alloc, capacity, plans)
+    let campaign = make_campaign(rt, alloc, plans)?;
+    let (logs, _leaves) = run_campaign(rt, alloc, &campaign, usize::from(capacity), &Open)?;
+    let bundles = bundles_of_runs(alloc, campaign.scenarios(), logs)?;
+    Ok(CampaignText::new(texts_of(alloc, bundles)?))
 }
 
 /// Reads the text of a campaign to its end, runs its scenarios one after another, and writes the campaign: the bundles

@@ -4,11 +4,11 @@ ghost use Rattle.gen_convict.specs.Evidence.{told_of};
 ghost use Rattle.gen_convict.specs.EvidenceReading.{IsWhole};
 ghost use Rattle.gen_jobs.specs.Answering.{Answers};
 ghost use Rattle.gen_jobs.specs.Asking.{IsCheckedIn, IsCheckedOf, IsEvidenceFaultOf};
-ghost use Rattle.gen_jobs.specs.Checking.{IsChecked, IsEvidenceFault, Tells, evidence_text, holds_text};
+ghost use Rattle.gen_jobs.specs.Checking.{IsChecked, IsEvidenceFault, Tells, evidence_text};
 ghost use Rattle.gen_jobs.specs.Ends.{IsTaken, KeepsUntilWhole};
 ghost use Rattle.gen_jobs.specs.declared.forms.Form.TheVariants.{Text};
 
-use crate::asked_runs::{AskedRuns, check_run};
+use crate::asked_runs::AskedRuns;
 use crate::ends::{JobEnd, JobFault, Output};
 use crate::forms::Form;
 use crate::transfer::{deliver, read_all};
@@ -24,17 +24,6 @@ const HOLDS: &[u8] = b"evidence holds\n";
 /// The output for evidence that doesn't hold.
 const FAILS: &[u8] = b"evidence fails\n";
 
-/// Returns the text that says whether evidence holds.
-fn holds_text(alloc: Global, holds: bool) -> Result<Vec<u8>, AllocError>
-    ensures { IfOk result (λ v. v.items ≡ holds_text holds) }
-{
-    if holds {
-        HOLDS.to_vec(alloc)
-    } else {
-        FAILS.to_vec(alloc)
-    }
-}
-
 /// Returns in this form what is told of evidence under its header, and whether it holds.
 fn text_of(
     alloc: Global,
@@ -48,7 +37,13 @@ fn text_of(
         (record { header = header.now; evidence = told_of evidence.now }) holds) }
 {
     match form {
-        Form::Text => holds_text(alloc, holds),
+        Form::Text => {
+            if holds {
+                HOLDS.to_vec(alloc)
+            } else {
+                FAILS.to_vec(alloc)
+            }
+        }
         Form::Json => print_evidence_json(alloc, header, evidence, holds),
     }
 }
@@ -109,7 +104,9 @@ pub fn evidence_in(
     ensures fault { IfErr result (IsEvidenceFaultOf asked input.now) }
 {
     let (header, evidence) = read_evidence(alloc, input)?;
-    check_run(asked, &header)?;
+    if !asked.are(&[*header.run_id()]) {
+        return Err(JobFault::OtherRun);
+    }
     Ok(output_for(alloc, form, &header, &evidence)?)
 }
 

@@ -1,81 +1,49 @@
 //! The job `decide`: writes what each general decides.
 ghost use Rattle.std.specs.Prelude.{◌≡◌, IfOk, IfErr, IfSome};
-ghost use Rattle.gen_scenario.specs.Deciding as decisions;
-ghost use Rattle.gen_report.specs.Decisions.{decisions_text};
-ghost use Rattle.gen_json.specs.Line.{json_line};
 ghost use Rattle.gen_jobs.specs.Answering.{Answers};
-ghost use Rattle.gen_jobs.specs.Decide.{IsDecided, IsDecidedIn, IsDecideFault, scenario_told, told_data, told_text};
+ghost use Rattle.gen_jobs.specs.Decide.{IsDecided, IsDecidedIn, IsDecideFault, told_text};
 ghost use Rattle.gen_jobs.specs.Ends.{IsTaken, KeepsUntilWhole};
-ghost use Rattle.gen_report.specs.declared.scenario_text.ScenarioText.TheVariants as texts;
 
 use crate::ends::{JobEnd, JobFault, Output};
 use crate::forms::Form;
 use crate::transfer::{deliver, read_all};
 use gen_json::print_decisions_json;
 use gen_report::{ScenarioText, print_decisions, read_scenario};
-use gen_scenario::{PlainScenario, Scenario};
+use gen_scenario::Scenario;
 use gen_types::GeneralSet;
 use gen_world::{decide_world, run_plain};
 use std::alloc::{AllocError, Global};
 use std::io::{Read, Write};
 
-/// Returns the text of the decisions in the run of a scenario.
-fn decisions_of(alloc: Global, told: ScenarioText) -> Result<Vec<u8>, AllocError>
-    ensures { IfOk result (λ v. v.items
-        ≡ decisions_text (decisions.decisions_of (scenario_told told))) }
-{
-    match told {
-        ScenarioText::Plain(plain) => {
-            let run = run_plain(alloc, &plain)?;
-            print_decisions(alloc, run.decisions())
-        }
-        ScenarioText::Signed(plan) => {
-            let decisions = decide_world(alloc, &Scenario::of_plan(alloc, plan)?)?;
-            print_decisions(alloc, decisions.as_slice())
-        }
-    }
-}
-
-/// Returns the object of the decisions in the run of a scenario in which nobody has a script.
-fn plain_object(alloc: Global, plain: &PlainScenario) -> Result<Vec<u8>, AllocError>
-    ensures { IfOk result (λ v. v.items ≡ json_line (told_data (texts.Plain plain.now))) }
-{
-    let run = run_plain(alloc, plain)?;
-    let nobody = GeneralSet::new();
-    print_decisions_json(alloc, plain.net(), None, &nobody, run.decisions())
-}
-
-/// Returns the object of the decisions in the run of a scenario with a seed.
-fn signed_object(alloc: Global, scenario: &Scenario) -> Result<Vec<u8>, AllocError>
-    ensures { IfOk result (λ v. v.items ≡ json_line (told_data (texts.Signed scenario.now))) }
-{
-    let decisions = decide_world(alloc, scenario)?;
-    let header = scenario.header();
-    let scripted = scenario.scripted();
-    let run = Some(*header.run_id());
-    print_decisions_json(alloc, header.net(), run, &scripted, decisions.as_slice())
-}
-
-/// Returns the object of the decisions in the run of a scenario.
-fn object_of(alloc: Global, told: ScenarioText) -> Result<Vec<u8>, AllocError>
-    ensures { IfOk result (λ v. v.items ≡ json_line (told_data told)) }
-{
-    match told {
-        ScenarioText::Plain(plain) => plain_object(alloc, &plain),
-        ScenarioText::Signed(plan) => {
-            let scenario = Scenario::of_plan(alloc, plan)?;
-            signed_object(alloc, &scenario)
-        }
-    }
-}
-
 /// Returns the decisions in the run of a scenario, in this form.
 fn told_in(alloc: Global, form: Form, told: ScenarioText) -> Result<Vec<u8>, AllocError>
     ensures { IfOk result (λ v. v.items ≡ told_text form told) }
 {
-    match form {
-        Form::Text => decisions_of(alloc, told),
-        Form::Json => object_of(alloc, told),
+    match told {
+        ScenarioText::Plain(plain) => {
+            let run = run_plain(alloc, &plain)?;
+            let decisions = run.decisions();
+            match form {
+                Form::Text => print_decisions(alloc, decisions),
+                Form::Json => {
+                    let nobody = GeneralSet::new();
+                    print_decisions_json(alloc, plain.net(), None, &nobody, decisions)
+                }
+            }
+        }
+        ScenarioText::Signed(plan) => {
+            let scenario = Scenario::of_plan(alloc, plan)?;
+            let decisions = decide_world(alloc, &scenario)?;
+            match form {
+                Form::Text => print_decisions(alloc, decisions.as_slice()),
+                Form::Json => {
+                    let header = scenario.header();
+                    let scripted = scenario.scripted();
+                    let run = Some(*header.run_id());
+                    print_decisions_json(alloc, header.net(), run, &scripted, decisions.as_slice())
+                }
+            }
+        }
     }
 }
 

@@ -5,12 +5,10 @@ ghost use Rattle.gen_convict.specs.Evidence.{told_of};
 ghost use Rattle.gen_campaign.specs.Judged.{AreJudged, shown_bundles};
 ghost use Rattle.gen_draw.specs.Several.{several_picture};
 ghost use Rattle.gen_jobs.specs.Answering.{Answers};
-ghost use Rattle.gen_jobs.specs.AskedRuns.{AreAsked, run_ids};
-ghost use Rattle.gen_jobs.specs.Asking.{DrawsAll, IsDrawnBy, IsHeldFault, IsWantOrLack};
-ghost use Rattle.gen_jobs.specs.Audit.{IsAuditFault, IsWant};
+ghost use Rattle.gen_jobs.specs.Asking.{IsDrawnBy, IsHeldFault};
+ghost use Rattle.gen_jobs.specs.Audit.{IsAuditFault};
 ghost use Rattle.gen_jobs.specs.Drawing.{DrawsForm, IsDrawn, first_picture};
 ghost use Rattle.gen_jobs.specs.Ends.{IsTaken, KeepsUntilWhole};
-ghost use Rattle.gen_jobs.specs.Holding.{HoldsAs};
 
 use crate::asked::Asked;
 use crate::asked_runs::check_runs;
@@ -18,7 +16,7 @@ use crate::ends::{JobEnd, JobFault, Output};
 use crate::gates::Open;
 use crate::holding::held_as;
 use crate::transfer::{deliver, read_all};
-use gen_audit::{Bundle, Judgement, WorkerCount};
+use gen_audit::WorkerCount;
 use gen_campaign::{
     CampaignBundle, CampaignVerdict, audit_campaign, read_campaign, read_taken_campaign,
 };
@@ -27,23 +25,6 @@ use std::alloc::{AllocError, Global};
 use std::io::{Read, Write};
 use std::sync::Wait;
 use std::thread::Threads;
-
-/// Returns the picture of the first bundle and of the first judgement; no bytes if one of them is missing.
-fn first_picture(
-    alloc: Global,
-    bundles: &[Bundle],
-    judgements: &[Judgement],
-) -> Result<Vec<u8>, AllocError>
-    ensures { IfOk result (λ v. v.items ≡ first_picture bundles.now judgements.now) }
-{
-    let Some((bundle, _)) = bundles.split_first() else {
-        return Ok(Vec::new(alloc));
-    };
-    let Some((judgement, _)) = judgements.split_first() else {
-        return Ok(Vec::new(alloc));
-    };
-    draw_bundle(alloc, bundle, judgement)
-}
 
 /// Returns the picture of a bundle or a campaign and of the verdict on it.
 #[tactic(auto, using(crate::proofs::Drawn::few))]
@@ -59,11 +40,16 @@ fn picture_of(
 {
     let bundles = campaign.bundles();
     let judgements = verdict.judgements.as_slice();
-    if campaign.is_alone() {
-        first_picture(alloc, bundles, judgements)
-    } else {
-        draw_campaign(alloc, bundles, judgements, verdict.across.as_slice())
+    if !campaign.is_alone() {
+        return draw_campaign(alloc, bundles, judgements, verdict.across.as_slice());
     }
+    let Some((bundle, _)) = bundles.split_first() else {
+        return Ok(Vec::new(alloc));
+    };
+    let Some((judgement, _)) = judgements.split_first() else {
+        return Ok(Vec::new(alloc));
+    };
+    draw_bundle(alloc, bundle, judgement)
 }
 
 /// Returns the picture of a bundle or a campaign and of the verdict on it, as an output that doesn't say no.
@@ -87,22 +73,6 @@ pub(crate) fn picture_by(
     })
 }
 
-/// Returns the picture of a bundle or a campaign and of the judgement on it.
-#[tactic(auto, using(crate::proofs::Audited::is_want))]
-fn draw_of<T: Threads + Wait + Sync>(
-    rt: &T,
-    alloc: Global,
-    workers: WorkerCount,
-    campaign: &CampaignBundle,
-) -> Result<Output, JobFault>
-    ensures answer { IfOk result (λ o. DrawsForm campaign.now.alone campaign.now.bundles o.text.items) }
-    ensures positive { IfOk result (λ o. o.negative ≡ false) }
-    ensures fault { IfErr result IsWant }
-{
-    let verdict = audit_campaign(rt, alloc, campaign, workers, &Open)?;
-    Ok(picture_by(alloc, campaign, &verdict)?)
-}
-
 /// Returns the picture of the bundle that the input spells and of the judgement on it, as an SVG text. For a campaign
 /// it is that of its runs, one below the other. The output never says no, whatever the verdict is, and it does not
 /// depend on the number of workers.
@@ -111,7 +81,7 @@ fn draw_of<T: Threads + Wait + Sync>(
 ///
 /// `Campaign` with the first fault of an input that spells neither; `Memory` if memory is refused; `Thread` if a
 /// worker's thread can't be started.
-#[tactic(auto, using(crate::proofs::Audited::are_wants))]
+#[tactic(auto, using(crate::proofs::Audited::audit_fault))]
 pub fn draw<T: Threads + Wait + Sync>(
     rt: &T,
     alloc: Global,
@@ -122,7 +92,8 @@ pub fn draw<T: Threads + Wait + Sync>(
     ensures fault { IfErr result (IsAuditFault input.now) }
 {
     let campaign = read_campaign(alloc, input)?;
-    draw_of(rt, alloc, workers, &campaign)
+    let verdict = audit_campaign(rt, alloc, &campaign, workers, &Open)?;
+    Ok(picture_by(alloc, &campaign, &verdict)?)
 }
 
 /// Returns what `draw` returns for the input, but takes the input, whose bytes are not copied.
@@ -130,7 +101,7 @@ pub fn draw<T: Threads + Wait + Sync>(
 /// # Errors
 ///
 /// Those of `draw`.
-#[tactic(auto, using(crate::proofs::Audited::are_wants))]
+#[tactic(auto, using(crate::proofs::Audited::audit_fault))]
 pub fn draw_taken<T: Threads + Wait + Sync>(
     rt: &T,
     alloc: Global,
@@ -141,26 +112,8 @@ pub fn draw_taken<T: Threads + Wait + Sync>(
     ensures fault { IfErr result (IsAuditFault input.items) }
 {
     let campaign = read_taken_campaign(alloc, input)?;
-    draw_of(rt, alloc, workers, &campaign)
-}
-
-/// Returns the picture of a bundle or a campaign and of the judgement on it. It must be of the runs that are asked for.
-/// The generals that are asked for are held for faulty.
-#[tactic(auto, using(crate::proofs::AskedFaults::other_or_lack, crate::proofs::AskedFaults::hold_or_lack, crate::proofs::AskedFaults::want_or_lack))]
-fn draw_by<T: Threads + Wait + Sync>(
-    rt: &T,
-    alloc: Global,
-    workers: WorkerCount,
-    asked: &Asked,
-    campaign: CampaignBundle,
-) -> Result<Output, JobFault>
-    ensures answer { IfOk result (λ o. AreAsked asked.now.runs (run_ids campaign.bundles)
-        × HoldsAs asked.now.faulty campaign DrawsAll o.text.items o.negative) }
-    ensures fault { IfErr result (IsWantOrLack asked.now campaign) }
-{
-    check_runs(alloc, asked.runs, campaign.bundles())?;
-    let held = held_as(alloc, asked.faulty, campaign)?;
-    draw_of(rt, alloc, workers, &held)
+    let verdict = audit_campaign(rt, alloc, &campaign, workers, &Open)?;
+    Ok(picture_by(alloc, &campaign, &verdict)?)
 }
 
 /// Returns what `draw` returns for the input, whose runs must be the ones that are asked for. If generals are asked for,
@@ -170,7 +123,7 @@ fn draw_by<T: Threads + Wait + Sync>(
 /// # Errors
 ///
 /// Those of `audit_as_asked`.
-#[tactic(auto, using(crate::proofs::AskedFaults::are_held_faults))]
+#[tactic(auto, using(crate::proofs::AskedFaults::held_faults))]
 pub fn draw_as_asked<T: Threads + Wait + Sync>(
     rt: &T,
     alloc: Global,
@@ -182,7 +135,10 @@ pub fn draw_as_asked<T: Threads + Wait + Sync>(
     ensures fault { IfErr result (IsHeldFault asked.now input.items) }
 {
     let campaign = read_taken_campaign(alloc, input)?;
-    draw_by(rt, alloc, workers, asked, campaign)
+    check_runs(alloc, asked.runs, campaign.bundles())?;
+    let held = held_as(alloc, asked.faulty, campaign)?;
+    let verdict = audit_campaign(rt, alloc, &held, workers, &Open)?;
+    Ok(picture_by(alloc, &held, &verdict)?)
 }
 
 /// Reads the bytes of a bundle or of a campaign to their end, and writes the picture of it and of the judgement on it;

@@ -1,28 +1,12 @@
 //! The line of the fault of a job.
 ghost use Rattle.std.specs.Prelude.{◌≡◌, ◌++◌, IfOk, OnOk, string_bytes};
-ghost use Rattle.gen_jobs.specs.FaultLines.{job_fault_line, line_fault_name, script_fault_name, text_fault_line};
+ghost use Rattle.gen_jobs.specs.FaultLines.{job_fault_line, line_fault_name};
 
 use crate::ends::JobFault;
-use gen_net::HeaderFault;
-use gen_report::{LineFault, ScenarioFault};
+use gen_report::LineFault;
 use gen_script::ScriptFault;
 use gen_show::{push_campaign_fault, push_evidence_fault, push_header_fault, push_log_fault};
 use std::alloc::{AllocError, Global};
-
-/// Appends the name of the fault of a script's line.
-fn push_script_fault(out: &mut String, fault: ScriptFault) -> Result<(), AllocError>
-    ensures { OnOk result
-        (string_bytes out.new ≡ string_bytes out.old ++ script_fault_name fault) }
-{
-    match fault {
-        ScriptFault::Shape => out.push_str("S1"),
-        ScriptFault::Number => out.push_str("S2"),
-        ScriptFault::BadRound => out.push_str("S3"),
-        ScriptFault::NoNeighbour => out.push_str("S4"),
-        ScriptFault::BadOrder => out.push_str("S5"),
-        ScriptFault::BadPath => out.push_str("S6"),
-    }
-}
 
 /// Appends the name of the fault of a line of a text, and, if that is a header's fault or a script's, the name of this
 /// one behind it.
@@ -42,10 +26,12 @@ fn push_line_fault(out: &mut String, fault: LineFault) -> Result<(), AllocError>
         LineFault::BadSeed => out.push_str("P6"),
         LineFault::Unseeded => out.push_str("P7"),
         LineFault::BadTraitor => out.push_str("P8"),
-        LineFault::Script(inner) => {
-            out.push_str("P9 ")?;
-            push_script_fault(out, inner)
-        }
+        LineFault::Script(ScriptFault::Shape) => out.push_str("P9 S1"),
+        LineFault::Script(ScriptFault::Number) => out.push_str("P9 S2"),
+        LineFault::Script(ScriptFault::BadRound) => out.push_str("P9 S3"),
+        LineFault::Script(ScriptFault::NoNeighbour) => out.push_str("P9 S4"),
+        LineFault::Script(ScriptFault::BadOrder) => out.push_str("P9 S5"),
+        LineFault::Script(ScriptFault::BadPath) => out.push_str("P9 S6"),
         LineFault::Extra => out.push_str("P10"),
         LineFault::TooLong => out.push_str("P11"),
         LineFault::Foreign => out.push_str("P12"),
@@ -55,25 +41,19 @@ fn push_line_fault(out: &mut String, fault: LineFault) -> Result<(), AllocError>
     }
 }
 
-/// Appends the line of the fault of a text.
-#[tactic(auto, unfolding(crate::specs::FaultLines::text_fault_line))]
-fn push_text_fault(out: &mut String, fault: ScenarioFault) -> Result<(), AllocError>
-    ensures { OnOk result
-        (string_bytes out.new ≡ string_bytes out.old ++ text_fault_line fault) }
-{
-    out.push_str("fault ")?;
-    push_line_fault(out, fault.kind)?;
-    let line = fault.line;
-    write!(out, " line {line}")
-}
-
 /// Appends the line of a fault.
+#[tactic(auto, unfolding(crate::specs::FaultLines::text_fault_line))]
 fn push_job_fault(out: &mut String, fault: JobFault) -> Result<(), AllocError>
     ensures { OnOk result
         (string_bytes out.new ≡ string_bytes out.old ++ job_fault_line fault) }
 {
     match fault {
-        JobFault::Scenario(inner) => push_text_fault(out, inner),
+        JobFault::Scenario(inner) => {
+            out.push_str("fault ")?;
+            push_line_fault(out, inner.kind)?;
+            let line = inner.line;
+            write!(out, " line {line}")
+        }
         JobFault::Campaign(inner) => {
             out.push_str("fault ")?;
             push_campaign_fault(out, inner)

@@ -1,7 +1,7 @@
 //! The generals that are held for faulty, as they are asked for.
 ghost use Rattle.std.specs.Prelude.{◌≡◌, IfOk, map};
 ghost use Rattle.std.specs.List.{list_any};
-ghost use Rattle.gen_jobs.specs.Faulty.{are_named_once, generals_named, names_general, set_named};
+ghost use Rattle.gen_jobs.specs.Faulty.{generals_named, names_general, set_named};
 
 use crate::asked_runs::parted;
 use gen_types::{GeneralNo, GeneralSet, decimal_number};
@@ -48,18 +48,6 @@ fn generals_named(texts: &[&[u8]]) -> GeneralSet
     set
 }
 
-/// Returns the set that texts spell, if each is the number of a general and no two are the same.
-fn set_of(texts: &[&[u8]]) -> Option<GeneralSet>
-    ensures { result ≡ are_named_once (map (λ x. x.now) texts.now) }
-{
-    let set = generals_named(texts);
-    if set.len() == texts.len() {
-        Some(set)
-    } else {
-        None
-    }
-}
-
 /// Returns the set of generals that a text spells: `none` for nobody, or numbers from 0 to 15 in decimal digits, without
 /// leading zeros or signs, with commas between them, each once and in any order. None for any other text. It fails only
 /// if memory was refused.
@@ -71,5 +59,10 @@ pub fn read_faulty(alloc: Global, text: &[u8]) -> Result<Option<GeneralSet>, All
         return Ok(Some(GeneralSet::new()));
     }
     let texts = parted(alloc, text)?;
-    Ok(set_of(texts.as_slice()))
+    let set = generals_named(texts.as_slice());
+    if set.len() == texts.len() {
+        Ok(Some(set))
+    } else {
+        Ok(None)
+    }
 }

@@ -1,24 +1,22 @@
 //! The job `judge`: runs a scenario, and audits its logs meanwhile.
 ghost use Rattle.std.specs.Prelude.{◌<◌, IfOk, IfErr, IfSome};
 ghost use Rattle.gen_jobs.specs.Answering.{Answers};
-ghost use Rattle.gen_jobs.specs.Asking.{IsJudgedAs, JudgesRunAs};
+ghost use Rattle.gen_jobs.specs.Asking.{IsJudgedAs};
 ghost use Rattle.gen_jobs.specs.Audit.{IsWant};
 ghost use Rattle.gen_jobs.specs.Ends.{IsTaken, KeepsUntilWhole};
 ghost use Rattle.gen_jobs.specs.Judging.{IsJudged, JudgesRun};
 ghost use Rattle.gen_jobs.specs.Run.{IsRunFault};
-ghost use Rattle.gen_jobs.specs.declared.forms.Form.TheVariants.{Text};
 
 use crate::auditing::judgement_output;
 use crate::counting::{counted, has_few};
 use crate::ends::{JobEnd, JobFault, Output};
 use crate::forms::Form;
 use crate::gates::Open;
-use crate::running::{make_scenario, missing_seed};
+use crate::running::seeded_scenario;
 use crate::transfer::{deliver, read_all};
 use gen_audit::WorkerCount;
 use gen_judge::run_and_audit;
 use gen_prepare::walks_between;
-use gen_report::{ScenarioText, read_scenario};
 use gen_scenario::Scenario;
 use std::alloc::Global;
 use std::io::{Read, Write};
@@ -69,32 +67,7 @@ pub fn judge<T: Threads + Wait + Sync>(
     ensures answer { IfOk result (λ o. IsJudged input.now o.text.items o.negative) }
     ensures fault { IfErr result (IsRunFault input.now) }
 {
-    match read_scenario(alloc, input)? {
-        ScenarioText::Plain(plain) => Err(missing_seed(&plain)),
-        ScenarioText::Signed(plan) => {
-            let scenario = make_scenario(rt, alloc, plan)?;
-            judge_scenario(rt, alloc, capacity, workers, Form::Text, &scenario)
-        }
-    }
-}
-
-/// Returns the judgement on the bundle of a scenario's run in this form, and whether it counts as a no.
-fn judge_scenario_as<T: Threads + Wait + Sync>(
-    rt: &T,
-    alloc: Global,
-    capacity: u8,
-    workers: WorkerCount,
-    form: Form,
-    strict: bool,
-    scenario: &Scenario,
-) -> Result<Output, JobFault>
-    requires { 0 < capacity }
-    ensures answer { IfOk result (λ o. JudgesRunAs form strict scenario.now o.text.items o.negative) }
-    ensures fault { IfErr result IsWant }
-{
-    let few = has_few(scenario.header().net(), &scenario.scripted());
-    let output = judge_scenario(rt, alloc, capacity, workers, form, scenario)?;
-    Ok(counted(output, strict, few))
+    judge_as_asked(rt, alloc, capacity, workers, Form::Text, false, input)
 }
 
 /// Returns in this form the judgement that `judge` returns for the input, and whether it counts as a no. What says no
@@ -116,13 +89,10 @@ pub fn judge_as_asked<T: Threads + Wait + Sync>(
     ensures answer { IfOk result (λ o. IsJudgedAs form strict input.now o.text.items o.negative) }
     ensures fault { IfErr result (IsRunFault input.now) }
 {
-    match read_scenario(alloc, input)? {
-        ScenarioText::Plain(plain) => Err(missing_seed(&plain)),
-        ScenarioText::Signed(plan) => {
-            let scenario = make_scenario(rt, alloc, plan)?;
-            judge_scenario_as(rt, alloc, capacity, workers, form, strict, &scenario)
-        }
-    }
+    let scenario = seeded_scenario(rt, alloc, input)?;
+    let few = has_few(scenario.header().net(), &scenario.scripted());
+    let output = judge_scenario(rt, alloc, capacity, workers, form, &scenario)?;
+    Ok(counted(output, strict, few))
 }
 
 /// Reads a scenario text with a seed to its end, runs it while this many workers audit the logs that are there, and

@@ -1,7 +1,5 @@
 //! Names the runs that an input is of.
-ghost use Rattle.std.specs.Prelude.{◌≡◌, ◌++◌, ◌∷◌, IfErr, IfOk, OnOk, false, option_map, true};
-ghost use Rattle.std.specs.List.{flat_map};
-ghost use Rattle.hex.specs.Hex.{encode_lower};
+ghost use Rattle.std.specs.Prelude.{◌≡◌, IfErr, IfOk, option_map};
 ghost use Rattle.gen_show.specs.Showing.{file_kind};
 ghost use Rattle.gen_jobs.specs.Naming.{IsNamed, IsNameFault, begins_as_evidence, ids_text};
 ghost use Rattle.gen_jobs.specs.Showing.{runs_as};
@@ -13,41 +11,20 @@ use gen_campaign::read_campaign;
 use gen_convict::read_evidence;
 use std::alloc::{AllocError, Global};
 
-/// Appends a run id in 64 hexadecimal digits.
-fn push_id(alloc: Global, text: &mut Vec<u8>, id: &[u8; 32]) -> Result<(), AllocError>
-    ensures { OnOk result (text.new.items ≡ text.old.items ++ encode_lower id.now) }
-{
-    let digits = hex::encode(alloc, *id)?;
-    text.extend_from_slice(digits.as_bytes())
-}
-
-/// Appends a comma and a run id.
-fn push_other(alloc: Global, text: &mut Vec<u8>, id: &[u8; 32]) -> Result<(), AllocError>
-    ensures { OnOk result (text.new.items ≡ text.old.items ++ 44 ∷ encode_lower id.now) }
-{
-    text.push(b',')?;
-    push_id(alloc, text, id)
-}
-
-/// Appends run ids, each behind a comma.
-fn push_others(alloc: Global, text: &mut Vec<u8>, ids: &[[u8; 32]]) -> Result<(), AllocError>
-    ensures { OnOk result (text.new.items
-        ≡ text.old.items ++ flat_map (λ other. 44 ∷ encode_lower other) ids.now) }
-{
-    for id in ids {
-        push_other(alloc, text, id)?;
-    }
-    Ok(())
-}
-
 /// Returns run ids in 64 hexadecimal digits each, with commas between them.
 fn ids_text(alloc: Global, ids: &[[u8; 32]]) -> Result<Vec<u8>, AllocError>
     ensures { IfOk result (λ text. text.items ≡ ids_text ids.now) }
 {
     let mut text = Vec::new(alloc);
-    if let Some((id, others)) = ids.split_first() {
-        push_id(alloc, &mut text, id)?;
-        push_others(alloc, &mut text, others)?;
+    let Some((first, others)) = ids.split_first() else {
+        return Ok(text);
+    };
+    let digits = hex::encode(alloc, *first)?;
+    text.extend_from_slice(digits.as_bytes())?;
+    for id in others {
+        let digits = hex::encode(alloc, *id)?;
+        text.push(b',')?;
+        text.extend_from_slice(digits.as_bytes())?;
     }
     Ok(text)
 }
@@ -58,31 +35,6 @@ fn begins_as_evidence(bytes: &[u8]) -> bool
 {
     let mark = &bytes[..bytes.len().min(4)];
     mark == b"SME1".as_slice() || mark == b"SME2".as_slice()
-}
-
-/// Returns the runs of the bundle or the campaign that the input spells.
-fn name_shown(alloc: Global, input: &[u8]) -> Result<Output, JobFault>
-    ensures answer { IfOk result (λ o. IsNamed input.now o.text.items o.negative) }
-    ensures fault { begins_as_evidence input.now ≡ false → IfErr result (IsNameFault input.now) }
-{
-    let campaign = read_campaign(alloc, input)?;
-    let ids = run_ids(alloc, campaign.bundles())?;
-    Ok(Output {
-        text: ids_text(alloc, ids.as_slice())?,
-        negative: false,
-    })
-}
-
-/// Returns the run of the evidence that the input spells: that of its header.
-fn name_evidence(alloc: Global, input: &[u8]) -> Result<Output, JobFault>
-    ensures answer { IfOk result (λ o. IsNamed input.now o.text.items o.negative) }
-    ensures fault { begins_as_evidence input.now ≡ true → IfErr result (IsNameFault input.now) }
-{
-    let (header, _evidence) = read_evidence(alloc, input)?;
-    Ok(Output {
-        text: ids_text(alloc, &[*header.run_id()])?,
-        negative: false,
-    })
 }
 
 /// Returns the ids of the runs that the input is of: that of a bundle or of evidence, and of a campaign the ids of its
@@ -98,10 +50,18 @@ pub fn name_runs(alloc: Global, input: &[u8]) -> Result<Output, JobFault>
     ensures fault { IfErr result (IsNameFault input.now) }
 {
     if begins_as_evidence(input) {
-        name_evidence(alloc, input)
-    } else {
-        name_shown(alloc, input)
+        let (header, _evidence) = read_evidence(alloc, input)?;
+        return Ok(Output {
+            text: ids_text(alloc, &[*header.run_id()])?,
+            negative: false,
+        });
     }
+    let campaign = read_campaign(alloc, input)?;
+    let ids = run_ids(alloc, campaign.bundles())?;
+    Ok(Output {
+        text: ids_text(alloc, ids.as_slice())?,
+        negative: false,
+    })
 }
 
 /// Returns the ids of the runs of a file in their order: a bundle, a campaign, evidence or a header. Each is 64

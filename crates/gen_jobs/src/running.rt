@@ -1,13 +1,12 @@
 //! The job `run`: runs a scenario, and writes the bundle of the run.
 ghost use Rattle.std.specs.Prelude.{◌≡◌, ◌<◌, false, IfErr, IfOk, IfSome};
 ghost use Rattle.gen_audit.specs.BundleSpelling.{bundle_spelling};
-ghost use Rattle.gen_report.specs.LineReading.{fault_at};
-ghost use Rattle.gen_report.specs.declared.fault.LineFault.TheVariants.{BadSeed};
+ghost use Rattle.gen_report.specs.Scenario.{SpellsScenario};
+ghost use Rattle.gen_report.specs.declared.scenario_text.ScenarioText.TheVariants as texts;
 ghost use Rattle.gen_jobs.specs.Answering.{Answers};
 ghost use Rattle.gen_jobs.specs.Ends.{IsTaken, KeepsUntilWhole};
-ghost use Rattle.gen_jobs.specs.Run.{IsOfRun, IsRunAnswer, IsRunFault, MakesBundle, line_after_order};
+ghost use Rattle.gen_jobs.specs.Run.{IsOfRun, IsRunAnswer, IsRunFault};
 ghost use Rattle.gen_scenario.specs.Rows.{logs_of_all};
-ghost use Rattle.gen_jobs.specs.declared.ends.JobFault.TheVariants as faults;
 
 use crate::bundle_text::{BundleText, deliver_bundle};
 use crate::ends::{JobEnd, JobFault, Output};
@@ -18,34 +17,38 @@ use gen_local::exhibits_of_logs;
 use gen_log::SealedLog;
 use gen_prepare::walks_between;
 use gen_report::{LineFault, ScenarioFault, ScenarioText, read_scenario};
-use gen_scenario::{PlainScenario, Scenario, SignedPlan};
+use gen_scenario::Scenario;
 use gen_threads::{make_trees, run_threads};
 use std::alloc::{AllocError, Global};
 use std::io::{Read, Write};
 use std::sync::Wait;
 use std::thread::Threads;
 
-/// Returns the fault of a scenario without a seed: `P6` at the line after the order's.
-pub(crate) fn missing_seed(plain: &PlainScenario) -> JobFault
-    ensures { result ≡ faults.Scenario (fault_at BadSeed (line_after_order plain.now.net)) }
-{
-    JobFault::Scenario(ScenarioFault {
-        kind: LineFault::BadSeed,
-        line: plain.net().edges().len() + 7,
-    })
-}
-
-/// Makes the scenario of a plan. The trees of the generals' keys are made by threads.
-pub(crate) fn make_scenario<R: Threads + Sync>(
-    rt: &R,
+/// Returns the scenario with a seed that the input spells. The trees of the generals' keys are made by threads.
+///
+/// # Errors
+///
+/// `Scenario` with the first fault of an input that spells no scenario, and with `P6`, at the line after the order's,
+/// for one without a seed. `Memory` if memory is refused.
+pub(crate) fn seeded_scenario<T: Threads + Sync>(
+    rt: &T,
     alloc: Global,
-    plan: SignedPlan,
-) -> Result<Scenario, AllocError>
-    ensures { IfOk result (λ scenario. scenario ≡ plan) }
+    input: &[u8],
+) -> Result<Scenario, JobFault>
+    ensures found { IfOk result (λ scenario. SpellsScenario input.now (texts.Signed scenario)) }
+    ensures fault { IfErr result (IsRunFault input.now) }
 {
-    let generals = plan.net().generals();
-    let trees = make_trees(rt, alloc, plan.master(), plan.version().height(), generals)?;
-    Scenario::of_trees(alloc, plan, trees)
+    match read_scenario(alloc, input)? {
+        ScenarioText::Plain(plain) => Err(JobFault::Scenario(ScenarioFault {
+            kind: LineFault::BadSeed,
+            line: plain.net().edges().len() + 7,
+        })),
+        ScenarioText::Signed(plan) => {
+            let generals = plan.net().generals();
+            let trees = make_trees(rt, alloc, plan.master(), plan.version().height(), generals)?;
+            Ok(Scenario::of_trees(alloc, plan, trees)?)
+        }
+    }
 }
 
 /// Returns the bundle of a scenario's run with these logs. The generals that have scripts are held for faulty, and all
@@ -66,20 +69,6 @@ pub(crate) fn bundle_with_logs(
     Ok(Bundle::new(header, faulty, walks, exhibits).unwrap())
 }
 
-/// Returns the bundle of the scenario's run, in which each edge holds `capacity` frames.
-fn bundle_of_run<T: Threads + Wait + Sync>(
-    rt: &T,
-    alloc: Global,
-    capacity: u8,
-    scenario: &Scenario,
-) -> Result<Bundle, JobFault>
-    requires { 0 < capacity }
-    ensures { MakesBundle scenario.now result }
-{
-    let logs = run_threads(rt, alloc, scenario, usize::from(capacity), &Open)?;
-    Ok(bundle_with_logs(alloc, scenario, logs)?)
-}
-
 /// Returns the bundle of the run of the scenario that the input spells, in which each edge holds `capacity` frames.
 fn bundle_of<T: Threads + Wait + Sync>(
     rt: &T,
@@ -91,13 +80,9 @@ fn bundle_of<T: Threads + Wait + Sync>(
     ensures answer { IfOk result (λ bundle. IsRunAnswer input.now (bundle_spelling bundle) false) }
     ensures fault { IfErr result (IsRunFault input.now) }
 {
-    match read_scenario(alloc, input)? {
-        ScenarioText::Plain(plain) => Err(missing_seed(&plain)),
-        ScenarioText::Signed(plan) => {
-            let scenario = make_scenario(rt, alloc, plan)?;
-            bundle_of_run(rt, alloc, capacity, &scenario)
-        }
-    }
+    let scenario = seeded_scenario(rt, alloc, input)?;
+    let logs = run_threads(rt, alloc, &scenario, usize::from(capacity), &Open)?;
+    Ok(bundle_with_logs(alloc, &scenario, logs)?)
 }
 
 /// Returns what `run` returns for the input, but keeps the text in pieces, so that its logs need no copy.

@@ -1,16 +1,12 @@
 //! The job that tells: what a file is, what a name means, or what the lines of a text mean.
-ghost use Rattle.std.specs.Prelude.{◌≡◌, IfErr, IfOk, IfSome};
+ghost use Rattle.std.specs.Prelude.{IfErr, IfOk, IfSome};
 ghost use Rattle.gen_jobs.specs.Answering.{Answers};
 ghost use Rattle.gen_jobs.specs.Ends.{IsTaken, KeepsUntilWhole};
-ghost use Rattle.gen_jobs.specs.Telling.{IsMemory, IsTold, SaysFile, TellsFile, TellsFound};
-ghost use Rattle.gen_show.specs.Showing.{file_kind, is_whole_as};
-ghost use Rattle.gen_show.specs.Table.{words};
-ghost use Rattle.gen_show.specs.Worded.{explained};
+ghost use Rattle.gen_jobs.specs.Telling.{IsMemory, IsTold, TellsFile};
 
 use crate::ends::{JobEnd, JobFault, Output};
 use crate::forms::Form;
 use crate::transfer::{deliver, read_all};
-use gen_show::Shown;
 use std::alloc::{AllocError, Global};
 use std::io::{Read, Write};
 
@@ -25,43 +21,19 @@ pub enum Telling {
     Text,
 }
 
-/// Returns in this form what a file is, and whether it is a whole file of its kind.
-fn shown_in(alloc: Global, form: Form, input: &[u8]) -> Result<Shown, AllocError>
-    ensures text { IfOk result (λ s. SaysFile form input.now s.text.items) }
-    ensures whole { IfOk result (λ s. s.whole ≡ is_whole_as (file_kind input.now) input.now) }
-{
-    match form {
-        Form::Text => gen_show::show(alloc, input),
-        Form::Json => gen_json::show_json(alloc, input),
-    }
-}
-
 /// Returns in this form what a file is, and says no if it is no whole file of its kind.
 pub(crate) fn tell_file(alloc: Global, form: Form, input: &[u8]) -> Result<Output, AllocError>
     ensures { IfOk result (λ o. TellsFile form input.now o.text.items o.negative) }
 {
-    let shown = shown_in(alloc, form, input)?;
+    let shown = match form {
+        Form::Text => gen_show::show(alloc, input)?,
+        Form::Json => gen_json::show_json(alloc, input)?,
+    };
     let negative = !shown.whole;
     Ok(Output {
         text: shown.text,
         negative,
     })
-}
-
-/// Returns what a name means, and says no if it is no name.
-fn tell_name(alloc: Global, input: &[u8]) -> Result<Output, AllocError>
-    ensures { IfOk result (λ o. TellsFound (explained words input.now) o.text.items o.negative) }
-{
-    match gen_show::explain(alloc, input)? {
-        Some(text) => Ok(Output {
-            text,
-            negative: false,
-        }),
-        None => Ok(Output {
-            text: Vec::new(alloc),
-            negative: true,
-        }),
-    }
 }
 
 /// Returns what is told of an input. The output says no if the file is no whole bundle, campaign, evidence or header, and if
@@ -76,7 +48,16 @@ pub fn tell(alloc: Global, what: Telling, input: &[u8]) -> Result<Output, JobFau
 {
     match what {
         Telling::File => Ok(tell_file(alloc, Form::Text, input)?),
-        Telling::Name => Ok(tell_name(alloc, input)?),
+        Telling::Name => match gen_show::explain(alloc, input)? {
+            Some(text) => Ok(Output {
+                text,
+                negative: false,
+            }),
+            None => Ok(Output {
+                text: Vec::new(alloc),
+                negative: true,
+            }),
+        },
         Telling::Text => Ok(Output {
             text: gen_show::with_words(alloc, input)?,
             negative: false,
