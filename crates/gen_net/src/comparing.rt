@@ -1,23 +1,10 @@
 //! Whether two networks, or two headers, are the same.
 ghost use Rattle.std.specs.Cmp.{partial_equiv_from_equiv};
-ghost use Rattle.std.specs.Prelude.{◌≡◌};
-ghost use Rattle.gen_net.specs.SameHeaders.{same_version, same_network, same_header};
+ghost use Rattle.gen_net.specs.SameHeaders.{same_network, same_header};
 ghost use Rattle.gen_net.specs.SameHeaderLaws.{same_network_equiv, same_header_equiv};
 
 use crate::headers::Header;
 use crate::net::Net;
-use crate::version::Version;
-
-/// Whether two versions are the same.
-fn is_same_version(one: Version, other: Version) -> bool
-    ensures { result ≡ same_version one other }
-{
-    match (one, other) {
-        (Version::One, Version::One) => true,
-        (Version::Two { slot }, Version::Two { slot: other }) => slot == other,
-        _ => false,
-    }
-}
 
 /// Two networks are equal if and only if they have the same numbers, the same edges and the same choice.
 impl PartialEq for Net {
@@ -48,7 +35,7 @@ impl PartialEq for Header {
 
     #[tactic(auto, unfolding(crate::specs::SameHeaders::same_header))]
     fn eq(&self, other: &Header) -> bool {
-        is_same_version(self.version(), other.version())
+        self.version() == other.version()
             && self.net() == other.net()
             && self.roots() == other.roots()
     }

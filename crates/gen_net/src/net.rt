@@ -5,7 +5,7 @@ ghost use Rattle.gen_types.specs.Spelled.{IsRead};
 ghost use Rattle.gen_net.specs.Network.{rounds, AreNeighbours, IsLoyal, IsNetwork};
 ghost use Rattle.gen_net.specs.NetworkOf.{ranges_of, network_with, network_of, network_in_place};
 
-use crate::edges::{edge_list, has_fault, placed_edges, stand_in_place};
+use crate::edges::{has_fault, is_joined, stand_in_place};
 use crate::fault::HeaderFault;
 use crate::numbers::NetNumbers;
 use gen_types::limits::{
@@ -123,7 +123,17 @@ impl Net {
             choice,
         };
         let choice = ranges(numbers, !has_fault(n, edges))?;
-        Ok(Net::of_parts(numbers, edge_list(alloc, n, edges)?, choice))
+        // Each edge once as (a, b) with a < b, ascending.
+        let mut ascending = Vec::new(alloc);
+        for a in 0..n {
+            let first = GeneralNo::at(a);
+            for b in a + 1..n {
+                if is_joined(a, b, edges) {
+                    ascending.push((first, GeneralNo::at(b)))?;
+                }
+            }
+        }
+        Ok(Net::of_parts(numbers, ascending, choice))
     }
 
     /// Returns the network of these numbers and edges, which have to stand in their places: each (a, b) with a < b,
@@ -137,8 +147,13 @@ impl Net {
         ensures { IsRead result (network_in_place numbers edges.now) }
     {
         let choice = ranges(numbers, stand_in_place(numbers.generals, edges))?;
-        let edges = placed_edges(alloc, numbers.generals, edges)?;
-        Ok(Net::of_parts(numbers, edges, choice))
+        let mut placed = Vec::with_capacity(alloc, edges.len())?;
+        let mut rest = edges;
+        while let [(a, b), others @ ..] = rest {
+            placed.push((GeneralNo::at(*a), GeneralNo::at(*b)))?;
+            rest = others;
+        }
+        Ok(Net::of_parts(numbers, placed, choice))
     }
 
     /// Returns the network of these parts, whose numbers must be in their ranges and whose edges must stand in their

@@ -5,7 +5,7 @@ ghost use Rattle.gen_types.specs.Spelled.{StandsInFront, IsReadFrom, counted, Is
 ghost use Rattle.gen_types.specs.Bytes.{many_at};
 ghost use Rattle.gen_net.specs.Header.{RunHeader, IsHeader, header_spelling};
 ghost use Rattle.gen_net.specs.HeaderReading.{root_at, header_at};
-ghost use Rattle.gen_net.specs.NetworkReading.{numbers_at, edge_at, edges_at};
+ghost use Rattle.gen_net.specs.NetworkReading.{numbers_at, edges_at};
 ghost use Rattle.gen_net.specs.VersionReading.{version_at};
 
 use crate::fault::HeaderFault;
@@ -53,17 +53,7 @@ fn read_numbers(bytes: &[u8]) -> Result<(NetNumbers, &[u8]), ReadError<HeaderFau
     Ok((numbers, rest))
 }
 
-/// Reads one edge, two bytes as they stand, and returns it and the bytes after it.
-#[tactic(auto, unfolding(crate::specs::NetworkReading::edge_at))]
-fn read_edge(bytes: &[u8]) -> Result<((u8, u8), &[u8]), ReadError<HeaderFault>>
-    ensures { IsField result (edge_at bytes.now) }
-{
-    let (low, rest) = u8_at(bytes, HeaderFault::Truncated)?;
-    let (high, rest) = u8_at(rest, HeaderFault::Truncated)?;
-    Ok(((low, high), rest))
-}
-
-/// Reads the edges behind their number, and returns them and the bytes after them.
+/// Reads the edges behind their number, two bytes each as they stand, and returns them and the bytes after them.
 #[tactic(auto, unfolding(crate::specs::NetworkReading::edges_at))]
 fn read_edges(alloc: Global, bytes: &[u8]) -> Result<(Vec<(u8, u8)>, &[u8]), ReadError<HeaderFault>>
     ensures { Gives (λ x. (x.0.items, x.1.now)) result (edges_at bytes.now) }
@@ -71,8 +61,9 @@ fn read_edges(alloc: Global, bytes: &[u8]) -> Result<(Vec<(u8, u8)>, &[u8]), Rea
     let (count, mut rest) = u8_at(bytes, HeaderFault::Truncated)?;
     let mut edges = Vec::new(alloc);
     for _ in 0..count {
-        let (edge, after) = read_edge(rest)?;
-        edges.push(edge)?;
+        let (low, after) = u8_at(rest, HeaderFault::Truncated)?;
+        let (high, after) = u8_at(after, HeaderFault::Truncated)?;
+        edges.push((low, high))?;
         rest = after;
     }
     Ok((edges, rest))
@@ -117,14 +108,6 @@ pub fn header_in_front(
     }
 }
 
-/// Reads the header in front of the bytes, and returns it and its number of bytes.
-fn counted_header(alloc: Global, bytes: &[u8]) -> Result<(Header, usize), ReadError<HeaderFault>>
-    ensures { IsRead result (counted header_at bytes.now) }
-{
-    let (header, rest) = header_in_front(alloc, bytes)?;
-    Ok((header, bytes.len() - rest.len()))
-}
-
 /// Returns the header in front of the bytes, and its number of bytes; more bytes may follow it.
 ///
 /// # Errors
@@ -141,5 +124,6 @@ pub fn read_header(alloc: Global, bytes: &[u8]) -> Result<(Header, usize), ReadE
     // The answer, and so the fault, is that of `header_at`.
     ensures exact { IsRead result (counted header_at bytes.now) }
 {
-    counted_header(alloc, bytes)
+    let (header, rest) = header_in_front(alloc, bytes)?;
+    Ok((header, bytes.len() - rest.len()))
 }

@@ -110,13 +110,11 @@ fn halves(x: u64) -> (u32, u32)
     ((x & 0xffff_ffff) as u32, (x >> 32) as u32)
 }
 
-// Returns the low words and the high words of the counters.
+// Returns the states before the rounds: the constants, the key, the counter of each lane, and the stream.
 #[inline(always)]
-fn counter_words(counters: &[u64; LANES]) -> (Words, Words)
-    ensures low { (j : ℕ) → j < LANES
-        → slice_index result.0 j ≡ slice_index counters.now j % 2 ^ 32 }
-    ensures high { (j : ℕ) → j < LANES
-        → slice_index result.1 j ≡ slice_index counters.now j / 2 ^ 32 }
+fn initial_states(key: &[u32; 8], stream: u64, counters: &[u64; LANES]) -> [Words; 16]
+    ensures { (j : ℕ) → j < LANES
+        → lane j result ≡ initial_state key.now (slice_index counters.now j) stream }
 {
     let mut low = [0; LANES];
     let mut high = [0; LANES];
@@ -125,16 +123,6 @@ fn counter_words(counters: &[u64; LANES]) -> (Words, Words)
         low[j] = low_word;
         high[j] = high_word;
     }
-    (Words::from_array(low), Words::from_array(high))
-}
-
-// Returns the states before the rounds: the constants, the key, the counter of each lane, and the stream.
-#[inline(always)]
-fn initial_states(key: &[u32; 8], stream: u64, counters: &[u64; LANES]) -> [Words; 16]
-    ensures { (j : ℕ) → j < LANES
-        → lane j result ≡ initial_state key.now (slice_index counters.now j) stream }
-{
-    let (counters_low, counters_high) = counter_words(counters);
     let (stream_low, stream_high) = halves(stream);
     [
         Words::splat(0x6170_7865),
@@ -149,8 +137,8 @@ fn initial_states(key: &[u32; 8], stream: u64, counters: &[u64; LANES]) -> [Word
         Words::splat(key[5]),
         Words::splat(key[6]),
         Words::splat(key[7]),
-        counters_low,
-        counters_high,
+        Words::from_array(low),
+        Words::from_array(high),
         Words::splat(stream_low),
         Words::splat(stream_high),
     ]

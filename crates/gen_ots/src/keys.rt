@@ -5,7 +5,7 @@ ghost use Rattle.gen_ots.specs.OneTime.{key_leaf_value};
 ghost use Rattle.gen_ots.specs.Signatures.{signature_of, signed_leaf_value};
 
 use crate::hashing::{LEAF_PREFIX, are_ones, chosen_in_lanes, images_in_lanes};
-use crate::secrets::{blocks_of_bits, blocks_of_leaves, high_secrets, low_secrets, stream_of};
+use crate::secrets::{block_of, blocks_from, secrets_on, stream_of};
 use crate::signatures::{OtsSig, SigRoom, push_pairs};
 use crate::sizes::{DIGEST_BITS, OTS_BYTES};
 use gen_types::TreeHeight;
@@ -88,9 +88,10 @@ impl OneTimeKey {
         let mut hasher = OneHasher::new(LEAF_PREFIX);
         // Each turn takes one bit for each lane, so that the secrets of these bits are hashed side by side.
         'turns: for turn in 0..DIGEST_BITS / LANES {
-            let blocks = blocks_of_bits(&key, stream, self.leaf, LANES * turn);
-            let low = images_in_lanes(&mut schedules, &low_secrets(&blocks));
-            let high = images_in_lanes(&mut schedules, &high_secrets(&blocks));
+            let first = block_of(self.leaf, LANES * turn);
+            let blocks = blocks_from(&key, stream, first, 1);
+            let low = images_in_lanes(&mut schedules, &secrets_on(0, &blocks));
+            let high = images_in_lanes(&mut schedules, &secrets_on(1, &blocks));
             hasher.update(&low, &high);
         }
         hasher.finalize()
@@ -112,9 +113,10 @@ impl OneTimeKey {
         // Each turn takes one bit for each lane, so that the secrets of these bits are hashed side by side.
         'turns: for turn in 0..DIGEST_BITS / LANES {
             let ones = are_ones(digest, LANES * turn);
-            let blocks = blocks_of_bits(&key, stream, this.leaf, LANES * turn);
-            let low = low_secrets(&blocks);
-            let high = high_secrets(&blocks);
+            let first = block_of(this.leaf, LANES * turn);
+            let blocks = blocks_from(&key, stream, first, 1);
+            let low = secrets_on(0, &blocks);
+            let high = secrets_on(1, &blocks);
             let shown = to_bytes(&chosen_in_lanes(&ones, &low, &high));
             let hidden = chosen_in_lanes(&ones, &high, &low);
             let images = to_bytes(&images_in_lanes(&mut schedules, &hidden));
@@ -144,9 +146,10 @@ pub fn leaf_values(seed: &[u8; 32], height: TreeHeight, first: u8) -> [[u8; 32];
     let mut schedules = Schedules::new();
     let mut hashers = LaneHashers::new(LEAF_PREFIX);
     'bits: for bit in 0..DIGEST_BITS {
-        let blocks = blocks_of_leaves(&key, stream, first, bit);
-        let low = images_in_lanes(&mut schedules, &low_secrets(&blocks));
-        let high = images_in_lanes(&mut schedules, &high_secrets(&blocks));
+        let block = block_of(first, bit);
+        let blocks = blocks_from(&key, stream, block, DIGEST_BITS as u64);
+        let low = images_in_lanes(&mut schedules, &secrets_on(0, &blocks));
+        let high = images_in_lanes(&mut schedules, &secrets_on(1, &blocks));
         hashers.update(&mut schedules, &low, &high);
     }
     hashers.finalize(&mut schedules)

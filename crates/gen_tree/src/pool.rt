@@ -3,6 +3,7 @@ ghost use Rattle.std.specs.Prelude.{◌≡◌, length, IfOk};
 ghost use Rattle.gen_tree.specs.Sizes.{signature_length};
 
 use crate::signatures::Signature;
+use gen_ots::sizes::OTS_BYTES;
 use gen_types::TreeHeight;
 use std::alloc::{AllocError, Global};
 use std::collections::BTreeMap;
@@ -51,7 +52,9 @@ impl SignaturePool {
         name.copy_from_slice(&bytes[..NAME_BYTES]);
         let name = u64::from_be_bytes(name);
         if let Some(known) = self.known.get(&name) {
-            if known.is_spelled(bytes) {
+            let (pairs, siblings) = known.parts();
+            let (other_pairs, other_siblings) = bytes.split_at(OTS_BYTES);
+            if pairs == other_pairs && siblings == other_siblings {
                 return known.share(self.alloc);
             }
         }

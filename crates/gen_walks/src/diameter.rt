@@ -7,7 +7,7 @@ ghost use Rattle.gen_walks.specs.Walks.{IsPair, IsRestOf, IsWithinDiameter};
 ghost use Rattle.gen_walks.specs.Walks.{Bridges, BoundsDiameter, IsLeastBadPair};
 
 use crate::fault::BadPair;
-use crate::inside::{are_joined, general, is_inside};
+use crate::inside::{are_joined, is_inside};
 use crate::lists::{Walk, Walks};
 use gen_net::Net;
 use gen_types::{GeneralNo, GeneralSet};
@@ -123,9 +123,9 @@ pub fn check_walks(net: &Net, rest: &GeneralSet, walks: &Walks) -> Result<Diamet
         IfErr result (λ bad. IsLeastBadPair net.now rest.now bridges bad.a bad.b) }
 {
     for number in 0..net.generals() {
-        let a = general(net, number);
+        let a = GeneralNo::at(number);
         for other in 0..net.generals() {
-            let b = general(net, other);
+            let b = GeneralNo::at(other);
             if is_pair(net, rest, a, b) && !is_bridged(net, rest, walks, a, b) {
                 return Err(BadPair { a, b });
             }

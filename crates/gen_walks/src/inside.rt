@@ -1,18 +1,9 @@
 //! Which generals and which edges are inside a set of generals.
-ghost use Rattle.std.specs.Prelude.{IsTrue, ◌≡◌, ◌<◌, ◌↔◌};
+ghost use Rattle.std.specs.Prelude.{IsTrue, ◌↔◌};
 ghost use Rattle.gen_walks.specs.Walks.{IsInside, AreJoined};
 
 use gen_net::Net;
 use gen_types::{GeneralNo, GeneralSet};
-
-/// Returns the general with this number, which must be below n.
-pub(crate) fn general(net: &Net, number: u8) -> GeneralNo
-    requires { number < net.now.generals }
-    ensures { result ≡ number }
-{
-    prove!(number < net.generals());
-    GeneralNo::at(number)
-}
 
 /// Returns whether the general is one of the network and of the set.
 pub(crate) fn is_inside(net: &Net, rest: &GeneralSet, general: GeneralNo) -> bool

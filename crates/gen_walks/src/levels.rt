@@ -5,7 +5,7 @@ ghost use Rattle.std.specs.Bool.{OnTrue, OnFalse};
 ghost use Rattle.gen_walks.specs.Levels.{level, IsLevelRow, NoWalkIsShorter};
 ghost use Rattle.gen_walks.specs.Loops.Checking.{IsSteep, IsEvenFrom};
 
-use crate::inside::{are_joined, general, is_inside};
+use crate::inside::{are_joined, is_inside};
 use gen_net::Net;
 use gen_types::limits::MOST_GENERALS;
 use gen_types::{GeneralNo, GeneralSet};
@@ -59,9 +59,9 @@ fn is_even(net: &Net, rest: &GeneralSet, row: &LevelRow) -> bool
     ensures no { OnFalse result ((a b : ℕ) × IsSteep net.now rest.now row.now a b) }
 {
     for number in 0..net.generals() {
-        let a = general(net, number);
+        let a = GeneralNo::at(number);
         for other in 0..net.generals() {
-            let b = general(net, other);
+            let b = GeneralNo::at(other);
             if u16::from(row.level(a)) + 1 < u16::from(row.level(b))
                 && are_joined(net, rest, a, b)
             {

@@ -8,10 +8,9 @@ ghost use Rattle.gen_walks.specs.Faults.{Explains, IsWalkFault};
 
 use crate::diameter::is_pair;
 use crate::fault::{BadPair, WalkFault};
-use crate::inside::general;
 use crate::levels::{LevelRow, UNREACHED};
 use crate::lists::{Walk, Walks};
-use crate::search::{best_walk, level_rows, row_from};
+use crate::search::{best_walk, levels_from, row_from};
 use gen_net::Net;
 use gen_types::{GeneralNo, GeneralSet};
 use std::alloc::Global;
@@ -62,12 +61,15 @@ pub fn make_walks(alloc: Global, net: &Net, rest: &GeneralSet) -> Result<Walks, 
     ensures bound { IfOk result (BoundsDiameter net.now rest.now) }
     ensures err { IfErr result (IsWalkFault net.now rest.now) }
 {
-    let rows = level_rows(alloc, net, rest)?;
+    let mut rows = Vec::new(alloc);
+    'sources: for source in 0..net.generals() {
+        rows.push(levels_from(net, rest, GeneralNo::at(source)))?;
+    }
     let mut walks = Walks::new(alloc);
     for number in 0..net.generals() {
-        let a = general(net, number);
+        let a = GeneralNo::at(number);
         for other in 0..net.generals() {
-            let b = general(net, other);
+            let b = GeneralNo::at(other);
             if is_pair(net, rest, a, b) {
                 let walk = walk_for(alloc, net, rest, &rows, a, b)?;
                 walks.push(walk)?;

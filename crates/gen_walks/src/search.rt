@@ -7,7 +7,7 @@ ghost use Rattle.gen_walks.specs.Loops.Search.{AreLevels, AreLevelRows, IsNextLe
 ghost use Rattle.gen_walks.specs.BestWalks.{IsBestWalk};
 ghost use Rattle.gen_net.specs.Network.{IsNetwork};
 
-use crate::inside::{are_joined, general};
+use crate::inside::are_joined;
 use crate::levels::{GENERALS, LevelRow, UNREACHED};
 use crate::lists::Walk;
 use gen_net::Net;
@@ -22,7 +22,7 @@ fn is_near_level(net: &Net, rest: &GeneralSet, row: &LevelRow, k: u8, v: General
         (u : ℕ) → AreJoined net.now rest.now u v → level row.now u ≡ k → ⊥) }
 {
     for number in 0..net.generals() {
-        let u = general(net, number);
+        let u = GeneralNo::at(number);
         if row.level(u) == k && are_joined(net, rest, u, v) {
             return true;
         }
@@ -55,7 +55,7 @@ fn spread(net: &Net, rest: &GeneralSet, row: &LevelRow, k: u8, next: &mut [u8; G
 
 /// Returns the levels by steps from the source inside the set. Rounds of the search are made until one
 /// reaches no further general.
-fn levels_from(net: &Net, rest: &GeneralSet, source: GeneralNo) -> LevelRow
+pub(crate) fn levels_from(net: &Net, rest: &GeneralSet, source: GeneralNo) -> LevelRow
     requires { IsNetwork net.now }
     ensures { AreLevels (AreJoined net.now rest.now) source (level result) }
 {
@@ -68,22 +68,6 @@ fn levels_from(net: &Net, rest: &GeneralSet, source: GeneralNo) -> LevelRow
         }
     }
     LevelRow::new(levels)
-}
-
-/// Returns one row for each general of the network, general 0 first: the levels from this general inside
-/// the set.
-pub(crate) fn level_rows(
-    alloc: Global,
-    net: &Net,
-    rest: &GeneralSet,
-) -> Result<Vec<LevelRow>, AllocError>
-    ensures { IfOk result (λ rows. AreLevelRows net.now rest.now net.now.generals rows.items) }
-{
-    let mut rows = Vec::new(alloc);
-    for number in 0..net.generals() {
-        rows.push(levels_from(net, rest, general(net, number)))?;
-    }
-    Ok(rows)
 }
 
 /// Returns the levels from one general of the set, which are the distances from it.
@@ -109,7 +93,7 @@ fn nearest(net: &Net, rest: &GeneralSet, row: &LevelRow, at: GeneralNo) -> Gener
     ensures { IsNearest (AreJoined net.now rest.now) (level row.now) at result }
 {
     for number in 0..net.generals() {
-        let next = general(net, number);
+        let next = GeneralNo::at(number);
         if u16::from(row.level(next)) + 1 == u16::from(row.level(at))
             && are_joined(net, rest, at, next)
         {

@@ -55,27 +55,18 @@ pub fn to_bytes(words: &[Words; 8]) -> [[u8; 32]; LANES]
 {
     let mut halves = [[0; 32]; LANES];
     'lanes: for j in 0..LANES {
-        halves[j] = bytes(&words_of_lane(words, j));
+        halves[j] = bytes(&[
+            words[0].to_array()[j],
+            words[1].to_array()[j],
+            words[2].to_array()[j],
+            words[3].to_array()[j],
+            words[4].to_array()[j],
+            words[5].to_array()[j],
+            words[6].to_array()[j],
+            words[7].to_array()[j],
+        ]);
     }
     halves
-}
-
-// Returns the words of this lane.
-#[inline(always)]
-fn words_of_lane(words: &[Words; 8], j: usize) -> [u32; 8]
-    requires { j < LANES }
-    ensures { result ≡ state j words.now }
-{
-    [
-        words[0].to_array()[j],
-        words[1].to_array()[j],
-        words[2].to_array()[j],
-        words[3].to_array()[j],
-        words[4].to_array()[j],
-        words[5].to_array()[j],
-        words[6].to_array()[j],
-        words[7].to_array()[j],
-    ]
 }
 
 // Returns the bytes of eight words, high byte first. As a call of its own it is compiled to vector

@@ -20,8 +20,8 @@
 //! those. Nor does it pay on a processor with instructions for SHA, where code that uses them is faster.
 #![tactic(auto)]
 
-ghost use Rattle.std.specs.Prelude.{◌≡◌, ℕ, ◌<◌, ◌∷◌, take};
-ghost use Rattle.sha2.specs.Sha256.{padding, sha256};
+ghost use Rattle.std.specs.Prelude.{◌≡◌, ℕ, ◌<◌, ◌∷◌};
+ghost use Rattle.sha2.specs.Sha256.{sha256};
 ghost use Rattle.sha_lanes.specs.Lanes.{lane_bytes};
 
 mod blocks;
@@ -57,18 +57,8 @@ pub fn images(schedules: &mut Schedules, prefix: u8, messages: &[Words; 8]) -> [
     ensures { (j : ℕ) → j < LANES
         → lane_bytes j result ≡ sha256 (prefix ∷ lane_bytes j messages.now) }
 {
-    let block = blocks(Words::splat(u32::from(prefix)), messages, &padding_of_33());
-    schedules.begin(&block);
-    compress(initial_states(), schedules)
-}
-
-// Returns the words that pad a message of 33 bytes, the same words in each lane.
-#[inline(always)]
-fn padding_of_33() -> [Words; 8]
-    ensures { (j : ℕ) → j < LANES → take 31 (lane_bytes j result) ≡ padding 33 }
-{
     let [a, b, c, d, e, f, g, h] = PADDING_OF_33;
-    [
+    let second = [
         Words::splat(a),
         Words::splat(b),
         Words::splat(c),
@@ -77,5 +67,8 @@ fn padding_of_33() -> [Words; 8]
         Words::splat(f),
         Words::splat(g),
         Words::splat(h),
-    ]
+    ];
+    let block = blocks(Words::splat(u32::from(prefix)), messages, &second);
+    schedules.begin(&block);
+    compress(initial_states(), schedules)
 }

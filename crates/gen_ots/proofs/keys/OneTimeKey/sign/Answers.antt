@@ -2,6 +2,7 @@ use Rattle.std.proofs.Common.{rules, ◌≡◌, ◌<◌, ℕ, ◌+◌, ◌*◌, 
 use Rattle.sha_lanes.specs.declared.words.TheConstants.{LANES}
 use Rattle.gen_ots.specs.OneTime.{on_side, bit_of, image}
 use Rattle.gen_ots.specs.Signatures.{first_pairs, pairs_up_to, signature_of, signed_pair}
+use Rattle.gen_ots.specs.Secrets.{secret_at, secret_block}
 use Rattle.gen_ots.proofs.Pairs.{length-first_pairs, pairs-grown, whole-signature, signed_leaf_value-signature_of}
 use Rattle.gen_ots.proofs.Words.{IsOf, low-of, high-of}
 use Rattle.gen_ots.proofs.keys.OneTimeKey.sign.Goals as goal
@@ -16,10 +17,14 @@ turns-preserved c =
     let digest = c.args.digest.now in
     let n = LANES * c.turns.turn in
     let same : IsOf k c.stream_of-stream.result.0 c.stream_of-stream.result.1 c.this.inside.leaf = search rules in
+    let block = λ (j : ℕ). secret_block c.this.inside.leaf (n + j) in
+    let low_place : (j : ℕ) → 16 * (c.block_of-first.result + 1 * j) + 8 * 0 ≡ 16 * block j = λ j. omega (arith, c.block_of-first.ensures) in
+    let high_place : (j : ℕ) → 16 * (c.block_of-first.result + 1 * j) + 8 * 1 ≡ 16 * block j + 8 = λ j. omega (arith, c.block_of-first.ensures) in
+    let at = λ (k : ℕ). secret_at c.stream_of-stream.result.0 c.stream_of-stream.result.1 k in
     let low = λ (j : ℕ) (below : j < LANES).
-    c.low_secrets-low.ensures j below _ _ _ (c.blocks_of_bits-blocks.ensures j below) ∙ low-of k (n + j) _ _ _ same in
+    c.secrets_on-low.ensures j below _ _ _ (c.blocks_from-blocks.ensures j below) ∙ ap at (low_place j) ∙ low-of k (n + j) _ _ _ same in
     let high = λ (j : ℕ) (below : j < LANES).
-    c.high_secrets-high.ensures j below _ _ _ (c.blocks_of_bits-blocks.ensures j below) ∙ high-of k (n + j) _ _ _ same in
+    c.secrets_on-high.ensures j below _ _ _ (c.blocks_from-blocks.ensures j below) ∙ ap at (high_place j) ∙ high-of k (n + j) _ _ _ same in
     let one = λ (j : ℕ) (below : j < LANES). c.are_ones-ones.ensures j below in
     let shown = λ (j : ℕ) (below : j < LANES).
     c.to_bytes-shown.ensures.value j below ∙ c.chosen_in_lanes.ensures j below
