@@ -6,7 +6,7 @@ ghost use Rattle.gen_types.specs.Spelled.{IsRead, IsField, IsReadFrom, StandsInF
 ghost use Rattle.gen_types.specs.Bytes.{many_at};
 ghost use Rattle.gen_chain.specs.Chain.{Chain, IsSignedChain, signed_path, chain_spelling};
 ghost use Rattle.gen_chain.specs.ChainReading.{signer_at, chain_front_at, signers_at, chain_at};
-ghost use Rattle.gen_chain.specs.ChainReading.{repeats, begins_with_commander};
+ghost use Rattle.gen_chain.specs.ChainReading.{repeats};
 
 use crate::chains::{SignedChain, Signer};
 use crate::fault::ChainFault;
@@ -97,16 +97,6 @@ fn are_distinct(signers: &[Signer]) -> bool
     true
 }
 
-/// Whether the commander is the first signer.
-fn begin(signers: &[Signer]) -> bool
-    ensures { result ≡ begins_with_commander (signed_path signers.now) }
-{
-    match signers {
-        [] => false,
-        [first, ..] => first.general == GeneralNo::commander(),
-    }
-}
-
 /// Reads `count` signers: distinct generals, the commander first.
 #[tactic(auto, unfolding(crate::specs::ChainReading::signers_at))]
 fn read_signers<'a>(
@@ -120,7 +110,11 @@ fn read_signers<'a>(
 {
     let (signers, rest) = read_many(alloc, height, count, bytes, pool)?;
     check(are_distinct(&signers), ChainFault::BadSigner)?;
-    check(begin(&signers), ChainFault::NotFromCommander)?;
+    let from_commander = match signers.as_slice() {
+        [] => false,
+        [first, ..] => first.general == GeneralNo::commander(),
+    };
+    check(from_commander, ChainFault::NotFromCommander)?;
     Ok((signers, rest))
 }
 

@@ -7,19 +7,6 @@ use crate::chains::{SignedChain, Signer};
 use crate::sizes::{FRONT_BYTES, MOST_CHAIN_BYTES, signers_bytes};
 use std::alloc::{AllocError, Global};
 
-/// Appends signers, in room that was reserved before.
-fn put_signers(out: &mut Vec<u8>, signers: &[Signer])
-    requires room { vec_len out.old + signers_length signers.now ≤ vec_capacity out.old }
-    ensures items { out.new.items ≡ out.old.items ++ flat_map signer_spelling signers.now }
-    ensures len { vec_len out.new ≡ vec_len out.old + signers_length signers.now }
-    ensures capacity { vec_capacity out.old ≤ vec_capacity out.new }
-{
-    'signers: for signer in signers {
-        out.push(signer.general.get()).unwrap();
-        signer.signature.append_to(out).unwrap();
-    }
-}
-
 impl SignedChain {
     /// Returns the number of bytes of the chain's spelling.
     pub fn byte_count(&self) -> usize
@@ -45,7 +32,11 @@ impl SignedChain {
         out.reserve(self.byte_count())?;
         let front = [self.order.get(), self.signers.len() as u8];
         out.extend_from_slice(&front).unwrap();
-        put_signers(out, &self.signers);
+        let signers = self.signers();
+        'signers: for signer in signers {
+            out.push(signer.general.get()).unwrap();
+            signer.signature.append_to(out).unwrap();
+        }
         Ok(())
     }
 }
