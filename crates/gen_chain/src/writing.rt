@@ -1,9 +1,8 @@
 //! Writes chains.
-ghost use Rattle.std.specs.Prelude.{◌≡◌, ◌≤◌, ◌<◌, ◌+◌, ◌*◌, ◌++◌, IfOk, OnOk, OnErr, length, vec_len, vec_capacity};
-ghost use Rattle.std.specs.List.{flat_map};
-ghost use Rattle.gen_chain.specs.Chain.{signer_spelling, signers_length, chain_spelling, chain_length};
+ghost use Rattle.std.specs.Prelude.{◌≡◌, ◌≤◌, ◌<◌, ◌+◌, ◌++◌, IfOk, OnOk, OnErr, vec_len, vec_capacity};
+ghost use Rattle.gen_chain.specs.Chain.{chain_spelling, chain_length};
 
-use crate::chains::{SignedChain, Signer};
+use crate::chains::SignedChain;
 use crate::sizes::{FRONT_BYTES, MOST_CHAIN_BYTES, signers_bytes};
 use std::alloc::{AllocError, Global};
 
