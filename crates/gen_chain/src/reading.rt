@@ -140,19 +140,6 @@ fn chain_in_front<'a>(
     Ok((chain, rest))
 }
 
-/// Reads the chain that the bytes begin with, and returns the number of its bytes too.
-fn counted_chain(
-    alloc: Global,
-    height: TreeHeight,
-    bytes: &[u8],
-    pool: &mut SignaturePool,
-) -> Result<(SignedChain, usize), ReadError<ChainFault>>
-    ensures { IsRead result (counted (chain_at height) bytes.now) }
-{
-    let (chain, rest) = chain_in_front(alloc, height, bytes, pool)?;
-    Ok((chain, bytes.len() - rest.len()))
-}
-
 /// Returns the chain that the bytes begin with, and the number of its bytes; more bytes may follow. The chain's
 /// signatures are by trees of this height. They are read and not verified.
 ///
@@ -193,5 +180,6 @@ pub fn read_chain_with(
         → IsRead result (Ok (c, length (chain_spelling c))) }
     ensures exact { IsRead result (counted (chain_at height) bytes.now) }
 {
-    counted_chain(alloc, height, bytes, pool)
+    let (chain, rest) = chain_in_front(alloc, height, bytes, pool)?;
+    Ok((chain, bytes.len() - rest.len()))
 }
