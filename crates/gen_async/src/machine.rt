@@ -78,17 +78,6 @@ fn spot(from: GeneralNo, to: GeneralNo) -> usize
     index_of(from) * GENERALS + index_of(to)
 }
 
-/// Makes all 256 queues, empty.
-fn empty_queues(alloc: Global) -> Result<Vec<VecDeque<Frame>>, AllocError>
-    ensures { IfOk result (λ queues. map (λ queue. queue.items) queues.items ≡ replicate 256 []) }
-{
-    let mut queues = Vec::with_capacity(alloc, QUEUES)?;
-    'queues: for _ in 0..QUEUES {
-        queues.push(VecDeque::new(alloc))?;
-    }
-    Ok(queues)
-}
-
 /// Makes all generals of a scenario, none of whose acts has moved.
 fn add_actors(alloc: Global, scenario: &Scenario, actors: &mut Vec<Actor>) -> Result<(), AllocError>
     requires { actors.old.items ≡ [] }
@@ -138,7 +127,10 @@ impl Machine {
     {
         let _lawful = scenario.header();
         let played = Played::of(scenario)?;
-        let queues = empty_queues(alloc)?;
+        let mut queues = Vec::with_capacity(alloc, QUEUES)?;
+        'queues: for _ in 0..QUEUES {
+            queues.push(VecDeque::new(alloc))?;
+        }
         let mut actors = Vec::new(alloc);
         if add_actors(alloc, scenario, &mut actors).is_err() {
             close_all(actors);

@@ -1,12 +1,11 @@
 //! Signed chains.
-ghost use Rattle.std.specs.Prelude.{◌≡◌, ◌≢◌, ◌≤◌, AllPairs, IfOk, length};
+ghost use Rattle.std.specs.Prelude.{◌≡◌, ◌≤◌};
 ghost use Rattle.gen_chain.specs.Chain.{IsSignedChain, signed_path};
 
-use crate::sizes::{GREATEST_ORDER, MOST_SIGNERS};
-use gen_ots::SigRoom;
+use crate::sizes::GREATEST_ORDER;
 use gen_tree::Signature;
 use gen_types::{GeneralNo, OrderNo, Path, TreeHeight};
-use std::alloc::{AllocError, Global};
+use std::alloc::AllocError;
 use std::marker::Model;
 
 /// A general and a signature.
@@ -62,7 +61,13 @@ impl SignedChain {
     pub fn path(&self) -> Path
         ensures { result ≡ signed_path self.now.signers }
     {
-        path_along(&self.signers)
+        let mut path = Path::new();
+        let mut rest = self.signers.as_slice();
+        while let Some((signer, others)) = rest.split_first() {
+            path.push_new(signer.general);
+            rest = others;
+        }
+        path
     }
 
     /// Returns the signers, from the first to the last.
@@ -81,7 +86,11 @@ impl Clone for SignedChain {
         let alloc = *self.signers.allocator();
         let mut signers = Vec::with_capacity(alloc, self.signers.len())?;
         'signers: for signer in &self.signers {
-            signers.push(signer.share(alloc)?)?;
+            let signature = signer.signature.share(alloc)?;
+            signers.push(Signer {
+                general: signer.general,
+                signature,
+            })?;
         }
         Ok(SignedChain {
             order: self.order,
@@ -89,45 +98,4 @@ impl Clone for SignedChain {
             height: self.height,
         })
     }
-}
-
-impl Signer {
-    /// Returns a copy of the signer that shares the signature.
-    ///
-    /// # Errors
-    ///
-    /// `AllocError` where memory is refused.
-    pub fn share(&self, alloc: Global) -> Result<Signer, AllocError>
-        ensures { IfOk result (λ signer. signer ≡ self.now) }
-    {
-        Ok(Signer {
-            general: self.general,
-            signature: self.signature.share(alloc)?,
-        })
-    }
-
-    /// Returns a copy of the signer. Its signature is copied into the room.
-    pub fn copy(&self, room: SigRoom) -> Signer
-        ensures { result ≡ self.now }
-    {
-        Signer {
-            general: self.general,
-            signature: self.signature.copy(room),
-        }
-    }
-}
-
-/// Returns the path of distinct signers.
-fn path_along(signers: &[Signer]) -> Path
-    requires few { length signers.now ≤ MOST_SIGNERS }
-    requires distinct { AllPairs (λ g h. g ≢ h) (signed_path signers.now) }
-    ensures { result ≡ signed_path signers.now }
-{
-    let mut path = Path::new();
-    let mut rest = signers;
-    while let Some((signer, others)) = rest.split_first() {
-        path.push_new(signer.general);
-        rest = others;
-    }
-    path
 }

@@ -75,7 +75,11 @@ fn copy_signers(from: &[Signer], into: &mut Vec<Signer>, copies: &mut Vec<SigRoo
 {
     'signers: for signer in from {
         let room = copies.pop().unwrap();
-        into.push(signer.copy(room)).unwrap();
+        let copy = Signer {
+            general: signer.general,
+            signature: signer.signature.copy(room),
+        };
+        into.push(copy).unwrap();
     }
 }
 

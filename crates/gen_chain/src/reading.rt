@@ -6,7 +6,7 @@ ghost use Rattle.gen_types.specs.Spelled.{IsRead, IsField, IsReadFrom, StandsInF
 ghost use Rattle.gen_types.specs.Bytes.{many_at};
 ghost use Rattle.gen_chain.specs.Chain.{Chain, IsSignedChain, signed_path, chain_spelling};
 ghost use Rattle.gen_chain.specs.ChainReading.{signer_at, chain_front_at, signers_at, chain_at};
-ghost use Rattle.gen_chain.specs.ChainReading.{repeats, begins_with_commander};
+ghost use Rattle.gen_chain.specs.ChainReading.{repeats};
 
 use crate::chains::{SignedChain, Signer};
 use crate::fault::ChainFault;
@@ -97,16 +97,6 @@ fn are_distinct(signers: &[Signer]) -> bool
     true
 }
 
-/// Whether the commander is the first signer.
-fn begin(signers: &[Signer]) -> bool
-    ensures { result ≡ begins_with_commander (signed_path signers.now) }
-{
-    match signers {
-        [] => false,
-        [first, ..] => first.general == GeneralNo::commander(),
-    }
-}
-
 /// Reads `count` signers: distinct generals, the commander first.
 #[tactic(auto, unfolding(crate::specs::ChainReading::signers_at))]
 fn read_signers<'a>(
@@ -120,7 +110,11 @@ fn read_signers<'a>(
 {
     let (signers, rest) = read_many(alloc, height, count, bytes, pool)?;
     check(are_distinct(&signers), ChainFault::BadSigner)?;
-    check(begin(&signers), ChainFault::NotFromCommander)?;
+    let from_commander = match signers.as_slice() {
+        [] => false,
+        [first, ..] => first.general == GeneralNo::commander(),
+    };
+    check(from_commander, ChainFault::NotFromCommander)?;
     Ok((signers, rest))
 }
 
@@ -144,19 +138,6 @@ fn chain_in_front<'a>(
         height,
     };
     Ok((chain, rest))
-}
-
-/// Reads the chain that the bytes begin with, and returns the number of its bytes too.
-fn counted_chain(
-    alloc: Global,
-    height: TreeHeight,
-    bytes: &[u8],
-    pool: &mut SignaturePool,
-) -> Result<(SignedChain, usize), ReadError<ChainFault>>
-    ensures { IsRead result (counted (chain_at height) bytes.now) }
-{
-    let (chain, rest) = chain_in_front(alloc, height, bytes, pool)?;
-    Ok((chain, bytes.len() - rest.len()))
 }
 
 /// Returns the chain that the bytes begin with, and the number of its bytes; more bytes may follow. The chain's
@@ -199,5 +180,6 @@ pub fn read_chain_with(
         → IsRead result (Ok (c, length (chain_spelling c))) }
     ensures exact { IsRead result (counted (chain_at height) bytes.now) }
 {
-    counted_chain(alloc, height, bytes, pool)
+    let (chain, rest) = chain_in_front(alloc, height, bytes, pool)?;
+    Ok((chain, bytes.len() - rest.len()))
 }

@@ -115,20 +115,6 @@ fn claims_of<'b>(header: &'b Header, signings: &'b [Signing<'_>]) -> [SignatureC
     claims
 }
 
-/// Returns, for each of at most `LANES` claims, whether the general signed the statement, one claim after another.
-fn have_signed_in_turn(header: &Header, signings: &[Signing<'_>]) -> [bool; LANES]
-    requires { length signings.now ≤ LANES }
-    ensures { (j : ℕ) → j < length signings.now → (other : Triple) → IsTrue (slice_index_or result j false)
-        ↔ IsSigned header.now (slice_index_or (map triple_of signings.now) j other) }
-{
-    let mut answers = [false; LANES];
-    'places: for place in 0..signings.len() {
-        let claim = &signings[place];
-        answers[place] = has_signed(header, claim.signer, &claim.statement, claim.signature);
-    }
-    answers
-}
-
 /// Returns, for each of at most `LANES` claims, whether the general signed the statement, as `has_signed` does for one.
 /// What the result has behind these answers says nothing. It takes no memory.
 pub(crate) fn have_signed(header: &Header, signings: &[Signing<'_>]) -> [bool; LANES]
@@ -137,7 +123,12 @@ pub(crate) fn have_signed(header: &Header, signings: &[Signing<'_>]) -> [bool; L
         ↔ IsSigned header.now (slice_index_or (map triple_of signings.now) j other) }
 {
     if signings.is_empty() || !are_of(header, signings) {
-        return have_signed_in_turn(header, signings);
+        let mut answers = [false; LANES];
+        'places: for place in 0..signings.len() {
+            let claim = &signings[place];
+            answers[place] = has_signed(header, claim.signer, &claim.statement, claim.signature);
+        }
+        return answers;
     }
     let claims = claims_of(header, signings);
     verify_claims(&claims[..signings.len()])

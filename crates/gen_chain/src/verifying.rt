@@ -1,16 +1,14 @@
 //! Verifies the signatures of a chain.
-ghost use Rattle.std.specs.Prelude.{IsTrue, ◌≡◌, ◌≢◌, ◌≤◌, ◌↔◌, AllPairs, length};
-ghost use Rattle.gen_chain.specs.Chain.{signed_path};
-ghost use Rattle.gen_chain.specs.Verifying.{HasSigned, EachHasSigned, ChainVerifies};
+ghost use Rattle.std.specs.Prelude.{IsTrue, ◌↔◌};
+ghost use Rattle.gen_chain.specs.Verifying.{HasSigned, ChainVerifies};
 
-use crate::chains::{SignedChain, Signer};
+use crate::chains::SignedChain;
 use crate::leaves::leaf_of_order;
 use crate::signings::{four_true, have_signed, next_four};
-use crate::sizes::MOST_SIGNERS;
 use crate::statements::{Statement, statement_digest};
 use gen_net::Header;
 use gen_tree::{Signature, verify};
-use gen_types::{GeneralNo, OrderNo, Path};
+use gen_types::{GeneralNo, Path};
 
 /// Returns whether a general signed a statement in the run of this header: the general is below n, and the signature of
 /// the statement verifies under the general's root and the leaf of the order. It takes no memory.
@@ -31,14 +29,18 @@ pub fn has_signed(
     verify(root, header.height(), leaf, &digest, signature)
 }
 
-/// Whether each signer signed the order together with the path up to and with itself.
-fn are_signed(header: &Header, order: OrderNo, signers: &[Signer]) -> bool
-    requires few { length signers.now ≤ MOST_SIGNERS }
-    requires distinct { AllPairs (λ g h. g ≢ h) (signed_path signers.now) }
-    ensures { IsTrue result ↔ EachHasSigned header.now order signers.now }
+/// Returns whether a chain verifies in the run of this header. Its order is below q, and each signer is below n. Each
+/// signer's signature of the order, together with the path up to and with itself, verifies under its own root and the
+/// leaf of the order. It takes no memory.
+pub fn chain_verifies(header: &Header, chain: &SignedChain) -> bool
+    ensures { IsTrue result ↔ ChainVerifies header.now chain.now }
 {
+    let order = chain.order;
+    if order.get() >= header.net().orders() {
+        return false;
+    }
     let mut path = Path::new();
-    let mut rest = signers;
+    let mut rest = chain.signers.as_slice();
     'fours: while rest.len() >= 4 {
         let signings = next_four(order, &mut path, rest);
         let answers = have_signed(header, &signings);
@@ -58,13 +60,4 @@ fn are_signed(header: &Header, order: OrderNo, signers: &[Signer]) -> bool
         rest = others;
     }
     true
-}
-
-/// Returns whether a chain verifies in the run of this header. Its order is below q, and each signer is below n. Each
-/// signer's signature of the order, together with the path up to and with itself, verifies under its own root and the
-/// leaf of the order. It takes no memory.
-pub fn chain_verifies(header: &Header, chain: &SignedChain) -> bool
-    ensures { IsTrue result ↔ ChainVerifies header.now chain.now }
-{
-    chain.order.get() < header.net().orders() && are_signed(header, chain.order, &chain.signers)
 }

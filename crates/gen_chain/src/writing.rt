@@ -1,24 +1,10 @@
 //! Writes chains.
-ghost use Rattle.std.specs.Prelude.{◌≡◌, ◌≤◌, ◌<◌, ◌+◌, ◌*◌, ◌++◌, IfOk, OnOk, OnErr, length, vec_len, vec_capacity};
-ghost use Rattle.std.specs.List.{flat_map};
-ghost use Rattle.gen_chain.specs.Chain.{signer_spelling, signers_length, chain_spelling, chain_length};
+ghost use Rattle.std.specs.Prelude.{◌≡◌, ◌≤◌, ◌<◌, ◌+◌, ◌++◌, IfOk, OnOk, OnErr, vec_len, vec_capacity};
+ghost use Rattle.gen_chain.specs.Chain.{chain_spelling, chain_length};
 
-use crate::chains::{SignedChain, Signer};
+use crate::chains::SignedChain;
 use crate::sizes::{FRONT_BYTES, MOST_CHAIN_BYTES, signers_bytes};
 use std::alloc::{AllocError, Global};
-
-/// Appends signers, in room that was reserved before.
-fn put_signers(out: &mut Vec<u8>, signers: &[Signer])
-    requires room { vec_len out.old + signers_length signers.now ≤ vec_capacity out.old }
-    ensures items { out.new.items ≡ out.old.items ++ flat_map signer_spelling signers.now }
-    ensures len { vec_len out.new ≡ vec_len out.old + signers_length signers.now }
-    ensures capacity { vec_capacity out.old ≤ vec_capacity out.new }
-{
-    'signers: for signer in signers {
-        out.push(signer.general.get()).unwrap();
-        signer.signature.append_to(out).unwrap();
-    }
-}
 
 impl SignedChain {
     /// Returns the number of bytes of the chain's spelling.
@@ -45,7 +31,11 @@ impl SignedChain {
         out.reserve(self.byte_count())?;
         let front = [self.order.get(), self.signers.len() as u8];
         out.extend_from_slice(&front).unwrap();
-        put_signers(out, &self.signers);
+        let signers = self.signers();
+        'signers: for signer in signers {
+            out.push(signer.general.get()).unwrap();
+            signer.signature.append_to(out).unwrap();
+        }
         Ok(())
     }
 }

@@ -12,18 +12,6 @@ use crate::picks::{Adds, pick};
 use gen_net::Net;
 use gen_types::{Choice, ChoiceKind, GeneralNo, OrderNo, OrderSet};
 use std::marker::Model;
-
-/// Adds the orders of these chains to the set.
-fn learn(known: &mut OrderSet, seen: &[Seen])
-    ensures { IsListOf known.new (λ v. Contains known.old v ⊎ OrderIn seen.now v) }
-{
-    // The set's list ascends, which a call of `len` makes known to the proof.
-    let _ = known.len();
-    for chain in seen {
-        known.insert(chain.order);
-    }
-}
-
 /// A lieutenant after some of the rounds: its number, 1 to 15, the number of rounds, and its choice. It keeps
 /// the orders that arrived so far, which are the set V of SM(m) (section 4 of the paper of 1982).
 #[derive(Clone, Copy, Debug)]
@@ -119,7 +107,13 @@ impl Lieutenant {
             HasSeen net run self.new }
     {
         let adds = pick(&self.known, seen);
-        learn(&mut self.known, seen);
+        let mut known = self.known;
+        // The set's list ascends, which a call of `len` makes known to the proof.
+        let _ = known.len();
+        for chain in seen {
+            known.insert(chain.order);
+        }
+        self.known = known;
         self.gone += 1;
         adds
     }

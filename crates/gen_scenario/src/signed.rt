@@ -10,7 +10,7 @@ ghost use Rattle.gen_net.specs.Version.{greatest_slot, height_in, slot_in};
 ghost use Rattle.gen_scenario.specs.Scenario as scenarios;
 ghost use Rattle.gen_scenario.specs.Scenario.{IsScenario, header_of, scenario_of};
 ghost use Rattle.gen_scenario.specs.Rings.{ring_at};
-ghost use Rattle.gen_scenario.specs.Trees.{general_tree, root_over};
+ghost use Rattle.gen_scenario.specs.Trees.{general_tree};
 
 use crate::plan::SignedPlan;
 use gen_net::{GREATEST_SLOT, Header, HeaderFault, Net, Version};
@@ -67,18 +67,6 @@ fn general_trees(
     }
     Ok(trees)
 }
-
-/// Returns the roots of trees, in the same order.
-fn roots_of(alloc: Global, trees: &[KeyTree]) -> Result<Vec<[u8; 32]>, AllocError>
-    ensures { IfOk result (λ roots. roots.items ≡ map root_over trees.now) }
-{
-    let mut roots = Vec::with_capacity(alloc, trees.len())?;
-    'trees: for tree in trees {
-        roots.push(tree.root())?;
-    }
-    Ok(roots)
-}
-
 /// Returns the header of this version, network and roots. The slot must be 0 to 3, and there must be one root
 /// for each general.
 fn header_over(version: Version, net: Net, roots: Vec<[u8; 32]>) -> Header
@@ -186,7 +174,10 @@ impl Scenario {
         ensures { IfOk result (λ scenario. scenario ≡ plan) }
     {
         let _lawful = plan.scripts();
-        let roots = roots_of(alloc, trees.as_slice())?;
+        let mut roots = Vec::with_capacity(alloc, trees.len())?;
+        'trees: for tree in trees.as_slice() {
+            roots.push(tree.root())?;
+        }
         let net = plan.net().clone()?;
         let header = header_over(plan.version(), net, roots);
         Ok(Scenario {

@@ -1,13 +1,11 @@
 //! The fields of a script line: numbers and the bytes of a parcel.
 ghost use Rattle.std.specs.Prelude.{◌≡◌, ◌<◌};
 ghost use Rattle.gen_types.specs.Spelled.{IsRead};
-ghost use Rattle.gen_script.specs.FieldReading.{number_in, round_in, neighbour_in, order_in, parcel_in};
+ghost use Rattle.gen_script.specs.FieldReading.{number_in, round_in, neighbour_in, order_in};
 
 use crate::fault::ScriptFault;
-use crate::lines::Parcel;
 use gen_net::Net;
 use gen_types::{GeneralNo, OrderNo, ReadError, check, decimal_number};
-use hex::FromHexError;
 use std::alloc::Global;
 
 /// What is needed to read a line of the script of the general `me` of this network. What is kept of the
@@ -74,21 +72,4 @@ pub fn order_in(reader: &Reader<'_>, digits: &[u8]) -> Result<OrderNo, ReadError
     let order = number_in(digits)?;
     check(order < reader.net.orders(), ScriptFault::BadOrder)?;
     Ok(OrderNo::at(order))
-}
-
-/// Returns the parcel whose bytes, at least one, these hexadecimal digits spell, and else the fault
-/// `Number`.
-pub fn parcel_in(reader: &Reader<'_>, digits: &[u8]) -> Result<Parcel, ReadError<ScriptFault>>
-    ensures { IsRead result (parcel_in digits.now) }
-{
-    match hex::decode(reader.alloc, digits) {
-        Ok(bytes) => {
-            if bytes.is_empty() {
-                return Err(ReadError::Fault(ScriptFault::Number));
-            }
-            Ok(Parcel::new(bytes))
-        }
-        Err(FromHexError::OutOfMemory) => Err(ReadError::Memory),
-        Err(_) => Err(ReadError::Fault(ScriptFault::Number)),
-    }
 }

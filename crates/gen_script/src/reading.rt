@@ -6,11 +6,12 @@ ghost use Rattle.gen_script.specs.Line.{SpellsLine, OneScriptLine};
 ghost use Rattle.gen_script.specs.declared.lines.ScriptLine.{ScriptLine as Said};
 
 use crate::fault::ScriptFault;
-use crate::line_fields::{Reader, neighbour_in, order_in, parcel_in, round_in};
-use crate::lines::ScriptLine;
+use crate::line_fields::{Reader, neighbour_in, order_in, round_in};
+use crate::lines::{Parcel, ScriptLine};
 use crate::path_fields::{PathKind, path_in};
 use gen_net::Net;
-use gen_types::{GeneralNo, ReadError, split_fields};
+use gen_types::{GeneralNo, ReadError, check, split_fields};
+use hex::FromHexError;
 use std::alloc::Global;
 
 /// Returns the `make` line of these fields: round, receiver, order and path.
@@ -88,7 +89,8 @@ fn bend_in(
     })
 }
 
-/// Returns the `raw` line of these fields: round, receiver and the parcel's bytes.
+/// Returns the `raw` line of these fields: round, receiver and the parcel's bytes, at least one, in hexadecimal
+/// digits.
 #[tactic(auto, unfolding(crate::specs::LineReading::raw_in))]
 fn raw_in(
     reader: &Reader<'_>,
@@ -100,8 +102,15 @@ fn raw_in(
 {
     let round = round_in(reader, 1, round)?;
     let to = neighbour_in(reader, to)?;
-    let parcel = parcel_in(reader, parcel)?;
-    Ok(ScriptLine::Raw { round, to, parcel })
+    match hex::decode(reader.alloc, parcel) {
+        Ok(bytes) => {
+            check(!bytes.is_empty(), ScriptFault::Number)?;
+            let parcel = Parcel::new(bytes);
+            Ok(ScriptLine::Raw { round, to, parcel })
+        }
+        Err(FromHexError::OutOfMemory) => Err(ReadError::Memory),
+        Err(_) => Err(ReadError::Fault(ScriptFault::Number)),
+    }
 }
 
 /// Returns the `hide` line of these fields: round, sender and order.
@@ -145,14 +154,6 @@ fn line_in(reader: &Reader<'_>, fields: &[&[u8]]) -> Result<ScriptLine, ReadErro
         [word] if *word == b"twohead".as_slice() => Ok(ScriptLine::TwoHeads),
         _ => Err(ReadError::Fault(ScriptFault::Shape)),
     }
-}
-
-/// Returns the script line that the bytes of a line spell, or the line's first fault.
-fn line_of(reader: &Reader<'_>, line: &[u8]) -> Result<ScriptLine, ReadError<ScriptFault>>
-    ensures { IsRead result (script_line_of reader.now.net.now reader.now.me line.now) }
-{
-    let fields = split_fields(reader.alloc, line)?;
-    line_in(reader, &fields)
 }
 
 /// Returns what a line says in the script of the general `me`, which must be a general of the network. The
@@ -203,7 +204,8 @@ pub fn read_script_bytes(
 {
     // The laws need what holds of each network. This read of the network makes it known to the proof.
     let _generals = net.generals();
-    line_of(&Reader { alloc, net, me }, line)
+    let fields = split_fields(alloc, line)?;
+    line_in(&Reader { alloc, net, me }, &fields)
 }
 
 /// States that a line says at most one thing in the script of a general.

@@ -1,4 +1,5 @@
 use Rattle.std.proofs.Common.{◌≡◌, ◌∙◌, ◌≤◌, sym, ap, subst, map}
+use Rattle.std.proofs.lemmas.List.{take_all}
 use Rattle.gen_net.specs.declared.version.Version.{Version}
 use Rattle.gen_net.specs.Network.{Network}
 use Rattle.gen_net.specs.Version.{greatest_slot, height_in, slot_in}
@@ -14,16 +15,16 @@ pub header_over-header-requires-clause-one_each : goal.header_over-header-requir
 header_over-header-requires-clause-one_each c =
     let p = c.args.plan in
     let same : c.in_ok-net.net ≡ p.net = c.in_ok-net.ensures.cases ∙ c.net.ensures in
-    roots_count p.master (height_in p.version) p.net.generals c.args.trees.items c.in_ok-roots.roots.items c.requires
-    (c.in_ok-roots.ensures ∙ ap (map root_over) c.as_slice.ensures.value)
+    roots_count p.master (height_in p.version) p.net.generals c.args.trees.items c.trees.roots.items c.requires
+    (c.trees.invariant ∙ ap (map root_over) (take_all c.trees.tree-index c.as_slice-tree-items.result.now c.trees-test.false ∙ c.as_slice-tree-items.ensures.value))
     ∙ sym (ap (λ (n : Network). n.generals) same)
 
 pub invariant_of-result : goal.invariant_of-result
 invariant_of-result c =
     let p = c.args.plan in
     let same : c.in_ok-net.net ≡ p.net = c.in_ok-net.ensures.cases ∙ c.net.ensures in
-    let roots = roots_are p.master (height_in p.version) p.net.generals c.args.trees.items c.in_ok-roots.roots.items c.requires
-    (c.in_ok-roots.ensures ∙ ap (map root_over) c.as_slice.ensures.value) in
+    let roots = roots_are p.master (height_in p.version) p.net.generals c.args.trees.items c.trees.roots.items c.requires
+    (c.trees.invariant ∙ ap (map root_over) (take_all c.trees.tree-index c.as_slice-tree-items.result.now c.trees-test.false ∙ c.as_slice-tree-items.ensures.value)) in
     record {
       header = c.header_over-header.ensures ∙ (λ i. record { version = c.version.ensures i; network = same i; roots = roots i });
       trees = c.requires;
