@@ -112,16 +112,22 @@ exhibits h at (x ∷ xs) =
     both (log_lines h x.general (at + exhibit_front_length) x.bytes) (exhibit_lines h (at + exhibit_length x) xs)
     (log h x.general (at + exhibit_front_length) x.bytes) (exhibits h (at + exhibit_length x) xs)
 
+behind_walks : (h : RunHeader) (at : ℕ) (xs : List LogBytes) → Lined (exhibit_lines h at xs ++ end_line)
+behind_walks h at xs = both (exhibit_lines h at xs) end_line (exhibits h at xs) ending
+
+behind_faulty : (h : RunHeader) (at : ℕ) (ws : List (List ℕ)) (xs : List LogBytes)
+    → Lined (flat_map walk_line ws ++ (exhibit_lines h at xs ++ end_line))
+behind_faulty h at ws xs = both (flat_map walk_line ws) (exhibit_lines h at xs ++ end_line) (walks ws) (behind_walks h at xs)
+
 bundle : (at : ℕ) (b : Bundle) → Lined (bundle_lines at b)
 bundle at b =
     let first = at + bundle_front_length b in
-    let last = exhibit_lines b.header first b.exhibits ++ end_line in
     unfold bundle_lines in
-    both (json_line (header_data (codes "bundle") b.header)) (json_line (faulty_data b.faulty) ++ (flat_map walk_line b.walks ++ last))
+    both (json_line (header_data (codes "bundle") b.header))
+    (json_line (faulty_data b.faulty) ++ (flat_map walk_line b.walks ++ (exhibit_lines b.header first b.exhibits ++ end_line)))
     (line (header_data (codes "bundle") b.header) (header_plain (codes "bundle") b.header))
-    (both (json_line (faulty_data b.faulty)) (flat_map walk_line b.walks ++ last) (line (faulty_data b.faulty) (faulty_plain b.faulty))
-    (both (flat_map walk_line b.walks) last (walks b.walks)
-    (both (exhibit_lines b.header first b.exhibits) end_line (exhibits b.header first b.exhibits) ending)))
+    (both (json_line (faulty_data b.faulty)) (flat_map walk_line b.walks ++ (exhibit_lines b.header first b.exhibits ++ end_line))
+    (line (faulty_data b.faulty) (faulty_plain b.faulty)) (behind_faulty b.header first b.walks b.exhibits))
 
 runs : (place at : ℕ) (bs : List Bundle) → Lined (run_lines place at bs)
 runs place at [] = nothing

@@ -43,7 +43,6 @@ fn push_claim(
 }
 
 /// Appends the lines of evidence that holds or fails.
-#[tactic(auto, unfolding(crate::specs::EvidenceLines::evidence_line))]
 pub fn push_evidence(
     alloc: Global,
     out: &mut Vec<u8>,
