@@ -37,7 +37,7 @@ last_plain : (e : Option Entry) → has_float (last_order e) ≡ false
 last_plain None = refl
 last_plain (Some e) = order_plain e
 
-pub head_plain : (general at : ℕ) (entries : List Entry) → has_float (head_data general at (decided_data entries)) ≡ false
+pub head_plain : (general at : ℕ) (entries : List Entry) → has_float (head_data general at entries) ≡ false
 head_plain general at entries = unfold head_data in unfold decided_data in rw (last_plain (slice_get entries (length entries - 1))) refl
 
 pub faulty_plain : (faulty : List ℕ) → has_float (faulty_data faulty) ≡ false

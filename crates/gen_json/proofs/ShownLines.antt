@@ -39,14 +39,14 @@ use Rattle.gen_show.specs.declared.kinds.FileKind.TheVariants.{OfHeader, OfEvide
 use Rattle.gen_json.specs.EvidenceData.{evidence_data}
 use Rattle.gen_json.specs.Line.{json_line}
 use Rattle.gen_json.proofs.PlainEvidence.{evidence_plain}
-use Rattle.gen_json.specs.BundleData.{bundle_lines, claimed_lines, end_data, end_line, exhibit_lines, exhibit_text, faulty_data, place_data, run_lines, run_text, walk_data, walk_line}
-use Rattle.gen_json.specs.CampaignLines.{alone_lines, campaign_data, campaign_end_line, several_lines}
-use Rattle.gen_json.specs.EntryData.{entry_data, entry_line, entry_lines}
+use Rattle.gen_json.specs.BundleData.{bundle_lines, end_data, end_line, exhibit_lines, faulty_data, place_data, run_lines, walk_data, walk_line}
+use Rattle.gen_json.specs.CampaignLines.{alone_lines, campaign_data, several_lines}
+use Rattle.gen_json.specs.EntryData.{entry_data, entry_lines}
 use Rattle.gen_json.specs.EvidenceLines.{claim_lines, evidence_line, evidence_lines}
 use Rattle.gen_json.specs.FaultData.{fault_data, fault_line}
 use Rattle.gen_json.specs.HeaderData.{header_data}
 use Rattle.gen_json.specs.LineLists.{AreLines, ShownAreLines}
-use Rattle.gen_json.specs.LogData.{decided_data, head_data, head_line, log_data, log_lines, reading_lines, unreadable_data}
+use Rattle.gen_json.specs.LogData.{head_data, log_data, log_lines, reading_lines, unreadable_data}
 use Rattle.gen_json.specs.ShowingLines.{IsEvidenceText, campaign_reading_lines, faulty_lines, front_lines, header_ending, header_reading_lines}
 use Rattle.gen_json.proofs.PlainShown.{campaign_plain, end_plain, fault_plain, faulty_plain, head_plain, header_plain, log_plain, place_plain, unreadable_plain, walk_plain}
 use Rattle.gen_json.proofs.PlainEntries.{entry_plain}
@@ -75,25 +75,21 @@ both a b x y = (
 
 -- ---- logs
 
-entry : (keeper number at : ℕ) (e : Entry) → Lined (entry_line keeper number at e)
-entry keeper number at e = unfold entry_line in line (entry_data keeper number at e) (entry_plain keeper number at e)
-
 entries : (keeper number at : ℕ) (es : List Entry) → Lined (entry_lines keeper number at es)
 entries keeper number at [] = nothing
 entries keeper number at (e ∷ es) =
-    both (entry_line keeper number at e) (entry_lines keeper (number + 1) (at + entry_length e) es) (entry keeper number at e) (entries keeper (number + 1) (at + entry_length e) es)
-
-head : (general at : ℕ) (es : List Entry) → Lined (head_line general at es)
-head general at es = unfold head_line in line (head_data general at (decided_data es)) (head_plain general at es)
+    both (json_line (entry_data keeper number at e)) (entry_lines keeper (number + 1) (at + entry_length e) es)
+    (line (entry_data keeper number at e) (entry_plain keeper number at e)) (entries keeper (number + 1) (at + entry_length e) es)
 
 reading : (general at size : ℕ) (r : Result RunLog LogFault) → Lined (reading_lines general at size r)
 reading general at size (Err fault) = line (unreadable_data general at size fault) (unreadable_plain general at size fault)
 reading general at size (Ok log) =
     let first = at + log_front_length in
     let last = at + log_front_length + sum_by entry_length log.entries in
-    both (json_line (log_data general at size log)) (entry_lines general 0 first log.entries ++ head_line general last log.entries)
+    let head = head_data general last log.entries in
+    both (json_line (log_data general at size log)) (entry_lines general 0 first log.entries ++ json_line head)
     (line (log_data general at size log) (log_plain general at size log))
-    (both (entry_lines general 0 first log.entries) (head_line general last log.entries) (entries general 0 first log.entries) (head general last log.entries))
+    (both (entry_lines general 0 first log.entries) (json_line head) (entries general 0 first log.entries) (line head (head_plain general last log.entries)))
 
 log : (h : RunHeader) (general at : ℕ) (bytes : List ℕ) → Lined (log_lines h general at bytes)
 log h general at bytes = unfold log_lines in reading general at (length bytes) (log_of h bytes)
@@ -101,51 +97,54 @@ log h general at bytes = unfold log_lines in reading general at (length bytes) (
 -- ---- bundles
 
 ending : Lined end_line
-ending = unfold end_line in line (end_data (codes "shown end")) (end_plain (codes "shown end"))
+ending = line (end_data (codes "shown end")) (end_plain (codes "shown end"))
 
 walk : (w : List ℕ) → Lined (walk_line w)
-walk w = unfold walk_line in line (walk_data w) (walk_plain w)
+walk w = line (walk_data w) (walk_plain w)
 
 walks : (ws : List (List ℕ)) → Lined (flat_map walk_line ws)
 walks [] = nothing
 walks (w ∷ ws) = both (walk_line w) (flat_map walk_line ws) (walk w) (walks ws)
 
-exhibit : (h : RunHeader) (at : ℕ) (x : LogBytes) → Lined (exhibit_text h at x)
-exhibit h at x = unfold exhibit_text in log h x.general (at + exhibit_front_length) x.bytes
-
 exhibits : (h : RunHeader) (at : ℕ) (xs : List LogBytes) → Lined (exhibit_lines h at xs)
 exhibits h at [] = nothing
-exhibits h at (x ∷ xs) = both (exhibit_text h at x) (exhibit_lines h (at + exhibit_length x) xs) (exhibit h at x) (exhibits h (at + exhibit_length x) xs)
+exhibits h at (x ∷ xs) =
+    both (log_lines h x.general (at + exhibit_front_length) x.bytes) (exhibit_lines h (at + exhibit_length x) xs)
+    (log h x.general (at + exhibit_front_length) x.bytes) (exhibits h (at + exhibit_length x) xs)
 
-claimed : (b : Bundle) → Lined (claimed_lines b)
-claimed b =
-    unfold claimed_lines in
-    both (json_line (header_data (codes "bundle") b.header)) (json_line (faulty_data b.faulty) ++ flat_map walk_line b.walks)
-    (line (header_data (codes "bundle") b.header) (header_plain (codes "bundle") b.header))
-    (both (json_line (faulty_data b.faulty)) (flat_map walk_line b.walks) (line (faulty_data b.faulty) (faulty_plain b.faulty)) (walks b.walks))
+behind_walks : (h : RunHeader) (at : ℕ) (xs : List LogBytes) → Lined (exhibit_lines h at xs ++ end_line)
+behind_walks h at xs = both (exhibit_lines h at xs) end_line (exhibits h at xs) ending
+
+behind_faulty : (h : RunHeader) (at : ℕ) (ws : List (List ℕ)) (xs : List LogBytes)
+    → Lined (flat_map walk_line ws ++ (exhibit_lines h at xs ++ end_line))
+behind_faulty h at ws xs = both (flat_map walk_line ws) (exhibit_lines h at xs ++ end_line) (walks ws) (behind_walks h at xs)
 
 bundle : (at : ℕ) (b : Bundle) → Lined (bundle_lines at b)
 bundle at b =
     let first = at + bundle_front_length b in
     unfold bundle_lines in
-    both (claimed_lines b) (exhibit_lines b.header first b.exhibits ++ end_line) (claimed b)
-    (both (exhibit_lines b.header first b.exhibits) end_line (exhibits b.header first b.exhibits) ending)
-
-run : (place at : ℕ) (b : Bundle) → Lined (run_text place at b)
-run place at b = unfold run_text in both (json_line (place_data place at)) (bundle_lines at b) (line (place_data place at) (place_plain place at)) (bundle at b)
+    both (json_line (header_data (codes "bundle") b.header))
+    (json_line (faulty_data b.faulty) ++ (flat_map walk_line b.walks ++ (exhibit_lines b.header first b.exhibits ++ end_line)))
+    (line (header_data (codes "bundle") b.header) (header_plain (codes "bundle") b.header))
+    (both (json_line (faulty_data b.faulty)) (flat_map walk_line b.walks ++ (exhibit_lines b.header first b.exhibits ++ end_line))
+    (line (faulty_data b.faulty) (faulty_plain b.faulty)) (behind_faulty b.header first b.walks b.exhibits))
 
 runs : (place at : ℕ) (bs : List Bundle) → Lined (run_lines place at bs)
 runs place at [] = nothing
-runs place at (b ∷ bs) = both (run_text place at b) (run_lines (place + 1) (at + bundle_length b) bs) (run place at b) (runs (place + 1) (at + bundle_length b) bs)
+runs place at (b ∷ bs) =
+    let others = run_lines (place + 1) (at + bundle_length b) bs in
+    both (json_line (place_data place at)) (bundle_lines at b ++ others) (line (place_data place at) (place_plain place at))
+    (both (bundle_lines at b) others (bundle at b) (runs (place + 1) (at + bundle_length b) bs))
 
 -- ---- campaigns
 
 several : (bs : List Bundle) → Lined (several_lines bs)
 several bs =
-    let last : Lined campaign_end_line = unfold campaign_end_line in line (end_data (codes "shown campaign end")) (end_plain (codes "shown campaign end")) in
-    both (json_line (campaign_data (length bs))) (run_lines 0 campaign_front_length bs ++ campaign_end_line)
+    let last = end_data (codes "shown campaign end") in
+    unfold several_lines in
+    both (json_line (campaign_data (length bs))) (run_lines 0 campaign_front_length bs ++ json_line last)
     (line (campaign_data (length bs)) (campaign_plain (length bs)))
-    (both (run_lines 0 campaign_front_length bs) campaign_end_line (runs 0 campaign_front_length bs) last)
+    (both (run_lines 0 campaign_front_length bs) (json_line last) (runs 0 campaign_front_length bs) (line last (end_plain (codes "shown campaign end"))))
 
 alone : (bs : List Bundle) → Lined (alone_lines bs)
 alone [] = nothing

@@ -32,31 +32,27 @@ unfoldable pub end_data : List ℕ → Data
 end_data name = fields ((codes "format", string name) ∷ (codes "version", whole json_version) ∷ [])
 
 -- the line behind a whole file that is no campaign, and behind each run of one
-unfoldable pub end_line : List ℕ
+abbrev pub end_line : List ℕ
 end_line = json_line (end_data (codes "shown end"))
 
-unfoldable pub walk_line : List ℕ → List ℕ
+-- the line of a walk
+abbrev pub walk_line : List ℕ → List ℕ
 walk_line walk = json_line (walk_data walk)
-
--- the lines of an exhibit that begins at this byte
-unfoldable pub exhibit_text : RunHeader → ℕ → LogBytes → List ℕ
-exhibit_text h at x = log_lines h x.general (at + exhibit_front_length) x.bytes
 
 -- the lines of exhibits that stand one behind another, from this byte on
 abbrev pub exhibit_lines : RunHeader → ℕ → List LogBytes → List ℕ
 exhibit_lines h at [] = []
-exhibit_lines h at (x ∷ xs) = exhibit_text h at x ++ exhibit_lines h (at + exhibit_length x) xs
+exhibit_lines h at (x ∷ xs) =
+    log_lines h x.general (at + exhibit_front_length) x.bytes ++ exhibit_lines h (at + exhibit_length x) xs
 
--- the lines of the header, of the generals that are held for faulty, and of the walks
-unfoldable pub claimed_lines : Bundle → List ℕ
-claimed_lines b =
-    json_line (header_data (codes "bundle") b.header)
-    ++ (json_line (faulty_data b.faulty) ++ flat_map walk_line b.walks)
-
--- the lines of a bundle that begins at this byte
+-- the lines of a bundle that begins at this byte: its header, the generals that are held for faulty, the
+-- walks and the exhibits
 unfoldable pub bundle_lines : ℕ → Bundle → List ℕ
 bundle_lines at b =
-    claimed_lines b ++ (exhibit_lines b.header (at + bundle_front_length b) b.exhibits ++ end_line)
+    json_line (header_data (codes "bundle") b.header)
+    ++ (json_line (faulty_data b.faulty)
+    ++ (flat_map walk_line b.walks
+    ++ (exhibit_lines b.header (at + bundle_front_length b) b.exhibits ++ end_line)))
 
 -- the run of a campaign: its place, and the byte at which its bundle begins
 unfoldable pub place_data : ℕ → ℕ → Data
@@ -67,11 +63,8 @@ place_data place at = fields (
     ∷ (codes "version", whole json_version)
     ∷ [])
 
--- the lines of the bundle of a run that begins at this byte
-unfoldable pub run_text : ℕ → ℕ → Bundle → List ℕ
-run_text place at b = json_line (place_data place at) ++ bundle_lines at b
-
 -- the lines of the bundles of runs that stand one behind another, from this place and this byte on
 abbrev pub run_lines : ℕ → ℕ → List Bundle → List ℕ
 run_lines place at [] = []
-run_lines place at (b ∷ bs) = run_text place at b ++ run_lines (place + 1) (at + bundle_length b) bs
+run_lines place at (b ∷ bs) =
+    json_line (place_data place at) ++ (bundle_lines at b ++ run_lines (place + 1) (at + bundle_length b) bs)

@@ -22,34 +22,25 @@ runs_data [] judgements = []
 runs_data (b ∷ bundles) [] = []
 runs_data (b ∷ bundles) (j ∷ judgements) = run_data b j ∷ runs_data bundles judgements
 
--- a general that is convicted across two runs, which are named by their places
-abbrev pub places_data : ℕ → ℕ → ℕ → Data
-places_data general first second = fields (
-    (codes "first", whole first) ∷ (codes "general", whole general)
-    ∷ (codes "id", string (codes "K1")) ∷ (codes "second", whole second) ∷ [])
-
--- a conviction across two runs, or evidence of one run alone, which is named by its kind
+-- a conviction across two runs, which are named by their places; or evidence of one run alone, which is named
+-- by its kind
 abbrev pub across_data_of : List Bundle → ℕ → Claim → Data
-across_data_of bundles accused (AcrossRuns x y) =
-    places_data accused (place_of bundles x.header) (place_of bundles y.header)
+across_data_of bundles accused (AcrossRuns x y) = fields (
+    (codes "first", whole (place_of bundles x.header)) ∷ (codes "general", whole accused)
+    ∷ (codes "id", string (codes "K1")) ∷ (codes "second", whole (place_of bundles y.header)) ∷ [])
 across_data_of bundles accused claim = conviction_data (record { accused = accused; claim = claim })
 
 abbrev pub across_data : List Bundle → Accusation → Data
 across_data bundles e = across_data_of bundles e.accused e.claim
 
--- the object of a campaign, of its convictions across two runs and of the judgements on its runs
-abbrev pub campaign_object : Data → Data → Data
-campaign_object across runs = fields (
-    (codes "across", across)
+-- the verdict on several runs: the convictions across two, and the judgements
+abbrev pub several_data : List Bundle → List Judgement → List Accusation → Data
+several_data bundles judgements across = fields (
+    (codes "across", list_of (across_data bundles) across)
     ∷ (codes "format", string (codes "campaign verdict"))
-    ∷ (codes "runs", runs)
+    ∷ (codes "runs", array (items_of (runs_data bundles judgements)))
     ∷ (codes "version", whole json_version)
     ∷ [])
-
--- the verdict on several runs
-abbrev pub several_data : List Bundle → List Judgement → List Accusation → Data
-several_data bundles judgements across =
-    campaign_object (list_of (across_data bundles) across) (array (items_of (runs_data bundles judgements)))
 
 -- the judgement on the first run; null if there is none
 abbrev pub alone_data : List Bundle → List Judgement → Data

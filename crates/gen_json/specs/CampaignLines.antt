@@ -17,15 +17,11 @@ campaign_data count = fields (
     ∷ (codes "version", whole json_version)
     ∷ [])
 
--- the line behind several runs
-unfoldable pub campaign_end_line : List ℕ
-campaign_end_line = json_line (end_data (codes "shown campaign end"))
-
 -- the lines of several runs
-abbrev pub several_lines : List Bundle → List ℕ
+unfoldable pub several_lines : List Bundle → List ℕ
 several_lines bundles =
     json_line (campaign_data (length bundles))
-    ++ (run_lines 0 campaign_front_length bundles ++ campaign_end_line)
+    ++ (run_lines 0 campaign_front_length bundles ++ json_line (end_data (codes "shown campaign end")))
 
 -- the lines of a bundle that stands alone
 abbrev pub alone_lines : List Bundle → List ℕ

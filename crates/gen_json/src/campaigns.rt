@@ -4,7 +4,7 @@ ghost use Rattle.serde_json.specs.Data.{array};
 ghost use Rattle.serde_json.specs.View.{items_of, view};
 ghost use Rattle.gen_convict.specs.Evidence.{told_of};
 ghost use Rattle.gen_campaign.specs.CampaignVerdictText.{place_of};
-ghost use Rattle.gen_json.specs.CampaignData.{across_data, alone_data, campaign_data, places_data, run_data, runs_data, several_data};
+ghost use Rattle.gen_json.specs.CampaignData.{across_data, alone_data, campaign_data, run_data, runs_data};
 ghost use Rattle.gen_json.specs.JsonData.{list_of};
 ghost use Rattle.gen_json.specs.Line.{ReadsAs, json_line};
 
@@ -47,30 +47,7 @@ fn push_run(
     push_seen(list, value)
 }
 
-/// Appends the judgements on runs, in their order. A run without a judgement has none.
-fn push_runs(
-    alloc: Global,
-    list: &mut Vec<Value>,
-    bundles: &[Bundle],
-    judgements: &[Judgement],
-) -> Result<(), AllocError>
-    ensures { OnOk result (map view list.new.items
-        ≡ map view list.old.items ++ runs_data bundles.now judgements.now) }
-{
-    let mut runs = bundles;
-    let mut rest = judgements;
-    'runs: while let Some((run, others)) = runs.split_first() {
-        let Some((judgement, more)) = rest.split_first() else {
-            return Ok(());
-        };
-        push_run(alloc, list, run, judgement)?;
-        runs = others;
-        rest = more;
-    }
-    Ok(())
-}
-
-/// Returns the list of the judgements on runs.
+/// Returns the list of the judgements on runs, in their order. A run without a judgement has none.
 fn runs_value(
     alloc: Global,
     bundles: &[Bundle],
@@ -79,25 +56,17 @@ fn runs_value(
     ensures { IfOk result (λ v. view v ≡ array (items_of (runs_data bundles.now judgements.now))) }
 {
     let mut list = Vec::new(alloc);
-    push_runs(alloc, &mut list, bundles, judgements)?;
+    let mut runs = bundles;
+    let mut rest = judgements;
+    'runs: while let Some((run, others)) = runs.split_first() {
+        let Some((judgement, more)) = rest.split_first() else {
+            return Ok(Value::Array(list));
+        };
+        push_run(alloc, &mut list, run, judgement)?;
+        runs = others;
+        rest = more;
+    }
     Ok(Value::Array(list))
-}
-
-/// Returns a general that is convicted across two runs, and the places of the runs.
-fn places_value(
-    alloc: Global,
-    general: u8,
-    first: usize,
-    second: usize,
-) -> Result<Value, AllocError>
-    ensures { IfOk result (λ v. view v ≡ places_data general first second) }
-{
-    let mut object = ObjectBuilder::new(alloc);
-    object.put("first", Value::from(first));
-    object.put("general", Value::from(general));
-    object.put_text("id", "K1");
-    object.put("second", Value::from(second));
-    object.finish()
 }
 
 /// Returns a conviction across two runs, with the places of the two among these bundles. Evidence of one run alone has
@@ -107,9 +76,12 @@ fn across_value(alloc: Global, bundles: &[Bundle], evidence: &Evidence) -> Resul
 {
     match &evidence.claim {
         Claim::Across { first, second } => {
-            let one = place_of(bundles, &first.header);
-            let other = place_of(bundles, &second.header);
-            places_value(alloc, evidence.accused.get(), one, other)
+            let mut object = ObjectBuilder::new(alloc);
+            object.put("first", Value::from(place_of(bundles, &first.header)));
+            object.put("general", Value::from(evidence.accused.get()));
+            object.put_text("id", "K1");
+            object.put("second", Value::from(place_of(bundles, &second.header)));
+            object.finish()
         }
         _ => conviction_value(alloc, evidence),
     }
@@ -130,24 +102,6 @@ fn all_across_value(
         serde_json::push(&mut list, value)?;
     }
     Ok(Value::Array(list))
-}
-
-/// Returns the verdict on several runs.
-fn several_value(
-    alloc: Global,
-    bundles: &[Bundle],
-    judgements: &[Judgement],
-    across: &[Evidence],
-) -> Result<Value, AllocError>
-    ensures { IfOk result (λ v. view v
-        ≡ several_data bundles.now judgements.now (map told_of across.now)) }
-{
-    let mut object = ObjectBuilder::new(alloc);
-    object.put_made("across", all_across_value(alloc, bundles, across));
-    object.put_text("format", "campaign verdict");
-    object.put_made("runs", runs_value(alloc, bundles, judgements));
-    object.put("version", Value::from(JSON_VERSION));
-    object.finish()
 }
 
 /// Returns the judgement on the first run, and null if there is none.
@@ -181,7 +135,13 @@ fn campaign_value(
     if campaign.is_alone() {
         alone_value(alloc, bundles, judgements)
     } else {
-        several_value(alloc, bundles, judgements, verdict.across.as_slice())
+        let across = verdict.across.as_slice();
+        let mut object = ObjectBuilder::new(alloc);
+        object.put_made("across", all_across_value(alloc, bundles, across));
+        object.put_text("format", "campaign verdict");
+        object.put_made("runs", runs_value(alloc, bundles, judgements));
+        object.put("version", Value::from(JSON_VERSION));
+        object.finish()
     }
 }
 

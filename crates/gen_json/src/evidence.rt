@@ -6,7 +6,7 @@ ghost use Rattle.gen_json.specs.EvidenceData.{evidence_data};
 ghost use Rattle.gen_json.specs.Line.{ReadsAs, json_line};
 
 use crate::claims::claim_value;
-use crate::convictions::name_value;
+use crate::convictions::claim_name;
 use crate::lines::value_line;
 use crate::numbers::{digits_value, network_value};
 use crate::objects::{JSON_VERSION, ObjectBuilder};
@@ -34,7 +34,7 @@ pub fn evidence_value(
     object.put_made("claim", claim_value(alloc, &evidence.claim));
     object.put_text("format", "evidence");
     object.put("holds", Value::from(holds));
-    object.put_made("kind", name_value(alloc, &evidence.claim));
+    object.put_text("kind", claim_name(&evidence.claim));
     object.put_made("network", network_value(alloc, header.net()));
     object.put_made("root", digits_value(alloc, header.root(evidence.accused)));
     object.put_made("run", digits_value(alloc, header.run_id()));

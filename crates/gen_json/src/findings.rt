@@ -1,30 +1,17 @@
 //! Findings as JSON.
 ghost use Rattle.std.specs.Prelude.{◌≡◌, IfOk};
-ghost use Rattle.serde_json.specs.Data.{string};
 ghost use Rattle.serde_json.specs.View.{view};
-ghost use Rattle.gen_report.specs.Findings.{log_fault_name};
-ghost use Rattle.gen_match.specs.declared.finding.Finding.TheVariants.{Unreadable, Unjoined, Nobody};
+ghost use Rattle.gen_match.specs.declared.finding.Finding.TheVariants.{Unreadable};
 ghost use Rattle.gen_json.specs.JsonData.{list_of};
 ghost use Rattle.gen_json.specs.FindingData.{about_entry, about_general, about_message, finding_data};
 
 use crate::objects::ObjectBuilder;
 use gen_log::LogFault;
 use gen_match::Finding;
+use gen_show::push_log_fault;
 use gen_types::{GeneralNo, OrderNo};
 use serde_json::Value;
 use std::alloc::{AllocError, Global};
-
-/// Returns the name of a log's fault, and, if that is a chain's fault, the name of the chain's fault behind it.
-fn fault_value(alloc: Global, fault: LogFault) -> Result<Value, AllocError>
-    ensures { IfOk result (λ v. view v ≡ string (log_fault_name fault)) }
-{
-    let (of_log, of_chain) = fault.numbers();
-    let text = match fault {
-        LogFault::Chain(_) => format!(in alloc; "L{of_log} C{of_chain}")?,
-        _ => format!(in alloc; "L{of_log}")?,
-    };
-    Ok(Value::String(text))
-}
 
 /// Returns a finding about a general.
 fn about_general(alloc: Global, id: &str, general: GeneralNo) -> Result<Value, AllocError>
@@ -56,8 +43,10 @@ fn about_entry(
 fn unreadable(alloc: Global, general: GeneralNo, fault: LogFault) -> Result<Value, AllocError>
     ensures { IfOk result (λ v. view v ≡ finding_data (Unreadable general fault)) }
 {
+    let mut name = String::new(alloc);
+    push_log_fault(&mut name, fault)?;
     let mut object = ObjectBuilder::new(alloc);
-    object.put_made("fault", fault_value(alloc, fault));
+    object.put("fault", Value::String(name));
     object.put("general", Value::from(general.get()));
     object.put_text("id", "N3");
     object.finish()
@@ -80,26 +69,6 @@ fn about_message(
     object.put("order", Value::from(order.get()));
     object.put("round", Value::from(round));
     object.put("to", Value::from(to.get()));
-    object.finish()
-}
-
-/// Returns the finding that the walks don't join two generals.
-fn unjoined(alloc: Global, first: GeneralNo, second: GeneralNo) -> Result<Value, AllocError>
-    ensures { IfOk result (λ v. view v ≡ finding_data (Unjoined first second)) }
-{
-    let mut object = ObjectBuilder::new(alloc);
-    object.put("first", Value::from(first.get()));
-    object.put_text("id", "N10");
-    object.put("second", Value::from(second.get()));
-    object.finish()
-}
-
-/// Returns the finding that all generals are held for faulty.
-fn about_nobody(alloc: Global) -> Result<Value, AllocError>
-    ensures { IfOk result (λ v. view v ≡ finding_data Nobody) }
-{
-    let mut object = ObjectBuilder::new(alloc);
-    object.put_text("id", "N11");
     object.finish()
 }
 
@@ -127,8 +96,18 @@ fn finding_value(alloc: Global, finding: &Finding) -> Result<Value, AllocError>
             round,
             order,
         } => about_message(alloc, "N9", from, to, round, order),
-        Finding::Unjoined { first, second } => unjoined(alloc, first, second),
-        Finding::Nobody => about_nobody(alloc),
+        Finding::Unjoined { first, second } => {
+            let mut object = ObjectBuilder::new(alloc);
+            object.put("first", Value::from(first.get()));
+            object.put_text("id", "N10");
+            object.put("second", Value::from(second.get()));
+            object.finish()
+        }
+        Finding::Nobody => {
+            let mut object = ObjectBuilder::new(alloc);
+            object.put_text("id", "N11");
+            object.finish()
+        }
     }
 }
 

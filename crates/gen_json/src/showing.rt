@@ -9,7 +9,7 @@ ghost use Rattle.gen_show.specs.EvidenceText.{HasRoom};
 ghost use Rattle.gen_show.specs.Showing.{file_kind, front_end, is_whole_as};
 ghost use Rattle.gen_show.specs.declared.kinds.FileKind.TheVariants as kinds;
 ghost use Rattle.gen_json.specs.CampaignLines.{campaign_lines};
-ghost use Rattle.gen_json.specs.ShowingLines.{IsEvidenceText, IsJsonAs, TellsEvidence, campaign_reading_lines, faulty_lines, front_lines, header_ending, header_reading_lines};
+ghost use Rattle.gen_json.specs.ShowingLines.{IsEvidenceText, IsJsonAs, TellsEvidence, campaign_reading_lines, faulty_lines, front_lines};
 
 use crate::shown_bundles::push_end;
 use crate::shown_campaigns::push_campaign;
@@ -18,7 +18,7 @@ use crate::shown_faults::push_fault;
 use crate::shown_headers::push_header;
 use gen_campaign::{CampaignBundle, CampaignFault, read_campaign};
 use gen_convict::{Evidence, EvidenceFault, check_evidence, read_evidence};
-use gen_net::{Header, HeaderFault, Marks, read_front, read_header};
+use gen_net::{Header, Marks, read_front, read_header};
 use gen_show::{
     BUNDLE_MARKS, EVIDENCE_MARKS, FileKind, Shown, file_kind, front_length, push_campaign_fault,
     push_evidence_fault, push_header_fault,
@@ -155,64 +155,30 @@ fn show_evidence(alloc: Global, input: &[u8]) -> Result<Shown, AllocError>
     }
 }
 
-/// Appends the last line of a header that has this many bytes.
-fn push_header_ending(
-    alloc: Global,
-    out: &mut Vec<u8>,
-    whole: bool,
-    at: usize,
-) -> Result<(), AllocError>
-    ensures { OnOk result (out.new.items ≡ out.old.items ++ header_ending whole at) }
-{
-    if whole {
-        push_end(alloc, out)
-    } else {
-        push_fault(alloc, out, "left over", at)
-    }
-}
-
-/// Returns the lines of a header that stands in front of the input and has this many bytes.
-fn whole_header(
-    alloc: Global,
-    input: &[u8],
-    header: &Header,
-    count: usize,
-) -> Result<Vec<u8>, AllocError>
-    ensures { IfOk result (λ text. text.items
-        ≡ header_reading_lines input.now (Ok (header.now, count))) }
-{
-    let mut out = Vec::new(alloc);
-    push_header(alloc, &mut out, "header", header)?;
-    push_header_ending(alloc, &mut out, count == input.len(), count)?;
-    Ok(out)
-}
-
-/// Returns the lines of bytes that begin with no header, with this fault.
-fn faulty_header(alloc: Global, input: &[u8], fault: HeaderFault) -> Result<Vec<u8>, AllocError>
-    ensures { IfOk result (λ text. text.items ≡ header_reading_lines input.now (Err fault)) }
-{
-    let mut name = String::new(alloc);
-    push_header_fault(&mut name, fault)?;
-    let mut out = Vec::new(alloc);
-    push_fault(alloc, &mut out, name.as_str(), 0)?;
-    Ok(out)
-}
-
 /// Returns the lines of what is read as a header alone.
 fn show_header(alloc: Global, input: &[u8]) -> Result<Shown, AllocError>
     ensures text { IfOk result (λ s. IsJsonAs kinds.OfHeader input.now s.text.items) }
     ensures whole { IfOk result (λ s. s.whole ≡ is_whole_as kinds.OfHeader input.now) }
 {
+    let mut text = Vec::new(alloc);
     match read_header(alloc, input) {
-        Ok((header, count)) => Ok(Shown {
-            text: whole_header(alloc, input, &header, count)?,
-            whole: count == input.len(),
-        }),
+        Ok((header, count)) => {
+            let whole = count == input.len();
+            push_header(alloc, &mut text, "header", &header)?;
+            if whole {
+                push_end(alloc, &mut text, "shown end")?;
+            } else {
+                push_fault(alloc, &mut text, "left over", count)?;
+            }
+            Ok(Shown { text, whole })
+        }
         Err(ReadError::Memory) => Err(AllocError),
-        Err(ReadError::Fault(fault)) => Ok(Shown {
-            text: faulty_header(alloc, input, fault)?,
-            whole: false,
-        }),
+        Err(ReadError::Fault(fault)) => {
+            let mut name = String::new(alloc);
+            push_header_fault(&mut name, fault)?;
+            push_fault(alloc, &mut text, name.as_str(), 0)?;
+            Ok(Shown { text, whole: false })
+        }
     }
 }
 

@@ -1,15 +1,12 @@
 //! What is shown of a campaign, as JSON.
-ghost use Rattle.std.specs.Prelude.{◌≡◌, ◌+◌, ◌<◌, ◌^◌, ◌++◌, IfOk, OnOk, sum_by};
+ghost use Rattle.std.specs.Prelude.{◌≡◌, ◌++◌, IfOk, OnOk};
 ghost use Rattle.serde_json.specs.View.{view};
-ghost use Rattle.gen_show.specs.BundleText.{bundle_length};
 ghost use Rattle.gen_show.specs.CampaignText.{HaveRoom};
-ghost use Rattle.gen_json.specs.Line.{json_line};
-ghost use Rattle.gen_json.specs.CampaignLines.{alone_lines, campaign_data, campaign_end_line, campaign_lines, several_lines};
+ghost use Rattle.gen_json.specs.CampaignLines.{campaign_data, campaign_lines};
 
 use crate::objects::{JSON_VERSION, ObjectBuilder};
-use crate::shown_bundles::{push_bundle, push_end_of, push_runs};
+use crate::shown_bundles::{push_bundle, push_end, push_runs};
 use crate::shown_lines::push_value;
-use gen_audit::Bundle;
 use gen_campaign::CampaignBundle;
 use gen_show::CAMPAIGN_FRONT;
 use serde_json::Value;
@@ -28,48 +25,8 @@ fn campaign_value(alloc: Global, count: usize) -> Result<Value, AllocError>
     object.finish()
 }
 
-/// Appends the first line of several runs.
-#[tactic(auto, using(crate::proofs::PlainShown::campaign_plain))]
-fn push_campaign_line(alloc: Global, out: &mut Vec<u8>, count: usize) -> Result<(), AllocError>
-    ensures { OnOk result (out.new.items ≡ out.old.items ++ json_line (campaign_data count)) }
-{
-    let value = campaign_value(alloc, count)?;
-    push_value(alloc, out, &value)
-}
-
-/// Appends the line behind several runs.
-#[tactic(auto, unfolding(crate::specs::CampaignLines::campaign_end_line))]
-fn push_campaign_end(alloc: Global, out: &mut Vec<u8>) -> Result<(), AllocError>
-    ensures { OnOk result (out.new.items ≡ out.old.items ++ campaign_end_line) }
-{
-    push_end_of(alloc, out, "shown campaign end")
-}
-
-/// Appends the lines of several runs.
-fn push_several(alloc: Global, out: &mut Vec<u8>, bundles: &[Bundle]) -> Result<(), AllocError>
-    requires { 5 + sum_by bundle_length bundles.now < 2 ^ 64 }
-    ensures { OnOk result (out.new.items ≡ out.old.items ++ several_lines bundles.now) }
-{
-    push_campaign_line(alloc, out, bundles.len())?;
-    push_runs(alloc, out, CAMPAIGN_FRONT, bundles)?;
-    push_campaign_end(alloc, out)
-}
-
-/// Appends the lines of a bundle that stands alone.
-fn push_alone(alloc: Global, out: &mut Vec<u8>, bundles: &[Bundle]) -> Result<(), AllocError>
-    requires { sum_by bundle_length bundles.now < 2 ^ 64 }
-    ensures { OnOk result (out.new.items ≡ out.old.items ++ alone_lines bundles.now) }
-{
-    match bundles.split_first() {
-        Some((bundle, _)) => {
-            push_bundle(alloc, out, 0, bundle)?;
-            Ok(())
-        }
-        None => Ok(()),
-    }
-}
-
-/// Appends the lines of what is shown of a campaign.
+/// Appends the lines of what is shown of a campaign: of a bundle that stands alone, or of several runs.
+#[tactic(auto, using(crate::proofs::PlainShown::campaign_plain), unfolding(crate::specs::CampaignLines::several_lines))]
 pub fn push_campaign(
     alloc: Global,
     out: &mut Vec<u8>,
@@ -78,9 +35,19 @@ pub fn push_campaign(
     requires { HaveRoom campaign.now.alone campaign.now.bundles }
     ensures { OnOk result (out.new.items ≡ out.old.items ++ campaign_lines campaign.now) }
 {
+    let bundles = campaign.bundles();
     if campaign.is_alone() {
-        push_alone(alloc, out, campaign.bundles())
+        match bundles.split_first() {
+            Some((bundle, _)) => {
+                push_bundle(alloc, out, 0, bundle)?;
+                Ok(())
+            }
+            None => Ok(()),
+        }
     } else {
-        push_several(alloc, out, campaign.bundles())
+        let value = campaign_value(alloc, bundles.len())?;
+        push_value(alloc, out, &value)?;
+        push_runs(alloc, out, CAMPAIGN_FRONT, bundles)?;
+        push_end(alloc, out, "shown campaign end")
     }
 }

@@ -1,10 +1,9 @@
 //! Evidence as lines of JSON.
-ghost use Rattle.std.specs.Prelude.{◌≡◌, ◌<◌, ◌+◌, ◌^◌, ◌++◌, OnOk, length};
+ghost use Rattle.std.specs.Prelude.{◌≡◌, ◌<◌, ◌++◌, OnOk};
 ghost use Rattle.gen_convict.specs.Evidence.{told_of};
 ghost use Rattle.gen_convict.specs.Told.{told};
-ghost use Rattle.gen_show.specs.EvidenceText.{HasRoom, claim_log_at};
-ghost use Rattle.gen_json.specs.EvidenceLines.{claim_lines, evidence_line, evidence_lines};
-ghost use Rattle.gen_json.specs.LogData.{log_lines};
+ghost use Rattle.gen_show.specs.EvidenceText.{HasRoom};
+ghost use Rattle.gen_json.specs.EvidenceLines.{claim_lines, evidence_lines};
 
 use crate::evidence::evidence_value;
 use crate::shown_bundles::push_end;
@@ -16,22 +15,6 @@ use gen_net::Header;
 use gen_show::claim_log_at;
 use gen_types::GeneralNo;
 use std::alloc::{AllocError, Global};
-
-/// Appends the lines of a log of the accused that a claim shows.
-fn push_claim_log(
-    alloc: Global,
-    out: &mut Vec<u8>,
-    header: &Header,
-    accused: GeneralNo,
-    log: &[u8],
-) -> Result<(), AllocError>
-    requires { claim_log_at header.now + length log.now < 2 ^ 64 }
-    ensures { OnOk result (out.new.items
-        ≡ out.old.items ++ log_lines header.now accused (claim_log_at header.now) log.now) }
-{
-    let at = claim_log_at(alloc, header, log)?;
-    push_log(alloc, out, header, accused, at, log)
-}
 
 /// Appends the lines of the log that a claim shows, or of the header of the other run; nothing of another claim.
 fn push_claim(
@@ -47,27 +30,16 @@ fn push_claim(
 {
     match claim {
         Claim::Texts { .. } | Claim::Orders { .. } => Ok(()),
-        Claim::Missing { log, .. } => push_claim_log(alloc, out, header, accused, log.as_slice()),
-        Claim::Departing { log, .. } => push_claim_log(alloc, out, header, accused, log.as_slice()),
+        Claim::Missing { log, .. } => {
+            let at = claim_log_at(alloc, header, log.as_slice())?;
+            push_log(alloc, out, header, accused, at, log.as_slice())
+        }
+        Claim::Departing { log, .. } => {
+            let at = claim_log_at(alloc, header, log.as_slice())?;
+            push_log(alloc, out, header, accused, at, log.as_slice())
+        }
         Claim::Across { second, .. } => push_header(alloc, out, "header", &second.header),
     }
-}
-
-/// Appends the line of evidence that holds or fails.
-#[tactic(auto, unfolding(crate::specs::EvidenceLines::evidence_line))]
-fn push_evidence_line(
-    alloc: Global,
-    out: &mut Vec<u8>,
-    holds: bool,
-    header: &Header,
-    evidence: &Evidence,
-) -> Result<(), AllocError>
-    requires { evidence.now.accused < header.now.network.generals }
-    ensures { OnOk result (out.new.items ≡ out.old.items
-        ++ evidence_line holds (record { header = header.now; evidence = told_of evidence.now })) }
-{
-    let value = evidence_value(alloc, header, evidence, holds)?;
-    push_value(alloc, out, &value)
 }
 
 /// Appends the lines of evidence that holds or fails.
@@ -85,6 +57,7 @@ pub fn push_evidence(
 {
     push_header(alloc, out, "evidence", header)?;
     push_claim(alloc, out, header, evidence.accused, &evidence.claim)?;
-    push_evidence_line(alloc, out, holds, header, evidence)?;
-    push_end(alloc, out)
+    let value = evidence_value(alloc, header, evidence, holds)?;
+    push_value(alloc, out, &value)?;
+    push_end(alloc, out, "shown end")
 }

@@ -1,9 +1,7 @@
 //! Logs as JSON.
-ghost use Rattle.std.specs.Prelude.{◌≡◌, ◌+◌, ◌<◌, ◌^◌, ◌++◌, Ok, Err, IfOk, OnOk, length};
+ghost use Rattle.std.specs.Prelude.{◌≡◌, ◌+◌, ◌<◌, ◌^◌, ◌++◌, IfOk, OnOk, length};
 ghost use Rattle.serde_json.specs.View.{view};
-ghost use Rattle.gen_log.specs.Texts.{IsTextOf};
-ghost use Rattle.gen_json.specs.Line.{json_line};
-ghost use Rattle.gen_json.specs.LogData.{decided_data, head_data, head_line, last_order, log_data, log_lines, order_of, reading_lines, unreadable_data};
+ghost use Rattle.gen_json.specs.LogData.{decided_data, head_data, log_data, log_lines, order_of, unreadable_data};
 
 use crate::numbers::digits_value;
 use crate::objects::{JSON_VERSION, ObjectBuilder};
@@ -38,23 +36,6 @@ fn log_value(
     object.finish()
 }
 
-/// Appends the line of a log that reads.
-#[tactic(auto, using(crate::proofs::PlainShown::log_plain))]
-fn push_log_line(
-    alloc: Global,
-    out: &mut Vec<u8>,
-    general: GeneralNo,
-    at: usize,
-    size: usize,
-    log: &Log,
-) -> Result<(), AllocError>
-    ensures { OnOk result (out.new.items
-        ≡ out.old.items ++ json_line (log_data general at size log.now)) }
-{
-    let value = log_value(alloc, general, at, size, log)?;
-    push_value(alloc, out, &value)
-}
-
 /// Returns bytes that are no log, with their fault.
 #[tactic(auto, unfolding(crate::specs::LogData::unreadable_data))]
 fn unreadable_value(
@@ -76,23 +57,6 @@ fn unreadable_value(
     object.put("of", Value::from(general.get()));
     object.put("version", Value::from(JSON_VERSION));
     object.finish()
-}
-
-/// Appends the line of bytes that are no log.
-#[tactic(auto, using(crate::proofs::PlainShown::unreadable_plain))]
-fn push_unreadable(
-    alloc: Global,
-    out: &mut Vec<u8>,
-    general: GeneralNo,
-    at: usize,
-    size: usize,
-    fault: LogFault,
-) -> Result<(), AllocError>
-    ensures { OnOk result (out.new.items
-        ≡ out.old.items ++ json_line (unreadable_data general at size fault)) }
-{
-    let value = unreadable_value(alloc, general, at, size, fault)?;
-    push_value(alloc, out, &value)
 }
 
 /// Returns the order of a DECIDE, and null of another entry.
@@ -118,66 +82,28 @@ fn decided_value(entries: &[Entry]) -> Value
     }
 }
 
-/// Returns what stands behind the entries of a log.
+/// Returns what stands behind these entries of a log.
 #[tactic(auto, unfolding(crate::specs::LogData::head_data))]
 fn head_value(
     alloc: Global,
     general: GeneralNo,
     at: usize,
-    decided: Value,
+    entries: &[Entry],
 ) -> Result<Value, AllocError>
-    ensures { IfOk result (λ v. view v ≡ head_data general at (view decided)) }
+    ensures { IfOk result (λ v. view v ≡ head_data general at entries.now) }
 {
     let mut object = ObjectBuilder::new(alloc);
     object.put("byte", Value::from(at));
-    object.put("decided", decided);
+    object.put("decided", decided_value(entries));
     object.put_text("format", "shown head");
     object.put("of", Value::from(general.get()));
     object.put("version", Value::from(JSON_VERSION));
     object.finish()
 }
 
-/// Appends the line of what stands behind these entries of a log.
-#[tactic(auto, unfolding(crate::specs::LogData::head_line), using(crate::proofs::PlainShown::head_plain))]
-fn push_head(
-    alloc: Global,
-    out: &mut Vec<u8>,
-    general: GeneralNo,
-    at: usize,
-    entries: &[Entry],
-) -> Result<(), AllocError>
-    ensures { OnOk result
-        (out.new.items ≡ out.old.items ++ head_line general at entries.now) }
-{
-    let decided = decided_value(entries);
-    let value = head_value(alloc, general, at, decided)?;
-    push_value(alloc, out, &value)
-}
-
-/// Appends the lines of a log that was read from these bytes, which begin at this byte of a file.
-#[tactic(auto, using(gen_show::proofs::Lengths::entries_within))]
-fn push_read(
-    alloc: Global,
-    out: &mut Vec<u8>,
-    general: GeneralNo,
-    at: usize,
-    log: &Log,
-    bytes: &[u8],
-) -> Result<(), AllocError>
-    requires text { IsTextOf log.now bytes.now }
-    requires room { at + length bytes.now < 2 ^ 64 }
-    ensures { OnOk result (out.new.items
-        ≡ out.old.items ++ reading_lines general at (length bytes.now) (Ok log.now)) }
-{
-    // The entries end within the bytes.
-    push_log_line(alloc, out, general, at, bytes.len(), log)?;
-    let end = push_entries(alloc, out, general, at + LOG_FRONT, log.entries())?;
-    push_head(alloc, out, general, end, log.entries())
-}
-
 /// Appends the lines of bytes that begin at this byte of a file and are shown as the log of a general in the run of a
 /// header: if they are a log, what the log says, or else their fault.
-#[tactic(auto, unfolding(crate::specs::LogData::log_lines))]
+#[tactic(auto, using(gen_show::proofs::Lengths::entries_within, crate::proofs::PlainShown::log_plain, crate::proofs::PlainShown::head_plain, crate::proofs::PlainShown::unreadable_plain), unfolding(crate::specs::LogData::log_lines))]
 pub fn push_log(
     alloc: Global,
     out: &mut Vec<u8>,
@@ -191,10 +117,18 @@ pub fn push_log(
         ≡ out.old.items ++ log_lines header.now general at bytes.now) }
 {
     match read_log(alloc, header, bytes) {
-        Ok(log) => push_read(alloc, out, general, at, &log, bytes),
+        Ok(log) => {
+            let entries = log.entries();
+            let value = log_value(alloc, general, at, bytes.len(), &log)?;
+            push_value(alloc, out, &value)?;
+            let end = push_entries(alloc, out, general, at + LOG_FRONT, entries)?;
+            let head = head_value(alloc, general, end, entries)?;
+            push_value(alloc, out, &head)
+        }
         Err(ReadError::Memory) => Err(AllocError),
         Err(ReadError::Fault(fault)) => {
-            push_unreadable(alloc, out, general, at, bytes.len(), fault)
+            let value = unreadable_value(alloc, general, at, bytes.len(), fault)?;
+            push_value(alloc, out, &value)
         }
     }
 }
