@@ -1,7 +1,6 @@
 //! Finds claims by a log of the general.
 ghost use Rattle.std.specs.Prelude.{◌≡◌, IfOk, Some, map};
 ghost use Rattle.std.specs.Option.{option_map};
-ghost use Rattle.std.specs.List.{find};
 ghost use Rattle.gen_convict.specs.FindingClaims as finds;
 ghost use Rattle.gen_convict.specs.Told.{told};
 
@@ -27,23 +26,6 @@ fn unsaid_in<'a>(firsts: &[&'a SignedText], reading: &Reading) -> Option<&'a Sig
     }
 }
 
-/// Returns the first report of a sealed log of the general that has no SIGN of one of these statements.
-fn first_lacking<'a>(
-    general: GeneralNo,
-    firsts: &[&SignedText],
-    reports: &'a [LocalReport],
-) -> Option<&'a LocalReport>
-    ensures { option_map (λ r. r.now) result
-        ≡ find (finds.lacks general (map (λ t. t.now) firsts.now)) reports.now }
-{
-    for report in reports {
-        if report.exhibit().general() == general && unsaid_in(firsts, report.reading()).is_some() {
-            return Some(report);
-        }
-    }
-    None
-}
-
 /// Returns the claim by the first sealed log of the general from which one of these statements is missing.
 pub fn missing_claim(
     alloc: Global,
@@ -54,20 +36,22 @@ pub fn missing_claim(
     ensures { IfOk result (λ claim. option_map told claim
         ≡ finds.missing_claim general (map (λ t. t.now) firsts.now) reports.now) }
 {
-    let Some(report) = first_lacking(general, firsts, reports) else {
-        return Ok(None);
-    };
-    let Some(text) = unsaid_in(firsts, report.reading()) else {
-        return Ok(None);
-    };
-    match text.text {
-        Text::OfHead(_) => Ok(None),
-        Text::OfStatement(statement) => Ok(Some(Claim::Missing {
-            log: Vec::from_slice(alloc, report.exhibit().log())?,
-            statement,
-            signature: text.signature.share(alloc)?,
-        })),
+    for report in reports {
+        if report.exhibit().general() == general && unsaid_in(firsts, report.reading()).is_some() {
+            let Some(text) = unsaid_in(firsts, report.reading()) else {
+                return Ok(None);
+            };
+            return match text.text {
+                Text::OfHead(_) => Ok(None),
+                Text::OfStatement(statement) => Ok(Some(Claim::Missing {
+                    log: Vec::from_slice(alloc, report.exhibit().log())?,
+                    statement,
+                    signature: text.signature.share(alloc)?,
+                })),
+            };
+        }
     }
+    Ok(None)
 }
 
 /// Returns the entry at which the log of a reading departs, if that log is sealed and departs.
@@ -86,18 +70,6 @@ fn departure_in(reading: &Reading) -> Option<usize>
     }
 }
 
-/// Returns the first report of a sealed log of the general that departs.
-fn first_departing<'a>(general: GeneralNo, reports: &'a [LocalReport]) -> Option<&'a LocalReport>
-    ensures { option_map (λ r. r.now) result ≡ find (finds.departs general) reports.now }
-{
-    for report in reports {
-        if report.exhibit().general() == general && departure_in(report.reading()).is_some() {
-            return Some(report);
-        }
-    }
-    None
-}
-
 /// Returns the claim by the first sealed log of the general that departs, if the entry's number fits into four bytes.
 pub fn departing_claim(
     alloc: Global,
@@ -107,16 +79,18 @@ pub fn departing_claim(
     ensures { IfOk result (λ claim. option_map told claim
         ≡ finds.departing_claim general reports.now) }
 {
-    let Some(report) = first_departing(general, reports) else {
-        return Ok(None);
-    };
-    let Some(index) = departure_in(report.reading()) else {
-        return Ok(None);
-    };
-    if index > u32::MAX as usize {
-        return Ok(None);
+    for report in reports {
+        if report.exhibit().general() == general && departure_in(report.reading()).is_some() {
+            let Some(index) = departure_in(report.reading()) else {
+                return Ok(None);
+            };
+            if index > u32::MAX as usize {
+                return Ok(None);
+            }
+            let log = Vec::from_slice(alloc, report.exhibit().log())?;
+            let entry = index as u32;
+            return Ok(Some(Claim::Departing { log, entry }));
+        }
     }
-    let log = Vec::from_slice(alloc, report.exhibit().log())?;
-    let entry = index as u32;
-    Ok(Some(Claim::Departing { log, entry }))
+    Ok(None)
 }
