@@ -5,7 +5,7 @@ ghost use Rattle.gen_convict.specs.FindingClaims as finds;
 ghost use Rattle.gen_convict.specs.Told.{told};
 
 use crate::claims::Claim;
-use crate::first_texts::first_unsaid;
+use crate::text_likeness::is_unsaid;
 use gen_local::{LocalReport, Reading, SignedText, Text};
 use gen_types::GeneralNo;
 use std::alloc::{AllocError, Global};
@@ -15,15 +15,19 @@ fn unsaid_in<'a>(firsts: &[&'a SignedText], reading: &Reading) -> Option<&'a Sig
     ensures { option_map (λ t. t.now) result
         ≡ finds.unsaid_in (map (λ t. t.now) firsts.now) reading.now }
 {
-    match reading {
-        Reading::Own(found) => {
-            if found.is_sealed() {
-                return first_unsaid(found.log(), firsts);
-            }
-            None
-        }
-        _ => None,
+    let Reading::Own(found) = reading else {
+        return None;
+    };
+    if !found.is_sealed() {
+        return None;
     }
+    let log = found.log();
+    for text in firsts {
+        if is_unsaid(log, &text.text) {
+            return Some(text);
+        }
+    }
+    None
 }
 
 /// Returns the claim by the first sealed log of the general from which one of these statements is missing.
