@@ -1,7 +1,7 @@
 //! Tests with which paths a general can sign an order.
 ghost use Rattle.std.specs.Prelude.{IsTrue, ◌≡◌, ◌↔◌};
 ghost use Rattle.std.specs.List.{list_any};
-ghost use Rattle.gen_local.specs.Recvs.{HasRecv, is_recv_of as is_received};
+ghost use Rattle.gen_local.specs.Recvs.{is_recv_of as is_received};
 ghost use Rattle.gen_local.specs.Erased.{erased};
 ghost use Rattle.gen_local.specs.Walking.Judged.{Lengthens};
 
@@ -23,19 +23,12 @@ fn is_recv_of(entry: &Entry, order: OrderNo, generals: &[GeneralNo]) -> bool
 }
 
 /// Whether one of the entries is a RECV of this order and path.
-fn any_is_recv_of(before: &[Entry], order: OrderNo, generals: &[GeneralNo]) -> bool
+fn was_received(before: &[Entry], order: OrderNo, generals: &[GeneralNo]) -> bool
     ensures { result ≡ list_any (is_received order generals.now) before.now }
 {
     before
         .iter()
         .any(|entry| is_recv_of(entry, order, generals))
-}
-
-/// Whether one of the entries is a RECV of this order and path.
-fn was_received(before: &[Entry], order: OrderNo, generals: &[GeneralNo]) -> bool
-    ensures { IsTrue result ↔ HasRecv (erased before.now) order generals.now }
-{
-    any_is_recv_of(before, order, generals)
 }
 
 /// Whether the path is one by which the general learnt the order in this round, followed by the general itself.
