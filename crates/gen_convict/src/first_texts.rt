@@ -4,7 +4,7 @@ ghost use Rattle.std.specs.Option.{option_map};
 ghost use Rattle.std.specs.List.{find};
 ghost use Rattle.gen_convict.specs.Finding as finds;
 
-use crate::text_likeness::{are_orders, is_command, is_unlike};
+use crate::text_likeness::{are_orders, is_unlike};
 use gen_local::SignedText;
 
 /// Returns the first text of `firsts` to which one of `texts` is unlike.
@@ -33,19 +33,6 @@ pub fn first_unlike<'a>(text: &SignedText, texts: &[&'a SignedText]) -> Option<&
     for other in texts {
         if is_unlike(&text.text, &other.text) {
             return Some(other);
-        }
-    }
-    None
-}
-
-/// Returns the first statement whose path is the commander alone.
-pub fn first_command<'a>(texts: &[&'a SignedText]) -> Option<&'a SignedText>
-    ensures { option_map (λ t. t.now) result
-        ≡ find (λ t. finds.is_command t.text) (map (λ t. t.now) texts.now) }
-{
-    for text in texts {
-        if is_command(&text.text) {
-            return Some(text);
         }
     }
     None
