@@ -8,7 +8,7 @@ use crate::evidence_fault::EvidenceFault;
 use gen_chain::{HeadText, Statement};
 use gen_local::{SignedText, Text};
 use gen_log::{LogFault, read_order, read_path};
-use gen_net::{FrontFault, Header, Net, VERSION_TWO, read_header_of};
+use gen_net::{FrontFault, Header, Net};
 use gen_ots::SigRoom;
 use gen_tree::Signature;
 use gen_tree::sizes::signature_bytes;
@@ -82,28 +82,9 @@ pub fn read_statement<'a>(
     }
 }
 
-/// Reads a head of the general's log: a number of entries in eight bytes and a last link of 32 bytes.
-#[tactic(auto, unfolding(crate::specs::EvidenceFields::head_at))]
-fn read_head(
-    bytes: &[u8],
-    general: GeneralNo,
-) -> Result<(HeadText, &[u8]), ReadError<EvidenceFault>>
-    ensures { IsField result (field.head_at general bytes.now) }
-{
-    let (entries, rest) = u64_at(bytes, EvidenceFault::Truncated)?;
-    let (link, rest) = bytes_at(rest, LINK_BYTES, EvidenceFault::Truncated)?;
-    let mut last_link = [0; LINK_BYTES];
-    last_link.copy_from_slice(link);
-    let head = HeadText {
-        general,
-        entries,
-        last_link,
-    };
-    Ok((head, rest))
-}
-
-/// Reads a text of the general, whose first byte names its kind: 1 for a statement, 2 for a head.
-#[tactic(auto, unfolding(crate::specs::EvidenceFields::text_at, crate::specs::EvidenceFields::text_of_kind, crate::specs::EvidenceFields::statement_text_at, crate::specs::EvidenceFields::head_text_at))]
+/// Reads a text of the general, whose first byte names its kind: 1 for a statement, 2 for a head. A head is a number of
+/// entries in eight bytes and a last link of 32 bytes.
+#[tactic(auto, unfolding(crate::specs::EvidenceFields::text_at, crate::specs::EvidenceFields::text_of_kind, crate::specs::EvidenceFields::statement_text_at, crate::specs::EvidenceFields::head_text_at, crate::specs::EvidenceFields::head_at))]
 fn read_text<'a>(
     bytes: &'a [u8],
     net: &Net,
@@ -118,10 +99,16 @@ fn read_text<'a>(
             Err(error) => Err(error),
         }
     } else if kind == HEAD_KIND {
-        match read_head(rest, general) {
-            Ok((head, rest)) => Ok((Text::OfHead(head), rest)),
-            Err(error) => Err(error),
-        }
+        let (entries, rest) = u64_at(rest, EvidenceFault::Truncated)?;
+        let (link, rest) = bytes_at(rest, LINK_BYTES, EvidenceFault::Truncated)?;
+        let mut last_link = [0; LINK_BYTES];
+        last_link.copy_from_slice(link);
+        let head = HeadText {
+            general,
+            entries,
+            last_link,
+        };
+        Ok((Text::OfHead(head), rest))
     } else {
         Err(ReadError::Fault(EvidenceFault::OutOfRange))
     }
@@ -186,20 +173,5 @@ pub fn front_fault(fault: FrontFault) -> EvidenceFault
         FrontFault::Truncated => EvidenceFault::Truncated,
         FrontFault::UnknownMark => EvidenceFault::UnknownMark,
         FrontFault::BadHeader(rule) => EvidenceFault::BadHeader(rule),
-    }
-}
-
-/// Reads the header of another run, which has version 2.
-#[tactic(auto, unfolding(crate::specs::EvidenceFields::second_header_at))]
-pub fn read_second_header(
-    alloc: Global,
-    bytes: &[u8],
-) -> Result<(Header, &[u8]), ReadError<EvidenceFault>>
-    ensures { IsField result (field.second_header_at bytes.now) }
-{
-    match read_header_of(alloc, VERSION_TWO, bytes) {
-        Ok(header) => Ok(header),
-        Err(ReadError::Memory) => Err(ReadError::Memory),
-        Err(ReadError::Fault(fault)) => Err(ReadError::Fault(front_fault(fault))),
     }
 }

@@ -1,9 +1,8 @@
 //! Reads evidence.
-ghost use Rattle.std.specs.Prelude.{◌≡◌, ◌<◌, IfOk, Ok};
+ghost use Rattle.std.specs.Prelude.{◌<◌, IfOk, Ok};
 ghost use Rattle.gen_types.specs.Reading.{Gives};
 ghost use Rattle.gen_types.specs.Spelled.{Spells};
 ghost use Rattle.gen_convict.specs.Evidence.{told_of};
-ghost use Rattle.gen_convict.specs.EvidenceReading as reading;
 ghost use Rattle.gen_convict.specs.EvidenceReading.{IsWhole, whole_evidence};
 ghost use Rattle.gen_convict.specs.EvidenceSpelling.{HeaderAndEvidence, whole_spelling};
 
@@ -21,25 +20,8 @@ pub const EVIDENCE_MARKS: Marks = Marks {
     two: 0x534d_4532,
 };
 
-/// Reads the number of the accused, which is below the network's number of generals, and the claim against it.
-#[tactic(auto, unfolding(crate::specs::EvidenceReading::accusation_at, crate::specs::EvidenceReading::accused_at))]
-fn read_accusation<'a>(
-    alloc: Global,
-    header: &Header,
-    bytes: &'a [u8],
-) -> Result<(Evidence, &'a [u8]), ReadError<EvidenceFault>>
-    ensures { Gives (λ x. (told_of x.0, x.1.now)) result
-        (reading.accusation_at header.now bytes.now) }
-{
-    let (accused, rest) = u8_at(bytes, EvidenceFault::Truncated)?;
-    check(accused < header.net().generals(), EvidenceFault::OutOfRange)?;
-    let accused = GeneralNo::at(accused);
-    let (claim, rest) = read_claim(alloc, rest, header, accused)?;
-    Ok((Evidence { accused, claim }, rest))
-}
-
 /// Reads the header and the evidence that all the bytes are.
-#[tactic(auto, unfolding(crate::specs::EvidenceReading::whole_evidence, crate::specs::EvidenceReading::evidence_at))]
+#[tactic(auto, unfolding(crate::specs::EvidenceReading::whole_evidence, crate::specs::EvidenceReading::evidence_at, crate::specs::EvidenceReading::accusation_at, crate::specs::EvidenceReading::accused_at))]
 fn evidence_alone(
     alloc: Global,
     bytes: &[u8],
@@ -52,9 +34,12 @@ fn evidence_alone(
         Err(ReadError::Memory) => return Err(ReadError::Memory),
         Err(ReadError::Fault(fault)) => return Err(ReadError::Fault(front_fault(fault))),
     };
-    let (evidence, rest) = read_accusation(alloc, &header, rest)?;
+    let (accused, rest) = u8_at(rest, EvidenceFault::Truncated)?;
+    check(accused < header.net().generals(), EvidenceFault::OutOfRange)?;
+    let accused = GeneralNo::at(accused);
+    let (claim, rest) = read_claim(alloc, rest, &header, accused)?;
     check(rest.is_empty(), EvidenceFault::LeftOver)?;
-    Ok((header, evidence))
+    Ok((header, Evidence { accused, claim }))
 }
 
 /// Returns the header and the evidence that all the bytes are. The bytes begin with `SME1` and a header of version 1,

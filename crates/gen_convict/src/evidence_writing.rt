@@ -2,7 +2,7 @@
 ghost use Rattle.std.specs.Prelude.{◌≡◌, ◌<◌, ◌^◌, ◌∷◌, ◌++◌, length, IfOk, OnOk};
 ghost use Rattle.gen_convict.specs.Evidence.{IsEvidence, HasShortLog, told_of};
 ghost use Rattle.gen_convict.specs.EvidenceSpelling as spelling;
-ghost use Rattle.gen_convict.specs.EvidenceSpelling.{text_spelling, signed_spelling, shown_spelling, claim_spelling};
+ghost use Rattle.gen_convict.specs.EvidenceSpelling.{signed_spelling, shown_spelling, claim_spelling};
 ghost use Rattle.gen_convict.specs.EvidenceSpelling.{evidence_spelling};
 ghost use Rattle.gen_convict.specs.Told.{told};
 
@@ -14,8 +14,6 @@ use gen_chain::Statement;
 use gen_local::{SignedText, Text};
 use gen_log::put_path;
 use gen_net::{Header, front_bytes, header_bytes};
-use gen_tree::Signature;
-use gen_types::OrderNo;
 use std::alloc::{AllocError, Global};
 
 /// Appends the byte of the kind and a statement.
@@ -30,34 +28,19 @@ fn put_statement(out: &mut Vec<u8>, statement: &Statement) -> Result<(), AllocEr
     Ok(())
 }
 
-/// Appends a text: the byte of its kind, and the statement or the head.
-fn put_text(out: &mut Vec<u8>, text: &Text) -> Result<(), AllocError>
-    ensures { OnOk result (out.new.items ≡ out.old.items ++ text_spelling text.now) }
-{
-    match text {
-        Text::OfStatement(statement) => put_statement(out, statement),
-        Text::OfHead(head) => {
-            out.push(HEAD_KIND)?;
-            out.extend_from_slice(&head.entries.to_be_bytes())?;
-            out.extend_from_slice(&head.last_link)
-        }
-    }
-}
-
-/// Appends a text and its signature.
+/// Appends a text, which is the byte of its kind and the statement or the head, and its signature.
 fn put_signed(out: &mut Vec<u8>, signed: &SignedText) -> Result<(), AllocError>
     ensures { OnOk result (out.new.items ≡ out.old.items ++ signed_spelling signed.now) }
 {
-    put_text(out, &signed.text)?;
+    match &signed.text {
+        Text::OfStatement(statement) => put_statement(out, statement)?,
+        Text::OfHead(head) => {
+            out.push(HEAD_KIND)?;
+            out.extend_from_slice(&head.entries.to_be_bytes())?;
+            out.extend_from_slice(&head.last_link)?;
+        }
+    }
     signed.signature.append_to(out)
-}
-
-/// Appends an order and the signature of the commander's statement of it.
-fn put_command(out: &mut Vec<u8>, order: OrderNo, signature: &Signature) -> Result<(), AllocError>
-    ensures { OnOk result (out.new.items ≡ out.old.items ++ order ∷ signature.now) }
-{
-    out.push(order.get())?;
-    signature.append_to(out)
 }
 
 /// Appends the length of a log in four bytes and its bytes. The length is below 2^32.
@@ -85,8 +68,10 @@ fn put_claim(out: &mut Vec<u8>, claim: &Claim) -> Result<(), AllocError>
             second,
             second_signature,
         } => {
-            put_command(out, *first, first_signature)?;
-            put_command(out, *second, second_signature)
+            out.push(first.get())?;
+            first_signature.append_to(out)?;
+            out.push(second.get())?;
+            second_signature.append_to(out)
         }
         Claim::Missing {
             log,

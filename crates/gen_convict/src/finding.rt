@@ -1,5 +1,5 @@
 //! Finds evidence in the reports of one run.
-ghost use Rattle.std.specs.Prelude.{◌≡◌, ◌≤◌, ◌++◌, Contains, IfOk, OnOk, map};
+ghost use Rattle.std.specs.Prelude.{◌≡◌, ◌≤◌, Contains, IfOk, map};
 ghost use Rattle.std.specs.Option.{option_map};
 ghost use Rattle.std.specs.List.{range_with_len};
 ghost use Rattle.gen_log.specs.Fields.{AreBelow};
@@ -56,26 +56,6 @@ fn claim_against(
     least_claim(alloc, general, firsts.as_slice(), texts.as_slice(), reports)
 }
 
-/// Appends the evidence that the reports give against a general, if there is any.
-fn add_claim(
-    alloc: Global,
-    general: GeneralNo,
-    reports: &[LocalReport],
-    found: &mut Vec<Evidence>,
-) -> Result<(), AllocError>
-    ensures { OnOk result (map told_of found.new.items ≡ map told_of found.old.items
-        ++ finds.accusing general (finds.claim_for reports.now general)) }
-{
-    match claim_against(alloc, general, reports)? {
-        None => {}
-        Some(claim) => found.push(Evidence {
-            accused: general,
-            claim,
-        })?,
-    }
-    Ok(())
-}
-
 /// Returns the evidence against each general whose number is below `generals`, which is at most 16.
 fn claims_against(
     alloc: Global,
@@ -88,7 +68,11 @@ fn claims_against(
 {
     let mut found = Vec::new(alloc);
     for number in 0..generals {
-        add_claim(alloc, GeneralNo::at(number), reports, &mut found)?;
+        let accused = GeneralNo::at(number);
+        match claim_against(alloc, accused, reports)? {
+            None => {}
+            Some(claim) => found.push(Evidence { accused, claim })?,
+        }
     }
     Ok(found)
 }

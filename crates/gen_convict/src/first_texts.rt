@@ -4,9 +4,8 @@ ghost use Rattle.std.specs.Option.{option_map};
 ghost use Rattle.std.specs.List.{find};
 ghost use Rattle.gen_convict.specs.Finding as finds;
 
-use crate::text_likeness::{are_orders, is_command, is_unlike, is_unsaid};
+use crate::text_likeness::{are_orders, is_unlike};
 use gen_local::SignedText;
-use gen_log::Log;
 
 /// Returns the first text of `firsts` to which one of `texts` is unlike.
 pub fn first_with_unlike<'a>(
@@ -39,19 +38,6 @@ pub fn first_unlike<'a>(text: &SignedText, texts: &[&'a SignedText]) -> Option<&
     None
 }
 
-/// Returns the first statement whose path is the commander alone.
-pub fn first_command<'a>(texts: &[&'a SignedText]) -> Option<&'a SignedText>
-    ensures { option_map (λ t. t.now) result
-        ≡ find (λ t. finds.is_command t.text) (map (λ t. t.now) texts.now) }
-{
-    for text in texts {
-        if is_command(&text.text) {
-            return Some(text);
-        }
-    }
-    None
-}
-
 /// Returns the first statement of another order, if both statements have the path of the commander alone.
 pub fn first_other_order<'a>(text: &SignedText, texts: &[&'a SignedText]) -> Option<&'a SignedText>
     ensures { option_map (λ t. t.now) result
@@ -60,19 +46,6 @@ pub fn first_other_order<'a>(text: &SignedText, texts: &[&'a SignedText]) -> Opt
     for other in texts {
         if are_orders(&text.text, &other.text) {
             return Some(other);
-        }
-    }
-    None
-}
-
-/// Returns the first of the texts that is a statement without a SIGN in the log.
-pub fn first_unsaid<'a>(log: &Log, texts: &[&'a SignedText]) -> Option<&'a SignedText>
-    ensures { option_map (λ t. t.now) result
-        ≡ find (λ t. finds.is_unsaid log.now t.text) (map (λ t. t.now) texts.now) }
-{
-    for text in texts {
-        if is_unsaid(log, &text.text) {
-            return Some(text);
         }
     }
     None

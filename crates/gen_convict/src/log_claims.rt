@@ -1,12 +1,11 @@
 //! Finds claims by a log of the general.
 ghost use Rattle.std.specs.Prelude.{◌≡◌, IfOk, Some, map};
 ghost use Rattle.std.specs.Option.{option_map};
-ghost use Rattle.std.specs.List.{find};
 ghost use Rattle.gen_convict.specs.FindingClaims as finds;
 ghost use Rattle.gen_convict.specs.Told.{told};
 
 use crate::claims::Claim;
-use crate::first_texts::first_unsaid;
+use crate::text_likeness::is_unsaid;
 use gen_local::{LocalReport, Reading, SignedText, Text};
 use gen_types::GeneralNo;
 use std::alloc::{AllocError, Global};
@@ -16,29 +15,16 @@ fn unsaid_in<'a>(firsts: &[&'a SignedText], reading: &Reading) -> Option<&'a Sig
     ensures { option_map (λ t. t.now) result
         ≡ finds.unsaid_in (map (λ t. t.now) firsts.now) reading.now }
 {
-    match reading {
-        Reading::Own(found) => {
-            if found.is_sealed() {
-                return first_unsaid(found.log(), firsts);
-            }
-            None
-        }
-        _ => None,
+    let Reading::Own(found) = reading else {
+        return None;
+    };
+    if !found.is_sealed() {
+        return None;
     }
-}
-
-/// Returns the first report of a sealed log of the general that has no SIGN of one of these statements.
-fn first_lacking<'a>(
-    general: GeneralNo,
-    firsts: &[&SignedText],
-    reports: &'a [LocalReport],
-) -> Option<&'a LocalReport>
-    ensures { option_map (λ r. r.now) result
-        ≡ find (finds.lacks general (map (λ t. t.now) firsts.now)) reports.now }
-{
-    for report in reports {
-        if report.exhibit().general() == general && unsaid_in(firsts, report.reading()).is_some() {
-            return Some(report);
+    let log = found.log();
+    for text in firsts {
+        if is_unsaid(log, &text.text) {
+            return Some(text);
         }
     }
     None
@@ -54,20 +40,22 @@ pub fn missing_claim(
     ensures { IfOk result (λ claim. option_map told claim
         ≡ finds.missing_claim general (map (λ t. t.now) firsts.now) reports.now) }
 {
-    let Some(report) = first_lacking(general, firsts, reports) else {
-        return Ok(None);
-    };
-    let Some(text) = unsaid_in(firsts, report.reading()) else {
-        return Ok(None);
-    };
-    match text.text {
-        Text::OfHead(_) => Ok(None),
-        Text::OfStatement(statement) => Ok(Some(Claim::Missing {
-            log: Vec::from_slice(alloc, report.exhibit().log())?,
-            statement,
-            signature: text.signature.share(alloc)?,
-        })),
+    for report in reports {
+        if report.exhibit().general() == general && unsaid_in(firsts, report.reading()).is_some() {
+            let Some(text) = unsaid_in(firsts, report.reading()) else {
+                return Ok(None);
+            };
+            return match text.text {
+                Text::OfHead(_) => Ok(None),
+                Text::OfStatement(statement) => Ok(Some(Claim::Missing {
+                    log: Vec::from_slice(alloc, report.exhibit().log())?,
+                    statement,
+                    signature: text.signature.share(alloc)?,
+                })),
+            };
+        }
     }
+    Ok(None)
 }
 
 /// Returns the entry at which the log of a reading departs, if that log is sealed and departs.
@@ -86,18 +74,6 @@ fn departure_in(reading: &Reading) -> Option<usize>
     }
 }
 
-/// Returns the first report of a sealed log of the general that departs.
-fn first_departing<'a>(general: GeneralNo, reports: &'a [LocalReport]) -> Option<&'a LocalReport>
-    ensures { option_map (λ r. r.now) result ≡ find (finds.departs general) reports.now }
-{
-    for report in reports {
-        if report.exhibit().general() == general && departure_in(report.reading()).is_some() {
-            return Some(report);
-        }
-    }
-    None
-}
-
 /// Returns the claim by the first sealed log of the general that departs, if the entry's number fits into four bytes.
 pub fn departing_claim(
     alloc: Global,
@@ -107,16 +83,18 @@ pub fn departing_claim(
     ensures { IfOk result (λ claim. option_map told claim
         ≡ finds.departing_claim general reports.now) }
 {
-    let Some(report) = first_departing(general, reports) else {
-        return Ok(None);
-    };
-    let Some(index) = departure_in(report.reading()) else {
-        return Ok(None);
-    };
-    if index > u32::MAX as usize {
-        return Ok(None);
+    for report in reports {
+        if report.exhibit().general() == general && departure_in(report.reading()).is_some() {
+            let Some(index) = departure_in(report.reading()) else {
+                return Ok(None);
+            };
+            if index > u32::MAX as usize {
+                return Ok(None);
+            }
+            let log = Vec::from_slice(alloc, report.exhibit().log())?;
+            let entry = index as u32;
+            return Ok(Some(Claim::Departing { log, entry }));
+        }
     }
-    let log = Vec::from_slice(alloc, report.exhibit().log())?;
-    let entry = index as u32;
-    Ok(Some(Claim::Departing { log, entry }))
+    Ok(None)
 }

@@ -50,18 +50,6 @@ fn has_beside(texts: &[SeenText], text: SeenText) -> bool
     false
 }
 
-/// Returns the first of the other texts that is a rival of this one.
-fn first_rival<'a>(text: SeenText, others: &[SeenText<'a>]) -> Option<SeenText<'a>>
-    ensures { option_map seen result ≡ find (finds.is_rival (seen text.entry)) (map seen others.now) }
-{
-    for other in others {
-        if is_rival(text, *other) {
-            return Some(*other);
-        }
-    }
-    None
-}
-
 /// Returns the first of `others`, the texts after this one, that is a rival of it. A text that meets none of the texts
 /// after it is kept in `alone`, one for each run and subject. A text with the run and the subject of a kept one has no
 /// rival either, and isn't compared.
@@ -78,10 +66,15 @@ fn rival_behind<'a>(
     if has_beside(alone.as_slice(), text) {
         return Ok(None);
     }
-    if has_meeting(text, others) {
-        return Ok(first_rival(text, others));
+    if !has_meeting(text, others) {
+        alone.push(text)?;
+        return Ok(None);
     }
-    alone.push(text)?;
+    for other in others {
+        if is_rival(text, *other) {
+            return Ok(Some(*other));
+        }
+    }
     Ok(None)
 }
 

@@ -1,5 +1,5 @@
 -- A chain that was received.
-use Rattle.std.proofs.Common.{◌≡◌, ◌⊎◌, inl, inr, ℕ, Bool, true, false, ◌||◌, ◌&&◌, eqb, List, [], ◌∷◌, length, map, Contains, refl, sym, ap, subst, ◌∙◌}
+use Rattle.std.proofs.Common.{◌≡◌, ◌⊎◌, ◌↔◌, IsTrue, inl, inr, ℕ, Bool, true, false, ◌||◌, ◌&&◌, eqb, List, [], ◌∷◌, length, map, Contains, refl, sym, ap, subst, ◌∙◌}
 use Rattle.std.specs.Bool.{nat_eq}
 use Rattle.std.specs.List.{list_any}
 use Rattle.std.specs.Cmp.Lexicographic.{pointwise, same_text, other_text}
@@ -72,3 +72,7 @@ received_told v path (e ∷ es) h = elim (Contains_cases (erase e) (Received h.0
   | inl same ↦ let is : is_recv_of v path e ≡ true = is_recv h.0 v path e same in rw is refl
   | inr there ↦ or_right (is_recv_of v path e) (list_any (is_recv_of v path) es) (received_told v path es (h.0, there))
 ]
+
+-- the test tells whether the chain was received
+pub received_decides : (told : Bool) (v : ℕ) (path : List ℕ) (es : List Entry) → told ≡ list_any (is_recv_of v path) es → IsTrue told ↔ HasRecv (map erase es) v path
+received_decides told v path es e = ((λ t. received_found v path es (sym e ∙ t)), (λ h. e ∙ received_told v path es h))

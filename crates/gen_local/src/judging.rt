@@ -5,17 +5,17 @@ ghost use Rattle.gen_net.specs.Network.{IsNetwork};
 ghost use Rattle.gen_local.specs.Following.{MayFollow};
 ghost use Rattle.gen_local.specs.Keys.{IsSmall};
 ghost use Rattle.gen_local.specs.Erased.{erased};
-ghost use Rattle.gen_local.specs.Walking.Judged.{Stops, AnyStops, CanSend, IsAllowed, IsJudged};
+ghost use Rattle.gen_local.specs.Walking.Judged.{Stops, AnyStops, IsAllowed, IsJudged};
 ghost use Rattle.gen_local.specs.Walking.State.{IsAfter};
 
 use crate::deciding::can_decide;
 use crate::places::{place_key, send_key, sign_key};
 use crate::progress::{ORDERS, Progress};
-use crate::receiving::can_arrive;
-use crate::signing::can_sign;
+use crate::receiving::is_chain;
+use crate::signing::lengthens;
 use gen_log::Entry;
 use gen_net::Net;
-use gen_types::{GeneralNo, OrderNo, Path};
+use gen_types::{GeneralNo, OrderNo};
 
 /// Whether an order is due to be signed or sent at a place before this one.
 fn stops(net: &Net, order: OrderNo, progress: &Progress, at: u32) -> bool
@@ -44,19 +44,6 @@ fn any_stops(net: &Net, orders: &[Progress; ORDERS], at: u32) -> bool
     false
 }
 
-/// Whether a SEND of this path to the general is the next one due.
-fn can_send(net: &Net, progress: &Progress, to: GeneralNo, path: &Path) -> bool
-    ensures { IsTrue result ↔ CanSend net.now progress.now to path.now }
-{
-    match progress {
-        Progress::Unlearnt => false,
-        Progress::Learnt { round: _ } => false,
-        Progress::Relayed { path: other, next } => {
-            to.get() < net.generals() && *next == to.get() && *other == *path
-        }
-    }
-}
-
 /// Whether the general, with this progress after the entries before, can write the entry.
 fn is_allowed(
     net: &Net,
@@ -80,15 +67,27 @@ fn is_allowed(
             order,
             path,
             signature: _,
-        } => {
-            let progress = &orders[usize::from(order.get())];
-            can_sign(net, general, before, *order, progress, path)
-        }
-        Entry::Send { to, order, path } => {
-            can_send(net, &orders[usize::from(order.get())], *to, path)
-        }
+        } => match &orders[usize::from(order.get())] {
+            Progress::Learnt { round } => {
+                *round < net.rounds() && lengthens(general, before, *order, *round, path.generals())
+            }
+            Progress::Unlearnt | Progress::Relayed { .. } => false,
+        },
+        // The next SEND that is due is allowed.
+        Entry::Send { to, order, path } => match &orders[usize::from(order.get())] {
+            Progress::Relayed { path: due, next } => {
+                to.get() < net.generals() && *next == to.get() && *due == *path
+            }
+            Progress::Unlearnt | Progress::Learnt { .. } => false,
+        },
+        // A chain of the network can arrive from the neighbour that signed last, if it doesn't name the general.
         Entry::Recv { from, chain } => {
-            can_arrive(net, general, *from, chain.order(), &chain.path())
+            let path = chain.path();
+            net.has_edge(*from, general)
+                && is_chain(net, chain.order(), &path)
+                && path.len() <= usize::from(net.rounds())
+                && path.ends_with(*from)
+                && !path.contains(general)
         }
         Entry::Decide { orders: set, order } => can_decide(net, orders, set, *order),
     }

@@ -4,7 +4,7 @@ ghost use Rattle.gen_log.specs.Log.{BeginsWithStartOf};
 ghost use Rattle.gen_log.specs.Verifying.{SaysItIsOf};
 ghost use Rattle.gen_chain.specs.Store.{Serves, KeepsAll};
 ghost use Rattle.gen_net.specs.Header.{RunHeader};
-ghost use Rattle.gen_local.specs.Opened.{IsOpening, IsOpened, exhibits_of, logs_in, logs_of};
+ghost use Rattle.gen_local.specs.Opened.{IsOpened, exhibits_of, logs_in, logs_of};
 
 use crate::departing::starter;
 use crate::exhibits::Exhibit;
@@ -49,31 +49,6 @@ pub fn says_it_is_of(header: &Header, general: GeneralNo, log: &Log) -> bool
     *log.run_id() == *header.run_id() && starts_as(general, log.entries())
 }
 
-/// Returns what bytes are that are shown as a general's log of this run.
-fn opening_of(
-    alloc: Global,
-    header: &Header,
-    general: GeneralNo,
-    bytes: &[u8],
-    store: &mut VerifyStore,
-) -> Result<Opening, AllocError>
-    requires { Serves header.now store.old }
-    ensures opening { IfOk result (IsOpening header.now general bytes.now) }
-    ensures grows { KeepsAll store.old store.new }
-    ensures serves { Serves header.now store.new }
-{
-    match read_log_with(alloc, header, bytes, store.pool()) {
-        Err(ReadError::Memory) => Err(AllocError),
-        Err(ReadError::Fault(fault)) => Ok(Opening::Unreadable(fault)),
-        Ok(log) => {
-            if !says_it_is_of(header, general, &log) {
-                return Ok(Opening::Foreign);
-            }
-            Ok(Opening::Own(log))
-        }
-    }
-}
-
 /// Opens an exhibit: reads its bytes as a log.
 pub fn open(
     alloc: Global,
@@ -87,11 +62,22 @@ pub fn open(
     ensures grows { KeepsAll store.old store.new }
     ensures serves { Serves header.now store.new }
 {
-    let opening = opening_of(alloc, header, exhibit.general(), exhibit.log(), store)?;
-    Ok(Opened {
-        exhibit: exhibit.share()?,
-        opening,
-    })
+    let exhibit = exhibit.share()?;
+    match read_log_with(alloc, header, exhibit.log(), store.pool()) {
+        Err(ReadError::Memory) => Err(AllocError),
+        Err(ReadError::Fault(fault)) => {
+            let opening = Opening::Unreadable(fault);
+            Ok(Opened { exhibit, opening })
+        }
+        Ok(log) => {
+            if !says_it_is_of(header, exhibit.general(), &log) {
+                let opening = Opening::Foreign;
+                return Ok(Opened { exhibit, opening });
+            }
+            let opening = Opening::Own(log);
+            Ok(Opened { exhibit, opening })
+        }
+    }
 }
 
 /// Opens exhibits, in their order.

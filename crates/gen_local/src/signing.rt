@@ -1,14 +1,12 @@
 //! Tests with which paths a general can sign an order.
 ghost use Rattle.std.specs.Prelude.{IsTrue, ◌≡◌, ◌↔◌};
 ghost use Rattle.std.specs.List.{list_any};
-ghost use Rattle.gen_local.specs.Recvs.{HasRecv, is_recv_of as is_received};
+ghost use Rattle.gen_local.specs.Recvs.{is_recv_of as is_received};
 ghost use Rattle.gen_local.specs.Erased.{erased};
-ghost use Rattle.gen_local.specs.Walking.Judged.{Lengthens, CanSign};
+ghost use Rattle.gen_local.specs.Walking.Judged.{Lengthens};
 
-use crate::progress::Progress;
 use gen_log::Entry;
-use gen_net::Net;
-use gen_types::{GeneralNo, OrderNo, Path};
+use gen_types::{GeneralNo, OrderNo};
 
 /// Whether an entry is a RECV of this order and path.
 fn is_recv_of(entry: &Entry, order: OrderNo, generals: &[GeneralNo]) -> bool
@@ -25,7 +23,7 @@ fn is_recv_of(entry: &Entry, order: OrderNo, generals: &[GeneralNo]) -> bool
 }
 
 /// Whether one of the entries is a RECV of this order and path.
-fn any_is_recv_of(before: &[Entry], order: OrderNo, generals: &[GeneralNo]) -> bool
+fn was_received(before: &[Entry], order: OrderNo, generals: &[GeneralNo]) -> bool
     ensures { result ≡ list_any (is_received order generals.now) before.now }
 {
     before
@@ -33,15 +31,8 @@ fn any_is_recv_of(before: &[Entry], order: OrderNo, generals: &[GeneralNo]) -> b
         .any(|entry| is_recv_of(entry, order, generals))
 }
 
-/// Whether one of the entries is a RECV of this order and path.
-fn was_received(before: &[Entry], order: OrderNo, generals: &[GeneralNo]) -> bool
-    ensures { IsTrue result ↔ HasRecv (erased before.now) order generals.now }
-{
-    any_is_recv_of(before, order, generals)
-}
-
 /// Whether the path is one by which the general learnt the order in this round, followed by the general itself.
-fn lengthens(
+pub fn lengthens(
     general: GeneralNo,
     before: &[Entry],
     order: OrderNo,
@@ -57,25 +48,5 @@ fn lengthens(
                 && picked.len() == usize::from(round)
                 && (picked.is_empty() || was_received(before, order, picked))
         }
-    }
-}
-
-/// Whether the general, with this progress, can sign the order with this path.
-pub fn can_sign(
-    net: &Net,
-    general: GeneralNo,
-    before: &[Entry],
-    order: OrderNo,
-    progress: &Progress,
-    path: &Path,
-) -> bool
-    ensures { IsTrue result ↔ CanSign net.now general (erased before.now) order progress.now path.now }
-{
-    match progress {
-        Progress::Unlearnt => false,
-        Progress::Learnt { round } => {
-            *round < net.rounds() && lengthens(general, before, order, *round, path.generals())
-        }
-        Progress::Relayed { path: _, next: _ } => false,
     }
 }

@@ -36,11 +36,8 @@ fn laws_of_chains_and_logs() {
 #[test]
 fn laws_of_reports_and_evidence() {
     reports::begun_by_step();
-    reports::departs_at_first();
-    reports::whole_logs();
     reports::judged_by_state();
-    reports::one_report();
-    reports::nothing_found();
+    reports::reports_are_exact();
     matching::derivable_at_last();
     evidence::one_evidence_spelling();
     evidence::followers_logs();

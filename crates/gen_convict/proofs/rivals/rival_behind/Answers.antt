@@ -11,5 +11,5 @@ returns-then-has_beside-clause-rival c =
     let kept = ap (λ ts. list_any (λ y. finds.is_beside y x) (map seen ts)) c.as_slice.ensures.value in
     sym (covered (map seen c.args.alone.now.items) x (map seen c.args.others.now) c.requires (sym kept ∙ sym c.has_beside.ensures ∙ c.if-has_beside.true))
 
-pub returns-clause-rival : goal.returns-clause-rival
-returns-clause-rival c = sym (none_met (seen c.args.text) (map seen c.args.others.now) (sym c.has_meeting.ensures ∙ c.if-has_meeting.false))
+pub returns-then-not-has_meeting-clause-rival : goal.returns-then-not-has_meeting-clause-rival
+returns-then-not-has_meeting-clause-rival c = sym (none_met (seen c.args.text) (map seen c.args.others.now) (sym c.has_meeting.ensures ∙ c.if-not-has_meeting.true))
