@@ -6,7 +6,7 @@ ghost use Rattle.gen_net.specs.Header.{height_of};
 ghost use Rattle.gen_chain.specs.Chain.{IsSignedChain, chain_spelling, signed_path};
 ghost use Rattle.gen_script.specs.Line.{IsScriptLine};
 ghost use Rattle.gen_scenario.specs.declared.heard.Heard.{Heard as Came};
-ghost use Rattle.gen_general.specs.declared.scripted.Planned.TheVariants.{Chain as Signed, Bytes};
+ghost use Rattle.gen_general.specs.declared.scripted.Planned.TheVariants.{Bytes};
 ghost use Rattle.gen_scenario.specs.Signing.{bent, flipped};
 ghost use Rattle.gen_scenario.specs.Frames.{passed};
 ghost use Rattle.gen_general.specs.Planned as plans;
@@ -130,27 +130,8 @@ fn flip_top_bit(byte: u8) -> u8
     byte ^ TOP_BIT
 }
 
-/// Returns the bytes of this chain, with the most significant bit of the last signature's first byte flipped.
-fn bend(alloc: Global, chain: &SignedChain) -> Result<Parcel, AllocError>
-    ensures { IfOk result (λ parcel. parcel ≡ chain_spelling (bent chain.now)) }
-{
-    let mut bytes = write_chain(alloc, chain)?;
-    let last_signature = bytes.len() - signature_bytes(chain.height());
-    bytes[last_signature] = flip_top_bit(bytes[last_signature]);
-    Ok(Parcel::new(bytes))
-}
-
-/// Returns the chain, if there is one, as planned for a neighbour.
-fn chain_to(to: GeneralNo, chain: Option<SignedChain>) -> Option<Planned>
-    ensures { option_to_list result ≡ map (Signed to) (option_to_list chain) }
-{
-    match chain {
-        None => None,
-        Some(chain) => Some(Planned::Chain { to, chain }),
-    }
-}
-
-/// Returns the bytes of the chain, if there is one, with its last signature bent, as planned for a neighbour.
+/// Returns the bytes of the chain, if there is one, as planned for a neighbour, with the most significant bit
+/// of the last signature's first byte flipped.
 fn bent_to(
     alloc: Global,
     to: GeneralNo,
@@ -159,13 +140,14 @@ fn bent_to(
     ensures { IfOk result (λ planned. option_to_list planned
         ≡ map (Bytes to) (map (λ c. chain_spelling (bent c)) (option_to_list chain))) }
 {
-    match chain {
-        None => Ok(None),
-        Some(chain) => {
-            let parcel = bend(alloc, &chain)?;
-            Ok(Some(Planned::Bytes { to, parcel }))
-        }
-    }
+    let Some(chain) = chain else {
+        return Ok(None);
+    };
+    let mut bytes = write_chain(alloc, &chain)?;
+    let last_signature = bytes.len() - signature_bytes(chain.height());
+    bytes[last_signature] = flip_top_bit(bytes[last_signature]);
+    let parcel = Parcel::new(bytes);
+    Ok(Some(Planned::Bytes { to, parcel }))
 }
 
 /// Returns what a line sends, whatever its round.
@@ -205,7 +187,7 @@ fn plan_line(
         } => {
             let came = find_heard(*round - path.len() as u8, *from, *order, heard);
             let chain = pass_along(alloc, header, trees, path.generals(), came)?;
-            Ok(chain_to(*to, chain))
+            Ok(chain.map(|chain| Planned::Chain { to: *to, chain }))
         }
         ScriptLine::Bend {
             round,

@@ -1,26 +1,12 @@
 //! Finding the tree of a signer's keys.
-ghost use Rattle.std.specs.Prelude.{◌≡◌, option_map};
+ghost use Rattle.std.specs.Prelude.{◌≡◌};
 ghost use Rattle.gen_net.specs.Header.{RunHeader, height_of};
-ghost use Rattle.gen_scenario.specs.SignerTrees.{CanSign, seed_in, tree_in};
+ghost use Rattle.gen_scenario.specs.SignerTrees.{CanSign, seed_in};
 
 use gen_net::Header;
 use gen_scenario::SignerTree;
 use gen_tree::KeyTree;
 use gen_types::GeneralNo;
-
-/// Returns the entry of a general in the list of trees, if it has one.
-fn find_signer(trees: &[SignerTree], general: GeneralNo) -> Option<&SignerTree>
-    ensures { option_map (λ signer. signer.now.tree) result ≡ tree_in trees.now general }
-{
-    let mut rest = trees;
-    'rest: while let Some((signer, others)) = rest.split_first() {
-        if signer.general == general {
-            return Some(signer);
-        }
-        rest = others;
-    }
-    None
-}
 
 /// Returns the tree of a general, whose signatures in the run of this header must be possible with these
 /// trees.
@@ -34,6 +20,12 @@ pub(crate) fn tree_of<'a>(
         ≡ record { seed = seed_in trees.now general; height = height_of header.now } }
 {
     let _height = header.height();
-    let signer = find_signer(trees, general).unwrap();
-    &signer.tree
+    let mut rest = trees;
+    'rest: while let Some((signer, others)) = rest.split_first() {
+        if signer.general == general {
+            return &signer.tree;
+        }
+        rest = others;
+    }
+    unreachable!()
 }

@@ -1,2 +1,1 @@
 pub mod Bundling
-pub mod Telling

@@ -3,10 +3,9 @@ ghost use Rattle.std.specs.Prelude.{◌≡◌, ◌<◌, IfOk};
 ghost use Rattle.gen_scenario.specs.Rows.{logs_of_all};
 ghost use Rattle.gen_judge.specs.Faults.{ended_as};
 
-use crate::faults::fault_of;
 use crate::stopping::StopWord;
 use crate::trays::Tray;
-use crate::working::{Crew, work_to_end};
+use crate::working::{Crew, work};
 use gen_audit::{AuditFault, JobGate};
 use gen_desk::Desk;
 use gen_log::SealedLog;
@@ -15,11 +14,12 @@ use gen_scenario::Scenario;
 use gen_threads::{Gate, RunFault, run_threads};
 use std::alloc::Global;
 use std::sync::Wait;
+use std::sync::atomic::Ordering;
 use std::thread;
 use std::thread::{JoinHandle, Scope, Threads};
 
-/// Starts the workers of a crew, as long as there is room for their handles, and returns whether all could be started.
-/// After one that can't be started no other is.
+/// Starts the workers of a crew, as long as there is room for their handles. After one that can't be started no other
+/// is. A worker that can't go on sets the stop word. Returns the handles, and whether all could be started.
 fn start_workers<'s, E, R: Threads + Wait + Sync, J: JobGate + Sync>(
     rt: &'s R,
     alloc: Global,
@@ -29,26 +29,25 @@ fn start_workers<'s, E, R: Threads + Wait + Sync, J: JobGate + Sync>(
     desk: &'s Desk,
     stop: &'s StopWord,
     crew: Crew,
-    handles: &mut Vec<JoinHandle<()>>,
-) -> bool {
+    empty: Vec<JoinHandle<()>>,
+) -> (Vec<JoinHandle<()>>, bool) {
     let Crew { workers, most } = crew;
+    let mut handles = empty;
     for _ in 0..workers {
         if handles.len() == handles.capacity() {
-            return false;
+            return (handles, false);
         }
-        match scope.spawn(move || work_to_end(rt, alloc, gate, header, desk, most, stop)) {
+        let spawned = scope.spawn(move || {
+            if let Err(fault) = work(rt, alloc, gate, header, desk, most, stop) {
+                stop.set_for(desk, fault);
+            }
+        });
+        match spawned {
             Ok(handle) => handles.push_reserved(handle),
-            Err(_refused) => return false,
+            Err(_refused) => return (handles, false),
         }
     }
-    true
-}
-
-/// Joins all workers.
-fn join_workers<R: Threads>(rt: &R, handles: Vec<JoinHandle<()>>) {
-    for handle in handles {
-        handle.join(rt);
-    }
+    (handles, true)
 }
 
 /// Returns the answer for a run that ended with these logs or this fault. `started` says whether all workers were
@@ -64,7 +63,8 @@ fn ended(
         return Err(AuditFault::Memory);
     }
     match logs {
-        Err(fault) => Err(fault_of(fault)),
+        Err(RunFault::Memory) => Err(AuditFault::Memory),
+        Err(RunFault::Thread | RunFault::Gone) => Err(AuditFault::Thread),
         Ok(logs) => {
             if started {
                 Ok(logs)
@@ -75,53 +75,9 @@ fn ended(
     }
 }
 
-/// Starts the workers and runs the generals, while the workers wait for what the generals file. Then it ends the
-/// receipts that the desk knows, and joins the workers.
-fn run_with_workers<'s, E, R: Threads + Wait + Sync, G: Gate + Sync, J: JobGate + Sync>(
-    rt: &'s R,
-    alloc: Global,
-    scenario: &'s Scenario,
-    capacity: usize,
-    crew: Crew,
-    desk: &'s Desk,
-    tray: &'s Tray,
-    stop: &'s StopWord,
-    gate: &'s G,
-    job_gate: &'s J,
-    scope: &Scope<'s, E>,
-    handles: Vec<JoinHandle<()>>,
-) -> Result<Vec<SealedLog>, AuditFault>
-    requires { 0 < capacity }
-    ensures { IfOk result (λ logs. logs.items ≡ logs_of_all scenario.entry.now) }
-{
-    let mut handles = handles;
-    let header = scenario.header();
-    let started = start_workers(
-        rt,
-        alloc,
-        job_gate,
-        scope,
-        header,
-        desk,
-        stop,
-        crew,
-        &mut handles,
-    );
-    if !started {
-        stop.set(desk);
-    }
-    let logs = run_threads(rt, alloc, scenario, capacity, gate);
-    match &logs {
-        // While the workers go on.
-        Ok(_all) => tray.spend_known(rt, desk),
-        Err(_fault) => stop.set(desk),
-    }
-    join_workers(rt, handles);
-    ended(logs, started, stop.was_refused())
-}
-
-/// Runs a scenario, whose generals file at the gate, beside the workers of a crew, each in a thread of its own. All
-/// threads have ended when it returns.
+/// Runs a scenario, whose generals file at the gate, beside the workers of a crew, each in a thread of its own. It
+/// starts the workers and runs the generals, while the workers wait for what the generals file. Then it ends the
+/// receipts that the desk knows, and joins the workers: all threads have ended when it returns.
 ///
 /// # Errors
 ///
@@ -149,10 +105,23 @@ pub(crate) fn run_beside<R: Threads + Wait + Sync, G: Gate + Sync, J: JobGate + 
             requires { 0 < capacity }
             ensures { IfOk result (λ logs. logs.items ≡ logs_of_all scenario.entry.now) }
         {
-            run_with_workers(
-                rt, alloc, scenario, capacity, crew, desk, tray, stop, gate, job_gate, scope,
-                handles,
-            )
+            let header = scenario.header();
+            let (handles, started) = start_workers(
+                rt, alloc, job_gate, scope, header, desk, stop, crew, handles,
+            );
+            if !started {
+                stop.set(desk);
+            }
+            let logs = run_threads(rt, alloc, scenario, capacity, gate);
+            match &logs {
+                // While the workers go on.
+                Ok(_all) => tray.spend_known(rt, desk),
+                Err(_fault) => stop.set(desk),
+            }
+            for handle in handles {
+                handle.join(rt);
+            }
+            ended(logs, started, stop.refused.load(Ordering::SeqCst))
         },
     )
 }

@@ -9,7 +9,7 @@ use crate::stopping::StopWord;
 use crate::trays::Tray;
 use crate::working::Crew;
 use gen_audit::{AuditFault, JobGate, WorkerCount};
-use gen_desk::{Desk, Receipt, Row};
+use gen_desk::{Desk, Row};
 use gen_log::SealedLog;
 use gen_scenario::Scenario;
 use gen_threads::Gate;
@@ -22,14 +22,6 @@ use std::thread::Threads;
 pub(crate) struct FiledRun {
     pub(crate) logs: Vec<SealedLog>,
     pub(crate) rows: Option<Vec<Row>>,
-}
-
-/// Closes a desk, and returns what stands at its places, if it knows all receipts.
-fn rows_of(desk: Desk, receipts: Vec<Receipt>) -> Option<Vec<Row>> {
-    match desk.close(receipts) {
-        Ok(filed) => Some(filed.into_rows()),
-        Err(_strange) => None,
-    }
 }
 
 /// Runs a scenario beside this many workers, which report on each log once its general has filed it.
@@ -75,6 +67,9 @@ pub(crate) fn run_at_desk<R: Threads + Wait + Sync, G: Gate + Sync, J: JobGate +
         &filing,
         job_gate,
     )?;
-    let rows = rows_of(desk, tray.into_receipts());
+    let rows = match desk.close(tray.into_receipts()) {
+        Ok(filed) => Some(filed.into_rows()),
+        Err(_strange) => None,
+    };
     Ok(FiledRun { logs, rows })
 }

@@ -10,7 +10,7 @@ use gen_types::GeneralNo;
 use std::sync::Wait;
 
 /// A gate that passes every call on to another gate, and files each sealed log at its place among the logs of the run.
-/// The desk shares the log's bytes.
+/// The desk shares the log's bytes. If a log can't be filed, the stop word is set.
 #[derive(Drop)]
 pub(crate) struct FilingGate<'a, R, G> {
     pub(crate) rt: &'a R,
@@ -19,28 +19,6 @@ pub(crate) struct FilingGate<'a, R, G> {
     pub(crate) desk: &'a Desk,
     pub(crate) tray: &'a Tray,
     pub(crate) stop: &'a StopWord,
-}
-
-/// Files a log at a place. If that can't be done, the stop word is set.
-fn file_one<R: Wait>(
-    rt: &R,
-    desk: &Desk,
-    tray: &Tray,
-    stop: &StopWord,
-    place: usize,
-    log: &SealedLog,
-) {
-    let Some(slip) = tray.take_slip(rt, place) else {
-        stop.set(desk);
-        return;
-    };
-    match desk.file_shared(rt, slip, log) {
-        Ok(receipt) => tray.add_receipt(rt, receipt),
-        Err((slip, fault)) => {
-            let _place = slip.give_up();
-            stop.set_for(desk, fault);
-        }
-    }
 }
 
 impl<'a, R: Wait, G: Gate> Gate for FilingGate<'a, R, G> {
@@ -52,7 +30,16 @@ impl<'a, R: Wait, G: Gate> Gate for FilingGate<'a, R, G> {
         self.gate.sealed(general, logs);
         let mut place = logs_below(self.scenario, general.get());
         for log in logs {
-            file_one(self.rt, self.desk, self.tray, self.stop, place, log);
+            match self.tray.take_slip(self.rt, place) {
+                Some(slip) => match self.desk.file_shared(self.rt, slip, log) {
+                    Ok(receipt) => self.tray.add_receipt(self.rt, receipt),
+                    Err((slip, fault)) => {
+                        let _place = slip.give_up();
+                        self.stop.set_for(self.desk, fault);
+                    }
+                },
+                None => self.stop.set(self.desk),
+            }
             place = place.saturating_add(1);
         }
     }

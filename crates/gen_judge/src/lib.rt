@@ -8,7 +8,6 @@
 mod beside;
 mod bundles;
 mod desks;
-mod faults;
 mod filing;
 mod judging;
 mod places;

@@ -8,8 +8,9 @@ ghost use Rattle.gen_audit.specs.Headline.{Headline};
 ghost use Rattle.gen_audit.specs.Verdict.{IsVerdict};
 ghost use Rattle.gen_audit.specs.WorldBundle.{run_bundle};
 
+use crate::bundles::bundle_of_run;
 use crate::desks::{FiledRun, run_at_desk};
-use crate::judging::judge_logs;
+use crate::judging::judge_by;
 use gen_audit::{AuditFault, JobGate, Judgement, WorkerCount};
 use gen_scenario::Scenario;
 use gen_threads::Gate;
@@ -69,7 +70,6 @@ pub fn run_and_audit<R: Threads + Wait + Sync, G: Gate + Sync, J: JobGate + Sync
     let FiledRun { logs, rows } = run_at_desk(
         rt, alloc, scenario, capacity, workers, gate, job_gate,
     )?;
-    judge_logs(
-        rt, alloc, scenario, faulty, walks, logs, rows, workers, job_gate,
-    )
+    let bundle = bundle_of_run(alloc, scenario, faulty, walks, logs)?;
+    judge_by(rt, alloc, &bundle, rows, workers, job_gate)
 }

@@ -2,12 +2,13 @@
 use gen_desk::{Desk, DeskFault};
 use std::sync::atomic::{AtomicBool, Ordering};
 
-/// The stop word of workers. It tells whether the workers are to stop before everything is reported, and whether memory
-/// was refused to a thread that files or reports.
+/// The stop word of workers.
 #[derive(Drop)]
 pub(crate) struct StopWord {
-    set: AtomicBool,
-    refused: AtomicBool,
+    /// Whether the workers are to stop before everything is reported.
+    pub(crate) set: AtomicBool,
+    /// Whether memory was refused to a thread that files or reports.
+    pub(crate) refused: AtomicBool,
 }
 
 impl StopWord {
@@ -31,15 +32,5 @@ impl StopWord {
             self.refused.store(true, Ordering::SeqCst);
         }
         self.set(desk);
-    }
-
-    /// Returns whether the word is set.
-    pub(crate) fn is_set(&self) -> bool {
-        self.set.load(Ordering::SeqCst)
-    }
-
-    /// Returns whether memory was refused to a thread that files or reports.
-    pub(crate) fn was_refused(&self) -> bool {
-        self.refused.load(Ordering::SeqCst)
     }
 }

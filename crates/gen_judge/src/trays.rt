@@ -30,24 +30,6 @@ pub(crate) struct Tray {
     receipts: Mutex<Vec<Receipt>>,
 }
 
-/// Returns this many empty seats for slips.
-fn empty_seats(alloc: Global, places: usize) -> Result<Vec<Option<HeldSlip>>, AllocError> {
-    let mut seats = Vec::with_capacity(alloc, places)?;
-    for _ in 0..places {
-        seats.push(None)?;
-    }
-    Ok(seats)
-}
-
-/// Puts a slip into the seat of its place. If there is no such seat, the slip is given up.
-fn put_slip(seats: &mut Vec<Option<HeldSlip>>, slip: Slip) {
-    let place = slip.place();
-    let held = HeldSlip { slip };
-    if let Some(seat) = seats.get_mut(place) {
-        *seat = Some(held);
-    }
-}
-
 impl Tray {
     /// Returns a tray of this many places that holds no slip yet, with room for all receipts.
     ///
@@ -55,7 +37,10 @@ impl Tray {
     ///
     /// `AllocError` if memory is refused.
     pub(crate) fn new(alloc: Global, places: usize) -> Result<Tray, AllocError> {
-        let seats = empty_seats(alloc, places)?;
+        let mut seats = Vec::with_capacity(alloc, places)?;
+        for _ in 0..places {
+            seats.push(None)?;
+        }
         let receipts = Vec::with_capacity(alloc, places)?;
         Ok(Tray {
             slips: Mutex::new(seats),
@@ -63,12 +48,17 @@ impl Tray {
         })
     }
 
-    /// Puts slips into the tray, each at its place. It takes no memory.
+    /// Puts slips into the tray, each into the seat of its place. A slip without such a seat is given up. It takes no
+    /// memory.
     pub(crate) fn put_slips(&mut self, slips: Vec<Slip>) {
         let seats = self.slips.get_mut();
         let mut slips = slips;
         while let Some(slip) = slips.pop() {
-            put_slip(seats, slip);
+            let place = slip.place();
+            let held = HeldSlip { slip };
+            if let Some(seat) = seats.get_mut(place) {
+                *seat = Some(held);
+            }
         }
         slips.destroy_empty();
     }
@@ -76,13 +66,8 @@ impl Tray {
     /// Takes the slip of a place, if it is still there.
     pub(crate) fn take_slip<R: Wait>(&self, rt: &R, place: usize) -> Option<Slip> {
         let mut seats = self.slips.lock(rt);
-        match seats.get_mut(place) {
-            Some(seat) => match seat.take() {
-                Some(held) => Some(held.into_slip()),
-                None => None,
-            },
-            None => None,
-        }
+        let held = seats.get_mut(place)?.take()?;
+        Some(held.into_slip())
     }
 
     /// Adds a receipt, for which there is room. Without room the receipt is dropped.

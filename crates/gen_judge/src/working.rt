@@ -5,11 +5,12 @@ use crate::stopping::StopWord;
 use gen_audit::{JobGate, WorkerCount};
 use gen_chain::VerifyStore;
 use gen_desk::{Desk, DeskFault, Ticket};
-use gen_local::{Exhibit, LocalReport, local_reports};
+use gen_local::{LocalReport, local_reports};
 use gen_net::Header;
 use sha_lanes::LANES;
 use std::alloc::{AllocError, Global};
 use std::sync::Wait;
+use std::sync::atomic::Ordering;
 use std::thread;
 
 /// How often at most a worker looks at the desk before it works on fewer places than it may claim.
@@ -65,21 +66,8 @@ fn claim_some<R: Wait>(
     Ok(tickets)
 }
 
-/// Calls the gate for the place of each ticket, and returns the claimed exhibits, whose bytes are shared and not copied.
-fn begin_all<J: JobGate>(
-    alloc: Global,
-    gate: &J,
-    tickets: &[Ticket],
-) -> Result<Vec<Exhibit>, AllocError> {
-    let mut exhibits = Vec::with_capacity(alloc, tickets.len())?;
-    for ticket in tickets {
-        gate.begin(ticket.place());
-        exhibits.push(ticket.exhibit().share()?)?;
-    }
-    Ok(exhibits)
-}
-
-/// Makes the reports on what was claimed. The links of several logs are hashed side by side.
+/// Calls the gate for the place of each ticket, and makes the reports on what was claimed. The bytes of the exhibits are
+/// shared and not copied, and the links of several logs are hashed side by side.
 fn reports_of<J: JobGate>(
     alloc: Global,
     gate: &J,
@@ -90,26 +78,15 @@ fn reports_of<J: JobGate>(
     requires { Serves header.now store.old }
     ensures { Serves header.now store.new }
 {
-    let exhibits = begin_all(alloc, gate, tickets)?;
+    let mut exhibits = Vec::with_capacity(alloc, tickets.len())?;
+    for ticket in tickets {
+        gate.begin(ticket.place());
+        exhibits.push(ticket.exhibit().share()?)?;
+    }
     local_reports(alloc, header, exhibits.as_slice(), store)
 }
 
-/// Hands in the reports at the desk, each with the ticket of the same position.
-fn hand_in<R: Wait>(
-    rt: &R,
-    desk: &Desk,
-    tickets: Vec<Ticket>,
-    reports: Vec<LocalReport>,
-) -> Result<(), DeskFault> {
-    for (ticket, report) in tickets.into_iter().zip(reports) {
-        if let Err((_ticket, _report, fault)) = desk.report(rt, ticket, report) {
-            return Err(fault);
-        }
-    }
-    Ok(())
-}
-
-/// Reports on what was claimed, and hands the reports in.
+/// Reports on what was claimed, and hands in the reports at the desk, each with the ticket of the same position.
 fn serve<R: Wait, J: JobGate>(
     rt: &R,
     alloc: Global,
@@ -122,10 +99,15 @@ fn serve<R: Wait, J: JobGate>(
     requires { Serves header.now store.old }
     ensures { Serves header.now store.new }
 {
-    match reports_of(alloc, gate, header, tickets.as_slice(), store) {
-        Ok(reports) => hand_in(rt, desk, tickets, reports),
-        Err(AllocError) => Err(DeskFault::Memory),
+    let Ok(reports) = reports_of(alloc, gate, header, tickets.as_slice(), store) else {
+        return Err(DeskFault::Memory);
+    };
+    for (ticket, report) in tickets.into_iter().zip(reports) {
+        if let Err((_ticket, _report, fault)) = desk.report(rt, ticket, report) {
+            return Err(fault);
+        }
     }
+    Ok(())
 }
 
 /// Claims and reports, through a store of the worker's own, until all places are reported or the stop word is set. The
@@ -135,7 +117,7 @@ fn serve<R: Wait, J: JobGate>(
 /// # Errors
 ///
 /// Memory if memory is refused, or what the desk says of a report that it refuses.
-fn work<R: Wait, J: JobGate>(
+pub(crate) fn work<R: Wait, J: JobGate>(
     rt: &R,
     alloc: Global,
     gate: &J,
@@ -149,7 +131,7 @@ fn work<R: Wait, J: JobGate>(
     };
     for _ in rt.forever() {
         let moved = desk.prepare_wait();
-        if stop.is_set() {
+        if stop.set.load(Ordering::SeqCst) {
             return Ok(());
         }
         let Ok(tickets) = claim_some(rt, alloc, desk, most) else {
@@ -164,19 +146,4 @@ fn work<R: Wait, J: JobGate>(
         }
     }
     unreachable!()
-}
-
-/// Runs one worker from beginning to end. If the worker can't go on, it sets the stop word.
-pub(crate) fn work_to_end<R: Wait, J: JobGate>(
-    rt: &R,
-    alloc: Global,
-    gate: &J,
-    header: &Header,
-    desk: &Desk,
-    most: usize,
-    stop: &StopWord,
-) {
-    if let Err(fault) = work(rt, alloc, gate, header, desk, most, stop) {
-        stop.set_for(desk, fault);
-    }
 }

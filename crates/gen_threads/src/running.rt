@@ -24,23 +24,6 @@ use gen_tree::KeyRing;
 use std::alloc::Global;
 use std::sync::Wait;
 
-/// Makes the general in its state before the first round.
-///
-/// # Errors
-///
-/// The ring, if memory is refused.
-fn begin(alloc: Global, part: &RunPart, ring: Option<KeyRing>) -> Result<Recorder, Option<KeyRing>>
-    requires { MayRunWith part.now.scenario part.now.me ring }
-    ensures { MatchResult result
-        (λ recorder. RecordsAfter part.now.scenario 0 part.now.me recorder × (recorder.standing.ring ≡ ring))
-        (λ back. back ≡ ring) }
-{
-    let Ok(known) = part.part().clone() else {
-        return Err(ring);
-    };
-    Recorder::new(alloc, known, ring)
-}
-
 /// Runs all rounds.
 fn run_rounds<R: Wait, G: Gate>(
     rt: &R,
@@ -100,7 +83,10 @@ fn run_to_end<R: Wait, G: Gate>(
     ensures passes { ArePassesOf edges.now part.now.scenario part.now.me puts.new.items takes.new.items }
     ensures fault { IfErr result (λ fault. IsOwnFault takes.new.items fault.0) }
 {
-    let mut recorder = match begin(alloc, part, ring) {
+    let Ok(known) = part.part().clone() else {
+        return Err((RunFault::Memory, ring));
+    };
+    let mut recorder = match Recorder::new(alloc, known, ring) {
         Ok(recorder) => recorder,
         Err(ring) => return Err((RunFault::Memory, ring)),
     };

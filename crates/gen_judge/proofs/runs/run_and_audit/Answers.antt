@@ -6,7 +6,7 @@ use Rattle.gen_audit.specs.declared.verdicts.Judgement.{Judgement}
 use Rattle.gen_audit.specs.Bundle.{Bundle}
 use Rattle.gen_audit.specs.Headline.{Headline}
 use Rattle.gen_audit.specs.Verdict.{IsVerdict}
-use Rattle.gen_judge.proofs.judging.judge_logs.Goals as goal
+use Rattle.gen_judge.proofs.runs.run_and_audit.Goals as goal
 
 pub returns-clause-verdict : goal.returns-clause-verdict
 returns-clause-verdict g c =
