@@ -10,11 +10,14 @@ use Rattle.gen_audit.specs.Bundle.{Bundle}
 use Rattle.gen_audit.specs.BundleSpelling.{bundle_marks, walks_spelling}
 use Rattle.gen_show.specs.HeaderText.{header_lines}
 use Rattle.gen_show.specs.LogText.{log_lines}
-use Rattle.gen_show.specs.Words.{list_line, number_said}
+use Rattle.gen_show.specs.Words.{listed}
 
--- the line of a walk
-unfoldable pub walk_line : List ℕ → List ℕ
-walk_line walk = list_line (codes "walk") walk
+-- the line of the generals that are held for faulty, and that of a walk
+abbrev pub faulty_line : List ℕ → List ℕ
+faulty_line faulty = codes "faulty " ++ listed faulty ++ codes "\n"
+
+abbrev pub walk_line : List ℕ → List ℕ
+walk_line walk = codes "walk " ++ listed walk ++ codes "\n"
 
 -- the number of bytes before the log of an exhibit, and the number of bytes of an exhibit
 abbrev pub exhibit_front_length : ℕ
@@ -23,14 +26,11 @@ exhibit_front_length = 5
 abbrev pub exhibit_length : LogBytes → ℕ
 exhibit_length x = exhibit_front_length + length x.bytes
 
--- the lines of an exhibit that begins at this byte
-unfoldable pub exhibit_text : RunHeader → ℕ → LogBytes → List ℕ
-exhibit_text h at x = log_lines h x.general (at + exhibit_front_length) x.bytes
-
 -- the lines of exhibits that stand one behind another, from this byte on
 abbrev pub exhibit_lines : RunHeader → ℕ → List LogBytes → List ℕ
 exhibit_lines h at [] = []
-exhibit_lines h at (x ∷ xs) = exhibit_text h at x ++ exhibit_lines h (at + exhibit_length x) xs
+exhibit_lines h at (x ∷ xs) =
+    log_lines h x.general (at + exhibit_front_length) x.bytes ++ exhibit_lines h (at + exhibit_length x) xs
 
 -- the bytes of a bundle before its exhibits, and their number
 abbrev pub bundle_front : Bundle → List ℕ
@@ -45,30 +45,22 @@ bundle_front_length b = length (bundle_front b)
 abbrev pub bundle_length : Bundle → ℕ
 bundle_length b = bundle_front_length b + sum_by exhibit_length b.exhibits
 
--- the lines of the header
-unfoldable pub bundle_header_lines : Bundle → List ℕ
-bundle_header_lines b = header_lines (codes "bundle") b.header
-
--- the lines of the generals that are held for faulty, and of the walks
-unfoldable pub claimed_lines : Bundle → List ℕ
-claimed_lines b = list_line (codes "faulty") b.faulty ++ flat_map walk_line b.walks
-
--- the lines of a bundle that begins at this byte
+-- the lines of a bundle that begins at this byte: its header, the generals that are held for faulty, the
+-- walks and the exhibits
 unfoldable pub bundle_lines : ℕ → Bundle → List ℕ
 bundle_lines at b =
-    bundle_header_lines b ++ claimed_lines b
+    header_lines (codes "bundle") b.header ++ faulty_line b.faulty ++ flat_map walk_line b.walks
     ++ exhibit_lines b.header (at + bundle_front_length b) b.exhibits ++ codes "end\n"
 
--- the line before the bundle of a run of a campaign: the place of the run, and the byte at which its bundle
--- begins
+-- a line with the place of a run and the byte at which its bundle begins, and with the lines of the bundle
 unfoldable pub place_line : ℕ → ℕ → List ℕ
-place_line place at = codes "place " ++ decimal place ++ number_said (codes "byte") at ++ codes "\n"
+place_line place at = codes "place " ++ decimal place ++ codes " byte " ++ decimal at ++ codes "\n"
 
--- the lines of the bundle of a run that begins at this byte
-unfoldable pub run_text : ℕ → ℕ → Bundle → List ℕ
-run_text place at b = place_line place at ++ bundle_lines at b
+unfoldable pub place_lines : ℕ → ℕ → Bundle → List ℕ
+place_lines place at b = place_line place at ++ bundle_lines at b
 
--- the lines of the bundles of runs that stand one behind another, from this place and this byte on
+-- the lines of runs whose bundles stand one behind another, from this place and this byte on
 abbrev pub run_lines : ℕ → ℕ → List Bundle → List ℕ
 run_lines place at [] = []
-run_lines place at (b ∷ bs) = run_text place at b ++ run_lines (place + 1) (at + bundle_length b) bs
+run_lines place at (b ∷ bs) =
+    place_lines place at b ++ run_lines (place + 1) (at + bundle_length b) bs

@@ -1,23 +1,17 @@
 -- What is shown of a campaign, as lines.
 use Rattle.std.specs.Prelude.{ℕ, ◌+◌, ◌<◌, ◌^◌, Bool, true, false, List, [], ◌∷◌, ◌++◌, codes, length, sum_by, if◌then◌else◌}
+use Rattle.std.specs.Fmt.{decimal}
 use Rattle.gen_audit.specs.Bundle.{Bundle}
 use Rattle.gen_campaign.specs.Campaign.{CampaignBundle}
 use Rattle.gen_show.specs.BundleText.{bundle_length, bundle_lines, run_lines}
-use Rattle.gen_show.specs.Words.{number_said}
 
 -- the number of bytes before the first bundle of several runs
 abbrev pub campaign_front_length : ℕ
 campaign_front_length = 5
 
--- the name of the format of several runs
-unfoldable pub campaign_name : List ℕ
-campaign_name = codes "format campaign"
-
 -- the first line of several runs: the name of the format, its version, and the number of runs
 unfoldable pub campaign_line : ℕ → List ℕ
-campaign_line count =
-    campaign_name ++ number_said (codes "version") 2 ++ number_said (codes "runs") count
-    ++ codes "\n"
+campaign_line count = codes "format campaign version 2 runs " ++ decimal count ++ codes "\n"
 
 -- the lines of several runs
 abbrev pub several_lines : List Bundle → List ℕ

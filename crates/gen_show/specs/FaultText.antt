@@ -5,7 +5,6 @@ use Rattle.gen_net.specs.declared.fault.HeaderFault.{HeaderFault}
 use Rattle.gen_net.specs.FaultNumber.{header_fault_number}
 use Rattle.gen_log.specs.declared.fault.LogFault.{LogFault}
 use Rattle.gen_log.specs.FaultNumbers.{log_fault_numbers}
-use Rattle.gen_show.specs.Words.{number_said}
 
 -- the name of a header's fault
 unfoldable pub header_fault_name : HeaderFault → List ℕ
@@ -13,7 +12,7 @@ header_fault_name fault = codes "H" ++ decimal (header_fault_number fault)
 
 -- the last line of what doesn't read: the name of its fault, and the byte up to which it is shown
 unfoldable pub fault_line : List ℕ → ℕ → List ℕ
-fault_line name at = codes "fault " ++ name ++ number_said (codes "byte") at ++ codes "\n"
+fault_line name at = codes "fault " ++ name ++ codes " byte " ++ decimal at ++ codes "\n"
 
 -- the numbers of a log's rule and of a chain's rule, as a text names them
 abbrev pub rules_named : List ℕ → List ℕ

@@ -22,15 +22,13 @@ bundle_fault_name bundles.LeftOver = codes "B8"
 bundle_fault_name bundles.OutOfOrder = codes "B9"
 bundle_fault_name bundles.LongLog = codes "a log is too long"
 
--- the name of the fault of a campaign's run, with the place of the run
-unfoldable pub run_fault_name : ℕ → BundleFault → List ℕ
-run_fault_name place fault = codes "M3 run " ++ decimal place ++ codes " " ++ bundle_fault_name fault
-
--- the name of a campaign's fault; that of a bundle that stands alone is the bundle's
+-- the name of a campaign's fault, which has the place of a run if it is the run's; that of a bundle that
+-- stands alone is the bundle's
 abbrev pub campaign_fault_name : CampaignFault → List ℕ
 campaign_fault_name campaigns.NoCount = codes "M1"
 campaign_fault_name campaigns.RunCount = codes "M2"
-campaign_fault_name (campaigns.BadRun place fault) = run_fault_name place fault
+campaign_fault_name (campaigns.BadRun place fault) =
+    codes "M3 run " ++ decimal place ++ codes " " ++ bundle_fault_name fault
 campaign_fault_name campaigns.Unjoined = codes "M4"
 campaign_fault_name campaigns.LeftOver = codes "M5"
 campaign_fault_name (campaigns.Alone fault) = bundle_fault_name fault

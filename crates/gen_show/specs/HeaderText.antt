@@ -9,41 +9,45 @@ use Rattle.gen_net.specs.Header.{RunHeader, run_id_of}
 use Rattle.gen_net.specs.Version.{slot_in, version_one, version_two}
 use Rattle.gen_net.specs.declared.version.Version.{Version}
 use Rattle.gen_net.specs.declared.version.Version.TheVariants.{One, Two}
-use Rattle.gen_show.specs.Words.{digits_line, number_line, number_said}
 
 -- the number of a version
 abbrev pub version_number : Version → ℕ
 version_number One = version_one
 version_number (Two slot) = version_two
 
--- the first line: the name of the format, its version, and the slot of the run
-unfoldable pub format_line : List ℕ → Version → List ℕ
-format_line name version =
-    codes "format " ++ name ++ number_said (codes "version") (version_number version)
-    ++ number_said (codes "slot") (slot_in version) ++ codes "\n"
+-- the lines of the name of the format, with its version and the slot of the run, and of the run id
+unfoldable pub format_lines : List ℕ → RunHeader → List ℕ
+format_lines name h =
+    codes "format " ++ name ++ codes " version " ++ decimal (version_number h.version)
+    ++ codes " slot " ++ decimal (slot_in h.version) ++ codes "\nrun " ++ encode_lower (run_id_of h)
+    ++ codes "\n"
 
--- the numbers of a network, a line each
-unfoldable pub number_lines : Network → List ℕ
-number_lines net =
-    number_line (codes "generals") net.generals ++ number_line (codes "traitors") net.traitors
-    ++ number_line (codes "diameter") net.diameter ++ number_line (codes "orders") net.orders
-    ++ number_line (codes "choice") (choice_number net.choice)
+-- the numbers of a network, a line each: of its generals, and of its orders
+unfoldable pub general_lines : Network → List ℕ
+general_lines net =
+    codes "generals " ++ decimal net.generals ++ codes "\ntraitors " ++ decimal net.traitors
+    ++ codes "\ndiameter " ++ decimal net.diameter ++ codes "\n"
+
+unfoldable pub order_lines : Network → List ℕ
+order_lines net =
+    codes "orders " ++ decimal net.orders ++ codes "\nchoice " ++ decimal (choice_number net.choice)
+    ++ codes "\n"
 
 -- the line of an edge
 abbrev pub edge_line : ℕ × ℕ → List ℕ
 edge_line e = codes "edge " ++ decimal e.0 ++ codes " " ++ decimal e.1 ++ codes "\n"
 
--- the line of the root of a general
+-- the line of the root of a general, and the lines of those from this general on
 unfoldable pub root_line : ℕ → List ℕ → List ℕ
-root_line general root = codes "root " ++ decimal general ++ codes " " ++ encode_lower root ++ codes "\n"
+root_line general root =
+    codes "root " ++ decimal general ++ codes " " ++ encode_lower root ++ codes "\n"
 
--- the lines of the roots of generals, from this general on
 abbrev pub root_lines : ℕ → List (List ℕ) → List ℕ
 root_lines general [] = []
 root_lines general (root ∷ roots) = root_line general root ++ root_lines (general + 1) roots
 
 -- the lines of a header behind a format's name: format, run id, numbers, edges and roots
-abbrev pub header_lines : List ℕ → RunHeader → List ℕ
+unfoldable pub header_lines : List ℕ → RunHeader → List ℕ
 header_lines name h =
-    format_line name h.version ++ digits_line (codes "run") (run_id_of h) ++ number_lines h.network
+    format_lines name h ++ general_lines h.network ++ order_lines h.network
     ++ flat_map edge_line h.network.edges ++ root_lines 0 h.roots

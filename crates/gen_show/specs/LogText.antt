@@ -1,6 +1,7 @@
 -- A log as lines: each entry with the byte at which it stands in the file.
 use Rattle.std.specs.Prelude.{ℕ, ◌+◌, List, [], ◌∷◌, ◌++◌, codes, length, sum_by, Option, Some, None, Result, Ok, Err}
 use Rattle.std.specs.Fmt.{decimal}
+use Rattle.hex.specs.Hex.{encode_lower}
 use Rattle.gen_net.specs.Header.{RunHeader}
 use Rattle.gen_chain.specs.Chain.{signed_path}
 use Rattle.gen_log.specs.declared.entries.Entry.{Entry}
@@ -10,47 +11,38 @@ use Rattle.gen_log.specs.Entry.{entry_length}
 use Rattle.gen_log.specs.Log.{RunLog}
 use Rattle.gen_log.specs.LogReading.{log_of}
 use Rattle.gen_show.specs.FaultText.{log_fault_name}
-use Rattle.gen_show.specs.Words.{digits_said, list_said, number_said}
+use Rattle.gen_show.specs.Words.{listed}
 
 -- an order of one's own, or a minus
 abbrev pub own_said : Option ℕ → List ℕ
 own_said None = codes "-"
 own_said (Some v) = decimal v
 
--- what a START says: the general that it names, and the general's own order
-unfoldable pub start_said : ℕ → Option ℕ → List ℕ
-start_said general own =
-    codes " start" ++ number_said (codes "general") general ++ codes " own " ++ own_said own
-
 -- what was signed: its round, which is the length of its path, its order, and its path
 unfoldable pub signed_said : ℕ → List ℕ → List ℕ
 signed_said order path =
-    number_said (codes "round") (length path) ++ number_said (codes "order") order
-    ++ list_said (codes "path") path
+    codes " round " ++ decimal (length path) ++ codes " order " ++ decimal order
+    ++ codes " path " ++ listed path
 
--- a message: its sender and its receiver, and what was signed
-unfoldable pub message_said : ℕ → ℕ → ℕ → List ℕ → List ℕ
-message_said from to order path =
-    number_said (codes "from") from ++ number_said (codes "to") to ++ signed_said order path
-
--- what a DECIDE says: the set of orders, and the order that was decided
-unfoldable pub decided_said : List ℕ → ℕ → List ℕ
-decided_said orders order =
-    codes " decide" ++ list_said (codes "set") orders ++ number_said (codes "order") order
-
--- what an entry of this general's log says, without its signatures
+-- What an entry of this general's log says, without its signatures. A START has the general that it names,
+-- and the general's own order; a message its sender, its receiver, and what was signed; a DECIDE the set of
+-- orders, and the order that was decided.
 abbrev pub entry_said : ℕ → Entry → List ℕ
-entry_said keeper (Start general own) = start_said general own
+entry_said keeper (Start general own) =
+    codes " start general " ++ decimal general ++ codes " own " ++ own_said own
 entry_said keeper (Sign order path signature) = codes " sign" ++ signed_said order path
-entry_said keeper (Send to order path) = codes " send" ++ message_said keeper to order path
+entry_said keeper (Send to order path) =
+    codes " send from " ++ decimal keeper ++ codes " to " ++ decimal to ++ signed_said order path
 entry_said keeper (Recv from chain) =
-    codes " recv" ++ message_said from keeper chain.order (signed_path chain.signers)
-entry_said keeper (Decide orders order) = decided_said orders order
+    codes " recv from " ++ decimal from ++ codes " to " ++ decimal keeper
+    ++ signed_said chain.order (signed_path chain.signers)
+entry_said keeper (Decide orders order) =
+    codes " decide set " ++ listed orders ++ codes " order " ++ decimal order
 
 -- where an entry stands: its number, the general whose log it is in, and the byte at which it begins
 unfoldable pub entry_front : ℕ → ℕ → ℕ → List ℕ
 entry_front keeper number at =
-    codes "entry " ++ decimal number ++ number_said (codes "of") keeper ++ number_said (codes "byte") at
+    codes "entry " ++ decimal number ++ codes " of " ++ decimal keeper ++ codes " byte " ++ decimal at
 
 -- the line of an entry
 abbrev pub entry_line : ℕ → ℕ → ℕ → Entry → List ℕ
@@ -69,25 +61,23 @@ log_front_length = 40
 -- the first line of what is shown as a log: the general, the byte at which it begins, and its length
 unfoldable pub log_line : ℕ → ℕ → ℕ → List ℕ
 log_line general at size =
-    codes "log" ++ number_said (codes "of") general ++ number_said (codes "byte") at
-    ++ number_said (codes "length") size ++ codes "\n"
+    codes "log of " ++ decimal general ++ codes " byte " ++ decimal at
+    ++ codes " length " ++ decimal size ++ codes "\n"
 
 -- the line of a log that reads: the run that it says it is of, and the number of its entries
 unfoldable pub says_line : ℕ → RunLog → List ℕ
 says_line general log =
-    codes "says" ++ number_said (codes "of") general ++ digits_said (codes "run") log.run_id
-    ++ number_said (codes "entries") (length log.entries) ++ codes "\n"
+    codes "says of " ++ decimal general ++ codes " run " ++ encode_lower log.run_id
+    ++ codes " entries " ++ decimal (length log.entries) ++ codes "\n"
 
 -- the line behind the entries: where the signature of the head begins
 unfoldable pub head_line : ℕ → ℕ → List ℕ
-head_line general at =
-    codes "head" ++ number_said (codes "of") general ++ number_said (codes "byte") at ++ codes "\n"
+head_line general at = codes "head of " ++ decimal general ++ codes " byte " ++ decimal at ++ codes "\n"
 
 -- the line of bytes that are no log, with their fault
 unfoldable pub unreadable_line : ℕ → LogFault → List ℕ
 unreadable_line general fault =
-    codes "unreadable" ++ number_said (codes "of") general ++ codes " fault " ++ log_fault_name fault
-    ++ codes "\n"
+    codes "unreadable of " ++ decimal general ++ codes " fault " ++ log_fault_name fault ++ codes "\n"
 
 -- the lines of what was read as a log that begins at this byte
 abbrev pub reading_lines : ℕ → ℕ → Result RunLog LogFault → List ℕ

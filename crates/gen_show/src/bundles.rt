@@ -1,57 +1,17 @@
 //! Bundles as lines.
-ghost use Rattle.std.specs.Prelude.{◌≡◌, ◌+◌, ◌<◌, ◌^◌, ◌++◌, IfOk, OnOk, length, string_bytes, sum_by};
-ghost use Rattle.std.specs.List.{flat_map};
-ghost use Rattle.gen_show.specs.BundleText.{bundle_front_length, bundle_header_lines, bundle_length, bundle_lines, claimed_lines, exhibit_length, exhibit_lines, exhibit_text, place_line, run_lines, run_text, walk_line};
+ghost use Rattle.std.specs.Prelude.{◌≡◌, ◌+◌, ◌<◌, ◌^◌, ◌++◌, IfOk, OnOk, string_bytes, sum_by};
+ghost use Rattle.gen_show.specs.BundleText.{bundle_front_length, bundle_length, bundle_lines, exhibit_length, exhibit_lines, place_line, place_lines, run_lines};
 
 use crate::headers::push_header;
 use crate::logs::push_log;
-use crate::words::{push_generals_line, push_number, push_set_line};
+use crate::words::{push_generals, push_members};
 use gen_audit::{Bundle, bundle_front};
 use gen_local::Exhibit;
 use gen_net::Header;
-use gen_walks::Walk;
 use std::alloc::{AllocError, Global};
 
 /// The bytes before the log of an exhibit.
 pub const EXHIBIT_FRONT: usize = 5;
-
-/// Appends the line of a walk.
-#[tactic(auto, unfolding(crate::specs::BundleText::walk_line))]
-fn push_walk(out: &mut String, walk: &Walk) -> Result<(), AllocError>
-    ensures { OnOk result (string_bytes out.new ≡ string_bytes out.old ++ walk_line walk.now) }
-{
-    push_generals_line(out, "walk", walk.generals())
-}
-
-/// Appends the lines of walks.
-fn push_walks(out: &mut String, walks: &[Walk]) -> Result<(), AllocError>
-    ensures { OnOk result
-        (string_bytes out.new ≡ string_bytes out.old ++ flat_map walk_line walks.now) }
-{
-    for walk in walks {
-        push_walk(out, walk)?;
-    }
-    Ok(())
-}
-
-/// Appends the lines of a bundle's header.
-#[tactic(auto, unfolding(crate::specs::BundleText::bundle_header_lines))]
-fn push_bundle_header(alloc: Global, out: &mut String, bundle: &Bundle) -> Result<(), AllocError>
-    ensures { OnOk result
-        (string_bytes out.new ≡ string_bytes out.old ++ bundle_header_lines bundle.now) }
-{
-    push_header(alloc, out, "bundle", bundle.header())
-}
-
-/// Appends the lines of the generals that a bundle holds for faulty, and of its walks.
-#[tactic(auto, unfolding(crate::specs::BundleText::claimed_lines))]
-fn push_claimed(out: &mut String, bundle: &Bundle) -> Result<(), AllocError>
-    ensures { OnOk result
-        (string_bytes out.new ≡ string_bytes out.old ++ claimed_lines bundle.now) }
-{
-    push_set_line(out, "faulty", *bundle.faulty())?;
-    push_walks(out, bundle.walks().as_slice())
-}
 
 /// Returns the number of bytes of an exhibit.
 pub fn exhibit_bytes(exhibit: &Exhibit) -> usize
@@ -59,30 +19,6 @@ pub fn exhibit_bytes(exhibit: &Exhibit) -> usize
     ensures { result ≡ exhibit_length exhibit.now }
 {
     EXHIBIT_FRONT + exhibit.log().len()
-}
-
-/// Appends the lines of an exhibit that begins at this byte.
-#[tactic(auto, unfolding(crate::specs::BundleText::exhibit_text))]
-fn push_exhibit(
-    alloc: Global,
-    out: &mut String,
-    header: &Header,
-    at: usize,
-    exhibit: &Exhibit,
-) -> Result<(), AllocError>
-    requires { at + exhibit_length exhibit.now < 2 ^ 64 }
-    ensures { OnOk result
-        (string_bytes out.new ≡ string_bytes out.old ++ exhibit_text header.now at exhibit.now) }
-{
-    let log = exhibit.log();
-    push_log(
-        alloc,
-        out,
-        header,
-        exhibit.general(),
-        at + EXHIBIT_FRONT,
-        log,
-    )
 }
 
 /// Appends the lines of exhibits, of which the first begins at this byte. Returns the byte at which they end.
@@ -101,7 +37,9 @@ fn push_exhibits(
     let mut at = start;
     for index in 0..exhibits.len() {
         let exhibit = &exhibits[index];
-        push_exhibit(alloc, out, header, at, exhibit)?;
+        let log = exhibit.log();
+        let general = exhibit.general();
+        push_log(alloc, out, header, general, at + EXHIBIT_FRONT, log)?;
         at += exhibit_bytes(exhibit);
     }
     Ok(at)
@@ -134,8 +72,16 @@ pub fn push_bundle(
     ensures end { IfOk result (λ end. end ≡ at + bundle_length bundle.now) }
 {
     let header = bundle.header();
-    push_bundle_header(alloc, out, bundle)?;
-    push_claimed(out, bundle)?;
+    push_header(alloc, out, "bundle", header)?;
+    out.push_str("faulty ")?;
+    push_members(out, *bundle.faulty())?;
+    out.push_str("\n")?;
+    let walks = bundle.walks().as_slice();
+    for walk in walks {
+        out.push_str("walk ")?;
+        push_generals(out, walk.generals())?;
+        out.push_str("\n")?;
+    }
     let start = at + bundle_front_length(alloc, bundle)?;
     let end = push_exhibits(alloc, out, header, start, bundle.exhibits())?;
     out.push_str("end\n")?;
@@ -147,13 +93,11 @@ pub fn push_bundle(
 fn push_place(out: &mut String, place: usize, at: usize) -> Result<(), AllocError>
     ensures { OnOk result (string_bytes out.new ≡ string_bytes out.old ++ place_line place at) }
 {
-    write!(out, "place {place}")?;
-    push_number(out, "byte", at)?;
-    out.push_str("\n")
+    write!(out, "place {place} byte {at}\n")
 }
 
-/// Appends the lines of the bundle of a run of a campaign, which begins at this byte. Returns the byte at which it ends.
-#[tactic(auto, unfolding(crate::specs::BundleText::run_text))]
+/// Appends the lines of a campaign's run, of which the bundle begins at this byte. Returns the byte at which it ends.
+#[tactic(auto, unfolding(crate::specs::BundleText::place_lines))]
 fn push_run(
     alloc: Global,
     out: &mut String,
@@ -163,7 +107,7 @@ fn push_run(
 ) -> Result<usize, AllocError>
     requires { at + bundle_length bundle.now < 2 ^ 64 }
     ensures text { OnOk result
-        (string_bytes out.new ≡ string_bytes out.old ++ run_text place at bundle.now) }
+        (string_bytes out.new ≡ string_bytes out.old ++ place_lines place at bundle.now) }
     ensures end { IfOk result (λ end. end ≡ at + bundle_length bundle.now) }
 {
     push_place(out, place, at)?;
@@ -183,8 +127,7 @@ pub fn push_runs(
 {
     let mut at = start;
     for place in 0..bundles.len() {
-        let bundle = &bundles[place];
-        at = push_run(alloc, out, place, at, bundle)?;
+        at = push_run(alloc, out, place, at, &bundles[place])?;
     }
     Ok(())
 }

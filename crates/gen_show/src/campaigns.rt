@@ -1,10 +1,9 @@
 //! What is shown of a campaign, as lines.
 ghost use Rattle.std.specs.Prelude.{◌≡◌, ◌+◌, ◌<◌, ◌^◌, ◌++◌, OnOk, string_bytes, sum_by};
 ghost use Rattle.gen_show.specs.BundleText.{bundle_length};
-ghost use Rattle.gen_show.specs.CampaignText.{HaveRoom, alone_lines, campaign_line, campaign_lines, campaign_name, several_lines};
+ghost use Rattle.gen_show.specs.CampaignText.{HaveRoom, campaign_line, campaign_lines, several_lines};
 
 use crate::bundles::{push_bundle, push_runs};
-use crate::words::push_number;
 use gen_audit::Bundle;
 use gen_campaign::CampaignBundle;
 use std::alloc::{AllocError, Global};
@@ -12,23 +11,12 @@ use std::alloc::{AllocError, Global};
 /// The bytes before the first bundle of several runs.
 pub const CAMPAIGN_FRONT: usize = 5;
 
-/// Appends the name of the format of several runs.
-#[tactic(auto, unfolding(crate::specs::CampaignText::campaign_name))]
-fn push_campaign_name(out: &mut String) -> Result<(), AllocError>
-    ensures { OnOk result (string_bytes out.new ≡ string_bytes out.old ++ campaign_name) }
-{
-    out.push_str("format campaign")
-}
-
 /// Appends the first line of several runs.
 #[tactic(auto, unfolding(crate::specs::CampaignText::campaign_line))]
 fn push_campaign_line(out: &mut String, count: usize) -> Result<(), AllocError>
     ensures { OnOk result (string_bytes out.new ≡ string_bytes out.old ++ campaign_line count) }
 {
-    push_campaign_name(out)?;
-    push_number(out, "version", 2)?;
-    push_number(out, "runs", count)?;
-    out.push_str("\n")
+    write!(out, "format campaign version 2 runs {count}\n")
 }
 
 /// Appends the lines of several runs.
@@ -42,22 +30,7 @@ fn push_several(alloc: Global, out: &mut String, bundles: &[Bundle]) -> Result<(
     out.push_str("end campaign\n")
 }
 
-/// Appends the lines of a bundle that stands alone.
-fn push_alone(alloc: Global, out: &mut String, bundles: &[Bundle]) -> Result<(), AllocError>
-    requires { sum_by bundle_length bundles.now < 2 ^ 64 }
-    ensures { OnOk result
-        (string_bytes out.new ≡ string_bytes out.old ++ alone_lines bundles.now) }
-{
-    match bundles.split_first() {
-        Some((bundle, _)) => {
-            push_bundle(alloc, out, 0, bundle)?;
-            Ok(())
-        }
-        None => Ok(()),
-    }
-}
-
-/// Appends the lines of what is shown of a campaign.
+/// Appends the lines of what is shown of a campaign: of a bundle that stands alone, or of several runs.
 pub fn push_campaign(
     alloc: Global,
     out: &mut String,
@@ -67,9 +40,16 @@ pub fn push_campaign(
     ensures { OnOk result
         (string_bytes out.new ≡ string_bytes out.old ++ campaign_lines campaign.now) }
 {
+    let bundles = campaign.bundles();
     if campaign.is_alone() {
-        push_alone(alloc, out, campaign.bundles())
+        match bundles.split_first() {
+            Some((bundle, _)) => {
+                push_bundle(alloc, out, 0, bundle)?;
+                Ok(())
+            }
+            None => Ok(()),
+        }
     } else {
-        push_several(alloc, out, campaign.bundles())
+        push_several(alloc, out, bundles)
     }
 }

@@ -2,7 +2,6 @@
 ghost use Rattle.std.specs.Prelude.{◌≡◌, ◌++◌, OnOk, string_bytes};
 ghost use Rattle.gen_show.specs.FaultText.{fault_line, header_fault_name, log_fault_name};
 
-use crate::words::push_number;
 use gen_log::LogFault;
 use gen_net::HeaderFault;
 use std::alloc::AllocError;
@@ -41,7 +40,5 @@ pub fn push_log_fault(out: &mut String, fault: LogFault) -> Result<(), AllocErro
 pub fn push_fault(out: &mut String, name: &str, at: usize) -> Result<(), AllocError>
     ensures { OnOk result (string_bytes out.new ≡ string_bytes out.old ++ fault_line name.now at) }
 {
-    write!(out, "fault {name}")?;
-    push_number(out, "byte", at)?;
-    out.push_str("\n")
+    write!(out, "fault {name} byte {at}\n")
 }

@@ -1,6 +1,6 @@
 //! The names of faults of whole files.
 ghost use Rattle.std.specs.Prelude.{◌≡◌, ◌++◌, OnOk, string_bytes};
-ghost use Rattle.gen_show.specs.FileFaultText.{bundle_fault_name, campaign_fault_name, evidence_fault_name, run_fault_name};
+ghost use Rattle.gen_show.specs.FileFaultText.{bundle_fault_name, campaign_fault_name, evidence_fault_name};
 
 use crate::faults::push_header_fault;
 use gen_audit::BundleFault;
@@ -9,7 +9,7 @@ use gen_convict::EvidenceFault;
 use std::alloc::AllocError;
 
 /// Appends the name of a bundle's fault.
-pub fn push_bundle_fault(out: &mut String, fault: BundleFault) -> Result<(), AllocError>
+fn push_bundle_fault(out: &mut String, fault: BundleFault) -> Result<(), AllocError>
     ensures { OnOk result
         (string_bytes out.new ≡ string_bytes out.old ++ bundle_fault_name fault) }
 {
@@ -30,16 +30,6 @@ pub fn push_bundle_fault(out: &mut String, fault: BundleFault) -> Result<(), All
     }
 }
 
-/// Appends the name of the fault of a campaign's run.
-#[tactic(auto, unfolding(crate::specs::FileFaultText::run_fault_name))]
-fn push_run_fault(out: &mut String, place: u8, fault: BundleFault) -> Result<(), AllocError>
-    ensures { OnOk result
-        (string_bytes out.new ≡ string_bytes out.old ++ run_fault_name place fault) }
-{
-    write!(out, "M3 run {place} ")?;
-    push_bundle_fault(out, fault)
-}
-
 /// Appends the name of a campaign's fault, as `M3 run 1 B7`; that of a bundle that stands alone is the bundle's.
 ///
 /// # Errors
@@ -52,7 +42,10 @@ pub fn push_campaign_fault(out: &mut String, fault: CampaignFault) -> Result<(),
     match fault {
         CampaignFault::NoCount => out.push_str("M1"),
         CampaignFault::RunCount => out.push_str("M2"),
-        CampaignFault::BadRun(place, inner) => push_run_fault(out, place, inner),
+        CampaignFault::BadRun(place, inner) => {
+            write!(out, "M3 run {place} ")?;
+            push_bundle_fault(out, inner)
+        }
         CampaignFault::Unjoined => out.push_str("M4"),
         CampaignFault::LeftOver => out.push_str("M5"),
         CampaignFault::Alone(inner) => push_bundle_fault(out, inner),

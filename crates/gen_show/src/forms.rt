@@ -1,29 +1,14 @@
 //! Forms of lines, and the fields of a line that stand in them.
-ghost use Rattle.std.specs.Prelude.{◌≡◌, ◌∷◌, [], ◌++◌, OnOk, map, option_map, unwrap_or};
-ghost use Rattle.std.specs.Str.{bytes_eq};
+ghost use Rattle.std.specs.Prelude.{◌≡◌, ◌++◌, OnOk, map, option_map};
 ghost use Rattle.gen_show.specs.Rows as specified;
 
 use std::alloc::AllocError;
 
-/// Whether a field of a form is a capital letter, for which any field may stand.
-fn is_letter(field: &[u8]) -> bool
-    ensures { result ≡ specified.is_letter field.now }
-{
-    matches!(field, [b'A'..=b'Z'])
-}
-
-/// Whether a field of a form stands for names.
-fn is_names(field: &[u8]) -> bool
-    ensures { result ≡ specified.is_names field.now }
-{
-    field == b"NAMES".as_slice()
-}
-
-/// Whether a field may stand for this field of a form.
+/// Whether a field may stand for this field of a form. For a capital letter any field may.
 fn allows(field: &[u8], word: &[u8]) -> bool
     ensures { result ≡ specified.allows field.now word.now }
 {
-    is_letter(field) || field == word
+    matches!(field, [b'A'..=b'Z']) || field == word
 }
 
 /// Whether the fields of a line fit a form.
@@ -37,7 +22,7 @@ pub fn fits(form: &[&[u8]], words: &[&[u8]]) -> bool
         match rest {
             [] => return false,
             [word, others @ ..] => {
-                if is_names(field) {
+                if *field == b"NAMES".as_slice() {
                     return true;
                 }
                 if !allows(field, word) {
@@ -86,7 +71,7 @@ pub fn names_in<'w, 'b>(form: &[&[u8]], words: &'w [&'b [u8]]) -> &'w [&'b [u8]]
         match rest {
             [] => return rest,
             [_word, others @ ..] => {
-                if is_names(field) {
+                if *field == b"NAMES".as_slice() {
                     return rest;
                 }
                 fields = behind;
@@ -95,23 +80,6 @@ pub fn names_in<'w, 'b>(form: &[&[u8]], words: &'w [&'b [u8]]) -> &'w [&'b [u8]]
         }
     }
     &[]
-}
-
-/// Appends a byte of a sentence, or the field of the line for which it stands.
-fn push_letter(
-    out: &mut Vec<u8>,
-    form: &[&[u8]],
-    words: &[&[u8]],
-    letter: u8,
-) -> Result<(), AllocError>
-    ensures { OnOk result (out.new.items ≡ out.old.items ++ unwrap_or
-        (specified.field_for (map (λ x. x.now) form.now) (map (λ x. x.now) words.now) letter)
-        (letter ∷ [])) }
-{
-    match field_for(form, words, letter) {
-        Some(word) => out.extend_from_slice(word),
-        None => out.extend_from_slice(&[letter]),
-    }
 }
 
 /// Appends a sentence in which the fields of the line stand for the letters of the form.
@@ -125,7 +93,9 @@ pub fn push_filled(
         (map (λ x. x.now) form.now) (map (λ x. x.now) words.now) sentence.now) }
 {
     for letter in sentence {
-        push_letter(out, form, words, *letter)?;
+        let own = [*letter];
+        let said = field_for(form, words, *letter).unwrap_or(&own);
+        out.extend_from_slice(said)?;
     }
     Ok(())
 }

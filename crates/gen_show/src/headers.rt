@@ -1,9 +1,8 @@
 //! Headers as lines.
 ghost use Rattle.std.specs.Prelude.{◌≡◌, ◌++◌, OnOk, string_bytes};
 ghost use Rattle.std.specs.List.{flat_map};
-ghost use Rattle.gen_show.specs.HeaderText.{edge_line, format_line, header_lines, number_lines, root_line, root_lines, version_number};
+ghost use Rattle.gen_show.specs.HeaderText.{edge_line, format_lines, general_lines, header_lines, order_lines, root_line, root_lines, version_number};
 
-use crate::words::{push_digits_line, push_number, push_number_line};
 use gen_net::{Header, Net, VERSION_ONE, VERSION_TWO, Version};
 use gen_types::GeneralNo;
 use std::alloc::{AllocError, Global};
@@ -18,37 +17,48 @@ pub fn version_number(version: Version) -> u8
     }
 }
 
-/// Appends the line with the name of the format, its version, and the slot.
-#[tactic(auto, unfolding(crate::specs::HeaderText::format_line))]
-fn push_format(out: &mut String, name: &str, version: Version) -> Result<(), AllocError>
+/// Appends the lines of the name of a format, with the version and the slot of a run, and of the run id.
+#[tactic(auto, unfolding(crate::specs::HeaderText::format_lines))]
+fn push_format(
+    alloc: Global,
+    out: &mut String,
+    name: &str,
+    header: &Header,
+) -> Result<(), AllocError>
     ensures { OnOk result
-        (string_bytes out.new ≡ string_bytes out.old ++ format_line name.now version) }
+        (string_bytes out.new ≡ string_bytes out.old ++ format_lines name.now header.now) }
 {
-    write!(out, "format {name}")?;
-    push_number(out, "version", usize::from(version_number(version)))?;
-    push_number(out, "slot", usize::from(version.slot()))?;
-    out.push_str("\n")
+    let version = version_number(header.version());
+    let slot = header.version().slot();
+    let run = hex::encode(alloc, *header.run_id())?;
+    write!(
+        out,
+        "format {name} version {version} slot {slot}\nrun {run}\n"
+    )
 }
 
-/// Appends the lines of a network's numbers.
-#[tactic(auto, unfolding(crate::specs::HeaderText::number_lines))]
-fn push_numbers(out: &mut String, net: &Net) -> Result<(), AllocError>
-    ensures { OnOk result (string_bytes out.new ≡ string_bytes out.old ++ number_lines net.now) }
+/// Appends the lines of the numbers of a network's generals.
+#[tactic(auto, unfolding(crate::specs::HeaderText::general_lines))]
+fn push_general_numbers(out: &mut String, net: &Net) -> Result<(), AllocError>
+    ensures { OnOk result (string_bytes out.new ≡ string_bytes out.old ++ general_lines net.now) }
 {
-    push_number_line(out, "generals", usize::from(net.generals()))?;
-    push_number_line(out, "traitors", usize::from(net.traitors()))?;
-    push_number_line(out, "diameter", usize::from(net.diameter()))?;
-    push_number_line(out, "orders", usize::from(net.orders()))?;
-    push_number_line(out, "choice", usize::from(net.choice().number()))
+    let generals = net.generals();
+    let traitors = net.traitors();
+    let diameter = net.diameter();
+    write!(
+        out,
+        "generals {generals}\ntraitors {traitors}\ndiameter {diameter}\n"
+    )
 }
 
-/// Appends the line of an edge.
-fn push_edge(out: &mut String, edge: (GeneralNo, GeneralNo)) -> Result<(), AllocError>
-    ensures { OnOk result (string_bytes out.new ≡ string_bytes out.old ++ edge_line edge) }
+/// Appends the lines of the numbers of a network's orders.
+#[tactic(auto, unfolding(crate::specs::HeaderText::order_lines))]
+fn push_order_numbers(out: &mut String, net: &Net) -> Result<(), AllocError>
+    ensures { OnOk result (string_bytes out.new ≡ string_bytes out.old ++ order_lines net.now) }
 {
-    let first = edge.0.get();
-    let second = edge.1.get();
-    write!(out, "edge {first} {second}\n")
+    let orders = net.orders();
+    let choice = net.choice().number();
+    write!(out, "orders {orders}\nchoice {choice}\n")
 }
 
 /// Appends the lines of edges.
@@ -57,7 +67,9 @@ fn push_edges(out: &mut String, edges: &[(GeneralNo, GeneralNo)]) -> Result<(), 
         (string_bytes out.new ≡ string_bytes out.old ++ flat_map edge_line edges.now) }
 {
     for edge in edges {
-        push_edge(out, *edge)?;
+        let first = edge.0.get();
+        let second = edge.1.get();
+        write!(out, "edge {first} {second}\n")?;
     }
     Ok(())
 }
@@ -89,6 +101,7 @@ fn push_roots(alloc: Global, out: &mut String, roots: &[[u8; 32]]) -> Result<(),
 }
 
 /// Appends the lines of a header behind the name of a format.
+#[tactic(auto, unfolding(crate::specs::HeaderText::header_lines))]
 pub fn push_header(
     alloc: Global,
     out: &mut String,
@@ -99,9 +112,9 @@ pub fn push_header(
         (string_bytes out.new ≡ string_bytes out.old ++ header_lines name.now header.now) }
 {
     let net = header.net();
-    push_format(out, name, header.version())?;
-    push_digits_line(alloc, out, "run", header.run_id())?;
-    push_numbers(out, net)?;
+    push_format(alloc, out, name, header)?;
+    push_general_numbers(out, net)?;
+    push_order_numbers(out, net)?;
     push_edges(out, net.edges())?;
     push_roots(alloc, out, header.roots())
 }

@@ -5,7 +5,6 @@ ghost use Rattle.gen_show.specs.LogText.{head_line, log_line, log_lines, reading
 
 use crate::entries::push_entries;
 use crate::faults::push_log_fault;
-use crate::words::{push_digits, push_number};
 use gen_log::{Log, LogFault, read_log};
 use gen_net::Header;
 use gen_types::{GeneralNo, ReadError};
@@ -25,11 +24,8 @@ fn push_log_line(
     ensures { OnOk result
         (string_bytes out.new ≡ string_bytes out.old ++ log_line general at size) }
 {
-    out.push_str("log")?;
-    push_number(out, "of", usize::from(general.get()))?;
-    push_number(out, "byte", at)?;
-    push_number(out, "length", size)?;
-    out.push_str("\n")
+    let of = general.get();
+    write!(out, "log of {of} byte {at} length {size}\n")
 }
 
 /// Appends the line of a log that reads.
@@ -43,11 +39,10 @@ fn push_says(
     ensures { OnOk result
         (string_bytes out.new ≡ string_bytes out.old ++ says_line general log.now) }
 {
-    out.push_str("says")?;
-    push_number(out, "of", usize::from(general.get()))?;
-    push_digits(alloc, out, "run", log.run_id())?;
-    push_number(out, "entries", log.entries().len())?;
-    out.push_str("\n")
+    let of = general.get();
+    let run = hex::encode(alloc, *log.run_id())?;
+    let count = log.entries().len();
+    write!(out, "says of {of} run {run} entries {count}\n")
 }
 
 /// Appends the line behind the entries of a log.
@@ -55,10 +50,8 @@ fn push_says(
 fn push_head(out: &mut String, general: GeneralNo, at: usize) -> Result<(), AllocError>
     ensures { OnOk result (string_bytes out.new ≡ string_bytes out.old ++ head_line general at) }
 {
-    out.push_str("head")?;
-    push_number(out, "of", usize::from(general.get()))?;
-    push_number(out, "byte", at)?;
-    out.push_str("\n")
+    let of = general.get();
+    write!(out, "head of {of} byte {at}\n")
 }
 
 /// Appends the line of bytes that are no log.
@@ -67,9 +60,8 @@ fn push_unreadable(out: &mut String, general: GeneralNo, fault: LogFault) -> Res
     ensures { OnOk result
         (string_bytes out.new ≡ string_bytes out.old ++ unreadable_line general fault) }
 {
-    out.push_str("unreadable")?;
-    push_number(out, "of", usize::from(general.get()))?;
-    out.push_str(" fault ")?;
+    let of = general.get();
+    write!(out, "unreadable of {of} fault ")?;
     push_log_fault(out, fault)?;
     out.push_str("\n")
 }

@@ -1,12 +1,14 @@
 //! Rows of a table, with the fields of their forms.
-ghost use Rattle.std.specs.Prelude.{◌≡◌, ◌==◌, ◌++◌, OnOk, IfOk, map, option_map, find};
+ghost use Rattle.std.specs.Prelude.{◌≡◌, ◌==◌, ◌++◌, OnOk, IfOk, map, option_map};
+ghost use Rattle.std.specs.List.{find, flat_map, slice_split};
 ghost use Rattle.std.specs.Str.{bytes_eq};
-ghost use Rattle.std.specs.List.{flat_map, slice_split};
-ghost use Rattle.gen_show.specs.Rows.{row_of_parts, row_in, rows_in};
+ghost use Rattle.gen_show.specs.Rows.{row_in, rows_in};
 ghost use Rattle.gen_show.specs.Rows as specified;
 ghost use Rattle.gen_show.specs.Shown.{row_shown};
+ghost use Rattle.gen_show.specs.Table.{words};
 
 use crate::forms::fits;
+use crate::table::WORDS;
 use gen_types::split_fields;
 use std::alloc::{AllocError, Global};
 
@@ -23,26 +25,21 @@ pub struct Row {
     pub sentence: &'static [u8],
 }
 
-/// Returns what stands before, between and after the line feeds of a text.
-pub fn split_lines<'a>(alloc: Global, text: &'a [u8]) -> Result<Vec<&'a [u8]>, AllocError>
-    ensures { IfOk result (λ v. map (λ x. x.now) v.items ≡ slice_split (λ b. b == 10) text.now) }
+/// Returns what stands before, between and after the bytes of a text that are this mark.
+pub fn split_by<'a>(alloc: Global, text: &'a [u8], mark: u8) -> Result<Vec<&'a [u8]>, AllocError>
+    ensures { IfOk result (λ v. map (λ x. x.now) v.items ≡ slice_split (λ b. b == mark) text.now) }
 {
-    text.split(|b| *b == b'\n').collect(alloc)
+    text.split(|b| *b == mark).collect(alloc)
 }
 
-/// Returns the parts of a line of a table, which are parted by bars.
-fn split_parts<'a>(alloc: Global, line: &'a [u8]) -> Result<Vec<&'a [u8]>, AllocError>
-    ensures { IfOk result (λ v. map (λ x. x.now) v.items ≡ slice_split (λ b. b == 124) line.now) }
+/// Appends the row that a line of a table has. A line that has not three parts has none.
+#[tactic(auto, unfolding(crate::specs::Rows::row_in))]
+fn push_row_in(alloc: Global, rows: &mut Vec<Row>, line: &'static [u8]) -> Result<(), AllocError>
+    ensures { OnOk result
+        (map row_shown rows.new.items ≡ map row_shown rows.old.items ++ row_in line.now) }
 {
-    line.split(|b| *b == b'|').collect(alloc)
-}
-
-/// Appends the row of three parts. Of another number of parts there is none.
-fn push_parts(alloc: Global, rows: &mut Vec<Row>, parts: &[&'static [u8]]) -> Result<(), AllocError>
-    ensures { OnOk result (map row_shown rows.new.items
-        ≡ map row_shown rows.old.items ++ row_of_parts (map (λ x. x.now) parts.now)) }
-{
-    match parts {
+    let parts = split_by(alloc, line, b'|')?;
+    match parts.as_slice() {
         [name, line, sentence] => {
             let form = split_fields(alloc, line)?;
             rows.push(Row {
@@ -55,16 +52,6 @@ fn push_parts(alloc: Global, rows: &mut Vec<Row>, parts: &[&'static [u8]]) -> Re
         }
         _ => Ok(()),
     }
-}
-
-/// Appends the row that a line of a table has.
-#[tactic(auto, unfolding(crate::specs::Rows::row_in))]
-fn push_row_in(alloc: Global, rows: &mut Vec<Row>, line: &'static [u8]) -> Result<(), AllocError>
-    ensures { OnOk result
-        (map row_shown rows.new.items ≡ map row_shown rows.old.items ++ row_in line.now) }
-{
-    let parts = split_parts(alloc, line)?;
-    push_parts(alloc, rows, &parts)
 }
 
 /// Returns the rows that the lines of a table have.
@@ -81,11 +68,18 @@ fn rows_of_lines(alloc: Global, lines: &[&'static [u8]]) -> Result<Vec<Row>, All
 
 /// Returns the rows of a table.
 #[tactic(auto, unfolding(crate::specs::Rows::rows_in))]
-pub fn split_rows(alloc: Global, table: &'static str) -> Result<Vec<Row>, AllocError>
+fn split_rows(alloc: Global, table: &'static str) -> Result<Vec<Row>, AllocError>
     ensures { IfOk result (λ v. map row_shown v.items ≡ rows_in table.now) }
 {
-    let lines = split_lines(alloc, table.as_bytes())?;
+    let lines = split_by(alloc, table.as_bytes(), b'\n')?;
     rows_of_lines(alloc, &lines)
+}
+
+/// Returns the rows of this project's table.
+pub fn all_rows(alloc: Global) -> Result<Vec<Row>, AllocError>
+    ensures { IfOk result (λ v. map row_shown v.items ≡ words) }
+{
+    split_rows(alloc, WORDS)
 }
 
 /// Returns the first row of this name, as it is kept.

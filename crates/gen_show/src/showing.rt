@@ -7,7 +7,7 @@ ghost use Rattle.gen_convict.specs.EvidenceReading.{IsWhole};
 ghost use Rattle.gen_convict.specs.Told.{told};
 ghost use Rattle.gen_show.specs.CampaignText.{HaveRoom, campaign_lines};
 ghost use Rattle.gen_show.specs.EvidenceText.{HasRoom};
-ghost use Rattle.gen_show.specs.Showing.{IsEvidenceText, IsTextAs, TellsEvidence, campaign_reading_lines, file_kind, faulty_lines, front_end, front_lines, header_ending, header_reading_lines, is_whole_as};
+ghost use Rattle.gen_show.specs.Showing.{IsEvidenceText, IsTextAs, TellsEvidence, campaign_reading_lines, file_kind, faulty_lines, front_end, front_lines, is_whole_as};
 ghost use Rattle.gen_show.specs.declared.kinds.FileKind.TheVariants as kinds;
 
 use crate::campaigns::push_campaign;
@@ -19,7 +19,7 @@ use crate::kinds::FileKind;
 use crate::marks::{BUNDLE_MARKS, EVIDENCE_MARKS, file_kind};
 use gen_campaign::{CampaignBundle, CampaignFault, read_campaign};
 use gen_convict::{Evidence, EvidenceFault, check_evidence, read_evidence};
-use gen_net::{Header, HeaderFault, Marks, front_bytes, read_front, read_header};
+use gen_net::{Header, Marks, front_bytes, read_front, read_header};
 use gen_types::ReadError;
 use std::alloc::{AllocError, Global};
 
@@ -67,21 +67,21 @@ fn push_front(
     }
 }
 
-/// Appends the lines of what doesn't read: the header, if that reads, and the fault.
+/// Returns the lines of what doesn't read: the header, if that reads, and the fault.
 #[tactic(auto, unfolding(crate::specs::Showing::faulty_lines))]
-fn push_faulty(
+fn faulty(
     alloc: Global,
-    out: &mut String,
     name: &str,
     marks: Marks,
     input: &[u8],
     fault: &str,
-) -> Result<(), AllocError>
-    ensures { OnOk result (string_bytes out.new
-        ≡ string_bytes out.old ++ faulty_lines name.now marks input.now fault.now) }
+) -> Result<Vec<u8>, AllocError>
+    ensures { IfOk result (λ text. text.items ≡ faulty_lines name.now marks input.now fault.now) }
 {
-    let at = push_front(alloc, out, name, marks, input)?;
-    push_fault(out, fault, at)
+    let mut out = String::new(alloc);
+    let at = push_front(alloc, &mut out, name, marks, input)?;
+    push_fault(&mut out, fault, at)?;
+    Ok(out.into_bytes())
 }
 
 /// Returns the lines of bytes that show no campaign, with this fault.
@@ -91,16 +91,7 @@ fn faulty_campaign(alloc: Global, input: &[u8], fault: CampaignFault) -> Result<
 {
     let mut name = String::new(alloc);
     push_campaign_fault(&mut name, fault)?;
-    let mut out = String::new(alloc);
-    push_faulty(
-        alloc,
-        &mut out,
-        "bundle",
-        BUNDLE_MARKS,
-        input,
-        name.as_str(),
-    )?;
-    Ok(out.into_bytes())
+    faulty(alloc, "bundle", BUNDLE_MARKS, input, name.as_str())
 }
 
 /// Returns the lines of what is shown of a campaign.
@@ -140,16 +131,7 @@ fn faulty_evidence(alloc: Global, input: &[u8], fault: EvidenceFault) -> Result<
 {
     let mut name = String::new(alloc);
     push_evidence_fault(&mut name, fault)?;
-    let mut out = String::new(alloc);
-    push_faulty(
-        alloc,
-        &mut out,
-        "evidence",
-        EVIDENCE_MARKS,
-        input,
-        name.as_str(),
-    )?;
-    Ok(out.into_bytes())
+    faulty(alloc, "evidence", EVIDENCE_MARKS, input, name.as_str())
 }
 
 /// Returns the lines of evidence, with whether it holds.
@@ -190,59 +172,36 @@ fn show_evidence(alloc: Global, input: &[u8]) -> Result<Shown, AllocError>
     }
 }
 
-/// Appends the last line of a header that has this many bytes.
-fn push_header_ending(out: &mut String, whole: bool, at: usize) -> Result<(), AllocError>
-    ensures { OnOk result (string_bytes out.new ≡ string_bytes out.old ++ header_ending whole at) }
-{
-    if whole {
-        out.push_str("end\n")
-    } else {
-        push_fault(out, "left over", at)
-    }
-}
-
-/// Returns the lines of a header that stands in front of the input and has this many bytes.
-fn whole_header(
-    alloc: Global,
-    input: &[u8],
-    header: &Header,
-    count: usize,
-) -> Result<Vec<u8>, AllocError>
-    ensures { IfOk result (λ text. text.items
-        ≡ header_reading_lines input.now (Ok (header.now, count))) }
-{
-    let mut out = String::new(alloc);
-    push_header(alloc, &mut out, "header", header)?;
-    push_header_ending(&mut out, count == input.len(), count)?;
-    Ok(out.into_bytes())
-}
-
-/// Returns the lines of bytes that begin with no header, with this fault.
-fn faulty_header(alloc: Global, input: &[u8], fault: HeaderFault) -> Result<Vec<u8>, AllocError>
-    ensures { IfOk result (λ text. text.items ≡ header_reading_lines input.now (Err fault)) }
-{
-    let mut name = String::new(alloc);
-    push_header_fault(&mut name, fault)?;
-    let mut out = String::new(alloc);
-    push_fault(&mut out, name.as_str(), 0)?;
-    Ok(out.into_bytes())
-}
-
 /// Returns the lines of what is read as a header alone.
 fn show_header(alloc: Global, input: &[u8]) -> Result<Shown, AllocError>
     ensures text { IfOk result (λ s. IsTextAs kinds.OfHeader input.now s.text.items) }
     ensures whole { IfOk result (λ s. s.whole ≡ is_whole_as kinds.OfHeader input.now) }
 {
+    let mut out = String::new(alloc);
     match read_header(alloc, input) {
-        Ok((header, count)) => Ok(Shown {
-            text: whole_header(alloc, input, &header, count)?,
-            whole: count == input.len(),
-        }),
+        Ok((header, count)) => {
+            let whole = count == input.len();
+            push_header(alloc, &mut out, "header", &header)?;
+            if whole {
+                out.push_str("end\n")?;
+            } else {
+                push_fault(&mut out, "left over", count)?;
+            }
+            Ok(Shown {
+                text: out.into_bytes(),
+                whole,
+            })
+        }
         Err(ReadError::Memory) => Err(AllocError),
-        Err(ReadError::Fault(fault)) => Ok(Shown {
-            text: faulty_header(alloc, input, fault)?,
-            whole: false,
-        }),
+        Err(ReadError::Fault(fault)) => {
+            let mut name = String::new(alloc);
+            push_header_fault(&mut name, fault)?;
+            push_fault(&mut out, name.as_str(), 0)?;
+            Ok(Shown {
+                text: out.into_bytes(),
+                whole: false,
+            })
+        }
     }
 }
 

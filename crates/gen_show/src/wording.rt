@@ -1,15 +1,11 @@
 //! Texts with words: each line followed by what it means.
-ghost use Rattle.std.specs.Prelude.{◌≡◌, ◌==◌, ◌++◌, OnOk, IfOk, map};
-ghost use Rattle.std.specs.List.{slice_split, flat_map};
-ghost use Rattle.gen_types.specs.Texts.{fields};
-ghost use Rattle.gen_show.specs.Rows.{rows_in, sentence_by};
+ghost use Rattle.std.specs.Prelude.{◌≡◌, ◌++◌, OnOk, IfOk, map};
 ghost use Rattle.gen_show.specs.Shown.{row_shown};
 ghost use Rattle.gen_show.specs.Table.{words};
 ghost use Rattle.gen_show.specs.Worded.{indented, said, meaning_by, meaning, worded_line, worded_lines, worded};
 
 use crate::forms::{names_in, push_filled};
-use crate::rows::{Row, row_named, row_of_line, split_lines, split_rows};
-use crate::table::WORDS;
+use crate::rows::{Row, all_rows, row_named, row_of_line, split_by};
 use gen_types::split_fields;
 use std::alloc::{AllocError, Global};
 
@@ -33,18 +29,7 @@ fn push_said(out: &mut Vec<u8>, rows: &[Row], name: &[u8]) -> Result<(), AllocEr
     }
 }
 
-/// Appends the sentences of those that are names.
-fn push_all_said(out: &mut Vec<u8>, rows: &[Row], names: &[&[u8]]) -> Result<(), AllocError>
-    ensures { OnOk result (out.new.items ≡ out.old.items
-        ++ flat_map (said (map row_shown rows.now)) (map (λ x. x.now) names.now)) }
-{
-    for name in names {
-        push_said(out, rows, name)?;
-    }
-    Ok(())
-}
-
-/// Appends what a row says of a line.
+/// Appends what a row says of a line: its sentence with the fields of the line, and the sentences of the names in it.
 #[tactic(auto, unfolding(crate::specs::Worded::meaning_by))]
 fn push_meaning_by(
     out: &mut Vec<u8>,
@@ -58,7 +43,11 @@ fn push_meaning_by(
     out.extend_from_slice(b"  ")?;
     push_filled(out, &row.form, words, row.sentence)?;
     out.extend_from_slice(b"\n")?;
-    push_all_said(out, rows, names_in(&row.form, words))
+    let names = names_in(&row.form, words);
+    for name in names {
+        push_said(out, rows, name)?;
+    }
+    Ok(())
 }
 
 /// Appends what a line means.
@@ -107,18 +96,6 @@ fn push_lines(
     Ok(())
 }
 
-/// Returns a text in which each line is followed by what it means by a table.
-#[tactic(auto, unfolding(crate::specs::Worded::worded))]
-fn worded_by(alloc: Global, table: &'static str, text: &[u8]) -> Result<Vec<u8>, AllocError>
-    ensures { IfOk result (λ v. v.items ≡ worded (rows_in table.now) text.now) }
-{
-    let rows = split_rows(alloc, table)?;
-    let lines = split_lines(alloc, text)?;
-    let mut out = Vec::new(alloc);
-    push_lines(alloc, &mut out, &rows, &lines)?;
-    Ok(out)
-}
-
 /// Returns a text in which each line is followed by what it means: by a sentence in a line of its own, which begins
 /// with two spaces, and by one more for each name in the line. The first row whose form the line fits is taken, and a
 /// line that fits none has no sentence. What stands behind the last line feed is no line, and stays.
@@ -126,8 +103,13 @@ fn worded_by(alloc: Global, table: &'static str, text: &[u8]) -> Result<Vec<u8>,
 /// # Errors
 ///
 /// `AllocError` if memory is refused.
+#[tactic(auto, unfolding(crate::specs::Worded::worded))]
 pub fn with_words(alloc: Global, text: &[u8]) -> Result<Vec<u8>, AllocError>
     ensures { IfOk result (λ v. v.items ≡ worded words text.now) }
 {
-    worded_by(alloc, WORDS, text)
+    let rows = all_rows(alloc)?;
+    let lines = split_by(alloc, text, b'\n')?;
+    let mut out = Vec::new(alloc);
+    push_lines(alloc, &mut out, &rows, &lines)?;
+    Ok(out)
 }
