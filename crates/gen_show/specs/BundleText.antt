@@ -52,15 +52,13 @@ bundle_lines at b =
     header_lines (codes "bundle") b.header ++ faulty_line b.faulty ++ flat_map walk_line b.walks
     ++ exhibit_lines b.header (at + bundle_front_length b) b.exhibits ++ codes "end\n"
 
--- a line with the place of a run and the byte at which its bundle begins, and with the lines of the bundle
+-- the line before the bundle of a run of a campaign: the place of the run, and the byte at which its bundle
+-- begins
 unfoldable pub place_line : ℕ → ℕ → List ℕ
 place_line place at = codes "place " ++ decimal place ++ codes " byte " ++ decimal at ++ codes "\n"
 
-unfoldable pub place_lines : ℕ → ℕ → Bundle → List ℕ
-place_lines place at b = place_line place at ++ bundle_lines at b
-
--- the lines of runs whose bundles stand one behind another, from this place and this byte on
+-- the lines of the bundles of runs that stand one behind another, from this place and this byte on
 abbrev pub run_lines : ℕ → ℕ → List Bundle → List ℕ
 run_lines place at [] = []
 run_lines place at (b ∷ bs) =
-    place_lines place at b ++ run_lines (place + 1) (at + bundle_length b) bs
+    place_line place at ++ bundle_lines at b ++ run_lines (place + 1) (at + bundle_length b) bs

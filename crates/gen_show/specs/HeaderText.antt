@@ -22,16 +22,12 @@ format_lines name h =
     ++ codes " slot " ++ decimal (slot_in h.version) ++ codes "\nrun " ++ encode_lower (run_id_of h)
     ++ codes "\n"
 
--- the numbers of a network, a line each: of its generals, and of its orders
-unfoldable pub general_lines : Network → List ℕ
-general_lines net =
+-- the numbers of a network, a line each
+unfoldable pub number_lines : Network → List ℕ
+number_lines net =
     codes "generals " ++ decimal net.generals ++ codes "\ntraitors " ++ decimal net.traitors
-    ++ codes "\ndiameter " ++ decimal net.diameter ++ codes "\n"
-
-unfoldable pub order_lines : Network → List ℕ
-order_lines net =
-    codes "orders " ++ decimal net.orders ++ codes "\nchoice " ++ decimal (choice_number net.choice)
-    ++ codes "\n"
+    ++ codes "\ndiameter " ++ decimal net.diameter ++ codes "\norders " ++ decimal net.orders
+    ++ codes "\nchoice " ++ decimal (choice_number net.choice) ++ codes "\n"
 
 -- the line of an edge
 abbrev pub edge_line : ℕ × ℕ → List ℕ
@@ -49,5 +45,5 @@ root_lines general (root ∷ roots) = root_line general root ++ root_lines (gene
 -- the lines of a header behind a format's name: format, run id, numbers, edges and roots
 unfoldable pub header_lines : List ℕ → RunHeader → List ℕ
 header_lines name h =
-    format_lines name h ++ general_lines h.network ++ order_lines h.network
-    ++ flat_map edge_line h.network.edges ++ root_lines 0 h.roots
+    format_lines name h ++ number_lines h.network ++ flat_map edge_line h.network.edges
+    ++ root_lines 0 h.roots

@@ -1,6 +1,6 @@
 //! Bundles as lines.
 ghost use Rattle.std.specs.Prelude.{◌≡◌, ◌+◌, ◌<◌, ◌^◌, ◌++◌, IfOk, OnOk, string_bytes, sum_by};
-ghost use Rattle.gen_show.specs.BundleText.{bundle_front_length, bundle_length, bundle_lines, exhibit_length, exhibit_lines, place_line, place_lines, run_lines};
+ghost use Rattle.gen_show.specs.BundleText.{bundle_front_length, bundle_length, bundle_lines, exhibit_length, exhibit_lines, place_line, run_lines};
 
 use crate::headers::push_header;
 use crate::logs::push_log;
@@ -96,24 +96,6 @@ fn push_place(out: &mut String, place: usize, at: usize) -> Result<(), AllocErro
     write!(out, "place {place} byte {at}\n")
 }
 
-/// Appends the lines of a campaign's run, of which the bundle begins at this byte. Returns the byte at which it ends.
-#[tactic(auto, unfolding(crate::specs::BundleText::place_lines))]
-fn push_run(
-    alloc: Global,
-    out: &mut String,
-    place: usize,
-    at: usize,
-    bundle: &Bundle,
-) -> Result<usize, AllocError>
-    requires { at + bundle_length bundle.now < 2 ^ 64 }
-    ensures text { OnOk result
-        (string_bytes out.new ≡ string_bytes out.old ++ place_lines place at bundle.now) }
-    ensures end { IfOk result (λ end. end ≡ at + bundle_length bundle.now) }
-{
-    push_place(out, place, at)?;
-    push_bundle(alloc, out, at, bundle)
-}
-
 /// Appends the lines of the bundles of a campaign's runs, of which the first begins at this byte.
 pub fn push_runs(
     alloc: Global,
@@ -127,7 +109,8 @@ pub fn push_runs(
 {
     let mut at = start;
     for place in 0..bundles.len() {
-        at = push_run(alloc, out, place, at, &bundles[place])?;
+        push_place(out, place, at)?;
+        at = push_bundle(alloc, out, at, &bundles[place])?;
     }
     Ok(())
 }

@@ -1,7 +1,7 @@
 //! Headers as lines.
 ghost use Rattle.std.specs.Prelude.{◌≡◌, ◌++◌, OnOk, string_bytes};
 ghost use Rattle.std.specs.List.{flat_map};
-ghost use Rattle.gen_show.specs.HeaderText.{edge_line, format_lines, general_lines, header_lines, order_lines, root_line, root_lines, version_number};
+ghost use Rattle.gen_show.specs.HeaderText.{edge_line, format_lines, header_lines, number_lines, root_line, root_lines, version_number};
 
 use gen_net::{Header, Net, VERSION_ONE, VERSION_TWO, Version};
 use gen_types::GeneralNo;
@@ -37,10 +37,9 @@ fn push_format(
     )
 }
 
-/// Appends the lines of the numbers of a network's generals.
-#[tactic(auto, unfolding(crate::specs::HeaderText::general_lines))]
-fn push_general_numbers(out: &mut String, net: &Net) -> Result<(), AllocError>
-    ensures { OnOk result (string_bytes out.new ≡ string_bytes out.old ++ general_lines net.now) }
+/// Appends the lines of the numbers of a network.
+fn push_numbers(out: &mut String, net: &Net) -> Result<(), AllocError>
+    ensures { OnOk result (string_bytes out.new ≡ string_bytes out.old ++ number_lines net.now) }
 {
     let generals = net.generals();
     let traitors = net.traitors();
@@ -48,14 +47,7 @@ fn push_general_numbers(out: &mut String, net: &Net) -> Result<(), AllocError>
     write!(
         out,
         "generals {generals}\ntraitors {traitors}\ndiameter {diameter}\n"
-    )
-}
-
-/// Appends the lines of the numbers of a network's orders.
-#[tactic(auto, unfolding(crate::specs::HeaderText::order_lines))]
-fn push_order_numbers(out: &mut String, net: &Net) -> Result<(), AllocError>
-    ensures { OnOk result (string_bytes out.new ≡ string_bytes out.old ++ order_lines net.now) }
-{
+    )?;
     let orders = net.orders();
     let choice = net.choice().number();
     write!(out, "orders {orders}\nchoice {choice}\n")
@@ -113,8 +105,7 @@ pub fn push_header(
 {
     let net = header.net();
     push_format(alloc, out, name, header)?;
-    push_general_numbers(out, net)?;
-    push_order_numbers(out, net)?;
+    push_numbers(out, net)?;
     push_edges(out, net.edges())?;
     push_roots(alloc, out, header.roots())
 }
