@@ -7,6 +7,6 @@ use Rattle.sm_embed.proofs.sm_accuse_known.Goals as goal
 pub returns-clause-general : goal.returns-clause-general
 returns-clause-general c = λ below.
     subst (λ (g : ℕ). AccusesKnown g c.args.input.now c.args.room.now c.hand.new.room c.hand.new.count c.status.result) c.at-accused.ensures
-        (inr (is_handed (IsAccusedKnown c.at-accused.result c.args.input.now) (IsAuditFault c.args.input.now) c.in-Some.answer c.args.room.now c.hand.new.room c.hand.new.count c.status.result c.hand.result c.status.ensures
-            (of_some (TellsKnown c.at-accused.result c.args.input.now) c.accuse_known.result c.in-Some.answer c.in-Some.ensures c.accuse_known.ensures.answer)
-            (of_fault (IsAuditFault c.args.input.now) c.accuse_known.result c.in-Some.answer c.in-Some.ensures c.accuse_known.ensures.fault) c.hand.ensures))
+    (inr (is_handed (IsAccusedKnown c.at-accused.result c.args.input.now) (IsAuditFault c.args.input.now) c.in-Some.answer c.args.room.now c.hand.new.room c.hand.new.count c.status.result c.hand.result c.status.ensures
+    (of_some (TellsKnown c.at-accused.result c.args.input.now) c.accuse_known.result c.in-Some.answer c.in-Some.ensures c.accuse_known.ensures.answer)
+    (of_fault (IsAuditFault c.args.input.now) c.accuse_known.result c.in-Some.answer c.in-Some.ensures c.accuse_known.ensures.fault) c.hand.ensures))

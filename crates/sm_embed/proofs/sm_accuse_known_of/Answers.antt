@@ -7,7 +7,7 @@ use Rattle.sm_embed.proofs.sm_accuse_known_of.Goals as goal
 pub returns-clause-general : goal.returns-clause-general
 returns-clause-general c = λ below.
     subst (λ runs. MakesKnownIf c.args.general c.args.input.now runs c.keep.new.answer.held c.status.result) c.in-Some.ensures
-        (subst (λ (g : ℕ). IsMadeKnown g c.args.input.now c.in-Some.asked c.keep.new.answer.held c.status.result) c.at-accused.ensures
-            (inr (is_made (IsAccusedKnownOf c.in-Some.asked c.at-accused.result c.args.input.now) (IsShowFault c.in-Some.asked c.args.input.now) c.in-Some-transpose.answered c.keep.new.answer.held c.status.result c.keep.result c.status.ensures
-                (of_some (TellsKnownOf c.in-Some.asked c.at-accused.result c.args.input.now) c.accuse_known_of.result c.in-Some-transpose.answered c.in-Some-transpose.ensures c.accuse_known_of.ensures.answer)
-                (of_fault (IsShowFault c.in-Some.asked c.args.input.now) c.accuse_known_of.result c.in-Some-transpose.answered c.in-Some-transpose.ensures c.accuse_known_of.ensures.fault) c.keep.ensures)))
+    (subst (λ (g : ℕ). IsMadeKnown g c.args.input.now c.in-Some.asked c.keep.new.answer.held c.status.result) c.at-accused.ensures
+    (inr (is_made (IsAccusedKnownOf c.in-Some.asked c.at-accused.result c.args.input.now) (IsShowFault c.in-Some.asked c.args.input.now) c.in-Some-transpose.answered c.keep.new.answer.held c.status.result c.keep.result c.status.ensures
+    (of_some (TellsKnownOf c.in-Some.asked c.at-accused.result c.args.input.now) c.accuse_known_of.result c.in-Some-transpose.answered c.in-Some-transpose.ensures c.accuse_known_of.ensures.answer)
+    (of_fault (IsShowFault c.in-Some.asked c.args.input.now) c.accuse_known_of.result c.in-Some-transpose.answered c.in-Some-transpose.ensures c.accuse_known_of.ensures.fault) c.keep.ensures)))
