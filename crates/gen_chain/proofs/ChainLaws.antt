@@ -167,15 +167,15 @@ signers_most Six n few = omega (arith, few)
 -- ---- the chain
 
 -- what was read makes a chain
-pub is_chain : (height : TreeHeight) (bytes : List ℕ) (front : ChainFront) (rest : List ℕ) (signers : List Signer) (after_them : List ℕ) → chain_front_at bytes ≡ Ok (front, rest) → signers_at height front.count rest ≡ Ok (signers, after_them) → IsSignedChain height (record { order = front.order; signers = signers })
-is_chain height bytes front rest signers after_them e s =
-    let t0 = front_parts bytes (front, rest) e in
-    let t1 = signers_parts height front.count rest (signers, after_them) s in
-    let count_is : length signers ≡ front.count = t1.many.count_is in
+pub is_chain : (height : TreeHeight) (order count : ℕ) (rest : List ℕ) (signers : List Signer) (after_them : List ℕ) → order ≤ greatest_order → 1 ≤ count → count ≤ most_signers → signers_at height count rest ≡ Ok (signers, after_them)
+    → IsSignedChain height (record { order = order; signers = signers })
+is_chain height order count rest signers after_them low some few s =
+    let t1 = signers_parts height count rest (signers, after_them) s in
+    let count_is : length signers ≡ count = t1.many.count_is in
     record {
-      order = t0.order;
-      some = omega (arith, count_is, t0.some);
-      few = omega (arith, count_is, t0.few);
+      order = low;
+      some = omega (arith, count_is, some);
+      few = omega (arith, count_is, few);
       below = All_of (λ g. g < 16) (signed_path signers) (each_below height signers t1.many.fit);
       distinct = t1.distinct;
       from_commander = t1.first;
@@ -193,7 +193,7 @@ chain_parts height bytes x e =
     let start : bytes ≡ front.0.order ∷ length signers.0 ∷ front.1 = rw t1.many.count_is t0.parts in
     at_end {F = ChainFault} (λ (y : Chain × List ℕ). (bytes ≡ chain_spelling y.0 ++ y.1) × IsSignedChain height y.0) (record { order = front.0.order; signers = signers.0 }, signers.1) x e2 (
       start ∙ ap (λ (t : List ℕ). front.0.order ∷ length signers.0 ∷ t) t1.many.parts,
-      is_chain height bytes front.0 front.1 signers.0 signers.1 r0 r2,
+      is_chain height front.0.order front.0.count front.1 signers.0 signers.1 t0.order t0.some t0.few r2,
     ))))
 
 chain_again : (height : TreeHeight) (c : Chain) (rest : List ℕ) → IsSignedChain height c → chain_at height (chain_spelling c ++ rest) ≡ Ok (c, rest)

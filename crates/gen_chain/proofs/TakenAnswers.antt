@@ -1,6 +1,6 @@
 -- Answers that one store takes from another.
-use Rattle.std.proofs.Common.{arith, ◌≡◌, ◌↔◌, ◌<◌, ◌+◌, ℕ, suc, Bool, true, false, inl, inr, List, [], ◌∷◌, ◌++◌, append_assoc, Option, None, Some, Result, Ok, Err, refl, sym, ap, subst, ◌∙◌, slice_index_or}
-use Rattle.std.specs.Prelude.{All, IsSome, OnOk, nat_eq}
+use Rattle.std.proofs.Common.{arith, ◌≡◌, ◌↔◌, ◌<◌, ◌+◌, ℕ, suc, Bool, true, false, inl, inr, List, [], ◌∷◌, ◌++◌, append_assoc, Option, None, Some, refl, sym, ap, subst, ◌∙◌, slice_index_or}
+use Rattle.std.specs.Prelude.{All, IsSome, nat_eq}
 use Rattle.std.specs.Cmp.Lexicographic.{pointwise, bytes_decides}
 use Rattle.std.specs.Global.{Vec}
 use Rattle.std.proofs.lemmas.List.{append-nil}
@@ -27,9 +27,16 @@ kept_same (Some x) answer P some each right = ap Some (one_answer P x answer (ea
 kept_same None answer P some each right = absurd cc
 
 -- what is kept of a triple at all is what another store that serves the same header has
-pub taken : {T E : Type 0} (h : RunHeader) (other new : Store) (t : Triple) (r : Result T E) → Serves h new → Serves h other → OnOk r (IsSome (answer_of new t)) → OnOk r (Takes other new t)
-taken h other new t (Ok x) serves others some = λ answer e. kept_same (answer_of new t) answer _ some (λ x is. serves t x is) (others t answer e)
-taken h other new t (Err e) serves others some = tt
+pub taken : (h : RunHeader) (other new : Store) (t : Triple) → Serves h new → Serves h other → IsSome (answer_of new t) → Takes other new t
+taken h other new t serves others some = λ answer e. kept_same (answer_of new t) answer _ some (λ x is. serves t x is) (others t answer e)
+
+-- where it has none, there is none to take
+pub none_taken : (other new : Store) (t : Triple) → answer_of other t ≡ None → Takes other new t
+none_taken other new t none = λ answer e. absurd (no (answer_of other t) answer none e)
+  where
+    no : (o : Option Bool) (answer : Bool) → o ≡ None → o ≡ Some answer → ⊥
+    no None answer none e = cc
+    no (Some x) answer none e = cc
 
 -- ---- signature by signature
 

@@ -65,24 +65,6 @@ impl ChainRoom {
     }
 }
 
-/// Appends a copy of each signer, in room that was taken before.
-fn copy_signers(from: &[Signer], into: &mut Vec<Signer>, copies: &mut Vec<SigRoom>)
-    requires rooms { length from.now ≤ vec_len copies.old }
-    requires room { vec_len into.old + length from.now ≤ vec_capacity into.old }
-    ensures items { into.new.items ≡ into.old.items ++ from.now }
-    ensures len { vec_len into.new ≡ vec_len into.old + length from.now }
-    ensures capacity { vec_capacity into.old ≤ vec_capacity into.new }
-{
-    'signers: for signer in from {
-        let room = copies.pop().unwrap();
-        let copy = Signer {
-            general: signer.general,
-            signature: signer.signature.copy(room),
-        };
-        into.push(copy).unwrap();
-    }
-}
-
 /// Signs a statement, and appends the signer, in room that was taken before.
 fn sign_behind(
     header: &Header,
@@ -182,10 +164,17 @@ pub fn extend_chain(
         mut signers,
         mut copies,
     } = room;
-    let order = chain.order;
     let mut path = chain.path();
     path.push_new(me);
-    copy_signers(&chain.signers, &mut signers, &mut copies);
+    'earlier: for signer in chain.signers() {
+        let room = copies.pop().unwrap();
+        let copy = Signer {
+            general: signer.general,
+            signature: signer.signature.copy(room),
+        };
+        signers.push(copy).unwrap();
+    }
+    let order = chain.order();
     let statement = Statement { order, path };
     sign_behind(header, me, &statement, &mut signers, signature, key);
     SignedChain {

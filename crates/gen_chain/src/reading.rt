@@ -1,11 +1,11 @@
 //! Reads chains.
-ghost use Rattle.std.specs.Prelude.{◌≡◌, ◌≤◌, length, IfOk, Ok, not, ◌==◌};
+ghost use Rattle.std.specs.Prelude.{◌≡◌, length, IfOk, Ok, not, ◌==◌};
 ghost use Rattle.std.specs.List.{list_any};
 ghost use Rattle.gen_types.specs.Reading.{Gives};
 ghost use Rattle.gen_types.specs.Spelled.{IsRead, IsField, IsReadFrom, StandsInFront, counted};
 ghost use Rattle.gen_types.specs.Bytes.{many_at};
 ghost use Rattle.gen_chain.specs.Chain.{Chain, IsSignedChain, signed_path, chain_spelling};
-ghost use Rattle.gen_chain.specs.ChainReading.{signer_at, chain_front_at, signers_at, chain_at};
+ghost use Rattle.gen_chain.specs.ChainReading.{signer_at, signers_at, chain_at};
 ghost use Rattle.gen_chain.specs.ChainReading.{repeats};
 
 use crate::chains::{SignedChain, Signer};
@@ -16,13 +16,6 @@ use gen_tree::sizes::signature_bytes;
 use gen_types::limits::MOST_GENERALS;
 use gen_types::{GeneralNo, OrderNo, ReadError, TreeHeight, bytes_at, check, u8_at};
 use std::alloc::Global;
-
-/// The bytes before the signers: the order and the number of signers.
-#[derive(Clone, Copy)]
-struct ChainFront {
-    order: u8,
-    count: u8,
-}
 
 /// Reads a signer.
 #[tactic(auto, unfolding(crate::specs::ChainReading::signer_at))]
@@ -41,19 +34,6 @@ fn read_signer<'a>(
         signature: pool.read(height, signature)?,
     };
     Ok((signer, rest))
-}
-
-#[tactic(auto, unfolding(crate::specs::ChainReading::chain_front_at))]
-fn read_chain_front(bytes: &[u8]) -> Result<(ChainFront, &[u8]), ReadError<ChainFault>>
-    ensures exact { Gives (λ x. (record { order = x.0.order; count = x.0.count }, x.1.now)) result
-        (chain_front_at bytes.now) }
-    ensures known { IfOk result (λ x. x.0.order ≤ GREATEST_ORDER) }
-{
-    let (order, rest) = u8_at(bytes, ChainFault::Truncated)?;
-    let (count, rest) = u8_at(rest, ChainFault::Truncated)?;
-    check(order <= GREATEST_ORDER, ChainFault::OrderRange)?;
-    check(1 <= count && count <= MOST_SIGNERS, ChainFault::SignerCount)?;
-    Ok((ChainFront { order, count }, rest))
 }
 
 /// Reads `count` signers.
@@ -119,7 +99,7 @@ fn read_signers<'a>(
 }
 
 /// Reads the chain that the bytes begin with.
-#[tactic(auto, unfolding(crate::specs::ChainReading::chain_at))]
+#[tactic(auto, unfolding(crate::specs::ChainReading::chain_at, crate::specs::ChainReading::chain_front_at))]
 fn chain_in_front<'a>(
     alloc: Global,
     height: TreeHeight,
@@ -128,12 +108,15 @@ fn chain_in_front<'a>(
 ) -> Result<(SignedChain, &'a [u8]), ReadError<ChainFault>>
     ensures { IsField result (chain_at height bytes.now) }
 {
-    let (front, rest) = read_chain_front(bytes)?;
-    let enough = signers_bytes(height, front.count) <= rest.len();
+    let (order, rest) = u8_at(bytes, ChainFault::Truncated)?;
+    let (count, rest) = u8_at(rest, ChainFault::Truncated)?;
+    check(order <= GREATEST_ORDER, ChainFault::OrderRange)?;
+    check(1 <= count && count <= MOST_SIGNERS, ChainFault::SignerCount)?;
+    let enough = signers_bytes(height, count) <= rest.len();
     check(enough, ChainFault::Truncated)?;
-    let (signers, rest) = read_signers(alloc, height, front.count, rest, pool)?;
+    let (signers, rest) = read_signers(alloc, height, count, rest, pool)?;
     let chain = SignedChain {
-        order: OrderNo::at(front.order),
+        order: OrderNo::at(order),
         signers,
         height,
     };

@@ -193,32 +193,6 @@ impl VerifyStore {
             .is_some()
     }
 
-    /// Keeps the answer that another store has for this signature, general and statement, if it has one.
-    fn take_answer(
-        &mut self,
-        header: &Header,
-        other: &VerifyStore,
-        verified: &Verified,
-        signature: &Signature,
-    ) -> Result<(), AllocError>
-        requires serves { Serves header.now self.old }
-        requires other { Serves header.now other.now }
-        ensures taken { OnOk result (Takes other.now self.new (triple_at verified.now signature.now)) }
-        ensures grows { KeepsAll self.old self.new }
-        ensures serves { Serves header.now self.new }
-    {
-        let Some(answer) = other.answer_of(verified, signature) else {
-            return Ok(());
-        };
-        let Verified { signer, statement } = *verified;
-        let signing = Signing {
-            signer,
-            statement,
-            signature,
-        };
-        self.add_answer(&signing, answer)
-    }
-
     /// Keeps the answers that another store has for these signatures of a general and a statement, if it has any.
     fn take_answers(
         &mut self,
@@ -234,7 +208,14 @@ impl VerifyStore {
         ensures serves { Serves header.now self.new }
     {
         'signatures: for kept in signatures {
-            self.take_answer(header, other, verified, &kept.signature)?;
+            if let Some(answer) = other.answer_of(verified, &kept.signature) {
+                let signing = Signing {
+                    signer: verified.signer,
+                    statement: verified.statement,
+                    signature: &kept.signature,
+                };
+                self.add_answer(&signing, answer)?;
+            }
         }
         Ok(())
     }
@@ -256,15 +237,6 @@ impl VerifyStore {
             self.take_answers(header, other, verified, signatures.as_slice())?;
         }
         Ok(())
-    }
-
-    /// Whether no answer is kept for any of the four claims. The contract says so of the first claim alone.
-    fn keeps_none(&self, signings: &[Signing<'_>; 4]) -> bool
-        ensures { IsTrue result → (other : Triple)
-            → answer_of self.now (slice_index_or (map triple_of signings.now) 0 other) ≡ None }
-    {
-        let [a, b, c, d] = signings;
-        !self.keeps(a) && !self.keeps(b) && !self.keeps(c) && !self.keeps(d)
     }
 
     /// Verifies at most `LANES` signatures of statements, each as `has_signed` does, and keeps the answers that are not
@@ -321,7 +293,8 @@ impl VerifyStore {
         }
         let mut path = *path;
         let signings = next_four(order, &mut path, rest);
-        if !self.keeps_none(&signings) {
+        let [a, b, c, d] = &signings;
+        if self.keeps(a) || self.keeps(b) || self.keeps(c) || self.keeps(d) {
             return Ok(0);
         }
         self.verify_lanes(header, &signings)?;
