@@ -20,23 +20,16 @@ fn is_known(progress: &Progress) -> bool
     }
 }
 
-/// Returns the set of the orders that were learnt.
-fn known_orders(orders: &[Progress; ORDERS]) -> OrderSet
-    ensures { IsListOf result (λ v. (v < 16) × IsKnown (slice_index_or orders.now v Unlearnt)) }
-{
-    let mut set = OrderSet::new();
-    for number in 0..ORDERS as u8 {
-        if is_known(&orders[usize::from(number)]) {
-            set.insert(OrderNo::at(number));
-        }
-    }
-    set
-}
-
 /// Whether a general with this progress can decide: the set is that of the orders that it learnt, and the order is the
 /// choice of the set.
 pub fn can_decide(net: &Net, orders: &[Progress; ORDERS], set: &OrderSet, order: OrderNo) -> bool
     ensures { IsTrue result ↔ (IsListOf set.now (λ v. (v < 16) × IsKnown (slice_index_or orders.now v Unlearnt)) × (order ≡ choose net.now set.now)) }
 {
-    *set == known_orders(orders) && order == net.choice().choose(*set)
+    let mut known = OrderSet::new();
+    for number in 0..ORDERS as u8 {
+        if is_known(&orders[usize::from(number)]) {
+            known.insert(OrderNo::at(number));
+        }
+    }
+    *set == known && order == net.choice().choose(*set)
 }

@@ -61,46 +61,6 @@ fn gather_statement(
     Ok(verifies)
 }
 
-/// Appends the statements of a chain's signers whose signatures verify, and returns whether all of them do.
-fn gather_signers(
-    alloc: Global,
-    header: &Header,
-    order: OrderNo,
-    signers: &[Signer],
-    store: &mut VerifyStore,
-    texts: &mut Vec<SignedText>,
-) -> Result<bool, AllocError>
-    requires few { length signers.now ≤ 16 }
-    requires distinct { AllPairs (λ g h. g ≢ h) (signed_path signers.now) }
-    requires serves { Serves header.now store.old }
-    ensures told { IfOk result (λ all. all
-        ≡ list_all (text_verifies header.now) (texts_behind order [] signers.now)) }
-    ensures texts { OnOk result (texts.new.items
-        ≡ texts.old.items ++ verified header.now (texts_behind order [] signers.now)) }
-    ensures grows { KeepsAll store.old store.new }
-    ensures serves { Serves header.now store.new }
-{
-    let mut path = Path::new();
-    let mut rest = signers;
-    let mut all = true;
-    while let Some((signer, others)) = rest.split_first() {
-        path.push_new(signer.general);
-        let statement = Statement { order, path };
-        let verifies = gather_statement(
-            alloc,
-            header,
-            signer.general,
-            statement,
-            &signer.signature,
-            store,
-            texts,
-        )?;
-        all &= verifies;
-        rest = others;
-    }
-    Ok(all)
-}
-
 /// Appends the texts of an entry whose signatures verify, and returns whether all of them do.
 fn gather_entry(
     alloc: Global,
@@ -134,7 +94,21 @@ fn gather_entry(
         Entry::Recv { from: _, chain } => {
             // Reading the height makes the chain's invariant known: its signers are few and distinct.
             let _height = chain.height();
-            gather_signers(alloc, header, chain.order(), chain.signers(), store, texts)
+            let order = chain.order();
+            let mut path = Path::new();
+            let mut rest = chain.signers();
+            let mut all = true;
+            while let Some((signer, others)) = rest.split_first() {
+                path.push_new(signer.general);
+                let statement = Statement { order, path };
+                let general = signer.general;
+                let signature = &signer.signature;
+                all &= gather_statement(
+                    alloc, header, general, statement, signature, store, texts,
+                )?;
+                rest = others;
+            }
+            Ok(all)
         }
         _ => Ok(true),
     }

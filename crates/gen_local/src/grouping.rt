@@ -42,33 +42,6 @@ fn next_ending<'a>(opened: &Opened, endings: &'a [Ending]) -> (Ending, &'a [Endi
     }
 }
 
-/// Appends the reports of opened exhibits, from the endings of their logs.
-fn put_reports(
-    alloc: Global,
-    header: &Header,
-    opened: Vec<Opened>,
-    endings: &[Ending],
-    store: &mut VerifyStore,
-    reports: &mut Vec<LocalReport>,
-) -> Result<(), AllocError>
-    requires opened { All (IsOpened header.now) opened.items }
-    requires endings { endings.now ≡ map (ending_over header.now) (logs_in opened.items) }
-    requires serves { Serves header.now store.old }
-    ensures put { (before : List LogBytes) → AreReportsOf header.now before reports.old.items
-        → OnOk result (AreReportsOf header.now (before ++ exhibits_of opened.items) reports.new.items) }
-    ensures grows { KeepsAll store.old store.new }
-    ensures serves { Serves header.now store.new }
-{
-    let mut rest = endings;
-    for one in opened {
-        let (ending, others) = next_ending(&one, rest);
-        let report = report_of(alloc, header, one, &ending, store)?;
-        reports.push(report)?;
-        rest = others;
-    }
-    Ok(())
-}
-
 /// Appends the reports of at most `LANES` exhibits. Answers are exchanged with others before and after the links are
 /// hashed, since that takes most of the time.
 fn put_group<E: Exchange>(
@@ -94,7 +67,14 @@ fn put_group<E: Exchange>(
         endings_of(alloc, header, texts.as_slice())?
     };
     exchange.exchange(header, store)?;
-    put_reports(alloc, header, opened, endings.as_slice(), store, reports)
+    let mut rest = endings.as_slice();
+    for one in opened {
+        let (ending, others) = next_ending(&one, rest);
+        let report = report_of(alloc, header, one, &ending, store)?;
+        reports.push(report)?;
+        rest = others;
+    }
+    Ok(())
 }
 
 /// Returns the reports of exhibits under a header, in their order, each as `local_report_with` returns it. Answers are

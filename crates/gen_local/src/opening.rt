@@ -104,23 +104,6 @@ pub fn open_each(
     Ok(opened)
 }
 
-/// Appends the log of an opened exhibit with the log's bytes, if the bytes are a log of its general and this run.
-fn put_text<'a>(
-    alloc: Global,
-    opened: &'a Opened,
-    texts: &mut Vec<LogText<'a>>,
-) -> Result<(), AllocError>
-    requires { (h : RunHeader) × IsOpened h opened.now }
-    ensures { OnOk result (texts.new.items ≡ texts.old.items ++ logs_of opened.now) }
-{
-    if let Opening::Own(log) = &opened.opening {
-        let exhibit = &opened.exhibit;
-        let text = LogText::new(alloc, exhibit.general(), log, exhibit.log())?;
-        texts.push(text)?;
-    }
-    Ok(())
-}
-
 /// Returns the logs of opened exhibits with their bytes, in the order of the exhibits. An exhibit whose bytes are no log
 /// of its general and this run has none.
 ///
@@ -133,7 +116,10 @@ pub fn texts_of<'a>(alloc: Global, opened: &'a [Opened]) -> Result<Vec<LogText<'
 {
     let mut texts = Vec::with_capacity(alloc, opened.len())?;
     'opened: for one in opened {
-        put_text(alloc, one, &mut texts)?;
+        if let Opening::Own(log) = &one.opening {
+            let text = LogText::new(alloc, one.exhibit.general(), log, one.exhibit.log())?;
+            texts.push(text)?;
+        }
     }
     Ok(texts)
 }

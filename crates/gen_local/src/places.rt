@@ -51,13 +51,20 @@ pub fn round_of(chain: &SignedChain) -> u8
     chain.signers().len() as u8
 }
 
-/// Returns the number of the place of an entry, at most 18432.
+/// Returns the number of the place of an entry, at most 18432. The orders and generals of the entry are below 16.
 pub fn place_key(net: &Net, entry: &Entry) -> u32
     ensures value { result ≡ key_at net.now entry.now }
     ensures few { result ≤ 18432 }
+    ensures small { IsSmall (erase entry.now) }
 {
     match entry {
-        Entry::Start { general: _, own: _ } => 0,
+        Entry::Start { general: _, own } => {
+            // Reading the order makes known that it is below 16.
+            if let Some(order) = own {
+                let _number = order.get();
+            }
+            0
+        }
         Entry::Sign {
             order,
             path,
@@ -74,28 +81,5 @@ pub fn place_key(net: &Net, entry: &Entry) -> u32
             orders: _,
             order: _,
         } => (u32::from(net.rounds()) + 1) * PLACES_OF_ROUND,
-    }
-}
-
-/// Makes known that the orders and generals of an entry are below 16.
-pub fn note_small(entry: &Entry)
-    ensures { IsSmall (erase entry.now) }
-{
-    match entry {
-        Entry::Start { general: _, own } => {
-            if let Some(order) = own {
-                let _number = order.get();
-            }
-        }
-        Entry::Sign { order, .. } => {
-            let _number = order.get();
-        }
-        Entry::Send { to, order, path: _ } => {
-            let _numbers = (to.get(), order.get());
-        }
-        Entry::Recv { from, chain } => {
-            let _numbers = (from.get(), chain.order());
-        }
-        Entry::Decide { .. } => {}
     }
 }

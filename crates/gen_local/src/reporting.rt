@@ -23,45 +23,6 @@ use gen_net::Header;
 use gen_types::GeneralNo;
 use std::alloc::{AllocError, Global};
 
-/// Returns what is found in a log that says it is the general's of this run, with this last link and seal.
-fn own_log(
-    alloc: Global,
-    header: &Header,
-    general: GeneralNo,
-    log: Log,
-    ending: &Ending,
-    store: &mut VerifyStore,
-) -> Result<OwnLog, AllocError>
-    requires log { IsLog header.now log }
-    requires says { SaysItIsOf header.now general log }
-    requires ending { ending.now ≡ ending_over header.now (record { general = general; log = log }) }
-    requires serves { Serves header.now store.old }
-    ensures log { IfOk result (λ found. found.log ≡ log) }
-    ensures found { IfOk result (IsFound header.now general) }
-    ensures grows { KeepsAll store.old store.new }
-    ensures serves { Serves header.now store.new }
-{
-    let mut texts = Vec::new(alloc);
-    let unsigned = gather_entries(alloc, header, log.entries(), store, &mut texts)?;
-    let head = head_of(general, &log, &ending.link);
-    put_if(
-        alloc,
-        &mut texts,
-        ending.sealed,
-        general,
-        Text::OfHead(head),
-        log.head(),
-    )?;
-    let departure = departs(header, &log);
-    Ok(OwnLog {
-        log,
-        unsigned,
-        sealed: ending.sealed,
-        departure,
-        texts,
-    })
-}
-
 /// Returns the reading of an exhibit from what its bytes are and, if they are its log, from the log's last link and
 /// seal.
 pub fn reading_of(
@@ -85,8 +46,19 @@ pub fn reading_of(
         Opening::Foreign => Ok(Reading::Foreign),
         Opening::Own(log) => {
             let general = exhibit.general();
-            let found = own_log(alloc, header, general, log, ending, store)?;
-            Ok(Reading::Own(found))
+            let mut texts = Vec::new(alloc);
+            let unsigned = gather_entries(alloc, header, log.entries(), store, &mut texts)?;
+            let head = Text::OfHead(head_of(general, &log, &ending.link));
+            let sealed = ending.sealed;
+            put_if(alloc, &mut texts, sealed, general, head, log.head())?;
+            let departure = departs(header, &log);
+            Ok(Reading::Own(OwnLog {
+                log,
+                unsigned,
+                sealed,
+                departure,
+                texts,
+            }))
         }
     }
 }

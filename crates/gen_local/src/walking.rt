@@ -8,7 +8,7 @@ ghost use Rattle.gen_local.specs.Walking.Brought.{SendsInside};
 
 use crate::bringing::bring;
 use crate::judging::is_judged;
-use crate::places::{note_small, place_key};
+use crate::places::place_key;
 use crate::progress::{ORDERS, Progress};
 use gen_log::Entry;
 use gen_net::Net;
@@ -28,12 +28,12 @@ pub fn departs_from(net: &Net, general: GeneralNo, entries: &[Entry]) -> Option<
     for index in 0..entries.len() {
         let before = &entries[..index];
         let entry = &entries[index];
-        note_small(entry);
+        let place = place_key(net, entry);
         if !is_judged(net, general, before, least, &orders, entry) {
             return Some(index);
         }
         bring(net, general, &mut orders, entry);
-        least = place_key(net, entry) + 1;
+        least = place + 1;
     }
     None
 }

@@ -18,7 +18,7 @@ loop-index-init c = record {
 
 pub bring-requires-clause-inside : goal.bring-requires-clause-inside
 bring-requires-clause-inside c =
-    let m = judged_may c.args.net.now c.orders-orders.ensures.network c.args.general (erased (take c.loop-index.index c.args.entries.now)) c.loop-index.least c.loop-index.orders c.loop-index.invariant.after (erase c.index-entries-index.result) c.note_small.ensures (c.is_judged.ensures.0 c.if-not-is_judged.false) in
+    let m = judged_may c.args.net.now c.orders-orders.ensures.network c.args.general (erased (take c.loop-index.index c.args.entries.now)) c.loop-index.least c.loop-index.orders c.loop-index.invariant.after (erase c.index-entries-index.result) c.place_key-place.ensures.small (c.is_judged.ensures.0 c.if-not-is_judged.false) in
     sends_inside c.args.net.now c.args.general (erased (take c.loop-index.index c.args.entries.now)) c.orders-orders.ensures.network (erase c.index-entries-index.result) m.sound
 
 pub loop-index-preserved : goal.loop-index-preserved
@@ -28,22 +28,22 @@ loop-index-preserved c =
     let ok = c.orders-orders.ensures.network in
     let e = erase c.index-entries-index.result in
     let before : List LogEntry = erased (take c.loop-index.index c.args.entries.now) in
-    let m : MayFollow net g before e = judged_may c.args.net.now c.orders-orders.ensures.network c.args.general (erased (take c.loop-index.index c.args.entries.now)) c.loop-index.least c.loop-index.orders c.loop-index.invariant.after (erase c.index-entries-index.result) c.note_small.ensures (c.is_judged.ensures.0 c.if-not-is_judged.false) in
+    let m : MayFollow net g before e = judged_may c.args.net.now c.orders-orders.ensures.network c.args.general (erased (take c.loop-index.index c.args.entries.now)) c.loop-index.least c.loop-index.orders c.loop-index.invariant.after (erase c.index-entries-index.result) c.place_key-place.ensures.small (c.is_judged.ensures.0 c.if-not-is_judged.false) in
     let more = erased_more c.args.entries.now c.loop-index.index c.index-entries-index.result c.loop-index-test.true c.index-entries-index.is in
     rw more (record {
       begun = begun_more net g ok c.requires before e c.loop-index.invariant.begun m;
-      after = rw c.place_key-least.ensures.value (after_more net ok g before c.loop-index.least c.loop-index.orders c.bring.new.orders c.loop-index.invariant.after e c.note_small.ensures m c.bring.ensures);
+      after = rw c.place_key-place.ensures.value (after_more net ok g before c.loop-index.least c.loop-index.orders c.bring.new.orders c.loop-index.invariant.after e c.place_key-place.ensures.small m c.bring.ensures);
     })
 
 pub returns-then-not-is_judged-clause-departs : goal.returns-then-not-is_judged-clause-departs
 returns-then-not-is_judged-clause-departs c =
     refused_departs c.args.net.now c.args.general c.orders-orders.ensures.network c.requires c.args.entries.now c.loop-index.index c.index-entries-index.result c.loop-index-test.true c.index-entries-index.is c.loop-index.invariant.begun
-    (λ m. let t : true ≡ false = sym (c.is_judged.ensures.1 (may_judged c.args.net.now c.orders-orders.ensures.network c.args.general (erased (take c.loop-index.index c.args.entries.now)) c.loop-index.least c.loop-index.orders c.loop-index.invariant.after (erase c.index-entries-index.result) c.note_small.ensures m)) ∙ c.if-not-is_judged.true in cc)
+    (λ m. let t : true ≡ false = sym (c.is_judged.ensures.1 (may_judged c.args.net.now c.orders-orders.ensures.network c.args.general (erased (take c.loop-index.index c.args.entries.now)) c.loop-index.least c.loop-index.orders c.loop-index.invariant.after (erase c.index-entries-index.result) c.place_key-place.ensures.small m)) ∙ c.if-not-is_judged.true in cc)
 
 pub returns-then-not-is_judged-clause-begins : goal.returns-then-not-is_judged-clause-begins
 returns-then-not-is_judged-clause-begins c =
     refused_begins c.args.net.now c.args.general c.orders-orders.ensures.network c.requires c.args.entries.now c.loop-index.index c.index-entries-index.result c.loop-index-test.true c.index-entries-index.is c.loop-index.invariant.begun
-    (λ m. let t : true ≡ false = sym (c.is_judged.ensures.1 (may_judged c.args.net.now c.orders-orders.ensures.network c.args.general (erased (take c.loop-index.index c.args.entries.now)) c.loop-index.least c.loop-index.orders c.loop-index.invariant.after (erase c.index-entries-index.result) c.note_small.ensures m)) ∙ c.if-not-is_judged.true in cc)
+    (λ m. let t : true ≡ false = sym (c.is_judged.ensures.1 (may_judged c.args.net.now c.orders-orders.ensures.network c.args.general (erased (take c.loop-index.index c.args.entries.now)) c.loop-index.least c.loop-index.orders c.loop-index.invariant.after (erase c.index-entries-index.result) c.place_key-place.ensures.small m)) ∙ c.if-not-is_judged.true in cc)
 
 pub returns-clause-departs : goal.returns-clause-departs
 returns-clause-departs c = none_departs c.args.net.now c.args.general c.orders-orders.ensures.network c.requires c.args.entries.now c.loop-index.index c.loop-index-test.false c.loop-index.invariant.begun
