@@ -1,10 +1,8 @@
 //! Finds evidence across runs.
-ghost use Rattle.std.specs.Prelude.{◌≡◌, ◌≤◌, ◌++◌, Contains, IfOk, OnOk, length, map};
-ghost use Rattle.std.specs.List.{range_with_len};
+ghost use Rattle.std.specs.Prelude.{◌≡◌, Contains, IfOk, length, map};
 ghost use Rattle.gen_log.specs.Fields.{AreBelow};
 ghost use Rattle.gen_local.specs.Report.{IsReport, LocalReport as Report};
 ghost use Rattle.gen_net.specs.Header.{IsHeader};
-ghost use Rattle.gen_convict.specs.AcrossFinding as finds;
 ghost use Rattle.gen_convict.specs.AcrossFinding.{RunReports, runs_of};
 ghost use Rattle.gen_convict.specs.AcrossLaws.{AreConvictedAcross, AreEvidenceAcross, AreUnderHeaders};
 ghost use Rattle.gen_convict.specs.AcrossLaws.{ConvictsAcrossWhereHeld, shown_runs};
@@ -24,26 +22,6 @@ use gen_types::GeneralNo;
 use gen_types::limits::MOST_GENERALS;
 use std::alloc::{AllocError, Global};
 
-/// Returns each header with the list of reports at its index.
-fn seen_runs<'a>(
-    alloc: Global,
-    headers: &'a [Header],
-    reports: &'a [Vec<LocalReport>],
-) -> Result<Vec<SeenRun<'a>>, AllocError>
-    requires { length headers.now ≡ length reports.now }
-    ensures { IfOk result (λ runs. map seen_run runs.items
-        ≡ runs_of headers.now (map (λ v. v.items) reports.now)) }
-{
-    let mut runs = Vec::new(alloc);
-    'runs: for place in 0..headers.len() {
-        runs.push(SeenRun {
-            header: &headers[place],
-            reports: reports[place].as_slice(),
-        })?;
-    }
-    Ok(runs)
-}
-
 /// Returns a copy of a text and of the header of its run.
 fn copied(alloc: Global, text: SeenText) -> Result<RunText, AllocError>
     ensures { IfOk result (λ copy. copy ≡ seen text.entry) }
@@ -52,44 +30,6 @@ fn copied(alloc: Global, text: SeenText) -> Result<RunText, AllocError>
         header: text.header.clone()?,
         text: copied_text(alloc, text.text)?,
     })
-}
-
-/// Appends the evidence across the runs against a general, if there is any.
-fn add_rivals(
-    alloc: Global,
-    general: GeneralNo,
-    runs: &[SeenRun],
-    found: &mut Vec<Evidence>,
-) -> Result<(), AllocError>
-    ensures { OnOk result (map told_of found.new.items ≡ map told_of found.old.items
-        ++ finds.accusing_across general (finds.first_rivals (finds.his_across general (map seen_run runs.now)))) }
-{
-    let texts = texts_across(alloc, general, runs)?;
-    match first_rivals(alloc, texts.as_slice())? {
-        None => {}
-        Some((first, second)) => {
-            let first = copied(alloc, first)?;
-            let second = copied(alloc, second)?;
-            found.push(Evidence {
-                accused: general,
-                claim: Claim::Across { first, second },
-            })?;
-        }
-    }
-    Ok(())
-}
-
-/// Returns the evidence across the runs against each general whose number is below `generals`, which is at most 16.
-fn rivals_of_all(alloc: Global, generals: u8, runs: &[SeenRun]) -> Result<Vec<Evidence>, AllocError>
-    requires { generals ≤ 16 }
-    ensures { IfOk result (λ found. map told_of found.items
-        ≡ finds.accusations_across (map seen_run runs.now) (range_with_len 0 generals)) }
-{
-    let mut found = Vec::new(alloc);
-    for number in 0..generals {
-        add_rivals(alloc, GeneralNo::at(number), runs, &mut found)?;
-    }
-    Ok(found)
 }
 
 /// Makes known that the header of each of the runs is a lawful header, and that each of its reports is one, of an
@@ -129,7 +69,26 @@ pub fn find_across(
     // Each of these can be written as evidence.
     ensures lawful { IfOk result (λ found. AreEvidenceAcross (map told_of found.items)) }
 {
-    let runs = seen_runs(alloc, headers, reports)?;
-    note_runs(runs.as_slice());
-    rivals_of_all(alloc, MOST_GENERALS, runs.as_slice())
+    let mut runs = Vec::new(alloc);
+    'runs: for place in 0..headers.len() {
+        runs.push(SeenRun {
+            header: &headers[place],
+            reports: reports[place].as_slice(),
+        })?;
+    }
+    let seen = runs.as_slice();
+    note_runs(seen);
+    let mut found = Vec::new(alloc);
+    for number in 0..MOST_GENERALS {
+        let accused = GeneralNo::at(number);
+        let texts = texts_across(alloc, accused, seen)?;
+        let rivals = first_rivals(alloc, texts.as_slice())?;
+        if let Some((first, second)) = rivals {
+            let first = copied(alloc, first)?;
+            let second = copied(alloc, second)?;
+            let claim = Claim::Across { first, second };
+            found.push(Evidence { accused, claim })?;
+        }
+    }
+    Ok(found)
 }

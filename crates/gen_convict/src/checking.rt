@@ -34,19 +34,18 @@ fn statement_verifies(
     statement.path.ends_with(general) && has_signed(header, general, statement, signature)
 }
 
-/// Whether a text is the general's and its signature verifies: a statement whose path ends with the general, or a head
-/// that names it.
-fn is_signed_text_of(
-    header: &Header,
-    general: GeneralNo,
-    text: &Text,
-    signature: &Signature,
-) -> bool
+/// Returns whether a signed text verifies as the general's: it names the general as its signer, it is the general's
+/// text, and its signature verifies. The general's texts are the statements whose paths end with the general, and the
+/// heads that name it.
+pub fn text_verifies(header: &Header, general: GeneralNo, text: &SignedText) -> bool
     requires { general < header.now.network.generals }
-    ensures { IsTrue result ↔ (accused_texts.IsTextOf general text.now
-        × accused_texts.HasSignedText header.now general text.now signature.now) }
+    ensures { IsTrue result ↔ accused_texts.TextVerifies header.now general text.now }
 {
-    match text {
+    if text.signer != general {
+        return false;
+    }
+    let signature = &text.signature;
+    match &text.text {
         Text::OfStatement(statement) => statement_verifies(header, general, statement, signature),
         Text::OfHead(head) => {
             let digest = head_digest(header, head);
@@ -55,15 +54,6 @@ fn is_signed_text_of(
             head.general == general && verify(root, header.height(), leaf, &digest, signature)
         }
     }
-}
-
-/// Returns whether a signed text verifies as the general's: it names the general as its signer, it is the general's
-/// text, and its signature verifies.
-pub fn text_verifies(header: &Header, general: GeneralNo, text: &SignedText) -> bool
-    requires { general < header.now.network.generals }
-    ensures { IsTrue result ↔ accused_texts.TextVerifies header.now general text.now }
-{
-    text.signer == general && is_signed_text_of(header, general, &text.text, &text.signature)
 }
 
 /// Whether the commander's signature verifies on the statement of this order and the path of the commander alone.

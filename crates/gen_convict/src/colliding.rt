@@ -1,5 +1,5 @@
 //! Finds two strings of bytes with one hash, where links agree after entries that differ.
-ghost use Rattle.std.specs.Prelude.{◌≡◌, ◌≢◌, ◌↔◌, IsTrue, IfOk, OnOk, length};
+ghost use Rattle.std.specs.Prelude.{◌≡◌, ◌≢◌, IfOk, OnOk, length};
 ghost use Rattle.std.specs.List.{AllByRecursion};
 ghost use Rattle.sha2.specs.Sha256.{sha256};
 ghost use Rattle.gen_log.specs.Entry.{IsEntryOf};
@@ -33,14 +33,6 @@ fn walk_on(alloc: Global, side: &mut Side, entry: &Entry) -> Result<(), AllocErr
     side.text.extend_from_slice(&spelled)?;
     side.link = Sha256::digest(&side.text);
     Ok(())
-}
-
-/// Whether the links of two walks are equal, and the bytes that were hashed for them differ.
-fn have_met(left: &Side, right: &Side) -> bool
-    ensures { IsTrue result
-        ↔ ((left.now.link ≡ right.now.link) × (left.now.text.items ≢ right.now.text.items)) }
-{
-    left.link == right.link && left.text != right.text
 }
 
 /// Returns two different strings of bytes with one SHA-256. The two lists of entries have one length and differ, and
@@ -81,7 +73,7 @@ pub fn collide(
     'entries: for i in 0..own.len() {
         walk_on(alloc, &mut left, &own[i])?;
         walk_on(alloc, &mut right, &other[i])?;
-        if have_met(&left, &right) {
+        if left.link == right.link && left.text != right.text {
             return Ok((left.text, right.text));
         }
     }

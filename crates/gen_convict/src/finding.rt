@@ -1,7 +1,6 @@
 //! Finds evidence in the reports of one run.
-ghost use Rattle.std.specs.Prelude.{◌≡◌, ◌≤◌, Contains, IfOk, map};
+ghost use Rattle.std.specs.Prelude.{◌≡◌, Contains, IfOk, map};
 ghost use Rattle.std.specs.Option.{option_map};
-ghost use Rattle.std.specs.List.{range_with_len};
 ghost use Rattle.gen_log.specs.Fields.{AreBelow};
 ghost use Rattle.gen_local.specs.Report.{IsReport, LocalReport as Report};
 ghost use Rattle.gen_convict.specs.Convictions.{AreConvictions, AreEvidence, AreFirst, AreShort, AreUnderHeader, ConvictsWhereHeld, shown_in};
@@ -14,23 +13,24 @@ use crate::evidence::Evidence;
 use crate::gathered::{one_of_each, texts_by};
 use crate::log_claims::{departing_claim, missing_claim};
 use crate::text_claims::{orders_claim, texts_claim};
-use gen_local::{LocalReport, SignedText};
+use gen_local::LocalReport;
 use gen_net::Header;
 use gen_types::GeneralNo;
 use std::alloc::{AllocError, Global};
 
-/// Returns the claim of the least kind against a general: by two of its texts, by two of its orders, by a log that lacks
-/// a statement that it signed, or by a log that departs.
-fn least_claim(
+/// Returns the claim of the least kind that the reports give against a general, if there is one: by two of its texts, by
+/// two of its orders, by a log that lacks a statement that it signed, or by a log that departs.
+fn claim_against(
     alloc: Global,
     general: GeneralNo,
-    firsts: &[&SignedText],
-    texts: &[&SignedText],
     reports: &[LocalReport],
 ) -> Result<Option<Claim>, AllocError>
-    ensures { IfOk result (λ claim. option_map told claim ≡ finds.least_claim general
-        (map (λ t. t.now) firsts.now) (map (λ t. t.now) texts.now) reports.now) }
+    ensures { IfOk result (λ claim. option_map told claim ≡ finds.claim_for reports.now general) }
 {
+    let gathered = texts_by(alloc, general, reports)?;
+    let texts = gathered.as_slice();
+    let of_each = one_of_each(alloc, texts)?;
+    let firsts = of_each.as_slice();
     if let Some(claim) = texts_claim(alloc, firsts, texts)? {
         return Ok(Some(claim));
     }
@@ -41,40 +41,6 @@ fn least_claim(
         return Ok(Some(claim));
     }
     departing_claim(alloc, general, reports)
-}
-
-/// Returns the claim that the reports give against a general, if there is one.
-fn claim_against(
-    alloc: Global,
-    general: GeneralNo,
-    reports: &[LocalReport],
-) -> Result<Option<Claim>, AllocError>
-    ensures { IfOk result (λ claim. option_map told claim ≡ finds.claim_for reports.now general) }
-{
-    let texts = texts_by(alloc, general, reports)?;
-    let firsts = one_of_each(alloc, texts.as_slice())?;
-    least_claim(alloc, general, firsts.as_slice(), texts.as_slice(), reports)
-}
-
-/// Returns the evidence against each general whose number is below `generals`, which is at most 16.
-fn claims_against(
-    alloc: Global,
-    generals: u8,
-    reports: &[LocalReport],
-) -> Result<Vec<Evidence>, AllocError>
-    requires { generals ≤ 16 }
-    ensures { IfOk result (λ found. map told_of found.items
-        ≡ finds.accusations reports.now (range_with_len 0 generals)) }
-{
-    let mut found = Vec::new(alloc);
-    for number in 0..generals {
-        let accused = GeneralNo::at(number);
-        match claim_against(alloc, accused, reports)? {
-            None => {}
-            Some(claim) => found.push(Evidence { accused, claim })?,
-        }
-    }
-    Ok(found)
 }
 
 /// Makes known that each of the bytes is less than 256.
@@ -122,5 +88,14 @@ pub fn find_evidence(
         → AreEvidence header.now (map told_of found.items)) }
 {
     note_reports(reports);
-    claims_against(alloc, header.net().generals(), reports)
+    let generals = header.net().generals();
+    let mut found = Vec::new(alloc);
+    for number in 0..generals {
+        let accused = GeneralNo::at(number);
+        match claim_against(alloc, accused, reports)? {
+            None => {}
+            Some(claim) => found.push(Evidence { accused, claim })?,
+        }
+    }
+    Ok(found)
 }

@@ -7,24 +7,6 @@ ghost use Rattle.gen_convict.specs.Finding as finds;
 use crate::text_likeness::{are_orders, is_unlike};
 use gen_local::SignedText;
 
-/// Returns the first text of `firsts` to which one of `texts` is unlike.
-pub fn first_with_unlike<'a>(
-    firsts: &[&'a SignedText],
-    texts: &[&SignedText],
-) -> Option<&'a SignedText>
-    ensures { option_map (λ t. t.now) result
-        ≡ find (finds.has_unlike (map (λ t. t.now) texts.now)) (map (λ t. t.now) firsts.now) }
-{
-    for text in firsts {
-        for other in texts {
-            if is_unlike(&text.text, &other.text) {
-                return Some(text);
-            }
-        }
-    }
-    None
-}
-
 /// Returns the first text that is unlike this one.
 pub fn first_unlike<'a>(text: &SignedText, texts: &[&'a SignedText]) -> Option<&'a SignedText>
     ensures { option_map (λ t. t.now) result

@@ -1,29 +1,11 @@
 //! Gathers the texts of one general in all reports, and of these the first of each subject.
-ghost use Rattle.std.specs.Prelude.{◌≡◌, [], ◌++◌, IfOk, OnOk, map, filter};
-ghost use Rattle.gen_convict.specs.Exhibits.{is_by};
+ghost use Rattle.std.specs.Prelude.{◌≡◌, [], ◌++◌, IfOk, OnOk, map};
 ghost use Rattle.gen_convict.specs.Finding as finds;
 
 use crate::text_likeness::is_like;
 use gen_local::{LocalReport, Reading, SignedText};
 use gen_types::GeneralNo;
 use std::alloc::{AllocError, Global};
-
-/// Appends the texts whose signer is the general.
-fn gather<'a>(
-    general: GeneralNo,
-    texts: &'a [SignedText],
-    gathered: &mut Vec<&'a SignedText>,
-) -> Result<(), AllocError>
-    ensures { OnOk result (map (λ t. t.now) gathered.new.items
-        ≡ map (λ t. t.now) gathered.old.items ++ filter (is_by general) texts.now) }
-{
-    for text in texts {
-        if text.signer == general {
-            gathered.push(text)?;
-        }
-    }
-    Ok(())
-}
 
 /// Returns the texts of a general in all the reports, in the order of the reports.
 pub fn texts_by<'a>(
@@ -37,7 +19,11 @@ pub fn texts_by<'a>(
     let mut texts = Vec::new(alloc);
     for report in reports {
         if let Reading::Own(found) = report.reading() {
-            gather(general, found.texts(), &mut texts)?;
+            for text in found.texts() {
+                if text.signer == general {
+                    texts.push(text)?;
+                }
+            }
         }
     }
     Ok(texts)

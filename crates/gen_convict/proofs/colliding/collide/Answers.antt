@@ -1,8 +1,27 @@
-use Rattle.std.proofs.Common.{◌<◌, inl, inr, length, refl, arith}
+use Rattle.std.proofs.Common.{◌≡◌, ◌<◌, ◌∙◌, ℕ, Bool, true, false, not, List, inl, inr, length, refl, sym, ap, arith}
+use Rattle.std.specs.Bool.{nat_eq}
+use Rattle.std.specs.Cmp.Lexicographic.{pointwise, same_text, other_text}
+use Rattle.gen_types.proofs.Lists.{bool_cases}
 use Rattle.gen_log.specs.Entry.{IsEntryOf}
 use Rattle.gen_convict.proofs.Linked.{same_or_not}
 use Rattle.gen_convict.proofs.Meeting.{no_links, link_on, tells_on, is_at, wide}
 use Rattle.gen_convict.proofs.colliding.collide.Goals as goal
+use Rattle.gen_convict.proofs.colliding.collide.Goals.{else-eq-via-else-eq, else-eq-via-then-eq+else-ne}
+
+same_pairs : (xs ys : List ℕ) → xs ≡ ys → pointwise nat_eq xs ys ≡ true
+same_pairs xs ys e = elim (bool_cases (pointwise nat_eq xs ys)) [
+  | inl t ↦ t
+  | inr f ↦ absurd (other_text xs ys (sym f) e)
+]
+
+opposite : {b : Bool} → b ≡ true → b ≡ false → ⊥
+opposite t f = let no : true ≡ false = sym t ∙ f in cc
+
+alike : (xs ys : List ℕ) → not (pointwise nat_eq xs ys) ≡ false → xs ≡ ys
+alike xs ys e = elim (bool_cases (pointwise nat_eq xs ys)) [
+  | inl t ↦ same_text xs ys (sym t)
+  | inr f ↦ absurd (opposite (ap not f) e)
+]
 
 pub entries-init : goal.entries-init
 entries-init c = record {
@@ -35,7 +54,10 @@ entries-preserved c =
             (is_at (IsEntryOf h) own i e c.requires.own c.entries-test.true c.index-own-i.is)
             (is_at (IsEntryOf h) other i f c.requires.other below c.index-other-i.is)
             c.entries-test.true below c.index-own-i.is c.index-other-i.is hashed_left.text hashed_right.text before.tells texts
-        | inr differ ↦ let met = c.have_met.ensures.1 (same, differ) in let not_met = c.if-have_met.false in absurd cc
+        | inr differ ↦ elim c.else-eq.branch [
+          | else-eq-via-else-eq w ↦ absurd (opposite (same_pairs left.link right.link same) (sym c.eq.ensures ∙ w.if-eq.false))
+          | else-eq-via-then-eq+else-ne w ↦ absurd (differ (alike left.text.items right.text.items (sym w.ne.ensures ∙ w.if-ne.false)))
+        ]
       ];
       wide_left = wide left.link left.text.items hashed_left.link;
       wide_right = wide right.link right.text.items hashed_right.link;

@@ -1,4 +1,4 @@
-use Rattle.std.proofs.Common.{◌≢◌, sym, ap, ◌∙◌}
+use Rattle.std.proofs.Common.{◌≢◌, rules, sym, ap, ◌∙◌}
 use Rattle.gen_log.specs.Links.{head_over}
 use Rattle.gen_convict.proofs.Answering.{head_answered, the_other}
 use Rattle.gen_convict.proofs.Meeting.{links_meet}
@@ -9,9 +9,9 @@ returns-then-not-has_text c =
     let h = c.args.header.now in
     let g = c.args.general in
     let own = c.args.own.now in
-    let other = c.in_ok-other.other in
+    let other = c.in-Ok.log in
     let head = c.head_of.result in
-    let found = the_other h g own c.args.bytes.now other c.net-net.ensures.header c.requires.other c.in_ok-other.ensures in
+    let found = the_other h g own c.args.bytes.now other c.net-net.ensures.header c.requires.other c.in-Ok.ensures.found in
     let differ : head ≢ head_over h g own.entries = λ e. let t = c.has_text.ensures.1 e in let f = c.if-not-has_text.true in absurd cc in
     head_answered c.forged.result h g own c.args.bytes.now other head found.0 c.head_of.ensures differ (rw c.head.ensures at c.forged.ensures)
 
@@ -25,5 +25,8 @@ collide-requires-clause-links c =
 
 pub collide-requires-clause-differ : goal.collide-requires-clause-differ
 collide-requires-clause-differ c = λ e.
-    let found = the_other c.args.header.now c.args.general c.args.own.now c.args.bytes.now c.in_ok-other.other c.net-net.ensures.header c.requires.other c.in_ok-other.ensures in
+    let found = the_other c.args.header.now c.args.general c.args.own.now c.args.bytes.now c.in-Ok.log c.net-net.ensures.header c.requires.other c.in-Ok.ensures.found in
     found.1 (sym c.entries.ensures ∙ e ∙ c.entries-2.ensures)
+
+pub unreachable-requires : goal.unreachable-requires
+unreachable-requires c = let read = c.read_log.ensures.only c.requires.other.0 c.requires.other.1.reads in search (rules, read)
