@@ -37,22 +37,10 @@ fn has_meeting(text: SeenText, others: &[SeenText]) -> bool
     false
 }
 
-/// Whether one of these texts has the run and the subject of `text`.
-#[tactic(auto, unfolding(crate::specs::AcrossFinding::is_beside))]
-fn has_beside(texts: &[SeenText], text: SeenText) -> bool
-    ensures { result ≡ list_any (λ x. finds.is_beside x (seen text.entry)) (map seen texts.now) }
-{
-    for other in texts {
-        if is_like(&other.text.text, &text.text.text) && other.header == text.header {
-            return true;
-        }
-    }
-    false
-}
-
 /// Returns the first of `others`, the texts after this one, that is a rival of it. A text that meets none of the texts
 /// after it is kept in `alone`, one for each run and subject. A text with the run and the subject of a kept one has no
 /// rival either, and isn't compared.
+#[tactic(auto, unfolding(crate::specs::AcrossFinding::is_beside))]
 fn rival_behind<'a>(
     text: SeenText<'a>,
     others: &[SeenText<'a>],
@@ -63,8 +51,10 @@ fn rival_behind<'a>(
         option_map seen rival ≡ find (finds.is_rival (seen text.entry)) (map seen others.now)) }
     ensures alone { OnOk result (MeetNone (map seen alone.new.items) (map seen others.now)) }
 {
-    if has_beside(alone.as_slice(), text) {
-        return Ok(None);
+    'kept: for other in alone.as_slice() {
+        if is_like(&other.text.text, &text.text.text) && other.header == text.header {
+            return Ok(None);
+        }
     }
     if !has_meeting(text, others) {
         alone.push(text)?;
