@@ -1,12 +1,18 @@
 -- One chain after another, those from the least senders are kept.
-use Rattle.std.proofs.Common.{◌≡◌, ◌≢◌, ℕ, ◌<◌, ◌≤◌, ◌⊎◌, inl, inr, List, [], ◌∷◌, ◌++◌, length, get_or, replicate, Contains, AllPairs, Option, Some, None, slice_set, nat_le, refl, sym, ap, ◌∙◌, subst, arith, length-set, leb-true, leb-false}
+use Rattle.std.proofs.Common.{Bool, true, false, is_le, nat_cmp, ◌≡◌, ◌≢◌, ℕ, ◌<◌, ◌≤◌, ◌⊎◌, inl, inr, List, [], ◌∷◌, ◌++◌, length, get_or, replicate, Contains, AllPairs, Option, Some, None, slice_set, nat_le, if◌then◌else◌, refl, sym, ap, ◌∙◌, subst, arith, length-set, leb-true, leb-false}
 use Rattle.std.proofs.lemmas.List.{get_or-set_same, get_or-set_other, get_or-replicate, get_or_default, length-replicate}
 use Rattle.std.proofs.lemmas.List.Elements.{Contains-push, Contains-append_left, Contains-push_cases}
 use Rattle.std.proofs.lemmas.Bool.{cases_eq}
+use Rattle.std.proofs.lemmas.Grind.{common_steps}
 use Rattle.gen_types.specs.Members.{bool_cases, Contains_nil}
 use Rattle.gen_types.specs.Ascending.{IsListOf}
 use Rattle.gen_core.specs.declared.arrivals.Seen.{Seen}
-use Rattle.gen_core.specs.Loops.Picking.{better, OrderIn, IsBest, AreBest}
+use Rattle.gen_core.specs.Loops.Picking.{OrderIn, IsBest, AreBest}
+
+-- of two chains the one from the lesser sender, or the earlier one if both have the same sender
+abbrev pub better : Option Seen → Seen → Seen
+better None seen = seen
+better (Some before) seen = if nat_le before.from seen.from then before else seen
 
 pub order_in_more : (xs : List Seen) (s : Seen) (v : ℕ) → OrderIn (xs ++ s ∷ []) v → OrderIn xs v ⊎ (v ≡ s.order)
 order_in_more xs s v (t, h, e) = elim (Contains-push_cases xs s t h) [
@@ -77,22 +83,42 @@ weighed known xs s (Some p) new b = elim (bool_cases (nat_le p.from s.from)) [
       )
 ]
 
+-- whether a number is at most another, as `<=` tells it
+le_told : (a b : ℕ) → is_le (nat_cmp a b) ≡ nat_le a b
+le_told a b = grind (arith, common_steps)
+
+-- the chain before stays, as its sender is not greater
+pub stays_better : (read : Option Seen) (before s : Seen) (less : Bool) → read ≡ Some before → less ≡ is_le (nat_cmp before.from s.from) → less ≡ true → Some before ≡ Some (better read s)
+stays_better read before s less is told one =
+    let le : nat_le before.from s.from ≡ true = sym (le_told before.from s.from) ∙ (sym told ∙ one) in
+    rw (is, le) refl
+
+-- the new chain takes its place
+pub takes_better : (read : Option Seen) (before s : Seen) (less : Bool) → read ≡ Some before → less ≡ is_le (nat_cmp before.from s.from) → less ≡ false → Some s ≡ Some (better read s)
+takes_better read before s less is told none =
+    let gt : nat_le before.from s.from ≡ false = sym (le_told before.from s.from) ∙ (sym told ∙ none) in
+    rw (is, gt) refl
+
+-- the new chain is the first
+pub first_better : (read : Option Seen) (s : Seen) → read ≡ None → Some s ≡ Some (better read s)
+first_better read s is = rw is refl
+
 pub best_known : (known : List ℕ) (xs : List Seen) (s : Seen) (picked : List (Option Seen)) → AreBest known xs picked → Contains known s.order → AreBest known (xs ++ s ∷ []) picked
 best_known known xs s picked b old = record {
   long = b.long;
   each = λ v l. known_best known xs s v (get_or picked v None) old (b.each v l);
 }
 
-pub best_more : (known : List ℕ) (xs : List Seen) (s : Seen) (picked : List (Option Seen)) (read : Option Seen) (chosen : Seen) → AreBest known xs picked → s.order < 16 → (Contains known s.order → ⊥) → chosen ≡ better (get_or picked s.order read) s
-    → AreBest known (xs ++ s ∷ []) (slice_set picked s.order (Some chosen))
+pub best_more : (known : List ℕ) (xs : List Seen) (s : Seen) (picked : List (Option Seen)) (read : Option Seen) (chosen : Option Seen) → AreBest known xs picked → s.order < 16 → (Contains known s.order → ⊥) → chosen ≡ Some (better (get_or picked s.order read) s)
+    → AreBest known (xs ++ s ∷ []) (slice_set picked s.order chosen)
 best_more known xs s picked read chosen b low new better_is =
     let inside : s.order < length picked = omega (arith, b.long) in
     record {
-      long = length-set picked s.order (Some chosen) ∙ b.long;
+      long = length-set picked s.order chosen ∙ b.long;
       each = λ v l. elim (cases_eq v s.order) [
-        | inr ne ↦ subst (λ o. IsBest known (xs ++ s ∷ []) v o) (sym (get_or-set_other picked s.order v (Some chosen) None ne)) (other_best known xs s v (get_or picked v None) ne (b.each v l))
+        | inr ne ↦ subst (λ o. IsBest known (xs ++ s ∷ []) v o) (sym (get_or-set_other picked s.order v chosen None ne)) (other_best known xs s v (get_or picked v None) ne (b.each v l))
         | inl e ↦
-            let at : get_or (slice_set picked s.order (Some chosen)) v None ≡ Some (better (get_or picked s.order read) s) = ap (λ w. get_or (slice_set picked s.order (Some chosen)) w None) e ∙ (get_or-set_same picked s.order (Some chosen) None inside ∙ ap Some better_is) in
+            let at : get_or (slice_set picked s.order chosen) v None ≡ Some (better (get_or picked s.order read) s) = ap (λ w. get_or (slice_set picked s.order chosen) w None) e ∙ (get_or-set_same picked s.order chosen None inside ∙ better_is) in
             let here : get_or picked s.order None ≡ get_or picked s.order read = get_or_default picked s.order None read inside in
             let before : IsBest known xs s.order (get_or picked s.order read) = subst (λ o. IsBest known xs s.order o) here (b.each s.order low) in
             subst (λ o. IsBest known (xs ++ s ∷ []) v o) (sym at) (subst (λ w. IsBest known (xs ++ s ∷ []) w (Some (better (get_or picked s.order read) s))) (sym e) (weighed known xs s (get_or picked s.order read) new before))

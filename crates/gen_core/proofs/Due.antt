@@ -1,29 +1,37 @@
 -- What a lieutenant is to send, looked for one order and one receiver after another.
-use Rattle.std.proofs.Common.{◌≡◌, ℕ, ◌+◌, ◌<◌, ◌⊎◌, ◌↔◌, inl, inr, List, [], ◌∷◌, ◌++◌, length, Option, Some, None, slice_get, refl, sym, ap, ◌∙◌, subst, arith}
+use Rattle.std.proofs.Common.{◌≡◌, ℕ, ◌+◌, ◌<◌, ◌⊎◌, ◌↔◌, inl, inr, List, [], ◌∷◌, ◌++◌, length, Contains, Option, Some, None, slice_get, refl, sym, ap, ◌∙◌, subst, arith}
 use Rattle.std.proofs.lemmas.Bool.{cases_eq}
 use Rattle.std.proofs.lemmas.List.Elements.{All-push, All-weaker}
 use Rattle.std.proofs.lemmas.Option.{slice_get_within}
 use Rattle.std.proofs.lemmas.List.Quantifiers.{all_pairs_push}
-use Rattle.gen_net.specs.Network.{Network, AreNeighbours}
+use Rattle.gen_net.specs.Network.{Network, rounds, AreNeighbours}
 use Rattle.gen_core.specs.Seeing.{Picked}
 use Rattle.gen_core.specs.declared.sending.Outgoing.{Outgoing}
 use Rattle.gen_core.specs.Sending.{outgoing, GoesBefore, IsDue, Appends}
-use Rattle.gen_core.specs.Loops.Pushing.{GoesOn, IsDueBelow, GoesUpTo}
+use Rattle.gen_core.specs.Loops.Pushing.{IsDueBelow, GoesUpTo}
 
--- of one order and receiver, where a path is picked
-pub due_told : (net : Network) (me : ℕ) (adds : List (Option (List ℕ))) (to v : ℕ) (picked : List ℕ) (r : Option (List ℕ)) → Picked adds v picked → AreNeighbours net me to
-    → ((longer : List ℕ) → (r ≡ Some longer) ↔ GoesOn net me to picked longer) → (x : List ℕ) → (r ≡ Some x) ↔ IsDue net me adds (outgoing to v x)
-due_told net me adds to v picked r at edge told x = (
-  (λ e. let t = (told x).0 e in record { picked = picked; is_picked = at; in_time = t.in_time; new = t.new; longer = t.longer; neighbour = edge; outside = t.outside }),
+-- of one order and receiver, where the path that is picked goes on
+pub due_told : (net : Network) (me : ℕ) (adds : List (Option (List ℕ))) (to v : ℕ) (picked path : List ℕ) → Picked adds v picked → AreNeighbours net me to → length picked < rounds net → (Contains picked me → ⊥) → path ≡ picked ++ me ∷ [] → (Contains path to → ⊥)
+    → (x : List ℕ) → (Some path ≡ Some x) ↔ IsDue net me adds (outgoing to v x)
+due_told net me adds to v picked path at edge in_time new longer outside x = (
+  (λ e.
+      let same : path ≡ x = cc in
+      record { picked = picked; is_picked = at; in_time = in_time; new = new; longer = sym same ∙ longer; neighbour = edge; outside = subst (λ p. Contains p to → ⊥) same outside }),
   (λ d.
       let e : slice_get adds v ≡ Some (Some d.picked) = d.is_picked in
       let same : d.picked ≡ picked = cc in
-      (told x).1 (record {
-        in_time = rw (← same) d.in_time;
-        new = rw (← same) d.new;
-        longer = d.longer ∙ ap (λ p. p ++ me ∷ []) same;
-        outside = d.outside;
-      })),
+      ap Some (longer ∙ (ap (λ p. p ++ me ∷ []) (sym same) ∙ sym d.longer))),
+)
+
+-- where it does not go on
+pub stopped_told : (net : Network) (me : ℕ) (adds : List (Option (List ℕ))) (to v : ℕ) (picked : List ℕ) → Picked adds v picked → (length picked < rounds net → (Contains picked me → ⊥) → (Contains (picked ++ me ∷ []) to → ⊥) → ⊥)
+    → (x : List ℕ) → (None ≡ Some x) ↔ IsDue net me adds (outgoing to v x)
+stopped_told net me adds to v picked at stops x = (
+  (λ e. absurd (let f : ⊥ = cc in f)),
+  (λ d.
+      let e : slice_get adds v ≡ Some (Some d.picked) = d.is_picked in
+      let same : d.picked ≡ picked = cc in
+      absurd (stops (rw (← same) d.in_time) (rw (← same) d.new) (subst (λ p. Contains p to → ⊥) (d.longer ∙ ap (λ p. p ++ me ∷ []) same) d.outside))),
 )
 
 -- and where none is picked

@@ -1,6 +1,6 @@
 //! Which chain of a new order a lieutenant picks.
 ghost use Rattle.std.specs.Prelude.{ℕ, ◌≡◌, ◌↔◌, List, Some, Option, length};
-ghost use Rattle.gen_core.specs.Loops.Picking.{better, AreBest, AreBestPaths};
+ghost use Rattle.gen_core.specs.Loops.Picking.{AreBest, AreBestPaths};
 ghost use Rattle.gen_core.specs.Seeing.{Picked};
 
 use crate::arrivals::Seen;
@@ -50,17 +50,6 @@ impl Adds {
     }
 }
 
-/// Returns of two chains of one order the one from the lesser sender, or the first if the senders are the
-/// same.
-fn lesser(before: Option<Seen>, seen: Seen) -> Seen
-    ensures { result ≡ better before seen }
-{
-    match before {
-        Some(other) if other.from <= seen.from => other,
-        _ => seen,
-    }
-}
-
 /// Returns the orders of these chains that are not known, each with the path of the chain from its least
 /// sender.
 pub(crate) fn pick(known: &OrderSet, seen: &[Seen]) -> Adds
@@ -70,7 +59,11 @@ pub(crate) fn pick(known: &OrderSet, seen: &[Seen]) -> Adds
     for chain in seen {
         if !known.contains(chain.order) {
             let order = chain.order.get() as usize;
-            picked[order] = Some(lesser(picked[order], *chain));
+            let before = picked[order];
+            picked[order] = match before {
+                Some(other) if other.from <= chain.from => Some(other),
+                _ => Some(*chain),
+            };
         }
     }
     Adds { picked }

@@ -1,7 +1,7 @@
 //! What a lieutenant sends.
 ghost use Rattle.std.specs.Prelude.{ℕ, ◌≡◌, ◌↔◌, List, Some, length, IfOk, OnOk};
 ghost use Rattle.gen_core.specs.Sending.{outgoing, IsDue, Appends, AreSends};
-ghost use Rattle.gen_core.specs.Loops.Pushing.{GoesOn, IsDueBelow, GoesUpTo};
+ghost use Rattle.gen_core.specs.Loops.Pushing.{IsDueBelow, GoesUpTo};
 
 use crate::picks::Adds;
 use gen_net::Net;
@@ -19,23 +19,9 @@ pub struct Outgoing {
     pub path: Path,
 }
 
-/// Returns the path lengthened by `me`. Returns None if the path has as many signers as there are rounds, or
-/// if it contains `me`, or if the longer path contains `to`.
-fn due(net: &Net, me: GeneralNo, to: GeneralNo, path: &Path) -> Option<Path>
-    ensures { (longer : List ℕ) → (result ≡ Some longer) ↔ GoesOn net.now me to path.now longer }
-{
-    if path.len() >= usize::from(net.rounds()) || path.contains(me) {
-        return None;
-    }
-    let mut longer = *path;
-    longer.push_new(me);
-    if longer.contains(to) {
-        return None;
-    }
-    Some(longer)
-}
-
-/// Returns the path that a lieutenant has to send a general for one order, if there is one.
+/// Returns the path that a lieutenant has to send a general for one order: the picked path, lengthened by `me`. Returns
+/// None if the two are not neighbours, or no path is picked. Returns None too if the picked path has as many signers as
+/// there are rounds, or if it contains `me`, or if the longer path contains `to`.
 fn due_at(net: &Net, me: GeneralNo, to: GeneralNo, adds: &Adds, order: OrderNo) -> Option<Path>
     ensures { (path : List ℕ) →
         (result ≡ Some path) ↔ IsDue net.now me adds.now (outgoing to order path) }
@@ -43,7 +29,15 @@ fn due_at(net: &Net, me: GeneralNo, to: GeneralNo, adds: &Adds, order: OrderNo) 
     if !net.has_edge(me, to) {
         return None;
     }
-    due(net, me, to, &adds.get(order)?)
+    let mut longer = adds.get(order)?;
+    if longer.len() >= usize::from(net.rounds()) || longer.contains(me) {
+        return None;
+    }
+    longer.push_new(me);
+    if longer.contains(to) {
+        return None;
+    }
+    Some(longer)
 }
 
 /// Appends what a lieutenant has to send a general, in ascending order of orders.

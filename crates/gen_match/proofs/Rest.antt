@@ -90,6 +90,11 @@ over_out given net faulty logs k small h =
 
 -- ---- loops over generals
 
+-- one element more has been looked at
+pub element_step : {A : Type 0} (f : A → List ℕ) (now new total : List ℕ) (rest behind : List A) (x : A) → rest ≡ x ∷ behind → new ≡ now ++ f x → now ++ flat_map f rest ≡ total → new ++ flat_map f behind ≡ total
+element_step {A} f now new total rest behind x is put so_far =
+    ap (λ (z : List ℕ). z ++ flat_map f behind) put ∙ append_assoc now (f x) (flat_map f behind) ∙ sym (ap (λ (r : List A). now ++ flat_map f r) is) ∙ so_far
+
 pub range_step : (f : ℕ → List ℕ) (k : ℕ) (now new : List ℕ) → now ≡ flat_map f (range_with_len 0 k) → new ≡ now ++ f k → new ≡ flat_map f (range_with_len 0 (k + 1))
 range_step f k now new h n =
     let zero_more : 0 + k ≡ k = omega arith in

@@ -1,13 +1,11 @@
 //! Finds received chains that derive from nothing that the rest sent.
-ghost use Rattle.std.specs.Prelude.{◌≡◌, ◌<◌, ◌+◌, ◌++◌, ◌^◌, Some, None, IfOk, IfSome, OnOk, AllPairs, Contains, length, map};
+ghost use Rattle.std.specs.Prelude.{◌≡◌, ◌<◌, ◌+◌, ◌++◌, ◌^◌, Some, None, IfOk, IfSome, OnOk, AllPairs};
 ghost use Rattle.std.specs.List.{flat_map, AllByRecursion};
-ghost use Rattle.gen_types.specs.Ascending.{IsListOf};
-ghost use Rattle.gen_log.specs.Entry.{erase};
 ghost use Rattle.gen_local.specs.Erased.{erased};
 ghost use Rattle.gen_match.specs.Findings.{AreFindings};
 ghost use Rattle.gen_match.specs.Matching.{FindsUnderivable};
 ghost use Rattle.gen_match.specs.Reports.{AreUnder, told_logs};
-ghost use Rattle.gen_match.specs.Rest.{IsSmall, AreSmall};
+ghost use Rattle.gen_match.specs.Rest.{IsSmall};
 ghost use Rattle.gen_match.specs.Underivables as finding;
 
 use crate::entries::{is_rest, note_ranges, rest_entries};
@@ -66,32 +64,6 @@ fn derives(
     }
 }
 
-/// Appends the rank of an entry of general `to` if it is a chain from a faulty general that doesn't derive.
-fn find_entry(
-    sources: &[u128],
-    header: &Header,
-    faulty: &GeneralSet,
-    to: GeneralNo,
-    entry: &Entry,
-    ranks: &mut Vec<u128>,
-) -> Result<(), AllocError>
-    requires { AllPairs (λ a b. a < b) sources.now }
-    ensures { OnOk result (ranks.new.items ≡ ranks.old.items
-        ++ finding.found_at sources.now header.now.network faulty.now to (erase entry.now)) }
-{
-    match entry {
-        Entry::Recv { from, chain } => {
-            let path = chain.path();
-            let order = chain.order();
-            if faulty.contains(*from) && !derives(sources, header, faulty, order, &path) {
-                ranks.push(rank_number(*from, to, path.len(), order))?;
-            }
-            Ok(())
-        }
-        _ => Ok(()),
-    }
-}
-
 /// Appends the ranks of those entries of general `to` that are chains from faulty generals and don't derive.
 fn find_entries(
     sources: &[u128],
@@ -109,34 +81,16 @@ fn find_entries(
     let mut rest = entries;
     while let Some((entry, others)) = rest.split_first() {
         note_ranges(entry);
-        find_entry(sources, header, faulty, to, entry, ranks)?;
+        if let Entry::Recv { from, chain } = entry {
+            let path = chain.path();
+            let order = chain.order();
+            if faulty.contains(*from) && !derives(sources, header, faulty, order, &path) {
+                ranks.push(rank_number(*from, to, path.len(), order))?;
+            }
+        }
         rest = others;
     }
     Ok(())
-}
-
-/// Returns the ranks, ascending, of all received chains from faulty generals that don't derive.
-fn find_ranks(
-    alloc: Global,
-    sources: &[u128],
-    header: &Header,
-    faulty: &GeneralSet,
-    reports: &[LocalReport],
-) -> Result<Vec<u128>, AllocError>
-    requires { AllPairs (λ a b. a < b) sources.now }
-    ensures ranks { IfOk result (λ ranks. IsListOf ranks.items (Contains
-        (finding.found_ranks sources.now header.now.network faulty.now (told_logs reports.now)))) }
-    ensures small { OnOk result (AreSmall header.now.network faulty.now
-        (told_logs reports.now) header.now.network.generals) }
-{
-    let mut ranks = Vec::new(alloc);
-    for number in 0..header.net().generals() {
-        let general = GeneralNo::at(number);
-        let entries = rest_entries(header, faulty, reports, general);
-        find_entries(sources, header, faulty, general, entries, &mut ranks)?;
-    }
-    sort_apart(&mut ranks)?;
-    Ok(ranks)
 }
 
 /// Returns the findings about chains that a faulty general sent a general of the rest and that derive from nothing that
@@ -157,9 +111,21 @@ pub fn check_derived(
     ensures { IfOk result (λ findings. AreFindings
         (FindsUnderivable header.now.network faulty.now (told_logs reports.now)) findings.items) }
 {
-    // Reading the network makes known that it has at most 16 generals.
-    let _known = header.net();
+    let net = header.net();
     let sources = find_sources(alloc, header, faulty, reports)?;
-    let ranks = find_ranks(alloc, sources.as_slice(), header, faulty, reports)?;
+    let mut ranks = Vec::new(alloc);
+    for number in 0..net.generals() {
+        let general = GeneralNo::at(number);
+        let entries = rest_entries(header, faulty, reports, general);
+        find_entries(
+            sources.as_slice(),
+            header,
+            faulty,
+            general,
+            entries,
+            &mut ranks,
+        )?;
+    }
+    sort_apart(&mut ranks)?;
     findings_at(alloc, Kind::Stray, ranks.as_slice())
 }

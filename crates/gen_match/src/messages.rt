@@ -3,7 +3,6 @@ ghost use Rattle.std.specs.Prelude.{◌≡◌, ◌<◌, ◌++◌, cond, [], ◌�
 ghost use Rattle.std.specs.List.{flat_map, AllByRecursion};
 ghost use Rattle.gen_types.specs.Ascending.{IsListOf};
 ghost use Rattle.gen_types.specs.Ends.{is_among};
-ghost use Rattle.gen_log.specs.Entry.{erase};
 ghost use Rattle.gen_local.specs.Erased.{erased};
 ghost use Rattle.gen_match.specs.Messages as message;
 ghost use Rattle.gen_match.specs.Reports.{told_logs};
@@ -42,29 +41,6 @@ fn put_key(
     Ok(())
 }
 
-/// Appends the key of the message that an entry of a general's log tells on this side, if it tells one.
-fn put_message(
-    side: Side,
-    counted: &GeneralSet,
-    general: GeneralNo,
-    entry: &Entry,
-    keys: &mut Vec<u128>,
-) -> Result<(), AllocError>
-    ensures { OnOk result (keys.new.items
-        ≡ keys.old.items ++ message.told_keys side counted.now general (erase entry.now)) }
-{
-    match (side, entry) {
-        (Side::Sender, Entry::Send { to, order, path }) => {
-            put_key(counted, *to, message_key(general, *to, *order, path), keys)
-        }
-        (Side::Receiver, Entry::Recv { from, chain }) => {
-            let key = message_key(*from, general, chain.order(), &chain.path());
-            put_key(counted, *from, key, keys)
-        }
-        _ => Ok(()),
-    }
-}
-
 /// Appends the keys of the messages that the entries of a general's log tell on this side.
 fn put_messages(
     side: Side,
@@ -80,7 +56,16 @@ fn put_messages(
     let mut rest = entries;
     while let Some((entry, others)) = rest.split_first() {
         note_ranges(entry);
-        put_message(side, counted, general, entry, keys)?;
+        match (side, entry) {
+            (Side::Sender, Entry::Send { to, order, path }) => {
+                put_key(counted, *to, message_key(general, *to, *order, path), keys)?;
+            }
+            (Side::Receiver, Entry::Recv { from, chain }) => {
+                let key = message_key(*from, general, chain.order(), &chain.path());
+                put_key(counted, *from, key, keys)?;
+            }
+            _ => {}
+        }
         rest = others;
     }
     Ok(())
@@ -110,21 +95,6 @@ pub(crate) fn find_keys(
     Ok(keys)
 }
 
-/// Appends the rank of a key if the other keys don't have it.
-fn put_rank(key: u128, others: &[u128], ranks: &mut Vec<u128>) -> Result<(), AllocError>
-    requires { AllPairs (λ a b. a < b) others.now }
-    ensures { OnOk result (ranks.new.items
-        ≡ ranks.old.items ++ message.rank_lacked others.now key) }
-{
-    match others.binary_search(&key) {
-        Ok(_) => Ok(()),
-        Err(_) => {
-            ranks.push(key % RANK_SPAN)?;
-            Ok(())
-        }
-    }
-}
-
 /// Appends the ranks of the keys that the other keys don't have.
 fn put_ranks(keys: &[u128], others: &[u128], ranks: &mut Vec<u128>) -> Result<(), AllocError>
     requires { AllPairs (λ a b. a < b) others.now }
@@ -133,7 +103,10 @@ fn put_ranks(keys: &[u128], others: &[u128], ranks: &mut Vec<u128>) -> Result<()
 {
     let mut rest = keys;
     while let Some((key, behind)) = rest.split_first() {
-        put_rank(*key, others, ranks)?;
+        match others.binary_search(key) {
+            Ok(_) => {}
+            Err(_) => ranks.push(*key % RANK_SPAN)?,
+        }
         rest = behind;
     }
     Ok(())

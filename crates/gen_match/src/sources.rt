@@ -2,7 +2,6 @@
 ghost use Rattle.std.specs.Prelude.{◌≡◌, ◌++◌, OnOk, IfOk, Contains};
 ghost use Rattle.std.specs.List.{flat_map};
 ghost use Rattle.gen_types.specs.Ascending.{IsListOf};
-ghost use Rattle.gen_log.specs.Entry.{erase};
 ghost use Rattle.gen_local.specs.Erased.{erased};
 ghost use Rattle.gen_match.specs.Reports.{told_logs};
 ghost use Rattle.gen_match.specs.Underivables as finding;
@@ -15,23 +14,7 @@ use gen_net::Header;
 use gen_types::{GeneralNo, GeneralSet};
 use std::alloc::{AllocError, Global};
 
-/// Appends the keys of an entry: of all beginnings of its path, if it is a SEND to a faulty general.
-fn put_source(faulty: &GeneralSet, entry: &Entry, keys: &mut Vec<u128>) -> Result<(), AllocError>
-    ensures { OnOk result (keys.new.items
-        ≡ keys.old.items ++ finding.entry_keys faulty.now (erase entry.now)) }
-{
-    match entry {
-        Entry::Send { to, order, path } => {
-            if faulty.contains(*to) {
-                put_begins(*order, path, keys)?;
-            }
-            Ok(())
-        }
-        _ => Ok(()),
-    }
-}
-
-/// Appends the keys of entries.
+/// Appends the keys of entries: of all beginnings of the path of each SEND to a faulty general.
 fn put_sources(
     faulty: &GeneralSet,
     entries: &[Entry],
@@ -42,7 +25,11 @@ fn put_sources(
 {
     let mut rest = entries;
     while let Some((entry, others)) = rest.split_first() {
-        put_source(faulty, entry, keys)?;
+        if let Entry::Send { to, order, path } = entry {
+            if faulty.contains(*to) {
+                put_begins(*order, path, keys)?;
+            }
+        }
         rest = others;
     }
     Ok(())

@@ -1,8 +1,8 @@
 //! Reads frames from bytes.
-ghost use Rattle.std.specs.Prelude.{◌≡◌, IfOk, Ok};
+ghost use Rattle.std.specs.Prelude.{IfOk, Ok};
 ghost use Rattle.gen_types.specs.Bytes.{many_at};
 ghost use Rattle.gen_types.specs.Reading.{Gives};
-ghost use Rattle.gen_types.specs.Spelled.{IsField, IsRead, Spells};
+ghost use Rattle.gen_types.specs.Spelled.{IsRead, Spells};
 ghost use Rattle.gen_node.specs.Frame.{WireFrame as Sent, IsFrame, frame_spelling};
 ghost use Rattle.gen_node.specs.FrameReading.{frame_at, front_at, parcel_at, whole_frame};
 
@@ -18,40 +18,8 @@ pub const FRAME_MARK: u32 = 0x534d_4631;
 /// The number of bytes of a run id.
 const RUN_ID_BYTES: usize = 32;
 
-/// Reads the front of a frame (mark, run id, round, sender and receiver), and returns it and the bytes after it.
-#[tactic(auto, unfolding(crate::specs::FrameReading::front_at, crate::specs::FrameReading::run_at))]
-fn read_frame_front(bytes: &[u8]) -> Result<(FrameFront, &[u8]), ReadError<FrameFault>>
-    ensures { IsField result (front_at bytes.now) }
-{
-    let (mark, rest) = u32_at(bytes, FrameFault::Truncated)?;
-    check(mark == FRAME_MARK, FrameFault::UnknownMark)?;
-    let (run, rest) = bytes_at(rest, RUN_ID_BYTES, FrameFault::Truncated)?;
-    let mut run_id = [0; RUN_ID_BYTES];
-    run_id.copy_from_slice(run);
-    let (round, rest) = u8_at(rest, FrameFault::Truncated)?;
-    let (from, rest) = u8_at(rest, FrameFault::Truncated)?;
-    let (to, rest) = u8_at(rest, FrameFault::Truncated)?;
-    let front = FrameFront {
-        run_id,
-        round,
-        from,
-        to,
-    };
-    Ok((front, rest))
-}
-
-/// Reads a parcel behind its length in four bytes, and returns it and the bytes after it.
-#[tactic(auto, unfolding(crate::specs::FrameReading::parcel_at))]
-fn read_parcel(alloc: Global, bytes: &[u8]) -> Result<(Parcel, &[u8]), ReadError<FrameFault>>
-    ensures { IsField result (parcel_at bytes.now) }
-{
-    let (size, rest) = u32_at(bytes, FrameFault::Truncated)?;
-    let (parcel, rest) = bytes_at(rest, size as usize, FrameFault::Truncated)?;
-    Ok((Parcel::new(Vec::from_slice(alloc, parcel)?), rest))
-}
-
-/// Reads this many parcels, and returns them and the bytes after them. The count comes from the input, so no room is
-/// made for it beforehand.
+/// Reads this many parcels, each behind its length in four bytes, and returns them and the bytes after them. The count
+/// comes from the input, so no room is made for it beforehand.
 fn read_parcels(
     alloc: Global,
     count: u16,
@@ -62,32 +30,38 @@ fn read_parcels(
     let mut parcels = Vec::new(alloc);
     let mut rest = bytes;
     for _ in 0..count {
-        let (parcel, after) = read_parcel(alloc, rest)?;
-        parcels.push(parcel)?;
+        let (size, after) = u32_at(rest, FrameFault::Truncated)?;
+        let (parcel, after) = bytes_at(after, size as usize, FrameFault::Truncated)?;
+        parcels.push(Parcel::new(Vec::from_slice(alloc, parcel)?))?;
         rest = after;
     }
     Ok((parcels, rest))
 }
 
-/// Reads the frame in front of the bytes, and returns it and the bytes after it.
-#[tactic(auto, unfolding(crate::specs::FrameReading::frame_at))]
-fn frame_in_front(alloc: Global, bytes: &[u8]) -> Result<(WireFrame, &[u8]), ReadError<FrameFault>>
-    ensures { IsField result (frame_at bytes.now) }
-{
-    let (front, rest) = read_frame_front(bytes)?;
-    let (count, rest) = u16_at(rest, FrameFault::Truncated)?;
-    let (parcels, rest) = read_parcels(alloc, count, rest)?;
-    Ok((WireFrame { front, parcels }, rest))
-}
-
-/// Returns the frame that all the bytes are: nothing may be left over.
-#[tactic(auto, unfolding(crate::specs::FrameReading::whole_frame))]
+/// Returns the frame that all the bytes are: the front (mark, run id, round, sender and receiver), the number of parcels
+/// and the parcels. Nothing may be left over.
+#[tactic(auto, unfolding(crate::specs::FrameReading::front_at, crate::specs::FrameReading::run_at, crate::specs::FrameReading::frame_at, crate::specs::FrameReading::whole_frame))]
 fn frame_alone(alloc: Global, bytes: &[u8]) -> Result<WireFrame, ReadError<FrameFault>>
     ensures { IsRead result (whole_frame bytes.now) }
 {
-    let (frame, rest) = frame_in_front(alloc, bytes)?;
+    let (mark, rest) = u32_at(bytes, FrameFault::Truncated)?;
+    check(mark == FRAME_MARK, FrameFault::UnknownMark)?;
+    let (run, rest) = bytes_at(rest, RUN_ID_BYTES, FrameFault::Truncated)?;
+    let mut run_id = [0; RUN_ID_BYTES];
+    run_id.copy_from_slice(run);
+    let (round, rest) = u8_at(rest, FrameFault::Truncated)?;
+    let (from, rest) = u8_at(rest, FrameFault::Truncated)?;
+    let (to, rest) = u8_at(rest, FrameFault::Truncated)?;
+    let (count, rest) = u16_at(rest, FrameFault::Truncated)?;
+    let (parcels, rest) = read_parcels(alloc, count, rest)?;
     check(rest.len() == 0, FrameFault::LeftOver)?;
-    Ok(frame)
+    let front = FrameFront {
+        run_id,
+        round,
+        from,
+        to,
+    };
+    Ok(WireFrame { front, parcels })
 }
 
 /// Returns the frame that all the bytes are. The bytes are the mark `SMF1`, the run id (32 bytes), the round, the

@@ -1,9 +1,8 @@
 //! Writes frames as bytes.
 ghost use Rattle.std.specs.Prelude.{◌≡◌, ◌<◌, ◌^◌, ◌++◌, ◌↔◌, All, Err, IfOk, IsTrue, OnOk, length};
-ghost use Rattle.std.specs.List.{flat_map};
 ghost use Rattle.gen_types.specs.Spelled.{Spells};
 ghost use Rattle.gen_node.specs.declared.spelling_fault.SpellingFault.TheVariants.{Memory, TooLong};
-ghost use Rattle.gen_node.specs.Frame.{IsFrame, IsFront, IsParcel, frame_spelling, front_spelling, parcel_spelling};
+ghost use Rattle.gen_node.specs.Frame.{IsFrame, IsFront, IsParcel, frame_spelling, parcel_spelling};
 
 use crate::frame_reading::FRAME_MARK;
 use crate::frames::FrameFront;
@@ -15,15 +14,6 @@ use std::alloc::{AllocError, Global};
 fn parts_fit(run_id: [u8; 32], round: u8, from: u8, to: u8)
     ensures { IsFront (record { run_id = run_id; round = round; from = from; to = to }) }
 {}
-
-/// Appends the front of a frame: the mark `SMF1`, the run id, the round, the sender and the receiver.
-fn put_front(out: &mut Vec<u8>, front: &FrameFront) -> Result<(), AllocError>
-    ensures { OnOk result (out.new.items ≡ out.old.items ++ front_spelling front.now) }
-{
-    out.extend_from_slice(&FRAME_MARK.to_be_bytes())?;
-    out.extend_from_slice(&front.run_id)?;
-    out.extend_from_slice(&[front.round, front.from, front.to])
-}
 
 /// Whether each parcel's length fits into its four bytes.
 fn are_short(parcels: &[Parcel]) -> bool
@@ -60,7 +50,9 @@ pub(crate) fn spelled(
     parts_fit(front.run_id, front.round, front.from, front.to);
     let count = u16::try_from(parcels.len()).unwrap();
     let mut out = Vec::new(alloc);
-    put_front(&mut out, front)?;
+    out.extend_from_slice(&FRAME_MARK.to_be_bytes())?;
+    out.extend_from_slice(&front.run_id)?;
+    out.extend_from_slice(&[front.round, front.from, front.to])?;
     out.extend_from_slice(&count.to_be_bytes())?;
     'parcels: for parcel in parcels {
         put_parcel(&mut out, parcel)?;

@@ -1,5 +1,5 @@
 //! One general of a run, driven from outside.
-ghost use Rattle.std.specs.Prelude.{◌≡◌, ◌<◌, ◌↔◌, IsTrue, true, [], Err, Some, None, IfOk, IfErr, OnOk, OnErr};
+ghost use Rattle.std.specs.Prelude.{◌≡◌, ◌<◌, ◌↔◌, IsTrue, true, Err, Some, None, IfOk, IfErr, OnOk, OnErr};
 ghost use Rattle.std.specs.Str.{bytes_eq};
 ghost use Rattle.gen_types.specs.declared.reading.ReadError.TheVariants as errors;
 ghost use Rattle.gen_types.specs.Reading.{Gives};
@@ -27,7 +27,7 @@ use gen_general::Recorder;
 use gen_net::Header;
 use gen_scenario::Part;
 use gen_tree::KeyRing;
-use gen_types::{GeneralNo, OrderNo, ReadError, TreeHeight, check};
+use gen_types::{GeneralNo, OrderNo, ReadError, check};
 use std::alloc::{AllocError, Global};
 use std::marker::Model;
 
@@ -62,13 +62,6 @@ fn same_bytes(left: &[u8], right: &[u8]) -> bool
     ensures same { IsTrue result ↔ (left.now ≡ right.now) }
 {
     left == right
-}
-
-/// Whether two heights are the same.
-fn same_height(one: TreeHeight, other: TreeHeight) -> bool
-    ensures { IsTrue result ↔ (one ≡ other) }
-{
-    one == other
 }
 
 impl Node {
@@ -123,7 +116,7 @@ impl Node {
         ensures ring { IfErr result (λ e. e.1 ≡ ring) }
         ensures err { IfErr result (λ e. IsRefused header me own ring e.0) }
     {
-        if !same_height(ring.height(), header.height()) {
+        if ring.height() != header.height() {
             return Err((NodeFault::OtherHeight, ring));
         }
         let Ok(copy) = header.clone() else {

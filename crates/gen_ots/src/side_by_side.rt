@@ -1,8 +1,5 @@
 //! Signatures of digests, hashed side by side.
-ghost use Rattle.std.specs.Prelude.{◌≡◌, ℕ, ◌<◌, [], false, map, slice_index_or};
-ghost use Rattle.gen_ots.specs.OneTime.{bit_of};
-ghost use Rattle.gen_ots.specs.Signatures.{other_at, shown_at};
-ghost use Rattle.gen_ots.specs.declared.side_by_side.SignedDigest.{SignedDigest};
+ghost use Rattle.std.specs.Prelude.{◌≡◌, ℕ, ◌<◌, [], map, slice_index_or};
 ghost use Rattle.gen_ots.specs.SideBySide.{signed_value};
 
 use crate::hashing::{LEAF_PREFIX, chosen_in_lanes, images_in_lanes, is_one};
@@ -28,7 +25,15 @@ pub fn images_of_lanes(signed: &[SignedDigest<'_>; LANES]) -> [[u8; 32]; LANES]
     let mut schedules = Schedules::new();
     let mut hashers = LaneHashers::new(LEAF_PREFIX);
     'bits: for bit in 0..DIGEST_BITS {
-        let (secrets, others, ones) = pairs_of(signed, bit);
+        let mut secrets = [[0; HASH_BYTES]; LANES];
+        let mut others = [[0; HASH_BYTES]; LANES];
+        let mut ones = [false; LANES];
+        'lanes: for j in 0..LANES {
+            let (secret, image) = pair_at(signed[j].signature.as_bytes(), bit);
+            secrets[j] = secret;
+            others[j] = image;
+            ones[j] = is_one(&signed[j].digest, bit);
+        }
         let images = images_in_lanes(&mut schedules, &to_words(&secrets));
         let others = to_words(&others);
         let zeroth = chosen_in_lanes(&ones, &images, &others);
@@ -36,31 +41,4 @@ pub fn images_of_lanes(signed: &[SignedDigest<'_>; LANES]) -> [[u8; 32]; LANES]
         hashers.update(&mut schedules, &zeroth, &first);
     }
     hashers.finalize(&mut schedules)
-}
-
-// Returns for each signature the secret that it shows for a bit, the image that it gives for it, and whether
-// this bit of its digest is 1.
-#[inline(always)]
-fn pairs_of(
-    signed: &[SignedDigest<'_>; LANES],
-    bit: usize,
-) -> ([[u8; 32]; LANES], [[u8; 32]; LANES], [bool; LANES])
-    requires { bit < DIGEST_BITS }
-    ensures secrets { (j : ℕ) → j < LANES → (d : SignedDigest)
-        → slice_index_or result.0 j [] ≡ shown_at (slice_index_or signed.now j d).signature.now bit }
-    ensures others { (j : ℕ) → j < LANES → (d : SignedDigest)
-        → slice_index_or result.1 j [] ≡ other_at (slice_index_or signed.now j d).signature.now bit }
-    ensures ones { (j : ℕ) → j < LANES → (d : SignedDigest)
-        → slice_index_or result.2 j false ≡ bit_of (slice_index_or signed.now j d).digest bit }
-{
-    let mut secrets = [[0; HASH_BYTES]; LANES];
-    let mut others = [[0; HASH_BYTES]; LANES];
-    let mut ones = [false; LANES];
-    'lanes: for j in 0..LANES {
-        let (secret, image) = pair_at(signed[j].signature.as_bytes(), bit);
-        secrets[j] = secret;
-        others[j] = image;
-        ones[j] = is_one(&signed[j].digest, bit);
-    }
-    (secrets, others, ones)
 }

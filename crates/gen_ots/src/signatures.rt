@@ -1,5 +1,5 @@
 //! One-time signatures, and the room into which they are written.
-ghost use Rattle.std.specs.Prelude.{◌≡◌, ◌<◌, ◌≤◌, ◌+◌, ◌*◌, ◌++◌, [], ℕ, length, slice_index_or, vec_len, vec_capacity, IfOk};
+ghost use Rattle.std.specs.Prelude.{◌≡◌, ◌<◌, ◌≤◌, ◌+◌, ◌*◌, ◌++◌, [], ℕ, length, vec_len, vec_capacity, IfOk};
 ghost use Rattle.std.specs.Cmp.{partial_equiv_from_equiv};
 ghost use Rattle.std.specs.Cmp.Lexicographic.{pointwise};
 ghost use Rattle.std.specs.Bool.{nat_eq};
@@ -165,7 +165,13 @@ pub fn image_of(signature: &OtsSig, digest: &[u8; 32]) -> [u8; 32]
     // Each turn takes one bit for each lane, so that the secrets of these bits are hashed side by side.
     'turns: for turn in 0..DIGEST_BITS / LANES {
         let bit = LANES * turn;
-        let (secrets, others) = pairs_from(pairs, bit);
+        let mut secrets = [[0; HASH_BYTES]; LANES];
+        let mut others = [[0; HASH_BYTES]; LANES];
+        'lanes: for j in 0..LANES {
+            let (secret, image) = pair_at(pairs, bit + j);
+            secrets[j] = secret;
+            others[j] = image;
+        }
         let images = images_in_lanes(&mut schedules, &to_words(&secrets));
         let others = to_words(&others);
         let ones = are_ones(digest, bit);
@@ -174,25 +180,6 @@ pub fn image_of(signature: &OtsSig, digest: &[u8; 32]) -> [u8; 32]
         hasher.update(&zeroth, &first);
     }
     hasher.finalize()
-}
-
-// Returns for each lane the secret that the pairs show for a bit, and the image that they give for it: bit
-// `first` in lane 0, and those after it in the others.
-#[inline(always)]
-fn pairs_from(pairs: &[u8], first: usize) -> ([[u8; 32]; LANES], [[u8; 32]; LANES])
-    requires length { length pairs.now ≡ OTS_BYTES }
-    requires bits { first + LANES ≤ DIGEST_BITS }
-    ensures secrets { (j : ℕ) → j < LANES → slice_index_or result.0 j [] ≡ shown_at pairs.now (first + j) }
-    ensures others { (j : ℕ) → j < LANES → slice_index_or result.1 j [] ≡ other_at pairs.now (first + j) }
-{
-    let mut secrets = [[0; HASH_BYTES]; LANES];
-    let mut others = [[0; HASH_BYTES]; LANES];
-    'lanes: for j in 0..LANES {
-        let (secret, image) = pair_at(pairs, first + j);
-        secrets[j] = secret;
-        others[j] = image;
-    }
-    (secrets, others)
 }
 
 // Returns the secret that the pairs show for a bit, and the image that they give for it.

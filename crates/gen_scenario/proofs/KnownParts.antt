@@ -1,5 +1,7 @@
 -- What one general knows of a scenario: his script, and the trees of those who have one.
-use Rattle.std.proofs.Common.{◌≡◌, ◌<◌, ◌↔◌, ℕ, zero, suc, true, false, List, [], ◌∷◌, refl, sym, ap, subst, eqb, Option, Some, None, IsSome, IfSome, inl, inr, map, length, get_or, Contains, arith}
+use Rattle.std.proofs.Common.{◌≡◌, ◌<◌, ◌↔◌, ℕ, zero, suc, Bool, true, false, List, [], ◌∷◌, refl, sym, ap, subst, eqb, Option, Some, None, IsSome, IfSome, inl, inr, map, length, get_or, Contains, arith}
+use Rattle.std.proofs.Math.Dec.{eqb-suc-zero}
+use Rattle.std.specs.Bool.{then_some}
 use Rattle.std.proofs.lemmas.Bool.{eqb-true, eq-eqb}
 use Rattle.std.proofs.lemmas.List.Elements.{Contains-get_or}
 use Rattle.gen_types.proofs.Lists.{Contains_nil, Contains_cases, Contains_mapped, bool_cases}
@@ -74,6 +76,11 @@ playable s ok g lines e =
     }
 
 -- ---- what he knows
+
+-- the own order by a test for the commander
+pub own_told : (s : Scenario) (g : ℕ) (commander : Bool) → commander ≡ eqb g 0 → then_some commander s.order ≡ own_order s g
+own_told s zero commander is = rw is refl
+own_told s (suc g) commander is = rw (is, eqb-suc-zero g) refl
 
 own_low : (s : Scenario) → IsScenario s → (g : ℕ) → IfSome (own_order s g) (λ order. order < s.net.orders)
 own_low s ok zero = ok.order_known

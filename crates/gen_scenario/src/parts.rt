@@ -1,8 +1,6 @@
 //! What one general alone knows of a run.
-ghost use Rattle.std.specs.Prelude.{◌≡◌, ◌<◌, map, option_map, IfOk, SomeIff};
-ghost use Rattle.gen_scenario.specs.Scenario.{script_of, scripted};
-ghost use Rattle.gen_scenario.specs.SignedWorld as worlds;
-ghost use Rattle.gen_scenario.specs.Part as parts;
+ghost use Rattle.std.specs.Prelude.{◌≡◌, ◌<◌, option_map, IfOk, SomeIff};
+ghost use Rattle.gen_scenario.specs.Scenario.{script_of};
 ghost use Rattle.gen_scenario.specs.Part.{IsPart, CanFollow, part_of, followers_part};
 
 use crate::signed::Scenario;
@@ -164,7 +162,7 @@ impl Scenario {
     {
         let header = self.header().clone()?;
         let _is_header = header.net();
-        let own = self.own_order(general);
+        let own = (general == GeneralNo::commander()).then_some(self.order());
         match find_script(self.scripts(), general) {
             None => Ok(Part {
                 header,
@@ -175,7 +173,15 @@ impl Scenario {
             }),
             Some(script) => {
                 let script = script.clone()?;
-                let trees = self.scripted_trees(alloc)?;
+                let mut trees = Vec::new(alloc);
+                'signers: for signer in self.scripts() {
+                    let number = signer.general();
+                    let tree = self.tree(number).clone()?;
+                    trees.push(SignerTree {
+                        general: number,
+                        tree,
+                    })?;
+                }
                 Ok(Part {
                     header,
                     me: general,
@@ -185,31 +191,5 @@ impl Scenario {
                 })
             }
         }
-    }
-
-    /// Returns the own order of a general, which only the commander has.
-    fn own_order(&self, general: GeneralNo) -> Option<OrderNo>
-        ensures { result ≡ worlds.own_order self.now general }
-    {
-        if general == GeneralNo::commander() {
-            Some(self.order())
-        } else {
-            None
-        }
-    }
-
-    /// Returns the trees of all generals that have scripts, each with its general.
-    fn scripted_trees(&self, alloc: Global) -> Result<Vec<SignerTree>, AllocError>
-        ensures { IfOk result (λ trees.
-            trees.items ≡ map (parts.signer_tree self.now) (scripted self.now.scripts)) }
-    {
-        let _known = self.header();
-        let mut trees = Vec::new(alloc);
-        'scripts: for script in self.scripts() {
-            let general = script.general();
-            let tree = self.tree(general).clone()?;
-            trees.push(SignerTree { general, tree })?;
-        }
-        Ok(trees)
     }
 }

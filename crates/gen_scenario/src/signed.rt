@@ -1,5 +1,5 @@
 //! Scenarios with signatures.
-ghost use Rattle.std.specs.Prelude.{ℕ, ◌≡◌, ◌≤◌, ◌<◌, ◌↔◌, ◌==◌, [], Ok, Err, length, map, IfOk};
+ghost use Rattle.std.specs.Prelude.{◌≡◌, ◌≤◌, ◌<◌, ◌↔◌, ◌==◌, [], Ok, Err, length, map, IfOk};
 ghost use Rattle.std.specs.List.{list_any, range_with_len};
 ghost use Rattle.gen_tree.specs.Rings.{seed_of};
 ghost use Rattle.gen_types.specs.declared.reading.ReadError.TheVariants.{Fault};
@@ -16,7 +16,7 @@ use crate::plan::SignedPlan;
 use gen_net::{GREATEST_SLOT, Header, HeaderFault, Net, Version};
 use gen_script::Script;
 use gen_tree::{KeyRing, KeyTree, general_seed};
-use gen_types::{GeneralNo, GeneralSet, OrderNo, ReadError, TreeHeight};
+use gen_types::{GeneralNo, GeneralSet, OrderNo, ReadError};
 use std::alloc::{AllocError, Global};
 use std::marker::Model;
 
@@ -48,25 +48,6 @@ impl Model for Scenario {
     } };
 }
 
-/// Makes the trees of the first `count` generals under a master seed, in ascending order of generals.
-fn general_trees(
-    alloc: Global,
-    master: &[u8; 32],
-    height: TreeHeight,
-    count: u8,
-) -> Result<Vec<KeyTree>, AllocError>
-    requires { count ≤ 16 }
-    ensures { IfOk result (λ trees.
-        trees.items ≡ map (general_tree master.now height) (range_with_len 0 count)) }
-{
-    let mut trees = Vec::with_capacity(alloc, usize::from(count))?;
-    'generals: for number in 0..count {
-        let seed = general_seed(master, GeneralNo::at(number));
-        let tree = KeyTree::from_seed(alloc, &seed, height)?;
-        trees.push(tree)?;
-    }
-    Ok(trees)
-}
 /// Returns the header of this version, network and roots. The slot must be 0 to 3, and there must be one root
 /// for each general.
 fn header_over(version: Version, net: Net, roots: Vec<[u8; 32]>) -> Header
@@ -153,7 +134,13 @@ impl Scenario {
     {
         let _lawful = plan.scripts();
         let height = plan.version().height();
-        let trees = general_trees(alloc, plan.master(), height, plan.net().generals())?;
+        let generals = plan.net().generals();
+        let mut trees = Vec::with_capacity(alloc, usize::from(generals))?;
+        'generals: for number in 0..generals {
+            let seed = general_seed(plan.master(), GeneralNo::at(number));
+            let tree = KeyTree::from_seed(alloc, &seed, height)?;
+            trees.push(tree)?;
+        }
         Scenario::of_trees(alloc, plan, trees)
     }
 

@@ -1,12 +1,7 @@
 -- The search for the chains from the least senders.
-use Rattle.std.specs.Prelude.{ℕ, ◌≡◌, ◌<◌, ◌≤◌, List, length, Contains, Option, Some, None, slice_index_or, nat_le, if◌then◌else◌}
+use Rattle.std.specs.Prelude.{ℕ, ◌≡◌, ◌<◌, ◌≤◌, List, length, Contains, Option, Some, None, slice_index_or}
 use Rattle.gen_core.specs.declared.arrivals.Seen.{Seen}
 use Rattle.gen_core.specs.Paths.{paths_of}
-
--- of two chains the one from the lesser sender, or the earlier one if both have the same sender
-abbrev pub better : Option Seen → Seen → Seen
-better None seen = seen
-better (Some before) seen = if nat_le before.from seen.from then before else seen
 
 -- one of these chains has this order
 abbrev pub OrderIn : List Seen → ℕ → Type 0

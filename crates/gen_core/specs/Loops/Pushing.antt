@@ -1,16 +1,8 @@
 -- What a lieutenant has to send, found for one receiver and one order after another.
-use Rattle.std.specs.Prelude.{ℕ, ◌≡◌, ◌<◌, ◌⊎◌, List, [], ◌∷◌, ◌++◌, length, Contains, All, AllPairs, Option}
-use Rattle.gen_net.specs.Network.{Network, rounds}
+use Rattle.std.specs.Prelude.{ℕ, ◌≡◌, ◌<◌, ◌⊎◌, List, All, AllPairs, Option}
+use Rattle.gen_net.specs.Network.{Network}
 use Rattle.gen_core.specs.declared.sending.Outgoing.{Outgoing}
 use Rattle.gen_core.specs.Sending.{GoesBefore, IsDue}
-
--- the picked path has fewer than R signers and is without g, `path` is that path lengthened by g, and `to` is
--- not in it
-pub record GoesOn (net : Network) (g to : ℕ) (picked path : List ℕ) : Type 0 where
-  pub in_time : length picked < rounds net
-  pub new : Contains picked g → ⊥
-  pub longer : path ≡ picked ++ g ∷ []
-  pub outside : Contains path to → ⊥
 
 -- the chain goes to this receiver, has an order below n, and g has to send it
 abbrev pub IsDueBelow : Network → ℕ → List (Option (List ℕ)) → ℕ → ℕ → Outgoing → Type 0
