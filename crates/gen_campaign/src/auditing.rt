@@ -1,41 +1,18 @@
 //! The audit of a campaign.
 ghost use Rattle.std.specs.Prelude.{◌≡◌, [], true, IfErr, IfOk, map};
-ghost use Rattle.std.specs.List.{AllZip};
 ghost use Rattle.gen_convict.specs.AcrossLaws.{AreConvictedAcross, AreEvidenceAcross, ConvictsAcrossWhereHeld};
 ghost use Rattle.gen_convict.specs.Evidence.{told_of};
 ghost use Rattle.gen_audit.specs.Faults.{IsFaultBy};
-ghost use Rattle.gen_audit.specs.Telling.{AreReports};
 ghost use Rattle.gen_campaign.specs.Judged.{AreJudged, shown_bundles};
 
 use crate::campaigns::CampaignBundle;
 use crate::judging::judge_campaign;
 use crate::lists::keep;
 use crate::verdicts::CampaignVerdict;
-use gen_audit::{AuditFault, Bundle, JobGate, WorkerCount, reports_by_workers};
-use gen_local::LocalReport;
+use gen_audit::{AuditFault, JobGate, WorkerCount, reports_by_workers};
 use std::alloc::Global;
 use std::sync::Wait;
 use std::thread::Threads;
-
-/// Returns for each bundle the reports on all its exhibits, in their order, made by this number of workers.
-fn reports_by_threads<R: Threads + Wait + Sync, G: JobGate + Sync>(
-    rt: &R,
-    alloc: Global,
-    bundles: &[Bundle],
-    workers: WorkerCount,
-    gate: &G,
-) -> Result<Vec<Vec<LocalReport>>, AuditFault>
-    ensures reports { IfOk result (λ seen. AllZip AreReports bundles.now (map (λ v. v.items) seen.items)) }
-    ensures fault { IfErr result (IsFaultBy workers) }
-{
-    let mut seen = Vec::with_capacity(alloc, bundles.len())?;
-    for bundle in bundles {
-        let (header, exhibits) = (bundle.header(), bundle.exhibits());
-        let reports = reports_by_workers(rt, alloc, header, exhibits, workers, gate)?;
-        keep(&mut seen, reports)?;
-    }
-    Ok(seen)
-}
 
 /// Returns the verdict on a campaign. For each run it has the judgement on the run's bundle alone, as
 /// `audit` of `gen_audit` makes it, in the order of the runs. It also has the evidence that the exhibits
@@ -73,6 +50,12 @@ pub fn audit_campaign<R: Threads + Wait + Sync, G: JobGate + Sync>(
     // Only an audit by several workers answers that a thread could not be started.
     ensures fault { IfErr result (IsFaultBy workers) }
 {
-    let seen = reports_by_threads(rt, alloc, campaign.bundles(), workers, gate)?;
+    let bundles = campaign.bundles();
+    let mut seen = Vec::with_capacity(alloc, bundles.len())?;
+    for bundle in bundles {
+        let (header, exhibits) = (bundle.header(), bundle.exhibits());
+        let reports = reports_by_workers(rt, alloc, header, exhibits, workers, gate)?;
+        keep(&mut seen, reports)?;
+    }
     Ok(judge_campaign(alloc, campaign, seen.as_slice())?)
 }

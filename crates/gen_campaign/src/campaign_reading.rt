@@ -1,7 +1,6 @@
 //! Reading what is shown of campaigns from bytes.
 ghost use Rattle.std.specs.Arc.{arc_slice_items};
-ghost use Rattle.std.specs.Prelude.{◌≡◌, [], IfOk, Ok, length};
-ghost use Rattle.gen_types.specs.Reading.{Gives};
+ghost use Rattle.std.specs.Prelude.{◌≡◌, IfOk, Ok, length};
 ghost use Rattle.gen_types.specs.Spelled.{IsRead, IsField, Spells};
 ghost use Rattle.gen_audit.specs.Ends.{IsEndOf};
 ghost use Rattle.gen_campaign.specs.Campaign.{CampaignBundle as Told, IsCampaign};
@@ -73,26 +72,6 @@ fn read_run<'a>(
     Ok((bundle, rest))
 }
 
-/// Reads this many runs. Returns them and the bytes after the last.
-fn read_runs<'a>(
-    alloc: Global,
-    input: &ArcSlice<u8>,
-    count: u8,
-    bytes: &'a [u8],
-) -> Result<(Vec<Bundle>, &'a [u8]), ReadError<CampaignFault>>
-    requires { IsEndOf (arc_slice_items input.now) bytes.now }
-    ensures { Gives (λ x. (x.0.items, x.1.now)) result (reading.runs_at [] count bytes.now) }
-{
-    let mut runs = Vec::new(alloc);
-    let mut rest = bytes;
-    for place in 0..count {
-        let (run, after) = read_run(alloc, input, runs.as_slice(), place, rest)?;
-        runs.push(run)?;
-        rest = after;
-    }
-    Ok((runs, rest))
-}
-
 /// Reads the number of runs, and then the runs. Returns what they show of a campaign, and the bytes after
 /// them.
 #[tactic(auto, unfolding(crate::specs::CampaignReading::several_at))]
@@ -104,9 +83,14 @@ fn read_several<'a>(
     requires { IsEndOf (arc_slice_items input.now) bytes.now }
     ensures { IsField result (reading.several_at bytes.now) }
 {
-    let (count, rest) = u8_at(bytes, CampaignFault::NoCount)?;
+    let (count, mut rest) = u8_at(bytes, CampaignFault::NoCount)?;
     check(is_run_count(usize::from(count)), CampaignFault::RunCount)?;
-    let (bundles, rest) = read_runs(alloc, input, count, rest)?;
+    let mut bundles = Vec::new(alloc);
+    for place in 0..count {
+        let (bundle, after) = read_run(alloc, input, bundles.as_slice(), place, rest)?;
+        bundles.push(bundle)?;
+        rest = after;
+    }
     let campaign = CampaignBundle {
         alone: false,
         bundles,

@@ -1,5 +1,5 @@
 //! Reading campaigns from texts.
-ghost use Rattle.std.specs.Prelude.{◌≡◌, List, [], All, IfOk, Ok};
+ghost use Rattle.std.specs.Prelude.{◌≡◌, List, All, IfOk, Ok};
 ghost use Rattle.gen_types.specs.Reading.{Gives};
 ghost use Rattle.gen_types.specs.Spelled.{IsRead};
 ghost use Rattle.gen_scenario.specs.Scenario.{Scenario, IsScenario};
@@ -7,11 +7,9 @@ ghost use Rattle.gen_campaign.specs.CampaignMaking.{TextsMakeCampaigns};
 ghost use Rattle.gen_campaign.specs.CampaignText.{OneCampaignText, SpellsCampaignText};
 ghost use Rattle.gen_campaign.specs.CampaignTextReading.{
   campaign_text_of,
-  later_slot_at,
   like_plain_at,
   like_seed_at,
   text_at,
-  texts_at,
 };
 
 use crate::campaigns::is_run_count;
@@ -61,29 +59,10 @@ fn read_like_seed<'a>(
     Ok((master, after))
 }
 
-/// Tests that the line of a slot stands here, and that its slot is greater than those of these texts. The
-/// fault is `Shape` if the line is absent, and `Unlike` if the slot is not greater.
-#[tactic(auto, unfolding(crate::specs::CampaignTextReading::later_slot_at))]
-fn check_slot(
-    alloc: Global,
-    before: &[SignedPlan],
-    start: &Cursor<'_>,
-) -> Result<(), ReadError<ScenarioFault>>
-    ensures { IsRead result (later_slot_at before.now start.now) }
-{
-    let (slot, _behind) = read_slot(alloc, start.copy())?;
-    let Some(slot) = slot else {
-        return Err(LineFault::Shape.refused(start.line()));
-    };
-    if !come_before(before, slot) {
-        return Err(LineFault::Unlike.refused(start.line()));
-    }
-    Ok(())
-}
-
 /// Reads a scenario text behind these texts. Returns the scenario, and the cursor behind the last line of
-/// its text.
-#[tactic(auto, unfolding(crate::specs::CampaignTextReading::text_at))]
+/// its text. The fault is `Shape` at the line of the slot if that is absent, and `Unlike` there if the slot is not greater
+/// than those of the texts before.
+#[tactic(auto, unfolding(crate::specs::CampaignTextReading::text_at, crate::specs::CampaignTextReading::later_slot_at))]
 fn read_text<'a>(
     alloc: Global,
     before: &[SignedPlan],
@@ -94,31 +73,18 @@ fn read_text<'a>(
 {
     let (plain, rest) = read_like_plain(alloc, before, start)?;
     let (master, rest) = read_like_seed(alloc, before, rest)?;
-    check_slot(alloc, before, &rest)?;
+    let line = rest.line();
+    let (slot, _behind) = read_slot(alloc, rest.copy())?;
+    let Some(slot) = slot else {
+        return Err(LineFault::Shape.refused(line));
+    };
+    if !come_before(before, slot) {
+        return Err(LineFault::Unlike.refused(line));
+    }
     let (signed, after) = read_signed(alloc, plain, master, rest)?;
     // This read of the scenario makes known to the proof what holds of each scenario.
     let _scripts = signed.scripts();
     Ok((signed, after))
-}
-
-/// Reads this many scenario texts, one after another. Returns the scenarios, and the cursor behind the
-/// last text.
-fn read_texts<'a>(
-    alloc: Global,
-    count: u8,
-    start: Cursor<'a>,
-) -> Result<(Vec<SignedPlan>, Cursor<'a>), ReadError<ScenarioFault>>
-    ensures exact { Gives (λ x. (x.0.items, x.1)) result (texts_at [] count start.entry) }
-    ensures lawful { IfOk result (λ x. All IsScenario x.0.items) }
-{
-    let mut plans = Vec::new(alloc);
-    let mut cursor = start;
-    for _place in 0..count {
-        let (plan, after) = read_text(alloc, plans.as_slice(), &cursor)?;
-        plans.push(plan)?;
-        cursor = after;
-    }
-    Ok((plans, cursor))
 }
 
 /// Reads the text of a campaign line by line.
@@ -127,13 +93,18 @@ fn whole(alloc: Global, text: &[u8]) -> Result<Vec<SignedPlan>, ReadError<Scenar
     ensures exact { Gives (λ v. v.items) result (campaign_text_of text.now) }
     ensures lawful { IfOk result (λ v. All IsScenario v.items) }
 {
-    let (count, rest) = Cursor::start(text).numbered(alloc, b"campaign")?;
+    let (count, mut cursor) = Cursor::start(text).numbered(alloc, b"campaign")?;
     if !is_run_count(usize::from(count.value)) {
         return Err(LineFault::RunCount.refused(count.line));
     }
-    let (plans, rest) = read_texts(alloc, count.value, rest)?;
-    if !rest.is_over() {
-        return Err(LineFault::Extra.refused(rest.line()));
+    let mut plans = Vec::new(alloc);
+    for _place in 0..count.value {
+        let (plan, after) = read_text(alloc, plans.as_slice(), &cursor)?;
+        plans.push(plan)?;
+        cursor = after;
+    }
+    if !cursor.is_over() {
+        return Err(LineFault::Extra.refused(cursor.line()));
     }
     Ok(plans)
 }

@@ -9,39 +9,10 @@ ghost use Rattle.gen_campaign.specs.Judged.{AreJudged, shown_bundles};
 use crate::campaigns::CampaignBundle;
 use crate::laws::other_slots_convict_nobody;
 use crate::verdicts::CampaignVerdict;
-use gen_audit::{Bundle, Judgement, judge_reports};
+use gen_audit::judge_reports;
 use gen_convict::find_across;
 use gen_local::LocalReport;
-use gen_net::Header;
 use std::alloc::{AllocError, Global};
-
-/// Returns the judgements on the bundles, whose exhibits have these reports, in their order.
-fn judge_bundles(
-    alloc: Global,
-    bundles: &[Bundle],
-    seen: &[Vec<LocalReport>],
-) -> Result<Vec<Judgement>, AllocError>
-    requires { AllZip AreReports bundles.now (map (λ v. v.items) seen.now) }
-    ensures { IfOk result (λ judgements. AreJudged bundles.now judgements.items) }
-{
-    let mut judgements = Vec::with_capacity(alloc, bundles.len())?;
-    'runs: for place in 0..bundles.len() {
-        let judgement = judge_reports(alloc, &bundles[place], seen[place].as_slice())?;
-        judgements.push(judgement)?;
-    }
-    Ok(judgements)
-}
-
-/// Returns copies of the bundles' headers, in their order.
-fn headers_of(alloc: Global, bundles: &[Bundle]) -> Result<Vec<Header>, AllocError>
-    ensures { IfOk result (λ headers. headers.items ≡ map (λ b. b.header) bundles.now) }
-{
-    let mut headers = Vec::new(alloc);
-    'bundles: for bundle in bundles {
-        headers.push(bundle.header().clone()?)?;
-    }
-    Ok(headers)
-}
 
 /// Returns the verdict on a campaign, with these reports on the exhibits of its bundles. The clauses are
 /// those of `audit_campaign`.
@@ -61,8 +32,15 @@ pub fn judge_campaign(
 {
     other_slots_convict_nobody();
     let bundles = campaign.bundles();
-    let judgements = judge_bundles(alloc, bundles, seen)?;
-    let headers = headers_of(alloc, bundles)?;
+    let mut judgements = Vec::with_capacity(alloc, bundles.len())?;
+    'runs: for place in 0..bundles.len() {
+        let judgement = judge_reports(alloc, &bundles[place], seen[place].as_slice())?;
+        judgements.push(judgement)?;
+    }
+    let mut headers = Vec::new(alloc);
+    for bundle in bundles {
+        headers.push(bundle.header().clone()?)?;
+    }
     let across = find_across(alloc, headers.as_slice(), seen)?;
     Ok(CampaignVerdict { judgements, across })
 }

@@ -29,24 +29,18 @@ impl Model for Campaign {
     ghost invariant = { λ c. campaign_of c.scenarios.items ≡ Ok c.scenarios.items };
 }
 
-/// Whether a scenario is of version 2 and has the same number of generals and the same master seed as the
-/// first.
-fn is_like_first(first: &Scenario, scenario: &Scenario) -> bool
-    ensures { result ≡ is_like first.now scenario.now }
-{
-    let (one, other) = (scenario.plan(), first.plan());
-    matches!(one.version(), Version::Two { .. })
-        && one.net().generals() == other.net().generals()
-        && one.master() == other.master()
-}
-
-/// Whether all scenarios are like the first, which is given.
+/// Whether all scenarios are of version 2 and have the same number of generals and the same master seed as the first,
+/// which is given.
 fn are_all_like(first: &Scenario, scenarios: &[Scenario]) -> bool
     ensures { result ≡ list_all (is_like first.now) scenarios.now }
 {
-    scenarios
-        .iter()
-        .all(|scenario| is_like_first(first, scenario))
+    let other = first.plan();
+    scenarios.iter().all(|scenario| {
+        let one = scenario.plan();
+        matches!(one.version(), Version::Two { .. })
+            && one.net().generals() == other.net().generals()
+            && one.master() == other.master()
+    })
 }
 
 /// Whether all scenarios are like the first of them.

@@ -19,23 +19,14 @@ pub struct CampaignVerdict {
     pub across: Vec<Evidence>,
 }
 
-/// Whether a verdict is a yes.
-fn says_yes(verdict: &Verdict) -> bool
-    ensures { result ≡ says_yes verdict.now }
-{
-    match verdict {
-        Verdict::Agreed(_) | Verdict::Explained(_) => true,
-        Verdict::No(_) => false,
-    }
-}
-
 /// Whether the verdict of each judgement is a yes.
 fn all_say_yes(judgements: &[Judgement]) -> bool
     ensures { result ≡ list_all (λ j. says_yes j.verdict) judgements.now }
 {
-    judgements
-        .iter()
-        .all(|judgement| says_yes(&judgement.verdict))
+    judgements.iter().all(|judgement| match judgement.verdict {
+        Verdict::Agreed(_) | Verdict::Explained(_) => true,
+        Verdict::No(_) => false,
+    })
 }
 
 impl CampaignVerdict {

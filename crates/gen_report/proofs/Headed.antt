@@ -1,11 +1,10 @@
 -- What was appended first, and what was appended behind it.
-use Rattle.std.proofs.Common.{◌≡◌, ℕ, List, ◌++◌, ap, ◌∙◌, append_assoc}
-use Rattle.std.specs.Prelude.{Result, OnOk}
-use Rattle.std.proofs.lemmas.Result.{on_ok_weaker}
+use Rattle.std.proofs.Common.{◌≡◌, ◌≤◌, ℕ, List, ◌++◌, length, take, ap, ◌∙◌, append_assoc}
+use Rattle.std.specs.List.{flat_map}
+use Rattle.std.proofs.lemmas.List.{take_all}
 
-headed : (out mid old head more : List ℕ) → mid ≡ old ++ head → out ≡ mid ++ more → out ≡ old ++ (head ++ more)
-headed out mid old head more p q = q ∙ ap (λ (m : List ℕ). m ++ more) p ∙ append_assoc old head more
-
--- a heading, and behind it the rest of what is appended
-pub behind_heading : {T E : Type 0} (r : Result T E) (out mid old head given more : List ℕ) → given ≡ more → mid ≡ old ++ head → OnOk r (out ≡ mid ++ given) → OnOk r (out ≡ old ++ (head ++ more))
-behind_heading r out mid old head given more is first then = on_ok_weaker r (λ e. headed out mid old head more first (e ∙ ap (λ (xs : List ℕ). mid ++ xs) is)) then
+-- a heading, and behind it a line for each member of a list
+pub all_behind : {X : Type 0} (line : X → List ℕ) (out mid old head : List ℕ) (i : ℕ) (xs given : List X) → length xs ≤ i → xs ≡ given → mid ≡ old ++ head → out ≡ mid ++ flat_map line (take i xs) → out ≡ old ++ (head ++ flat_map line given)
+all_behind line out mid old head i xs given ends is first behind =
+    behind ∙ ap (λ m. m ++ flat_map line (take i xs)) first ∙ append_assoc old head (flat_map line (take i xs))
+    ∙ ap (λ ys. old ++ (head ++ flat_map line ys)) (take_all i xs ends ∙ is)

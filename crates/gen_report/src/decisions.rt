@@ -1,6 +1,6 @@
 //! Prints decisions as text.
 ghost use Rattle.std.specs.Prelude.{◌≡◌, ◌++◌, OnOk, IfOk, string_bytes};
-ghost use Rattle.gen_report.specs.Decisions.{listed, decision_line, decisions_text};
+ghost use Rattle.gen_report.specs.Decisions.{listed, decisions_text};
 
 use gen_scenario::Decision;
 use gen_types::OrderSet;
@@ -23,25 +23,17 @@ fn push_orders(out: &mut String, orders: OrderSet) -> Result<(), AllocError>
     Ok(())
 }
 
-/// Appends the line of a decision.
-fn push_decision(out: &mut String, decision: &Decision) -> Result<(), AllocError>
-    ensures { OnOk result
-        (string_bytes out.new ≡ string_bytes out.old ++ decision_line decision.now) }
-{
-    let general = decision.general.get();
-    let order = decision.order.get();
-    write!(out, "general {general} set ")?;
-    push_orders(out, decision.orders)?;
-    write!(out, " decides {order}\n")
-}
-
 /// Returns the text of decisions: for each a line `general G set 0,1 decides V`, with `-` for the empty set.
 pub fn print_decisions(alloc: Global, decisions: &[Decision]) -> Result<Vec<u8>, AllocError>
     ensures { IfOk result (λ v. v.items ≡ decisions_text decisions.now) }
 {
     let mut out = String::new(alloc);
     for decision in decisions {
-        push_decision(&mut out, decision)?;
+        let general = decision.general.get();
+        let order = decision.order.get();
+        write!(out, "general {general} set ")?;
+        push_orders(&mut out, decision.orders)?;
+        write!(out, " decides {order}\n")?;
     }
     Ok(out.into_bytes())
 }

@@ -1,22 +1,11 @@
 //! Prints findings as text.
 ghost use Rattle.std.specs.Prelude.{◌≡◌, ◌++◌, OnOk, string_bytes};
-ghost use Rattle.gen_report.specs.Findings.{log_fault_name, message_named, finding_named};
+ghost use Rattle.gen_report.specs.Findings.{message_named, finding_named};
 
 use gen_log::LogFault;
 use gen_match::Finding;
 use gen_types::{GeneralNo, OrderNo};
 use std::alloc::AllocError;
-
-/// Appends the name of a log's fault, and, if that is a chain's fault, the name of the chain's fault behind it.
-fn push_log_fault(out: &mut String, fault: LogFault) -> Result<(), AllocError>
-    ensures { OnOk result (string_bytes out.new ≡ string_bytes out.old ++ log_fault_name fault) }
-{
-    let (of_log, of_chain) = fault.numbers();
-    match fault {
-        LogFault::Chain(_) => write!(out, "L{of_log} C{of_chain}"),
-        _ => write!(out, "L{of_log}"),
-    }
-}
 
 /// Appends the name of a finding's kind, and the message that it is about: sender, receiver, round and order.
 fn push_message(
@@ -52,7 +41,11 @@ pub fn push_finding_name(out: &mut String, finding: &Finding) -> Result<(), Allo
         Finding::Several { general } => write!(out, "N2 general {}", general.get()),
         Finding::Unreadable { general, fault } => {
             write!(out, "N3 general {} ", general.get())?;
-            push_log_fault(out, fault)
+            let (of_log, of_chain) = fault.numbers();
+            match fault {
+                LogFault::Chain(_) => write!(out, "L{of_log} C{of_chain}"),
+                _ => write!(out, "L{of_log}"),
+            }
         }
         Finding::Foreign { general } => write!(out, "N4 general {}", general.get()),
         Finding::Unsigned { general, entry } => {

@@ -4,7 +4,6 @@ ghost use Rattle.gen_types.specs.Reading.{Gives};
 ghost use Rattle.gen_types.specs.Spelled.{IsRead};
 ghost use Rattle.gen_net.specs.NetworkOf.{network_of};
 ghost use Rattle.gen_report.specs.Cursor.{start_of};
-ghost use Rattle.gen_report.specs.EdgeReading.{edge_lines_at};
 ghost use Rattle.gen_report.specs.NumbersReading.{
   opening_at,
   settings_at,
@@ -13,55 +12,13 @@ ghost use Rattle.gen_report.specs.NumbersReading.{
   plain_at,
 };
 
-use crate::cursor::{Cursor, Line};
+use crate::cursor::Cursor;
 use crate::fault::{LineFault, ScenarioFault};
 use crate::lines::{edge_in, number_behind};
 use gen_net::{Net, NetNumbers};
 use gen_scenario::PlainScenario;
 use gen_types::{OrderNo, ReadError};
 use std::alloc::Global;
-
-/// The edges of some lines, the first line after them, and the cursor behind that line.
-#[derive(Drop)]
-struct EdgeLines<'a> {
-    found: Vec<(u8, u8)>,
-    next: Line<'a>,
-    after: Cursor<'a>,
-}
-
-/// Reads the lines of edges from here on, and returns their edges, the first line that is no line of an edge, and the
-/// cursor behind that line.
-fn edge_lines<'a>(
-    alloc: Global,
-    start: Cursor<'a>,
-) -> Result<EdgeLines<'a>, ReadError<ScenarioFault>>
-    ensures { Gives (λ e. record {
-      found = e.found.items;
-      next = record {
-        number = e.next.number;
-        bytes = e.next.bytes.now;
-        fields = map (λ f. f.now) e.next.fields.items;
-      };
-      after = e.after;
-    }) result (edge_lines_at start.entry.line start.entry.parts) }
-{
-    let mut found = Vec::new(alloc);
-    let mut cursor = start;
-    'lines: loop {
-        let (line, after) = cursor.next_line(alloc)?;
-        match edge_in(&line.fields, line.number)? {
-            None => {
-                return Ok(EdgeLines {
-                    found,
-                    next: line,
-                    after,
-                });
-            }
-            Some(edge) => found.push(edge)?,
-        }
-        cursor = after;
-    }
-}
 
 /// What the lines of a network up to that of the traitors say, and the cursor after them.
 #[derive(Drop)]
@@ -105,16 +62,24 @@ fn read_opening<'a>(
       after = o.after;
     }) result (opening_at start.now) }
 {
-    let (generals, rest) = start.numbered(alloc, b"generals")?;
-    let edges = edge_lines(alloc, rest)?;
-    let next = &edges.next;
-    let traitors = number_behind(&next.fields, b"traitors", next.number)?;
-    Ok(NetOpening {
-        generals: generals.value,
-        edges: edges.found,
-        traitors,
-        after: edges.after,
-    })
+    let (generals, mut cursor) = start.numbered(alloc, b"generals")?;
+    let mut edges = Vec::new(alloc);
+    'lines: loop {
+        let (line, after) = cursor.next_line(alloc)?;
+        match edge_in(&line.fields, line.number)? {
+            None => {
+                let traitors = number_behind(&line.fields, b"traitors", line.number)?;
+                return Ok(NetOpening {
+                    generals: generals.value,
+                    edges,
+                    traitors,
+                    after,
+                });
+            }
+            Some(edge) => edges.push(edge)?,
+        }
+        cursor = after;
+    }
 }
 
 /// What the three lines of a network after that of the traitors say.

@@ -3,7 +3,7 @@ ghost use Rattle.std.specs.Prelude.{◌≡◌, ◌<◌, map, IfOk, Ok};
 ghost use Rattle.gen_types.specs.Spelled.{IsRead};
 ghost use Rattle.gen_net.specs.Network.{IsNetwork};
 ghost use Rattle.gen_report.specs.Told.{net_of};
-ghost use Rattle.gen_report.specs.ScenarioReading.{end_in, end_at, signed_at, told_at, scenario_of};
+ghost use Rattle.gen_report.specs.ScenarioReading.{end_in, signed_at, told_at, scenario_of};
 ghost use Rattle.gen_report.specs.Scenario.{OneScenario, SpellsScenario};
 ghost use Rattle.gen_report.specs.declared.scenario_text.ScenarioText.{ScenarioText as Told};
 
@@ -27,16 +27,6 @@ fn end_in(fields: &[&[u8]], line: usize) -> Result<(), ReadError<ScenarioFault>>
         [word, _] if *word == b"script".as_slice() => Err(LineFault::Unseeded.refused(line)),
         _ => Err(LineFault::Shape.refused(line)),
     }
-}
-
-/// Returns the cursor after the last line of a text without a seed, which begins here.
-#[tactic(auto, unfolding(crate::specs::ScenarioReading::end_at))]
-fn read_end<'a>(alloc: Global, start: &Cursor<'a>) -> Result<Cursor<'a>, ReadError<ScenarioFault>>
-    ensures { IsRead result (end_at start.now) }
-{
-    let (line, after) = start.next_line(alloc)?;
-    end_in(&line.fields, line.number)?;
-    Ok(after)
 }
 
 /// Returns the scenario with this network, this order and this seed whose other lines begin here, from that of its slot
@@ -65,7 +55,7 @@ pub fn read_signed<'a>(
 }
 
 /// Returns what a text with or without this seed says from here on, and the cursor after its last line.
-#[tactic(auto, unfolding(crate::specs::ScenarioReading::told_at))]
+#[tactic(auto, unfolding(crate::specs::ScenarioReading::told_at, crate::specs::ScenarioReading::end_at))]
 fn read_told<'a>(
     alloc: Global,
     plain: PlainScenario,
@@ -76,7 +66,8 @@ fn read_told<'a>(
 {
     match seed {
         None => {
-            let after = read_end(alloc, &start)?;
+            let (line, after) = start.next_line(alloc)?;
+            end_in(&line.fields, line.number)?;
             Ok((ScenarioText::Plain(plain), after))
         }
         Some(master) => {

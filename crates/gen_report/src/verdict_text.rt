@@ -2,41 +2,13 @@
 ghost use Rattle.std.specs.Prelude.{◌≡◌, ◌++◌, OnOk, IfOk, map, string_bytes};
 ghost use Rattle.std.specs.List.{flat_map};
 ghost use Rattle.gen_convict.specs.Evidence.{told_of};
-ghost use Rattle.gen_report.specs.Findings.{finding_line};
-ghost use Rattle.gen_report.specs.VerdictText.{decided_line, answer_lines, convicted_line, verdict_text};
+ghost use Rattle.gen_report.specs.VerdictText.{answer_lines, convicted_line, verdict_text};
 
 use crate::findings::push_finding_name;
 use gen_audit::{Judgement, Verdict};
 use gen_convict::Evidence;
-use gen_match::Finding;
 use gen_net::Header;
-use gen_scenario::Decision;
 use std::alloc::{AllocError, Global};
-
-/// Appends the lines that say what generals decided.
-fn push_all_decided(out: &mut String, decisions: &[Decision]) -> Result<(), AllocError>
-    ensures { OnOk result (string_bytes out.new
-        ≡ string_bytes out.old ++ flat_map decided_line decisions.now) }
-{
-    for decision in decisions {
-        let general = decision.general.get();
-        let order = decision.order.get();
-        write!(out, "general {general} decides {order}\n")?;
-    }
-    Ok(())
-}
-
-/// Appends the lines of findings.
-fn push_findings(out: &mut String, findings: &[Finding]) -> Result<(), AllocError>
-    ensures { OnOk result (string_bytes out.new
-        ≡ string_bytes out.old ++ flat_map finding_line findings.now) }
-{
-    for finding in findings {
-        push_finding_name(out, finding)?;
-        out.push_str("\n")?;
-    }
-    Ok(())
-}
 
 /// Appends the line of the verdict, and those of its decisions or findings.
 fn push_answer(out: &mut String, verdict: &Verdict) -> Result<(), AllocError>
@@ -48,13 +20,24 @@ fn push_answer(out: &mut String, verdict: &Verdict) -> Result<(), AllocError>
             let order = order.get();
             write!(out, "verdict agreed {order}\n")
         }
-        Verdict::Explained(decisions) => {
+        Verdict::Explained(told) => {
+            let decisions = told.as_slice();
             out.push_str("verdict explained\n")?;
-            push_all_decided(out, decisions.as_slice())
+            for decision in decisions {
+                let general = decision.general.get();
+                let order = decision.order.get();
+                write!(out, "general {general} decides {order}\n")?;
+            }
+            Ok(())
         }
-        Verdict::No(findings) => {
+        Verdict::No(found) => {
+            let findings = found.as_slice();
             out.push_str("verdict no\n")?;
-            push_findings(out, findings.as_slice())
+            for finding in findings {
+                push_finding_name(out, finding)?;
+                out.push_str("\n")?;
+            }
+            Ok(())
         }
     }
 }
