@@ -1,5 +1,6 @@
 -- Looking through what was heard, one chain after another.
 use Rattle.std.proofs.Common.{◌≡◌, ◌&&◌, ℕ, Bool, true, false, List, [], ◌∷◌, refl, sym, subst, ◌∙◌, eqb, Some, None, inl, inr, length, Contains}
+use Rattle.std.proofs.lemmas.Bool.{eqb-true}
 use Rattle.gen_types.proofs.Lists.{Contains_here, Contains_there, bool_cases}
 use Rattle.gen_chain.specs.Chain.{signed_path}
 use Rattle.gen_scenario.specs.declared.heard.Heard.{Heard}
@@ -32,6 +33,19 @@ found_later round from order xs others x e other = rw (e, other) refl
 pub found_nowhere : (round from order : ℕ) (xs : List Heard) → xs ≡ [] → heard_from round from order xs ≡ None
 unfolding heard_from
 found_nowhere round from order xs e = rw e refl
+
+-- where one of the three differs, it is another chain
+pub came_not : (round from order : ℕ) (x : Heard) → (eqb x.from from ≡ true → eqb x.chain.order order ≡ true → length (signed_path x.chain.signers) ≡ round → ⊥) → has_come round from order x ≡ false
+came_not round from order x differs = elim (bool_cases (eqb x.from from)) [
+  | inr other ↦ rw other refl
+  | inl same ↦ elim (bool_cases (eqb x.chain.order order)) [
+    | inr other ↦ rw (same, other) refl
+    | inl alike ↦ elim (bool_cases (eqb (length (signed_path x.chain.signers)) round)) [
+      | inr other ↦ rw (same, alike, other) refl
+      | inl long ↦ absurd (differs same alike (eqb-true _ _ long))
+    ]
+  ]
+]
 
 -- what is found stands there
 pub found_stands : (round from order : ℕ) (xs : List Heard) (x : Heard) → heard_from round from order xs ≡ Some x → Contains xs x

@@ -13,7 +13,7 @@ use Rattle.gen_general.specs.Following.{round_signed, IsOthers, AreOthers}
 use Rattle.gen_scenario.specs.Part.{Part, IsPart, own_keys}
 use Rattle.gen_general.specs.Participant.{MayStart, keys_at}
 use Rattle.gen_general.specs.Loops.Acting.{Follower, IsHand, IsFree, HasSignedIt, HasScript, HasPlanned}
-use Rattle.gen_general.specs.Loops.Roles.{ring_of, role_frame, role_sends, role_signs, IsStart, IsRole, MayBegin, RoleBegan, IsParticipant}
+use Rattle.gen_general.specs.Loops.Roles.{ring_of, role_chains, role_frame, IsStart, IsRole, MayBegin, RoleBegan, IsParticipant}
 use Rattle.std.specs.Prelude.{option_map, filter, false, eqb}
 use Rattle.std.specs.List.{range_with_len, flat_map}
 use Rattle.std.proofs.lemmas.Bool.{eqb-true}
@@ -142,14 +142,14 @@ role_frames k heard before round to (Scripted planned) ok =
 -- ---- chains
 
 pub role_signs_are : (k : Part) (heard before : List Heard) (round : ℕ) (role : Role) → IsRole k heard before round role
-    → role_signs role ≡ signs_by (record { keys = keys_at k (ring_of role); me = k.me; own = k.own; script = k.script }) k.script before round
+    → role_chains role None ≡ signs_by (record { keys = keys_at k (ring_of role); me = k.me; own = k.own; script = k.script }) k.script before round
 role_signs_are k heard before round (Loyal hand) ok = rw (ok.unscripted, ok.signed) refl
 role_signs_are k heard before round (Scripted planned) ok =
     let lines = ok.0.0 in
     rw (ok.0.1, ok.1 lines ok.0.1) (plans_signs (record { keys = keys_with k.header k.trees; me = k.me; own = k.own; script = Some lines }) lines before round)
 
 pub role_sends_are : (k : Part) (heard before : List Heard) (round to : ℕ) (role : Role) → IsRole k heard before round role
-    → role_sends role to ≡ sends_by (record { keys = keys_at k (ring_of role); me = k.me; own = k.own; script = k.script }) k.script before round to
+    → role_chains role (Some to) ≡ sends_by (record { keys = keys_at k (ring_of role); me = k.me; own = k.own; script = k.script }) k.script before round to
 role_sends_are k heard before round to (Loyal hand) ok = rw (ok.unscripted, ok.signed) refl
 role_sends_are k heard before round to (Scripted planned) ok =
     let lines = ok.0.0 in

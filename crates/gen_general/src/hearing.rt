@@ -1,6 +1,5 @@
 //! Finding a chain among what a general heard.
-ghost use Rattle.std.specs.Prelude.{◌≡◌, option_map, ◌==◌, ◌&&◌, length};
-ghost use Rattle.gen_chain.specs.Chain.{signed_path};
+ghost use Rattle.std.specs.Prelude.{◌≡◌, option_map};
 ghost use Rattle.gen_scenario.specs.Heard.{first_of, heard_from};
 
 use gen_scenario::Heard;
@@ -20,14 +19,6 @@ pub(crate) fn first_heard(order: OrderNo, heard: &[Heard]) -> Option<&Heard>
     None
 }
 
-/// Whether it is a chain of this order that came from this sender in this round.
-fn came(x: &Heard, round: u8, from: GeneralNo, order: OrderNo) -> bool
-    ensures { result ≡ (x.now.from == from
-        && (x.now.chain.order == order && length (signed_path x.now.chain.signers) == round)) }
-{
-    x.from == from && (x.chain.order() == order && x.chain.path().len() == usize::from(round))
-}
-
 /// Returns the first chain of an order that came from a sender in a round.
 pub(crate) fn find_heard(
     round: u8,
@@ -39,7 +30,8 @@ pub(crate) fn find_heard(
 {
     let mut rest = heard;
     'rest: while let Some((x, others)) = rest.split_first() {
-        if came(x, round, from, order) {
+        let in_round = x.chain.path().len() == usize::from(round);
+        if x.from == from && x.chain.order() == order && in_round {
             return Some(x);
         }
         rest = others;

@@ -1,17 +1,16 @@
 //! What a general does in a round, which depends on whether it has a script.
-ghost use Rattle.std.specs.Prelude.{◌≡◌, Some, option_map, IfOk, OnOk, OnErr};
+ghost use Rattle.std.specs.Prelude.{◌≡◌, Some, option_map, OnOk, OnErr};
 ghost use Rattle.gen_general.specs.Following.{AreOthers};
 ghost use Rattle.gen_general.specs.Loops.Journals.{chain_with};
-ghost use Rattle.gen_general.specs.Loops.Roles.{ring_of, role_frame, role_sends, role_signs, IsStart, MayBegin, RoleBegan};
+ghost use Rattle.gen_general.specs.Loops.Roles.{ring_of, role_chains, IsStart, MayBegin, RoleBegan};
 
 use crate::followers::Follower;
-use crate::following::{frame_of_chains, sign_round};
-use crate::journal_entries::{find_chain, find_outside, find_planned, find_planned_to};
-use crate::scripted::{plan_round, planned_frame};
+use crate::following::sign_round;
+use crate::journal_entries::{find_chain, find_planned};
+use crate::scripted::plan_round;
 use crate::traitors::Traitor;
 use gen_chain::SignedChain;
 use gen_scenario::{Heard, Part};
-use gen_script::Parcel;
 use gen_tree::KeyRing;
 use gen_types::{GeneralNo, OrderNo};
 use std::alloc::{AllocError, Global};
@@ -74,33 +73,14 @@ impl Role {
         }
     }
 
-    /// Returns the frame of this round to a neighbour.
-    pub(crate) fn frame_for(&self, alloc: Global, to: GeneralNo) -> Result<Vec<Parcel>, AllocError>
-        ensures { IfOk result (λ frame. frame.items ≡ role_frame self.now to) }
+    /// Returns the first chain of an order among those that the general sends this neighbour in this round. If
+    /// no neighbour is given, it is the first among those that the general signs.
+    pub(crate) fn first_chain(&self, to: Option<GeneralNo>, order: OrderNo) -> Option<&SignedChain>
+        ensures { option_map (λ c. c.now) result ≡ chain_with order (role_chains self.now to) }
     {
         match self {
-            Role::Loyal(follower) => frame_of_chains(alloc, follower.signed.as_slice(), to),
-            Role::Scripted(traitor) => planned_frame(alloc, traitor.planned.as_slice(), to),
-        }
-    }
-
-    /// Returns the first chain of an order among those that the general signs in this round.
-    pub(crate) fn first_signed(&self, order: OrderNo) -> Option<&SignedChain>
-        ensures { option_map (λ c. c.now) result ≡ chain_with order (role_signs self.now) }
-    {
-        match self {
-            Role::Loyal(follower) => find_chain(order, follower.signed.as_slice()),
-            Role::Scripted(traitor) => find_planned(order, traitor.planned.as_slice()),
-        }
-    }
-
-    /// Returns the first chain of an order among those that the general sends a neighbour in this round.
-    pub(crate) fn first_sent(&self, to: GeneralNo, order: OrderNo) -> Option<&SignedChain>
-        ensures { option_map (λ c. c.now) result ≡ chain_with order (role_sends self.now to) }
-    {
-        match self {
-            Role::Loyal(follower) => find_outside(to, order, follower.signed.as_slice()),
-            Role::Scripted(traitor) => find_planned_to(to, order, traitor.planned.as_slice()),
+            Role::Loyal(follower) => find_chain(to, order, follower.signed.as_slice()),
+            Role::Scripted(traitor) => find_planned(to, order, traitor.planned.as_slice()),
         }
     }
 }

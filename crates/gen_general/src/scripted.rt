@@ -54,20 +54,6 @@ impl Planned {
             Planned::Chain { to, .. } | Planned::Bytes { to, .. } => *to,
         }
     }
-
-    /// Returns the parcel that stands for it in a frame: the bytes of the chain, or the bytes themselves.
-    ///
-    /// # Errors
-    ///
-    /// `AllocError` if memory is refused.
-    fn parcel(&self, alloc: Global) -> Result<Parcel, AllocError>
-        ensures { IfOk result (λ parcel. parcel ≡ bytes_of self.now) }
-    {
-        match self {
-            Planned::Chain { chain, .. } => Ok(Parcel::new(write_chain(alloc, chain)?)),
-            Planned::Bytes { parcel, .. } => parcel.clone(),
-        }
-    }
 }
 
 /// Whether the line sends something in this round.
@@ -247,7 +233,8 @@ pub(crate) fn plan_round(
     Ok(planned)
 }
 
-/// Returns the frame to a neighbour: the parcels of what is planned for that neighbour, in their order.
+/// Returns the frame to a neighbour: the parcels of what is planned for that neighbour, in their order. The
+/// parcel of a chain has the bytes of the chain.
 ///
 /// # Errors
 ///
@@ -261,10 +248,14 @@ pub(crate) fn planned_frame(
 {
     let mut parcels = Vec::new(alloc);
     'planned: for one in planned {
-        if one.to() == to {
-            let parcel = one.parcel(alloc)?;
-            parcels.push(parcel)?;
+        if one.to() != to {
+            continue;
         }
+        let parcel = match one {
+            Planned::Chain { chain, .. } => Parcel::new(write_chain(alloc, chain)?),
+            Planned::Bytes { parcel, .. } => parcel.clone()?,
+        };
+        parcels.push(parcel)?;
     }
     Ok(parcels)
 }

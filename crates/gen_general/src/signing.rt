@@ -4,7 +4,7 @@ ghost use Rattle.std.specs.Prelude.{◌≡◌, ◌≢◌, ◌≤◌, ◌∷◌, 
 ghost use Rattle.gen_types.specs.Ends.{BeginsWith};
 ghost use Rattle.gen_net.specs.Header.{height_of};
 ghost use Rattle.gen_chain.specs.Chain.{IsSignedChain, greatest_order, signed_path};
-ghost use Rattle.gen_chain.specs.Making.{begun, extended};
+ghost use Rattle.gen_chain.specs.Making.{extended};
 ghost use Rattle.gen_scenario.specs.Signing.{lengthened, made, order_key};
 ghost use Rattle.gen_scenario.specs.SignerTrees.{CanSign, CanSignAll, keys_with};
 
@@ -16,28 +16,6 @@ use gen_scenario::SignerTree;
 use gen_tree::KeyRing;
 use gen_types::{GeneralNo, OrderNo, Path};
 use std::alloc::{AllocError, Global};
-
-/// Returns the chain of an order that only the commander has signed.
-fn begin_by(
-    alloc: Global,
-    header: &Header,
-    trees: &[SignerTree],
-    order: OrderNo,
-) -> Result<SignedChain, AllocError>
-    requires order { order ≤ greatest_order }
-    requires commander { CanSign header.now trees.now 0 }
-    ensures chain { IfOk result (λ c.
-        c ≡ begun header.now order (order_key (keys_with header.now trees.now) 0 order)) }
-    ensures height { IfOk result (IsSignedChain (height_of header.now)) }
-{
-    let room = ChainRoom::new(alloc, 1)?;
-    let signature = SigRoom::new(alloc, header.height())?;
-    let mut ring = KeyRing::open(tree_of(header, trees, GeneralNo::commander()))?;
-    let key = ring.take(leaf_of_order(header, order)).unwrap();
-    let chain = begin_chain(header, order, room, signature, key);
-    let _leaves = ring.close();
-    Ok(chain)
-}
 
 /// Returns the chain with the signature of one more general.
 fn lengthen_by(
@@ -116,6 +94,11 @@ pub(crate) fn make_along(
     ensures height { IfOk result (IsSignedChain (height_of header.now)) }
 {
     let _distinct = path.len();
-    let first = begin_by(alloc, header, trees, order)?;
+    let room = ChainRoom::new(alloc, 1)?;
+    let signature = SigRoom::new(alloc, header.height())?;
+    let mut ring = KeyRing::open(tree_of(header, trees, GeneralNo::commander()))?;
+    let key = ring.take(leaf_of_order(header, order)).unwrap();
+    let first = begin_chain(header, order, room, signature, key);
+    let _leaves = ring.close();
     lengthen_along(alloc, header, trees, &first, &path.generals()[1..])
 }
