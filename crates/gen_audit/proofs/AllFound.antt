@@ -12,7 +12,7 @@ use Rattle.gen_match.specs.declared.finding.Finding.TheVariants.{Missing, Severa
 use Rattle.gen_match.specs.Matching.{Logs, FindsUnmatched, FindsUnderivable, IsUnmatched, IsUnderivable}
 use Rattle.gen_match.specs.Reports.{told_logs}
 use Rattle.gen_audit.specs.Bundle.{Bundle, IsOfRest, exhibits_of, logs_of}
-use Rattle.gen_audit.specs.Collecting.{AddsFindings, amount_found, shown_found, FindsRead, FindsBetween, FindsPair, FindsEmpty}
+use Rattle.gen_audit.specs.Collecting.{AddsFindings, amount_found, shown_found, FindsRead, FindsBetween, FindsUnjoined}
 use Rattle.gen_audit.specs.Findings.{IsFinding}
 use Rattle.gen_audit.specs.LocalFindings.{IsLocal, IsReported}
 use Rattle.gen_audit.specs.Telling.{AreReports}
@@ -49,35 +49,22 @@ module _ (b : Bundle) (rest : List ℕ) (of_rest : IsListOf rest (IsOfRest b)) w
 
   -- ---- pairs, and nobody
 
-  pair_is : (f : Finding) → FindsPair b.header.network rest b.walks f → IsFinding b f
-  pair_is (Unjoined a c) is = (rest, of_rest, is)
-  pair_is (Missing g) is = absurd is
-  pair_is (Several g) is = absurd is
-  pair_is (Unreadable g fault) is = absurd is
-  pair_is (Foreign g) is = absurd is
-  pair_is (Unsigned g p) is = absurd is
-  pair_is (Unsealed g) is = absurd is
-  pair_is (Departs g p) is = absurd is
-  pair_is (Unmatched x y l v) is = absurd is
-  pair_is (Underivable x y l v) is = absurd is
-  pair_is Nobody is = absurd is
+  unjoined_is : (f : Finding) → FindsUnjoined b.header.network rest b.walks f → IsFinding b f
+  unjoined_is (Unjoined a c) is = (rest, of_rest, is)
+  unjoined_is Nobody is = λ g h. Contains_nil g (subst (λ xs. Contains xs g) is ((of_rest.members g).1 h))
+  unjoined_is (Missing g) is = absurd is
+  unjoined_is (Several g) is = absurd is
+  unjoined_is (Unreadable g fault) is = absurd is
+  unjoined_is (Foreign g) is = absurd is
+  unjoined_is (Unsigned g p) is = absurd is
+  unjoined_is (Unsealed g) is = absurd is
+  unjoined_is (Departs g p) is = absurd is
+  unjoined_is (Unmatched x y l v) is = absurd is
+  unjoined_is (Underivable x y l v) is = absurd is
 
-  pair_in : (a c : ℕ) → IsFinding b (Unjoined a c) → FindsPair b.header.network rest b.walks (Unjoined a c)
+  pair_in : (a c : ℕ) → IsFinding b (Unjoined a c) → FindsUnjoined b.header.network rest b.walks (Unjoined a c)
   pair_in a c is =
       subst (λ xs. IsLeastBadPair b.header.network xs (Bridges b.header.network xs b.walks) a c) (one_list (IsOfRest b) is.0 rest is.1 of_rest) is.2
-
-  nobody_is : (f : Finding) → FindsEmpty rest f → IsFinding b f
-  nobody_is Nobody is = λ g h. Contains_nil g (subst (λ xs. Contains xs g) is ((of_rest.members g).1 h))
-  nobody_is (Missing g) is = absurd is
-  nobody_is (Several g) is = absurd is
-  nobody_is (Unreadable g fault) is = absurd is
-  nobody_is (Foreign g) is = absurd is
-  nobody_is (Unsigned g p) is = absurd is
-  nobody_is (Unsealed g) is = absurd is
-  nobody_is (Departs g p) is = absurd is
-  nobody_is (Unmatched x y l v) is = absurd is
-  nobody_is (Underivable x y l v) is = absurd is
-  nobody_is (Unjoined a c) is = absurd is
 
 no_member : (xs : List ℕ) → ((g : ℕ) → Contains xs g → ⊥) → xs ≡ []
 no_member [] none = refl
@@ -115,14 +102,13 @@ module _ (b : Bundle) (logs : Logs) (same : logs ≡ logs_of b) where
 -- ---- all
 
 -- the groups, added one behind another
-pub record AddsAll (b : Bundle) (rest : List ℕ) (reports : List LocalReport) (amounts read between pair all : List Finding) : Type 0 where
+pub record AddsAll (b : Bundle) (rest : List ℕ) (reports : List LocalReport) (amounts read between all : List Finding) : Type 0 where
   pub first : amounts ≡ flat_map (shown_found b.exhibits) rest
   pub second : AddsFindings (FindsRead rest reports) amounts read
   pub third : AddsFindings (FindsBetween b.header.network b.faulty (told_logs reports)) read between
-  pub fourth : AddsFindings (FindsPair b.header.network rest b.walks) between pair
-  pub fifth : AddsFindings (FindsEmpty rest) pair all
+  pub fourth : AddsFindings (FindsUnjoined b.header.network rest b.walks) between all
 
-module _ (b : Bundle) (rest : List ℕ) (of_rest : IsListOf rest (IsOfRest b)) (reports : List LocalReport) (are : AreReports b reports) (amounts read between pair all : List Finding) (adds : AddsAll b rest reports amounts read between pair all) where
+module _ (b : Bundle) (rest : List ℕ) (of_rest : IsListOf rest (IsOfRest b)) (reports : List LocalReport) (are : AreReports b reports) (amounts read between all : List Finding) (adds : AddsAll b rest reports amounts read between all) where
   same_logs : told_logs reports ≡ logs_of b
   same_logs = λ i g. reports_tell_logs b reports are g i
 
@@ -133,26 +119,20 @@ module _ (b : Bundle) (rest : List ℕ) (of_rest : IsListOf rest (IsOfRest b)) (
   read_in f (r, c, is, h) = (r, c, ((of_rest.members r.exhibit.general).1 is, h))
 
   are_found : (f : Finding) → Contains all f → IsFinding b f
-  are_found f h = elim ((adds.fifth f).0 h) [
-    | inr e ↦ nobody_is b rest of_rest f e
-    | inl h4 ↦ elim ((adds.fourth f).0 h4) [
-      | inr p ↦ pair_is b rest of_rest f p
-      | inl h3 ↦ elim ((adds.third f).0 h3) [
-        | inr (inl m) ↦ unmatched_is b (told_logs reports) same_logs f m
-        | inr (inr m) ↦ underivable_is b (told_logs reports) same_logs f m
-        | inl h2 ↦ elim ((adds.second f).0 h2) [
-          | inr r ↦ read_is f r
-          | inl h1 ↦ amounts_are b rest of_rest f (subst (λ fs. Contains fs f) adds.first h1)
-        ]
+  are_found f h = elim ((adds.fourth f).0 h) [
+    | inr u ↦ unjoined_is b rest of_rest f u
+    | inl h3 ↦ elim ((adds.third f).0 h3) [
+      | inr (inl m) ↦ unmatched_is b (told_logs reports) same_logs f m
+      | inr (inr m) ↦ underivable_is b (told_logs reports) same_logs f m
+      | inl h2 ↦ elim ((adds.second f).0 h2) [
+        | inr r ↦ read_is f r
+        | inl h1 ↦ amounts_are b rest of_rest f (subst (λ fs. Contains fs f) adds.first h1)
       ]
     ]
   ]
 
-  from_pair : (f : Finding) → Contains pair f → Contains all f
-  from_pair f h = (adds.fifth f).1 (inl h)
-
   from_between : (f : Finding) → Contains between f → Contains all f
-  from_between f h = from_pair f ((adds.fourth f).1 (inl h))
+  from_between f h = (adds.fourth f).1 (inl h)
 
   from_read : (f : Finding) → Contains read f → Contains all f
   from_read f h = from_between f ((adds.third f).1 (inl h))
@@ -173,8 +153,8 @@ module _ (b : Bundle) (rest : List ℕ) (of_rest : IsListOf rest (IsOfRest b)) (
   are_in (Departs g p) is = local_in (Departs g p) tt is
   are_in (Unmatched x y l v) is = from_between (Unmatched x y l v) ((adds.third (Unmatched x y l v)).1 (inr (inl (subst (λ ls. IsUnmatched b.header.network b.faulty ls x y l v) (sym same_logs) is))))
   are_in (Underivable x y l v) is = from_between (Underivable x y l v) ((adds.third (Underivable x y l v)).1 (inr (inr (subst (λ ls. IsUnderivable b.header.network b.faulty ls x y l v) (sym same_logs) is))))
-  are_in (Unjoined a c) is = from_pair (Unjoined a c) ((adds.fourth (Unjoined a c)).1 (inr (pair_in b rest of_rest a c is)))
-  are_in Nobody is = (adds.fifth Nobody).1 (inr (no_member rest (λ g h. is g ((of_rest.members g).0 h))))
+  are_in (Unjoined a c) is = (adds.fourth (Unjoined a c)).1 (inr (pair_in b rest of_rest a c is))
+  are_in Nobody is = (adds.fourth Nobody).1 (inr (no_member rest (λ g h. is g ((of_rest.members g).0 h))))
 
   pub all_found : (f : Finding) → Contains all f ↔ IsFinding b f
   all_found f = (are_found f, are_in f)

@@ -1,5 +1,5 @@
 -- Reports, one after another.
-use Rattle.std.proofs.Common.{◌≡◌, ℕ, suc, ◌+◌, ◌<◌, List, [], ◌∷◌, ◌++◌, length, take, drop, map, refl, sym, ap, subst, ◌∙◌, arith, append_assoc, if◌then◌else◌, is_ok, OnOk, Result, Ok, Err}
+use Rattle.std.proofs.Common.{◌≡◌, ℕ, suc, ◌+◌, ◌<◌, List, [], ◌∷◌, ◌++◌, length, take, drop, map, refl, sym, ap, subst, ◌∙◌, arith, append_assoc}
 use Rattle.std.proofs.lemmas.List.{map-append}
 use Rattle.std.proofs.lemmas.List.Elements.{All-append}
 use Rattle.gen_net.specs.Header.{RunHeader}
@@ -12,17 +12,12 @@ use Rattle.gen_audit.specs.Loops.Hands.{AreHands}
 use Rattle.gen_audit.proofs.Dealt.{each_more, each_shifts}
 
 -- the reports of some exhibits and those of others
-both_reports : (h : RunHeader) (xs ys : List LogBytes) (rs ss : List LocalReport) → AreReportsOf h xs rs → AreReportsOf h ys ss → AreReportsOf h (xs ++ ys) (rs ++ ss)
+pub both_reports : (h : RunHeader) (xs ys : List LogBytes) (rs ss : List LocalReport) → AreReportsOf h xs rs → AreReportsOf h ys ss → AreReportsOf h (xs ++ ys) (rs ++ ss)
 both_reports h xs ys rs ss one two = record {
   exhibits = map-append (λ (r : LocalReport). r.exhibit) rs ss ∙ (ap (λ (zs : List LogBytes). zs ++ map (λ (r : LocalReport). r.exhibit) ss) one.exhibits ∙ ap (λ (zs : List LogBytes). xs ++ zs) two.exhibits);
   header = All-append (λ (r : LocalReport). r.header ≡ h) rs ss one.header two.header;
   each = All-append IsReport rs ss one.each two.each;
 }
-
-pub reports_joined : {A E : Type 0} (h : RunHeader) (xs ys : List LogBytes) (rs ss : List LocalReport) → AreReportsOf h xs rs → AreReportsOf h ys ss
-    → (r : Result A E) (new : List LocalReport) → new ≡ (if is_ok r then rs ++ ss else rs) → OnOk r (AreReportsOf h (xs ++ ys) new)
-reports_joined h xs ys rs ss one two (Ok x) new is = rw is (both_reports h xs ys rs ss one two)
-reports_joined h xs ys rs ss one two (Err e) new is = tt
 
 -- there is a report of the first exhibit
 pub has_one : (h : RunHeader) (x : LogBytes) (xs : List LogBytes) (rs : List LocalReport) → AreReportsOf h (x ∷ xs) rs → 0 < length rs

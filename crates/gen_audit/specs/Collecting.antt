@@ -42,15 +42,11 @@ FindsRead rest reports f = (r : LocalReport) × Contains reports r × FindsIn re
 abbrev pub FindsBetween : Network → List ℕ → Logs → Finding → Type 0
 FindsBetween net faulty logs f = FindsUnmatched net faulty logs f ⊎ FindsUnderivable net faulty logs f
 
--- this is that the two generals are the least pair of the set that no walk joins
-abbrev pub FindsPair : Network → List ℕ → List (List ℕ) → Finding → Type 0
-FindsPair net rest walks (Unjoined a c) = IsLeastBadPair net rest (Bridges net rest walks) a c
-FindsPair net rest walks _ = ⊥
-
--- this is that the set is empty
-abbrev pub FindsEmpty : List ℕ → Finding → Type 0
-FindsEmpty rest Nobody = rest ≡ []
-FindsEmpty rest _ = ⊥
+-- this is that the set is empty, or that the two generals are the least pair of it that no walk joins
+abbrev pub FindsUnjoined : Network → List ℕ → List (List ℕ) → Finding → Type 0
+FindsUnjoined net rest walks (Unjoined a c) = IsLeastBadPair net rest (Bridges net rest walks) a c
+FindsUnjoined net rest walks Nobody = rest ≡ []
+FindsUnjoined net rest walks _ = ⊥
 
 -- the report is of a log that says it is g's of the run; and the decision is that of the log's DECIDE
 abbrev pub ReadsAsOwn : LocalReport → ℕ → Type 0

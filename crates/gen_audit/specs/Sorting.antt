@@ -1,5 +1,5 @@
 -- The ranks by which findings are sorted.
-use Rattle.std.specs.Prelude.{ℕ, slice_index}
+use Rattle.std.specs.Prelude.{slice_index}
 use Rattle.std.specs.declared.cmp.Ordering.{Ordering}
 use Rattle.std.specs.Ordering.{nat_cmp, ordering_then}
 use Rattle.gen_match.specs.declared.finding.Finding.{Finding}

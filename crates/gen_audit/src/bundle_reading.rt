@@ -2,17 +2,12 @@
 //!
 //! Numbers are read as bytes, and become values of their types where a part is made.
 ghost use Rattle.std.specs.Arc.{arc_slice_items};
-ghost use Rattle.std.specs.Prelude.{◌≡◌, ◌≤◌, ◌<◌, IfOk, Ok};
+ghost use Rattle.std.specs.Prelude.{◌≡◌, ◌≤◌, IfOk, Ok};
 ghost use Rattle.gen_types.specs.Reading.{Gives};
 ghost use Rattle.gen_types.specs.Spelled.{IsRead, IsField, Spells};
-ghost use Rattle.gen_types.specs.Bits.{members_of};
-ghost use Rattle.gen_types.specs.Bytes.{many_at};
-ghost use Rattle.gen_audit.specs.Behind.{many_behind};
 ghost use Rattle.gen_audit.specs.Bundle.{Bundle as Told, IsBundle};
 ghost use Rattle.gen_audit.specs.BundleFields as fields;
-ghost use Rattle.gen_audit.specs.BundleMaking.{no_ends, shown_general};
-ghost use Rattle.gen_audit.specs.BundleParts as parts;
-ghost use Rattle.gen_audit.specs.BundleReading.{general_at, walk_at, walks_at, owner_at, exhibit_at, exhibits_at};
+ghost use Rattle.gen_audit.specs.BundleReading.{walk_at, walks_at, exhibit_at, exhibits_at};
 ghost use Rattle.gen_audit.specs.BundleReading.{bundle_at, whole_bundle};
 ghost use Rattle.gen_audit.specs.BundleSpelling.{bundle_spelling};
 ghost use Rattle.gen_audit.specs.Ends.{IsEndOf};
@@ -48,49 +43,6 @@ fn read_front_field(alloc: Global, bytes: &[u8]) -> Result<(Header, &[u8]), Read
     }
 }
 
-/// Reads the bits of a set of generals below n.
-#[tactic(auto, unfolding(crate::specs::BundleFields::faulty_at))]
-fn read_faulty(n: u8, bytes: &[u8]) -> Result<(u16, &[u8]), ReadError<BundleFault>>
-    ensures { Gives (λ x. (members_of x.0, x.1.now)) result (fields.faulty_at n bytes.now) }
-{
-    let (bits, rest) = u16_at(bytes, BundleFault::Truncated)?;
-    let known = is_set_below(&GeneralSet::from_bits(bits), n);
-    check(known, BundleFault::FaultyRange)?;
-    Ok((bits, rest))
-}
-
-/// Reads the number of a general of a walk.
-#[tactic(auto, unfolding(crate::specs::BundleReading::general_at))]
-fn read_general(n: u8, bytes: &[u8]) -> Result<(u8, &[u8]), ReadError<BundleFault>>
-    requires { n ≤ 16 }
-    ensures exact { IsField result (general_at n bytes.now) }
-    ensures known { IfOk result (λ x. x.0 < 16) }
-{
-    let (number, rest) = u8_at(bytes, BundleFault::Truncated)?;
-    check(number < n, BundleFault::BadWalk)?;
-    Ok((number, rest))
-}
-
-/// Reads `count` generals of a walk.
-fn read_generals(
-    alloc: Global,
-    n: u8,
-    count: u8,
-    bytes: &[u8],
-) -> Result<(Vec<GeneralNo>, &[u8]), ReadError<BundleFault>>
-    requires { n ≤ 16 }
-    ensures { Gives (λ x. (x.0.items, x.1.now)) result (many_at (general_at n) count bytes.now) }
-{
-    let mut generals = Vec::with_capacity(alloc, usize::from(count))?;
-    let mut rest = bytes;
-    for _ in 0..count {
-        let (general, after) = read_general(n, rest)?;
-        generals.push(GeneralNo::at(general))?;
-        rest = after;
-    }
-    Ok((generals, rest))
-}
-
 /// Reads a walk whose ends come after those of the walk before.
 #[tactic(auto, unfolding(crate::specs::BundleReading::walk_at))]
 fn read_walk(
@@ -102,26 +54,29 @@ fn read_walk(
     requires { n ≤ 16 }
     ensures { IsField result (walk_at n before bytes.now) }
 {
-    let (count, rest) = u8_at(bytes, BundleFault::Truncated)?;
+    let (count, mut rest) = u8_at(bytes, BundleFault::Truncated)?;
     check(is_walk_length(usize::from(count)), BundleFault::WalkCount)?;
-    let (generals, rest) = read_generals(alloc, n, count, rest)?;
+    let mut generals = Vec::with_capacity(alloc, usize::from(count))?;
+    for _ in 0..count {
+        let (general, after) = u8_at(rest, BundleFault::Truncated)?;
+        check(general < n, BundleFault::BadWalk)?;
+        generals.push(GeneralNo::at(general))?;
+        rest = after;
+    }
     check(may_follow(before, &generals), BundleFault::BadWalk)?;
     Ok((Walk::new(generals), rest))
 }
 
-/// Reads `count` walks.
-fn read_each_walk(
-    alloc: Global,
-    n: u8,
-    count: u8,
-    bytes: &[u8],
-) -> Result<(Walks, &[u8]), ReadError<BundleFault>>
+/// Reads the number of walks and the walks.
+#[tactic(auto, unfolding(crate::specs::BundleReading::walks_at))]
+fn read_walks(alloc: Global, n: u8, bytes: &[u8]) -> Result<(Walks, &[u8]), ReadError<BundleFault>>
     requires { n ≤ 16 }
-    ensures { IsField result (many_behind (walk_at n) parts.ends_of no_ends count bytes.now) }
+    ensures { IsField result (walks_at n bytes.now) }
 {
+    let (count, mut rest) = u8_at(bytes, BundleFault::Truncated)?;
+    check(usize::from(count) <= MOST_WALKS, BundleFault::WalkCount)?;
     let mut walks = Walks::new(alloc);
     let mut before = NO_ENDS;
-    let mut rest = bytes;
     for _ in 0..count {
         let (walk, after) = read_walk(alloc, n, before, rest)?;
         before = ends_of(walk.generals());
@@ -131,33 +86,9 @@ fn read_each_walk(
     Ok((walks, rest))
 }
 
-/// Reads the number of walks and the walks.
-#[tactic(auto, unfolding(crate::specs::BundleReading::walks_at))]
-fn read_walks(alloc: Global, n: u8, bytes: &[u8]) -> Result<(Walks, &[u8]), ReadError<BundleFault>>
-    requires { n ≤ 16 }
-    ensures { IsField result (walks_at n bytes.now) }
-{
-    let (count, rest) = u8_at(bytes, BundleFault::Truncated)?;
-    check(usize::from(count) <= MOST_WALKS, BundleFault::WalkCount)?;
-    read_each_walk(alloc, n, count, rest)
-}
-
-/// Reads the general of an exhibit, which is not less than that of the exhibit before.
-#[tactic(auto, unfolding(crate::specs::BundleReading::owner_at))]
-fn read_owner(n: u8, before: u8, bytes: &[u8]) -> Result<(u8, &[u8]), ReadError<BundleFault>>
-    requires { n ≤ 16 }
-    ensures exact { IsField result (owner_at n before bytes.now) }
-    ensures known { IfOk result (λ x. x.0 < 16) }
-{
-    let (general, rest) = u8_at(bytes, BundleFault::Truncated)?;
-    check(general < n, BundleFault::BadExhibit)?;
-    check(before <= general, BundleFault::OutOfOrder)?;
-    Ok((general, rest))
-}
-
 /// Reads an exhibit, whose general is not less than that of the exhibit before. The exhibit shares the input's bytes;
 /// `bytes` is the end of the input.
-#[tactic(auto, unfolding(crate::specs::BundleReading::exhibit_at))]
+#[tactic(auto, unfolding(crate::specs::BundleReading::exhibit_at, crate::specs::BundleReading::owner_at))]
 fn read_exhibit<'a>(
     input: &ArcSlice<u8>,
     n: u8,
@@ -169,37 +100,14 @@ fn read_exhibit<'a>(
     ensures exact { IsField result (exhibit_at n before bytes.now) }
     ensures end { IfOk result (λ x. IsEndOf (arc_slice_items input.now) x.1.now) }
 {
-    let (general, rest) = read_owner(n, before, bytes)?;
+    let (general, rest) = u8_at(bytes, BundleFault::Truncated)?;
+    check(general < n, BundleFault::BadExhibit)?;
+    check(before <= general, BundleFault::OutOfOrder)?;
     let (size, rest) = u32_at(rest, BundleFault::Truncated)?;
     let (log, rest) = bytes_at(rest, size as usize, BundleFault::Truncated)?;
     let to = input.len() - rest.len();
     let exhibit = Exhibit::within(GeneralNo::at(general), input, to - log.len(), to)?;
     Ok((exhibit, rest))
-}
-
-/// Reads `count` exhibits.
-fn read_each_exhibit<'a>(
-    alloc: Global,
-    input: &ArcSlice<u8>,
-    n: u8,
-    count: u8,
-    bytes: &'a [u8],
-) -> Result<(Vec<Exhibit>, &'a [u8]), ReadError<BundleFault>>
-    requires few { n ≤ 16 }
-    requires end { IsEndOf (arc_slice_items input.now) bytes.now }
-    ensures { Gives (λ x. (x.0.items, x.1.now)) result
-        (many_behind (exhibit_at n) shown_general 0 count bytes.now) }
-{
-    let mut exhibits = Vec::new(alloc);
-    let mut before = 0;
-    let mut rest = bytes;
-    for _ in 0..count {
-        let (exhibit, after) = read_exhibit(input, n, before, rest)?;
-        before = exhibit.general().get();
-        exhibits.push(exhibit)?;
-        rest = after;
-    }
-    Ok((exhibits, rest))
 }
 
 /// Reads the number of exhibits and the exhibits.
@@ -214,9 +122,17 @@ fn read_exhibits<'a>(
     requires end { IsEndOf (arc_slice_items input.now) bytes.now }
     ensures { Gives (λ x. (x.0.items, x.1.now)) result (exhibits_at n bytes.now) }
 {
-    let (count, rest) = u8_at(bytes, BundleFault::Truncated)?;
+    let (count, mut rest) = u8_at(bytes, BundleFault::Truncated)?;
     check(usize::from(count) <= MOST_EXHIBITS, BundleFault::BadExhibit)?;
-    read_each_exhibit(alloc, input, n, count, rest)
+    let mut exhibits = Vec::new(alloc);
+    let mut before = 0;
+    for _ in 0..count {
+        let (exhibit, after) = read_exhibit(input, n, before, rest)?;
+        before = exhibit.general().get();
+        exhibits.push(exhibit)?;
+        rest = after;
+    }
+    Ok((exhibits, rest))
 }
 
 /// Returns the bundle that the bytes begin with, and the bytes after it. The bytes are the end of the input, and the
@@ -225,7 +141,7 @@ fn read_exhibits<'a>(
 /// # Errors
 ///
 /// The first fault of `BundleFault` from left to right, or `Memory` if memory was refused before that fault.
-#[tactic(auto, unfolding(crate::specs::BundleReading::bundle_at))]
+#[tactic(auto, unfolding(crate::specs::BundleReading::bundle_at, crate::specs::BundleFields::faulty_at))]
 pub fn bundle_in_front<'a>(
     alloc: Global,
     input: &ArcSlice<u8>,
@@ -236,12 +152,14 @@ pub fn bundle_in_front<'a>(
 {
     let (header, rest) = read_front_field(alloc, bytes)?;
     let n = header.net().generals();
-    let (bits, rest) = read_faulty(n, rest)?;
+    let (bits, rest) = u16_at(rest, BundleFault::Truncated)?;
+    let faulty = GeneralSet::from_bits(bits);
+    check(is_set_below(&faulty, n), BundleFault::FaultyRange)?;
     let (walks, rest) = read_walks(alloc, n, rest)?;
     let (exhibits, rest) = read_exhibits(alloc, input, n, rest)?;
     let bundle = Bundle {
         header,
-        faulty: GeneralSet::from_bits(bits),
+        faulty,
         walks,
         exhibits,
     };

@@ -3,7 +3,6 @@ ghost use Rattle.std.specs.Prelude.{◌≡◌, ◌<◌, All, AllPairs, OnOk};
 ghost use Rattle.gen_types.specs.Reading as steps;
 ghost use Rattle.gen_net.specs.Edges.{goes_before};
 ghost use Rattle.gen_log.specs.Fields.{AreBelow};
-ghost use Rattle.gen_audit.specs.Behind.{check_behind};
 ghost use Rattle.gen_audit.specs.BundleMaking as making;
 ghost use Rattle.gen_audit.specs.BundleParts as parts;
 
@@ -96,10 +95,12 @@ fn check_walk(n: u8, before: (u8, u8), walk: &[GeneralNo]) -> Result<(), BundleF
     check_rule(may_follow(before, walk), BundleFault::BadWalk)
 }
 
-/// Checks walks, each after the one before it.
-fn check_each_walk(n: u8, walks: &[Walk]) -> Result<(), BundleFault>
-    ensures { result ≡ check_behind (making.walk_check n) parts.ends_of making.no_ends walks.now }
+/// Checks the number of walks and each walk.
+#[tactic(auto, unfolding(crate::specs::BundleMaking::walks_check))]
+pub fn check_all_walks(n: u8, walks: &[Walk]) -> Result<(), BundleFault>
+    ensures { result ≡ making.walks_check n walks.now }
 {
+    check_rule(walks.len() <= MOST_WALKS, BundleFault::WalkCount)?;
     let mut before = NO_ENDS;
     let mut rest = walks;
     while let Some((walk, others)) = rest.split_first() {
@@ -108,15 +109,6 @@ fn check_each_walk(n: u8, walks: &[Walk]) -> Result<(), BundleFault>
         rest = others;
     }
     Ok(())
-}
-
-/// Checks the number of walks and each walk.
-#[tactic(auto, unfolding(crate::specs::BundleMaking::walks_check))]
-pub fn check_all_walks(n: u8, walks: &[Walk]) -> Result<(), BundleFault>
-    ensures { result ≡ making.walks_check n walks.now }
-{
-    check_rule(walks.len() <= MOST_WALKS, BundleFault::WalkCount)?;
-    check_each_walk(n, walks)
 }
 
 /// Checks one exhibit after an exhibit of the general `before`.
@@ -132,11 +124,13 @@ fn check_exhibit(n: u8, before: u8, exhibit: &Exhibit) -> Result<(), BundleFault
     check_rule(log.len() < TOO_LONG, BundleFault::LongLog)
 }
 
-/// Checks exhibits, each after the one before it.
-fn check_each_exhibit(n: u8, exhibits: &[Exhibit]) -> Result<(), BundleFault>
-    ensures value { result ≡ check_behind (making.exhibit_check n) making.shown_general 0 exhibits.now }
+/// Checks the number of exhibits and each exhibit.
+#[tactic(auto, unfolding(crate::specs::BundleMaking::exhibits_check))]
+pub fn check_all_exhibits(n: u8, exhibits: &[Exhibit]) -> Result<(), BundleFault>
+    ensures value { result ≡ making.exhibits_check n exhibits.now }
     ensures bytes { OnOk result (All (λ x. AreBelow 256 x.bytes) exhibits.now) }
 {
+    check_rule(exhibits.len() <= MOST_EXHIBITS, BundleFault::BadExhibit)?;
     let mut before = 0;
     let mut rest = exhibits;
     while let Some((exhibit, others)) = rest.split_first() {
@@ -145,14 +139,4 @@ fn check_each_exhibit(n: u8, exhibits: &[Exhibit]) -> Result<(), BundleFault>
         rest = others;
     }
     Ok(())
-}
-
-/// Checks the number of exhibits and each exhibit.
-#[tactic(auto, unfolding(crate::specs::BundleMaking::exhibits_check))]
-pub fn check_all_exhibits(n: u8, exhibits: &[Exhibit]) -> Result<(), BundleFault>
-    ensures value { result ≡ making.exhibits_check n exhibits.now }
-    ensures bytes { OnOk result (All (λ x. AreBelow 256 x.bytes) exhibits.now) }
-{
-    check_rule(exhibits.len() <= MOST_EXHIBITS, BundleFault::BadExhibit)?;
-    check_each_exhibit(n, exhibits)
 }

@@ -4,7 +4,7 @@ ghost use Rattle.std.specs.List.{flat_map};
 ghost use Rattle.gen_types.specs.Ascending.{IsListOf};
 ghost use Rattle.gen_match.specs.Findings.{AreFindings};
 ghost use Rattle.gen_audit.specs.Bundle.{IsOfRest, exhibits_of};
-ghost use Rattle.gen_audit.specs.Collecting.{AddsFindings, shown_found, FindsIn, FindsRead, FindsPair, FindsEmpty};
+ghost use Rattle.gen_audit.specs.Collecting.{AddsFindings, shown_found, FindsRead, FindsUnjoined};
 ghost use Rattle.gen_audit.specs.Findings.{IsFinding};
 ghost use Rattle.gen_audit.specs.LocalFindings.{finds, unsigned_at, unless_sealed, departs_at};
 ghost use Rattle.gen_audit.specs.Telling.{AreReports};
@@ -101,21 +101,6 @@ fn add_reading(
     Ok(())
 }
 
-/// Appends what a report finds, if its general is in the set.
-fn add_report(
-    rest: &GeneralSet,
-    report: &LocalReport,
-    findings: &mut Vec<Finding>,
-) -> Result<(), AllocError>
-    ensures { OnOk result (AddsFindings (FindsIn rest.now report.now) findings.old.items findings.new.items) }
-{
-    let general = report.exhibit().general();
-    if rest.contains(general) {
-        add_reading(general, report.reading(), findings)?;
-    }
-    Ok(())
-}
-
 /// Appends what the reports of the rest's exhibits find.
 fn add_reports(
     rest: &GeneralSet,
@@ -125,36 +110,31 @@ fn add_reports(
     ensures { OnOk result (AddsFindings (FindsRead rest.now reports.now) findings.old.items findings.new.items) }
 {
     for report in reports {
-        add_report(rest, report, findings)?;
+        let general = report.exhibit().general();
+        if rest.contains(general) {
+            add_reading(general, report.reading(), findings)?;
+        }
     }
     Ok(())
 }
 
-/// Appends the least pair of the set that no walk joins, if there is one.
+/// Appends that the set is empty, or else the least pair of it that no walk joins, if there is one.
 fn add_unjoined(
     net: &Net,
     rest: &GeneralSet,
     walks: &Walks,
     findings: &mut Vec<Finding>,
 ) -> Result<(), AllocError>
-    ensures { OnOk result (AddsFindings (FindsPair net.now rest.now walks.now)
+    ensures { OnOk result (AddsFindings (FindsUnjoined net.now rest.now walks.now)
         findings.old.items findings.new.items) }
 {
-    if let Err(bad) = check_walks(net, rest, walks) {
+    if rest.is_empty() {
+        findings.push(Finding::Nobody)?;
+    } else if let Err(bad) = check_walks(net, rest, walks) {
         findings.push(Finding::Unjoined {
             first: bad.a,
             second: bad.b,
         })?;
-    }
-    Ok(())
-}
-
-/// Appends that the set is empty, if it is.
-fn add_nobody(rest: &GeneralSet, findings: &mut Vec<Finding>) -> Result<(), AllocError>
-    ensures { OnOk result (AddsFindings (FindsEmpty rest.now) findings.old.items findings.new.items) }
-{
-    if rest.is_empty() {
-        findings.push(Finding::Nobody)?;
     }
     Ok(())
 }
@@ -183,6 +163,5 @@ pub(crate) fn findings_in(
     let derived = check_derived(alloc, header, faulty, reports)?;
     findings.extend_from_slice(derived.as_slice())?;
     add_unjoined(header.net(), rest, bundle.walks(), &mut findings)?;
-    add_nobody(rest, &mut findings)?;
     in_order(alloc, findings)
 }

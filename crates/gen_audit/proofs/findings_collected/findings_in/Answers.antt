@@ -28,17 +28,15 @@ returns c =
     let read = c.add_reports.new.findings.items in
     let edges = c.in_ok-edges.edges.items in
     let derived = c.in_ok-derived.derived.items in
-    let pair = c.add_unjoined.new.findings.items in
-    let all = c.add_nobody.new.findings.items in
+    let all = c.add_unjoined.new.findings.items in
     let between : AddsFindings (FindsBetween net b.faulty logs) read ((read ++ edges) ++ derived) =
     adds_both (FindsUnmatched net b.faulty logs) (FindsUnderivable net b.faulty logs) read (read ++ edges) ((read ++ edges) ++ derived)
     (adds_part (FindsUnmatched net b.faulty logs) read edges (rw (← c.header-header.ensures.value, ← c.faulty-faulty.ensures) c.in_ok-edges.ensures.members))
     (adds_part (FindsUnderivable net b.faulty logs) (read ++ edges) derived (rw (← c.header-header.ensures.value, ← c.faulty-faulty.ensures) c.in_ok-derived.ensures.members)) in
-    let found = all_found b rest c.requires.rest reports c.requires.reports amounts read ((read ++ edges) ++ derived) pair all (record {
+    let found = all_found b rest c.requires.rest reports c.requires.reports amounts read ((read ++ edges) ++ derived) all (record {
       first = c.in_ok-add_amounts.ensures ∙ ap (λ xs. xs ++ flat_map (shown_found c.exhibits.result.now) rest) c.new-findings.ensures.items ∙ ap (λ (xs : List LogBytes). flat_map (shown_found xs) rest) c.exhibits.ensures;
       second = c.in_ok-add_reports.ensures;
       third = between;
       fourth = rw (← c.header-header.ensures.value, ← c.net.ensures.value, ← c.walks.ensures, ← c.as_slice.ensures.value, ← c.as_slice-2.ensures.value, ← c.in_ok-extend_from_slice.ensures.items, ← c.in_ok-extend_from_slice-2.ensures.items) c.in_ok-add_unjoined.ensures;
-      fifth = c.in_ok-add_nobody.ensures;
     }) in
     IfOk-weaker c.in_order.result _ _ (λ out are. are_findings_as (Contains all) (IsFinding b) found out.items are) c.in_order.ensures

@@ -2,7 +2,7 @@ use Rattle.std.proofs.Common.{◌≡◌, length, All}
 use Rattle.gen_log.specs.Fields.{AreBelow}
 use Rattle.gen_audit.specs.Behind.{check_behind}
 use Rattle.gen_audit.specs.BundleMaking as making
-use Rattle.gen_audit.proofs.bundle_rules.check_each_exhibit.Given as goal
+use Rattle.gen_audit.proofs.bundle_rules.check_all_exhibits.Given as goal
 
 abbrev pub invariant-loop-exhibit : goal.invariant-loop-exhibit
 invariant-loop-exhibit l = record {
