@@ -1,5 +1,5 @@
 -- Who is convicted, by a look through the convictions.
-use Rattle.std.proofs.Common.{◌≡◌, ℕ, Bool, true, false, List, [], ◌∷◌, Some, None, find, map, ◌==◌, refl, inl, inr, sym, ap, subst, ◌∙◌}
+use Rattle.std.proofs.Common.{◌≡◌, ℕ, Bool, Bor, Option, true, false, List, [], ◌∷◌, Some, None, find, option_map, map, ◌==◌, refl, inl, inr, sym, ap, subst, ◌∙◌}
 use Rattle.std.specs.Prelude.{Contains}
 use Rattle.std.proofs.lemmas.Bool.{cases_Bool, eq-eqb, eqb-true}
 use Rattle.gen_types.proofs.Lists.{Contains_here, Contains_there, Contains_cases, Contains_nil}
@@ -22,6 +22,11 @@ convicted g (x ∷ es) e is = elim (cases_Bool (x.accused == g)) [
       let more = convicted g es e rest in
       (Contains_there (told_of x) (told_of e) (map told_of es) more.0, more.1)
 ]
+
+-- where there is no answer none is found
+pub unfound : (r : Option (Bor Evidence)) (g : ℕ) (es : List Evidence) → option_map (λ (e : Bor Evidence). e.now) r ≡ find (λ x. x.accused == g) es → ((e : Bor Evidence) → r ≡ Some e → ⊥) → None ≡ find (λ x. x.accused == g) es
+unfound None g es is never = is
+unfound (Some e) g es is never = absurd (never e refl)
 
 -- where none is found nobody is
 pub unconvicted : (g : ℕ) (es : List Evidence) → None ≡ find (λ x. x.accused == g) es → (a : Accusation) → Contains (map told_of es) a → a.accused ≡ g → ⊥

@@ -3,6 +3,7 @@ use Rattle.std.specs.Prelude.{ℕ, ◌≡◌, Bool, false, List, Err}
 use Rattle.std.specs.List.{AllZip}
 use Rattle.gen_scenario.specs.Scenario.{Scenario}
 use Rattle.gen_audit.specs.Bundle.{Bundle}
+use Rattle.gen_audit.specs.BundleSpelling.{bundle_spelling}
 use Rattle.gen_campaign.specs.CampaignSpelling.{campaign_spelling}
 use Rattle.gen_campaign.specs.CampaignText.{SpellsCampaignText}
 use Rattle.gen_campaign.specs.CampaignTextReading.{campaign_text_of}
@@ -13,6 +14,14 @@ use Rattle.gen_jobs.specs.declared.ends.JobFault.TheVariants as faults
 -- each bundle is the one of the run of its scenario
 abbrev pub AreBundlesOf : List Scenario → List Bundle → Type 0
 AreBundlesOf runs bundles = AllZip IsOfRun runs bundles
+
+-- the text is that of the bundle of the run of this scenario
+abbrev pub IsTextOf : Scenario → List ℕ → Type 0
+IsTextOf s text = (bundle : Bundle) × IsOfRun s bundle × (text ≡ bundle_spelling bundle)
+
+-- each text is that of the bundle of the run of its scenario
+abbrev pub AreTextsOf : List Scenario → List (List ℕ) → Type 0
+AreTextsOf runs texts = AllZip IsTextOf runs texts
 
 -- the text spells the bundles of the runs of these scenarios
 abbrev pub MakesTexts : List Scenario → List ℕ → Type 0

@@ -35,30 +35,6 @@ fn conviction_of(convictions: &[Evidence], general: GeneralNo) -> Option<&Eviden
         .find(|evidence| evidence.accused == general)
 }
 
-/// Returns the bytes of the evidence of a general's conviction. If there is none, there are no bytes, and the output
-/// says no.
-fn accusation(
-    alloc: Global,
-    header: &Header,
-    convictions: &[Evidence],
-    general: GeneralNo,
-) -> Result<Output, AllocError>
-    requires { AreEvidence header.now (map told_of convictions.now) }
-    ensures { IfOk result (λ o. TellsOf header.now (map told_of convictions.now) general
-        o.text.items o.negative) }
-{
-    match conviction_of(convictions, general) {
-        Some(evidence) => Ok(Output {
-            text: write_evidence(alloc, header, evidence)?,
-            negative: false,
-        }),
-        None => Ok(Output {
-            text: Vec::new(alloc),
-            negative: true,
-        }),
-    }
-}
-
 /// Returns the bytes of the evidence of the first run that convicts a general. If no run does, there are no bytes, and
 /// the output says no.
 fn accusation_within(
@@ -71,10 +47,13 @@ fn accusation_within(
     ensures { IfOk result (λ o. AccusesWithin bundles.now general o.text.items o.negative) }
 {
     'runs: for place in 0..bundles.len() {
+        let bundle = &bundles[place];
         let convictions = judgements[place].convictions.as_slice();
-        let told = accusation(alloc, bundles[place].header(), convictions, general)?;
-        if !told.negative {
-            return Ok(told);
+        if let Some(evidence) = conviction_of(convictions, general) {
+            return Ok(Output {
+                text: write_evidence(alloc, bundle.header(), evidence)?,
+                negative: false,
+            });
         }
     }
     Ok(Output {

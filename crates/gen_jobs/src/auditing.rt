@@ -5,7 +5,7 @@ ghost use Rattle.gen_convict.specs.Evidence.{told_of};
 ghost use Rattle.gen_campaign.specs.Judged.{AreJudged, shown_bundles};
 ghost use Rattle.gen_jobs.specs.Answering.{Answers};
 ghost use Rattle.gen_jobs.specs.Asking.{IsAuditedBy, IsHeldFault};
-ghost use Rattle.gen_jobs.specs.Audit.{AuditsShown, IsAudited, IsAuditFault, is_no, judgement_text, shown_text};
+ghost use Rattle.gen_jobs.specs.Audit.{AuditsShown, IsAudited, IsAuditFault, is_no, judgement_text};
 ghost use Rattle.gen_jobs.specs.Ends.{IsTaken, KeepsUntilWhole};
 
 use crate::asked::Asked;
@@ -54,22 +54,6 @@ pub(crate) fn judgement_output(
     Ok(Output { text, negative })
 }
 
-/// Returns a verdict on a bundle or a campaign in this form.
-fn verdict_in(
-    alloc: Global,
-    form: Form,
-    campaign: &CampaignBundle,
-    verdict: &CampaignVerdict,
-) -> Result<Vec<u8>, AllocError>
-    ensures { IfOk result (λ v. v.items ≡ shown_text form campaign.now verdict.now.judgements.items
-        (map told_of verdict.now.across.items)) }
-{
-    match form {
-        Form::Text => print_campaign(alloc, campaign, verdict),
-        Form::Json => print_campaign_json(alloc, campaign, verdict),
-    }
-}
-
 /// Returns a verdict on a bundle or a campaign in this form, and whether it is a no on some run.
 pub(crate) fn output_by(
     alloc: Global,
@@ -85,7 +69,10 @@ pub(crate) fn output_by(
 {
     // The contract needs what every campaign keeps, which this read tells.
     let _lawful = campaign.is_alone();
-    let text = verdict_in(alloc, form, campaign, verdict)?;
+    let text = match form {
+        Form::Text => print_campaign(alloc, campaign, verdict)?,
+        Form::Json => print_campaign_json(alloc, campaign, verdict)?,
+    };
     Ok(Output {
         text,
         negative: !verdict.is_yes(),

@@ -7,7 +7,6 @@ ghost use Rattle.gen_jobs.specs.Answering.{DeliversText};
 
 use crate::ends::{JobEnd, JobFault};
 use gen_audit::{Bundle, bundle_front, exhibit_front};
-use gen_local::Exhibit;
 use std::alloc::{AllocError, Global};
 use std::io;
 use std::io::Write;
@@ -34,19 +33,6 @@ impl Model for BundleText {
         t.front.items ++ flat_map exhibit_spelling t.bundle.exhibits ≡ bundle_spelling t.bundle };
 }
 
-/// Writes exhibits as they stand in a bundle, one after another.
-fn write_exhibits<W: Write>(writer: &mut W, exhibits: &[Exhibit]) -> Result<(), io::Error>
-    requires { All (λ x. length x.bytes < 2 ^ 32) exhibits.now }
-    ensures { OnOk result (Appends (W.contents writer.old) (W.contents writer.new)
-        (flat_map exhibit_spelling exhibits.now)) }
-{
-    'exhibits: for exhibit in exhibits {
-        writer.write_all(&exhibit_front(exhibit))?;
-        writer.write_all(exhibit.log())?;
-    }
-    Ok(())
-}
-
 impl BundleText {
     /// Returns the text of a bundle. It fails only if memory was refused.
     pub fn new(alloc: Global, bundle: Bundle) -> Result<BundleText, AllocError>
@@ -66,7 +52,12 @@ impl BundleText {
     {
         let _lawful = self.bundle.header();
         writer.write_all(&self.front)?;
-        write_exhibits(writer, self.bundle.exhibits())
+        let exhibits = self.bundle.exhibits();
+        'exhibits: for exhibit in exhibits {
+            writer.write_all(&exhibit_front(exhibit))?;
+            writer.write_all(exhibit.log())?;
+        }
+        Ok(())
     }
 }
 

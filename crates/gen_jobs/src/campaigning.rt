@@ -1,9 +1,8 @@
 //! The job `campaign`: runs the scenarios of a campaign, and writes the bundles of their runs.
 ghost use Rattle.std.specs.Prelude.{◌≡◌, ◌<◌, IfErr, IfOk, IfSome, false, map};
 ghost use Rattle.gen_scenario.specs.Rows.{logs_of_all};
-ghost use Rattle.gen_audit.specs.BundleSpelling.{bundle_spelling};
 ghost use Rattle.gen_jobs.specs.Answering.{Answers};
-ghost use Rattle.gen_jobs.specs.Campaigning.{AreBundlesOf, IsCampaignFault, IsCampaignRun};
+ghost use Rattle.gen_jobs.specs.Campaigning.{AreTextsOf, IsCampaignFault, IsCampaignRun};
 ghost use Rattle.gen_jobs.specs.Ends.{IsTaken, KeepsUntilWhole};
 
 use crate::bundle_text::BundleText;
@@ -12,7 +11,6 @@ use crate::ends::{JobEnd, JobFault};
 use crate::gates::Open;
 use crate::running::bundle_with_logs;
 use crate::transfer::read_all;
-use gen_audit::Bundle;
 use gen_campaign::{make_campaign, read_campaign_text, run_campaign, texts_make_campaigns};
 use gen_log::SealedLog;
 use gen_scenario::Scenario;
@@ -21,34 +19,24 @@ use std::io::{Read, Write};
 use std::sync::Wait;
 use std::thread::Threads;
 
-/// Returns the bundles of the runs of these scenarios with these logs.
-fn bundles_of_runs(
+/// Returns the texts of the bundles of the runs of these scenarios with these logs.
+fn texts_of_runs(
     alloc: Global,
     scenarios: &[Scenario],
     logs: Vec<Vec<SealedLog>>,
-) -> Result<Vec<Bundle>, AllocError>
+) -> Result<Vec<BundleText>, AllocError>
     requires { map (λ logs. logs.items) logs.items ≡ map logs_of_all scenarios.now }
-    ensures { IfOk result (λ bundles. AreBundlesOf scenarios.now bundles.items) }
+    ensures { IfOk result (λ texts. AreTextsOf scenarios.now texts.items) }
 {
-    let mut bundles = Vec::with_capacity(alloc, scenarios.len())?;
+    let mut texts = Vec::with_capacity(alloc, scenarios.len())?;
     let mut rest = scenarios;
     for logs in logs {
         let Some((scenario, others)) = rest.split_first() else {
             unreachable!()
         };
-        bundles.push(bundle_with_logs(alloc, scenario, logs)?)?;
-        rest = others;
-    }
-    Ok(bundles)
-}
-
-/// Returns the texts of bundles, in their order.
-fn texts_of(alloc: Global, bundles: Vec<Bundle>) -> Result<Vec<BundleText>, AllocError>
-    ensures { IfOk result (λ texts. texts.items ≡ map bundle_spelling bundles.items) }
-{
-    let mut texts = Vec::with_capacity(alloc, bundles.len())?;
-    for bundle in bundles {
+        let bundle = bundle_with_logs(alloc, scenario, logs)?;
         texts.push(BundleText::new(alloc, bundle)?)?;
+        rest = others;
     }
     Ok(texts)
 }
@@ -75,8 +63,8 @@ pub fn campaign<T: Threads + Wait + Sync>(
     let plans = read_campaign_text(alloc, input)?;
     let campaign = make_campaign(rt, alloc, plans)?;
     let (logs, _leaves) = run_campaign(rt, alloc, &campaign, usize::from(capacity), &Open)?;
-    let bundles = bundles_of_runs(alloc, campaign.scenarios(), logs)?;
-    Ok(CampaignText::new(texts_of(alloc, bundles)?))
+    let texts = texts_of_runs(alloc, campaign.scenarios(), logs)?;
+    Ok(CampaignText::new(texts))
 }
 
 /// Reads the text of a campaign to its end, runs its scenarios one after another, and writes the campaign: the bundles

@@ -4,7 +4,7 @@ ghost use Rattle.gen_convict.specs.Evidence.{told_of};
 ghost use Rattle.gen_convict.specs.EvidenceReading.{IsWhole};
 ghost use Rattle.gen_jobs.specs.Answering.{Answers};
 ghost use Rattle.gen_jobs.specs.Asking.{IsCheckedIn, IsCheckedOf, IsEvidenceFaultOf};
-ghost use Rattle.gen_jobs.specs.Checking.{IsChecked, IsEvidenceFault, Tells, evidence_text};
+ghost use Rattle.gen_jobs.specs.Checking.{IsChecked, IsEvidenceFault, Tells};
 ghost use Rattle.gen_jobs.specs.Ends.{IsTaken, KeepsUntilWhole};
 ghost use Rattle.gen_jobs.specs.declared.forms.Form.TheVariants.{Text};
 
@@ -24,30 +24,6 @@ const HOLDS: &[u8] = b"evidence holds\n";
 /// The output for evidence that doesn't hold.
 const FAILS: &[u8] = b"evidence fails\n";
 
-/// Returns in this form what is told of evidence under its header, and whether it holds.
-fn text_of(
-    alloc: Global,
-    form: Form,
-    header: &Header,
-    evidence: &Evidence,
-    holds: bool,
-) -> Result<Vec<u8>, AllocError>
-    requires { IsWhole (record { header = header.now; evidence = told_of evidence.now }) }
-    ensures { IfOk result (λ v. v.items ≡ evidence_text form
-        (record { header = header.now; evidence = told_of evidence.now }) holds) }
-{
-    match form {
-        Form::Text => {
-            if holds {
-                HOLDS.to_vec(alloc)
-            } else {
-                FAILS.to_vec(alloc)
-            }
-        }
-        Form::Json => print_evidence_json(alloc, header, evidence, holds),
-    }
-}
-
 /// Returns in this form what is told of evidence under its header. The output says no if the evidence doesn't hold.
 fn output_for(
     alloc: Global,
@@ -60,17 +36,16 @@ fn output_for(
         (record { header = header.now; evidence = told_of evidence.now })
         o.text.items o.negative) }
 {
-    if check_evidence(alloc, header, evidence)? {
-        Ok(Output {
-            text: text_of(alloc, form, header, evidence, true)?,
-            negative: false,
-        })
-    } else {
-        Ok(Output {
-            text: text_of(alloc, form, header, evidence, false)?,
-            negative: true,
-        })
-    }
+    let holds = check_evidence(alloc, header, evidence)?;
+    let text = match (form, holds) {
+        (Form::Text, true) => HOLDS.to_vec(alloc)?,
+        (Form::Text, false) => FAILS.to_vec(alloc)?,
+        (Form::Json, _) => print_evidence_json(alloc, header, evidence, holds)?,
+    };
+    Ok(Output {
+        text,
+        negative: !holds,
+    })
 }
 
 /// Returns the text that says whether the evidence that the input spells holds. The output says no if it doesn't hold.

@@ -19,18 +19,13 @@ pub enum Faulty {
     These(GeneralSet),
 }
 
-/// Returns whether a text is the decimal number of a general.
-fn names_general(text: &[u8], general: u8) -> bool
-    ensures { result ≡ names_general general text.now }
-{
-    decimal_number(text) == Some(general)
-}
-
 /// Returns whether some text is the decimal number of a general.
 fn is_named(texts: &[&[u8]], general: u8) -> bool
     ensures { result ≡ list_any (λ x. names_general general x.now) texts.now }
 {
-    texts.iter().any(|text| names_general(text, general))
+    texts
+        .iter()
+        .any(|text| decimal_number(text) == Some(general))
 }
 
 /// Returns the generals whose numbers these texts are.

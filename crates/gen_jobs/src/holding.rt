@@ -1,8 +1,6 @@
 //! Bundles and campaigns as if other generals were held for faulty.
 ghost use Rattle.std.specs.Prelude.{◌≡◌, ◌<◌, All, IfErr, IfOk, false, length};
 ghost use Rattle.std.specs.List.{AllZip};
-ghost use Rattle.gen_types.specs.Spelled.{Spells};
-ghost use Rattle.gen_campaign.specs.Campaign.{CampaignBundle as Told, IsCampaign};
 ghost use Rattle.gen_campaign.specs.CampaignSpelling.{campaign_spelling};
 ghost use Rattle.gen_jobs.specs.Failing.{campaign_failure};
 ghost use Rattle.gen_jobs.specs.Holding.{IsHeld, IsHeldAs, IsHoldFault, lack_fault, lacks};
@@ -71,35 +69,6 @@ fn spelled(alloc: Global, alone: bool, bundles: &[Bundle]) -> Result<Vec<u8>, Al
     Ok(out)
 }
 
-/// Returns what is shown of a campaign by bytes that show one.
-fn read_again(alloc: Global, bytes: Vec<u8>) -> Result<CampaignBundle, AllocError>
-    requires { (c : Told) × Spells IsCampaign campaign_spelling bytes.items c }
-    ensures { (c : Told) → Spells IsCampaign campaign_spelling bytes.items c → IfOk result (λ read. read ≡ c) }
-{
-    match read_taken_campaign(alloc, bytes) {
-        Ok(campaign) => Ok(campaign),
-        Err(ReadError::Memory) => Err(AllocError),
-        Err(ReadError::Fault(_)) => unreachable!(),
-    }
-}
-
-/// Returns what is shown, in which these generals are held for faulty in each bundle. It is written and read again.
-fn hold_shown(
-    alloc: Global,
-    faulty: GeneralSet,
-    campaign: &CampaignBundle,
-) -> Result<CampaignBundle, JobFault>
-    ensures held { IfOk result (IsHeldAs (These faulty) campaign.now) }
-    ensures fault { IfErr result (IsHoldFault (These faulty) campaign.now) }
-{
-    // Reading their number makes known that the generals ascend.
-    let _count = faulty.len();
-    let alone = campaign.is_alone();
-    let bundles = hold_all(alloc, faulty, alone, campaign.bundles())?;
-    let bytes = spelled(alloc, alone, bundles.as_slice())?;
-    Ok(read_again(alloc, bytes)?)
-}
-
 /// Returns what is shown, with the generals that are asked for in place of the ones that each bundle lists. Header and
 /// exhibits stay. The walks are the best ones between the others, or none if two of them have no short one.
 pub(crate) fn held_as(
@@ -110,8 +79,19 @@ pub(crate) fn held_as(
     ensures held { IfOk result (IsHeldAs faulty campaign) }
     ensures fault { IfErr result (IsHoldFault faulty campaign) }
 {
-    match faulty {
-        Faulty::Listed => Ok(campaign),
-        Faulty::These(set) => hold_shown(alloc, set, &campaign),
+    let set = match faulty {
+        Faulty::Listed => return Ok(campaign),
+        Faulty::These(set) => set,
+    };
+    // Reading their number makes known that the generals ascend.
+    let _count = set.len();
+    let alone = campaign.is_alone();
+    let bundles = hold_all(alloc, set, alone, campaign.bundles())?;
+    let bytes = spelled(alloc, alone, bundles.as_slice())?;
+    // The bundles are written and read again.
+    match read_taken_campaign(alloc, bytes) {
+        Ok(held) => Ok(held),
+        Err(ReadError::Memory) => Err(JobFault::Memory),
+        Err(ReadError::Fault(_)) => unreachable!(),
     }
 }

@@ -2,9 +2,8 @@
 ghost use Rattle.std.specs.Prelude.{◌<◌, IfOk, IfErr, IfSome};
 ghost use Rattle.gen_jobs.specs.Answering.{Answers};
 ghost use Rattle.gen_jobs.specs.Asking.{IsJudgedAs};
-ghost use Rattle.gen_jobs.specs.Audit.{IsWant};
 ghost use Rattle.gen_jobs.specs.Ends.{IsTaken, KeepsUntilWhole};
-ghost use Rattle.gen_jobs.specs.Judging.{IsJudged, JudgesRun};
+ghost use Rattle.gen_jobs.specs.Judging.{IsJudged};
 ghost use Rattle.gen_jobs.specs.Run.{IsRunFault};
 
 use crate::auditing::judgement_output;
@@ -17,35 +16,10 @@ use crate::transfer::{deliver, read_all};
 use gen_audit::WorkerCount;
 use gen_judge::run_and_audit;
 use gen_prepare::walks_between;
-use gen_scenario::Scenario;
 use std::alloc::Global;
 use std::io::{Read, Write};
 use std::sync::Wait;
 use std::thread::Threads;
-
-/// Returns the judgement on the bundle of a scenario's run in this form, and whether its verdict is a no.
-fn judge_scenario<T: Threads + Wait + Sync>(
-    rt: &T,
-    alloc: Global,
-    capacity: u8,
-    workers: WorkerCount,
-    form: Form,
-    scenario: &Scenario,
-) -> Result<Output, JobFault>
-    requires { 0 < capacity }
-    ensures answer { IfOk result (λ o. JudgesRun form scenario.now o.text.items o.negative) }
-    ensures fault { IfErr result IsWant }
-{
-    let faulty = scenario.scripted();
-    let net = scenario.header().net();
-    let walks = walks_between(alloc, net, &net.rest(&faulty))?;
-    let capacity = usize::from(capacity);
-    let judgement = run_and_audit(
-        rt, alloc, scenario, capacity, &faulty, &walks, workers, &Open, &Open,
-    )?;
-    let header = scenario.header();
-    Ok(judgement_output(alloc, form, header, &faulty, &judgement)?)
-}
 
 /// Returns the text of the judgement on the run of the scenario that the input spells, and whether its verdict is a no.
 /// It is what `audit` makes of what `run` makes of the input. But each general's logs are read and verified while other
@@ -90,9 +64,16 @@ pub fn judge_as_asked<T: Threads + Wait + Sync>(
     ensures fault { IfErr result (IsRunFault input.now) }
 {
     let scenario = seeded_scenario(rt, alloc, input)?;
-    let few = has_few(scenario.header().net(), &scenario.scripted());
-    let output = judge_scenario(rt, alloc, capacity, workers, form, &scenario)?;
-    Ok(counted(output, strict, few))
+    let faulty = scenario.scripted();
+    let header = scenario.header();
+    let net = header.net();
+    let walks = walks_between(alloc, net, &net.rest(&faulty))?;
+    let capacity = usize::from(capacity);
+    let judgement = run_and_audit(
+        rt, alloc, &scenario, capacity, &faulty, &walks, workers, &Open, &Open,
+    )?;
+    let output = judgement_output(alloc, form, header, &faulty, &judgement)?;
+    Ok(counted(output, strict, has_few(net, &faulty)))
 }
 
 /// Reads a scenario text with a seed to its end, runs it while this many workers audit the logs that are there, and

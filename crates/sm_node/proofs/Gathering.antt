@@ -1,5 +1,6 @@
 -- Logs that stand one after another in bytes, taken off one by one.
-use Rattle.std.proofs.Common.{◌≡◌, ℕ, Bool, true, List, [], ◌∷◌, ◌++◌, drop, if◌then◌else◌, refl, sym, ap, ◌∙◌}
+use Rattle.std.proofs.Common.{◌≡◌, ◌<◌, ◌≤◌, ℕ, Bool, true, List, [], ◌∷◌, ◌++◌, drop, if◌then◌else◌, refl, sym, ap, ◌∙◌}
+use Rattle.std.proofs.lemmas.Bool.{le-leb, lt-ltb}
 use Rattle.std.proofs.lemmas.List.{append_assoc, append-nil}
 use Rattle.std.specs.Option.{option_map}
 use Rattle.std.specs.Prelude.{Option, Some, None, length, ◌==◌}
@@ -20,9 +21,10 @@ one_more had x None = refl
 one_more had x (Some xs) = ap Some (append_assoc had (x ∷ []) xs)
 
 -- a log more is had
-pub taken_off : (had : List LogBytes) (log : SmLog) (logs : List SmLog) (bytes : List ℕ) → is_in_front log bytes ≡ true
+pub taken_off : (had : List LogBytes) (log : SmLog) (logs : List SmLog) (bytes : List ℕ) → log.general < 16 → log.bytes ≤ length bytes
     → behind (had ++ log_in_front log bytes ∷ []) (logs_in logs (drop log.bytes bytes)) ≡ behind had (logs_in (log ∷ logs) bytes)
-taken_off had log logs bytes is =
+taken_off had log logs bytes known fits =
+    let is : is_in_front log bytes ≡ true = rw (lt-ltb log.general 16 known, le-leb log.bytes (length bytes) fits) refl in
     let others : Option (List LogBytes) = logs_in logs (drop log.bytes bytes) in
     one_more had (log_in_front log bytes) others
     ∙ ap (λ (yes : Bool). behind had (if yes then option_map (λ xs. log_in_front log bytes ∷ xs) others else None)) (sym is)

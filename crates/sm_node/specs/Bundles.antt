@@ -92,18 +92,6 @@ IsGatherFault wanted bytes faulty logs (Bundle f) =
     (h : RunHeader) × (walks : List (List ℕ)) × Gathers wanted bytes faulty h walks
     × (bundle_bytes h faulty walks logs ≡ Err f)
 
--- the text is that bundle, or the fault is why there is none, unless memory was refused
-abbrev pub GathersText :
-    BundleWalks → List ℕ → List ℕ → List LogBytes → Result (List ℕ) (ReadError GatherFault) → Type 0
-GathersText wanted bytes faulty logs (Ok text) = IsGathered wanted bytes faulty logs text
-GathersText wanted bytes faulty logs (Err errors.Memory) = Unit {0}
-GathersText wanted bytes faulty logs (Err (errors.Fault f)) = IsGatherFault wanted bytes faulty logs f
-
--- an answer with its text as a list of bytes
-abbrev pub as_text : Result (Vec ℕ Global) (ReadError GatherFault) → Result (List ℕ) (ReadError GatherFault)
-as_text (Ok text) = Ok text.items
-as_text (Err e) = Err e
-
 -- the logs as a list
 abbrev pub listed : Option (Vec LogBytes Global) → Option (List LogBytes)
 listed None = None

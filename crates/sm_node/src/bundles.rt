@@ -1,5 +1,5 @@
 //! Makes a bundle of logs that were collected.
-ghost use Rattle.std.specs.Prelude.{◌≡◌, true, IfOk};
+ghost use Rattle.std.specs.Prelude.{◌≡◌, ◌<◌, ◌≤◌, IfOk, length};
 ghost use Rattle.gen_types.specs.Bits.{members_of};
 ghost use Rattle.sm_node.specs.Bundles as gathering;
 
@@ -36,18 +36,12 @@ pub enum BundleWalks {
 
 /// Returns the log in front of the bytes.
 fn log_in_front(alloc: Global, log: SmLog, bytes: &[u8]) -> Result<Exhibit, AllocError>
-    requires { gathering.is_in_front log bytes.now ≡ true }
+    requires general { log.general < 16 }
+    requires bytes { log.bytes ≤ length bytes.now }
     ensures { IfOk result (λ x. x ≡ gathering.log_in_front log bytes.now) }
 {
     let own = Vec::from_slice(alloc, &bytes[..log.bytes])?;
     Exhibit::new(GeneralNo::at(log.general as u8), own)
-}
-
-/// Whether the bytes begin with a log of this length, and its general's number is below 16.
-fn is_in_front(log: SmLog, bytes: &[u8]) -> bool
-    ensures { result ≡ gathering.is_in_front log bytes.now }
-{
-    log.general < NUMBERS && log.bytes <= bytes.len()
 }
 
 /// Returns the logs that stand one after another in the bytes; None if the bytes are not exactly these logs.
@@ -59,7 +53,7 @@ fn logs_in(alloc: Global, logs: &[SmLog], bytes: &[u8]) -> Result<Option<Vec<Exh
     let mut behind = bytes;
     let mut left = logs;
     'behind: while let [log, more @ ..] = left {
-        if !is_in_front(*log, behind) {
+        if log.general >= NUMBERS || log.bytes > behind.len() {
             return Ok(None);
         }
         had.push(log_in_front(alloc, *log, behind)?)?;
@@ -96,29 +90,6 @@ fn walks_of(
     }
 }
 
-/// Returns the bytes of the bundle of a header's bytes, the generals that are held for faulty, and logs.
-fn gather(
-    alloc: Global,
-    wanted: BundleWalks,
-    bytes: &[u8],
-    faulty: GeneralSet,
-    logs: Vec<Exhibit>,
-) -> Result<Vec<u8>, ReadError<GatherFault>>
-    ensures { gathering.GathersText wanted bytes.now faulty logs.items (gathering.as_text result) }
-{
-    let header = match header_in(alloc, bytes) {
-        Ok(header) => header,
-        Err(ReadError::Memory) => return Err(ReadError::Memory),
-        Err(ReadError::Fault(fault)) => return Err(ReadError::Fault(GatherFault::Header(fault))),
-    };
-    let walks = walks_of(alloc, wanted, &header, &faulty)?;
-    match make_bundle(alloc, header, faulty, walks, logs) {
-        Ok(text) => Ok(text),
-        Err(ReadError::Memory) => Err(ReadError::Memory),
-        Err(ReadError::Fault(fault)) => Err(ReadError::Fault(GatherFault::Bundle(fault))),
-    }
-}
-
 /// Hands out the bytes of the bundle of a header's bytes, a set of generals that are held for faulty, and the logs in
 /// the bytes.
 pub(crate) fn hand_bundle(
@@ -146,11 +117,27 @@ pub(crate) fn hand_bundle(
         Err(_) => return NodeReply::Memory,
     };
     let faulty = GeneralSet::from_bits(faulty as u16);
-    match gather(alloc, wanted, header, faulty, own) {
+    let header = match header_in(alloc, header) {
+        Ok(header) => header,
+        Err(ReadError::Memory) => return NodeReply::Memory,
+        Err(ReadError::Fault(broken)) => {
+            *fault = GatherFault::Header(broken).number();
+            return NodeReply::Fault;
+        }
+    };
+    let walks = match walks_of(alloc, wanted, &header, &faulty) {
+        Ok(walks) => walks,
+        Err(ReadError::Memory) => return NodeReply::Memory,
+        Err(ReadError::Fault(broken)) => {
+            *fault = broken.number();
+            return NodeReply::Fault;
+        }
+    };
+    match make_bundle(alloc, header, faulty, walks, own) {
         Ok(text) => put(text.as_slice(), room, count),
         Err(ReadError::Memory) => NodeReply::Memory,
         Err(ReadError::Fault(broken)) => {
-            *fault = broken.number();
+            *fault = GatherFault::Bundle(broken).number();
             NodeReply::Fault
         }
     }

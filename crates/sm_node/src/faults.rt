@@ -5,6 +5,9 @@ ghost use Rattle.sm_node.specs.Faults as numbers;
 use gen_audit::BundleFault;
 use gen_net::HeaderFault;
 
+/// The number of a frame's fault is this much more than its text has.
+pub(crate) const FRAME_FAULTS: u32 = 20;
+
 /// Why bytes are not exactly those of a header.
 #[derive(Clone, Copy, Debug, PartialEq, Eq)]
 pub enum BytesFault {
@@ -36,24 +39,6 @@ pub enum GatherFault {
     LongWalk,
     /// The bundle breaks this rule.
     Bundle(BundleFault),
-}
-
-/// Returns the number of a bundle's fault: 41 to 50, or the number of its header's fault, 1 to 11.
-fn bundle_number(fault: BundleFault) -> u32
-    ensures { result ≡ numbers.bundle_number fault }
-{
-    match fault {
-        BundleFault::Truncated => 41,
-        BundleFault::UnknownMark => 42,
-        BundleFault::BadHeader(inner) => u32::from(inner.number()),
-        BundleFault::FaultyRange => 44,
-        BundleFault::WalkCount => 45,
-        BundleFault::BadWalk => 46,
-        BundleFault::BadExhibit => 47,
-        BundleFault::LeftOver => 48,
-        BundleFault::OutOfOrder => 49,
-        BundleFault::LongLog => 50,
-    }
 }
 
 /// Returns the number of a fault of a header's bytes, 1 to 12.
@@ -88,7 +73,16 @@ impl GatherFault {
             GatherFault::Header(inner) => bytes_number(inner),
             GatherFault::NoWalk => 31,
             GatherFault::LongWalk => 32,
-            GatherFault::Bundle(inner) => bundle_number(inner),
+            GatherFault::Bundle(BundleFault::Truncated) => 41,
+            GatherFault::Bundle(BundleFault::UnknownMark) => 42,
+            GatherFault::Bundle(BundleFault::BadHeader(inner)) => u32::from(inner.number()),
+            GatherFault::Bundle(BundleFault::FaultyRange) => 44,
+            GatherFault::Bundle(BundleFault::WalkCount) => 45,
+            GatherFault::Bundle(BundleFault::BadWalk) => 46,
+            GatherFault::Bundle(BundleFault::BadExhibit) => 47,
+            GatherFault::Bundle(BundleFault::LeftOver) => 48,
+            GatherFault::Bundle(BundleFault::OutOfOrder) => 49,
+            GatherFault::Bundle(BundleFault::LongLog) => 50,
         }
     }
 }

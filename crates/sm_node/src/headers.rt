@@ -44,29 +44,6 @@ pub(crate) fn header_in(alloc: Global, bytes: &[u8]) -> Result<Header, ReadError
     Ok(header)
 }
 
-/// Returns the network of these numbers and edges, or the first rule that they break.
-fn net_of(
-    alloc: Global,
-    numbers: &SmNumbers,
-    edges: &[[u8; 2]],
-) -> Result<Net, ReadError<HeaderFault>>
-    ensures { IsRead result (headers.net_made numbers.now edges.now) }
-{
-    let mut pairs = Vec::with_capacity(alloc, edges.len())?;
-    'pairing: for edge in edges {
-        pairs.push((edge[0], edge[1]))?;
-    }
-    Net::new(
-        alloc,
-        numbers.generals,
-        pairs.as_slice(),
-        numbers.traitors,
-        numbers.diameter,
-        numbers.orders,
-        numbers.choice,
-    )
-}
-
 /// Returns the header of these numbers, edges and roots, or the first rule that they break.
 #[tactic(auto, unfolding(crate::specs::Headers::header_made))]
 fn header_of(
@@ -77,7 +54,19 @@ fn header_of(
 ) -> Result<Header, ReadError<HeaderFault>>
     ensures { IsRead result (headers.header_made numbers.now edges.now roots.now) }
 {
-    let net = net_of(alloc, numbers, edges)?;
+    let mut pairs = Vec::with_capacity(alloc, edges.len())?;
+    'pairing: for edge in edges {
+        pairs.push((edge[0], edge[1]))?;
+    }
+    let net = Net::new(
+        alloc,
+        numbers.generals,
+        pairs.as_slice(),
+        numbers.traitors,
+        numbers.diameter,
+        numbers.orders,
+        numbers.choice,
+    )?;
     let roots = Vec::from_slice(alloc, roots)?;
     let made = match numbers.version {
         1 => Header::new(net, roots),

@@ -1,9 +1,9 @@
 //! What the memory of a node for C holds.
 ghost use Rattle.std.specs.Prelude.{◌≡◌, Some};
-ghost use Rattle.gen_node.specs.Node as nodes;
 ghost use Rattle.sm_node.specs.Driving.{Begins, Ends, Finishes, HandsLog, Hears, Sends, TellsOrder};
-ghost use Rattle.sm_node.specs.NodeHandle.{allows, running};
+ghost use Rattle.sm_node.specs.NodeHandle.{running};
 
+use crate::faults::FRAME_FAULTS;
 use crate::handing::put;
 use crate::told::NodeReply;
 use gen_log::SealedLog;
@@ -121,21 +121,11 @@ impl NodeHandle {
                 Ok(()) => NodeReply::Done,
                 Err(ReadError::Memory) => NodeReply::Memory,
                 Err(ReadError::Fault(broken)) => {
-                    *fault = 20 + u32::from(broken.number());
+                    *fault = FRAME_FAULTS + u32::from(broken.number());
                     NodeReply::Fault
                 }
             },
             NodeHandle::Empty | NodeHandle::Ended(_) => NodeReply::Misuse,
-        }
-    }
-
-    /// Whether there is a node whose last round has ended.
-    fn is_over(&self) -> bool
-        ensures { result ≡ allows nodes.is_over (Some self.now) }
-    {
-        match self {
-            NodeHandle::Running(node) => node.is_over(),
-            NodeHandle::Empty | NodeHandle::Ended(_) => false,
         }
     }
 
@@ -153,7 +143,10 @@ impl NodeHandle {
     pub(crate) fn finish(&mut self, alloc: Global) -> NodeReply
         ensures { Finishes (Some self.old) (Some self.new) result }
     {
-        if !self.is_over() {
+        let NodeHandle::Running(node) = self else {
+            return NodeReply::Misuse;
+        };
+        if !node.is_over() {
             return NodeReply::Misuse;
         }
         let Some(node) = replace(self, NodeHandle::Empty).into_node() else {

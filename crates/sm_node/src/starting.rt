@@ -1,5 +1,4 @@
 //! Makes a node for C, and the root of a seed's keys.
-ghost use Rattle.std.specs.Prelude.{◌≡◌, true};
 ghost use Rattle.sm_node.specs.Starting as starting;
 
 use crate::faults::StartFault;
@@ -17,25 +16,6 @@ pub(crate) const NUMBERS: u32 = MOST_GENERALS as u32;
 
 /// The number for a general that has no order.
 const NO_ORDER: u32 = 255;
-
-/// Whether these are a general's number (below 16), and an order's (below 16) or the number for no order.
-fn are_numbers(general: u32, order: u32) -> bool
-    ensures { result ≡ starting.are_numbers general order }
-{
-    general < NUMBERS && (order < NUMBERS || order == NO_ORDER)
-}
-
-/// Returns the order of this number; None for the number for no order.
-fn own_order(order: u32) -> Option<OrderNo>
-    requires { starting.are_numbers 0 order ≡ true }
-    ensures { result ≡ starting.own_order order }
-{
-    if order == NO_ORDER {
-        None
-    } else {
-        Some(OrderNo::at(order as u8))
-    }
-}
 
 /// Returns the node of a header's bytes, a general, its seed and its order.
 fn node_of(
@@ -74,7 +54,7 @@ pub(crate) fn start(
     ensures { starting.Starts bytes.now general seed.now order node.old.held node.new.held fault.new result }
 {
     *fault = 0;
-    if !are_numbers(general, order) {
+    if general >= NUMBERS || order >= NUMBERS && order != NO_ORDER {
         return NodeReply::Misuse;
     }
     if let Some(held) = node.take(alloc) {
@@ -85,7 +65,12 @@ pub(crate) fn start(
         return NodeReply::Memory;
     };
     let general = GeneralNo::at(general as u8);
-    match node_of(alloc, bytes, general, seed, own_order(order)) {
+    let own = if order == NO_ORDER {
+        None
+    } else {
+        Some(OrderNo::at(order as u8))
+    };
+    match node_of(alloc, bytes, general, seed, own) {
         Ok(made) => {
             *place = NodeHandle::Running(made);
             node.put(alloc, place);
@@ -99,17 +84,6 @@ pub(crate) fn start(
     }
 }
 
-/// Returns the height of the trees of keys of a version: 4 in version 1, 6 in version 2; None for any other.
-fn height_numbered(version: u32) -> Option<TreeHeight>
-    ensures { result ≡ starting.height_numbered version }
-{
-    match version {
-        1 => Some(TreeHeight::Four),
-        2 => Some(TreeHeight::Six),
-        _ => None,
-    }
-}
-
 /// Writes the root of the tree of keys that a seed makes, for headers of this version.
 pub(crate) fn write_root(
     alloc: Global,
@@ -119,8 +93,10 @@ pub(crate) fn write_root(
 ) -> NodeReply
     ensures { starting.WritesRoot seed.now version root.old root.new result }
 {
-    let Some(height) = height_numbered(version) else {
-        return NodeReply::Misuse;
+    let height = match version {
+        1 => TreeHeight::Four,
+        2 => TreeHeight::Six,
+        _ => return NodeReply::Misuse,
     };
     match root_of(alloc, seed, height) {
         Ok(made) => {
