@@ -1,12 +1,11 @@
 //! The lines of answers.
 ghost use Rattle.std.specs.Prelude.{◌≡◌, ◌++◌, IfOk, OnOk, string_bytes};
 ghost use Rattle.gen_convict.specs.Answers.{answer_of};
-ghost use Rattle.gen_prepare.specs.AnswerLine.{answer_line, signed_said, signers_said, statement_said, text_said};
+ghost use Rattle.gen_prepare.specs.AnswerLine.{answer_line, signers_said, text_said};
 
-use gen_chain::Statement;
 use gen_convict::Refutation;
 use gen_local::Text;
-use gen_types::{OrderNo, Path};
+use gen_types::Path;
 use std::alloc::{AllocError, Global};
 
 /// Appends the generals of a path, parted by commas.
@@ -25,34 +24,18 @@ fn push_path(out: &mut String, path: &Path) -> Result<(), AllocError>
     Ok(())
 }
 
-/// Appends an order and who signed it.
-#[tactic(auto, unfolding(crate::specs::AnswerLine::signed_said))]
-fn push_signed(out: &mut String, order: OrderNo, path: &Path) -> Result<(), AllocError>
-    ensures { OnOk result
-        (string_bytes out.new ≡ string_bytes out.old ++ signed_said order path.now) }
-{
-    let order = order.get();
-    write!(out, " order {order} path ")?;
-    push_path(out, path)
-}
-
-/// Appends a statement.
-#[tactic(auto, unfolding(crate::specs::AnswerLine::statement_said))]
-fn push_statement(out: &mut String, statement: &Statement) -> Result<(), AllocError>
-    ensures { OnOk result
-        (string_bytes out.new ≡ string_bytes out.old ++ statement_said statement.now) }
-{
-    out.push_str("statement")?;
-    push_signed(out, statement.order, &statement.path)
-}
-
 /// Appends what was signed: a statement, or the head of a log.
 #[tactic(auto, unfolding(crate::specs::AnswerLine::head_said))]
 fn push_text(alloc: Global, out: &mut String, text: &Text) -> Result<(), AllocError>
     ensures { OnOk result (string_bytes out.new ≡ string_bytes out.old ++ text_said text.now) }
 {
     match text {
-        Text::OfStatement(statement) => push_statement(out, statement),
+        Text::OfStatement(statement) => {
+            out.push_str("statement")?;
+            let order = statement.order.get();
+            write!(out, " order {order} path ")?;
+            push_path(out, &statement.path)
+        }
         Text::OfHead(head) => {
             let entries = head.entries;
             let link = hex::encode(alloc, head.last_link)?;

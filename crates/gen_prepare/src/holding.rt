@@ -1,23 +1,10 @@
 //! Makes a bundle in which other generals are held for faulty.
-ghost use Rattle.std.specs.Prelude.{◌≡◌, IfOk};
 ghost use Rattle.gen_prepare.specs.Holding.{HoldsAs};
 
 use crate::walking::walks_if_any;
 use gen_audit::{Bundle, BundleFault};
-use gen_local::Exhibit;
 use gen_types::{GeneralSet, ReadError};
-use std::alloc::{AllocError, Global};
-
-/// Returns the exhibits for one more owner, in their order. Their bytes are not copied.
-fn shared(alloc: Global, exhibits: &[Exhibit]) -> Result<Vec<Exhibit>, AllocError>
-    ensures { IfOk result (λ others. others.items ≡ exhibits.now) }
-{
-    let mut others = Vec::with_capacity(alloc, exhibits.len())?;
-    'exhibits: for exhibit in exhibits {
-        others.push(exhibit.share()?)?;
-    }
-    Ok(others)
-}
+use std::alloc::Global;
 
 /// Returns the bundle in which these generals are held for faulty. Its header and its exhibits are those of the bundle;
 /// the bytes of logs are not copied. Its walks are those of `make_walks` for the other generals, and none if two of them
@@ -35,7 +22,11 @@ pub fn hold(
 {
     let header = bundle.header().clone()?;
     let walks = walks_if_any(alloc, &header, &faulty)?;
-    let exhibits = shared(alloc, bundle.exhibits())?;
+    let own = bundle.exhibits();
+    let mut exhibits = Vec::with_capacity(alloc, own.len())?;
+    'sharing: for exhibit in own {
+        exhibits.push(exhibit.share()?)?;
+    }
     match Bundle::new(header, faulty, walks, exhibits) {
         Ok(other) => Ok(other),
         Err(fault) => Err(ReadError::Fault(fault)),
