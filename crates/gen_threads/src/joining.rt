@@ -1,5 +1,5 @@
 //! How a run of threads ends.
-ghost use Rattle.std.specs.Prelude.{ℕ, ◌≡◌, ◌<◌, ◌+◌, ◌++◌, ◌≤◌, ◌⊎◌, List, [], ◌∷◌, length, Err, IfErr, IfOk, MatchResult, Ok, OnOk, vec_len, vec_capacity};
+ghost use Rattle.std.specs.Prelude.{ℕ, ◌≡◌, ◌<◌, ◌+◌, ◌++◌, ◌≤◌, ◌⊎◌, List, [], length, Err, IfErr, IfOk, MatchResult, Ok, OnOk, vec_len, vec_capacity};
 ghost use Rattle.gen_tree.specs.Rings.{Ring};
 ghost use Rattle.gen_scenario.specs.Rows.{logs_of_all};
 ghost use Rattle.gen_scenario.specs.Scenario as scenarios;
@@ -19,7 +19,6 @@ use crate::stopping::stop_once;
 use crate::works::{Field, Turn};
 use gen_log::SealedLog;
 use gen_scenario::Scenario;
-use std::alloc::AllocError;
 use std::snapshot::Snapshot;
 use std::sync::Wait;
 use std::thread;
@@ -54,30 +53,6 @@ pub(crate) fn stop_turn<R: Wait>(
     }
 }
 
-/// Does one turn for each general whose thread was not started, and returns whether nothing is left to do for
-/// any.
-fn stop_each<R: Wait>(rt: &R, field: Field, first: usize, back: &mut Vec<Turn>) -> bool
-    requires parts { AreParts field.scenario.now field.parts.now }
-    requires count { first + length back.old.items ≡ field.scenario.now.net.generals }
-    requires turns { TurnsFrom field.edges.now field.scenario.now field.rings.now.value.items first back.old.items }
-    ensures count { length back.new.items ≡ length back.old.items }
-    ensures turns { TurnsFrom field.entry.edges.now field.entry.scenario.now
-        field.entry.rings.now.value.items first back.new.items }
-{
-    let mut over = true;
-    'turns: for index in 0..back.len() {
-        let one = stop_turn(
-            rt,
-            field.edges,
-            &field.parts[first + index],
-            field.rings,
-            &mut back[index],
-        );
-        over = over && one;
-    }
-    over
-}
-
 /// Ends the edges of all generals whose threads were not started, which are the generals from `first` on. It
 /// does their turns one after another, again and again, until nothing is left to do.
 pub(crate) fn stop_all<R: Wait>(rt: &R, field: Field, first: usize, back: &mut Vec<Turn>)
@@ -89,7 +64,18 @@ pub(crate) fn stop_all<R: Wait>(rt: &R, field: Field, first: usize, back: &mut V
         field.entry.rings.now.value.items first back.new.items }
 {
     for _ in rt.forever() {
-        if stop_each(rt, field, first, back) {
+        let mut over = true;
+        'turns: for index in 0..back.len() {
+            let one = stop_turn(
+                rt,
+                field.edges,
+                &field.parts[first + index],
+                field.rings,
+                &mut back[index],
+            );
+            over = over && one;
+        }
+        if over {
             return;
         }
         thread::yield_now();
@@ -149,14 +135,6 @@ fn answered(fault: RunFault) -> RunFault
     }
 }
 
-/// Appends a ring.
-fn keep_ring(rings: &mut Vec<HeldRing>, ring: HeldRing) -> Result<(), AllocError>
-    ensures { OnOk result (rings.new.items ≡ rings.old.items ++ ring ∷ []) }
-{
-    rings.push(ring)?;
-    Ok(())
-}
-
 /// Appends a general's logs and its ring, or returns why it has no logs.
 fn gather_one(
     turn: Turn,
@@ -174,7 +152,8 @@ fn gather_one(
             let (logs_or_fault, ring) = end.into_logs();
             let mut own = logs_or_fault?;
             if let Some(ring) = ring {
-                keep_ring(rings, ring)?;
+                rings.reserve(1)?;
+                rings.push_reserved(ring);
             }
             logs.append(&mut own)?;
             Ok(())

@@ -1,14 +1,13 @@
 //! The thread of one general.
 ghost use Rattle.std.specs.Prelude.{◌≡◌, IfOk, IfErr, MatchResult, OnOk};
 ghost use Rattle.gen_net.specs.Network.{rounds};
-ghost use Rattle.gen_general.specs.DrivenRecords.{RecordsAfter};
 ghost use Rattle.gen_scenario.specs.Scenario.{header_of};
-ghost use Rattle.gen_scenario.specs.WorldLogs.{logs_of, middle_of};
+ghost use Rattle.gen_scenario.specs.WorldLogs.{logs_of};
 ghost use Rattle.gen_threads.specs.declared.ends.RunFault.TheVariants.{Memory};
 ghost use Rattle.gen_threads.specs.Edges.{ArePassesOf, HaveCarried};
 ghost use Rattle.gen_threads.specs.Ending.{IsEndOf, MayRunWith, RingComesBack, logs_by};
 ghost use Rattle.gen_threads.specs.Faults.{IsOwnFault};
-ghost use Rattle.gen_threads.specs.Rings.{HasSpentOnSigns, RingSpentOn};
+ghost use Rattle.gen_threads.specs.Rings.{RingSpentOn};
 ghost use Rattle.gen_threads.specs.Turns.{AreOver};
 
 use crate::edges::Edges;
@@ -23,37 +22,6 @@ use gen_log::SealedLog;
 use gen_tree::KeyRing;
 use std::alloc::Global;
 use std::sync::Wait;
-
-/// Runs all rounds.
-fn run_rounds<R: Wait, G: Gate>(
-    rt: &R,
-    alloc: Global,
-    gate: &G,
-    part: &RunPart,
-    edges: &Edges,
-    recorder: &mut Recorder,
-    puts: &mut Vec<PutPass>,
-    takes: &mut Vec<TakePass>,
-) -> Result<(), RunFault>
-    requires records { RecordsAfter part.now.scenario 0 part.now.me recorder.old }
-    requires passes { HaveCarried edges.now part.now.scenario 0 part.now.me puts.old.items takes.old.items }
-    ensures records { OnOk result
-        (RecordsAfter part.now.scenario (rounds part.now.scenario.net) part.now.me recorder.new) }
-    ensures carried { OnOk result (HaveCarried edges.now part.now.scenario (rounds part.now.scenario.net)
-        part.now.me puts.new.items takes.new.items) }
-    ensures passes { ArePassesOf edges.now part.now.scenario part.now.me puts.new.items takes.new.items }
-    ensures fault { IfErr result (IsOwnFault takes.new.items) }
-    ensures ring { RingComesBack (header_of part.now.scenario) recorder.old.standing.ring recorder.new.standing.ring }
-    ensures signed { OnOk result (HasSpentOnSigns part.now.scenario part.now.me (middle_of part.now.scenario part.now.me)
-        recorder.old.standing.ring recorder.new.standing.ring) }
-{
-    let me = part.part().me();
-    'rounds: for gone in 0..part.part().header().net().rounds() {
-        gate.before_round(me, gone + 1);
-        run_round(rt, alloc, part, edges, gone, recorder, puts, takes)?;
-    }
-    Ok(())
-}
 
 /// Runs all rounds, and ends the general with its logs.
 ///
@@ -90,8 +58,12 @@ fn run_to_end<R: Wait, G: Gate>(
         Ok(recorder) => recorder,
         Err(ring) => return Err((RunFault::Memory, ring)),
     };
-    if let Err(fault) = run_rounds(rt, alloc, gate, part, edges, &mut recorder, puts, takes) {
-        return Err((fault, recorder.close()));
+    let me = part.part().me();
+    'rounds: for gone in 0..part.part().header().net().rounds() {
+        gate.before_round(me, gone + 1);
+        if let Err(fault) = run_round(rt, alloc, part, edges, gone, &mut recorder, puts, takes) {
+            return Err((fault, recorder.close()));
+        }
     }
     match recorder.finish(alloc) {
         Ok(end) => Ok(end),

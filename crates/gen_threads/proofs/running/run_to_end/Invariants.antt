@@ -3,7 +3,7 @@ use Rattle.gen_scenario.specs.Scenario.{header_of}
 use Rattle.gen_threads.specs.Edges.{HaveCarried}
 use Rattle.gen_threads.specs.Ending.{RingComesBack}
 use Rattle.gen_threads.specs.Rings.{HasSpentOnSigns}
-use Rattle.gen_threads.proofs.running.run_rounds.Given as goal
+use Rattle.gen_threads.proofs.running.run_to_end.Given as goal
 
 abbrev pub invariant-rounds : goal.invariant-rounds
 invariant-rounds g l = record {
